@@ -1,0 +1,14 @@
+use Rattle.std.proofs.Common.{◌*◌, ◌∙◌, ap, sym, take, drop}
+use Rattle.image_core.specs.Slices.{samples_in}
+use Rattle.vx_base.specs.Image.{ImageValue}
+use Rattle.image_core.proofs.RowLaws.{row_value}
+use Rattle.image_core.proofs.image.Image.row_s16.Goals as goal
+
+pub returns-clause-value : goal.returns-clause-value
+returns-clause-value c =
+    let i = c.self.inside in
+    let of_format = ap (λ (v : ImageValue). v.format) c.self.view_is ∙ c.requires.format in
+    let same = ap (λ f. samples_in f i.bytes.now i.shorts.now i.words.now) of_format in
+    c.row.ensures
+    ∙ ap (λ s. take c.width.result (drop (c.args.y * c.width.result) s)) (sym same)
+    ∙ row_value i.desc i.valid (samples_in i.desc.format i.bytes.now i.shorts.now i.words.now) c.args.self.now c.width.result c.args.y c.self.view_is c.self.invariant c.width.ensures.value c.requires.below

@@ -1,0 +1,74 @@
+//! Samples that are computed place by place, row by row.
+ghost use Rattle.std.specs.Prelude.{◌≡◌, ◌+◌, ◌*◌, ◌<◌, ◌≤◌, ℕ, ℤ, pos, length, map, replicate};
+ghost use Rattle.vx_base.specs.Rectangle.{Rectangle};
+ghost use Rattle.vx_base.specs.Image.{run, table, within};
+
+use crate::sample::Sample;
+use vx_base::Rect;
+
+/// What has a sample at each place of a rectangle.
+pub trait Formula<T: Sample> {
+    /// The sample in a column of a row.
+    ghost at: { Self → ℕ → ℕ → ℤ };
+
+    /// The places that can be asked for.
+    ghost area: { Self → Rectangle };
+
+    fn area(&self) -> Rect
+        ensures { result ≡ area self.now };
+
+    /// Writes the samples of row y from column x on.
+    fn fill(&self, x: u16, y: u16, out: &mut [T])
+        requires in_rows { ((area self.now).y0 ≤ y) × (y < (area self.now).y1) }
+        requires in_columns { ((area self.now).x0 ≤ x) × (x + length out.old ≤ (area self.now).x1) }
+        ensures { map T.value out.new ≡ run x (length out.old) (λ k. at self.now k y) };
+}
+
+/// Writes one sample to each place.
+pub fn set_all<T: Sample>(out: &mut [T], sample: T)
+    ensures { map T.value out.new ≡ replicate (length out.old) (T.value sample) }
+{
+    for item in out.iter_mut() {
+        *item = sample;
+    }
+}
+
+/// Writes a row that goes through the formula's area, which is in the columns from x0 to x1 - 1.
+fn write_across<T: Sample, F: Formula<T>>(formula: &F, y: u16, x0: u16, x1: u16, out: &mut [T])
+    requires in_rows { ((F.area formula.now).y0 ≤ y) × (y < (F.area formula.now).y1) }
+    requires columns { ((F.area formula.now).x0 ≡ x0) × ((F.area formula.now).x1 ≡ x1) }
+    requires ordered { x0 ≤ x1 }
+    requires room { x1 ≤ length out.old }
+    ensures { map T.value out.new ≡ run 0 (length out.old) (λ x. within (F.area formula.now) (F.at formula.now) x y) }
+{
+    let (left, others) = out.split_at_mut(usize::from(x0));
+    let (middle, right) = others.split_at_mut(usize::from(x1 - x0));
+    set_all(left, T::zero());
+    formula.fill(x0, y, middle);
+    set_all(right, T::zero());
+}
+
+fn write_row<T: Sample, F: Formula<T>>(formula: &F, y: u16, out: &mut [T])
+    requires room { (F.area formula.now).x1 ≤ length out.old }
+    ensures { map T.value out.new ≡ run 0 (length out.old) (λ x. within (F.area formula.now) (F.at formula.now) x y) }
+{
+    let area = formula.area();
+    if y < area.y0() || area.y1() <= y {
+        set_all(out, T::zero());
+    } else {
+        write_across(formula, y, area.x0(), area.x1(), out);
+    }
+}
+
+/// Writes all samples of an image by rows from the top: the formula's in its area, 0 elsewhere.
+pub fn write_rows<T: Sample, F: Formula<T>>(formula: &F, width: u16, height: u16, out: &mut [T])
+    requires size { length out.old ≡ height * width }
+    requires room { (F.area formula.now).x1 ≤ width }
+    ensures { map T.value out.new ≡ table width height (within (F.area formula.now) (F.at formula.now)) }
+{
+    let step = usize::from(width);
+    for y in 0..height {
+        let start = usize::from(y) * step;
+        write_row(formula, y, &mut out[start..start + step]);
+    }
+}

@@ -1,0 +1,113 @@
+-- Images as functions of places.
+use Rattle.std.proofs.Common.{◌≡◌, ℕ, ℤ, pos, ◌+◌, ◌-◌, ◌*◌, ◌/◌, ◌%◌, ◌<◌, ◌≤◌, ◌⊎◌, inl, inr, List, ◌++◌, length, get_or, ap, ◌∙◌, sym, arith, true, false, Bool, zero, suc, add-one, subst, cond, refl}
+use Rattle.std.specs.Prelude.{nat_lt, ◌&&◌}
+use Rattle.std.proofs.lemmas.Bool.Decides.{nat_tests}
+use Rattle.std.proofs.lemmas.List.{ext_get_or, get_or-append_right}
+use Rattle.std.proofs.Math.ListN.{get_or-append}
+use Rattle.std.proofs.Math.Nat.{div-lt_iff_lt-mul}
+use Rattle.std.proofs.lemmas.Nat.{div-add-mod'}
+use Rattle.vx_base.specs.declared.format.Format.{Format}
+use Rattle.vx_base.specs.Rectangle.{Rectangle, inside, whole, IsOrdered, IsWithin}
+use Rattle.vx_base.specs.Image.{ImageValue, IsImage, run, table, within, at, made, new_image}
+use Rattle.vx_base.proofs.TableLaws.{table-more, length-table, length-run, get_or-run}
+
+-- a place of a row above the last
+above : (width height x y : ℕ) → x < width → y < height → y * width + x < height * width
+above width height x y a b = grind arith
+
+last_or_not : (y height : ℕ) → y < suc height → (y < height) ⊎ (y ≡ height)
+last_or_not y height b = grind arith
+
+-- a row of the table, or the row below it
+last_or_before : (width height x y : ℕ) (f : ℕ → ℕ → ℤ) → x < width → (y < height) ⊎ (y ≡ height) → (y < height → get_or (table width height f) (y * width + x) (pos 0) ≡ f x y) → get_or (table width height f ++ run 0 width (λ x. f x height)) (y * width + x) (pos 0) ≡ f x y
+last_or_before width height x y f a (inl h) before =
+    get_or-append (table width height f) (run 0 width (λ x. f x height)) (pos 0) (y * width + x)
+    (let n = above width height x y a h in omega (arith, length-table width height f)) ∙ before h
+last_or_before width height x y f a (inr e) before =
+    ap (λ n. get_or (table width height f ++ run 0 width (λ x. f x height)) (n * width + x) (pos 0)) e
+    ∙ get_or-append_right (table width height f) (run 0 width (λ x. f x height)) (height * width) (height * width + x) (pos 0) (length-table width height f) (omega arith)
+    ∙ ap (λ n. get_or (run 0 width (λ x. f x height)) n (pos 0)) (omega arith)
+    ∙ get_or-run (λ x. f x height) 0 width x (pos 0) a
+    ∙ ap (λ n. f n height) (omega arith)
+    ∙ ap (λ n. f x n) (sym e)
+
+-- the sample of a table at a place
+pub get_or-table : (width height x y : ℕ) (f : ℕ → ℕ → ℤ) → x < width → y < height → get_or (table width height f) (y * width + x) (pos 0) ≡ f x y
+get_or-table width zero x y f a b = absurd (omega arith)
+get_or-table width (suc height) x y f a b =
+    ap (λ n. get_or (table width n f) (y * width + x) (pos 0)) (sym (add-one height))
+    ∙ ap (λ l. get_or l (y * width + x) (pos 0)) (table-more width height f)
+    ∙ last_or_before width height x y f a (last_or_not y height b) (get_or-table width height x y f a)
+
+within_true : (r : Rectangle) (f : ℕ → ℕ → ℤ) (x y : ℕ) → inside r x y ≡ true → within r f x y ≡ f x y
+within_true r f x y h = ap (λ b. cond b (f x y) (pos 0)) h
+
+within_false : (r : Rectangle) (f : ℕ → ℕ → ℤ) (x y : ℕ) → inside r x y ≡ false → within r f x y ≡ pos 0
+within_false r f x y h = ap (λ b. cond b (f x y) (pos 0)) h
+
+module _ (width height : ℕ) (format : Format) (valid : Rectangle) (f : ℕ → ℕ → ℤ) where
+  pub at-made : (x y : ℕ) → x < width → y < height → inside valid x y ≡ true → at (made width height format valid f) x y ≡ f x y
+  at-made x y a b h = get_or-table width height x y (within valid f) a b ∙ within_true valid f x y h
+
+  pub at-made_outside : (x y : ℕ) → x < width → y < height → inside valid x y ≡ false → at (made width height format valid f) x y ≡ pos 0
+  at-made_outside x y a b h = get_or-table width height x y (within valid f) a b ∙ within_false valid f x y h
+
+  pub made_image : IsOrdered valid → IsWithin valid width height → IsImage (made width height format valid f)
+  made_image ordered room = record { size = length-table width height (within valid f); ordered = ordered; room = room; outside = at-made_outside }
+
+-- every index is the one of a place
+index_of_place : (width height k : ℕ) → k < height * width → (x : ℕ) × (y : ℕ) × (x < width) × (y < height) × (y * width + x ≡ k)
+index_of_place width height k h =
+    let some : 0 < width = grind arith in
+    (k % width, k / width, omega arith, (div-lt_iff_lt-mul some).1 h, div-add-mod' k width)
+
+same_samples : (a b : List ℤ) (width height : ℕ) → length a ≡ height * width → length b ≡ height * width → ((x y : ℕ) → x < width → y < height → get_or a (y * width + x) (pos 0) ≡ get_or b (y * width + x) (pos 0)) → a ≡ b
+same_samples a b width height long also same =
+    ext_get_or (pos 0) a b (long ∙ sym also)
+    (λ k h. let p = index_of_place width height k (omega arith) in
+        ap (λ n. get_or a n (pos 0)) (sym p.4) ∙ same p.0 p.1 p.2 p.3 ∙ ap (λ n. get_or b n (pos 0)) p.4)
+
+same_parts : (a b : ImageValue) → a.width ≡ b.width → a.height ≡ b.height → a.format ≡ b.format → a.valid ≡ b.valid → a.samples ≡ b.samples → a ≡ b
+same_parts a b w h f v s =
+    ap (λ n. let t : ImageValue = record { width = n; height = a.height; format = a.format; valid = a.valid; samples = a.samples } in t) w
+    ∙ ap (λ n. let t : ImageValue = record { width = b.width; height = n; format = a.format; valid = a.valid; samples = a.samples } in t) h
+    ∙ ap (λ n. let t : ImageValue = record { width = b.width; height = b.height; format = n; valid = a.valid; samples = a.samples } in t) f
+    ∙ ap (λ n. let t : ImageValue = record { width = b.width; height = b.height; format = b.format; valid = n; samples = a.samples } in t) v
+    ∙ ap (λ n. let t : ImageValue = record { width = b.width; height = b.height; format = b.format; valid = b.valid; samples = n } in t) s
+
+pub places_decide : (a b : ImageValue) → IsImage a → IsImage b → a.width ≡ b.width → a.height ≡ b.height → a.format ≡ b.format → a.valid ≡ b.valid → ((x y : ℕ) → x < a.width → y < a.height → at a x y ≡ at b x y) → a ≡ b
+places_decide a b p q w h f v same =
+    same_parts a b w h f v
+    (same_samples a.samples b.samples a.width a.height p.size (q.size ∙ ap (λ n. n * b.width) (sym h) ∙ ap (λ n. a.height * n) (sym w))
+     (λ x y i j. same x y i j ∙ ap (λ n. get_or b.samples (y * n + x) (pos 0)) (sym w)))
+
+true_or_false : (b : Bool) → (b ≡ true) ⊎ (b ≡ false)
+true_or_false true = inl refl
+true_or_false false = inr refl
+
+pub made_of_itself : (a : ImageValue) → IsImage a → made a.width a.height a.format a.valid (at a) ≡ a
+made_of_itself a h =
+    places_decide (made a.width a.height a.format a.valid (at a)) a (made_image a.width a.height a.format a.valid (at a) h.ordered h.room) h refl refl refl refl
+    (λ x y i j. cases x y i j (true_or_false (inside a.valid x y)))
+  where
+    cases : (x y : ℕ) → x < a.width → y < a.height → (inside a.valid x y ≡ true) ⊎ (inside a.valid x y ≡ false) → at (made a.width a.height a.format a.valid (at a)) x y ≡ at a x y
+    cases x y i j (inl e) = at-made a.width a.height a.format a.valid (at a) x y i j e
+    cases x y i j (inr e) = at-made_outside a.width a.height a.format a.valid (at a) x y i j e ∙ sym (h.outside x y i j e)
+
+inside_whole : (width height x y : ℕ) → x < width → y < height → inside (whole width height) x y ≡ true
+inside_whole width height x y a b = grind (arith, nat_tests)
+
+pub new_image_is : (width height : ℕ) (format : Format) → IsImage (new_image width height format)
+new_image_is width height format =
+    made_image width height format (whole width height) (λ _ _. pos 0)
+    (record { columns = omega arith; rows = omega arith }) (record { columns = omega arith; rows = omega arith })
+
+pub at-new_image : (width height : ℕ) (format : Format) (x y : ℕ) → x < width → y < height → at (new_image width height format) x y ≡ pos 0
+at-new_image width height format x y a b = at-made width height format (whole width height) (λ _ _. pos 0) x y a b (inside_whole width height x y a b)
+
+-- a valid place is a place
+pub column_inside : (r : Rectangle) (width height x y : ℕ) → IsWithin r width height → inside r x y ≡ true → x < width
+column_inside r width height x y room h = let a : x < r.x1 = grind (arith, nat_tests) in omega arith
+
+pub row_inside : (r : Rectangle) (width height x y : ℕ) → IsWithin r width height → inside r x y ≡ true → y < height
+row_inside r width height x y room h = let a : y < r.y1 = grind (arith, nat_tests) in omega arith

@@ -1,0 +1,5 @@
+pub mod TableLaws
+pub mod SampleLaws
+pub mod RectangleLaws
+pub mod ImageLaws
+pub mod PixelLaws

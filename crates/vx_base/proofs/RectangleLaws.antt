@@ -1,0 +1,97 @@
+-- Rectangles as sets of places.
+use Rattle.std.proofs.Common.{◌≡◌, ℕ, ◌+◌, ◌-◌, ◌<◌, ◌≤◌, ◌⊎◌, inl, inr, ap, ◌∙◌, sym, arith, rules, true, false, Bool, IsTrue, ◌↔◌, ◌||◌}
+use Rattle.std.specs.Prelude.{◌==◌, ◌&&◌, nat_lt}
+use Rattle.std.proofs.lemmas.Bool.Decides.{nat_tests}
+use Rattle.vx_base.specs.Rectangle.{Rectangle, inside, is_rectangle, bounded, shrunk, empty}
+
+-- the bounds decide
+same_bounds : (r s : Rectangle) → r.x0 ≡ s.x0 → r.y0 ≡ s.y0 → r.x1 ≡ s.x1 → r.y1 ≡ s.y1 → r ≡ s
+same_bounds r s a b c d =
+    ap (λ n. let t : Rectangle = record { x0 = n; y0 = r.y0; x1 = r.x1; y1 = r.y1 } in t) a
+    ∙ ap (λ n. let t : Rectangle = record { x0 = s.x0; y0 = n; x1 = r.x1; y1 = r.y1 } in t) b
+    ∙ ap (λ n. let t : Rectangle = record { x0 = s.x0; y0 = s.y0; x1 = n; y1 = r.y1 } in t) c
+    ∙ ap (λ n. let t : Rectangle = record { x0 = s.x0; y0 = s.y0; x1 = s.x1; y1 = n } in t) d
+
+-- a place between the bounds
+record Between (r : Rectangle) (x y : ℕ) : Type 0 where
+  pub left : r.x0 ≤ x
+  pub right : x < r.x1
+  pub top : r.y0 ≤ y
+  pub bottom : y < r.y1
+
+between : (r : Rectangle) (x y : ℕ) → inside r x y ≡ true → Between r x y
+between r x y h = record { left = grind (arith, nat_tests); right = grind (arith, nat_tests); top = grind (arith, nat_tests); bottom = grind (arith, nat_tests) }
+
+in_between : (r : Rectangle) (x y : ℕ) → Between r x y → inside r x y ≡ true
+in_between r x y h = grind (arith, nat_tests)
+
+-- the places of one rectangle are places of another
+Within : Rectangle → Rectangle → Type 0
+Within r s = (x y : ℕ) → Between r x y → Between s x y
+
+record IsProper (r : Rectangle) : Type 0 where
+  pub columns : r.x0 < r.x1
+  pub rows : r.y0 < r.y1
+
+either : (a b : Bool) → (a || b) ≡ true → (a ≡ true) ⊎ (b ≡ true)
+either true b h = inl (grind arith)
+either false b h = inr h
+
+empty_or_proper : (r : Rectangle) → IsTrue (is_rectangle r.x0 r.y0 r.x1 r.y1) → (r ≡ empty) ⊎ IsProper r
+empty_or_proper r h = cases (either _ _ h)
+  where
+    cases : ((((r.x0 == 0) && (r.y0 == 0)) && ((r.x1 == 0) && (r.y1 == 0))) ≡ true) ⊎ ((nat_lt r.x0 r.x1 && nat_lt r.y0 r.y1) ≡ true) → (r ≡ empty) ⊎ IsProper r
+    cases (inl a) = inl (same_bounds r empty (grind (arith, nat_tests)) (grind (arith, nat_tests)) (grind (arith, nat_tests)) (grind (arith, nat_tests)))
+    cases (inr b) = inr (record { columns = grind (arith, nat_tests); rows = grind (arith, nat_tests) })
+
+-- the first place and the last
+first_place : (r : Rectangle) → IsProper r → Between r r.x0 r.y0
+first_place r h = record { left = omega arith; right = h.columns; top = omega arith; bottom = h.rows }
+
+last_place : (r : Rectangle) → IsProper r → Between r (r.x1 - 1) (r.y1 - 1)
+last_place r h = record { left = omega arith; right = omega arith; top = omega arith; bottom = omega arith }
+
+proper_by : (s : Rectangle) (x y : ℕ) → Between s x y → IsProper s
+proper_by s x y h = record { columns = omega arith; rows = omega arith }
+
+-- proper rectangles with the same places have the same bounds
+same_proper : (r s : Rectangle) → IsProper r → IsProper s → ((x y : ℕ) → Between r x y → Between s x y) → ((x y : ℕ) → Between s x y → Between r x y) → r ≡ s
+same_proper r s p q there back =
+    let a = there r.x0 r.y0 (first_place r p) in
+    let b = there (r.x1 - 1) (r.y1 - 1) (last_place r p) in
+    let c = back s.x0 s.y0 (first_place s q) in
+    let d = back (s.x1 - 1) (s.y1 - 1) (last_place s q) in
+    same_bounds r s (omega arith) (omega arith) (omega arith) (omega arith)
+
+nothing_between : (x y : ℕ) → Between empty x y → ⊥
+nothing_between x y h = omega arith
+
+pub places_decide : (r s : Rectangle) → IsTrue (is_rectangle r.x0 r.y0 r.x1 r.y1) → IsTrue (is_rectangle s.x0 s.y0 s.x1 s.y1) → ((x y : ℕ) → inside r x y ≡ inside s x y) → r ≡ s
+places_decide r s p q same = cases (empty_or_proper r p) (empty_or_proper s q)
+  where
+    there : (x y : ℕ) → Between r x y → Between s x y
+    there x y h = between s x y (sym (same x y) ∙ in_between r x y h)
+    back : (x y : ℕ) → Between s x y → Between r x y
+    back x y h = between r x y (same x y ∙ in_between s x y h)
+    cases : (r ≡ empty) ⊎ IsProper r → (s ≡ empty) ⊎ IsProper s → r ≡ s
+    cases (inl a) (inl b) = a ∙ sym b
+    cases (inl a) (inr b) = absurd (nothing_between s.x0 s.y0 (rw a at (back s.x0 s.y0 (first_place s b))))
+    cases (inr a) (inl b) = absurd (nothing_between r.x0 r.y0 (rw b at (there r.x0 r.y0 (first_place r a))))
+    cases (inr a) (inr b) = same_proper r s a b there back
+
+bounded_inside : (x0 y0 x1 y1 x y : ℕ) → inside (bounded x0 y0 x1 y1) x y ≡ inside (record { x0 = x0; y0 = y0; x1 = x1; y1 = y1 }) x y
+bounded_inside x0 y0 x1 y1 x y = grind (arith, nat_tests)
+
+pub shrunk_places : (r : Rectangle) (rx ry x y : ℕ) → IsTrue (inside (shrunk r rx ry) x y) ↔ ((rx ≤ x) × (ry ≤ y) × ((i j : ℕ) → x ≤ i + rx → i ≤ x + rx → y ≤ j + ry → j ≤ y + ry → IsTrue (inside r i j)))
+shrunk_places r rx ry x y = (there, back)
+  where
+    there : inside (shrunk r rx ry) x y ≡ true → (rx ≤ x) × (ry ≤ y) × ((i j : ℕ) → x ≤ i + rx → i ≤ x + rx → y ≤ j + ry → j ≤ y + ry → inside r i j ≡ true)
+    there h =
+        let b = between _ x y (sym (bounded_inside (r.x0 + rx) (r.y0 + ry) (r.x1 - rx) (r.y1 - ry) x y) ∙ h) in
+        (omega (arith, b.left), omega (arith, b.top), λ i j p q s t. in_between r i j (record { left = omega arith; right = omega arith; top = omega arith; bottom = omega arith }))
+    back : (rx ≤ x) × (ry ≤ y) × ((i j : ℕ) → x ≤ i + rx → i ≤ x + rx → y ≤ j + ry → j ≤ y + ry → inside r i j ≡ true) → inside (shrunk r rx ry) x y ≡ true
+    back h =
+        let a = between r (x - rx) (y - ry) (h.2 (x - rx) (y - ry) (omega arith) (omega arith) (omega arith) (omega arith)) in
+        let b = between r (x + rx) (y + ry) (h.2 (x + rx) (y + ry) (omega arith) (omega arith) (omega arith) (omega arith)) in
+        bounded_inside (r.x0 + rx) (r.y0 + ry) (r.x1 - rx) (r.y1 - ry) x y
+        ∙ in_between _ x y (record { left = omega (arith, h.0); right = omega arith; top = omega (arith, h.1); bottom = omega arith })

@@ -1,0 +1,26 @@
+-- An image's description: its size and format.
+use Rattle.std.specs.Prelude.{ℕ, ◌*◌, Bool, ◌&&◌, nat_le, if◌then◌else◌, Option, Some, None}
+use Rattle.vx_base.specs.declared.format.Format.{Format}
+use Rattle.vx_base.specs.Sample.{sample_bytes}
+
+pub record Description : Type 0 where
+  pub width : ℕ
+  pub height : ℕ
+  pub format : Format
+
+-- whether an image may have this width or height
+abbrev pub is_side : ℕ → Bool
+is_side n = nat_le 1 n && nat_le n 4096
+
+-- the description of an image, if its sides are allowed
+abbrev pub description : ℕ → ℕ → Format → Option Description
+description width height format =
+    if is_side width && is_side height then Some (record { width = width; height = height; format = format }) else None
+
+-- how many samples such an image has
+abbrev pub sample_count : Description → ℕ
+sample_count d = d.height * d.width
+
+-- how many bytes these samples take
+abbrev pub byte_count : Description → ℕ
+byte_count d = sample_count d * sample_bytes d.format

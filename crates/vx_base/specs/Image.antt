@@ -1,0 +1,45 @@
+-- An image value: a size, a format, a valid rectangle, and a sample at each place.
+use Rattle.std.specs.Prelude.{ℕ, ℤ, pos, ◌+◌, ◌*◌, ◌<◌, ◌≡◌, false, List, map, length, slice_index_or, if◌then◌else◌}
+use Rattle.std.specs.List.{range_with_len, flat_map}
+use Rattle.vx_base.specs.declared.format.Format.{Format}
+use Rattle.vx_base.specs.Rectangle.{Rectangle, inside, whole, IsOrdered, IsWithin}
+
+-- f x, f (x + 1), .. at n places
+abbrev pub run : ℕ → ℕ → (ℕ → ℤ) → List ℤ
+run x n f = map f (range_with_len x n)
+
+-- f at all places of a width and height, by rows from the top
+abbrev pub table : ℕ → ℕ → (ℕ → ℕ → ℤ) → List ℤ
+table width height f = flat_map (λ y. run 0 width (λ x. f x y)) (range_with_len 0 height)
+
+-- f at the places of the rectangle, 0 elsewhere
+abbrev pub within : Rectangle → (ℕ → ℕ → ℤ) → ℕ → ℕ → ℤ
+within r f x y = if inside r x y then f x y else pos 0
+
+-- the samples stand by rows from the top
+pub record ImageValue : Type 0 where
+  pub width : ℕ
+  pub height : ℕ
+  pub format : Format
+  pub valid : Rectangle
+  pub samples : List ℤ
+
+-- the sample in column x of row y
+abbrev pub at : ImageValue → ℕ → ℕ → ℤ
+at image x y = slice_index_or image.samples (y * image.width + x) (pos 0)
+
+-- a sample for each place, and 0 at each that is not valid
+pub record IsImage (image : ImageValue) : Type 0 where
+  pub size : length image.samples ≡ image.height * image.width
+  pub ordered : IsOrdered image.valid
+  pub room : IsWithin image.valid image.width image.height
+  pub outside : (x y : ℕ) → x < image.width → y < image.height → inside image.valid x y ≡ false → at image x y ≡ pos 0
+
+-- the image whose samples are f at the valid places and 0 elsewhere
+abbrev pub made : ℕ → ℕ → Format → Rectangle → (ℕ → ℕ → ℤ) → ImageValue
+made width height format valid f =
+    record { width = width; height = height; format = format; valid = valid; samples = table width height (within valid f) }
+
+-- a new image: wholly valid and 0 everywhere
+abbrev pub new_image : ℕ → ℕ → Format → ImageValue
+new_image width height format = made width height format (whole width height) (λ _ _. pos 0)

@@ -1,0 +1,10 @@
+pub mod Sample
+pub mod Rectangle
+pub mod Description
+pub mod Image
+pub mod Pixelwise
+pub mod Code
+pub mod Function
+pub mod Cell
+pub mod Node
+pub mod Picture

@@ -1,0 +1,27 @@
+-- A picture: the samples of a whole image, with no rectangle.
+use Rattle.std.specs.Prelude.{ℕ, ℤ, pos, ◌≡◌, List, map, length}
+use Rattle.vx_base.specs.declared.format.Format.{Format}
+use Rattle.vx_base.specs.declared.format.Format.TheVariants.{U8 as FormatU8, S16 as FormatS16, U32 as FormatU32}
+use Rattle.vx_base.specs.declared.samples.Samples.{Samples}
+use Rattle.vx_base.specs.declared.samples.Samples.TheVariants.{U8, S16, U32}
+use Rattle.vx_base.specs.Description.{Description, sample_count}
+
+-- the samples as numbers
+abbrev pub values : Samples → List ℤ
+values (U8 samples) = map pos samples.items
+values (S16 samples) = samples.items
+values (U32 samples) = map pos samples.items
+
+abbrev pub samples_format : Samples → Format
+samples_format (U8 samples) = FormatU8
+samples_format (S16 samples) = FormatS16
+samples_format (U32 samples) = FormatU32
+
+pub record PictureValue : Type 0 where
+  pub description : Description
+  pub samples : List ℤ
+
+-- samples of the description's format, one for each place
+pub record Fills (d : Description) (samples : Samples) : Type 0 where
+  pub format : samples_format samples ≡ d.format
+  pub size : length (values samples) ≡ sample_count d

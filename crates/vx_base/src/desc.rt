@@ -1,0 +1,96 @@
+//! Descriptions of images.
+ghost use Rattle.std.specs.Prelude.{◌≡◌, ◌≤◌, ◌*◌};
+ghost use Rattle.vx_base.specs.Description.{description, sample_count, byte_count};
+ghost use Rattle.vx_base.specs.Rectangle.{whole};
+
+use crate::format::Format;
+use crate::rect::Rect;
+use std::marker::Model;
+
+/// The greatest width and height of an image, in samples.
+pub const GREATEST_SIDE: u16 = 4096;
+
+/// The size and format of an image: 1 to 4096 samples wide and high.
+#[derive(Clone, Copy, PartialEq, Eq, Debug)]
+pub struct Desc {
+    width: u16,
+    height: u16,
+    format: Format,
+}
+
+impl Model for Desc {
+    ghost use Rattle.std.specs.Prelude.{IsTrue, ◌&&◌};
+    ghost use Rattle.vx_base.specs.Description.{Description, is_side};
+
+    ghost Value = { Description };
+
+    ghost view = { λ d. record { width = d.width; height = d.height; format = d.format } };
+
+    ghost invariant = { λ d. IsTrue (is_side d.width && is_side d.height) };
+
+    ghost inverse = { λ d. record { width = d.width; height = d.height; format = d.format } };
+}
+
+impl Desc {
+    /// The description of an image. `None` unless the width and height are 1 to 4096.
+    pub fn new(width: u16, height: u16, format: Format) -> Option<Desc>
+        ensures { result ≡ description width height format }
+    {
+        let sides = 1..=GREATEST_SIDE;
+        if sides.contains(&width) && sides.contains(&height) {
+            Some(Desc {
+                width,
+                height,
+                format,
+            })
+        } else {
+            None
+        }
+    }
+
+    /// The samples of a row.
+    pub fn width(self) -> u16
+        ensures value { result ≡ self.width }
+        ensures limits { (1 ≤ result) × (result ≤ 4096) }
+    {
+        self.width
+    }
+
+    /// The rows.
+    pub fn height(self) -> u16
+        ensures value { result ≡ self.height }
+        ensures limits { (1 ≤ result) × (result ≤ 4096) }
+    {
+        self.height
+    }
+
+    /// The format of the samples.
+    pub fn format(self) -> Format
+        ensures { result ≡ self.format }
+    {
+        self.format
+    }
+
+    /// The rectangle of all places.
+    pub fn whole(self) -> Rect
+        ensures { result ≡ whole self.width self.height }
+    {
+        Rect::new(0, 0, self.width, self.height).unwrap()
+    }
+
+    /// How many samples the image has.
+    pub fn sample_count(self) -> usize
+        ensures value { result ≡ sample_count self }
+        ensures limit { result ≤ 4096 * 4096 }
+    {
+        usize::from(self.height) * usize::from(self.width)
+    }
+
+    /// How many bytes its samples take.
+    pub fn byte_count(self) -> usize
+        ensures value { result ≡ byte_count self }
+        ensures limit { result ≤ 4 * 4096 * 4096 }
+    {
+        self.sample_count() * self.format.sample_bytes()
+    }
+}

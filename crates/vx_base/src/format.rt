@@ -1,0 +1,27 @@
+//! Formats of images.
+ghost use Rattle.std.specs.Prelude.{◌≡◌};
+ghost use Rattle.vx_base.specs.Sample.{sample_bytes};
+
+/// The format of an image: the range of its samples (OpenVX 1.3, `vx_df_image_e`).
+#[derive(Clone, Copy, PartialEq, Eq, Debug)]
+pub enum Format {
+    /// 0 to 255, `VX_DF_IMAGE_U8`.
+    U8,
+    /// -32768 to 32767, `VX_DF_IMAGE_S16`.
+    S16,
+    /// 0 to 4,294,967,295, `VX_DF_IMAGE_U32`.
+    U32,
+}
+
+impl Format {
+    /// The bytes of one sample.
+    pub fn sample_bytes(self) -> usize
+        ensures { result ≡ sample_bytes self }
+    {
+        match self {
+            Format::U8 => 1,
+            Format::S16 => 2,
+            Format::U32 => 4,
+        }
+    }
+}

@@ -1,0 +1,6 @@
+//! What the definitions mean: functions that do nothing, whose contracts are facts.
+
+pub mod images;
+pub mod pixels;
+pub mod rectangles;
+pub mod samples;

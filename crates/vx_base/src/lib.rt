@@ -1,0 +1,38 @@
+//! The types that all of the runtime speaks of, and the definitions behind its contracts.
+//!
+//! Formats, rectangles, descriptions, codes, nodes and pictures are small values whose
+//! invariants hold by construction: a `Rect` is a rectangle, a `Desc` is within the limits, a
+//! `NodeSpec` has the shape of its function. `specs/` has the model's first definitions: samples
+//! as whole numbers, rectangles as sets of places, images as tables of functions of places.
+//! `laws` states what these definitions mean, and `examples` works some of them out.
+#![tactic(auto)]
+
+mod border;
+mod code;
+mod desc;
+mod format;
+mod function;
+pub mod examples;
+pub mod laws;
+mod node;
+mod picture;
+mod policy;
+mod rect;
+mod reference;
+mod samples;
+mod shape;
+
+pub use border::Border;
+pub use code::Code;
+pub use desc::{Desc, GREATEST_SIDE};
+pub use format::Format;
+pub use function::{Function, Parameters};
+pub use node::{Node, NodeSpec};
+pub use picture::Picture;
+pub use policy::Policy;
+pub use rect::Rect;
+pub use reference::ObjRef;
+pub use samples::Samples;
+
+#[cfg(test)]
+mod tests;

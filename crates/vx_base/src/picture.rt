@@ -1,0 +1,57 @@
+//! Pictures: what is written to an image and read from it.
+ghost use Rattle.std.specs.Prelude.{◌≡◌};
+ghost use Rattle.vx_base.specs.Picture.{values, Fills};
+
+use crate::desc::Desc;
+use crate::samples::Samples;
+use std::marker::Model;
+
+/// The samples of a whole image, with its description and no valid rectangle.
+#[derive(Debug, Drop)]
+pub struct Picture {
+    desc: Desc,
+    samples: Samples,
+}
+
+impl Model for Picture {
+    ghost use Rattle.vx_base.specs.Picture.{PictureValue, values, Fills};
+
+    ghost Value = { PictureValue };
+
+    ghost view = { λ p. record { description = p.desc; samples = values p.samples } };
+
+    ghost invariant = { λ p. Fills p.desc p.samples };
+}
+
+impl Picture {
+    /// The picture of these samples, which are of the description's format and as many as its
+    /// width times its height.
+    pub fn new(desc: Desc, samples: Samples) -> Picture
+        requires { Fills desc samples }
+        ensures { result ≡ record { description = desc; samples = values samples } }
+    {
+        Picture { desc, samples }
+    }
+
+    pub fn desc(&self) -> Desc
+        ensures { result ≡ self.now.description }
+    {
+        self.desc
+    }
+
+    /// The samples, by rows from the top.
+    pub fn samples(&self) -> &Samples
+        ensures value { values result.now ≡ self.now.samples }
+        ensures fills { Fills self.now.description result.now }
+    {
+        &self.samples
+    }
+
+    /// The samples, by rows from the top.
+    pub fn into_samples(self) -> Samples
+        ensures value { values result ≡ self.samples }
+        ensures fills { Fills self.description result }
+    {
+        self.samples
+    }
+}

@@ -1,0 +1,87 @@
+//! Rectangles of places.
+ghost use Rattle.std.specs.Prelude.{◌≡◌};
+ghost use Rattle.vx_base.specs.Rectangle.{rectangle, empty, IsOrdered};
+
+use std::marker::Model;
+
+/// A rectangle of places in columns and rows (OpenVX 1.3, `vx_rectangle_t`): the start belongs
+/// to it, the end does not. One that holds no place is written as four zeros.
+#[derive(Clone, Copy, PartialEq, Eq, Debug)]
+pub struct Rect {
+    x0: u16,
+    y0: u16,
+    x1: u16,
+    y1: u16,
+}
+
+impl Model for Rect {
+    ghost use Rattle.std.specs.Prelude.{IsTrue};
+    ghost use Rattle.vx_base.specs.Rectangle.{Rectangle, is_rectangle};
+
+    ghost Value = { Rectangle };
+
+    ghost view = { λ r. record { x0 = r.x0; y0 = r.y0; x1 = r.x1; y1 = r.y1 } };
+
+    ghost invariant = { λ r. IsTrue (is_rectangle r.x0 r.y0 r.x1 r.y1) };
+
+    ghost inverse = { λ r. record { x0 = r.x0; y0 = r.y0; x1 = r.x1; y1 = r.y1 } };
+}
+
+impl Rect {
+    /// The rectangle with these bounds. `None` unless all four are 0, or each start is below its
+    /// end.
+    pub fn new(x0: u16, y0: u16, x1: u16, y1: u16) -> Option<Rect>
+        ensures { result ≡ rectangle x0 y0 x1 y1 }
+    {
+        let zeros = x0 == 0 && y0 == 0 && x1 == 0 && y1 == 0;
+        if zeros || x0 < x1 && y0 < y1 {
+            Some(Rect { x0, y0, x1, y1 })
+        } else {
+            None
+        }
+    }
+
+    /// The rectangle that holds no place.
+    pub fn empty() -> Rect
+        ensures { result ≡ empty }
+    {
+        Rect {
+            x0: 0,
+            y0: 0,
+            x1: 0,
+            y1: 0,
+        }
+    }
+
+    /// The first column.
+    pub fn x0(self) -> u16
+        ensures value { result ≡ self.x0 }
+        ensures ordered { IsOrdered self }
+    {
+        self.x0
+    }
+
+    /// The first row.
+    pub fn y0(self) -> u16
+        ensures value { result ≡ self.y0 }
+        ensures ordered { IsOrdered self }
+    {
+        self.y0
+    }
+
+    /// The column behind the last.
+    pub fn x1(self) -> u16
+        ensures value { result ≡ self.x1 }
+        ensures ordered { IsOrdered self }
+    {
+        self.x1
+    }
+
+    /// The row below the last.
+    pub fn y1(self) -> u16
+        ensures value { result ≡ self.y1 }
+        ensures ordered { IsOrdered self }
+    {
+        self.y1
+    }
+}
