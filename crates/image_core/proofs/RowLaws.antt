@@ -1,9 +1,9 @@
 -- Rows of images over slices.
-use Rattle.std.proofs.Common.{◌≡◌, ℕ, ℤ, pos, ◌+◌, ◌*◌, ◌<◌, ◌≤◌, List, length, map, take, drop, get_or, ap, ◌∙◌, sym, subst, arith}
+use Rattle.std.proofs.Common.{◌≡◌, ℕ, ℤ, pos, ◌+◌, ◌*◌, ◌<◌, ◌≤◌, List, map, take, drop, ap, ◌∙◌, sym, arith}
 use Rattle.std.proofs.lemmas.List.{take-map, drop-map}
 use Rattle.vx_base.specs.Description.{Description}
 use Rattle.vx_base.specs.Rectangle.{Rectangle}
-use Rattle.vx_base.specs.Image.{ImageValue, IsImage, run, at}
+use Rattle.vx_base.specs.Image.{ImageValue, IsImage}
 use Rattle.vx_base.proofs.TableLaws.{part_is_run, row_fits}
 use Rattle.image_core.specs.Slices.{image_over, row_of}
 

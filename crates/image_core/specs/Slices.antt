@@ -1,5 +1,5 @@
 -- What the slices behind an image hold.
-use Rattle.std.specs.Prelude.{ℕ, ℤ, pos, ◌≡◌, List, map}
+use Rattle.std.specs.Prelude.{ℕ, ℤ, pos, List, map}
 use Rattle.vx_base.specs.declared.format.Format.{Format}
 use Rattle.vx_base.specs.declared.format.Format.TheVariants.{U8, S16, U32}
 use Rattle.vx_base.specs.Rectangle.{Rectangle}

@@ -1,5 +1,5 @@
 -- An image whose samples are written.
-use Rattle.std.specs.Prelude.{ℕ, ℤ, ◌≡◌, length}
+use Rattle.std.specs.Prelude.{◌≡◌, length}
 use Rattle.vx_base.specs.Description.{sample_count}
 use Rattle.vx_base.specs.Image.{ImageValue}
 use Rattle.image_core.specs.declared.image_mut.ImageMut.{ImageMut}

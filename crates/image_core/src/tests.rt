@@ -108,7 +108,10 @@ fn written_shorts(rt: HostRuntime) -> Result<(), Fail> {
     let mut samples = [5, 5];
     let mut image = ImageMut::from_s16(desc, &mut samples);
     assert_eq!(rt; (image.desc(), image.valid()), (desc, Rect::empty()));
-    image.write_s16(&Constant { sample: -32768, area });
+    image.write_s16(&Constant {
+        sample: -32768,
+        area,
+    });
     assert_eq!(rt; image.valid(), area);
     assert_eq!(rt; samples, [-32768, 0]);
     Ok(())

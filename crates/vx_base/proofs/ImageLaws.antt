@@ -1,6 +1,5 @@
 -- Images as functions of places.
-use Rattle.std.proofs.Common.{◌≡◌, ℕ, ℤ, pos, ◌+◌, ◌-◌, ◌*◌, ◌/◌, ◌%◌, ◌<◌, ◌≤◌, ◌⊎◌, inl, inr, List, ◌++◌, length, get_or, ap, ◌∙◌, sym, arith, true, false, Bool, zero, suc, add-one, subst, cond, refl}
-use Rattle.std.specs.Prelude.{nat_lt, ◌&&◌}
+use Rattle.std.proofs.Common.{◌≡◌, ℕ, ℤ, pos, ◌+◌, ◌*◌, ◌/◌, ◌%◌, ◌<◌, ◌⊎◌, inl, inr, List, ◌++◌, length, get_or, ap, ◌∙◌, sym, arith, true, false, Bool, zero, suc, add-one, cond, refl}
 use Rattle.std.proofs.lemmas.Bool.Decides.{nat_tests}
 use Rattle.std.proofs.lemmas.List.{ext_get_or, get_or-append_right}
 use Rattle.std.proofs.Math.ListN.{get_or-append}
@@ -9,7 +8,7 @@ use Rattle.std.proofs.lemmas.Nat.{div-add-mod'}
 use Rattle.vx_base.specs.declared.format.Format.{Format}
 use Rattle.vx_base.specs.Rectangle.{Rectangle, inside, whole, IsOrdered, IsWithin}
 use Rattle.vx_base.specs.Image.{ImageValue, IsImage, run, table, within, at, made, new_image}
-use Rattle.vx_base.proofs.TableLaws.{table-more, length-table, length-run, get_or-run}
+use Rattle.vx_base.proofs.TableLaws.{table-more, length-table, get_or-run}
 
 -- a place of a row above the last
 above : (width height x y : ℕ) → x < width → y < height → y * width + x < height * width
@@ -65,7 +64,7 @@ same_samples : (a b : List ℤ) (width height : ℕ) → length a ≡ height * w
 same_samples a b width height long also same =
     ext_get_or (pos 0) a b (long ∙ sym also)
     (λ k h. let p = index_of_place width height k (omega arith) in
-        ap (λ n. get_or a n (pos 0)) (sym p.4) ∙ same p.0 p.1 p.2 p.3 ∙ ap (λ n. get_or b n (pos 0)) p.4)
+    ap (λ n. get_or a n (pos 0)) (sym p.4) ∙ same p.0 p.1 p.2 p.3 ∙ ap (λ n. get_or b n (pos 0)) p.4)
 
 same_parts : (a b : ImageValue) → a.width ≡ b.width → a.height ≡ b.height → a.format ≡ b.format → a.valid ≡ b.valid → a.samples ≡ b.samples → a ≡ b
 same_parts a b w h f v s =
@@ -79,7 +78,7 @@ pub places_decide : (a b : ImageValue) → IsImage a → IsImage b → a.width �
 places_decide a b p q w h f v same =
     same_parts a b w h f v
     (same_samples a.samples b.samples a.width a.height p.size (q.size ∙ ap (λ n. n * b.width) (sym h) ∙ ap (λ n. a.height * n) (sym w))
-     (λ x y i j. same x y i j ∙ ap (λ n. get_or b.samples (y * n + x) (pos 0)) (sym w)))
+    (λ x y i j. same x y i j ∙ ap (λ n. get_or b.samples (y * n + x) (pos 0)) (sym w)))
 
 true_or_false : (b : Bool) → (b ≡ true) ⊎ (b ≡ false)
 true_or_false true = inl refl

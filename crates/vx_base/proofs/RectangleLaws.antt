@@ -1,5 +1,5 @@
 -- Rectangles as sets of places.
-use Rattle.std.proofs.Common.{◌≡◌, ℕ, ◌+◌, ◌-◌, ◌<◌, ◌≤◌, ◌⊎◌, inl, inr, ap, ◌∙◌, sym, arith, rules, true, false, Bool, IsTrue, ◌↔◌, ◌||◌}
+use Rattle.std.proofs.Common.{◌≡◌, ℕ, ◌+◌, ◌-◌, ◌<◌, ◌≤◌, ◌⊎◌, inl, inr, ap, ◌∙◌, sym, arith, true, false, Bool, IsTrue, ◌↔◌, ◌||◌}
 use Rattle.std.specs.Prelude.{◌==◌, ◌&&◌, nat_lt}
 use Rattle.std.proofs.lemmas.Bool.Decides.{nat_tests}
 use Rattle.vx_base.specs.Rectangle.{Rectangle, inside, is_rectangle, bounded, shrunk, empty}
@@ -71,8 +71,10 @@ places_decide r s p q same = cases (empty_or_proper r p) (empty_or_proper s q)
   where
     there : (x y : ℕ) → Between r x y → Between s x y
     there x y h = between s x y (sym (same x y) ∙ in_between r x y h)
+
     back : (x y : ℕ) → Between s x y → Between r x y
     back x y h = between r x y (same x y ∙ in_between s x y h)
+
     cases : (r ≡ empty) ⊎ IsProper r → (s ≡ empty) ⊎ IsProper s → r ≡ s
     cases (inl a) (inl b) = a ∙ sym b
     cases (inl a) (inr b) = absurd (nothing_between s.x0 s.y0 (rw a at (back s.x0 s.y0 (first_place s b))))
@@ -89,6 +91,7 @@ shrunk_places r rx ry x y = (there, back)
     there h =
         let b = between _ x y (sym (bounded_inside (r.x0 + rx) (r.y0 + ry) (r.x1 - rx) (r.y1 - ry) x y) ∙ h) in
         (omega (arith, b.left), omega (arith, b.top), λ i j p q s t. in_between r i j (record { left = omega arith; right = omega arith; top = omega arith; bottom = omega arith }))
+
     back : (rx ≤ x) × (ry ≤ y) × ((i j : ℕ) → x ≤ i + rx → i ≤ x + rx → y ≤ j + ry → j ≤ y + ry → inside r i j ≡ true) → inside (shrunk r rx ry) x y ≡ true
     back h =
         let a = between r (x - rx) (y - ry) (h.2 (x - rx) (y - ry) (omega arith) (omega arith) (omega arith) (omega arith)) in

@@ -1,5 +1,5 @@
 -- What wrap gives.
-use Rattle.std.proofs.Common.{◌≡◌, ℕ, ℤ, pos, negsuc, ◌+ℤ◌, ◌-ℤ◌, ◌*ℤ◌, ◌*◌, ◌<◌, ◌%◌, ◌/◌, refl, arith, Bool, true, false, cond, suc, zero}
+use Rattle.std.proofs.Common.{ℕ, ℤ, pos, negsuc, ◌+ℤ◌, ◌-ℤ◌, ◌<◌, ◌/◌, arith, Bool, true, false, cond}
 use Rattle.std.proofs.lemmas.Int.{ints}
 use Rattle.std.specs.Prelude.{int_lt}
 use Rattle.std.specs.Int.{int_rem_euclid}

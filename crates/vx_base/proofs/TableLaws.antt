@@ -1,9 +1,9 @@
-use Rattle.std.proofs.Common.{◌≡◌, ℕ, ℤ, pos, ◌+◌, ◌-◌, ◌*◌, ◌<◌, ◌≤◌, List, [], ◌∷◌, ◌++◌, length, map, take, drop, get_or, set, zero, suc, refl, ap, ◌∙◌, sym, arith, zero-add, add-zero, add-one, inl, inr, ◌⊎◌, Bool, true, false, cond, replicate}
+-- Runs and tables: what a function of places gives along a row, and row by row.
+use Rattle.std.proofs.Common.{◌≡◌, ℕ, ℤ, pos, ◌+◌, ◌-◌, ◌*◌, ◌<◌, ◌≤◌, List, [], ◌∷◌, ◌++◌, length, map, take, drop, get_or, set, zero, suc, refl, ap, ◌∙◌, sym, arith, zero-add, add-zero, add-one, inl, inr, ◌⊎◌, replicate}
 use Rattle.std.specs.List.{range_with_len, flat_map}
 use Rattle.std.proofs.lemmas.List.{append-nil, map-append, append_assoc, length-append, length-map, length-take, length-drop, ext_get_or, get_or-take, get_or-drop, take-map, drop-map, drop_at, take_at, take_more_set}
-use Rattle.vx_base.specs.Rectangle.{Rectangle, inside}
+use Rattle.vx_base.specs.Rectangle.{Rectangle}
 use Rattle.std.proofs.lemmas.Bool.Decides.{nat_tests}
-use Rattle.std.proofs.lemmas.List.{take_all}
 use Rattle.std.proofs.lemmas.Slice.{take-put_mid}
 use Rattle.std.proofs.lemmas.Simd.{zip2-map, map-map}
 use Rattle.std.specs.Simd.Lanes.{zip2}
@@ -118,9 +118,9 @@ part_is_run zs s n room =
     ext_get_or (pos 0) (take n (drop s zs)) (run 0 n (λ x. get_or zs (s + x) (pos 0)))
     (long ∙ sym (length-run (λ x. get_or zs (s + x) (pos 0)) 0 n))
     (λ k h. let below : k < n = omega arith in
-        get_or-take n (drop s zs) k (pos 0) below ∙ get_or-drop s zs k (pos 0)
-        ∙ ap (λ j. get_or zs (s + j) (pos 0)) (sym (zero-add k))
-        ∙ sym (get_or-run (λ x. get_or zs (s + x) (pos 0)) 0 n k (pos 0) below))
+    get_or-take n (drop s zs) k (pos 0) below ∙ get_or-drop s zs k (pos 0)
+    ∙ ap (λ j. get_or zs (s + j) (pos 0)) (sym (zero-add k))
+    ∙ sym (get_or-run (λ x. get_or zs (s + x) (pos 0)) 0 n k (pos 0) below))
 
 -- a row of the samples
 pub row_part : {T : Type 0} (value : T → ℤ) (xs : List T) (start step width height y : ℕ) → length xs ≡ height * width → y < height → start ≡ y * width → step ≡ width → map value (take (start + step - start) (drop start xs)) ≡ run 0 width (λ x. get_or (map value xs) (y * width + x) (pos 0))

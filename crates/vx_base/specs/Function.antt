@@ -1,5 +1,5 @@
 -- The vision functions: their numbers, and what a node of each has.
-use Rattle.std.specs.Prelude.{ℕ, ◌==◌, true, false, if◌then◌else◌, Option, Some, None}
+use Rattle.std.specs.Prelude.{ℕ, ◌==◌, false, if◌then◌else◌, Option, Some, None}
 use Rattle.vx_base.specs.declared.function.Function.{Function}
 use Rattle.vx_base.specs.declared.function.Function.TheVariants.{NotBits}
 use Rattle.vx_base.specs.declared.function.Parameters.{Parameters}

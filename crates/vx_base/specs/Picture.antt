@@ -1,5 +1,5 @@
 -- A picture: the samples of a whole image, with no rectangle.
-use Rattle.std.specs.Prelude.{ℕ, ℤ, pos, ◌≡◌, List, map, length}
+use Rattle.std.specs.Prelude.{ℤ, pos, ◌≡◌, List, map, length}
 use Rattle.vx_base.specs.declared.format.Format.{Format}
 use Rattle.vx_base.specs.declared.format.Format.TheVariants.{U8 as FormatU8, S16 as FormatS16, U32 as FormatU32}
 use Rattle.vx_base.specs.declared.samples.Samples.{Samples}

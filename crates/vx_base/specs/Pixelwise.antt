@@ -1,6 +1,6 @@
 -- Functions that give each sample from the samples at the same place.
 -- OpenVX 1.3, "Vision Functions"; the name is that of the section.
-use Rattle.std.specs.Prelude.{ℕ, ℤ, pos, ◌-ℤ◌}
+use Rattle.std.specs.Prelude.{ℤ, pos, ◌-ℤ◌}
 use Rattle.vx_base.specs.declared.format.Format.TheVariants.{U8}
 use Rattle.vx_base.specs.Image.{ImageValue, at, made}
 

@@ -23,8 +23,7 @@ pub fn narrowed()
     ensures nearest_below { narrow U8 Saturate (negsuc 99) ≡ pos 0 }
     ensures nearest_signed { narrow S16 Saturate (pos 32768) ≡ pos 32767 }
     ensures kept { narrow S16 Saturate (negsuc 99) ≡ negsuc 99 }
-{
-}
+{}
 
 /// Rectangles and their places.
 pub fn rectangles()
@@ -36,8 +35,7 @@ pub fn rectangles()
     ensures apart { meet_of (record { x0 = 0; y0 = 0; x1 = 2; y1 = 1 }) (record { x0 = 2; y0 = 0; x1 = 4; y1 = 1 }) ≡ empty }
     ensures inner { shrunk (record { x0 = 0; y0 = 0; x1 = 8; y1 = 7 }) 3 3 ≡ record { x0 = 3; y0 = 3; x1 = 5; y1 = 4 } }
     ensures too_small { shrunk (record { x0 = 0; y0 = 0; x1 = 2; y1 = 2 }) 1 1 ≡ empty }
-{
-}
+{}
 
 /// Descriptions within the limits and beyond.
 pub fn descriptions()
@@ -46,23 +44,20 @@ pub fn descriptions()
     ensures none_wide { description 0 1 U8 ≡ None }
     ensures too_high { description 1 4097 U8 ≡ None }
     ensures bytes { byte_count (record { width = 8; height = 7; format = S16 }) ≡ 112 }
-{
-}
+{}
 
 /// An image of two columns and two rows that is valid in its left column.
 pub fn images()
     ensures samples { (made 2 2 U8 (record { x0 = 0; y0 = 0; x1 = 1; y1 = 2 }) (λ x y. pos 10)).samples ≡ pos 10 ∷ pos 0 ∷ pos 10 ∷ pos 0 ∷ [] }
     ensures place { at (made 2 2 U8 (record { x0 = 0; y0 = 0; x1 = 1; y1 = 2 }) (λ x y. pos 10)) 0 1 ≡ pos 10 }
     ensures new { (new_image 2 1 S16).samples ≡ pos 0 ∷ pos 0 ∷ [] }
-{
-}
+{}
 
 /// Not of a row that holds 10 20 30 40 and is valid but for its ends.
 pub fn not_of_a_row()
     ensures { (not_image (record { width = 4; height = 1; format = U8; valid = record { x0 = 1; y0 = 0; x1 = 3; y1 = 1 }; samples = pos 0 ∷ pos 20 ∷ pos 30 ∷ pos 0 ∷ [] })).samples
         ≡ pos 0 ∷ pos 235 ∷ pos 225 ∷ pos 0 ∷ [] }
-{
-}
+{}
 
 /// A code, and nodes of Not with what it has, without an output, and with a policy that it lacks.
 pub fn nodes()
@@ -71,5 +66,4 @@ pub fn nodes()
     ensures whole { is_node (record { function = NotBits; border = Undefined; policy = Wrap; amount = 0; in1 = record { name = 1; slot = None }; in2 = None; out1 = Some (record { name = 2; slot = None }); out2 = None }) ≡ true }
     ensures no_output { is_node (record { function = NotBits; border = Undefined; policy = Wrap; amount = 0; in1 = record { name = 1; slot = None }; in2 = None; out1 = None; out2 = None }) ≡ false }
     ensures other_policy { is_node (record { function = NotBits; border = Undefined; policy = Saturate; amount = 0; in1 = record { name = 1; slot = None }; in2 = None; out1 = Some (record { name = 2; slot = None }); out2 = None }) ≡ false }
-{
-}
+{}

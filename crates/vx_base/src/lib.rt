@@ -10,9 +10,9 @@
 mod border;
 mod code;
 mod desc;
+pub mod examples;
 mod format;
 mod function;
-pub mod examples;
 pub mod laws;
 mod node;
 mod picture;

@@ -21,7 +21,10 @@ fn rectangles(rt: HostRuntime) {
         match Rect::new(x0, y0, x1, y1) {
             Some(rect) => {
                 assert!(rt; is_one);
-                assert_eq!(rt; (rect.x0(), rect.y0(), rect.x1(), rect.y1()), (x0, y0, x1, y1));
+                assert_eq!(rt;
+                    (rect.x0(), rect.y0(), rect.x1(), rect.y1()),
+                    (x0, y0, x1, y1)
+                );
             }
             None => assert!(rt; !is_one),
         }
@@ -47,7 +50,10 @@ fn descriptions(rt: HostRuntime) -> Result<(), Fail> {
     }
     for (format, bytes) in [(Format::U8, 56), (Format::S16, 112), (Format::U32, 224)] {
         let desc = Desc::new(8, 7, format).ok_or("within the limits")?;
-        assert_eq!(rt; (desc.width(), desc.height(), desc.format()), (8, 7, format));
+        assert_eq!(rt;
+            (desc.width(), desc.height(), desc.format()),
+            (8, 7, format)
+        );
         assert_eq!(rt; (desc.sample_count(), desc.byte_count()), (56, bytes));
         assert_eq!(rt; Some(desc.whole()), Rect::new(0, 0, 8, 7));
     }
@@ -80,7 +86,11 @@ fn codes(rt: HostRuntime) {
 #[test]
 fn functions(rt: HostRuntime) {
     for number in 0..=255 {
-        let expected = if number == 4 { Some(Function::NotBits) } else { None };
+        let expected = if number == 4 {
+            Some(Function::NotBits)
+        } else {
+            None
+        };
         assert_eq!(rt; Function::from_number(number), expected);
     }
     assert_eq!(rt; Function::NotBits.number(), 4);
@@ -110,15 +120,51 @@ fn nodes(rt: HostRuntime) -> Result<(), Fail> {
     let spec = NodeSpec::new(node).ok_or("has what Not has")?;
     assert_eq!(rt; spec.node(), node);
     for (node, is_one) in [
-        (Node { border: Border::Constant(9), ..node }, true),
+        (
+            Node {
+                border: Border::Constant(9),
+                ..node
+            },
+            true,
+        ),
         (Node { in1: slot, ..node }, true),
-        (Node { policy: Policy::Saturate, ..node }, false),
+        (
+            Node {
+                policy: Policy::Saturate,
+                ..node
+            },
+            false,
+        ),
         (Node { amount: 1, ..node }, false),
-        (Node { in1: nothing, ..node }, false),
-        (Node { in2: Some(slot), ..node }, false),
+        (
+            Node {
+                in1: nothing,
+                ..node
+            },
+            false,
+        ),
+        (
+            Node {
+                in2: Some(slot),
+                ..node
+            },
+            false,
+        ),
         (Node { out1: None, ..node }, false),
-        (Node { out1: Some(nothing), ..node }, false),
-        (Node { out2: Some(slot), ..node }, false),
+        (
+            Node {
+                out1: Some(nothing),
+                ..node
+            },
+            false,
+        ),
+        (
+            Node {
+                out2: Some(slot),
+                ..node
+            },
+            false,
+        ),
     ] {
         assert_eq!(rt; NodeSpec::new(node).is_some(), is_one, "{node:?}");
     }

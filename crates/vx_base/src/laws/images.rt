@@ -7,8 +7,7 @@ ghost use Rattle.vx_base.specs.Image.{ImageValue, IsImage, table, at, made, new_
 /// A table has a sample for each place.
 pub fn table_size()
     ensures { (width height : ℕ) (f : ℕ → ℕ → ℤ) → length (table width height f) ≡ height * width }
-{
-}
+{}
 
 /// An image made of a function is that function at the valid places, and 0 elsewhere.
 pub fn made_samples()
@@ -18,26 +17,22 @@ pub fn made_samples()
         x < width → y < height → inside valid x y ≡ true → at (made width height format valid f) x y ≡ f x y }
     ensures outside { (width height : ℕ) (format : Format) (valid : Rectangle) (f : ℕ → ℕ → ℤ) (x y : ℕ) →
         x < width → y < height → inside valid x y ≡ false → at (made width height format valid f) x y ≡ pos 0 }
-{
-}
+{}
 
 /// Two images of one description and rectangle that agree at each place are one.
 pub fn places_decide()
     ensures { (a b : ImageValue) → IsImage a → IsImage b →
         a.width ≡ b.width → a.height ≡ b.height → a.format ≡ b.format → a.valid ≡ b.valid →
         ((x y : ℕ) → x < a.width → y < a.height → at a x y ≡ at b x y) → a ≡ b }
-{
-}
+{}
 
 /// An image is the one made of its own samples.
 pub fn made_of_itself()
     ensures { (a : ImageValue) → IsImage a → made a.width a.height a.format a.valid (at a) ≡ a }
-{
-}
+{}
 
 /// A new image is an image, and 0 at each place.
 pub fn new_is_zero()
     ensures image { (width height : ℕ) (format : Format) → IsImage (new_image width height format) }
     ensures zero { (width height : ℕ) (format : Format) (x y : ℕ) → x < width → y < height → at (new_image width height format) x y ≡ pos 0 }
-{
-}
+{}

@@ -1,4 +1,4 @@
-use Rattle.std.proofs.Common.{◌≡◌, ◌+◌, ◌-◌, ◌++◌, arith, ap, ◌∙◌, sym, map, replicate, length, pos}
+use Rattle.std.proofs.Common.{◌≡◌, ◌-◌, ◌++◌, arith, ap, ◌∙◌, sym, map, replicate, length, pos}
 use Rattle.std.proofs.lemmas.List.{map-append}
 use Rattle.vx_base.specs.Image.{run}
 use Rattle.vx_base.proofs.TableLaws.{row_across}

@@ -1,4 +1,4 @@
-use Rattle.std.proofs.Common.{◌≡◌, ◌*◌, ap, ◌∙◌, map, take, length}
+use Rattle.std.proofs.Common.{◌≡◌, ◌*◌, ap, ◌∙◌, map, take}
 use Rattle.vx_base.specs.Image.{within, run}
 use Rattle.vx_base.proofs.TableLaws.{row_written, length_part}
 use Rattle.image_core.proofs.rows.write_rows.Goals as goal

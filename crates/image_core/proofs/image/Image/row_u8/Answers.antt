@@ -1,7 +1,7 @@
 use Rattle.std.proofs.Common.{◌∙◌, ap, pos, map}
 use Rattle.image_core.specs.Slices.{samples_in}
 use Rattle.vx_base.specs.Image.{ImageValue}
-use Rattle.image_core.proofs.RowLaws.{row_value, row_value_of}
+use Rattle.image_core.proofs.RowLaws.{row_value_of}
 use Rattle.image_core.proofs.image.Image.row_u8.Goals as goal
 
 pub returns-clause-value : goal.returns-clause-value
