@@ -55,7 +55,7 @@ module _ (width height : ℕ) (format : Format) (valid : Rectangle) (f : ℕ →
   made_image ordered room = record { size = length-table width height (within valid f); ordered = ordered; room = room; outside = at-made_outside }
 
 -- every index is the one of a place
-index_of_place : (width height k : ℕ) → k < height * width → (x : ℕ) × (y : ℕ) × (x < width) × (y < height) × (y * width + x ≡ k)
+pub index_of_place : (width height k : ℕ) → k < height * width → (x : ℕ) × (y : ℕ) × (x < width) × (y < height) × (y * width + x ≡ k)
 index_of_place width height k h =
     let some : 0 < width = grind arith in
     (k % width, k / width, omega arith, (div-lt_iff_lt-mul some).1 h, div-add-mod' k width)
@@ -66,7 +66,7 @@ same_samples a b width height long also same =
     (λ k h. let p = index_of_place width height k (omega arith) in
     ap (λ n. get_or a n (pos 0)) (sym p.4) ∙ same p.0 p.1 p.2 p.3 ∙ ap (λ n. get_or b n (pos 0)) p.4)
 
-same_parts : (a b : ImageValue) → a.width ≡ b.width → a.height ≡ b.height → a.format ≡ b.format → a.valid ≡ b.valid → a.samples ≡ b.samples → a ≡ b
+pub same_parts : (a b : ImageValue) → a.width ≡ b.width → a.height ≡ b.height → a.format ≡ b.format → a.valid ≡ b.valid → a.samples ≡ b.samples → a ≡ b
 same_parts a b w h f v s =
     ap (λ n. let t : ImageValue = record { width = n; height = a.height; format = a.format; valid = a.valid; samples = a.samples } in t) w
     ∙ ap (λ n. let t : ImageValue = record { width = b.width; height = n; format = a.format; valid = a.valid; samples = a.samples } in t) h

@@ -3,3 +3,4 @@ pub mod SampleLaws
 pub mod RectangleLaws
 pub mod ImageLaws
 pub mod PixelLaws
+pub mod ZeroLaws

@@ -1,8 +1,9 @@
 //! Samples of whole images.
-ghost use Rattle.std.specs.Prelude.{◌≡◌, length};
+ghost use Rattle.std.specs.Prelude.{◌≡◌, length, pos, replicate, IfOk};
 ghost use Rattle.vx_base.specs.Picture.{values, samples_format};
 
 use crate::format::Format;
+use std::alloc::{AllocError, Global};
 
 /// The samples of an image of one of the formats, by rows from the top.
 #[derive(PartialEq, Eq, Debug, Drop)]
@@ -13,6 +14,45 @@ pub enum Samples {
 }
 
 impl Samples {
+    /// So many samples of a format, each of them 0.
+    pub fn zeros(alloc: Global, format: Format, count: usize) -> Result<Samples, AllocError>
+        ensures format { IfOk result (λ made. samples_format made ≡ format) }
+        ensures zero { IfOk result (λ made. values made ≡ replicate count (pos 0)) }
+    {
+        match format {
+            Format::U8 => Ok(Samples::U8(vec![in alloc; 0; count]?)),
+            Format::S16 => Ok(Samples::S16(vec![in alloc; 0; count]?)),
+            Format::U32 => Ok(Samples::U32(vec![in alloc; 0; count]?)),
+        }
+    }
+
+    /// The same samples once more.
+    pub fn copy(&self, alloc: Global) -> Result<Samples, AllocError>
+        ensures format { IfOk result (λ made. samples_format made ≡ samples_format self.now) }
+        ensures value { IfOk result (λ made. values made ≡ values self.now) }
+    {
+        match self {
+            Samples::U8(samples) => Ok(Samples::U8(Vec::from_slice(alloc, samples)?)),
+            Samples::S16(samples) => Ok(Samples::S16(Vec::from_slice(alloc, samples)?)),
+            Samples::U32(samples) => Ok(Samples::U32(Vec::from_slice(alloc, samples)?)),
+        }
+    }
+
+    /// Writes over the samples with others of their format and as many.
+    pub fn copy_from(&mut self, other: &Samples)
+        requires format { samples_format self.old ≡ samples_format other.now }
+        requires len { length (values self.old) ≡ length (values other.now) }
+        ensures format { samples_format self.new ≡ samples_format other.now }
+        ensures value { values self.new ≡ values other.now }
+    {
+        match (self, other) {
+            (Samples::U8(samples), Samples::U8(others)) => samples.copy_from_slice(others),
+            (Samples::S16(samples), Samples::S16(others)) => samples.copy_from_slice(others),
+            (Samples::U32(samples), Samples::U32(others)) => samples.copy_from_slice(others),
+            _ => unreachable!(),
+        }
+    }
+
     pub fn format(&self) -> Format
         ensures { result ≡ samples_format self.now }
     {

@@ -179,6 +179,10 @@ fn pictures(rt: HostRuntime) -> Result<(), Fail> {
     let picture = Picture::new(desc, samples);
     assert_eq!(rt; picture.desc(), desc);
     assert_eq!(rt; picture.samples().len(), 2);
+    let mut samples = Samples::zeros(rt.alloc(), Format::S16, 2)?;
+    assert_eq!(rt; samples, Samples::S16(vec![in rt.alloc(); 0, 0]?));
+    samples.copy_from(picture.samples());
+    assert_eq!(rt; samples, picture.samples().copy(rt.alloc())?);
     let expected = Samples::S16(vec![in rt.alloc(); -32768, 32767]?);
     assert_eq!(rt; picture.into_samples(), expected);
     Ok(())

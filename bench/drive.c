@@ -1,0 +1,176 @@
+/* Drives a server through pipes and says how many seconds it took.
+ *
+ *   drive lockstep COUNT PROGRAM [WORD..]   COUNT small requests, each after the reply to the last
+ *   drive streamed COUNT PROGRAM [WORD..]   COUNT small requests, written ahead of their replies
+ *   drive image COUNT PROGRAM [WORD..]      COUNT times a 1920x1080 U8 image in, Not of it, and out
+ *   drive bytes COUNT PROGRAM [WORD..]      COUNT times as many bytes in and out (for cat)
+ *
+ * A small request is WriteImage of one sample (18 bytes), its reply has 8 bytes. */
+#include <errno.h>
+#include <fcntl.h>
+#include <poll.h>
+#include <signal.h>
+#include <stdint.h>
+#include <stdio.h>
+#include <stdlib.h>
+#include <string.h>
+#include <sys/wait.h>
+#include <time.h>
+#include <unistd.h>
+
+enum { WIDTH = 1920, HEIGHT = 1080, SAMPLES = WIDTH * HEIGHT };
+
+static int to_server, from_server;
+
+static void fail(const char *what) {
+  fprintf(stderr, "drive: %s: %s\n", what, strerror(errno));
+  exit(1);
+}
+
+static pid_t start(char **words) {
+  int in[2], out[2];
+  if (pipe(in) || pipe(out))
+    fail("pipe");
+  pid_t pid = fork();
+  if (pid < 0)
+    fail("fork");
+  if (pid == 0) {
+    dup2(in[0], 0);
+    dup2(out[1], 1);
+    close(in[0]), close(in[1]), close(out[0]), close(out[1]);
+    execvp(words[0], words);
+    fail(words[0]);
+  }
+  close(in[0]), close(out[1]);
+  to_server = in[1];
+  from_server = out[0];
+  fcntl(to_server, F_SETFL, O_NONBLOCK);
+  fcntl(from_server, F_SETFL, O_NONBLOCK);
+  return pid;
+}
+
+/* Writes the requests and reads so many bytes of replies, whichever can go on. */
+static void exchange(const uint8_t *requests, size_t length, uint8_t *replies, size_t wanted) {
+  size_t written = 0, got = 0;
+  while (written < length || got < wanted) {
+    struct pollfd ends[2] = {{to_server, written < length ? POLLOUT : 0, 0}, {from_server, got < wanted ? POLLIN : 0, 0}};
+    if (poll(ends, 2, -1) < 0)
+      fail("poll");
+    if (written < length && (ends[0].revents & (POLLOUT | POLLERR))) {
+      ssize_t n = write(to_server, requests + written, length - written);
+      if (n < 0 && errno != EAGAIN)
+        fail("write");
+      written += n > 0 ? (size_t)n : 0;
+    }
+    if (got < wanted && (ends[1].revents & (POLLIN | POLLHUP))) {
+      ssize_t n = read(from_server, replies + got, wanted - got);
+      if (n == 0 || (n < 0 && errno != EAGAIN))
+        fail("read");
+      got += n > 0 ? (size_t)n : 0;
+    }
+  }
+}
+
+static uint8_t *put_number(uint8_t *at, uint32_t number, int bytes) {
+  for (int k = bytes - 1; k >= 0; k--)
+    *at++ = (uint8_t)(number >> (8 * k));
+  return at;
+}
+
+static uint8_t *put_head(uint8_t *at, uint32_t body, int op) {
+  at = put_number(at, body + 3, 4);
+  at = put_number(at, 7, 2);
+  return put_number(at, (uint32_t)op, 1);
+}
+
+static uint8_t *put_reference(uint8_t *at, uint32_t name) {
+  at = put_number(at, name, 4);
+  return put_number(at, 255, 1);
+}
+
+static uint8_t *put_write(uint8_t *at, uint32_t name, uint32_t width, uint32_t height) {
+  at = put_head(at, 10 + width * height, 5);
+  at = put_reference(at, name);
+  at = put_number(at, 1, 1);
+  at = put_number(at, width, 2);
+  at = put_number(at, height, 2);
+  memset(at, 10, width * height);
+  return at + width * height;
+}
+
+/* A context, and two images of this size. */
+static void prepare(uint32_t width, uint32_t height) {
+  uint8_t requests[64], replies[64], *at = put_head(requests, 0, 1);
+  for (int k = 0; k < 2; k++) {
+    at = put_head(at, 5, 3);
+    at = put_number(at, 1, 1);
+    at = put_number(at, width, 2);
+    at = put_number(at, height, 2);
+  }
+  exchange(requests, (size_t)(at - requests), replies, 8 + 12 + 12);
+}
+
+static uint8_t *put_not(uint8_t *at) {
+  at = put_head(at, 25, 24);
+  at = put_number(at, 4, 1);
+  at = put_number(at, 0, 4);
+  at = put_reference(at, 1);
+  at = put_reference(at, 0);
+  at = put_reference(at, 2);
+  return put_reference(at, 0);
+}
+
+static void small_requests(long count, int ahead) {
+  prepare(1, 1);
+  uint8_t request[32], reply[8];
+  size_t length = (size_t)(put_write(request, 1, 1, 1) - request);
+  if (!ahead) {
+    for (long k = 0; k < count; k++)
+      exchange(request, length, reply, 8);
+    return;
+  }
+  uint8_t *requests = malloc(length * (size_t)count), *replies = malloc(8 * (size_t)count);
+  for (long k = 0; k < count; k++)
+    memcpy(requests + (size_t)k * length, request, length);
+  exchange(requests, length * (size_t)count, replies, 8 * (size_t)count);
+}
+
+static void images(long count) {
+  prepare(WIDTH, HEIGHT);
+  uint8_t *requests = malloc(SAMPLES + 256), *replies = malloc(SAMPLES + 256);
+  uint8_t *at = put_not(put_write(requests, 1, WIDTH, HEIGHT));
+  at = put_reference(put_head(at, 5, 7), 2);
+  for (long k = 0; k < count; k++) {
+    exchange(requests, (size_t)(at - requests), replies, 8 + 8 + 8 + 5 + SAMPLES);
+    if (replies[7] || replies[15] || replies[23] || replies[29] != 245)
+      fail("a reply");
+  }
+}
+
+static void bytes(long count) {
+  uint8_t *there = calloc(1, SAMPLES), *back = malloc(SAMPLES);
+  for (long k = 0; k < count; k++)
+    exchange(there, SAMPLES, back, SAMPLES);
+}
+
+int main(int argc, char **argv) {
+  if (argc < 4)
+    return 2;
+  signal(SIGPIPE, SIG_IGN);
+  long count = atol(argv[2]);
+  pid_t pid = start(argv + 3);
+  struct timespec begin, end;
+  clock_gettime(CLOCK_MONOTONIC, &begin);
+  if (!strcmp(argv[1], "lockstep") || !strcmp(argv[1], "streamed"))
+    small_requests(count, !strcmp(argv[1], "streamed"));
+  else if (!strcmp(argv[1], "image"))
+    images(count);
+  else
+    bytes(count);
+  clock_gettime(CLOCK_MONOTONIC, &end);
+  close(to_server);
+  int status;
+  waitpid(pid, &status, 0);
+  printf("%.6f\n", (double)(end.tv_sec - begin.tv_sec) + 1e-9 * (double)(end.tv_nsec - begin.tv_nsec));
+  return status != 0;
+}

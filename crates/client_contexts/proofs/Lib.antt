@@ -1,0 +1,5 @@
+mod StoredLemmas
+mod PlaceLemmas
+mod ContextLemmas
+mod NotLemmas
+mod NodeLemmas

@@ -1,0 +1,58 @@
+-- One client's state, and the states of all clients.
+use Rattle.std.specs.Prelude.{ℕ, ◌+◌, ◌*◌, ◌==◌, Bool, ◌&&◌, nat_le, nat_lt, if◌then◌else◌, List, [], ◌∷◌, length, sum_by, find, Option}
+use Rattle.std.specs.Option.{option_map}
+use Rattle.std.specs.Ordering.{nat_cmp}
+use Rattle.std.specs.Map.{lookup}
+use Rattle.std.specs.BTreeMap.{is_at}
+use Rattle.vx_base.specs.Sample.{sample_bytes}
+use Rattle.vx_base.specs.Image.{ImageValue}
+use Rattle.client_contexts.specs.Allowance.{Allowance}
+
+-- an object and its name
+pub record Named : Type 0 where
+  pub name : ℕ
+  pub image : ImageValue
+
+-- the name that comes next, and the objects in the order of their names
+pub record Context : Type 0 where
+  pub next : ℕ
+  pub objects : List Named
+
+-- a new context: no object, and name 1 next
+abbrev pub new_context : Context
+new_context = record { next = 1; objects = [] }
+
+-- no context, or the one that is open
+abbrev pub State : Type 0
+State = Option Context
+
+-- the image with this name
+abbrev pub image_named : List Named → ℕ → Option ImageValue
+image_named objects name = option_map (λ o. o.image) (find (λ o. o.name == name) objects)
+
+-- the objects, with this image under this name
+abbrev pub with_image : List Named → ℕ → ImageValue → List Named
+with_image [] name image = []
+with_image (o ∷ objects) name image =
+    (if o.name == name then record { name = o.name; image = image } else o) ∷ with_image objects name image
+
+-- the sample bytes of an image
+abbrev pub image_bytes : ImageValue → ℕ
+image_bytes image = image.height * image.width * sample_bytes image.format
+
+-- what a context is charged: the sample bytes of its images
+abbrev pub charge_of : List Named → ℕ
+charge_of objects = sum_by (λ o. image_bytes o.image) objects
+
+-- whether an object of so many sample bytes can be created: a name is left, fewer than 1,024 objects are held, and the quota allows it
+abbrev pub has_room : Allowance → Context → ℕ → Bool
+has_room limits c bytes = nat_lt c.next 4294967296 && (nat_lt (length c.objects) 1024 && nat_le (charge_of c.objects + bytes) limits.quota)
+
+-- the limits, and the contexts that are open, each with its client
+pub record World : Type 0 where
+  pub limits : Allowance
+  pub contexts : List (ℕ × Context)
+
+-- a client's state
+abbrev pub state_of : ℕ → World → State
+state_of client world = lookup (is_at (nat_cmp client)) world.contexts

@@ -1,0 +1,17 @@
+//! Requests of clients.
+use vx_base::{Desc, NodeSpec, ObjRef, Picture};
+
+/// What a client asks for.
+#[derive(Debug, Drop)]
+pub enum Request {
+    /// Opens the client's context.
+    OpenContext,
+    /// Makes an image that is 0 everywhere and wholly valid.
+    CreateImage(Desc),
+    /// Writes all samples of an image, which becomes wholly valid.
+    WriteImage(ObjRef, Picture),
+    /// Asks for all samples of an image.
+    ReadImage(ObjRef),
+    /// Runs one node at once.
+    Immediate(NodeSpec),
+}

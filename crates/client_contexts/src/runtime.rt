@@ -1,0 +1,98 @@
+//! All clients, and what their requests do.
+ghost use Rattle.std.specs.Prelude.{◌≡◌, [], None, OnErr};
+ghost use Rattle.client_contexts.specs.Context.{state_of};
+ghost use Rattle.client_contexts.specs.Answer.{answer_in};
+ghost use Rattle.client_contexts.specs.Applies.{Applies, TakesMemory};
+ghost use Rattle.client_contexts.specs.Steps.{Answers};
+
+use crate::context::Context;
+use crate::images::{create_image, read_image, write_image};
+use crate::immediate::run_at_once;
+use crate::limits::Limits;
+use crate::memory::NoMemory;
+use crate::reply::Reply;
+use crate::request::Request;
+use std::alloc::Global;
+use std::collections::BTreeMap;
+use std::marker::Model;
+use vx_base::Code;
+
+/// The contexts of the clients, each of which has at most one.
+#[derive(Drop)]
+pub struct Runtime {
+    alloc: Global,
+    limits: Limits,
+    contexts: BTreeMap<u16, Context>,
+}
+
+impl Model for Runtime {
+    ghost use Rattle.client_contexts.specs.Context.{World};
+
+    ghost Value = { World };
+
+    ghost view = { λ r. record { limits = r.limits; contexts = r.contexts.entries } };
+}
+
+impl Runtime {
+    /// A runtime in which no client has a context. It takes no memory; its contexts are made with
+    /// the allocator.
+    pub fn new(alloc: Global, limits: Limits) -> Runtime
+        ensures { result ≡ record { limits = limits; contexts = [] } }
+    {
+        Runtime {
+            alloc,
+            limits,
+            contexts: BTreeMap::new(alloc),
+        }
+    }
+
+    /// Answers a request of a client; a reply that holds samples is made with the allocator.
+    /// `NoMemory` is told only where memory was refused, and nothing is changed then.
+    pub fn apply(
+        &mut self,
+        alloc: Global,
+        client: u16,
+        request: &Request,
+    ) -> Result<Reply, NoMemory>
+        ensures { Applies client request.now self.old self.new result }
+    {
+        let limits = self.limits;
+        match self.contexts.get_mut(&client) {
+            Some(context) => answer(context, limits, alloc, request),
+            None => self.answer_without(client, request),
+        }
+    }
+
+    /// Answers a client that has no context.
+    fn answer_without(&mut self, client: u16, request: &Request) -> Result<Reply, NoMemory>
+        requires { state_of client self.old ≡ None }
+        ensures { Applies client request.now self.old self.new result }
+    {
+        match request {
+            Request::OpenContext => {
+                self.contexts.insert(client, Context::new(self.alloc))?;
+                Ok(Reply::Empty)
+            }
+            _ => Ok(Reply::Refused(Code::InvalidReference)),
+        }
+    }
+}
+
+/// Answers a request of a client that has this context.
+fn answer(
+    context: &mut Context,
+    limits: Limits,
+    alloc: Global,
+    request: &Request,
+) -> Result<Reply, NoMemory>
+    ensures answers { Answers (answer_in limits context.old request.now) context.old context.new result }
+    ensures takes { OnErr result (TakesMemory request.now) }
+{
+    match request {
+        Request::OpenContext => Ok(Reply::Refused(Code::InvalidValue)),
+        Request::CreateImage(desc) => create_image(context, limits, *desc),
+        Request::WriteImage(reference, picture) => Ok(write_image(context, *reference, picture)),
+        Request::ReadImage(reference) => read_image(context, alloc, *reference),
+        Request::Immediate(node) => Ok(run_at_once(context, *node)),
+    }
+}

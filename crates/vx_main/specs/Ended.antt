@@ -1,0 +1,31 @@
+-- The status and the line that the program ends with.
+use Rattle.std.specs.Prelude.{ℕ, List, codes, string_bytes}
+use Rattle.vx_base.specs.Code.{code_name}
+use Rattle.vx_requests.specs.declared.fault.StreamFault.{StreamFault}
+use Rattle.vx_requests.specs.declared.fault.StreamFault.TheVariants.{Truncated, BadLength, ReadFailed, WriteFailed, ReaderWouldNotEnd}
+use Rattle.vx_main.specs.declared.ended.Ended.{Ended}
+use Rattle.vx_main.specs.declared.ended.Ended.TheVariants.{CommandLine, Stream, Refused}
+
+abbrev pub fault_status : StreamFault → ℕ
+fault_status Truncated = 3
+fault_status BadLength = 3
+fault_status ReadFailed = 4
+fault_status WriteFailed = 4
+fault_status ReaderWouldNotEnd = 3
+
+abbrev pub fault_line : StreamFault → List ℕ
+fault_line Truncated = codes "truncated"
+fault_line BadLength = codes "bad length"
+fault_line ReadFailed = codes "read failed"
+fault_line WriteFailed = codes "write failed"
+fault_line ReaderWouldNotEnd = codes "reader would not end"
+
+abbrev pub ended_status : Ended → ℕ
+ended_status (CommandLine text) = 2
+ended_status (Stream fault) = fault_status fault
+ended_status (Refused code) = 5
+
+abbrev pub ended_line : Ended → List ℕ
+ended_line (CommandLine text) = string_bytes text
+ended_line (Stream fault) = fault_line fault
+ended_line (Refused code) = code_name code

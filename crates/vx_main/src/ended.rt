@@ -1,0 +1,60 @@
+//! How the program ends other than well.
+ghost use Rattle.std.specs.Prelude.{◌≡◌};
+
+use std::alloc::{AllocError, AllocFailed};
+use vx_base::Code;
+use vx_requests::StreamFault;
+
+/// Why the program ended without success.
+#[derive(Debug, Drop)]
+pub enum Ended {
+    /// The command line was refused, with this text.
+    CommandLine(String),
+    /// The stream ended early.
+    Stream(StreamFault),
+    /// There was no memory to start with.
+    Refused(Code),
+}
+
+impl Ended {
+    ghost use Rattle.vx_main.specs.Ended.{ended_status, ended_line};
+
+    /// The program's exit status.
+    pub fn status(&self) -> u8
+        ensures { result ≡ ended_status self.now }
+    {
+        match self {
+            Ended::CommandLine(_) => 2,
+            Ended::Stream(StreamFault::ReadFailed | StreamFault::WriteFailed) => 4,
+            Ended::Stream(_) => 3,
+            Ended::Refused(_) => 5,
+        }
+    }
+
+    /// The line on standard error, without its end.
+    pub fn line(&self) -> &str
+        ensures { result.now ≡ ended_line self.now }
+    {
+        match self {
+            Ended::CommandLine(text) => text.as_str(),
+            Ended::Stream(StreamFault::Truncated) => "truncated",
+            Ended::Stream(StreamFault::BadLength) => "bad length",
+            Ended::Stream(StreamFault::ReadFailed) => "read failed",
+            Ended::Stream(StreamFault::WriteFailed) => "write failed",
+            Ended::Stream(StreamFault::ReaderWouldNotEnd) => "reader would not end",
+            Ended::Refused(code) => code.name(),
+        }
+    }
+}
+
+impl From<AllocError> for Ended {
+    fn from(_error: AllocError) -> Ended {
+        Ended::Refused(Code::NoMemory)
+    }
+}
+
+impl<T: Drop> From<AllocFailed<T>> for Ended {
+    fn from(_failed: AllocFailed<T>) -> Ended {
+        Ended::Refused(Code::NoMemory)
+    }
+}

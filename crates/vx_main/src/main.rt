@@ -1,0 +1,52 @@
+//! The server's program.
+//!
+//! `vx_main serve` reads request frames from standard input and writes a reply frame for each to
+//! standard output. `program::run` is all of it over any reader and writer; `main` gives it the
+//! process's own, prints the line of how it ended, and ends with the status.
+#![tactic(auto)]
+
+mod command_line;
+mod ended;
+mod program;
+#[cfg(test)]
+mod tests;
+
+use ended::Ended;
+use std::io::BufWriter;
+use std::process::ExitCode;
+use std::{env, io};
+use vx_base::Code;
+
+/// How many bytes of replies are gathered before they are written.
+const REPLY_BUFFER: usize = 65_536;
+
+/// The command line's words without the program's name.
+fn words(rt: &HostRuntime) -> Result<Vec<String>, Ended> {
+    match env::args(rt) {
+        Ok(args) => Ok(args.skip(1).collect(rt.alloc())?),
+        Err(error) if error.kind() == io::ErrorKind::InvalidData => Err(Ended::CommandLine(
+            "error: a word is not UTF-8".to_string(rt.alloc())?,
+        )),
+        Err(_) => Err(Ended::Refused(Code::NoMemory)),
+    }
+}
+
+fn run_process(rt: &HostRuntime) -> Result<(), Ended> {
+    let alloc = rt.alloc();
+    let args = words(rt)?;
+    let words: Vec<&str> = args.iter().map(|word| word.as_str()).collect(alloc)?;
+    match BufWriter::with_capacity(alloc, REPLY_BUFFER, io::writer(rt)) {
+        Ok(writer) => program::run(alloc, words.as_slice(), rt.reader(), writer),
+        Err(_) => Err(Ended::Refused(Code::NoMemory)),
+    }
+}
+
+fn main(rt: HostRuntime) -> ExitCode {
+    match run_process(&rt) {
+        Ok(()) => ExitCode::SUCCESS,
+        Err(ended) => {
+            let _ = eprintln!(rt; "{}", ended.line());
+            ExitCode::from(ended.status())
+        }
+    }
+}

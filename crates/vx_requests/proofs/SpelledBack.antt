@@ -1,0 +1,27 @@
+-- A request is read back from its op and body.
+use Rattle.std.proofs.Common.{◌≡◌, List, [], ◌++◌, ℕ, Result, Ok, refl, sym, ap, ◌∙◌, append-nil}
+use Rattle.vx_base.specs.declared.node.Node.{Node}
+use Rattle.vx_base.specs.Cell.{Cell}
+use Rattle.vx_base.specs.Description.{Description}
+use Rattle.vx_base.specs.Picture.{PictureValue}
+use Rattle.client_contexts.specs.declared.request.Request.{Request}
+use Rattle.client_contexts.specs.declared.request.Request.TheVariants.{OpenContext, CreateImage, WriteImage, ReadImage, Immediate}
+use Rattle.vx_requests.specs.declared.parse_fault.ParseFault.{ParseFault}
+use Rattle.vx_requests.specs.Fields.{and_then, at_end, take_description, take_reference, take_picture}
+use Rattle.vx_requests.specs.NodeFields.{take_node}
+use Rattle.vx_requests.specs.Bodies.{request_of}
+use Rattle.vx_requests.specs.Spelling.{description_bytes, cell_bytes, picture_bytes, node_bytes, op_of, body_of}
+use Rattle.vx_requests.specs.Requests.{IsRequest}
+use Rattle.vx_requests.proofs.SpelledFields.{then_ok, description_back, cell_back, picture_back}
+use Rattle.vx_requests.proofs.SpelledNode.{node_back}
+
+pub read_back : (request : Request) → IsRequest request → request_of (op_of request) (body_of request) ≡ Ok request
+read_back OpenContext is = refl
+read_back (CreateImage d) is = then_ok (take_description (description_bytes d)) d [] (λ d rest. at_end (CreateImage d) rest) (description_back d [] is)
+read_back (WriteImage cell p) is =
+    let bytes = picture_bytes p in
+    let last : Cell → List ℕ → Result Request ParseFault = λ cell rest. and_then (take_picture rest) (λ p rest. at_end (WriteImage cell p) rest) in
+    then_ok (take_reference (cell_bytes cell ++ bytes)) cell bytes last (cell_back cell bytes is.0)
+    ∙ then_ok (take_picture bytes) p [] (λ p rest. at_end (WriteImage cell p) rest) (ap take_picture (sym (append-nil bytes)) ∙ picture_back p [] is.1)
+read_back (ReadImage cell) is = then_ok (take_reference (cell_bytes cell)) cell [] (λ cell rest. at_end (ReadImage cell) rest) (cell_back cell [] is)
+read_back (Immediate node) is = then_ok (take_node (node_bytes node)) node [] (λ node rest. at_end (Immediate node) rest) (node_back node is)

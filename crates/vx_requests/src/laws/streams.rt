@@ -1,0 +1,67 @@
+//! Laws of streams and of their clients.
+ghost use Rattle.std.specs.Prelude.{◌≡◌, ℕ, ◌<◌, Bool, false, List, [], ◌++◌, ◌==◌, map, All, Option, Some, Result};
+ghost use Rattle.client_contexts.specs.Allowance.{Allowance};
+ghost use Rattle.client_contexts.specs.Context.{State};
+ghost use Rattle.vx_requests.specs.declared.fault.StreamFault.{StreamFault};
+ghost use Rattle.vx_requests.specs.declared.summary.Summary.{Summary};
+ghost use Rattle.vx_requests.specs.Frames.{Frame, IsFrame, frame_bytes, Splits};
+ghost use Rattle.vx_requests.specs.Clients.{Marked, mine, kept_replies, alone, served, frames_of};
+ghost use Rattle.vx_requests.specs.Answer.{answer};
+ghost use Rattle.vx_requests.specs.Session.{Session, ReadsToARest};
+
+/// No frame is a proper prefix of another frame.
+pub fn no_prefix()
+    ensures { (f g : Frame) (more : List ℕ) → IsFrame f → IsFrame g →
+        frame_bytes g ≡ frame_bytes f ++ more → more ≡ [] }
+{}
+
+/// All bytes are whole frames and a rest.
+pub fn splits()
+    ensures { (stream : List ℕ) → All (λ byte. byte < 256) stream →
+        (frames : List Frame) × (rest : List ℕ) × Splits stream frames rest }
+{}
+
+/// A stream has one split.
+pub fn one_split()
+    ensures { (stream : List ℕ) (fs gs : List Frame) (r s : List ℕ) →
+        Splits stream fs r → Splits stream gs s → (fs ≡ gs) × (r ≡ s) }
+{}
+
+/// Each client's kept replies are those that it would get alone.
+pub fn each_alone()
+    ensures { (limits : Allowance) (start : ℕ → State) (marked : List Marked) (client : ℕ) →
+        kept_replies client marked (served (answer limits) start marked)
+        ≡ alone (answer limits) (start client) (mine client marked) }
+{}
+
+/// Where all frames are of one client and none was lost, the replies are those to these frames.
+pub fn one_client()
+    ensures { (limits : Allowance) (start : ℕ → State) (marked : List Marked) (client : ℕ) →
+        All (λ m. (m.frame.client ≡ client) × (m.lost ≡ false)) marked →
+        served (answer limits) start marked ≡ alone (answer limits) (start client) (frames_of marked) }
+{}
+
+/// Where two streams agree on a client's kept frames and it starts in the same state, it gets the
+/// same replies.
+pub fn isolated()
+    ensures { (limits : Allowance) (start other : ℕ → State)
+        (marked others : List Marked) (client : ℕ) →
+        start client ≡ other client → mine client marked ≡ mine client others →
+        kept_replies client marked (served (answer limits) start marked)
+        ≡ kept_replies client others (served (answer limits) other others) }
+{}
+
+/// A frame was lost exactly where its reply's code is 1, NO_MEMORY.
+pub fn lost_shows()
+    ensures { (limits : Allowance) (start : ℕ → State) (marked : List Marked) →
+        map (λ r. r.code == 1) (served (answer limits) start marked) ≡ map (λ m. m.lost) marked }
+{}
+
+/// Where the source told its bytes and `serve` ended well, or by the stream's own fault, what it
+/// read is the split of all of the bytes.
+pub fn session_splits()
+    ensures { (limits : Allowance) (input more : List ℕ) (taken_old taken_new : Option (List ℕ))
+        (old new : ℕ → State) (result : Result Summary StreamFault) →
+        (session : Session limits (Some input) (Some more) taken_old taken_new old new result) →
+        ReadsToARest result → Splits input (frames_of session.marked) (session.rest ++ more) }
+{}

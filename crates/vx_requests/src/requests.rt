@@ -1,0 +1,104 @@
+//! Requests as frames.
+ghost use Rattle.std.specs.Prelude.{◌≡◌, ◌+◌, ◌<◌, ◌≤◌, ◌^◌, ◌∷◌, ◌++◌, length, IfErr, OnOk, OnErr};
+ghost use Rattle.std.specs.Io.KnownBytes.{Appends};
+ghost use Rattle.client_contexts.specs.declared.request.Request.TheVariants.{WriteImage as WriteImageRequest};
+ghost use Rattle.vx_base.specs.Description.{byte_count};
+ghost use Rattle.vx_requests.specs.Calls.{failed_calls};
+ghost use Rattle.vx_requests.specs.Transfer.{AppendsPart};
+ghost use Rattle.vx_requests.specs.Frames.{frame_head, frame_bytes};
+ghost use Rattle.vx_requests.specs.Spelling.{cell_bytes, description_bytes, request_frame};
+
+use crate::fault::StreamFault;
+use crate::pictures::write_samples;
+use crate::sink::Sink;
+use crate::spelling::{cell_bytes, description_bytes, node_bytes};
+use crate::transfer::write_all;
+use client_contexts::Request;
+use vx_base::{Desc, ObjRef, Picture};
+
+/// Writes the frame in which a client sends the request, and flushes nothing. `WriteFailed` comes
+/// where a write fails, and a front of the frame was taken then. No memory is taken.
+pub fn write_request<K: Sink>(
+    sink: &mut K,
+    client: u16,
+    request: &Request,
+) -> Result<(), StreamFault>
+    requires { K.failures sink.old < 2 ^ 62 }
+    ensures ok { OnOk result (Appends (K.taken sink.old) (K.taken sink.new) (frame_bytes (request_frame client request.now))) }
+    ensures err { OnErr result (AppendsPart (K.taken sink.old) (K.taken sink.new) (frame_bytes (request_frame client request.now))) }
+    ensures fault { IfErr result (λ e. e ≡ StreamFault.WriteFailed) }
+    ensures failed { K.failures sink.new ≡ K.failures sink.old + failed_calls result }
+{
+    match request {
+        Request::OpenContext => write_short(sink, client, 1, &[]),
+        Request::CreateImage(desc) => write_short(sink, client, 3, &description_bytes(*desc)),
+        Request::WriteImage(image, picture) => write_write_image(sink, client, *image, picture),
+        Request::ReadImage(image) => write_short(sink, client, 7, &cell_bytes(*image)),
+        Request::Immediate(node) => write_short(sink, client, 24, &node_bytes(*node)),
+    }
+}
+
+/// Writes a frame whose body has at most 25 bytes, at once.
+fn write_short<K: Sink>(sink: &mut K, client: u16, op: u8, body: &[u8]) -> Result<(), StreamFault>
+    requires failures_fit { K.failures sink.old < 2 ^ 62 }
+    requires room { length body.now ≤ 25 }
+    ensures ok { OnOk result (Appends (K.taken sink.old) (K.taken sink.new) (frame_bytes (record { client = client; op = op; body = body.now }))) }
+    ensures err { OnErr result (AppendsPart (K.taken sink.old) (K.taken sink.new) (frame_bytes (record { client = client; op = op; body = body.now }))) }
+    ensures fault { IfErr result (λ e. e ≡ StreamFault.WriteFailed) }
+    ensures failed { K.failures sink.new ≡ K.failures sink.old + failed_calls result }
+{
+    let mut room = [0; 32];
+    let frame = &mut room[..7 + body.len()];
+    spell_short(client, op, body, frame);
+    write_all(sink, frame)
+}
+
+/// Writes a frame with a short body into as many bytes as it takes.
+fn spell_short(client: u16, op: u8, body: &[u8], frame: &mut [u8])
+    requires room { length body.now ≤ 25 }
+    requires fits { length frame.old ≡ 7 + length body.now }
+    ensures { frame.new ≡ frame_bytes (record { client = client; op = op; body = body.now }) }
+{
+    let len = 3 + body.len() as u32;
+    frame[..7].copy_from_slice(&frame_head(len, client, op));
+    frame[7..].copy_from_slice(body);
+}
+
+/// What stands before the body of a frame whose length is `len`.
+fn frame_head(len: u32, client: u16, op: u8) -> [u8; 7]
+    ensures { result ≡ frame_head len client op }
+{
+    let [a, b, c, d] = len.to_be_bytes();
+    let [e, f] = client.to_be_bytes();
+    [a, b, c, d, e, f, op]
+}
+
+/// Writes the frame of a `WriteImage`: all before the samples at once, and then the samples.
+fn write_write_image<K: Sink>(
+    sink: &mut K,
+    client: u16,
+    image: ObjRef,
+    picture: &Picture,
+) -> Result<(), StreamFault>
+    requires { K.failures sink.old < 2 ^ 62 }
+    ensures ok { OnOk result (Appends (K.taken sink.old) (K.taken sink.new) (frame_bytes (request_frame client (WriteImageRequest image picture.now)))) }
+    ensures err { OnErr result (AppendsPart (K.taken sink.old) (K.taken sink.new) (frame_bytes (request_frame client (WriteImageRequest image picture.now)))) }
+    ensures fault { IfErr result (λ e. e ≡ StreamFault.WriteFailed) }
+    ensures failed { K.failures sink.new ≡ K.failures sink.old + failed_calls result }
+{
+    let samples = picture.samples();
+    write_all(sink, &write_image_head(client, image, picture.desc()))?;
+    write_samples(sink, samples)
+}
+
+/// What stands before the samples in the frame of a `WriteImage`.
+fn write_image_head(client: u16, image: ObjRef, desc: Desc) -> [u8; 17]
+    ensures { result ≡ frame_head (13 + byte_count desc) client 5 ++ (cell_bytes image ++ description_bytes desc) }
+{
+    let len = 13 + desc.byte_count() as u32;
+    let mut bytes = [0; 17];
+    bytes[..7].copy_from_slice(&frame_head(len, client, 5));
+    bytes[7..12].copy_from_slice(&cell_bytes(image));
+    bytes[12..].copy_from_slice(&description_bytes(desc));
+    bytes
+}

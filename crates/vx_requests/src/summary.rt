@@ -1,0 +1,24 @@
+//! What serving a stream came to.
+ghost use Rattle.std.specs.Prelude.{◌≡◌, ◌+◌, ◌<◌, ◌^◌, ◌==◌, if◌then◌else◌};
+
+/// How many replies there were, and how many of them with a code that isn't 0.
+#[derive(Clone, Copy, Debug, PartialEq, Eq)]
+pub struct Summary {
+    pub requests: u64,
+    pub refused: u64,
+}
+
+impl Summary {
+    /// Counts one more reply with this code.
+    pub(crate) fn count(&mut self, code: u8)
+        requires requests_fit { self.old.requests < 2 ^ 63 }
+        requires refused_fit { self.old.refused < 2 ^ 63 }
+        ensures requests { self.new.requests ≡ self.old.requests + 1 }
+        ensures refused { self.new.refused ≡ self.old.refused + (if code == 0 then 0 else 1) }
+    {
+        self.requests += 1;
+        if code != 0 {
+            self.refused += 1;
+        }
+    }
+}
