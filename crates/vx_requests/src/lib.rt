@@ -44,12 +44,4 @@ pub use transfer::{fill, write_all};
 pub use writing::write_reply;
 
 #[cfg(test)]
-mod memory;
-#[cfg(test)]
 mod tests;
-#[cfg(test)]
-mod tests_bodies;
-#[cfg(test)]
-mod tests_serve;
-#[cfg(test)]
-mod whole_streams;

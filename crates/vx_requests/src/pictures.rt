@@ -1,4 +1,4 @@
-//! Pictures as bytes.
+//! The samples of pictures as bytes.
 ghost use Rattle.std.specs.Prelude.{◌≡◌, ◌+◌, ◌*◌, ◌<◌, ◌≤◌, ◌^◌, length, IfErr, OnOk, OnErr};
 ghost use Rattle.std.specs.List.{flat_map};
 ghost use Rattle.std.specs.Int.{w32, to_be_bytes};
@@ -7,27 +7,13 @@ ghost use Rattle.vx_base.specs.declared.format.Format.TheVariants.{S16 as Format
 ghost use Rattle.vx_base.specs.Picture.{values, samples_format};
 ghost use Rattle.vx_requests.specs.Calls.{failed_calls};
 ghost use Rattle.vx_requests.specs.Transfer.{AppendsPart};
-ghost use Rattle.vx_requests.specs.Spelling.{sample_spelling, picture_bytes};
+ghost use Rattle.vx_requests.specs.Spelling.{sample_spelling};
 
 use crate::fault::StreamFault;
 use crate::sink::Sink;
 use crate::spelled_samples::{spell_shorts, spell_words};
-use crate::spelling::description_bytes;
 use crate::transfer::write_all;
-use vx_base::{Picture, Samples};
-
-/// Writes the description of a picture and its samples, and flushes nothing. `WriteFailed` comes
-/// where a write fails, and a front of the bytes was taken then.
-pub fn write_picture<K: Sink>(sink: &mut K, picture: &Picture) -> Result<(), StreamFault>
-    requires { K.failures sink.old < 2 ^ 62 }
-    ensures ok { OnOk result (Appends (K.taken sink.old) (K.taken sink.new) (picture_bytes picture.now)) }
-    ensures err { OnErr result (AppendsPart (K.taken sink.old) (K.taken sink.new) (picture_bytes picture.now)) }
-    ensures fault { IfErr result (λ e. e ≡ StreamFault.WriteFailed) }
-    ensures failed { K.failures sink.new ≡ K.failures sink.old + failed_calls result }
-{
-    write_all(sink, &description_bytes(picture.desc()))?;
-    write_samples(sink, picture.samples())
-}
+use vx_base::Samples;
 
 /// Writes samples of any format, by rows from the top.
 pub fn write_samples<K: Sink>(sink: &mut K, samples: &Samples) -> Result<(), StreamFault>

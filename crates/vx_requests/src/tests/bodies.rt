@@ -1,4 +1,4 @@
-use crate::memory::PiecewiseSink;
+use crate::tests::memory::PiecewiseSink;
 use crate::*;
 use client_contexts::Request;
 use std::alloc::Global;

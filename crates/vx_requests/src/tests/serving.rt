@@ -1,6 +1,6 @@
 ghost use Rattle.std.specs.Prelude.{◌≡◌};
 
-use crate::memory::{PiecewiseSink, PiecewiseSource};
+use crate::tests::memory::{PiecewiseSink, PiecewiseSource};
 use crate::{FromWrite, StreamFault, Summary, serve, write_reply};
 use client_contexts::{Limits, Reply, Runtime};
 use std::alloc::Global;

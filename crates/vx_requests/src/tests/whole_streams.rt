@@ -2,7 +2,7 @@
 ghost use Rattle.std.specs.Prelude.{None};
 
 use crate::fault::{Failed, StreamFault};
-use crate::memory::{PiecewiseSink, PiecewiseSource};
+use crate::tests::memory::{PiecewiseSink, PiecewiseSource};
 use crate::serving::serve;
 use crate::sink::Sink;
 use crate::source::Source;
