@@ -2,10 +2,15 @@
 
 import struct
 
-OPEN_CONTEXT, CREATE_IMAGE, WRITE_IMAGE, READ_IMAGE, IMMEDIATE = 1, 3, 5, 7, 24
+OPEN_CONTEXT, CREATE_IMAGE, WRITE_IMAGE, READ_IMAGE, CREATE_LUT, CREATE_THRESHOLD, IMMEDIATE = 1, 3, 5, 7, 11, 12, 24
+CREATES = (CREATE_IMAGE, CREATE_LUT, CREATE_THRESHOLD)
 U8, S16, U32 = 1, 2, 3
 SAMPLE_BYTES = {U8: 1, S16: 2, U32: 4}
-NOT_BITS = 4
+SAMPLE_LETTERS = {U8: "B", S16: "h", U32: "I"}
+(AND_BITS, OR_BITS, XOR_BITS, NOT_BITS, ADD, SUBTRACT, MULTIPLY, ABSOLUTE_DIFFERENCE, MIN_PIXEL, MAX_PIXEL, THRESHOLD,
+ TABLE_LOOKUP, CONVERT_DEPTH) = range(1, 14)
+WRAP, SATURATE = 0, 1
+BINARY, RANGE = 0, 1
 ABSENT = struct.pack(">IB", 0, 255)
 
 CODES = (
@@ -39,9 +44,26 @@ def read_image(client, name):
     return frame(client, READ_IMAGE, reference(name))
 
 
-def bitwise_not(client, source, target):
-    node = bytes([NOT_BITS, 0, 0, 0, 0]) + reference(source) + ABSENT + reference(target) + ABSENT
+def create_lut(client, fmt, entries):
+    return frame(client, CREATE_LUT, struct.pack(f">B{len(entries)}{SAMPLE_LETTERS[fmt]}", fmt, *entries))
+
+
+def create_threshold(client, fmt, limits, true_value=255, false_value=0):
+    """BINARY with one limit, RANGE with two."""
+    kind = RANGE if len(limits) == 2 else BINARY
+    body = struct.pack(f">BB{len(limits)}hBB", kind, fmt, *limits, true_value, false_value)
+    return frame(client, CREATE_THRESHOLD, body)
+
+
+def immediate(client, function, in1, in2, out1, policy=WRAP, amount=0):
+    """One node run at once; in2 is None where the function has no second input."""
+    second = ABSENT if in2 is None else reference(in2)
+    node = bytes([function, 0, 0, policy, amount]) + reference(in1) + second + reference(out1) + ABSENT
     return frame(client, IMMEDIATE, node)
+
+
+def bitwise_not(client, source, target):
+    return immediate(client, NOT_BITS, source, None, target)
 
 
 def split(stream, head):
@@ -63,17 +85,21 @@ def code_of(reply):
     return reply[7]
 
 
+def rows_of(reply):
+    """The samples of an image that was read, row by row."""
+    fmt, width, height = struct.unpack_from(">BHH", reply, 8)
+    samples = struct.unpack(f">{width * height}{SAMPLE_LETTERS[fmt]}", reply[13:])
+    return [samples[y * width : (y + 1) * width] for y in range(height)]
+
+
 def say(reply):
     """A reply in a line of words."""
     client, op, code = struct.unpack_from(">HBB", reply, 4)
     body = reply[8:]
     line = f"client {client}, op {op}: {CODES[code]}"
-    if code == 0 and op == CREATE_IMAGE:
+    if code == 0 and op in CREATES:
         line += f", name {struct.unpack('>I', body)[0]}"
     if code == 0 and op == READ_IMAGE:
-        fmt, width, height = struct.unpack_from(">BHH", body)
-        letter = {U8: "B", S16: "h", U32: "I"}[fmt]
-        samples = struct.unpack(f">{width * height}{letter}", body[5:])
-        rows = [samples[y * width : (y + 1) * width] for y in range(height)]
-        line += f", {width} by {height}: " + " / ".join(" ".join(map(str, row)) for row in rows)
+        rows = rows_of(reply)
+        line += f", {len(rows[0])} by {len(rows)}: " + " / ".join(" ".join(map(str, row)) for row in rows)
     return line

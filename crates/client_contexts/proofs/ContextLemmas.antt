@@ -3,8 +3,8 @@ use Rattle.std.proofs.Common.{◌≡◌, ◌≢◌, ℕ, ◌+◌, ◌<◌, ◌�
 use Rattle.std.proofs.lemmas.Bool.{eq-eqb, ne_eqb}
 use Rattle.std.proofs.lemmas.List.{length-set, length_push}
 use Rattle.std.proofs.lemmas.List.Sums.{sum_by-set, sum_by_push}
-use Rattle.vx_base.specs.Image.{ImageValue}
-use Rattle.client_contexts.specs.Context.{Named, Context, with_image, image_bytes}
+use Rattle.vx_base.specs.Object.{ObjectValue}
+use Rattle.client_contexts.specs.Context.{Named, Context, with_object, object_bytes}
 use Rattle.client_contexts.specs.Places.{no_object, object_at, LacksName, AreBelow, AreDistinct, IsContext}
 
 -- a name that is above all others is no other's
@@ -25,11 +25,11 @@ AreDistinct-push n [] o h below e = (tt, tt)
 AreDistinct-push n (p ∷ objects) o h below e =
     (LacksName-push p.name objects o h.0 (λ same. omega (arith, below.0)), AreDistinct-push n objects o h.1 below.1 e)
 
-pub IsContext-push : (next charge bytes : ℕ) (objects : List Named) (o : Named) → IsContext next charge objects → next < 4294967296 → length objects < 1024 → charge + bytes ≤ 1099511627776 → o.name ≡ next → image_bytes o.image ≡ bytes
+pub IsContext-push : (next charge bytes : ℕ) (objects : List Named) (o : Named) → IsContext next charge objects → next < 4294967296 → length objects < 1024 → charge + bytes ≤ 1099511627776 → o.name ≡ next → object_bytes o.object ≡ bytes
     → IsContext (next + 1) (charge + bytes) (objects ++ o ∷ [])
 IsContext-push next charge bytes objects o h left few limit named long =
     record {
-      charged = omega (arith, h.charged, long, sum_by_push (λ (p : Named). image_bytes p.image) objects o);
+      charged = omega (arith, h.charged, long, sum_by_push (λ (p : Named). object_bytes p.object) objects o);
       limit = limit;
       names = omega arith;
       count = omega (arith, length_push objects o);
@@ -53,11 +53,11 @@ AreDistinct-set [] place o h e = tt
 AreDistinct-set (p ∷ objects) zero o h e = (rw e h.0, h.1)
 AreDistinct-set (p ∷ objects) (suc place) o h e = (LacksName-set p.name objects place o h.0 e, AreDistinct-set objects place o h.1 e)
 
-pub IsContext-set : (next charge : ℕ) (objects : List Named) (place : ℕ) (o : Named) → IsContext next charge objects → place < length objects → o.name ≡ (object_at objects place).name → image_bytes o.image ≡ image_bytes (object_at objects place).image
+pub IsContext-set : (next charge : ℕ) (objects : List Named) (place : ℕ) (o : Named) → IsContext next charge objects → place < length objects → o.name ≡ (object_at objects place).name → object_bytes o.object ≡ object_bytes (object_at objects place).object
     → IsContext next charge (set objects place o)
 IsContext-set next charge objects place o h within named long =
     record {
-      charged = omega (arith, h.charged, long, sum_by-set (λ (p : Named). image_bytes p.image) objects place o no_object within);
+      charged = omega (arith, h.charged, long, sum_by-set (λ (p : Named). object_bytes p.object) objects place o no_object within);
       limit = h.limit;
       names = h.names;
       count = omega (arith, h.count, length-set objects place o);
@@ -65,45 +65,45 @@ IsContext-set next charge objects place o h within named long =
       distinct = AreDistinct-set objects place o h.distinct named;
     }
 
-with_image-lacking : (objects : List Named) (name : ℕ) (image : ImageValue) → LacksName name objects → with_image objects name image ≡ objects
-with_image-lacking [] name image h = refl
-with_image-lacking (o ∷ objects) name image h =
-    ap (λ b. cond b (record { name = o.name; image = image }) o ∷ with_image objects name image) (ne_eqb o.name name h.0)
-    ∙ ap (λ l. o ∷ l) (with_image-lacking objects name image h.1)
+with_object-lacking : (objects : List Named) (name : ℕ) (object : ObjectValue) → LacksName name objects → with_object objects name object ≡ objects
+with_object-lacking [] name object h = refl
+with_object-lacking (o ∷ objects) name object h =
+    ap (λ b. cond b (record { name = o.name; object = object }) o ∷ with_object objects name object) (ne_eqb o.name name h.0)
+    ∙ ap (λ l. o ∷ l) (with_object-lacking objects name object h.1)
 
 lacks_at : (name : ℕ) (objects : List Named) (place : ℕ) → LacksName name objects → place < length objects → (object_at objects place).name ≢ name
 lacks_at name [] place h within = absurd (omega arith)
 lacks_at name (o ∷ objects) zero h within = h.0
 lacks_at name (o ∷ objects) (suc place) h within = lacks_at name objects place h.1 (omega arith)
 
--- where names are distinct, the image under a name is the one at the name's place
-pub with_image-at : (objects : List Named) (place : ℕ) (image : ImageValue) → AreDistinct objects → place < length objects
-    → with_image objects (object_at objects place).name image ≡ set objects place (record { name = (object_at objects place).name; image = image })
-with_image-at [] place image h within = absurd (omega arith)
-with_image-at (o ∷ objects) zero image h within =
-    ap (λ b. cond b (record { name = o.name; image = image }) o ∷ with_image objects o.name image) (eq-eqb o.name o.name refl)
-    ∙ ap (λ l. record { name = o.name; image = image } ∷ l) (with_image-lacking objects o.name image h.0)
-with_image-at (o ∷ objects) (suc place) image h within =
+-- where names are distinct, the object under a name is the one at the name's place
+pub with_object-at : (objects : List Named) (place : ℕ) (object : ObjectValue) → AreDistinct objects → place < length objects
+    → with_object objects (object_at objects place).name object ≡ set objects place (record { name = (object_at objects place).name; object = object })
+with_object-at [] place object h within = absurd (omega arith)
+with_object-at (o ∷ objects) zero object h within =
+    ap (λ b. cond b (record { name = o.name; object = object }) o ∷ with_object objects o.name object) (eq-eqb o.name o.name refl)
+    ∙ ap (λ l. record { name = o.name; object = object } ∷ l) (with_object-lacking objects o.name object h.0)
+with_object-at (o ∷ objects) (suc place) object h within =
     let name = (object_at objects place).name in
-    ap (λ b. cond b (record { name = o.name; image = image }) o ∷ with_image objects name image)
+    ap (λ b. cond b (record { name = o.name; object = object }) o ∷ with_object objects name object)
     (ne_eqb o.name name (λ same. lacks_at o.name objects place h.0 (omega arith) (sym same)))
-    ∙ ap (λ l. o ∷ l) (with_image-at objects place image h.1 (omega arith))
+    ∙ ap (λ l. o ∷ l) (with_object-at objects place object h.1 (omega arith))
 
-same_named : (o : Named) (name : ℕ) (image : ImageValue) → o.name ≡ name → o.image ≡ image → o ≡ record { name = name; image = image }
-same_named o name image named is =
-    ap (λ n. let p : Named = record { name = n; image = o.image } in p) named
-    ∙ ap (λ i. let p : Named = record { name = name; image = i } in p) is
+same_named : (o : Named) (name : ℕ) (object : ObjectValue) → o.name ≡ name → o.object ≡ object → o ≡ record { name = name; object = object }
+same_named o name object named is =
+    ap (λ n. let p : Named = record { name = n; object = o.object } in p) named
+    ∙ ap (λ i. let p : Named = record { name = name; object = i } in p) is
 
--- the objects with another image at a place, under the name that stands there
-abbrev pub replaced : List Named → ℕ → ImageValue → List Named
-replaced objects place image = set objects place (record { name = (object_at objects place).name; image = image })
+-- the objects with another object at a place, under the name that stands there
+abbrev pub replaced : List Named → ℕ → ObjectValue → List Named
+replaced objects place object = set objects place (record { name = (object_at objects place).name; object = object })
 
-pub replaced_by : (objects : List Named) (place : ℕ) (o : Named) (image : ImageValue) → o.name ≡ (object_at objects place).name → o.image ≡ image → set objects place o ≡ replaced objects place image
-replaced_by objects place o image named is = ap (set objects place) (same_named o (object_at objects place).name image named is)
+pub replaced_by : (objects : List Named) (place : ℕ) (o : Named) (object : ObjectValue) → o.name ≡ (object_at objects place).name → o.object ≡ object → set objects place o ≡ replaced objects place object
+replaced_by objects place o object named is = ap (set objects place) (same_named o (object_at objects place).name object named is)
 
-module _ (next charge : ℕ) (objects new : List Named) (place : ℕ) (image : ImageValue) (h : IsContext next charge objects) (within : place < length objects) (is : new ≡ replaced objects place image) where
-  pub IsContext-replaced : image_bytes image ≡ image_bytes (object_at objects place).image → IsContext next charge new
+module _ (next charge : ℕ) (objects new : List Named) (place : ℕ) (object : ObjectValue) (h : IsContext next charge objects) (within : place < length objects) (is : new ≡ replaced objects place object) where
+  pub IsContext-replaced : object_bytes object ≡ object_bytes (object_at objects place).object → IsContext next charge new
   IsContext-replaced long = subst (IsContext next charge) (sym is) (IsContext-set next charge objects place _ h within refl long)
 
-  pub with_image_replaced : ◌≡◌ {A = Context} (record { next = next; objects = new }) (record { next = next; objects = with_image objects (object_at objects place).name image })
-  with_image_replaced = ap (λ l. let c : Context = record { next = next; objects = l } in c) (is ∙ sym (with_image-at objects place image h.distinct within))
+  pub with_object_replaced : ◌≡◌ {A = Context} (record { next = next; objects = new }) (record { next = next; objects = with_object objects (object_at objects place).name object })
+  with_object_replaced = ap (λ l. let c : Context = record { next = next; objects = l } in c) (is ∙ sym (with_object-at objects place object h.distinct within))

@@ -1,5 +1,6 @@
 mod StoredLemmas
+mod KernelLemmas
 mod PlaceLemmas
 mod ContextLemmas
-mod NotLemmas
 mod NodeLemmas
+mod VacantLemmas

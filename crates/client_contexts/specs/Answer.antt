@@ -1,33 +1,38 @@
 -- What one client is answered, and its new state.
-use Rattle.std.specs.Prelude.{◌+◌, ◌==◌, ◌&&◌, if◌then◌else◌, [], ◌∷◌, ◌++◌, Option, Some, None, Result, Ok, Err}
+use Rattle.std.specs.Prelude.{◌+◌, ◌==◌, ◌&&◌, if◌then◌else◌, [], ◌∷◌, ◌++◌, Some, None, Result, Ok, Err}
 use Rattle.vx_base.specs.declared.code.Code.{Code}
 use Rattle.vx_base.specs.declared.code.Code.TheVariants.{Success, InvalidReference, InvalidFormat, InvalidDimension, InvalidValue, NoResources}
 use Rattle.vx_base.specs.Code.{code_number}
 use Rattle.vx_base.specs.declared.node.Node.{Node}
 use Rattle.vx_base.specs.Cell.{Cell}
 use Rattle.vx_base.specs.Rectangle.{whole}
-use Rattle.vx_base.specs.Description.{Description, byte_count}
+use Rattle.vx_base.specs.Description.{Description}
 use Rattle.vx_base.specs.Image.{ImageValue, new_image}
 use Rattle.vx_base.specs.Picture.{PictureValue}
+use Rattle.vx_base.specs.Object.{ObjectValue, ImageObject, LutObject, ThresholdObject}
 use Rattle.client_contexts.specs.declared.request.Request.{Request}
-use Rattle.client_contexts.specs.declared.request.Request.TheVariants.{OpenContext, CreateImage, WriteImage, ReadImage, Immediate}
+use Rattle.client_contexts.specs.declared.request.Request.TheVariants.{OpenContext, CreateImage, WriteImage, ReadImage, CreateLut, CreateThreshold, Immediate}
 use Rattle.client_contexts.specs.declared.reply.Reply.{Reply}
 use Rattle.client_contexts.specs.declared.reply.Reply.TheVariants.{Refused, Empty, Name, Picture}
 use Rattle.client_contexts.specs.Allowance.{Allowance}
-use Rattle.client_contexts.specs.Context.{Context, State, new_context, with_image, has_room}
+use Rattle.client_contexts.specs.Context.{Context, State, new_context, object_bytes, with_object, has_room}
 use Rattle.client_contexts.specs.Operands.{image_of, same_format}
-use Rattle.client_contexts.specs.Immediate.{immediate_code, input_of, node_image}
+use Rattle.client_contexts.specs.Immediate.{immediate_code, objects_after}
 
 -- a refusal leaves the state
 abbrev pub refused : Context → Code → Reply × State
 refused c code = (Refused code, Some c)
 
--- CreateImage: the next name, for an image that is 0 everywhere
-abbrev pub create_image : Allowance → Context → Description → Reply × State
-create_image limits c d =
-    if has_room limits c (byte_count d)
-    then (Name c.next, Some (record { next = c.next + 1; objects = c.objects ++ record { name = c.next; image = new_image d.width d.height d.format } ∷ [] }))
+-- a create: the next name, for this object
+abbrev pub create : Allowance → Context → ObjectValue → Reply × State
+create limits c object =
+    if has_room limits c (object_bytes object)
+    then (Name c.next, Some (record { next = c.next + 1; objects = c.objects ++ record { name = c.next; object = object } ∷ [] }))
     else refused c NoResources
+
+-- CreateImage: an image that is 0 everywhere
+abbrev pub create_image : Allowance → Context → Description → Reply × State
+create_image limits c d = create limits c (ImageObject (new_image d.width d.height d.format))
 
 -- the image that a picture makes: wholly valid
 abbrev pub pictured : PictureValue → ImageValue
@@ -57,21 +62,16 @@ on_success c code new = if code_number code == 0 then (Empty, Some new) else ref
 -- WriteImage: the picture's samples, all of them valid
 abbrev pub write_image : Context → Cell → PictureValue → Result ImageValue Code → Reply × State
 write_image c cell p (Err code) = refused c code
-write_image c cell p (Ok image) = on_success c (picture_code image p) (record { next = c.next; objects = with_image c.objects cell.name (pictured p) })
+write_image c cell p (Ok image) = on_success c (picture_code image p) (record { next = c.next; objects = with_object c.objects cell.name (ImageObject (pictured p)) })
 
 -- ReadImage: the samples of all places
 abbrev pub read_image : Context → Result ImageValue Code → Reply × State
 read_image c (Err code) = refused c code
 read_image c (Ok image) = (Picture (picture_of image), Some c)
 
--- Immediate: the output becomes what the function gives
-abbrev pub written_output : Context → Node → Option ImageValue → Option Cell → Context
-written_output c n None out = c
-written_output c n (Some a) None = c
-written_output c n (Some a) (Some out) = record { next = c.next; objects = with_image c.objects out.name (node_image a) }
-
+-- Immediate: the output becomes what the node gives
 abbrev pub immediate : Context → Node → Reply × State
-immediate c n = on_success c (immediate_code c.objects n) (written_output c n (input_of c.objects n) n.out1)
+immediate c n = on_success c (immediate_code c.objects n) (record { next = c.next; objects = objects_after c.objects n })
 
 -- a client with a context
 abbrev pub answer_in : Allowance → Context → Request → Reply × State
@@ -79,15 +79,14 @@ answer_in limits c OpenContext = refused c InvalidValue
 answer_in limits c (CreateImage d) = create_image limits c d
 answer_in limits c (WriteImage cell p) = write_image c cell p (image_of c.objects cell)
 answer_in limits c (ReadImage cell) = read_image c (image_of c.objects cell)
+answer_in limits c (CreateLut lut) = create limits c (LutObject lut)
+answer_in limits c (CreateThreshold threshold) = create limits c (ThresholdObject threshold)
 answer_in limits c (Immediate n) = immediate c n
 
 -- a client without one
 abbrev pub answer_without : Request → Reply × State
 answer_without OpenContext = (Empty, Some new_context)
-answer_without (CreateImage d) = (Refused InvalidReference, None)
-answer_without (WriteImage cell p) = (Refused InvalidReference, None)
-answer_without (ReadImage cell) = (Refused InvalidReference, None)
-answer_without (Immediate n) = (Refused InvalidReference, None)
+answer_without other = (Refused InvalidReference, None)
 
 -- the reply to a request of a client in this state, and the new state
 abbrev pub answer_to : Allowance → State → Request → Reply × State

@@ -5,13 +5,13 @@ use Rattle.std.specs.Ordering.{nat_cmp}
 use Rattle.std.specs.Map.{lookup}
 use Rattle.std.specs.BTreeMap.{is_at}
 use Rattle.vx_base.specs.Sample.{sample_bytes}
-use Rattle.vx_base.specs.Image.{ImageValue}
+use Rattle.vx_base.specs.Object.{ObjectValue, ImageObject}
 use Rattle.client_contexts.specs.Allowance.{Allowance}
 
 -- an object and its name
 pub record Named : Type 0 where
   pub name : ℕ
-  pub image : ImageValue
+  pub object : ObjectValue
 
 -- the name that comes next, and the objects in the order of their names
 pub record Context : Type 0 where
@@ -26,25 +26,26 @@ new_context = record { next = 1; objects = [] }
 abbrev pub State : Type 0
 State = Option Context
 
--- the image with this name
-abbrev pub image_named : List Named → ℕ → Option ImageValue
-image_named objects name = option_map (λ o. o.image) (find (λ o. o.name == name) objects)
+-- the object with this name
+abbrev pub object_named : List Named → ℕ → Option ObjectValue
+object_named objects name = option_map (λ o. o.object) (find (λ o. o.name == name) objects)
 
--- the objects, with this image under this name
-abbrev pub with_image : List Named → ℕ → ImageValue → List Named
-with_image [] name image = []
-with_image (o ∷ objects) name image =
-    (if o.name == name then record { name = o.name; image = image } else o) ∷ with_image objects name image
+-- the objects, with this one under this name
+abbrev pub with_object : List Named → ℕ → ObjectValue → List Named
+with_object [] name object = []
+with_object (o ∷ objects) name object =
+    (if o.name == name then record { name = o.name; object = object } else o) ∷ with_object objects name object
 
--- the sample bytes of an image
-abbrev pub image_bytes : ImageValue → ℕ
-image_bytes image = image.height * image.width * sample_bytes image.format
+-- what an object is charged: an image its sample bytes, others nothing
+abbrev pub object_bytes : ObjectValue → ℕ
+object_bytes (ImageObject image) = image.height * image.width * sample_bytes image.format
+object_bytes other = 0
 
--- what a context is charged: the sample bytes of its images
+-- what a context is charged for its objects
 abbrev pub charge_of : List Named → ℕ
-charge_of objects = sum_by (λ o. image_bytes o.image) objects
+charge_of objects = sum_by (λ o. object_bytes o.object) objects
 
--- whether an object of so many sample bytes can be created: a name is left, fewer than 1,024 objects are held, and the quota allows it
+-- whether an object that is charged so many bytes can be created: a name is left, fewer than 1,024 objects are held, and the quota allows it
 abbrev pub has_room : Allowance → Context → ℕ → Bool
 has_room limits c bytes = nat_lt c.next 4294967296 && (nat_lt (length c.objects) 1024 && nat_le (charge_of c.objects + bytes) limits.quota)
 

@@ -4,5 +4,6 @@ pub mod Operands
 pub mod Immediate
 pub mod Answer
 pub mod Applies
+pub mod Held
 pub mod Places
 pub mod Steps

@@ -1,5 +1,5 @@
 -- What the operands of a request and of a node name.
-use Rattle.std.specs.Prelude.{ℕ, ◌==◌, Bool, true, false, ◌&&◌, List, [], ◌∷◌, ◌++◌, Option, Some, None, is_some, is_none, Result, Ok, Err}
+use Rattle.std.specs.Prelude.{ℕ, ◌==◌, Bool, true, false, not, ◌&&◌, ◌||◌, List, [], ◌∷◌, ◌++◌, Option, Some, None, is_some, is_none, Result, Ok, Err}
 use Rattle.std.specs.List.{list_any}
 use Rattle.vx_base.specs.declared.format.Format.{Format}
 use Rattle.vx_base.specs.declared.format.Format.TheVariants.{U8, S16, U32}
@@ -8,19 +8,20 @@ use Rattle.vx_base.specs.declared.code.Code.TheVariants.{InvalidReference, Inval
 use Rattle.vx_base.specs.declared.node.Node.{Node}
 use Rattle.vx_base.specs.Cell.{Cell}
 use Rattle.vx_base.specs.Image.{ImageValue}
-use Rattle.client_contexts.specs.Context.{Named, image_named}
+use Rattle.vx_base.specs.Object.{ObjectValue, ImageObject, is_image, is_second}
+use Rattle.client_contexts.specs.Context.{Named, object_named}
 
--- the image that a reference names: an image has no slots
-abbrev pub image_in_slot : Option ℕ → ImageValue → Result ImageValue Code
-image_in_slot None image = Ok image
-image_in_slot (Some k) image = Err InvalidType
+-- the image that a reference names: an image has no slots, and no other object is an image
+abbrev pub image_in : Option ℕ → ObjectValue → Result ImageValue Code
+image_in None (ImageObject image) = Ok image
+image_in slot object = Err InvalidType
 
-abbrev pub image_or_fault : Option ℕ → Option ImageValue → Result ImageValue Code
+abbrev pub image_or_fault : Option ℕ → Option ObjectValue → Result ImageValue Code
 image_or_fault slot None = Err InvalidReference
-image_or_fault slot (Some image) = image_in_slot slot image
+image_or_fault slot (Some object) = image_in slot object
 
 abbrev pub image_of : List Named → Cell → Result ImageValue Code
-image_of objects cell = image_or_fault cell.slot (image_named objects cell.name)
+image_of objects cell = image_or_fault cell.slot (object_named objects cell.name)
 
 abbrev pub same_format : Format → Format → Bool
 same_format U8 U8 = true
@@ -57,9 +58,25 @@ operands n = n.in1 ∷ (given n.in2 ++ (given n.out1 ++ given n.out2))
 abbrev pub reads_own_output : Node → Bool
 reads_own_output n = list_any (λ a. list_any (same_cell a) (given n.out1 ++ given n.out2)) (n.in1 ∷ given n.in2)
 
+-- two outputs in one cell
+abbrev pub writes_twice : Node → Bool
+writes_twice n = list_any (λ a. list_any (same_cell a) (given n.out2)) (given n.out1)
+
 -- whether no object has the cell's name
 abbrev pub is_unknown : List Named → Cell → Bool
-is_unknown objects cell = is_none (image_named objects cell.name)
+is_unknown objects cell = is_none (object_named objects cell.name)
 
-abbrev pub has_slot : Cell → Bool
-has_slot cell = is_some cell.slot
+abbrev pub is_of_kind : (ObjectValue → Bool) → Option ObjectValue → Bool
+is_of_kind is_kind None = false
+is_of_kind is_kind (Some object) = is_kind object
+
+-- whether the cell names no object of the kind: no object here has slots
+abbrev pub is_other : (ObjectValue → Bool) → List Named → Cell → Bool
+is_other is_kind objects cell = is_some cell.slot || not (is_of_kind is_kind (object_named objects cell.name))
+
+-- whether an operand is not of the kind that the function has there: an image, but for the second input of some
+abbrev pub has_other_kind : List Named → Node → Bool
+has_other_kind objects n =
+    is_other is_image objects n.in1
+    || (list_any (is_other (is_second n.function) objects) (given n.in2)
+    || list_any (is_other is_image objects) (given n.out1 ++ given n.out2))

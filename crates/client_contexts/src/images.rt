@@ -1,39 +1,37 @@
-//! Requests on images.
-ghost use Rattle.std.specs.Prelude.{◌≡◌, Ok, Err, MatchResult};
+//! Requests on the samples of images.
+ghost use Rattle.std.specs.Prelude.{◌≡◌, ◌&&◌, is_none, IsTrue, Ok, Err, MatchResult};
+ghost use Rattle.vx_base.specs.Object.{is_image};
 ghost use Rattle.client_contexts.specs.Operands.{image_of};
-ghost use Rattle.client_contexts.specs.Answer.{create_image, write_image, read_image, picture_code};
-ghost use Rattle.client_contexts.specs.Places.{object_at, IsPlaceOf};
+ghost use Rattle.client_contexts.specs.Answer.{write_image, read_image, picture_code};
+ghost use Rattle.client_contexts.specs.Held.{value_of};
+ghost use Rattle.client_contexts.specs.Places.{object_at, image_at, IsPlaceOf};
 ghost use Rattle.client_contexts.specs.Steps.{Answers};
 
 use crate::context::Context;
-use crate::limits::Limits;
 use crate::memory::NoMemory;
+use crate::object::Object;
 use crate::reply::Reply;
 use crate::stored::Stored;
 use std::alloc::Global;
-use vx_base::{Code, Desc, ObjRef, Picture};
+use vx_base::{Code, ObjRef, Picture};
 
-/// Creates an image that is 0 everywhere and wholly valid.
-pub fn create_image(context: &mut Context, limits: Limits, desc: Desc) -> Result<Reply, NoMemory>
-    ensures { Answers (create_image limits context.old desc) context.old context.new result }
+/// Whether an object is an image, and the reference that names it has no slot.
+fn is_named_image(reference: ObjRef, object: &Object) -> bool
+    ensures { result ≡ is_none reference.slot && is_image (value_of object.now) }
 {
-    if context.has_room(limits, desc) {
-        Ok(Reply::Name(context.add(desc)?))
-    } else {
-        Ok(Reply::Refused(Code::NoResources))
-    }
+    reference.slot().is_none() && object.is_image()
 }
 
 /// The place of the image that a reference names, or why it names none.
 fn find_image(context: &Context, reference: ObjRef) -> Result<usize, Code>
     ensures { MatchResult result
-        (λ place. IsPlaceOf context.now.objects reference.name place × (image_of context.now.objects reference ≡ Ok (object_at context.now.objects place).image))
+        (λ place. IsPlaceOf context.now.objects reference.name place × IsTrue (is_image (object_at context.now.objects place).object) × (image_of context.now.objects reference ≡ Ok (image_at context.now.objects place)))
         (λ code. image_of context.now.objects reference ≡ Err code) }
 {
     match context.place_of(reference.name()) {
         None => Err(Code::InvalidReference),
-        Some(_) if reference.slot().is_some() => Err(Code::InvalidType),
-        Some(place) => Ok(place),
+        Some(place) if is_named_image(reference, context.object_at(place)) => Ok(place),
+        Some(_) => Err(Code::InvalidType),
     }
 }
 

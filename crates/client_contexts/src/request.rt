@@ -1,5 +1,5 @@
 //! Requests of clients.
-use vx_base::{Desc, NodeSpec, ObjRef, Picture};
+use vx_base::{Desc, Lut, NodeSpec, ObjRef, Picture, ThresholdRule};
 
 /// What a client asks for.
 #[derive(Debug, Drop)]
@@ -12,6 +12,10 @@ pub enum Request {
     WriteImage(ObjRef, Picture),
     /// Asks for all samples of an image.
     ReadImage(ObjRef),
+    /// Makes a lookup table.
+    CreateLut(Lut),
+    /// Makes a threshold.
+    CreateThreshold(ThresholdRule),
     /// Runs one node at once.
     Immediate(NodeSpec),
 }

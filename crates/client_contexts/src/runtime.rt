@@ -6,7 +6,8 @@ ghost use Rattle.client_contexts.specs.Applies.{Applies, TakesMemory};
 ghost use Rattle.client_contexts.specs.Steps.{Answers};
 
 use crate::context::Context;
-use crate::images::{create_image, read_image, write_image};
+use crate::creation::{create_image, create_lut, create_threshold};
+use crate::images::{read_image, write_image};
 use crate::immediate::run_at_once;
 use crate::limits::Limits;
 use crate::memory::NoMemory;
@@ -93,6 +94,8 @@ fn answer(
         Request::CreateImage(desc) => create_image(context, limits, *desc),
         Request::WriteImage(reference, picture) => Ok(write_image(context, *reference, picture)),
         Request::ReadImage(reference) => read_image(context, alloc, *reference),
+        Request::CreateLut(lut) => create_lut(context, limits, lut),
+        Request::CreateThreshold(threshold) => create_threshold(context, limits, *threshold),
         Request::Immediate(node) => Ok(run_at_once(context, *node)),
     }
 }

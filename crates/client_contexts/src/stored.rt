@@ -1,16 +1,23 @@
 //! Images that a context holds.
-ghost use Rattle.std.specs.Prelude.{◌≡◌, IfOk};
-ghost use Rattle.vx_base.specs.declared.format.Format.TheVariants.{U8};
-ghost use Rattle.vx_base.specs.Image.{new_image};
-ghost use Rattle.vx_base.specs.Pixelwise.{not_image};
-ghost use Rattle.image_core.specs.Slices.{description_of};
+ghost use Rattle.std.specs.Prelude.{◌≡◌, [], Some, IfOk, length, map, pos};
+ghost use Rattle.vx_base.specs.declared.format.Format.TheVariants.{U8, S16};
+ghost use Rattle.vx_base.specs.Rectangle.{empty};
+ghost use Rattle.vx_base.specs.Description.{sample_count};
+ghost use Rattle.vx_base.specs.Image.{IsImage, new_image};
+ghost use Rattle.vx_base.specs.Picture.{Fills};
+ghost use Rattle.vx_base.specs.Pixelwise.{node_image};
+ghost use Rattle.image_core.specs.Slices.{image_over, description_of};
 ghost use Rattle.client_contexts.specs.Answer.{pictured, picture_of};
+ghost use Rattle.client_contexts.specs.Held.{value_of, lent};
+ghost use Rattle.pixel_kernels.specs.Kernels.{second_object};
+ghost use Rattle.client_contexts.specs.Steps.{CanRun, IsWritten};
 
-use crate::bitwise::bit_not;
-use image_core::Image;
+use crate::object::Object;
+use image_core::{Image, ImageMut};
+use pixel_kernels::{Second, run_node};
 use std::alloc::{AllocError, Global};
 use std::marker::Model;
-use vx_base::{Desc, Picture, Rect, Samples};
+use vx_base::{Desc, Node, Picture, Rect, Samples};
 
 /// An image with samples of its own.
 #[derive(Drop)]
@@ -45,6 +52,7 @@ impl Stored {
         })
     }
 
+    /// The size and format of the image, which never change.
     pub fn desc(&self) -> Desc
         ensures { result ≡ description_of self.now }
     {
@@ -60,7 +68,8 @@ impl Stored {
 
     /// The image, lent to who reads it.
     fn image(&self) -> Image<'_>
-        ensures { result ≡ self.now }
+        ensures value { result ≡ self.now }
+        ensures image { IsImage result }
     {
         match &self.samples {
             Samples::U8(samples) => Image::from_u8(self.desc, self.valid, samples),
@@ -78,19 +87,99 @@ impl Stored {
         self.samples.copy_from(picture.samples());
     }
 
-    /// Becomes Not of an image; both are U8 and of one size.
-    pub fn set_not(&mut self, input: &Stored)
-        requires format { self.old.format ≡ U8 }
-        requires input_format { input.now.format ≡ U8 }
-        requires width { self.old.width ≡ input.now.width }
-        requires height { self.old.height ≡ input.now.height }
-        ensures { self.new ≡ not_image input.now }
+    /// Becomes what a node writes that reads these objects. It takes no memory.
+    pub fn run(&mut self, node: &Node, first: &Stored, second: Option<&Object>)
+        requires { CanRun node.now first.now (lent second) self.old }
+        ensures { self.new ≡ node_image node.now self.old.format first.now (lent second.entry) }
     {
-        let image = input.image();
-        self.valid = image.valid();
-        match &mut self.samples {
-            Samples::U8(samples) => bit_not(&image, samples),
-            _ => unreachable!(),
+        let first = first.image();
+        match second {
+            None => self.run_beside(node, &first, &Second::Nothing),
+            Some(object) => self.run_with(node, &first, object),
         }
     }
+
+    /// Becomes what a node writes whose second input is an object.
+    fn run_with(&mut self, node: &Node, first: &Image<'_>, second: &Object)
+        requires image { IsImage first.now }
+        requires can_run { CanRun node.now first.now (Some (value_of second.now)) self.old }
+        ensures { self.new ≡ node_image node.now self.old.format first.now (Some (value_of second.now)) }
+    {
+        match second {
+            Object::Image(stored) => {
+                self.run_beside(node, first, &Second::Image(&stored.image()));
+            }
+            Object::Lut(lut) => self.run_beside(node, first, &Second::Lut(lut)),
+            Object::Threshold(threshold) => {
+                self.run_beside(node, first, &Second::Threshold(*threshold));
+            }
+        }
+    }
+
+    /// Becomes what a node writes that reads these inputs.
+    fn run_beside(&mut self, node: &Node, first: &Image<'_>, second: &Second<'_>)
+        requires image { IsImage first.now }
+        requires can_run { CanRun node.now first.now (second_object second.now) self.old }
+        ensures { self.new ≡ node_image node.now self.old.format first.now (second_object second.now) }
+    {
+        self.valid = run_into(self.desc, &mut self.samples, node, first, second);
+    }
+}
+
+/// Writes the samples of an output, and gives its valid rectangle.
+fn run_into(
+    desc: Desc,
+    samples: &mut Samples,
+    node: &Node,
+    first: &Image<'_>,
+    second: &Second<'_>,
+) -> Rect
+    requires fills { Fills desc samples.old }
+    requires image { IsImage first.now }
+    requires can_run { CanRun node.now first.now (second_object second.now) (image_over desc empty []) }
+    ensures { IsWritten node.now first.now (second_object second.now) desc result samples.new }
+{
+    match samples {
+        Samples::U8(samples) => run_u8(desc, samples, node, first, second),
+        Samples::S16(samples) => run_s16(desc, samples, node, first, second),
+        Samples::U32(_) => unreachable!(),
+    }
+}
+
+/// Writes the samples of a U8 output, and gives its valid rectangle.
+fn run_u8(
+    desc: Desc,
+    samples: &mut [u8],
+    node: &Node,
+    first: &Image<'_>,
+    second: &Second<'_>,
+) -> Rect
+    requires format { desc.format ≡ U8 }
+    requires size { length samples.old ≡ sample_count desc }
+    requires can_run { CanRun node.now first.now (second_object second.now) (image_over desc empty []) }
+    ensures valid { result ≡ (node_image node.now U8 first.now (second_object second.now)).valid }
+    ensures samples { map pos samples.new ≡ (node_image node.now U8 first.now (second_object second.now)).samples }
+{
+    let mut output = ImageMut::from_u8(desc, samples);
+    run_node(node, first, second, &mut output);
+    output.valid()
+}
+
+/// Writes the samples of an S16 output, as `run_u8` does.
+fn run_s16(
+    desc: Desc,
+    samples: &mut [i16],
+    node: &Node,
+    first: &Image<'_>,
+    second: &Second<'_>,
+) -> Rect
+    requires format { desc.format ≡ S16 }
+    requires size { length samples.old ≡ sample_count desc }
+    requires can_run { CanRun node.now first.now (second_object second.now) (image_over desc empty []) }
+    ensures valid { result ≡ (node_image node.now S16 first.now (second_object second.now)).valid }
+    ensures samples { samples.new ≡ (node_image node.now S16 first.now (second_object second.now)).samples }
+{
+    let mut output = ImageMut::from_s16(desc, samples);
+    run_node(node, first, second, &mut output);
+    output.valid()
 }

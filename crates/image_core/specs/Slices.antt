@@ -1,5 +1,5 @@
 -- What the slices behind an image hold.
-use Rattle.std.specs.Prelude.{ℕ, ℤ, pos, List, map}
+use Rattle.std.specs.Prelude.{ℕ, ℤ, pos, ◌+◌, ◌*◌, List, map, slice_index_or}
 use Rattle.vx_base.specs.declared.format.Format.{Format}
 use Rattle.vx_base.specs.declared.format.Format.TheVariants.{U8, S16, U32}
 use Rattle.vx_base.specs.Rectangle.{Rectangle}
@@ -22,3 +22,11 @@ description_of image = record { width = image.width; height = image.height; form
 -- the samples of a row
 abbrev pub row_of : ImageValue → ℕ → List ℤ
 row_of image y = run 0 image.width (λ x. at image x y)
+
+-- of samples that stand by rows of this width, the one in column x of row y
+abbrev pub sample_at : ℕ → List ℤ → ℕ → ℕ → ℤ
+sample_at width samples x y = slice_index_or samples (y * width + x) (pos 0)
+
+-- of the samples of a row, the one in column x
+abbrev pub sample_in : List ℤ → ℕ → ℕ → ℤ
+sample_in row x y = slice_index_or row x (pos 0)

@@ -3,11 +3,11 @@ ghost use Rattle.std.specs.Prelude.{◌≡◌, ◌≤◌, pos, map, length};
 ghost use Rattle.vx_base.specs.declared.format.Format.TheVariants.{U8, S16, U32};
 ghost use Rattle.vx_base.specs.Rectangle.{empty, IsWithin};
 ghost use Rattle.vx_base.specs.Description.{sample_count};
-ghost use Rattle.vx_base.specs.Image.{made};
+ghost use Rattle.vx_base.specs.Image.{made, at};
 ghost use Rattle.image_core.specs.Slices.{image_over};
 
-use crate::rows::{Formula, write_rows};
-use vx_base::{Desc, Rect};
+use crate::rows::{Formula, clear_rows, write_rows};
+use vx_base::{Desc, Format, Rect};
 
 /// The samples of an image, lent to who writes it. Of the slices the one of the format holds the
 /// samples, by rows from the top.
@@ -84,6 +84,33 @@ impl<'a> ImageMut<'a> {
         ensures { result ≡ self.now.valid }
     {
         self.valid
+    }
+
+    /// Makes this the valid rectangle; the samples stay.
+    pub fn set_valid(&mut self, valid: Rect)
+        requires target { IsTarget self.old }
+        requires room { IsWithin valid (written self.old).width (written self.old).height }
+        ensures value { written self.new ≡ image_over self.old.desc valid (written self.old).samples }
+        ensures target { IsTarget self.new }
+        ensures same_slices { SameSlices self.old self.new }
+    {
+        self.valid = valid;
+    }
+
+    /// Makes each sample outside the valid rectangle 0; those inside stay.
+    pub fn clear_outside(&mut self)
+        requires target { IsTarget self.old }
+        requires room { IsWithin (written self.old).valid (written self.old).width (written self.old).height }
+        ensures value { written self.new ≡ made (written self.old).width (written self.old).height (written self.old).format (written self.old).valid (at (written self.old)) }
+        ensures target { IsTarget self.new }
+        ensures same_slices { SameSlices self.old self.new }
+    {
+        let (width, height) = (self.desc.width(), self.desc.height());
+        match self.desc.format() {
+            Format::U8 => clear_rows(self.valid, width, height, self.bytes),
+            Format::S16 => clear_rows(self.valid, width, height, self.shorts),
+            Format::U32 => clear_rows(self.valid, width, height, self.words),
+        }
     }
 
     /// Writes a whole U8 image: the formula's samples in its area, 0 elsewhere.

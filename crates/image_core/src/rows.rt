@@ -1,7 +1,8 @@
 //! Samples that are computed place by place, row by row.
 ghost use Rattle.std.specs.Prelude.{◌≡◌, ◌+◌, ◌*◌, ◌<◌, ◌≤◌, ℕ, ℤ, pos, length, map, replicate};
-ghost use Rattle.vx_base.specs.Rectangle.{Rectangle};
+ghost use Rattle.vx_base.specs.Rectangle.{Rectangle, IsWithin};
 ghost use Rattle.vx_base.specs.Image.{run, table, within};
+ghost use Rattle.image_core.specs.Slices.{sample_at, sample_in};
 
 use crate::sample::Sample;
 use vx_base::Rect;
@@ -70,5 +71,42 @@ pub fn write_rows<T: Sample, F: Formula<T>>(formula: &F, width: u16, height: u16
     for y in 0..height {
         let start = usize::from(y) * step;
         write_row(formula, y, &mut out[start..start + step]);
+    }
+}
+
+/// Makes the samples of a row 0 outside the columns from x0 to x1 - 1.
+fn clear_beside<T: Sample>(valid: Rect, y: u16, row: &mut [T])
+    requires in_rows { (valid.y0 ≤ y) × (y < valid.y1) }
+    requires room { valid.x1 ≤ length row.old }
+    ensures { map T.value row.new ≡ run 0 (length row.old) (λ x. within valid (sample_in (map T.value row.old)) x y) }
+{
+    let (before, others) = row.split_at_mut(usize::from(valid.x0()));
+    let (_, behind) = others.split_at_mut(usize::from(valid.x1() - valid.x0()));
+    set_all(before, T::zero());
+    set_all(behind, T::zero());
+}
+
+/// Makes the samples of row y 0 outside the rectangle.
+fn clear_row<T: Sample>(valid: Rect, y: u16, row: &mut [T])
+    requires room { valid.x1 ≤ length row.old }
+    ensures { map T.value row.new ≡ run 0 (length row.old) (λ x. within valid (sample_in (map T.value row.old)) x y) }
+{
+    if y < valid.y0() || valid.y1() <= y {
+        set_all(row, T::zero());
+    } else {
+        clear_beside(valid, y, row);
+    }
+}
+
+/// Makes the samples of an image 0 outside the rectangle; they stand by rows from the top.
+pub fn clear_rows<T: Sample>(valid: Rect, width: u16, height: u16, samples: &mut [T])
+    requires size { length samples.old ≡ height * width }
+    requires room { IsWithin valid width height }
+    ensures { map T.value samples.new ≡ table width height (within valid (sample_at width (map T.value samples.old))) }
+{
+    let step = usize::from(width);
+    for y in 0..height {
+        let start = usize::from(y) * step;
+        clear_row(valid, y, &mut samples[start..start + step]);
     }
 }

@@ -116,3 +116,36 @@ fn written_shorts(rt: HostRuntime) -> Result<(), Fail> {
     assert_eq!(rt; samples, [-32768, 0]);
     Ok(())
 }
+
+/// The samples 1, 2 and on of a 3 by 2 image, cleared outside the rectangle.
+fn cleared_u8(valid: Rect) -> [u8; 6]
+    requires { IsWithin valid 3 2 }
+{
+    let mut samples = [1, 2, 3, 4, 5, 6];
+    if let Some(desc) = Desc::new(3, 2, Format::U8) {
+        let mut image = ImageMut::from_u8(desc, &mut samples);
+        image.set_valid(valid);
+        image.clear_outside();
+    }
+    samples
+}
+
+#[test]
+fn cleared_outside_a_rectangle(rt: HostRuntime) -> Result<(), Fail> {
+    let whole = Rect::new(0, 0, 3, 2).ok_or("a rectangle")?;
+    assert_eq!(rt; cleared_u8(whole), [1, 2, 3, 4, 5, 6]);
+    let middle = Rect::new(1, 0, 2, 2).ok_or("a rectangle")?;
+    assert_eq!(rt; cleared_u8(middle), [0, 2, 0, 0, 5, 0]);
+    let above = Rect::new(0, 0, 2, 1).ok_or("a rectangle")?;
+    assert_eq!(rt; cleared_u8(above), [1, 2, 0, 0, 0, 0]);
+    let below = Rect::new(1, 1, 3, 2).ok_or("a rectangle")?;
+    assert_eq!(rt; cleared_u8(below), [0, 0, 0, 0, 5, 6]);
+    assert_eq!(rt; cleared_u8(Rect::empty()), [0; 6]);
+    let desc = Desc::new(2, 1, Format::S16).ok_or("within the limits")?;
+    let mut shorts = [-1, -1];
+    let mut image = ImageMut::from_s16(desc, &mut shorts);
+    image.set_valid(Rect::new(0, 0, 1, 1).ok_or("a rectangle")?);
+    image.clear_outside();
+    assert_eq!(rt; shorts, [-1, 0]);
+    Ok(())
+}

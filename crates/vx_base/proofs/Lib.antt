@@ -4,3 +4,4 @@ pub mod RectangleLaws
 pub mod ImageLaws
 pub mod PixelLaws
 pub mod ZeroLaws
+pub mod ResultLaws

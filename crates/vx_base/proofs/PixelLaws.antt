@@ -1,15 +1,35 @@
 -- Pixel formulas over whole images.
-use Rattle.std.proofs.Common.{◌≡◌, ℕ, true}
-use Rattle.vx_base.specs.declared.format.Format.TheVariants.{U8}
-use Rattle.vx_base.specs.Rectangle.{inside}
+use Rattle.std.proofs.Common.{◌≡◌, ℕ, ℤ, ◌≤◌, true, arith}
+use Rattle.std.specs.Prelude.{min, max}
+use Rattle.vx_base.specs.declared.format.Format.{Format}
+use Rattle.vx_base.specs.Rectangle.{inside, meet_of, IsOrdered, IsWithin}
 use Rattle.vx_base.specs.Image.{ImageValue, IsImage, at}
-use Rattle.vx_base.specs.Pixelwise.{bitwise_not, not_image}
+use Rattle.vx_base.specs.Pixelwise.{from_one, from_two}
+use Rattle.vx_base.proofs.RectangleLaws.{bounded_ordered, bounded_within, inside_meet}
 use Rattle.vx_base.proofs.ImageLaws.{made_image, at-made, column_inside, row_inside}
 
-pub not_image_is : (a : ImageValue) → IsImage a → IsImage (not_image a)
-not_image_is a h = made_image a.width a.height U8 a.valid (λ x y. bitwise_not (at a x y)) h.ordered h.room
+pub from_one_is : (format : Format) (f : ℤ → ℤ) (a : ImageValue) → IsImage a → IsImage (from_one format f a)
+from_one_is format f a h = made_image a.width a.height format a.valid (λ x y. f (at a x y)) h.ordered h.room
 
-pub at-not_image : (a : ImageValue) (x y : ℕ) → IsImage a → inside a.valid x y ≡ true → at (not_image a) x y ≡ bitwise_not (at a x y)
-at-not_image a x y h e =
-    at-made a.width a.height U8 a.valid (λ x y. bitwise_not (at a x y)) x y
+pub at-from_one : (format : Format) (f : ℤ → ℤ) (a : ImageValue) (x y : ℕ) → IsImage a → inside a.valid x y ≡ true → at (from_one format f a) x y ≡ f (at a x y)
+at-from_one format f a x y h e =
+    at-made a.width a.height format a.valid (λ x y. f (at a x y)) x y
     (column_inside a.valid a.width a.height x y h.room e) (row_inside a.valid a.width a.height x y h.room e) e
+
+pub from_two_is : (format : Format) (f : ℤ → ℤ → ℤ) (a b : ImageValue) → IsImage a → IsImage b → IsImage (from_two format f a b)
+from_two_is format f a b h k =
+    made_image a.width a.height format (meet_of a.valid b.valid) (λ x y. f (at a x y) (at b x y)) ordered room
+  where
+    ordered : IsOrdered (meet_of a.valid b.valid)
+    ordered = bounded_ordered (max a.valid.x0 b.valid.x0) (max a.valid.y0 b.valid.y0) (min a.valid.x1 b.valid.x1) (min a.valid.y1 b.valid.y1)
+
+    room : IsWithin (meet_of a.valid b.valid) a.width a.height
+    room =
+        let p : a.valid.x1 ≤ a.width = h.room.columns in
+        let q : a.valid.y1 ≤ a.height = h.room.rows in
+        bounded_within (max a.valid.x0 b.valid.x0) (max a.valid.y0 b.valid.y0) (min a.valid.x1 b.valid.x1) (min a.valid.y1 b.valid.y1) a.width a.height (omega (arith, p)) (omega (arith, q))
+
+pub at-from_two : (format : Format) (f : ℤ → ℤ → ℤ) (a b : ImageValue) (x y : ℕ) → IsImage a → IsImage b → inside a.valid x y ≡ true → inside b.valid x y ≡ true → at (from_two format f a b) x y ≡ f (at a x y) (at b x y)
+at-from_two format f a b x y h k p q =
+    at-made a.width a.height format (meet_of a.valid b.valid) (λ x y. f (at a x y) (at b x y)) x y
+    (column_inside a.valid a.width a.height x y h.room p) (row_inside a.valid a.width a.height x y h.room p) (inside_meet a.valid b.valid x y p q)

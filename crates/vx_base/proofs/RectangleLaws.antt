@@ -1,8 +1,8 @@
 -- Rectangles as sets of places.
 use Rattle.std.proofs.Common.{◌≡◌, ℕ, ◌+◌, ◌-◌, ◌<◌, ◌≤◌, ◌⊎◌, inl, inr, ap, ◌∙◌, sym, arith, true, false, Bool, IsTrue, ◌↔◌, ◌||◌}
-use Rattle.std.specs.Prelude.{◌==◌, ◌&&◌, nat_lt}
+use Rattle.std.specs.Prelude.{◌==◌, ◌&&◌, nat_lt, min, max}
 use Rattle.std.proofs.lemmas.Bool.Decides.{nat_tests}
-use Rattle.vx_base.specs.Rectangle.{Rectangle, inside, is_rectangle, bounded, shrunk, empty}
+use Rattle.vx_base.specs.Rectangle.{Rectangle, inside, is_rectangle, bounded, meet_of, shrunk, empty, IsOrdered, IsWithin}
 
 -- the bounds decide
 same_bounds : (r s : Rectangle) → r.x0 ≡ s.x0 → r.y0 ≡ s.y0 → r.x1 ≡ s.x1 → r.y1 ≡ s.y1 → r ≡ s
@@ -83,6 +83,21 @@ places_decide r s p q same = cases (empty_or_proper r p) (empty_or_proper s q)
 
 bounded_inside : (x0 y0 x1 y1 x y : ℕ) → inside (bounded x0 y0 x1 y1) x y ≡ inside (record { x0 = x0; y0 = y0; x1 = x1; y1 = y1 }) x y
 bounded_inside x0 y0 x1 y1 x y = grind (arith, nat_tests)
+
+-- a rectangle by its bounds is ordered, and no farther than they are
+pub bounded_ordered : (x0 y0 x1 y1 : ℕ) → IsOrdered (bounded x0 y0 x1 y1)
+bounded_ordered x0 y0 x1 y1 = record { columns = grind (arith, nat_tests); rows = grind (arith, nat_tests) }
+
+pub bounded_within : (x0 y0 x1 y1 width height : ℕ) → x1 ≤ width → y1 ≤ height → IsWithin (bounded x0 y0 x1 y1) width height
+bounded_within x0 y0 x1 y1 width height p q = record { columns = grind (arith, nat_tests); rows = grind (arith, nat_tests) }
+
+-- a place that is in both is in their meet
+pub inside_meet : (r s : Rectangle) (x y : ℕ) → inside r x y ≡ true → inside s x y ≡ true → inside (meet_of r s) x y ≡ true
+inside_meet r s x y p q =
+    let a = between r x y p in
+    let b = between s x y q in
+    bounded_inside (max r.x0 s.x0) (max r.y0 s.y0) (min r.x1 s.x1) (min r.y1 s.y1) x y
+    ∙ in_between _ x y (record { left = omega arith; right = omega arith; top = omega arith; bottom = omega arith })
 
 pub shrunk_places : (r : Rectangle) (rx ry x y : ℕ) → IsTrue (inside (shrunk r rx ry) x y) ↔ ((rx ≤ x) × (ry ≤ y) × ((i j : ℕ) → x ≤ i + rx → i ≤ x + rx → y ≤ j + ry → j ≤ y + ry → IsTrue (inside r i j)))
 shrunk_places r rx ry x y = (there, back)

@@ -2,9 +2,13 @@ pub mod Sample
 pub mod Rectangle
 pub mod Description
 pub mod Image
-pub mod Pixelwise
 pub mod Code
 pub mod Function
+pub mod Formats
 pub mod Cell
 pub mod Node
 pub mod Picture
+pub mod Lut
+pub mod Threshold
+pub mod Object
+pub mod Pixelwise

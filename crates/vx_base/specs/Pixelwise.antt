@@ -1,12 +1,107 @@
--- Functions that give each sample from the samples at the same place.
--- OpenVX 1.3, "Vision Functions"; the name is that of the section.
-use Rattle.std.specs.Prelude.{ℤ, pos, ◌-ℤ◌}
-use Rattle.vx_base.specs.declared.format.Format.TheVariants.{U8}
+-- Functions that give each sample from the samples at the same place. OpenVX 1.3, "Vision Functions"; the words in quotation
+-- marks are the names of its sections. a and b are the samples of the two inputs at the place.
+use Rattle.std.specs.Prelude.{ℕ, ◌^◌, ℤ, pos, ◌+ℤ◌, ◌-ℤ◌, ◌*ℤ◌, bit_and, bit_or, bit_xor, unsigned_abs, int_div, if◌then◌else◌, Option, Some, None}
+use Rattle.std.specs.Int.{int_div_euclid, int_min, int_max}
+use Rattle.vx_base.specs.declared.format.Format.{Format}
+use Rattle.vx_base.specs.declared.format.Format.TheVariants.{U8, S16, U32}
+use Rattle.vx_base.specs.declared.policy.Policy.{Policy}
+use Rattle.vx_base.specs.declared.function.Function.{Function}
+use Rattle.vx_base.specs.declared.function.Function.TheVariants.{AndBits, OrBits, XorBits, NotBits, Add, Subtract, Multiply, AbsoluteDifference, MinPixel, MaxPixel, ConvertDepth}
+use Rattle.vx_base.specs.declared.node.Node.{Node}
+use Rattle.vx_base.specs.Sample.{clamp, narrow, distance}
+use Rattle.vx_base.specs.Rectangle.{meet_of}
 use Rattle.vx_base.specs.Image.{ImageValue, at, made}
+use Rattle.vx_base.specs.Lut.{LutValue, entry_for}
+use Rattle.vx_base.specs.Threshold.{ThresholdValue, passes}
+use Rattle.vx_base.specs.Object.{ObjectValue, ImageObject, LutObject, ThresholdObject}
 
--- "Bitwise NOT" of a U8 sample: each of the eight bits turned over
-abbrev pub bitwise_not : ℤ → ℤ
-bitwise_not a = pos 255 -ℤ a
+-- ---- the formulas
 
-abbrev pub not_image : ImageValue → ImageValue
-not_image a = made a.width a.height U8 a.valid (λ x y. bitwise_not (at a x y))
+-- "Bitwise AND": the bits that both have
+abbrev pub and_bits : ℤ → ℤ → ℤ
+and_bits a b = pos (bit_and (unsigned_abs a) (unsigned_abs b))
+
+-- "Bitwise INCLUSIVE OR": the bits that one has or both have
+abbrev pub or_bits : ℤ → ℤ → ℤ
+or_bits a b = pos (bit_or (unsigned_abs a) (unsigned_abs b))
+
+-- "Bitwise EXCLUSIVE OR": the bits that one has and the other has not
+abbrev pub xor_bits : ℤ → ℤ → ℤ
+xor_bits a b = pos (bit_xor (unsigned_abs a) (unsigned_abs b))
+
+-- "Bitwise NOT": each of the eight bits turned over
+abbrev pub not_bits : ℤ → ℤ
+not_bits a = pos 255 -ℤ a
+
+-- "Arithmetic Addition", narrowed to the output's format
+abbrev pub sum : Format → Policy → ℤ → ℤ → ℤ
+sum format policy a b = narrow format policy (a +ℤ b)
+
+-- "Arithmetic Subtraction"
+abbrev pub difference : Format → Policy → ℤ → ℤ → ℤ
+difference format policy a b = narrow format policy (a -ℤ b)
+
+-- "Pixel-wise Multiplication" by the scale 1 / 2^n, rounded to zero
+abbrev pub product : Format → Policy → ℕ → ℤ → ℤ → ℤ
+product format policy n a b = narrow format policy (int_div (a *ℤ b) (pos (2 ^ n)))
+
+-- "Absolute Difference": how far the two are apart, at most the format's greatest sample
+abbrev pub absolute_difference : Format → ℤ → ℤ → ℤ
+absolute_difference format a b = clamp format (pos (distance a b))
+
+-- "Min" and "Max": the smaller of the two, the greater
+abbrev pub smaller : ℤ → ℤ → ℤ
+smaller a b = int_min a b
+
+abbrev pub greater : ℤ → ℤ → ℤ
+greater a b = int_max a b
+
+-- "Thresholding": the true value where the sample passes, else the false value
+abbrev pub thresholded : ThresholdValue → ℤ → ℤ
+thresholded threshold a = if passes threshold.kind a then pos threshold.true_value else pos threshold.false_value
+
+-- "TableLookup": the table's entry for the sample
+abbrev pub looked_up : LutValue → ℤ → ℤ
+looked_up lut a = entry_for lut a
+
+-- "Convert Bit Depth", in this project's shifts: to S16 times 2^n; to U8 over 2^n, rounded down and narrowed
+abbrev pub converted : Format → Policy → ℕ → ℤ → ℤ
+converted U8 policy n a = narrow U8 policy (int_div_euclid a (pos (2 ^ n)))
+converted S16 policy n a = a *ℤ pos (2 ^ n)
+converted U32 policy n a = a
+
+-- ---- images
+
+-- an image of one: a formula at each place, valid where the image is
+abbrev pub from_one : Format → (ℤ → ℤ) → ImageValue → ImageValue
+from_one format f a = made a.width a.height format a.valid (λ x y. f (at a x y))
+
+-- an image of two: a formula at each place, valid where both images are
+abbrev pub from_two : Format → (ℤ → ℤ → ℤ) → ImageValue → ImageValue → ImageValue
+from_two format f a b = made a.width a.height format (meet_of a.valid b.valid) (λ x y. f (at a x y) (at b x y))
+
+-- ---- the functions: the formula of each, where it has one input and where it has two images
+
+abbrev pub formula_of_one : Function → Format → Policy → ℕ → ℤ → ℤ
+formula_of_one NotBits format policy n a = not_bits a
+formula_of_one ConvertDepth format policy n a = converted format policy n a
+formula_of_one other format policy n a = pos 0
+
+abbrev pub formula_of_two : Function → Format → Policy → ℕ → ℤ → ℤ → ℤ
+formula_of_two AndBits format policy n a b = and_bits a b
+formula_of_two OrBits format policy n a b = or_bits a b
+formula_of_two XorBits format policy n a b = xor_bits a b
+formula_of_two Add format policy n a b = sum format policy a b
+formula_of_two Subtract format policy n a b = difference format policy a b
+formula_of_two Multiply format policy n a b = product format policy n a b
+formula_of_two AbsoluteDifference format policy n a b = absolute_difference format a b
+formula_of_two MinPixel format policy n a b = smaller a b
+formula_of_two MaxPixel format policy n a b = greater a b
+formula_of_two other format policy n a b = pos 0
+
+-- what a node writes to an output of this format: from its first input, and its second where it has one
+abbrev pub node_image : Node → Format → ImageValue → Option ObjectValue → ImageValue
+node_image n format a None = from_one format (formula_of_one n.function format n.policy n.amount) a
+node_image n format a (Some (ImageObject b)) = from_two format (formula_of_two n.function format n.policy n.amount) a b
+node_image n format a (Some (LutObject lut)) = from_one format (looked_up lut) a
+node_image n format a (Some (ThresholdObject threshold)) = from_one format (thresholded threshold) a

@@ -3,13 +3,17 @@ ghost use Rattle.std.specs.Prelude.{◌≡◌, ◌-ℤ◌, List, [], ◌∷◌, 
 ghost use Rattle.vx_base.specs.declared.format.Format.TheVariants.{U8, S16, U32};
 ghost use Rattle.vx_base.specs.declared.policy.Policy.TheVariants.{Wrap, Saturate};
 ghost use Rattle.vx_base.specs.declared.border.Border.TheVariants.{Undefined};
-ghost use Rattle.vx_base.specs.declared.function.Function.TheVariants.{NotBits};
+ghost use Rattle.vx_base.specs.declared.function.Function.TheVariants.{AndBits, NotBits, Add, Threshold, TableLookup, ConvertDepth};
+ghost use Rattle.vx_base.specs.declared.threshold.ThresholdKind.TheVariants.{Binary, Range};
 ghost use Rattle.vx_base.specs.declared.code.Code.TheVariants.{InvalidFormat};
 ghost use Rattle.vx_base.specs.Sample.{narrow};
 ghost use Rattle.vx_base.specs.Rectangle.{Rectangle, rectangle, empty, meet_of, shrunk, inside};
 ghost use Rattle.vx_base.specs.Description.{description, byte_count};
 ghost use Rattle.vx_base.specs.Image.{ImageValue, made, at, new_image};
-ghost use Rattle.vx_base.specs.Pixelwise.{not_image};
+ghost use Rattle.vx_base.specs.Lut.{entry_for};
+ghost use Rattle.vx_base.specs.Object.{ImageObject, LutObject, is_second};
+ghost use Rattle.vx_base.specs.Formats.{takes_formats};
+ghost use Rattle.vx_base.specs.Pixelwise.{and_bits, or_bits, xor_bits, not_bits, sum, difference, product, absolute_difference, thresholded, converted, from_one, node_image};
 ghost use Rattle.vx_base.specs.Code.{code_number, code_name};
 ghost use Rattle.vx_base.specs.Node.{is_node};
 
@@ -55,8 +59,84 @@ pub fn images()
 
 /// Not of a row that holds 10 20 30 40 and is valid but for its ends.
 pub fn not_of_a_row()
-    ensures { (not_image (record { width = 4; height = 1; format = U8; valid = record { x0 = 1; y0 = 0; x1 = 3; y1 = 1 }; samples = pos 0 ∷ pos 20 ∷ pos 30 ∷ pos 0 ∷ [] })).samples
+    ensures { (from_one U8 not_bits (record { width = 4; height = 1; format = U8; valid = record { x0 = 1; y0 = 0; x1 = 3; y1 = 1 }; samples = pos 0 ∷ pos 20 ∷ pos 30 ∷ pos 0 ∷ [] })).samples
         ≡ pos 0 ∷ pos 235 ∷ pos 225 ∷ pos 0 ∷ [] }
+{}
+
+/// The bits of 12 and 10.
+pub fn bits()
+    ensures and { and_bits (pos 12) (pos 10) ≡ pos 8 }
+    ensures or { or_bits (pos 12) (pos 10) ≡ pos 14 }
+    ensures xor { xor_bits (pos 12) (pos 10) ≡ pos 6 }
+{}
+
+/// Sums beyond the greatest sample and within the range.
+pub fn sums()
+    ensures nearest { sum U8 Saturate (pos 200) (pos 100) ≡ pos 255 }
+    ensures wrapped { sum U8 Wrap (pos 200) (pos 100) ≡ pos 44 }
+    ensures widened { sum S16 Saturate (pos 200) (pos 100) ≡ pos 300 }
+    ensures widened_wrap { sum S16 Wrap (pos 200) (pos 100) ≡ pos 300 }
+    ensures nearest_short { sum S16 Saturate (pos 32767) (pos 1) ≡ pos 32767 }
+    ensures wrapped_short { sum S16 Wrap (pos 32767) (pos 1) ≡ negsuc 32767 }
+{}
+
+/// 100 less 200, and how far the two ends of S16 are apart.
+pub fn differences()
+    ensures nearest { difference U8 Saturate (pos 100) (pos 200) ≡ pos 0 }
+    ensures wrapped { difference U8 Wrap (pos 100) (pos 200) ≡ pos 156 }
+    ensures widened { difference S16 Saturate (pos 100) (pos 200) ≡ negsuc 99 }
+    ensures absolute { absolute_difference U8 (pos 100) (pos 200) ≡ pos 100 }
+    ensures absolute_of_ends { absolute_difference S16 (negsuc 32767) (pos 32767) ≡ pos 32767 }
+{}
+
+/// The square of -32768, as it is and over 32768, and -3 over 2.
+pub fn products()
+    ensures nearest { product S16 Saturate 0 (negsuc 32767) (negsuc 32767) ≡ pos 32767 }
+    ensures wrapped { product S16 Wrap 0 (negsuc 32767) (negsuc 32767) ≡ pos 0 }
+    ensures scaled_nearest { product S16 Saturate 15 (negsuc 32767) (negsuc 32767) ≡ pos 32767 }
+    ensures scaled_wrapped { product S16 Wrap 15 (negsuc 32767) (negsuc 32767) ≡ negsuc 32767 }
+    ensures to_zero { product S16 Saturate 1 (negsuc 2) (pos 1) ≡ negsuc 0 }
+{}
+
+/// -1 over 2 to U8, and 255 times 128 to S16.
+pub fn conversions()
+    ensures wrapped { converted U8 Wrap 1 (negsuc 0) ≡ pos 255 }
+    ensures nearest { converted U8 Saturate 1 (negsuc 0) ≡ pos 0 }
+    ensures widened { converted S16 Wrap 7 (pos 255) ≡ pos 32640 }
+{}
+
+/// Samples at the limits of a range and of a binary threshold.
+pub fn thresholds()
+    ensures below { thresholded (record { format = U8; kind = Range (pos 10) (pos 20); true_value = 255; false_value = 0 }) (pos 9) ≡ pos 0 }
+    ensures lower { thresholded (record { format = U8; kind = Range (pos 10) (pos 20); true_value = 255; false_value = 0 }) (pos 10) ≡ pos 255 }
+    ensures upper { thresholded (record { format = U8; kind = Range (pos 10) (pos 20); true_value = 255; false_value = 0 }) (pos 20) ≡ pos 255 }
+    ensures above { thresholded (record { format = U8; kind = Range (pos 10) (pos 20); true_value = 255; false_value = 0 }) (pos 21) ≡ pos 0 }
+    ensures limit { thresholded (record { format = U8; kind = Binary (pos 10); true_value = 255; false_value = 0 }) (pos 10) ≡ pos 0 }
+    ensures above_limit { thresholded (record { format = U8; kind = Binary (pos 10); true_value = 255; false_value = 0 }) (pos 11) ≡ pos 255 }
+{}
+
+/// Entries of tables that begin with 5, 6, 7.
+pub fn tables()
+    ensures third { entry_for (record { format = U8; entries = pos 5 ∷ pos 6 ∷ pos 7 ∷ [] }) (pos 2) ≡ pos 7 }
+    ensures least { entry_for (record { format = S16; entries = pos 5 ∷ pos 6 ∷ pos 7 ∷ [] }) (negsuc 32767) ≡ pos 5 }
+    ensures second { is_second TableLookup (LutObject (record { format = U8; entries = [] })) ≡ true }
+    ensures not_second { is_second AndBits (LutObject (record { format = U8; entries = [] })) ≡ false }
+{}
+
+/// Formats that functions take and do not.
+pub fn formats()
+    ensures widened { takes_formats Add U8 (Some U8) S16 ≡ true }
+    ensures narrowed { takes_formats Add U8 (Some S16) U8 ≡ false }
+    ensures tested { takes_formats Threshold S16 (Some S16) U8 ≡ true }
+    ensures same { takes_formats ConvertDepth U8 None U8 ≡ false }
+{}
+
+/// And of a row that is valid in its left half and one that is valid in its right.
+pub fn and_of_halves()
+    ensures { node_image (record { function = AndBits; border = Undefined; policy = Wrap; amount = 0; in1 = record { name = 1; slot = None }; in2 = Some (record { name = 2; slot = None }); out1 = Some (record { name = 3; slot = None }); out2 = None }) U8
+        (record { width = 4; height = 1; format = U8; valid = record { x0 = 0; y0 = 0; x1 = 2; y1 = 1 }; samples = pos 10 ∷ pos 20 ∷ pos 0 ∷ pos 0 ∷ [] })
+        (Some (ImageObject (record { width = 4; height = 1; format = U8; valid = record { x0 = 2; y0 = 0; x1 = 4; y1 = 1 }; samples = pos 0 ∷ pos 0 ∷ pos 30 ∷ pos 40 ∷ [] })))
+        ≡ record { width = 4; height = 1; format = U8; valid = empty; samples = pos 0 ∷ pos 0 ∷ pos 0 ∷ pos 0 ∷ [] } }
 {}
 
 /// A code, and nodes of Not with what it has, without an output, and with a policy that it lacks.

@@ -4,3 +4,5 @@ pub mod images;
 pub mod pixels;
 pub mod rectangles;
 pub mod samples;
+pub mod tables;
+pub mod thresholds;

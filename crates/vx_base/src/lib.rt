@@ -1,9 +1,10 @@
 //! The types that all of the runtime speaks of, and the definitions behind its contracts.
 //!
-//! Formats, rectangles, descriptions, codes, nodes and pictures are small values whose
-//! invariants hold by construction: a `Rect` is a rectangle, a `Desc` is within the limits, a
-//! `NodeSpec` has the shape of its function. `specs/` has the model's first definitions: samples
-//! as whole numbers, rectangles as sets of places, images as tables of functions of places.
+//! Formats, rectangles, descriptions, codes, nodes, pictures, tables and thresholds are small
+//! values whose invariants hold by construction: a `Rect` is a rectangle, a `Desc` is within the
+//! limits, a `NodeSpec` has the shape of its function, a `Lut` has an entry for each sample.
+//! `specs/` has the model's first definitions: samples as whole numbers, rectangles as sets of
+//! places, images as tables of functions of places, and the formula of each function of pixels.
 //! `laws` states what these definitions mean, and `examples` works some of them out.
 #![tactic(auto)]
 
@@ -14,6 +15,8 @@ pub mod examples;
 mod format;
 mod function;
 pub mod laws;
+mod lut;
+mod narrow;
 mod node;
 mod picture;
 mod policy;
@@ -21,18 +24,22 @@ mod rect;
 mod reference;
 mod samples;
 mod shape;
+mod threshold;
 
 pub use border::Border;
 pub use code::Code;
 pub use desc::{Desc, GREATEST_SIDE};
 pub use format::Format;
 pub use function::{Function, Parameters};
+pub use lut::Lut;
+pub use narrow::{narrow_s16, narrow_u8};
 pub use node::{Node, NodeSpec};
 pub use picture::Picture;
 pub use policy::Policy;
 pub use rect::Rect;
 pub use reference::ObjRef;
 pub use samples::Samples;
+pub use threshold::{ThresholdKind, ThresholdRule};
 
 #[cfg(test)]
 mod tests;

@@ -1,6 +1,6 @@
 //! Rectangles of places.
 ghost use Rattle.std.specs.Prelude.{◌≡◌};
-ghost use Rattle.vx_base.specs.Rectangle.{rectangle, empty, IsOrdered};
+ghost use Rattle.vx_base.specs.Rectangle.{rectangle, empty, meet_of, IsOrdered};
 
 use std::marker::Model;
 
@@ -50,6 +50,19 @@ impl Rect {
             y0: 0,
             x1: 0,
             y1: 0,
+        }
+    }
+
+    /// The places that are in both.
+    pub fn meet(self, other: Rect) -> Rect
+        ensures { result ≡ meet_of self other }
+    {
+        let (x0, x1) = (self.x0.max(other.x0), self.x1.min(other.x1));
+        let (y0, y1) = (self.y0.max(other.y0), self.y1.min(other.y1));
+        if x0 < x1 && y0 < y1 {
+            Rect { x0, y0, x1, y1 }
+        } else {
+            Rect::empty()
         }
     }
 

@@ -1,8 +1,10 @@
 -- What a frame is answered: no request, the model's reply, or NO_MEMORY.
-use Rattle.std.proofs.Common.{◌≡◌, ◌≢◌, ℕ, Bool, true, false, cond, List, Result, Ok, Err, inl, inr, ◌⊎◌, refl, sym, ap, ◌∙◌, subst, eq-eqb}
+use Rattle.std.proofs.Common.{◌≡◌, ◌≢◌, ℕ, Bool, true, false, cond, List, [], ◌∷◌, Result, Ok, Err, IsOk, inl, inr, ◌⊎◌, refl, sym, ap, ◌∙◌, subst, eq-eqb}
 use Rattle.std.specs.Prelude.{◌&&◌, ◌==◌}
 use Rattle.std.proofs.lemmas.Bool.{eqb-true}
+use Rattle.vx_base.specs.Lut.{LutValue}
 use Rattle.client_contexts.specs.declared.request.Request.{Request}
+use Rattle.client_contexts.specs.declared.request.Request.TheVariants.{CreateLut}
 use Rattle.client_contexts.specs.declared.reply.Reply.{Reply}
 use Rattle.client_contexts.specs.declared.reply.Reply.TheVariants.{Refused}
 use Rattle.client_contexts.specs.Allowance.{Allowance}
@@ -13,6 +15,8 @@ use Rattle.vx_base.specs.declared.code.Code.TheVariants.{NoMemory as CodeNoMemor
 use Rattle.vx_requests.specs.declared.parse_fault.ParseFault.{ParseFault}
 use Rattle.vx_requests.specs.declared.parse_fault.ParseFault.TheVariants.{NoMemory, InvalidParameters, InvalidFormat, InvalidDimension, InvalidValue}
 use Rattle.vx_requests.specs.Spelling.{Said, said_of, fault_code}
+use Rattle.vx_requests.specs.Fields.{Taken, and_then, at_end}
+use Rattle.vx_requests.specs.ObjectFields.{take_lut}
 use Rattle.vx_requests.specs.Bodies.{request_of}
 use Rattle.vx_requests.specs.Answer.{answer, answer_spelled}
 use Rattle.vx_requests.specs.Clients.{reply_to, state_then}
@@ -46,6 +50,23 @@ kept_states limits old new client op body own others other =
           subst (λ (c : ℕ). new c ≡ (answer limits (old c) op body).1) e own ∙ sym (ap then same)
       | inr differ ↦ others other (λ e. let same : (client == other) ≡ true = eq-eqb client other (sym e) in cc) ∙ sym (ap then differ)
     ]
+
+-- a body that spells a table takes memory
+lut_takes : (lut : LutValue) (rest : List ℕ) → IsOk (at_end (CreateLut lut) rest) → SpellsTaking (at_end (CreateLut lut) rest)
+lut_takes lut [] is = tt
+lut_takes lut (b ∷ rest) is = cc
+
+create_lut_takes : (t : Taken LutValue) → IsOk (and_then t (λ lut rest. at_end (CreateLut lut) rest)) → SpellsTaking (and_then t (λ lut rest. at_end (CreateLut lut) rest))
+create_lut_takes (Ok taken) is = lut_takes taken.0 taken.1 is
+create_lut_takes (Err fault) is = cc
+
+-- a body for which parse found no memory
+may_want : (op : ℕ) (body : List ℕ) → (op ≡ 5) ⊎ (op ≡ 11) → IsOk (request_of op body) → (op ≡ 5) ⊎ SpellsTaking (request_of op body)
+may_want op body (inl image) is = inl image
+may_want op body (inr table) is =
+    let Takes : ℕ → Type 0 = λ op. IsOk (request_of op body) → SpellsTaking (request_of op body) in
+    let here : Takes 11 = create_lut_takes (take_lut body) in
+    inr (subst Takes (sym table) here is)
 
 module _ (limits : Allowance) (old new : ℕ → State) (client op : ℕ) (body : List ℕ) where
   -- want of memory
@@ -88,9 +109,9 @@ module _ (limits : Allowance) (old new : ℕ → State) (client op : ℕ) (body 
   wanting_reply request spelled takes same = lost_reply (inr (inr (subst SpellsTaking (sym spelled) takes))) same
 
   -- a body that parse refused
-  pub fault_reply : (fault : ParseFault) → (fault ≡ NoMemory) ⊎ (request_of op body ≡ Err fault) → (fault ≡ NoMemory → op ≡ 5)
+  pub fault_reply : (fault : ParseFault) → (fault ≡ NoMemory) ⊎ (request_of op body ≡ Err fault) → (fault ≡ NoMemory → ((op ≡ 5) ⊎ (op ≡ 11)) × IsOk (request_of op body))
       → ((each : ℕ) → new each ≡ old each) → Replies limits (frame_of client op body) old new (Refused (fault_code fault))
-  fault_reply NoMemory why memory same = lost_reply (inr (inl (memory refl))) same
+  fault_reply NoMemory why memory same = let (ops, spelled) = memory refl in lost_reply (inr (may_want op body ops spelled)) same
   fault_reply InvalidParameters (inl e) memory same = cc
   fault_reply InvalidParameters (inr e) memory same = refused_reply InvalidParameters e same
   fault_reply InvalidFormat (inl e) memory same = cc

@@ -11,13 +11,17 @@ pub mod EverySplit
 pub mod AnswerCodes
 pub mod GrammarFaults
 pub mod NodeShape
+pub mod FunctionNumbers
+pub mod TableSizes
 pub mod SampleBytes
 pub mod RequestFrames
 pub mod SpelledFields
 pub mod SpelledNode
+pub mod SpelledObjects
 pub mod SpelledBack
 pub mod ReadFields
 pub mod ReadSamples
 pub mod ReadNode
+pub mod ReadObjects
 pub mod OneSpelling
 pub mod RequestSizes

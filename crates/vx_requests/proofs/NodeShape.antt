@@ -5,12 +5,15 @@ use Rattle.vx_base.specs.declared.function.Parameters.{Parameters}
 use Rattle.vx_base.specs.Function.{parameters}
 use Rattle.vx_base.specs.Cell.{Cell}
 use Rattle.vx_base.specs.Node.{is_nothing, is_given, is_wrap, is_node, node_spec, has_amount, has_operands, all_given}
-use Rattle.vx_requests.specs.declared.presence.Presence.{Presence}
 use Rattle.vx_requests.specs.declared.presence.Presence.TheVariants.{Required, Absent, Free}
 use Rattle.vx_requests.specs.NodeFields.{second_input, first_output, second_output, is_operand, take_function, take_border, take_policy, take_amount, take_first, take_operands, take_node}
 
 pub both : (a b : Bool) → IsTrue a → IsTrue b → IsTrue (a && b)
 both a b p q = rw (p, q) refl
+
+pub both_of : (a b : Bool) → IsTrue (a && b) → IsTrue a × IsTrue b
+both_of true b is = (refl, is)
+both_of false b is = cc
 
 second_has : (second : Bool) (in2 : Option Cell) → IsTrue (is_operand (if second then Required else Absent) in2) →
     IsTrue (if second then is_some in2 else is_none in2) × IsTrue (is_given in2)

@@ -1,20 +1,19 @@
 -- Each request has one spelling.
-use Rattle.std.proofs.Common.{◌≡◌, ℕ, ◌==◌, List, [], ◌∷◌, ◌++◌, Result, Ok, Err, Bool, true, false, ◌⊎◌, inl, inr, if◌then◌else◌, refl, sym, ap, subst, ◌∙◌, append-nil}
+use Rattle.std.proofs.Common.{◌≡◌, ℕ, ◌==◌, List, [], ◌∷◌, ◌++◌, Result, Ok, Bool, true, false, ◌⊎◌, inl, inr, if◌then◌else◌, refl, sym, ap, subst, ◌∙◌, append-nil}
 use Rattle.std.proofs.lemmas.Bool.{eqb-true}
-use Rattle.vx_base.specs.declared.node.Node.{Node}
 use Rattle.vx_base.specs.Cell.{Cell}
-use Rattle.vx_base.specs.Description.{Description}
-use Rattle.vx_base.specs.Picture.{PictureValue}
 use Rattle.client_contexts.specs.declared.request.Request.{Request}
-use Rattle.client_contexts.specs.declared.request.Request.TheVariants.{OpenContext, CreateImage, WriteImage, ReadImage, Immediate}
+use Rattle.client_contexts.specs.declared.request.Request.TheVariants.{OpenContext, CreateImage, WriteImage, ReadImage, CreateLut, CreateThreshold, Immediate}
 use Rattle.vx_requests.specs.declared.parse_fault.ParseFault.{ParseFault}
 use Rattle.vx_requests.specs.Fields.{and_then, at_end, take_description, take_reference, take_picture}
+use Rattle.vx_requests.specs.ObjectFields.{take_lut, take_threshold}
 use Rattle.vx_requests.specs.NodeFields.{take_node}
-use Rattle.vx_requests.specs.Bodies.{create_image_in, write_image_in, read_image_in, immediate_in, request_of}
-use Rattle.vx_requests.specs.Spelling.{description_bytes, cell_bytes, picture_bytes, op_of, body_of}
-use Rattle.vx_requests.specs.Requests.{IsCell, IsDescription, IsPicture, IsNode, IsRequest}
+use Rattle.vx_requests.specs.Bodies.{create_image_in, write_image_in, read_image_in, create_lut_in, create_threshold_in, immediate_in, request_of}
+use Rattle.vx_requests.specs.Spelling.{description_bytes, cell_bytes, picture_bytes, lut_bytes, threshold_bytes, op_of, body_of}
+use Rattle.vx_requests.specs.Requests.{IsRequest}
 use Rattle.vx_requests.proofs.ReadFields.{AllBytes, then_of, description_of, cell_of}
 use Rattle.vx_requests.proofs.ReadSamples.{picture_of}
+use Rattle.vx_requests.proofs.ReadObjects.{lut_of, threshold_of}
 use Rattle.vx_requests.proofs.ReadNode.{node_of}
 
 end_of : {A : Type 0} (x y : A) (rest : List ℕ) → at_end x rest ≡ Ok y → (x ≡ y) × (rest ≡ [])
@@ -57,6 +56,20 @@ read_of body request is e =
     let (body_is, cell_is, is1) = cell_of body cell rest is is_cell in
     subst (Spelled 7 body) same (record { op_is = refl; body_is = body_is ∙ ap (λ l. cell_bytes cell ++ l) empty; within = cell_is })
 
+create_lut_of : (body : List ℕ) (request : Request) → AllBytes body → create_lut_in body ≡ Ok request → Spelled 11 body request
+create_lut_of body request is e =
+    let (lut, rest, is_lut, e1) = then_of (take_lut body) (λ lut rest. at_end (CreateLut lut) rest) request e in
+    let (same, empty) = end_of (CreateLut lut) request rest e1 in
+    let (body_is, lut_is, is1) = lut_of body lut rest is is_lut in
+    subst (Spelled 11 body) same (record { op_is = refl; body_is = body_is ∙ ap (λ l. lut_bytes lut ++ l) empty ∙ append-nil (lut_bytes lut); within = lut_is })
+
+create_threshold_of : (body : List ℕ) (request : Request) → AllBytes body → create_threshold_in body ≡ Ok request → Spelled 12 body request
+create_threshold_of body request is e =
+    let (t, rest, is_t, e1) = then_of (take_threshold body) (λ t rest. at_end (CreateThreshold t) rest) request e in
+    let (same, empty) = end_of (CreateThreshold t) request rest e1 in
+    let (body_is, t_is, is1) = threshold_of body t rest is is_t in
+    subst (Spelled 12 body) same (record { op_is = refl; body_is = body_is ∙ ap (λ l. threshold_bytes t ++ l) empty ∙ append-nil (threshold_bytes t); within = t_is })
+
 immediate_of : (body : List ℕ) (request : Request) → AllBytes body → immediate_in body ≡ Ok request → Spelled 24 body request
 immediate_of body request is e =
     let (n, rest, is_n, e1) = then_of (take_node body) (λ n rest. at_end (Immediate n) rest) request e in
@@ -68,22 +81,18 @@ if_ok : (b : Bool) (x y : Result Request ParseFault) (r : Request) → (if b the
 if_ok true x y r e = inl (refl, e)
 if_ok false x y r e = inr (refl, e)
 
+-- what holds where the op is this one, and where it is another
+at_op : (op k : ℕ) (body : List ℕ) (here others : Result Request ParseFault) (request : Request) → (here ≡ Ok request → Spelled k body request)
+    → (others ≡ Ok request → Spelled op body request) → (if op == k then here else others) ≡ Ok request → Spelled op body request
+at_op op k body here others request is_here is_other e =
+    elim (if_ok (op == k) here others request e) [ inl h ↦ subst (λ op. Spelled op body request) (sym (eqb-true op k h.0)) (is_here h.1) | inr h ↦ is_other h.1 ]
+
 pub one_spelling : (op : ℕ) (body : List ℕ) (request : Request) → AllBytes body → request_of op body ≡ Ok request → Spelled op body request
-one_spelling op body request is e =
-    let At : ℕ → Type 0 = λ op. Spelled op body request in
-    elim (if_ok (op == 1) (at_end OpenContext body) _ request e) [
-      | inl h ↦ subst At (sym (eqb-true op 1 h.0)) (open_of body request h.1)
-      | inr h ↦ elim (if_ok (op == 3) (create_image_in body) _ request h.1) [
-        | inl h ↦ subst At (sym (eqb-true op 3 h.0)) (create_of body request is h.1)
-        | inr h ↦ elim (if_ok (op == 5) (write_image_in body) _ request h.1) [
-          | inl h ↦ subst At (sym (eqb-true op 5 h.0)) (write_of body request is h.1)
-          | inr h ↦ elim (if_ok (op == 7) (read_image_in body) _ request h.1) [
-            | inl h ↦ subst At (sym (eqb-true op 7 h.0)) (read_of body request is h.1)
-            | inr h ↦ elim (if_ok (op == 24) (immediate_in body) _ request h.1) [
-              | inl h ↦ subst At (sym (eqb-true op 24 h.0)) (immediate_of body request is h.1)
-              | inr h ↦ cc
-            ]
-          ]
-        ]
-      ]
-    ]
+one_spelling op body request is =
+    at_op op 1 body (at_end OpenContext body) _ request (open_of body request)
+    (at_op op 3 body (create_image_in body) _ request (create_of body request is)
+    (at_op op 5 body (write_image_in body) _ request (write_of body request is)
+    (at_op op 7 body (read_image_in body) _ request (read_of body request is)
+    (at_op op 11 body (create_lut_in body) _ request (create_lut_of body request is)
+    (at_op op 12 body (create_threshold_in body) _ request (create_threshold_of body request is)
+    (at_op op 24 body (immediate_in body) _ request (immediate_of body request is) (λ e. cc)))))))

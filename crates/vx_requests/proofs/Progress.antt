@@ -1,5 +1,5 @@
 -- How far serve has come, and how it ends.
-use Rattle.std.proofs.Common.{◌≡◌, ℕ, ◌+◌, Bool, true, false, cond, not, eqb, List, [], ◌∷◌, ◌++◌, Option, Some, None, Result, Ok, Err, inl, inr, length, arith, refl, sym, ap, ◌∙◌, subst, append_assoc, append-nil, zero-add}
+use Rattle.std.proofs.Common.{◌≡◌, ℕ, ◌+◌, Bool, true, false, cond, not, List, [], ◌∷◌, ◌++◌, Option, None, Ok, Err, inl, inr, length, arith, refl, sym, ap, ◌∙◌, subst, append-nil, zero-add}
 use Rattle.std.specs.Prelude.{All, count_by, ◌==◌}
 use Rattle.std.specs.Io.KnownBytes.{Consumes, Appends}
 use Rattle.std.proofs.KnownBytes.{Consumes-nil, Appends-nil, Consumes-trans, Appends-trans}
@@ -12,9 +12,9 @@ use Rattle.client_contexts.specs.Allowance.{Allowance}
 use Rattle.client_contexts.specs.Context.{State}
 use Rattle.vx_requests.specs.declared.summary.Summary.{Summary}
 use Rattle.vx_requests.specs.Frames.{Frame, ReplyFrame, IsFrame, frame_bytes, reply_bytes, joined, joined_replies}
-use Rattle.vx_requests.specs.Clients.{Marked, frames_of, mine, after, served, reply_in, state_then, states_behind}
+use Rattle.vx_requests.specs.Clients.{Marked, frames_of, served, reply_in, state_then, states_behind}
 use Rattle.vx_requests.specs.Answer.{answer}
-use Rattle.vx_requests.specs.Session.{Answers, AnswersFrame, Turn, Session, Ends, EndsBy, AppendsMost, BreaksOff, MayBeLost}
+use Rattle.vx_requests.specs.Session.{AnswersFrame, Turn, Session, EndsBy, BreaksOff, MayBeLost}
 use Rattle.vx_requests.proofs.Alone.{states_behind-push, served-push, reply_in-same, state_then-same}
 
 -- some whole frames were read and answered

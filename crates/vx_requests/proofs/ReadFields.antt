@@ -1,23 +1,18 @@
 -- What is read has one spelling: the bytes that it was read from.
-use Rattle.std.proofs.Common.{◌≡◌, ℕ, ℤ, pos, negsuc, zero, suc, ◌+◌, ◌-ℤ◌, ◌*◌, ◌<◌, ◌≤◌, ◌^◌, ◌%◌, ◌/◌, ◌==◌, List, [], ◌∷◌, ◌++◌, Option, Some, None, Result, Ok, Err, Bool, true, false, not, ◌&&◌, ◌||◌, ◌⊎◌, inl, inr, IsTrue, if◌then◌else◌, nat_le, is_some, is_none, unwrap_or, length, take, drop, map, arith, length-append, unsigned_abs, refl, sym, ap, subst, ◌∙◌, append-nil, append_assoc, take-append-drop, length-take-le}
-use Rattle.std.specs.Prelude.{All, IfSome, int_lt}
-use Rattle.std.specs.List.{flat_map}
-use Rattle.std.specs.Int.{w16, w32, to_be_bytes, cast_unsigned}
-use Rattle.std.proofs.lemmas.Bool.{eqb-true, eq-eqb, leb-true, lt-ltb, le-ltb}
-use Rattle.std.proofs.lemmas.Bool.Decides.{nat_tests}
-use Rattle.std.proofs.lemmas.Int.{ints}
-use Rattle.std.proofs.lemmas.List.Elements.{All-head, All-tail, All-nil, All-cons, All-take, All-drop}
+use Rattle.std.proofs.Common.{◌≡◌, ℕ, ◌+◌, ◌*◌, ◌<◌, ◌^◌, ◌%◌, ◌/◌, ◌==◌, List, [], ◌∷◌, ◌++◌, Option, Some, None, Result, Ok, Err, Bool, true, false, ◌⊎◌, inl, inr, IsTrue, if◌then◌else◌, unwrap_or, arith, refl, ap, subst, ◌∙◌}
+use Rattle.std.specs.Prelude.{All, IfSome}
+use Rattle.std.specs.Int.{w16, w32, to_be_bytes}
+use Rattle.std.proofs.lemmas.Bool.{eqb-true, eq-eqb}
+use Rattle.std.proofs.lemmas.List.Elements.{All-head, All-tail}
 use Rattle.vx_base.specs.declared.format.Format.{Format}
 use Rattle.vx_base.specs.declared.format.Format.TheVariants.{U8, S16, U32}
 use Rattle.vx_base.specs.Cell.{Cell}
-use Rattle.vx_base.specs.Description.{Description, is_side, sample_count}
-use Rattle.vx_base.specs.Sample.{IsSample, signed_of, sample_bytes}
-use Rattle.vx_base.specs.Picture.{PictureValue}
+use Rattle.vx_base.specs.Description.{Description, is_side}
 use Rattle.vx_requests.specs.declared.parse_fault.ParseFault.{ParseFault}
-use Rattle.vx_requests.specs.declared.parse_fault.ParseFault.TheVariants.{InvalidParameters, InvalidFormat, InvalidDimension}
-use Rattle.vx_requests.specs.Fields.{Taken, and_then, allowed, take_byte, take_short, take_long, format_numbered, take_format, take_side, take_description, slot_numbered, take_reference, shorts_in, words_in, samples_in, take_samples, take_picture}
-use Rattle.vx_requests.specs.Spelling.{format_number, description_bytes, cell_bytes, sample_spelling, picture_bytes}
-use Rattle.vx_requests.specs.Requests.{IsCell, IsDescription, IsPicture}
+use Rattle.vx_requests.specs.declared.parse_fault.ParseFault.TheVariants.{InvalidFormat, InvalidDimension}
+use Rattle.vx_requests.specs.Fields.{Taken, and_then, allowed, take_byte, take_short, take_long, format_numbered, take_format, take_side, take_description, slot_numbered, take_reference}
+use Rattle.vx_requests.specs.Spelling.{format_number, description_bytes, cell_bytes}
+use Rattle.vx_requests.specs.Requests.{IsCell, IsDescription}
 
 abbrev pub AllBytes : List ℕ → Type 0
 AllBytes bytes = All (λ b. b < 256) bytes

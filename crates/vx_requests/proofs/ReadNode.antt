@@ -1,18 +1,17 @@
 -- A node that is read has one spelling.
-use Rattle.std.proofs.Common.{◌≡◌, ℕ, ◌+◌, ◌<◌, ◌≤◌, ◌^◌, ◌==◌, List, [], ◌∷◌, ◌++◌, Option, Some, None, Result, Ok, Err, Bool, true, false, not, ◌&&◌, ◌||◌, ◌⊎◌, inl, inr, IsTrue, if◌then◌else◌, nat_le, is_some, is_none, unwrap_or, arith, refl, sym, ap, subst, ◌∙◌, append-nil}
+use Rattle.std.proofs.Common.{◌≡◌, ℕ, ◌<◌, ◌==◌, List, [], ◌∷◌, ◌++◌, Option, Some, None, Ok, Bool, true, false, not, ◌&&◌, ◌||◌, inl, inr, IsTrue, if◌then◌else◌, nat_le, is_none, unwrap_or, arith, refl, sym, ap, subst, ◌∙◌, append-nil}
 use Rattle.std.specs.Prelude.{IfSome}
-use Rattle.std.proofs.lemmas.Bool.{eqb-true, leb-true, le-leb}
+use Rattle.std.proofs.lemmas.Bool.{eqb-true, le-leb}
 use Rattle.vx_base.specs.declared.border.Border.{Border}
 use Rattle.vx_base.specs.declared.border.Border.TheVariants.{Undefined, Constant, Replicate}
 use Rattle.vx_base.specs.declared.policy.Policy.{Policy}
 use Rattle.vx_base.specs.declared.policy.Policy.TheVariants.{Wrap, Saturate}
 use Rattle.vx_base.specs.declared.function.Function.{Function}
-use Rattle.vx_base.specs.declared.function.Function.TheVariants.{NotBits}
 use Rattle.vx_base.specs.declared.function.Parameters.{Parameters}
 use Rattle.vx_base.specs.declared.node.Node.{Node}
 use Rattle.vx_base.specs.Function.{function_number, function_numbered, parameters}
 use Rattle.vx_base.specs.Cell.{Cell}
-use Rattle.vx_base.specs.Node.{is_nothing, is_given, is_wrap, is_node}
+use Rattle.vx_base.specs.Node.{is_nothing, is_wrap}
 use Rattle.vx_requests.specs.declared.parse_fault.ParseFault.TheVariants.{InvalidParameters, InvalidValue}
 use Rattle.vx_requests.specs.declared.presence.Presence.{Presence}
 use Rattle.vx_requests.specs.declared.presence.Presence.TheVariants.{Required, Absent, Free}
@@ -20,11 +19,9 @@ use Rattle.vx_requests.specs.Fields.{Taken, and_then, allowed, take_byte, take_r
 use Rattle.vx_requests.specs.NodeFields.{take_function, border_numbered, take_border, policy_numbered, take_policy, amount_allowed, take_amount, operand, take_operand, second_input, first_output, second_output, take_operands, take_first, take_node, is_operand}
 use Rattle.vx_requests.specs.Spelling.{cell_bytes, border_bytes, policy_number, operand_bytes, node_bytes}
 use Rattle.vx_requests.specs.Requests.{IsCell, IsBorder, IsNode}
-use Rattle.vx_requests.proofs.NodeShape.{is_node-from_fields}
+use Rattle.vx_requests.proofs.NodeShape.{both_of, is_node-from_fields}
+use Rattle.vx_requests.proofs.FunctionNumbers.{number_of_function}
 use Rattle.vx_requests.proofs.ReadFields.{AllBytes, ok, taken_same, then_of, allowed_of, if_some, if_none, byte_of, cell_of}
-
-number_of_function : (n : ℕ) (function : Function) → function_numbered n ≡ Some function → n ≡ function_number function
-number_of_function n function e = elim (if_some (n == 4) NotBits None function e) [ inl h ↦ eqb-true n 4 h.0 ∙ ap function_number h.1 | inr h ↦ cc ]
 
 function_of : (body : List ℕ) (function : Function) (rest : List ℕ) → AllBytes body → take_function body ≡ Ok (function, rest)
     → (body ≡ function_number function ∷ rest) × AllBytes rest
@@ -87,10 +84,6 @@ number_of_policy has n policy e =
     or_false true e = refl
     or_false false e = cc
 
-    both_of : (a b : Bool) → (a && b) ≡ true → (a ≡ true) × (b ≡ true)
-    both_of true b e = (refl, e)
-    both_of false b e = cc
-
 policy_of : (p : Parameters) (body : List ℕ) (policy : Policy) (rest : List ℕ) → AllBytes body → take_policy p body ≡ Ok (policy, rest)
     → (body ≡ policy_number policy ∷ rest) × IsTrue (p.policy || is_wrap policy) × AllBytes rest
 policy_of p body policy rest is e =
@@ -130,10 +123,6 @@ nothing_is cell e =
     let made : ℕ → Option ℕ → Cell = λ name slot. record { name = name; slot = slot } in
     ap (λ n. made n cell.slot) (eqb-true cell.name 0 zero_name) ∙ ap (made 0) (none cell.slot no_slot)
   where
-    both_of : (a b : Bool) → (a && b) ≡ true → (a ≡ true) × (b ≡ true)
-    both_of true b e = (refl, e)
-    both_of false b e = cc
-
     none : (slot : Option ℕ) → is_none slot ≡ true → slot ≡ None
     none None e = refl
     none (Some k) e = cc

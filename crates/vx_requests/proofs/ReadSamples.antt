@@ -1,8 +1,8 @@
 -- Samples that are read have one spelling.
-use Rattle.std.proofs.Common.{◌≡◌, ℕ, ℤ, pos, negsuc, zero, suc, ◌+◌, ◌-ℤ◌, ◌*◌, ◌<◌, ◌≤◌, ◌-◌, ◌^◌, ◌%◌, ◌/◌, List, [], ◌∷◌, ◌++◌, Option, Some, None, Result, Ok, Err, Bool, true, false, ◌⊎◌, inl, inr, if◌then◌else◌, nat_le, length, take, drop, map, arith, unsigned_abs, refl, sym, ap, subst, ◌∙◌, append_assoc, take-append-drop, length-take-le}
+use Rattle.std.proofs.Common.{◌≡◌, ℕ, ℤ, pos, negsuc, zero, suc, ◌+◌, ◌-ℤ◌, ◌*◌, ◌<◌, ◌≤◌, ◌-◌, ◌^◌, ◌%◌, ◌/◌, List, [], ◌∷◌, ◌++◌, Ok, Err, Bool, true, false, inl, inr, if◌then◌else◌, nat_le, length, take, drop, map, arith, refl, sym, ap, subst, ◌∙◌, take-append-drop, length-take-le}
 use Rattle.std.specs.Prelude.{All}
 use Rattle.std.specs.List.{flat_map}
-use Rattle.std.specs.Int.{w16, w32, to_be_bytes, cast_unsigned}
+use Rattle.std.specs.Int.{w16, cast_unsigned}
 use Rattle.std.proofs.lemmas.Bool.{leb-true, lt-ltb, le-ltb, cases_lt}
 use Rattle.std.proofs.lemmas.Int.{ints}
 use Rattle.std.proofs.lemmas.List.Elements.{All-head, All-tail, All-nil, All-cons, All-take, All-drop}
@@ -21,7 +21,7 @@ abbrev Byte : ℕ → Type 0
 Byte b = b < 256
 
 -- a number below 65536 as a signed one: its two bytes, and its range
-signed_of_is : (m : ℕ) → m < 65536 → (cast_unsigned w16 (signed_of (pos m)) ≡ m) × IsSample S16 (signed_of (pos m))
+pub signed_of_is : (m : ℕ) → m < 65536 → (cast_unsigned w16 (signed_of (pos m)) ≡ m) × IsSample S16 (signed_of (pos m))
 signed_of_is m below = elim (cases_lt m 32768) [ inl low ↦ small low | inr high ↦ great high ]
   where
     small : m < 32768 → (cast_unsigned w16 (signed_of (pos m)) ≡ m) × IsSample S16 (signed_of (pos m))
@@ -104,7 +104,7 @@ enough_of : (b : Bool) (samples zs : List ℤ) (rest others : List ℕ) → (if 
 enough_of true samples zs rest others e = let p = taken_same samples zs rest others e in (refl, p.0, p.1)
 enough_of false samples zs rest others e = cc
 
-taken_of : (format : Format) (count : ℕ) (body : List ℕ) (samples : List ℤ) (rest : List ℕ) → AllBytes body → take_samples format count body ≡ Ok (samples, rest)
+pub taken_of : (format : Format) (count : ℕ) (body : List ℕ) (samples : List ℤ) (rest : List ℕ) → AllBytes body → take_samples format count body ≡ Ok (samples, rest)
     → (body ≡ flat_map (sample_spelling format) samples ++ rest) × (length samples ≡ count) × All (IsSample format) samples × AllBytes rest
 taken_of format count body samples rest is e =
     let n = count * sample_bytes format in

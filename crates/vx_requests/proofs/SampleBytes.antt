@@ -1,5 +1,5 @@
 -- The sample at a place, from its bytes.
-use Rattle.std.proofs.Common.{◌≡◌, ℕ, ℤ, pos, zero, suc, ◌<◌, ◌+◌, ◌*◌, List, [], ◌∷◌, length, get_or, arith, refl, map, ap, ◌∙◌, sym}
+use Rattle.std.proofs.Common.{◌≡◌, ℕ, ℤ, pos, suc, ◌<◌, ◌+◌, ◌*◌, List, [], ◌∷◌, length, get_or, arith, refl, map, ap, ◌∙◌}
 use Rattle.vx_base.specs.Sample.{signed_of}
 use Rattle.vx_requests.specs.Fields.{shorts_in, words_in}
 

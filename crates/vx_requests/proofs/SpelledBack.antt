@@ -1,18 +1,17 @@
 -- A request is read back from its op and body.
 use Rattle.std.proofs.Common.{◌≡◌, List, [], ◌++◌, ℕ, Result, Ok, refl, sym, ap, ◌∙◌, append-nil}
-use Rattle.vx_base.specs.declared.node.Node.{Node}
 use Rattle.vx_base.specs.Cell.{Cell}
-use Rattle.vx_base.specs.Description.{Description}
-use Rattle.vx_base.specs.Picture.{PictureValue}
 use Rattle.client_contexts.specs.declared.request.Request.{Request}
-use Rattle.client_contexts.specs.declared.request.Request.TheVariants.{OpenContext, CreateImage, WriteImage, ReadImage, Immediate}
+use Rattle.client_contexts.specs.declared.request.Request.TheVariants.{OpenContext, CreateImage, WriteImage, ReadImage, CreateLut, CreateThreshold, Immediate}
 use Rattle.vx_requests.specs.declared.parse_fault.ParseFault.{ParseFault}
 use Rattle.vx_requests.specs.Fields.{and_then, at_end, take_description, take_reference, take_picture}
+use Rattle.vx_requests.specs.ObjectFields.{take_lut, take_threshold}
 use Rattle.vx_requests.specs.NodeFields.{take_node}
 use Rattle.vx_requests.specs.Bodies.{request_of}
-use Rattle.vx_requests.specs.Spelling.{description_bytes, cell_bytes, picture_bytes, node_bytes, op_of, body_of}
+use Rattle.vx_requests.specs.Spelling.{description_bytes, cell_bytes, picture_bytes, lut_bytes, threshold_bytes, node_bytes, op_of, body_of}
 use Rattle.vx_requests.specs.Requests.{IsRequest}
 use Rattle.vx_requests.proofs.SpelledFields.{then_ok, description_back, cell_back, picture_back}
+use Rattle.vx_requests.proofs.SpelledObjects.{lut_back, threshold_back}
 use Rattle.vx_requests.proofs.SpelledNode.{node_back}
 
 pub read_back : (request : Request) → IsRequest request → request_of (op_of request) (body_of request) ≡ Ok request
@@ -24,4 +23,8 @@ read_back (WriteImage cell p) is =
     then_ok (take_reference (cell_bytes cell ++ bytes)) cell bytes last (cell_back cell bytes is.0)
     ∙ then_ok (take_picture bytes) p [] (λ p rest. at_end (WriteImage cell p) rest) (ap take_picture (sym (append-nil bytes)) ∙ picture_back p [] is.1)
 read_back (ReadImage cell) is = then_ok (take_reference (cell_bytes cell)) cell [] (λ cell rest. at_end (ReadImage cell) rest) (cell_back cell [] is)
+read_back (CreateLut lut) is =
+    then_ok (take_lut (lut_bytes lut)) lut [] (λ lut rest. at_end (CreateLut lut) rest) (ap take_lut (sym (append-nil (lut_bytes lut))) ∙ lut_back lut [] is)
+read_back (CreateThreshold t) is =
+    then_ok (take_threshold (threshold_bytes t)) t [] (λ t rest. at_end (CreateThreshold t) rest) (ap take_threshold (sym (append-nil (threshold_bytes t))) ∙ threshold_back t [] is)
 read_back (Immediate node) is = then_ok (take_node (node_bytes node)) node [] (λ node rest. at_end (Immediate node) rest) (node_back node is)

@@ -1,22 +1,22 @@
 -- Each field is read back from its bytes.
-use Rattle.std.proofs.Common.{◌≡◌, ℕ, ℤ, pos, ◌-ℤ◌, ◌≤◌, negsuc, zero, suc, ◌+◌, ◌*◌, ◌<◌, ◌^◌, ◌%◌, ◌/◌, ◌==◌, List, [], ◌∷◌, ◌++◌, Option, Some, None, Result, Ok, Err, Bool, true, false, not, ◌&&◌, ◌||◌, IsTrue, if◌then◌else◌, nat_le, is_some, is_none, unwrap_or, length, take, drop, map, arith, length-append, unsigned_abs, refl, sym, ap, subst, ◌∙◌, append-nil, take_at, drop_at, append_assoc}
+use Rattle.std.proofs.Common.{◌≡◌, ℕ, ℤ, pos, ◌-ℤ◌, ◌≤◌, negsuc, suc, ◌+◌, ◌*◌, ◌<◌, ◌^◌, ◌%◌, ◌/◌, ◌==◌, List, [], ◌∷◌, ◌++◌, Option, Some, None, Result, Ok, Err, Bool, true, false, IsTrue, if◌then◌else◌, nat_le, unwrap_or, length, take, drop, map, arith, length-append, unsigned_abs, refl, sym, ap, ◌∙◌, take_at, drop_at}
 use Rattle.std.specs.Prelude.{All, IfSome}
 use Rattle.std.specs.List.{flat_map}
-use Rattle.std.specs.Int.{w16, w32, to_be_bytes, from_be_bytes, cast_unsigned}
+use Rattle.std.specs.Int.{w16, w32, to_be_bytes, cast_unsigned}
 use Rattle.std.proofs.lemmas.Bool.{eqb-true, le-leb, lt-ltb, le-ltb}
 use Rattle.std.proofs.lemmas.Bool.Decides.{nat_tests}
 use Rattle.std.proofs.lemmas.Int.{ints}
 use Rattle.std.proofs.lemmas.List.Elements.{All-head, All-tail}
 use Rattle.vx_requests.specs.declared.parse_fault.ParseFault.{ParseFault}
 use Rattle.vx_requests.specs.declared.parse_fault.ParseFault.TheVariants.{InvalidParameters, InvalidDimension}
-use Rattle.std.proofs.lemmas.Nat.{from_be_bytes-to_be_bytes_2, from_be_bytes-to_be_bytes_4}
+use Rattle.std.proofs.lemmas.Nat.{from_be_bytes-to_be_bytes_4}
 use Rattle.vx_base.specs.declared.format.Format.{Format}
 use Rattle.vx_base.specs.declared.format.Format.TheVariants.{U8, S16, U32}
 use Rattle.vx_base.specs.Cell.{Cell}
-use Rattle.vx_base.specs.Description.{Description, is_side, sample_count, byte_count}
+use Rattle.vx_base.specs.Description.{Description, is_side, sample_count}
 use Rattle.vx_base.specs.Sample.{IsSample, signed_of, sample_bytes}
 use Rattle.vx_base.specs.Picture.{PictureValue}
-use Rattle.vx_requests.specs.Fields.{Taken, and_then, allowed, take_byte, take_short, take_long, format_numbered, take_format, take_side, take_description, slot_numbered, take_reference, shorts_in, words_in, samples_in, take_samples, take_picture}
+use Rattle.vx_requests.specs.Fields.{Taken, and_then, allowed, take_byte, take_short, take_long, take_format, take_side, take_description, slot_numbered, take_reference, shorts_in, words_in, samples_in, take_samples, take_picture}
 use Rattle.vx_requests.specs.Spelling.{format_number, description_bytes, cell_bytes, sample_spelling, picture_bytes}
 use Rattle.vx_requests.proofs.RequestFrames.{length-spelled}
 use Rattle.vx_requests.specs.Requests.{IsCell, IsDescription, IsPicture}
@@ -75,7 +75,7 @@ byte_back : (z : ℤ) → IsSample U8 z → pos (unsigned_abs z) ≡ z
 byte_back (pos n) is = refl
 byte_back (negsuc n) is = absurd (omega (arith, ints, is.at_least))
 
-signed_back : (z : ℤ) → IsSample S16 z → signed_of (pos (256 * (cast_unsigned w16 z / 256 % 256) + cast_unsigned w16 z % 256)) ≡ z
+pub signed_back : (z : ℤ) → IsSample S16 z → signed_of (pos (256 * (cast_unsigned w16 z / 256 % 256) + cast_unsigned w16 z % 256)) ≡ z
 signed_back (pos n) is =
     let low : n < 32768 = omega (arith, ints, is.at_most) in
     let e : 256 * (n / 256 % 256) + n % 256 ≡ n = omega arith in
@@ -113,7 +113,7 @@ samples_back U32 (z ∷ samples) is =
     let others = samples_back U32 samples (All-tail (IsSample U32) z samples is) in
     ap (λ y. y ∷ words_in (flat_map (sample_spelling U32) samples)) e ∙ ap (λ l. z ∷ l) others
 
-taken_back : (format : Format) (count : ℕ) (samples : List ℤ) (rest : List ℕ) → length samples ≡ count → All (IsSample format) samples
+pub taken_back : (format : Format) (count : ℕ) (samples : List ℤ) (rest : List ℕ) → length samples ≡ count → All (IsSample format) samples
     → take_samples format count (flat_map (sample_spelling format) samples ++ rest) ≡ Ok (samples, rest)
 taken_back format count samples rest size is =
     let bytes = flat_map (sample_spelling format) samples in

@@ -1,5 +1,5 @@
 -- A node is read back from its bytes.
-use Rattle.std.proofs.Common.{◌≡◌, ℕ, ◌<◌, ◌^◌, ◌==◌, List, [], ◌∷◌, ◌++◌, Option, Some, None, Result, Ok, Err, Bool, true, false, not, ◌&&◌, ◌||◌, IsTrue, if◌then◌else◌, nat_le, is_some, is_none, unwrap_or, arith, refl, sym, ap, ◌∙◌, append-nil, append_assoc}
+use Rattle.std.proofs.Common.{◌≡◌, ℕ, ◌==◌, List, [], ◌∷◌, ◌++◌, Option, Some, None, Ok, Bool, true, false, not, ◌&&◌, ◌||◌, IsTrue, if◌then◌else◌, nat_le, is_some, is_none, unwrap_or, arith, refl, sym, ap, ◌∙◌, append-nil}
 use Rattle.std.specs.Prelude.{IfSome}
 use Rattle.std.proofs.lemmas.Bool.{eq-eqb, leb-true}
 use Rattle.vx_base.specs.declared.border.Border.{Border}
@@ -7,24 +7,24 @@ use Rattle.vx_base.specs.declared.border.Border.TheVariants.{Undefined, Constant
 use Rattle.vx_base.specs.declared.policy.Policy.{Policy}
 use Rattle.vx_base.specs.declared.policy.Policy.TheVariants.{Wrap, Saturate}
 use Rattle.vx_base.specs.declared.function.Function.{Function}
-use Rattle.vx_base.specs.declared.function.Function.TheVariants.{NotBits}
 use Rattle.vx_base.specs.declared.function.Parameters.{Parameters}
 use Rattle.vx_base.specs.declared.node.Node.{Node}
 use Rattle.vx_base.specs.Function.{function_number, parameters}
 use Rattle.vx_base.specs.Cell.{Cell}
-use Rattle.vx_base.specs.Node.{is_nothing, is_given, is_wrap, is_node, has_amount, has_operands, all_given}
+use Rattle.vx_base.specs.Node.{is_nothing, is_given, is_wrap, has_amount, has_operands, all_given}
 use Rattle.vx_requests.specs.declared.parse_fault.ParseFault.TheVariants.{InvalidParameters, InvalidValue}
 use Rattle.vx_requests.specs.declared.presence.Presence.{Presence}
 use Rattle.vx_requests.specs.declared.presence.Presence.TheVariants.{Required, Absent, Free}
 use Rattle.vx_requests.specs.Fields.{Taken, and_then, allowed, take_reference}
-use Rattle.vx_requests.specs.NodeFields.{take_function, take_border, policy_numbered, take_policy, amount_allowed, take_amount, operand, take_operand, second_input, first_output, second_output, take_operands, take_first, take_node, is_operand}
+use Rattle.vx_requests.specs.NodeFields.{take_function, take_border, take_policy, amount_allowed, operand, take_operand, second_input, first_output, second_output, take_operands, take_first, take_node, is_operand}
 use Rattle.vx_requests.specs.Spelling.{cell_bytes, border_bytes, policy_number, operand_bytes, node_bytes}
-use Rattle.vx_requests.specs.Requests.{IsCell, IsBorder, IsNode}
-use Rattle.vx_requests.proofs.NodeShape.{take_node-fields}
+use Rattle.vx_requests.specs.Requests.{IsCell, IsNode}
+use Rattle.vx_requests.proofs.NodeShape.{both_of, take_node-fields}
+use Rattle.vx_requests.proofs.FunctionNumbers.{numbered_back}
 use Rattle.vx_requests.proofs.SpelledFields.{then_ok, cell_back}
 
 function_back : (function : Function) (rest : List ℕ) → take_function (function_number function ∷ rest) ≡ Ok (function, rest)
-function_back NotBits rest = refl
+function_back function rest = ap (λ f. allowed InvalidParameters f rest) (numbered_back function)
 
 border_back : (border : Border) (rest : List ℕ) → take_border (border_bytes border ++ rest) ≡ Ok (border, rest)
 border_back Undefined rest = refl
@@ -97,10 +97,6 @@ operands_back p in2 out1 out2 has2 has_out1 has_out2 is2 is_out1 is_out2 =
     (ap (take_operand (second_output p out1)) (sym (append-nil (operand_bytes out2))) ∙ operand_back (second_output p out1) out2 [] has_out2 is_out2)
 
 -- ---- what is_node says of the operands
-
-both_of : (a b : Bool) → IsTrue (a && b) → IsTrue a × IsTrue b
-both_of true b is = (refl, is)
-both_of false b is = cc
 
 second_is : (second : Bool) (in2 : Option Cell) → IsTrue (if second then is_some in2 else is_none in2) → IsTrue (is_given in2) → IsTrue (is_operand (if second then Required else Absent) in2)
 second_is true None has given = cc

@@ -1,5 +1,5 @@
 -- Bytes that are written one piece after the other.
-use Rattle.std.proofs.Common.{◌≡◌, ℕ, ℤ, pos, ◌+◌, ◌<◌, List, [], ◌∷◌, ◌++◌, Option, length, refl, sym, ap, subst, ◌∙◌, append_assoc, map, arith, length-append}
+use Rattle.std.proofs.Common.{◌≡◌, ℕ, pos, List, [], ◌∷◌, ◌++◌, Option, refl, sym, ap, subst, ◌∙◌, append_assoc, map, arith, length-append}
 use Rattle.std.specs.List.{flat_map}
 use Rattle.std.specs.Int.{w32, to_be_bytes}
 use Rattle.std.specs.Io.KnownBytes.{Appends}
@@ -7,9 +7,7 @@ use Rattle.std.proofs.KnownBytes.{Appends-trans}
 use Rattle.std.proofs.lemmas.Grind.{flat_map-append}
 use Rattle.vx_base.specs.declared.format.Format.TheVariants.{U8, U32}
 use Rattle.vx_requests.specs.Transfer.{AppendsPart}
-use Rattle.vx_base.specs.declared.format.Format.{Format}
-use Rattle.vx_base.specs.Description.{Description}
-use Rattle.vx_requests.specs.Spelling.{sample_spelling, description_bytes, picture_bytes}
+use Rattle.vx_requests.specs.Spelling.{sample_spelling}
 
 -- the first of two pieces failed
 pub AppendsPart-first : (a b : Option (List ℕ)) (x y : List ℕ) → AppendsPart a b x → AppendsPart a b (x ++ y)
@@ -48,15 +46,3 @@ flat_map-bytes (b ∷ bytes) = ap (λ l. b ∷ l) (flat_map-bytes bytes)
 pub flat_map-words : (words : List ℕ) → flat_map (sample_spelling U32) (map pos words) ≡ flat_map (to_be_bytes w32) words
 flat_map-words [] = refl
 flat_map-words (n ∷ words) = ap (λ l. to_be_bytes w32 n ++ l) (flat_map-words words)
-
-module _ (a b : Option (List ℕ)) (d : Description) (front : List ℕ) (is_front : front ≡ description_bytes d) where
-  -- the description of a picture failed
-  pub picture_first : (samples : List ℤ) → AppendsPart a b front → AppendsPart a b (picture_bytes (record { description = d; samples = samples }))
-  picture_first samples wrote =
-      AppendsPart-first a b (description_bytes d) (flat_map (sample_spelling d.format) samples) (rw is_front at wrote)
-
-  -- its samples failed
-  pub picture_second : (c : Option (List ℕ)) (format : Format) (written samples : List ℤ) → format ≡ d.format → written ≡ samples → Appends a b front
-      → AppendsPart b c (flat_map (sample_spelling format) written) → AppendsPart a c (picture_bytes (record { description = d; samples = samples }))
-  picture_second c format written samples is_format is_written before wrote =
-      AppendsPart-second a b c (description_bytes d) (flat_map (sample_spelling d.format) samples) (rw is_front at before) (rw (is_format, is_written) at wrote)

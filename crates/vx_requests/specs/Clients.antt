@@ -1,5 +1,5 @@
 -- What each client of a stream gets, from what one client by itself gets.
-use Rattle.std.specs.Prelude.{◌≡◌, ℕ, Bool, true, false, not, ◌&&◌, ◌==◌, cond, List, [], ◌∷◌, ◌++◌, map, filter}
+use Rattle.std.specs.Prelude.{ℕ, Bool, not, ◌&&◌, ◌==◌, cond, List, [], ◌∷◌, ◌++◌, map, filter}
 use Rattle.vx_requests.specs.Frames.{Frame, ReplyFrame}
 use Rattle.vx_requests.specs.Spelling.{Said}
 

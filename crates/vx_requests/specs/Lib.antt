@@ -4,6 +4,7 @@ pub mod FromWrite
 pub mod Transfer
 pub mod Fields
 pub mod NodeFields
+pub mod ObjectFields
 pub mod Bodies
 pub mod Spelling
 pub mod Frames

@@ -1,5 +1,5 @@
 -- The nine fields of a node: function, border mode, constant, policy, amount, in1, in2, out1, out2.
-use Rattle.std.specs.Prelude.{ℕ, ◌==◌, Bool, true, false, not, ◌&&◌, ◌||◌, if◌then◌else◌, nat_le, List, [], ◌∷◌, Option, Some, None, is_some, is_none, Result, Ok, Err}
+use Rattle.std.specs.Prelude.{ℕ, ◌==◌, Bool, not, ◌&&◌, if◌then◌else◌, nat_le, List, Option, Some, None, is_some, is_none, Ok}
 use Rattle.vx_base.specs.declared.border.Border.{Border}
 use Rattle.vx_base.specs.declared.border.Border.TheVariants.{Undefined, Constant, Replicate}
 use Rattle.vx_base.specs.declared.policy.Policy.{Policy}
@@ -10,7 +10,6 @@ use Rattle.vx_base.specs.declared.node.Node.{Node}
 use Rattle.vx_base.specs.Function.{function_numbered, parameters}
 use Rattle.vx_base.specs.Cell.{Cell}
 use Rattle.vx_base.specs.Node.{is_nothing, is_given}
-use Rattle.vx_requests.specs.declared.parse_fault.ParseFault.{ParseFault}
 use Rattle.vx_requests.specs.declared.parse_fault.ParseFault.TheVariants.{InvalidParameters, InvalidValue}
 use Rattle.vx_requests.specs.declared.presence.Presence.{Presence}
 use Rattle.vx_requests.specs.declared.presence.Presence.TheVariants.{Required, Absent, Free}

@@ -16,8 +16,12 @@ use Rattle.vx_base.specs.Function.{function_number}
 use Rattle.vx_base.specs.Cell.{Cell}
 use Rattle.vx_base.specs.Description.{Description}
 use Rattle.vx_base.specs.Picture.{PictureValue}
+use Rattle.vx_base.specs.Lut.{LutValue}
+use Rattle.vx_base.specs.declared.threshold.ThresholdKind.{ThresholdKind}
+use Rattle.vx_base.specs.declared.threshold.ThresholdKind.TheVariants.{Binary, Range}
+use Rattle.vx_base.specs.Threshold.{ThresholdValue}
 use Rattle.client_contexts.specs.declared.request.Request.{Request}
-use Rattle.client_contexts.specs.declared.request.Request.TheVariants.{OpenContext, CreateImage, WriteImage, ReadImage, Immediate}
+use Rattle.client_contexts.specs.declared.request.Request.TheVariants.{OpenContext, CreateImage, WriteImage, ReadImage, CreateLut, CreateThreshold, Immediate}
 use Rattle.client_contexts.specs.declared.reply.Reply.{Reply}
 use Rattle.client_contexts.specs.declared.reply.Reply.TheVariants.{Refused, Empty, Name, Picture}
 use Rattle.vx_requests.specs.Frames.{Frame}
@@ -43,6 +47,23 @@ sample_spelling U32 z = to_be_bytes w32 (unsigned_abs z)
 
 abbrev pub picture_bytes : PictureValue → List ℕ
 picture_bytes p = description_bytes p.description ++ flat_map (sample_spelling p.description.format) p.samples
+
+abbrev pub lut_bytes : LutValue → List ℕ
+lut_bytes lut = format_number lut.format ∷ flat_map (sample_spelling lut.format) lut.entries
+
+abbrev pub signed_bytes : ℤ → List ℕ
+signed_bytes z = to_be_bytes w16 (cast_unsigned w16 z)
+
+abbrev pub kind_number : ThresholdKind → ℕ
+kind_number (Binary t) = 0
+kind_number (Range lower upper) = 1
+
+abbrev pub limit_bytes : ThresholdKind → List ℕ
+limit_bytes (Binary t) = signed_bytes t
+limit_bytes (Range lower upper) = signed_bytes lower ++ signed_bytes upper
+
+abbrev pub threshold_bytes : ThresholdValue → List ℕ
+threshold_bytes t = kind_number t.kind ∷ format_number t.format ∷ (limit_bytes t.kind ++ t.true_value ∷ t.false_value ∷ [])
 
 -- the mode and the constant
 abbrev pub border_bytes : Border → List ℕ
@@ -71,6 +92,8 @@ op_of OpenContext = 1
 op_of (CreateImage d) = 3
 op_of (WriteImage cell picture) = 5
 op_of (ReadImage cell) = 7
+op_of (CreateLut lut) = 11
+op_of (CreateThreshold threshold) = 12
 op_of (Immediate node) = 24
 
 abbrev pub body_of : Request → List ℕ
@@ -78,6 +101,8 @@ body_of OpenContext = []
 body_of (CreateImage d) = description_bytes d
 body_of (WriteImage cell picture) = cell_bytes cell ++ picture_bytes picture
 body_of (ReadImage cell) = cell_bytes cell
+body_of (CreateLut lut) = lut_bytes lut
+body_of (CreateThreshold threshold) = threshold_bytes threshold
 body_of (Immediate node) = node_bytes node
 
 -- the frame in which a client sends the request

@@ -1,11 +1,12 @@
 //! Worked examples: what bodies spell, in bytes.
 ghost use Rattle.std.specs.Prelude.{◌≡◌, [], ◌∷◌, Some, None, Ok, Err, pos, negsuc};
 ghost use Rattle.vx_base.specs.declared.format.Format.TheVariants.{U8, S16, U32};
-ghost use Rattle.vx_base.specs.declared.policy.Policy.TheVariants.{Wrap};
+ghost use Rattle.vx_base.specs.declared.policy.Policy.TheVariants.{Wrap, Saturate};
 ghost use Rattle.vx_base.specs.declared.border.Border.TheVariants.{Undefined, Constant};
-ghost use Rattle.vx_base.specs.declared.function.Function.TheVariants.{NotBits};
-ghost use Rattle.client_contexts.specs.declared.request.Request.TheVariants.{OpenContext, CreateImage, WriteImage, ReadImage, Immediate};
-ghost use Rattle.vx_requests.specs.declared.parse_fault.ParseFault.TheVariants.{InvalidParameters, InvalidFormat, InvalidDimension};
+ghost use Rattle.vx_base.specs.declared.function.Function.TheVariants.{NotBits, Multiply};
+ghost use Rattle.vx_base.specs.declared.threshold.ThresholdKind.TheVariants.{Binary, Range};
+ghost use Rattle.client_contexts.specs.declared.request.Request.TheVariants.{OpenContext, CreateImage, WriteImage, ReadImage, CreateThreshold, Immediate};
+ghost use Rattle.vx_requests.specs.declared.parse_fault.ParseFault.TheVariants.{InvalidParameters, InvalidFormat, InvalidDimension, InvalidValue};
 ghost use Rattle.vx_requests.specs.Bodies.{request_of};
 ghost use Rattle.vx_requests.specs.Frames.{frame_bytes};
 ghost use Rattle.vx_requests.specs.Spelling.{body_of, request_frame};
@@ -39,6 +40,29 @@ pub fn images_written_and_read()
     ensures read { request_of 7 (0 ∷ 0 ∷ 1 ∷ 2 ∷ 3 ∷ []) ≡ Ok (ReadImage (record { name = 258; slot = Some 3 })) }
 {}
 
+/// Tables of what no table is of, and tables that are cut short.
+pub fn tables()
+    ensures no_format { request_of 11 (3 ∷ []) ≡ Err InvalidFormat }
+    ensures one_entry { request_of 11 (1 ∷ 5 ∷ []) ≡ Err InvalidParameters }
+    ensures no_entries { request_of 11 (2 ∷ []) ≡ Err InvalidParameters }
+    ensures empty { request_of 11 [] ≡ Err InvalidParameters }
+{}
+
+/// U8 samples above 10, S16 samples from -1 to 2, and thresholds of what none is.
+pub fn thresholds()
+    ensures binary { request_of 12 (0 ∷ 1 ∷ 0 ∷ 10 ∷ 255 ∷ 0 ∷ [])
+        ≡ Ok (CreateThreshold (record { format = U8; kind = Binary (pos 10); true_value = 255; false_value = 0 })) }
+    ensures range { request_of 12 (1 ∷ 2 ∷ 255 ∷ 255 ∷ 0 ∷ 2 ∷ 255 ∷ 0 ∷ [])
+        ≡ Ok (CreateThreshold (record { format = S16; kind = Range (negsuc 0) (pos 2); true_value = 255; false_value = 0 })) }
+    ensures no_kind { request_of 12 (2 ∷ 1 ∷ 0 ∷ 10 ∷ 255 ∷ 0 ∷ []) ≡ Err InvalidParameters }
+    ensures no_format { request_of 12 (0 ∷ 3 ∷ 0 ∷ 10 ∷ 255 ∷ 0 ∷ []) ≡ Err InvalidFormat }
+    ensures below { request_of 12 (0 ∷ 1 ∷ 255 ∷ 255 ∷ 255 ∷ 0 ∷ []) ≡ Err InvalidValue }
+    ensures above { request_of 12 (0 ∷ 1 ∷ 1 ∷ 0 ∷ 255 ∷ 0 ∷ []) ≡ Err InvalidValue }
+    ensures turned { request_of 12 (1 ∷ 2 ∷ 0 ∷ 2 ∷ 255 ∷ 255 ∷ 255 ∷ 0 ∷ []) ≡ Err InvalidValue }
+    ensures cut { request_of 12 (0 ∷ 1 ∷ []) ≡ Err InvalidParameters }
+    ensures more { request_of 12 (0 ∷ 1 ∷ 0 ∷ 10 ∷ 255 ∷ 0 ∷ 0 ∷ []) ≡ Err InvalidParameters }
+{}
+
 /// Not of image 1 to image 2, and nodes of Not with what it lacks or without what it has.
 pub fn nodes()
     ensures whole { request_of 24 (4 ∷ 0 ∷ 0 ∷ 0 ∷ 0 ∷ 0 ∷ 0 ∷ 0 ∷ 1 ∷ 255 ∷ 0 ∷ 0 ∷ 0 ∷ 0 ∷ 255 ∷ 0 ∷ 0 ∷ 0 ∷ 2 ∷ 255 ∷ 0 ∷ 0 ∷ 0 ∷ 0 ∷ 255 ∷ [])
@@ -52,9 +76,19 @@ pub fn nodes()
     ensures second_input { request_of 24 (4 ∷ 0 ∷ 0 ∷ 0 ∷ 0 ∷ 0 ∷ 0 ∷ 0 ∷ 1 ∷ 255 ∷ 0 ∷ 0 ∷ 0 ∷ 3 ∷ 255 ∷ 0 ∷ 0 ∷ 0 ∷ 2 ∷ 255 ∷ 0 ∷ 0 ∷ 0 ∷ 0 ∷ 255 ∷ []) ≡ Err InvalidParameters }
 {}
 
-/// The spelling of a picture, and the frame in which client 258 asks for image 7.
+/// Multiply of images 1 and 2 to image 3 by 1 / 2^15, saturating, and amounts beyond 15.
+pub fn multiplied()
+    ensures whole { request_of 24 (7 ∷ 0 ∷ 0 ∷ 1 ∷ 15 ∷ 0 ∷ 0 ∷ 0 ∷ 1 ∷ 255 ∷ 0 ∷ 0 ∷ 0 ∷ 2 ∷ 255 ∷ 0 ∷ 0 ∷ 0 ∷ 3 ∷ 255 ∷ 0 ∷ 0 ∷ 0 ∷ 0 ∷ 255 ∷ [])
+        ≡ Ok (Immediate (record { function = Multiply; border = Undefined; policy = Saturate; amount = 15; in1 = record { name = 1; slot = None }; in2 = Some (record { name = 2; slot = None }); out1 = Some (record { name = 3; slot = None }); out2 = None })) }
+    ensures too_much { request_of 24 (7 ∷ 0 ∷ 0 ∷ 1 ∷ 16 ∷ 0 ∷ 0 ∷ 0 ∷ 1 ∷ 255 ∷ 0 ∷ 0 ∷ 0 ∷ 2 ∷ 255 ∷ 0 ∷ 0 ∷ 0 ∷ 3 ∷ 255 ∷ 0 ∷ 0 ∷ 0 ∷ 0 ∷ 255 ∷ []) ≡ Err InvalidValue }
+    ensures too_much_and_cut { request_of 24 (7 ∷ 0 ∷ 0 ∷ 0 ∷ 16 ∷ []) ≡ Err InvalidValue }
+{}
+
+/// The spellings of a picture and of a threshold, and the frame in which client 258 asks for image 7.
 pub fn spelled()
     ensures picture { body_of (WriteImage (record { name = 7; slot = None }) (record { description = record { width = 2; height = 1; format = S16 }; samples = negsuc 1 ∷ pos 1 ∷ [] }))
         ≡ 0 ∷ 0 ∷ 0 ∷ 7 ∷ 255 ∷ 2 ∷ 0 ∷ 2 ∷ 0 ∷ 1 ∷ 255 ∷ 254 ∷ 0 ∷ 1 ∷ [] }
+    ensures threshold { body_of (CreateThreshold (record { format = S16; kind = Range (negsuc 0) (pos 2); true_value = 255; false_value = 0 }))
+        ≡ 1 ∷ 2 ∷ 255 ∷ 255 ∷ 0 ∷ 2 ∷ 255 ∷ 0 ∷ [] }
     ensures frame { frame_bytes (request_frame 258 (ReadImage (record { name = 7; slot = None }))) ≡ 0 ∷ 0 ∷ 0 ∷ 8 ∷ 1 ∷ 2 ∷ 7 ∷ 0 ∷ 0 ∷ 0 ∷ 7 ∷ 255 ∷ [] }
 {}

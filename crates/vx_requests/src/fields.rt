@@ -1,7 +1,8 @@
 //! The fields of a body, taken from its front in order.
-ghost use Rattle.std.specs.Prelude.{◌≡◌, ◌<◌, length, Ok, Err, IfOk, IfErr, OnOk, IsTrue};
+ghost use Rattle.std.specs.Prelude.{◌≡◌, ◌<◌, ◌≤◌, ◌*◌, ◌^◌, length, Ok, Err, IfOk, IfErr, OnOk, IsTrue};
 ghost use Rattle.std.specs.Option.{ForSome};
-ghost use Rattle.vx_base.specs.Description.{is_side, sample_count, byte_count};
+ghost use Rattle.vx_base.specs.Description.{is_side};
+ghost use Rattle.vx_base.specs.Sample.{sample_bytes};
 ghost use Rattle.client_contexts.specs.declared.request.Request.{Request as RequestValue};
 ghost use Rattle.vx_requests.specs.Fields.{take_byte, take_short, take_long, take_format, take_side, take_description, take_reference, take_samples, samples_in, slot_numbered, at_end};
 
@@ -116,13 +117,14 @@ impl<'a> Fields<'a> {
         Ok(ObjRef::new(name, slot_numbered(slot)))
     }
 
-    /// The bytes of the samples of such an image.
-    pub fn samples(&mut self, desc: Desc) -> Result<&'a [u8], ParseFault>
-        ensures ok { IfOk result (λ bytes. take_samples desc.format (sample_count desc) self.old ≡ Ok (samples_in desc.format bytes.now, self.new)) }
-        ensures len { IfOk result (λ bytes. length bytes.now ≡ byte_count desc) }
-        ensures err { IfErr result (λ e. take_samples desc.format (sample_count desc) self.old ≡ Err e) }
+    /// The bytes of so many samples of a format.
+    pub fn samples(&mut self, format: Format, count: usize) -> Result<&'a [u8], ParseFault>
+        requires { count ≤ 2 ^ 32 }
+        ensures ok { IfOk result (λ bytes. take_samples format count self.old ≡ Ok (samples_in format bytes.now, self.new)) }
+        ensures len { IfOk result (λ bytes. length bytes.now ≡ count * sample_bytes format) }
+        ensures err { IfErr result (λ e. take_samples format count self.old ≡ Err e) }
     {
-        match self.rest.split_at_checked(desc.byte_count()) {
+        match self.rest.split_at_checked(count * format.sample_bytes()) {
             Some((bytes, rest)) => {
                 self.rest = rest;
                 Ok(bytes)

@@ -15,6 +15,7 @@ mod from_read;
 mod from_write;
 pub mod laws;
 mod node_fields;
+mod object_fields;
 mod parse_fault;
 mod pictures;
 mod presence;

@@ -7,20 +7,21 @@ use vx_base::Code;
 /// Why no request was read from a body.
 #[derive(Clone, Copy, Debug, PartialEq, Eq, Error)]
 pub enum ParseFault {
-    /// There was no memory for the samples of a picture.
+    /// There was no memory for the samples of a picture or the entries of a table.
     #[error("no memory")]
     NoMemory,
     /// A field is cut short or has a value that isn't allowed, the op is none, or something
     /// follows the last field.
     #[error("invalid parameters")]
     InvalidParameters,
-    /// A number stands for no format.
+    /// A number stands for no format, or for one that a table or a threshold doesn't take.
     #[error("invalid format")]
     InvalidFormat,
     /// A width or a height isn't 1 to 4096.
     #[error("invalid dimension")]
     InvalidDimension,
-    /// An amount is beyond what the function takes.
+    /// An amount is beyond what the function takes, or the limit of a threshold isn't a sample of
+    /// its format or is below the lower limit.
     #[error("invalid value")]
     InvalidValue,
 }

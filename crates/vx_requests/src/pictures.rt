@@ -1,4 +1,4 @@
-//! The samples of pictures as bytes.
+//! The samples of pictures and the entries of tables as bytes.
 ghost use Rattle.std.specs.Prelude.{◌≡◌, ◌+◌, ◌*◌, ◌<◌, ◌≤◌, ◌^◌, length, IfErr, OnOk, OnErr};
 ghost use Rattle.std.specs.List.{flat_map};
 ghost use Rattle.std.specs.Int.{w32, to_be_bytes};
@@ -15,7 +15,7 @@ use crate::spelled_samples::{spell_shorts, spell_words};
 use crate::transfer::write_all;
 use vx_base::Samples;
 
-/// Writes samples of any format, by rows from the top.
+/// Writes samples of any format, in their order.
 pub fn write_samples<K: Sink>(sink: &mut K, samples: &Samples) -> Result<(), StreamFault>
     requires { K.failures sink.old < 2 ^ 62 }
     ensures ok { OnOk result (Appends (K.taken sink.old) (K.taken sink.new) (flat_map (sample_spelling (samples_format samples.now)) (values samples.now))) }

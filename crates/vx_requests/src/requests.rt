@@ -1,20 +1,24 @@
 //! Requests as frames.
-ghost use Rattle.std.specs.Prelude.{◌≡◌, ◌+◌, ◌<◌, ◌≤◌, ◌^◌, ◌∷◌, ◌++◌, length, IfErr, OnOk, OnErr};
+ghost use Rattle.std.specs.Prelude.{◌≡◌, ◌+◌, ◌*◌, ◌<◌, ◌≤◌, ◌^◌, [], ◌∷◌, ◌++◌, length, IfErr, IsTrue, OnOk, OnErr};
 ghost use Rattle.std.specs.Io.KnownBytes.{Appends};
-ghost use Rattle.client_contexts.specs.declared.request.Request.TheVariants.{WriteImage as WriteImageRequest};
+ghost use Rattle.client_contexts.specs.declared.request.Request.TheVariants.{WriteImage as WriteImageRequest, CreateLut as CreateLutRequest, CreateThreshold as CreateThresholdRequest};
 ghost use Rattle.vx_base.specs.Description.{byte_count};
+ghost use Rattle.vx_base.specs.Lut.{is_full};
+ghost use Rattle.vx_base.specs.Sample.{sample_bytes};
 ghost use Rattle.vx_requests.specs.Calls.{failed_calls};
 ghost use Rattle.vx_requests.specs.Transfer.{AppendsPart};
 ghost use Rattle.vx_requests.specs.Frames.{frame_head, frame_bytes};
-ghost use Rattle.vx_requests.specs.Spelling.{cell_bytes, description_bytes, request_frame};
+ghost use Rattle.vx_requests.specs.Spelling.{cell_bytes, description_bytes, format_number, request_frame};
 
 use crate::fault::StreamFault;
 use crate::pictures::write_samples;
 use crate::sink::Sink;
-use crate::spelling::{cell_bytes, description_bytes, node_bytes};
+use crate::spelling::{
+    binary_bytes, cell_bytes, description_bytes, format_number, node_bytes, range_bytes,
+};
 use crate::transfer::write_all;
 use client_contexts::Request;
-use vx_base::{Desc, ObjRef, Picture};
+use vx_base::{Desc, Format, Lut, ObjRef, Picture, ThresholdKind, ThresholdRule};
 
 /// Writes the frame in which a client sends the request, and flushes nothing. `WriteFailed` comes
 /// where a write fails, and a front of the frame was taken then. No memory is taken.
@@ -34,6 +38,8 @@ pub fn write_request<K: Sink>(
         Request::CreateImage(desc) => write_short(sink, client, 3, &description_bytes(*desc)),
         Request::WriteImage(image, picture) => write_write_image(sink, client, *image, picture),
         Request::ReadImage(image) => write_short(sink, client, 7, &cell_bytes(*image)),
+        Request::CreateLut(lut) => write_create_lut(sink, client, lut),
+        Request::CreateThreshold(threshold) => write_create_threshold(sink, client, *threshold),
         Request::Immediate(node) => write_short(sink, client, 24, &node_bytes(*node)),
     }
 }
@@ -101,4 +107,56 @@ fn write_image_head(client: u16, image: ObjRef, desc: Desc) -> [u8; 17]
     bytes[7..12].copy_from_slice(&cell_bytes(image));
     bytes[12..].copy_from_slice(&description_bytes(desc));
     bytes
+}
+
+/// Writes the frame of a `CreateLut`: all before the entries at once, and then the entries.
+fn write_create_lut<K: Sink>(sink: &mut K, client: u16, lut: &Lut) -> Result<(), StreamFault>
+    requires { K.failures sink.old < 2 ^ 62 }
+    ensures ok { OnOk result (Appends (K.taken sink.old) (K.taken sink.new) (frame_bytes (request_frame client (CreateLutRequest lut.now)))) }
+    ensures err { OnErr result (AppendsPart (K.taken sink.old) (K.taken sink.new) (frame_bytes (request_frame client (CreateLutRequest lut.now)))) }
+    ensures fault { IfErr result (λ e. e ≡ StreamFault.WriteFailed) }
+    ensures failed { K.failures sink.new ≡ K.failures sink.old + failed_calls result }
+{
+    let entries = lut.entries();
+    write_all(
+        sink,
+        &create_lut_head(client, entries.format(), entries.len()),
+    )?;
+    write_samples(sink, entries)
+}
+
+/// What stands before the entries in the frame of a `CreateLut`.
+fn create_lut_head(client: u16, format: Format, count: usize) -> [u8; 8]
+    requires { IsTrue (is_full format count) }
+    ensures { result ≡ frame_head (4 + count * sample_bytes format) client 11 ++ format_number format ∷ [] }
+{
+    let len = 4 + (count * format.sample_bytes()) as u32;
+    let [a, b, c, d, e, f, op] = frame_head(len, client, 11);
+    [a, b, c, d, e, f, op, format_number(format)]
+}
+
+/// Writes the frame of a `CreateThreshold`, at once.
+fn write_create_threshold<K: Sink>(
+    sink: &mut K,
+    client: u16,
+    threshold: ThresholdRule,
+) -> Result<(), StreamFault>
+    requires { K.failures sink.old < 2 ^ 62 }
+    ensures ok { OnOk result (Appends (K.taken sink.old) (K.taken sink.new) (frame_bytes (request_frame client (CreateThresholdRequest threshold)))) }
+    ensures err { OnErr result (AppendsPart (K.taken sink.old) (K.taken sink.new) (frame_bytes (request_frame client (CreateThresholdRequest threshold)))) }
+    ensures fault { IfErr result (λ e. e ≡ StreamFault.WriteFailed) }
+    ensures failed { K.failures sink.new ≡ K.failures sink.old + failed_calls result }
+{
+    let format = threshold.format();
+    let (true_value, false_value) = (threshold.true_value(), threshold.false_value());
+    match threshold.kind() {
+        ThresholdKind::Binary(limit) => {
+            let body = binary_bytes(format, limit, true_value, false_value);
+            write_short(sink, client, 12, &body)
+        }
+        ThresholdKind::Range(lower, upper) => {
+            let body = range_bytes(format, lower, upper, true_value, false_value);
+            write_short(sink, client, 12, &body)
+        }
+    }
 }

@@ -1,21 +1,25 @@
-//! The samples of a picture, read from their bytes.
+//! The samples of a picture and the entries of a table, read from their bytes.
 ghost use Rattle.std.specs.Prelude.{◌≡◌, ◌+◌, ◌*◌, length, map, pos, IfOk};
-ghost use Rattle.vx_base.specs.Sample.{signed_of};
-ghost use Rattle.vx_base.specs.Description.{byte_count};
-ghost use Rattle.vx_base.specs.Picture.{values, Fills};
+ghost use Rattle.vx_base.specs.Sample.{sample_bytes, signed_of};
+ghost use Rattle.vx_base.specs.Picture.{values, samples_format};
 ghost use Rattle.vx_requests.specs.Fields.{shorts_in, words_in, samples_in};
 
 use std::alloc::{AllocError, Global};
-use vx_base::{Desc, Format, Samples};
+use vx_base::{Format, Samples};
 
-/// The samples of such an image that these bytes spell. All of the memory is taken at once.
-pub fn samples_in(alloc: Global, desc: Desc, bytes: &[u8]) -> Result<Samples, AllocError>
-    requires { length bytes.now ≡ byte_count desc }
-    ensures value { IfOk result (λ samples. values samples ≡ samples_in desc.format bytes.now) }
-    ensures fills { IfOk result (Fills desc) }
+/// So many samples of a format that these bytes spell. All of the memory is taken at once.
+pub fn samples_in(
+    alloc: Global,
+    format: Format,
+    count: usize,
+    bytes: &[u8],
+) -> Result<Samples, AllocError>
+    requires { length bytes.now ≡ count * sample_bytes format }
+    ensures value { IfOk result (λ samples. values samples ≡ samples_in format bytes.now) }
+    ensures format { IfOk result (λ samples. samples_format samples ≡ format) }
+    ensures size { IfOk result (λ samples. length (values samples) ≡ count) }
 {
-    let count = desc.sample_count();
-    match desc.format() {
+    match format {
         Format::U8 => Ok(Samples::U8(bytes.to_vec(alloc)?)),
         Format::S16 => {
             let mut shorts = vec![in alloc; 0i16; count]?;

@@ -1,5 +1,5 @@
 //! Frames in, replies out.
-ghost use Rattle.std.specs.Prelude.{◌≡◌, ℕ, ◌+◌, ◌<◌, ◌≤◌, ◌^◌, IfOk, length};
+ghost use Rattle.std.specs.Prelude.{◌≡◌, ℕ, ◌+◌, ◌<◌, ◌^◌, IfOk, length};
 ghost use Rattle.client_contexts.specs.Allowance.{Allowance};
 ghost use Rattle.client_contexts.specs.Context.{State};
 ghost use Rattle.vx_requests.specs.Transfer.{read_failures, CountsReads};

@@ -1,10 +1,12 @@
 //! The bytes of fields.
 ghost use Rattle.std.specs.Prelude.{◌≡◌};
-ghost use Rattle.vx_requests.specs.Spelling.{format_number, policy_number, description_bytes, cell_bytes, operand_bytes, border_bytes, node_bytes};
+ghost use Rattle.vx_base.specs.declared.threshold.ThresholdKind.TheVariants.{Binary, Range};
+ghost use Rattle.vx_requests.specs.Spelling.{format_number, policy_number, description_bytes, cell_bytes, operand_bytes, threshold_bytes, border_bytes, node_bytes};
 
 use vx_base::{Border, Desc, Format, NodeSpec, ObjRef, Policy};
 
-fn format_number(format: Format) -> u8
+/// The number of a format.
+pub fn format_number(format: Format) -> u8
     ensures { result ≡ format_number format }
 {
     match format {
@@ -40,6 +42,38 @@ fn operand_bytes(operand: Option<ObjRef>) -> [u8; 5]
         None => cell_bytes(ObjRef::new(0, None)),
         Some(cell) => cell_bytes(cell),
     }
+}
+
+/// A BINARY threshold: the kind, the format, the limit, the true value and the false value.
+pub fn binary_bytes(format: Format, limit: i16, true_value: u8, false_value: u8) -> [u8; 6]
+    ensures { result ≡ threshold_bytes (record { format = format; kind = Binary limit; true_value = true_value; false_value = false_value }) }
+{
+    let [a, b] = limit.to_be_bytes();
+    [0, format_number(format), a, b, true_value, false_value]
+}
+
+/// A RANGE threshold: the kind, the format, both limits, the true value and the false value.
+pub fn range_bytes(
+    format: Format,
+    lower: i16,
+    upper: i16,
+    true_value: u8,
+    false_value: u8,
+) -> [u8; 8]
+    ensures { result ≡ threshold_bytes (record { format = format; kind = Range lower upper; true_value = true_value; false_value = false_value }) }
+{
+    let [a, b] = lower.to_be_bytes();
+    let [c, d] = upper.to_be_bytes();
+    [
+        1,
+        format_number(format),
+        a,
+        b,
+        c,
+        d,
+        true_value,
+        false_value,
+    ]
 }
 
 /// The mode of a border and its constant.

@@ -1,20 +1,81 @@
 //! Laws of the pixel formulas.
-ghost use Rattle.std.specs.Prelude.{◌≡◌, ◌<◌, ℕ, ℤ, pos, true, IsTrue, bit_xor};
-ghost use Rattle.vx_base.specs.declared.format.Format.TheVariants.{U8};
-ghost use Rattle.vx_base.specs.Sample.{IsSample};
+ghost use Rattle.std.specs.Prelude.{◌≡◌, ◌<◌, ◌≤◌, ◌+◌, ◌*◌, ◌^◌, ◌<ℤ◌, ◌≤ℤ◌, ◌+ℤ◌, ◌*ℤ◌, ◌&&◌, ℕ, ℤ, pos, true, IsTrue, All, Some, None, min, bit_xor, int_div, unsigned_abs};
+ghost use Rattle.std.specs.Int.{int_div_euclid};
+ghost use Rattle.vx_base.specs.declared.format.Format.{Format};
+ghost use Rattle.vx_base.specs.declared.format.Format.TheVariants.{U8, S16};
+ghost use Rattle.vx_base.specs.declared.policy.Policy.{Policy};
+ghost use Rattle.vx_base.specs.declared.function.Function.{Function};
+ghost use Rattle.vx_base.specs.Sample.{IsSample, distance};
 ghost use Rattle.vx_base.specs.Rectangle.{inside};
+ghost use Rattle.vx_base.specs.Function.{parameters};
+ghost use Rattle.vx_base.specs.Formats.{takes_formats};
+ghost use Rattle.vx_base.specs.Node.{has_amount};
 ghost use Rattle.vx_base.specs.Image.{ImageValue, IsImage, at};
-ghost use Rattle.vx_base.specs.Pixelwise.{bitwise_not, not_image};
+ghost use Rattle.vx_base.specs.Lut.{LutValue};
+ghost use Rattle.vx_base.specs.Threshold.{ThresholdValue};
+ghost use Rattle.vx_base.specs.Pixelwise.{and_bits, or_bits, xor_bits, not_bits, absolute_difference, thresholded, looked_up, formula_of_one, formula_of_two, from_one, from_two};
 
 /// Bitwise Not turns each of the eight bits of a U8 sample over.
 pub fn not_turns_bits()
-    ensures bits { (a : ℕ) → a < 256 → bitwise_not (pos a) ≡ pos (bit_xor a 255) }
-    ensures sample { (a : ℤ) → IsSample U8 a → IsSample U8 (bitwise_not a) }
-    ensures twice { (a : ℤ) → bitwise_not (bitwise_not a) ≡ a }
+    ensures bits { (a : ℕ) → a < 256 → not_bits (pos a) ≡ pos (bit_xor a 255) }
+    ensures sample { (a : ℤ) → IsSample U8 a → IsSample U8 (not_bits a) }
+    ensures twice { (a : ℤ) → not_bits (not_bits a) ≡ a }
 {}
 
-/// Not of an image is an image, and 255 less the sample at each valid place.
-pub fn not_samples()
-    ensures image { (a : ImageValue) → IsImage a → IsImage (not_image a) }
-    ensures valid { (a : ImageValue) (x y : ℕ) → IsImage a → inside a.valid x y ≡ true → at (not_image a) x y ≡ bitwise_not (at a x y) }
+/// The bits of two U8 samples make one.
+pub fn bits_are_samples()
+    ensures and { (a b : ℤ) → IsSample U8 a → IsSample U8 b → IsSample U8 (and_bits a b) }
+    ensures or { (a b : ℤ) → IsSample U8 a → IsSample U8 b → IsSample U8 (or_bits a b) }
+    ensures xor { (a b : ℤ) → IsSample U8 a → IsSample U8 b → IsSample U8 (xor_bits a b) }
+{}
+
+/// The quotient of a product and 2^n is rounded to zero: the next number away from zero, times
+/// 2^n, is beyond the product.
+pub fn products_round_to_zero()
+    ensures not_beyond { (z : ℤ) (n : ℕ) → unsigned_abs (int_div z (pos (2 ^ n))) * 2 ^ n ≤ unsigned_abs z }
+    ensures nearest { (z : ℤ) (n : ℕ) → unsigned_abs z < (unsigned_abs (int_div z (pos (2 ^ n))) + 1) * 2 ^ n }
+    ensures not_negative { (z : ℤ) (n : ℕ) → pos 0 ≤ℤ z → pos 0 ≤ℤ int_div z (pos (2 ^ n)) }
+    ensures not_positive { (z : ℤ) (n : ℕ) → z ≤ℤ pos 0 → int_div z (pos (2 ^ n)) ≤ℤ pos 0 }
+{}
+
+/// The quotient of a sample and 2^n that Convert Bit Depth narrows is rounded down.
+pub fn conversions_round_down()
+    ensures not_above { (a : ℤ) (n : ℕ) → (int_div_euclid a (pos (2 ^ n)) *ℤ pos (2 ^ n)) ≤ℤ a }
+    ensures nearest { (a : ℤ) (n : ℕ) → a <ℤ ((int_div_euclid a (pos (2 ^ n)) +ℤ pos 1) *ℤ pos (2 ^ n)) }
+{}
+
+/// Absolute Difference is the distance of two U8 samples; of two S16 samples the greatest sample
+/// where that is less.
+pub fn absolute_differences()
+    ensures bytes { (a b : ℤ) → IsSample U8 a → IsSample U8 b → absolute_difference U8 a b ≡ pos (distance a b) }
+    ensures shorts { (a b : ℤ) → absolute_difference S16 a b ≡ pos (min (distance a b) 32767) }
+{}
+
+/// From samples of the formats that a function takes come samples of the output's.
+pub fn results_are_samples()
+    ensures one { (function : Function) (first output : Format) (policy : Policy) (n : ℕ) (a : ℤ) →
+        IsTrue (takes_formats function first None output) → IsTrue (has_amount (parameters function) policy n) →
+        IsSample first a → IsSample output (formula_of_one function output policy n a) }
+    ensures two { (function : Function) (first second output : Format) (policy : Policy) (n : ℕ) (a b : ℤ) →
+        IsTrue (takes_formats function first (Some second) output) →
+        IsSample first a → IsSample second b → IsSample output (formula_of_two function output policy n a b) }
+    ensures looked_up { (lut : LutValue) (a : ℤ) → All (IsSample lut.format) lut.entries → IsSample lut.format (looked_up lut a) }
+    ensures thresholded { (threshold : ThresholdValue) (a : ℤ) → threshold.true_value < 256 → threshold.false_value < 256 →
+        IsSample U8 (thresholded threshold a) }
+{}
+
+/// A formula of one image gives an image, and the formula's value at each valid place.
+pub fn from_one_samples()
+    ensures image { (format : Format) (f : ℤ → ℤ) (a : ImageValue) → IsImage a → IsImage (from_one format f a) }
+    ensures valid { (format : Format) (f : ℤ → ℤ) (a : ImageValue) (x y : ℕ) → IsImage a → inside a.valid x y ≡ true →
+        at (from_one format f a) x y ≡ f (at a x y) }
+{}
+
+/// A formula of two images gives an image that is valid where both are, and the formula's value there.
+pub fn from_two_samples()
+    ensures image { (format : Format) (f : ℤ → ℤ → ℤ) (a b : ImageValue) → IsImage a → IsImage b → IsImage (from_two format f a b) }
+    ensures rectangle { (format : Format) (f : ℤ → ℤ → ℤ) (a b : ImageValue) (x y : ℕ) →
+        inside (from_two format f a b).valid x y ≡ (inside a.valid x y && inside b.valid x y) }
+    ensures valid { (format : Format) (f : ℤ → ℤ → ℤ) (a b : ImageValue) (x y : ℕ) → IsImage a → IsImage b →
+        inside a.valid x y ≡ true → inside b.valid x y ≡ true → at (from_two format f a b) x y ≡ f (at a x y) (at b x y) }
 {}

@@ -1,5 +1,5 @@
 //! Laws of streams and of their clients.
-ghost use Rattle.std.specs.Prelude.{◌≡◌, ℕ, ◌<◌, Bool, false, List, [], ◌++◌, ◌==◌, map, All, Option, Some, Result};
+ghost use Rattle.std.specs.Prelude.{◌≡◌, ℕ, ◌<◌, false, List, [], ◌++◌, ◌==◌, map, All, Option, Some, Result};
 ghost use Rattle.client_contexts.specs.Allowance.{Allowance};
 ghost use Rattle.client_contexts.specs.Context.{State};
 ghost use Rattle.vx_requests.specs.declared.fault.StreamFault.{StreamFault};

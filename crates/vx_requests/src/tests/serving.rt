@@ -1,5 +1,3 @@
-ghost use Rattle.std.specs.Prelude.{◌≡◌};
-
 use crate::tests::memory::{PiecewiseSink, PiecewiseSource};
 use crate::{FromWrite, StreamFault, Summary, serve, write_reply};
 use client_contexts::{Limits, Reply, Runtime};

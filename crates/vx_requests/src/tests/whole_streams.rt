@@ -2,15 +2,14 @@
 ghost use Rattle.std.specs.Prelude.{None};
 
 use crate::fault::{Failed, StreamFault};
-use crate::tests::memory::{PiecewiseSink, PiecewiseSource};
 use crate::serving::serve;
 use crate::sink::Sink;
 use crate::source::Source;
 use crate::summary::Summary;
+use crate::tests::memory::{PiecewiseSink, PiecewiseSource};
 use client_contexts::{Limits, Runtime};
 use std::alloc::Global;
 use std::cell::Cell;
-use std::test::Fail;
 
 /// Clients 1 and 2 in turn: each opens a context, makes an image of one U8 sample, writes 10 or 20 and
 /// reads.

@@ -1,4 +1,4 @@
-use Rattle.std.proofs.Common.{◌+◌, ◌-◌, ap, ◌∙◌, length, arith, rules, length-append, ◌++◌}
+use Rattle.std.proofs.Common.{◌+◌, ◌-◌, ap, ◌∙◌, rules, length-append, ◌++◌}
 use Rattle.std.proofs.KnownBytes.{Consumes-trans}
 use Rattle.std.proofs.lemmas.Result.{err_from_is_err_and}
 use Rattle.vx_requests.proofs.Pieces.{part_behind}

@@ -1,4 +1,4 @@
-use Rattle.std.proofs.Common.{◌≡◌, ℕ, ◌<◌, ◌+◌, ◌*◌, pos, get_or}
+use Rattle.std.proofs.Common.{◌≡◌, ℕ, ◌<◌, pos, get_or}
 use Rattle.vx_requests.proofs.SampleBytes.{short_at}
 use Rattle.vx_requests.proofs.samples_field.read_shorts.Given as goal
 

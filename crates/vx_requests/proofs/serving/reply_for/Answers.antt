@@ -4,7 +4,7 @@ use Rattle.vx_requests.proofs.serving.reply_for.Goals as goal
 
 pub returns-in-Err : goal.returns-in-Err
 returns-in-Err c = record {
-  replies = rw c.code.ensures (fault_reply _ _ _ _ _ _ c.in-Err.fault c.in-Err.ensures.err (λ e. (c.in-Err.ensures.memory cc).0) (λ each. refl));
+  replies = rw c.code.ensures (fault_reply _ _ _ _ _ _ c.in-Err.fault c.in-Err.ensures.err (λ e. c.in-Err.ensures.memory cc) (λ each. refl));
   limits = refl;
 }
 

@@ -1,6 +1,6 @@
-use Rattle.std.proofs.Common.{◌≡◌, arith, rules, subst, sym, ℕ, ◌∙◌}
+use Rattle.std.proofs.Common.{arith, rules, ◌∙◌}
 use Rattle.std.proofs.lemmas.Result.{err_from_is_err_and}
-use Rattle.vx_requests.proofs.Progress.{Progress, started, went_on, ended_well, broke_off}
+use Rattle.vx_requests.proofs.Progress.{went_on, broke_off}
 use Rattle.vx_requests.proofs.serving.serve.Goals as goal
 
 pub frames-preserved : goal.frames-preserved

@@ -1,4 +1,4 @@
-use Rattle.std.proofs.Common.{◌≡◌, length, arith, rules, sym, subst}
+use Rattle.std.proofs.Common.{◌≡◌, length, rules, subst}
 use Rattle.vx_requests.specs.Frames.{IsLength}
 use Rattle.vx_requests.proofs.Turns.{whole_turn}
 use Rattle.vx_requests.proofs.serving.serve_payload.Goals as goal

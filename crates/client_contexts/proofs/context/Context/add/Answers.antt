@@ -1,6 +1,5 @@
-use Rattle.std.proofs.Common.{◌+◌, ◌∙◌, List, length, refl, sym, ap, subst, arith}
-use Rattle.vx_base.specs.Image.{ImageValue}
-use Rattle.client_contexts.specs.Context.{Context, Named, image_bytes, charge_of}
+use Rattle.std.proofs.Common.{◌+◌, List, length, refl, sym, ap, subst, arith}
+use Rattle.client_contexts.specs.Context.{Context, Named, charge_of}
 use Rattle.client_contexts.specs.Places.{IsContext}
 use Rattle.client_contexts.proofs.ContextLemmas.{IsContext-push}
 use Rattle.client_contexts.proofs.context.Context.add.Goals as goal
@@ -8,13 +7,13 @@ use Rattle.client_contexts.proofs.context.Context.add.Goals as goal
 pub invariant_of-self-2 : goal.invariant_of-self-2
 invariant_of-self-2 c =
     let s = c.self.inside in
-    let bytes = c.byte_count.result in
+    let bytes = c.charge-charge.result in
     let held = ap (λ (v : Context). v.objects) c.self.view_is in
     let next = ap (λ (v : Context). v.next) c.self.view_is in
     subst (λ (l : List Named). IsContext (s.next + 1) (s.charge + bytes) l) (sym c.in_ok-push.ensures.items)
     (IsContext-push s.next s.charge bytes s.entries.items _ c.self.invariant
     (omega (arith, next, c.requires.name_left))
     (omega (arith, ap (λ (l : List Named). length l) held, c.requires.place_left))
-    (omega (arith, ap (λ (l : List Named). charge_of l) held, c.self.invariant.charged, c.byte_count.ensures.value, c.requires.charge))
+    (omega (arith, ap (λ (l : List Named). charge_of l) held, c.self.invariant.charged, c.charge-charge.ensures, c.requires.charge))
     refl
-    (ap (λ (i : ImageValue). image_bytes i) c.in_ok-image.ensures ∙ sym c.byte_count.ensures.value))
+    (sym c.charge-charge.ensures))

@@ -1,0 +1,5 @@
+mod RowLaws
+mod WriteLaws
+mod DepthLaws
+mod ThresholdLaws
+mod ImageLaws

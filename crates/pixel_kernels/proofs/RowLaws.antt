@@ -1,0 +1,35 @@
+-- Rows that are read in part and written sample by sample.
+use Rattle.std.proofs.Common.{◌≡◌, ℕ, ℤ, ◌+◌, ◌-◌, ◌<◌, ◌≤◌, List, [], ◌∷◌, ◌++◌, length, map, take, drop, get_or, set, ap, ◌∙◌, sym, refl, arith}
+use Rattle.std.proofs.lemmas.List.{take_more_set, map_push, map_more, length-map, length-take-le, take-take}
+use Rattle.std.specs.Simd.Lanes.{zip2}
+use Rattle.vx_base.specs.Image.{run}
+use Rattle.vx_base.proofs.TableLaws.{part_of_row}
+
+zip2-push : (f : ℤ → ℤ → ℤ) (xs ys : List ℤ) (x y : ℤ) → length xs ≡ length ys → zip2 f (xs ++ x ∷ []) (ys ++ y ∷ []) ≡ zip2 f xs ys ++ f x y ∷ []
+zip2-push f [] [] x y same = refl
+zip2-push f [] (b ∷ ys) x y same = absurd (omega (arith, same))
+zip2-push f (a ∷ xs) [] x y same = absurd (omega (arith, same))
+zip2-push f (a ∷ xs) (b ∷ ys) x y same = ap (λ l. f a b ∷ l) (zip2-push f xs ys x y (omega (arith, same)))
+
+-- one more sample of a function of two
+pub pair_written : {A B T : Type 0} (of : A → ℤ) (with : B → ℤ) (value : T → ℤ) (f : ℤ → ℤ → ℤ) (xs : List A) (ys : List B) (out : List T) (i : ℕ) (x : A) (y : B) (z : T)
+    → i < length out → length xs ≡ length out → length ys ≡ length out
+    → map value (take i out) ≡ zip2 f (map of (take i xs)) (map with (take i ys)) → x ≡ get_or xs i x → y ≡ get_or ys i y → value z ≡ f (of x) (with y)
+    → map value (take (i + 1) (set out i z)) ≡ zip2 f (map of (take (i + 1) xs)) (map with (take (i + 1) ys))
+pair_written of with value f xs ys out i x y z room long also before first second is =
+    ap (map value) (take_more_set out i z room)
+    ∙ map_push value (take i out) z
+    ∙ ap (λ l. l ++ value z ∷ []) before
+    ∙ ap (λ v. zip2 f (map of (take i xs)) (map with (take i ys)) ++ v ∷ []) (is ∙ ap (λ a. f (of a) (with y)) first ∙ ap (λ b. f (of (get_or xs i x)) (with b)) second)
+    ∙ sym (zip2-push f (map of (take i xs)) (map with (take i ys)) (of (get_or xs i x)) (with (get_or ys i y))
+    (length-map (take i xs) of ∙ length-take-le i xs (omega arith) ∙ sym (length-map (take i ys) with ∙ length-take-le i ys (omega arith))))
+    ∙ ap (λ l. zip2 f l (map with (take i ys) ++ with (get_or ys i y) ∷ [])) (sym (map_more of xs i x (omega arith)))
+    ∙ ap (zip2 f (map of (take (i + 1) xs))) (sym (map_more with ys i y (omega arith)))
+
+-- samples of a row, so many from a place on
+pub part_of : {A : Type 0} (of : A → ℤ) (row : List A) (g : ℕ → ℤ) (w start x n : ℕ) → start ≡ x → x + n ≤ w → length row ≡ w → map of row ≡ run 0 w g → map of (take n (take (length row - start) (drop start row))) ≡ run x n g
+part_of of row g w start x n at room long same =
+    ap (map of) (take-take n (length row - start) (drop start row) (omega arith))
+    ∙ ap (λ k. map of (take k (drop start row))) (let e : n ≡ start + n - start = omega arith in e)
+    ∙ part_of_row of row g w start n (start + n) (omega arith) refl same
+    ∙ ap (λ s. run s n g) at

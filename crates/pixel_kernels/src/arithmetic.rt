@@ -1,0 +1,107 @@
+//! Functions of two U8 or S16 images, at the formats that they may have.
+ghost use Rattle.std.specs.Prelude.{◌≡◌, ℤ, pos, IsTrue};
+ghost use Rattle.vx_base.specs.declared.format.Format.{Format as Range};
+ghost use Rattle.vx_base.specs.declared.format.Format.TheVariants.{U8, S16};
+ghost use Rattle.vx_base.specs.Sample.{IsSample};
+ghost use Rattle.vx_base.specs.Formats.{are_arithmetic};
+ghost use Rattle.vx_base.specs.Pixelwise.{from_two};
+ghost use Rattle.image_core.specs.Target.{written, IsTarget};
+ghost use Rattle.pixel_kernels.specs.Kernels.{SameSize, Writes};
+
+use crate::pixel::Pixel;
+use crate::two::{OfTwo, write_two};
+use image_core::{Image, ImageMut};
+use vx_base::Format;
+
+/// What a function of two U8 or S16 images gives at a place.
+pub trait Arithmetic {
+    /// The sample of a format, from those of the two images.
+    ghost formula: { Self → Range → ℤ → ℤ → ℤ };
+
+    /// The U8 sample, from two of U8.
+    fn byte(&self, a: u8, b: u8) -> u8
+        ensures { pos result ≡ formula self.now U8 (pos a) (pos b) };
+
+    /// The S16 sample, from two of U8 or S16.
+    fn short(&self, a: i32, b: i32) -> i16
+        requires first { IsSample S16 a }
+        requires second { IsSample S16 b }
+        ensures { result ≡ formula self.now S16 a b };
+}
+
+/// A function at U8 images.
+#[derive(Drop)]
+struct Bytes<'a, K> {
+    kernel: &'a K,
+}
+
+impl<K: Arithmetic> OfTwo<u8, u8, u8> for Bytes<'_, K> {
+    ghost formula = { λ s. K.formula s.kernel.now U8 };
+
+    fn sample(&self, a: u8, b: u8) -> u8 {
+        self.kernel.byte(a, b)
+    }
+}
+
+/// A function to S16 images.
+#[derive(Drop)]
+struct Shorts<'a, K> {
+    kernel: &'a K,
+}
+
+impl<A: Pixel, B: Pixel, K: Arithmetic> OfTwo<A, B, i16> for Shorts<'_, K> {
+    ghost formula = { λ s. K.formula s.kernel.now S16 };
+
+    fn sample(&self, a: A, b: B) -> i16 {
+        self.kernel.short(a.widen(), b.widen())
+    }
+}
+
+/// Writes what the kernel gives of two images to a third of their size: of U8 and U8 to U8, or of
+/// each U8 or S16 to S16.
+pub fn write_arithmetic<K: Arithmetic>(
+    kernel: &K,
+    first: &Image<'_>,
+    second: &Image<'_>,
+    output: &mut ImageMut<'_>,
+)
+    requires target { IsTarget output.old }
+    requires size { SameSize (written output.old) first.now }
+    requires second_size { SameSize second.now first.now }
+    requires formats { IsTrue (are_arithmetic first.now.format second.now.format (written output.old).format) }
+    ensures { Writes (from_two (written output.old).format (K.formula kernel.now (written output.old).format) first.now second.now) output.old output.new }
+{
+    match output.desc().format() {
+        Format::U8 => write_two::<u8, u8, u8, Bytes<'_, K>>(
+            &Bytes { kernel },
+            first,
+            second,
+            output,
+        ),
+        _ => write_shorts(&Shorts { kernel }, first, second, output),
+    }
+}
+
+/// Writes what the kernel gives of two U8 or S16 images to an S16 image of their size.
+fn write_shorts<K: Arithmetic>(
+    kernel: &Shorts<'_, K>,
+    first: &Image<'_>,
+    second: &Image<'_>,
+    output: &mut ImageMut<'_>,
+)
+    requires target { IsTarget output.old }
+    requires size { SameSize (written output.old) first.now }
+    requires second_size { SameSize second.now first.now }
+    requires formats { IsTrue (are_arithmetic first.now.format second.now.format S16) }
+    requires format { (written output.old).format ≡ S16 }
+    ensures { Writes (from_two S16 (K.formula kernel.now.kernel.now S16) first.now second.now) output.old output.new }
+{
+    match (first.desc().format(), second.desc().format()) {
+        (Format::U8, Format::U8) => write_two::<u8, u8, i16, Shorts<'_, K>>(
+            kernel, first, second, output,
+        ),
+        (Format::U8, _) => write_two::<u8, i16, i16, Shorts<'_, K>>(kernel, first, second, output),
+        (_, Format::U8) => write_two::<i16, u8, i16, Shorts<'_, K>>(kernel, first, second, output),
+        _ => write_two::<i16, i16, i16, Shorts<'_, K>>(kernel, first, second, output),
+    }
+}

@@ -1,0 +1,33 @@
+//! How far samples are apart.
+ghost use Rattle.std.specs.Prelude.{◌≡◌, Some};
+ghost use Rattle.vx_base.specs.declared.function.Function.TheVariants.{AbsoluteDifference};
+ghost use Rattle.vx_base.specs.Object.{ImageObject};
+ghost use Rattle.vx_base.specs.Pixelwise.{absolute_difference, from_two};
+ghost use Rattle.image_core.specs.Target.{written};
+ghost use Rattle.pixel_kernels.specs.Kernels.{Fits, Writes};
+
+use crate::arithmetic::{Arithmetic, write_arithmetic};
+use image_core::{Image, ImageMut};
+
+struct Distance;
+
+impl Arithmetic for Distance {
+    ghost formula = { λ _ format. absolute_difference format };
+
+    fn byte(&self, a: u8, b: u8) -> u8 {
+        a.abs_diff(b)
+    }
+
+    fn short(&self, a: i32, b: i32) -> i16 {
+        (a - b).unsigned_abs().min(32_767) as i16
+    }
+}
+
+/// Writes how far the samples are apart, at most the format's greatest sample (OpenVX 1.3,
+/// "Absolute Difference"); all images are U8, or all S16.
+pub fn absolute_difference(first: &Image<'_>, second: &Image<'_>, output: &mut ImageMut<'_>)
+    requires { Fits AbsoluteDifference first.now (Some (ImageObject second.now)) output.old }
+    ensures { Writes (from_two (written output.old).format (absolute_difference (written output.old).format) first.now second.now) output.old output.new }
+{
+    write_arithmetic(&Distance, first, second, output);
+}

@@ -1,0 +1,54 @@
+//! The smaller and the greater of two samples.
+ghost use Rattle.std.specs.Prelude.{◌≡◌, Some};
+ghost use Rattle.vx_base.specs.declared.function.Function.TheVariants.{MinPixel, MaxPixel};
+ghost use Rattle.vx_base.specs.Object.{ImageObject};
+ghost use Rattle.vx_base.specs.Pixelwise.{smaller, greater, from_two};
+ghost use Rattle.image_core.specs.Target.{written};
+ghost use Rattle.pixel_kernels.specs.Kernels.{Fits, Writes};
+
+use crate::arithmetic::{Arithmetic, write_arithmetic};
+use image_core::{Image, ImageMut};
+
+struct Smaller;
+
+impl Arithmetic for Smaller {
+    ghost formula = { λ _ _. smaller };
+
+    fn byte(&self, a: u8, b: u8) -> u8 {
+        a.min(b)
+    }
+
+    fn short(&self, a: i32, b: i32) -> i16 {
+        a.min(b) as i16
+    }
+}
+
+struct Greater;
+
+impl Arithmetic for Greater {
+    ghost formula = { λ _ _. greater };
+
+    fn byte(&self, a: u8, b: u8) -> u8 {
+        a.max(b)
+    }
+
+    fn short(&self, a: i32, b: i32) -> i16 {
+        a.max(b) as i16
+    }
+}
+
+/// Writes the smaller of the samples (OpenVX 1.3, "Min"); all images are U8, or all S16.
+pub fn minimum(first: &Image<'_>, second: &Image<'_>, output: &mut ImageMut<'_>)
+    requires { Fits MinPixel first.now (Some (ImageObject second.now)) output.old }
+    ensures { Writes (from_two (written output.old).format smaller first.now second.now) output.old output.new }
+{
+    write_arithmetic(&Smaller, first, second, output);
+}
+
+/// Writes the greater of the samples (OpenVX 1.3, "Max"); all images are U8, or all S16.
+pub fn maximum(first: &Image<'_>, second: &Image<'_>, output: &mut ImageMut<'_>)
+    requires { Fits MaxPixel first.now (Some (ImageObject second.now)) output.old }
+    ensures { Writes (from_two (written output.old).format greater first.now second.now) output.old output.new }
+{
+    write_arithmetic(&Greater, first, second, output);
+}

@@ -1,0 +1,81 @@
+//! Images from one image.
+ghost use Rattle.std.specs.Prelude.{◌≡◌, ℤ, map, length};
+ghost use Rattle.vx_base.specs.Rectangle.{IsWithin};
+ghost use Rattle.vx_base.specs.Image.{at};
+ghost use Rattle.vx_base.specs.Pixelwise.{from_one};
+ghost use Rattle.image_core.specs.Target.{written, IsTarget};
+ghost use Rattle.pixel_kernels.specs.Kernels.{SameSize, Writes};
+
+use crate::pixel::{Pixel, part_of_row};
+use image_core::{Formula, Image, ImageMut};
+use std::marker::PhantomData;
+use vx_base::Rect;
+
+/// What a function of one image gives at a place.
+pub trait OfOne<A: Pixel, T: Pixel> {
+    /// The sample, from that of the image.
+    ghost formula: { Self → ℤ → ℤ };
+
+    fn sample(&self, a: A) -> T
+        ensures { T.value result ≡ formula self.now (A.value a) };
+}
+
+/// Writes what the kernel gives at each place of a row.
+fn write_samples<A: Pixel, T: Pixel, K: OfOne<A, T>>(kernel: &K, row: &[A], out: &mut [T])
+    requires { length row.now ≡ length out.old }
+    ensures { map T.value out.new ≡ map (K.formula kernel.now) (map A.value row.now) }
+{
+    for (i, sample) in out.iter_mut().enumerate() {
+        *sample = kernel.sample(row[i]);
+    }
+}
+
+/// What a kernel gives of an image, where it is valid.
+#[derive(Drop)]
+struct FromOne<'a, 'b, A: Pixel, K> {
+    kernel: &'a K,
+    image: &'a Image<'b>,
+    area: Rect,
+    samples: PhantomData<A>,
+    ghost format: { image.now.format ≡ A.format },
+    ghost room: { IsWithin area image.now.width image.now.height },
+}
+
+impl<A: Pixel, T: Pixel, K: OfOne<A, T>> Formula<T> for FromOne<'_, '_, A, K> {
+    ghost at = { λ s x y. K.formula s.kernel.now (at s.image.now x y) };
+
+    ghost area = { λ s. s.area };
+
+    fn area(&self) -> Rect {
+        self.area
+    }
+
+    fn fill(&self, x: u16, y: u16, out: &mut [T]) {
+        let row = part_of_row::<A>(self.image, x, y, out.len());
+        write_samples(self.kernel, row, out);
+    }
+}
+
+/// Writes what the kernel gives of an image to another of its size.
+pub fn write_one<A: Pixel, T: Pixel, K: OfOne<A, T>>(
+    kernel: &K,
+    image: &Image<'_>,
+    output: &mut ImageMut<'_>,
+)
+    requires target { IsTarget output.old }
+    requires size { SameSize (written output.old) image.now }
+    requires input_format { image.now.format ≡ A.format }
+    requires format { (written output.old).format ≡ T.format }
+    ensures { Writes (from_one T.format (K.formula kernel.now) image.now) output.old output.new }
+{
+    let area = image.valid();
+    T::write(
+        output,
+        &FromOne {
+            kernel,
+            image,
+            area,
+            samples: PhantomData,
+        },
+    );
+}

@@ -1,0 +1,65 @@
+//! Samples that are looked up in a table.
+ghost use Rattle.std.specs.Prelude.{◌≡◌, pos, map, length, Some};
+ghost use Rattle.vx_base.specs.declared.format.Format.TheVariants.{U8, S16};
+ghost use Rattle.vx_base.specs.declared.function.Function.TheVariants.{TableLookup};
+ghost use Rattle.vx_base.specs.Object.{LutObject};
+ghost use Rattle.vx_base.specs.Pixelwise.{looked_up, from_one};
+ghost use Rattle.image_core.specs.Target.{written};
+ghost use Rattle.pixel_kernels.specs.Kernels.{Fits, Writes};
+
+use crate::one::{OfOne, write_one};
+use image_core::{Image, ImageMut};
+use vx_base::{Lut, Samples};
+
+/// The entry of a U8 sample.
+#[derive(Drop)]
+struct ByteTable<'a> {
+    entries: &'a [u8],
+    ghost full: { length entries.now ≡ 256 },
+}
+
+impl OfOne<u8, u8> for ByteTable<'_> {
+    ghost formula = { λ s. looked_up (record { format = U8; entries = map pos s.entries.now }) };
+
+    fn sample(&self, a: u8) -> u8 {
+        self.entries[usize::from(a)]
+    }
+}
+
+/// The entry of an S16 sample.
+#[derive(Drop)]
+struct ShortTable<'a> {
+    entries: &'a [i16],
+    ghost full: { length entries.now ≡ 65536 },
+}
+
+impl OfOne<i16, i16> for ShortTable<'_> {
+    ghost formula = { λ s. looked_up (record { format = S16; entries = s.entries.now }) };
+
+    fn sample(&self, a: i16) -> i16 {
+        self.entries[(i32::from(a) + 32_768) as usize]
+    }
+}
+
+/// Writes the table's entries for the samples (OpenVX 1.3, "TableLookup"): of U8 to U8, or of S16
+/// to S16, as the table is.
+pub fn lookup(image: &Image<'_>, output: &mut ImageMut<'_>, lut: &Lut)
+    requires { Fits TableLookup image.now (Some (LutObject lut.now)) output.old }
+    ensures { Writes (from_one (written output.old).format (looked_up lut.now) image.now) output.old output.new }
+{
+    match lut.entries() {
+        Samples::U8(entries) => {
+            let kernel = ByteTable {
+                entries: entries.as_slice(),
+            };
+            write_one::<u8, u8, ByteTable<'_>>(&kernel, image, output);
+        }
+        Samples::S16(entries) => {
+            let kernel = ShortTable {
+                entries: entries.as_slice(),
+            };
+            write_one::<i16, i16, ShortTable<'_>>(&kernel, image, output);
+        }
+        Samples::U32(_) => unreachable!(),
+    }
+}

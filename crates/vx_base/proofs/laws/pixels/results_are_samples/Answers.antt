@@ -1,0 +1,8 @@
+use Rattle.vx_base.proofs.ResultLaws.{of_one, of_two}
+use Rattle.vx_base.proofs.laws.pixels.results_are_samples.Goals as goal
+
+pub returns-clause-one : goal.returns-clause-one
+returns-clause-one c = of_one
+
+pub returns-clause-two : goal.returns-clause-two
+returns-clause-two c = of_two

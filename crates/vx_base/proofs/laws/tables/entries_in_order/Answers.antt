@@ -1,0 +1,18 @@
+use Rattle.std.proofs.Common.{◌≡◌, ◌<◌, ◌+ℤ◌, ◌-ℤ◌, ℕ, ℤ, pos, IsTrue, arith}
+use Rattle.std.specs.Prelude.{unsigned_abs}
+use Rattle.std.proofs.lemmas.Int.{ints}
+use Rattle.std.proofs.lemmas.Bool.Decides.{nat_tests}
+use Rattle.vx_base.specs.declared.format.Format.{Format}
+use Rattle.vx_base.specs.declared.format.Format.TheVariants.{U8, S16, U32}
+use Rattle.vx_base.specs.Sample.{IsSample, least}
+use Rattle.vx_base.specs.Lut.{is_full}
+use Rattle.vx_base.proofs.laws.tables.entries_in_order.Goals as goal
+
+-- the place of a sample's entry
+place : (format : Format) (count : ℕ) (a : ℤ) → IsTrue (is_full format count) → IsSample format a → (k : ℕ) × (k < count) × (a ≡ least format +ℤ pos k)
+place U8 count a full s = (unsigned_abs (a -ℤ least U8), grind (arith, nat_tests, ints), omega (arith, ints, s.at_least))
+place S16 count a full s = (unsigned_abs (a -ℤ least S16), grind (arith, nat_tests, ints), omega (arith, ints, s.at_least))
+place U32 count a full s = absurd (grind arith)
+
+pub returns-clause-each_sample : goal.returns-clause-each_sample
+returns-clause-each_sample c lut a = place lut.format _ a

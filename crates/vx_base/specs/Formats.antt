@@ -1,0 +1,46 @@
+-- The formats that a node of each function may have. Which of the standard's are taken is this project's profile.
+use Rattle.std.specs.Prelude.{Bool, true, false, Option, Some, None}
+use Rattle.vx_base.specs.declared.format.Format.{Format}
+use Rattle.vx_base.specs.declared.format.Format.TheVariants.{U8, S16}
+use Rattle.vx_base.specs.declared.function.Function.{Function}
+use Rattle.vx_base.specs.declared.function.Function.TheVariants.{AndBits, OrBits, XorBits, NotBits, Add, Subtract, Multiply, AbsoluteDifference, MinPixel, MaxPixel, Threshold, TableLookup, ConvertDepth}
+
+-- U8 and U8 to U8
+abbrev pub are_bytes : Format → Format → Format → Bool
+are_bytes U8 U8 U8 = true
+are_bytes a b g = false
+
+-- U8 and U8 to U8, or S16 and S16 to S16
+abbrev pub are_equal : Format → Format → Format → Bool
+are_equal U8 U8 U8 = true
+are_equal S16 S16 S16 = true
+are_equal a b g = false
+
+-- each U8 or S16, to S16; U8 and U8 also to U8
+abbrev pub are_arithmetic : Format → Format → Format → Bool
+are_arithmetic U8 U8 U8 = true
+are_arithmetic U8 U8 S16 = true
+are_arithmetic U8 S16 S16 = true
+are_arithmetic S16 U8 S16 = true
+are_arithmetic S16 S16 S16 = true
+are_arithmetic a b g = false
+
+-- whether a function takes these formats: of its first input, of its second, which is that of an image, of a table's
+-- entries or of what a threshold tests, and of its output
+abbrev pub takes_formats : Function → Format → Option Format → Format → Bool
+takes_formats AndBits a (Some b) g = are_bytes a b g
+takes_formats OrBits a (Some b) g = are_bytes a b g
+takes_formats XorBits a (Some b) g = are_bytes a b g
+takes_formats NotBits U8 None U8 = true
+takes_formats Add a (Some b) g = are_arithmetic a b g
+takes_formats Subtract a (Some b) g = are_arithmetic a b g
+takes_formats Multiply a (Some b) g = are_arithmetic a b g
+takes_formats AbsoluteDifference a (Some b) g = are_equal a b g
+takes_formats MinPixel a (Some b) g = are_equal a b g
+takes_formats MaxPixel a (Some b) g = are_equal a b g
+takes_formats Threshold U8 (Some U8) U8 = true
+takes_formats Threshold S16 (Some S16) U8 = true
+takes_formats TableLookup a (Some b) g = are_equal a b g
+takes_formats ConvertDepth U8 None S16 = true
+takes_formats ConvertDepth S16 None U8 = true
+takes_formats function a second g = false

@@ -1,0 +1,19 @@
+-- Lookup tables: an entry for each sample of a format. OpenVX 1.3, "Object: LUT".
+use Rattle.std.specs.Prelude.{ℕ, ℤ, pos, ◌-ℤ◌, ◌==◌, Bool, false, List, slice_index_or, unsigned_abs}
+use Rattle.vx_base.specs.declared.format.Format.{Format}
+use Rattle.vx_base.specs.declared.format.Format.TheVariants.{U8, S16, U32}
+use Rattle.vx_base.specs.Sample.{least, range_size}
+
+pub record LutValue : Type 0 where
+  pub format : Format
+  pub entries : List ℤ
+
+-- whether a table of this format has so many entries: one for each of the 256 or 65,536 samples
+abbrev pub is_full : Format → ℕ → Bool
+is_full U8 count = count == range_size U8
+is_full S16 count = count == range_size S16
+is_full U32 count = false
+
+-- the entry for a sample; the least sample's stands first
+abbrev pub entry_for : LutValue → ℤ → ℤ
+entry_for lut a = slice_index_or lut.entries (unsigned_abs (a -ℤ least lut.format)) (pos 0)

@@ -1,0 +1,35 @@
+-- Thresholds: what is compared with what, and the two values that come of it. OpenVX 1.3, "Object: Threshold".
+use Rattle.std.specs.Prelude.{ℕ, ℤ, Bool, false, ◌&&◌, int_lt, int_le, if◌then◌else◌, Option, Some, None}
+use Rattle.vx_base.specs.declared.format.Format.{Format}
+use Rattle.vx_base.specs.declared.format.Format.TheVariants.{U32}
+use Rattle.vx_base.specs.declared.threshold.ThresholdKind.{ThresholdKind}
+use Rattle.vx_base.specs.declared.threshold.ThresholdKind.TheVariants.{Binary, Range}
+use Rattle.vx_base.specs.Sample.{least, greatest}
+
+-- the format is that of the samples that it tests
+pub record ThresholdValue : Type 0 where
+  pub format : Format
+  pub kind : ThresholdKind
+  pub true_value : ℕ
+  pub false_value : ℕ
+
+-- whether a number is a sample of the format
+abbrev pub is_sample : Format → ℤ → Bool
+is_sample format z = int_le (least format) z && int_le z (greatest format)
+
+-- U8 or S16; the limits are samples of the format, and the upper one is not below the lower
+abbrev pub has_limits : Format → ThresholdKind → Bool
+has_limits U32 kind = false
+has_limits format (Binary t) = is_sample format t
+has_limits format (Range lower upper) = is_sample format lower && (is_sample format upper && int_le lower upper)
+
+abbrev pub threshold : Format → ThresholdKind → ℕ → ℕ → Option ThresholdValue
+threshold format kind true_value false_value =
+    if has_limits format kind
+    then Some (record { format = format; kind = kind; true_value = true_value; false_value = false_value })
+    else None
+
+-- whether a sample passes: it is above t, or from lower to upper
+abbrev pub passes : ThresholdKind → ℤ → Bool
+passes (Binary t) a = int_lt t a
+passes (Range lower upper) a = int_le lower a && int_le a upper

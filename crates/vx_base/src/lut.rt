@@ -1,0 +1,74 @@
+//! Lookup tables.
+ghost use Rattle.std.specs.Prelude.{◌≡◌, IsTrue, IfOk, length, Some, None, if◌then◌else◌};
+ghost use Rattle.vx_base.specs.Lut.{is_full};
+ghost use Rattle.vx_base.specs.Picture.{values, samples_format};
+
+use crate::format::Format;
+use crate::samples::Samples;
+use std::alloc::{AllocError, Global};
+use std::marker::Model;
+
+/// A lookup table of U8 or S16 samples (OpenVX 1.3, `vx_lut`): 256 or 65,536 entries, the one for
+/// the least sample first.
+#[derive(Debug, Drop)]
+pub struct Lut {
+    entries: Samples,
+}
+
+impl Model for Lut {
+    ghost use Rattle.std.specs.Prelude.{IsTrue, length};
+    ghost use Rattle.vx_base.specs.Lut.{LutValue, is_full};
+    ghost use Rattle.vx_base.specs.Picture.{values, samples_format};
+
+    ghost Value = { LutValue };
+
+    ghost view = { λ t. record { format = samples_format t.entries; entries = values t.entries } };
+
+    ghost invariant = { λ t. IsTrue (is_full (samples_format t.entries) (length (values t.entries))) };
+}
+
+impl Lut {
+    ghost use Rattle.vx_base.specs.Lut.{LutValue};
+
+    /// The table with these entries. `None` unless they are 256 of U8 or 65,536 of S16.
+    pub fn new(entries: Samples) -> Option<Lut>
+        ensures { result ≡ (if is_full (samples_format entries) (length (values entries)) then Some (record { format = samples_format entries; entries = values entries }) else None) }
+    {
+        let count = match entries.format() {
+            Format::U8 => 256,
+            Format::S16 => 65_536,
+            Format::U32 => return None,
+        };
+        if entries.len() == count {
+            Some(Lut { entries })
+        } else {
+            None
+        }
+    }
+
+    /// The same table once more.
+    pub fn copy(&self, alloc: Global) -> Result<Lut, AllocError>
+        ensures { IfOk result (λ made. made ≡ self.now) }
+    {
+        Ok(Lut {
+            entries: self.entries.copy(alloc)?,
+        })
+    }
+
+    /// The format of the samples that are looked up, and of the entries.
+    pub fn format(&self) -> Format
+        ensures value { result ≡ self.now.format }
+        ensures full { IsTrue (is_full self.now.format (length self.now.entries)) }
+    {
+        self.entries.format()
+    }
+
+    /// The entries, the one for the least sample first.
+    pub fn entries(&self) -> &Samples
+        ensures format { samples_format result.now ≡ self.now.format }
+        ensures value { values result.now ≡ self.now.entries }
+        ensures full { IsTrue (is_full self.now.format (length self.now.entries)) }
+    {
+        &self.entries
+    }
+}

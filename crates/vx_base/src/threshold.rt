@@ -1,0 +1,117 @@
+//! Thresholds.
+ghost use Rattle.std.specs.Prelude.{◌≡◌, IsTrue};
+ghost use Rattle.vx_base.specs.Threshold.{threshold, has_limits, is_sample};
+
+use crate::format::Format;
+use std::marker::Model;
+
+/// What a sample is compared with (OpenVX 1.3, `vx_threshold_type_e`).
+#[derive(Clone, Copy, PartialEq, Eq, Debug)]
+pub enum ThresholdKind {
+    /// It passes where it is above this.
+    Binary(i16),
+    /// It passes from the lower to the upper limit, both included.
+    Range(i16, i16),
+}
+
+/// A threshold of U8 or S16 samples: what they are compared with, and the two values that come
+/// of it (OpenVX 1.3, `vx_threshold`).
+#[derive(Clone, Copy, PartialEq, Eq, Debug)]
+pub struct ThresholdRule {
+    format: Format,
+    kind: ThresholdKind,
+    true_value: u8,
+    false_value: u8,
+}
+
+impl Model for ThresholdRule {
+    ghost use Rattle.std.specs.Prelude.{IsTrue};
+    ghost use Rattle.vx_base.specs.Threshold.{ThresholdValue, has_limits};
+
+    ghost Value = { ThresholdValue };
+
+    ghost view = { λ t. record { format = t.format; kind = t.kind; true_value = t.true_value; false_value = t.false_value } };
+
+    ghost invariant = { λ t. IsTrue (has_limits t.format t.kind) };
+
+    ghost inverse = { λ t. record { format = t.format; kind = t.kind; true_value = t.true_value; false_value = t.false_value } };
+}
+
+impl ThresholdRule {
+    /// The threshold of samples of this format. `None` unless the format is U8 or S16, the limits
+    /// are samples of it, and the upper one is not below the lower.
+    pub fn new(
+        format: Format,
+        kind: ThresholdKind,
+        true_value: u8,
+        false_value: u8,
+    ) -> Option<ThresholdRule>
+        ensures { result ≡ threshold format kind true_value false_value }
+    {
+        if has_limits(format, kind) {
+            Some(ThresholdRule {
+                format,
+                kind,
+                true_value,
+                false_value,
+            })
+        } else {
+            None
+        }
+    }
+
+    /// The format of the samples that it tests.
+    pub fn format(self) -> Format
+        ensures { result ≡ self.format }
+    {
+        self.format
+    }
+
+    /// What they are compared with.
+    pub fn kind(self) -> ThresholdKind
+        ensures value { result ≡ self.kind }
+        ensures limits { IsTrue (has_limits self.format result) }
+    {
+        self.kind
+    }
+
+    /// What a sample that passes becomes.
+    pub fn true_value(self) -> u8
+        ensures { result ≡ self.true_value }
+    {
+        self.true_value
+    }
+
+    /// What another sample becomes.
+    pub fn false_value(self) -> u8
+        ensures { result ≡ self.false_value }
+    {
+        self.false_value
+    }
+}
+
+/// Whether a number is a sample of the format.
+fn is_sample(format: Format, number: i16) -> bool
+    ensures { result ≡ is_sample format number }
+{
+    match format {
+        Format::U8 => 0 <= number && number <= 255,
+        Format::S16 => true,
+        Format::U32 => 0 <= number,
+    }
+}
+
+/// Whether a threshold of this format may have these limits.
+fn has_limits(format: Format, kind: ThresholdKind) -> bool
+    ensures { result ≡ has_limits format kind }
+{
+    if format == Format::U32 {
+        return false;
+    }
+    match kind {
+        ThresholdKind::Binary(limit) => is_sample(format, limit),
+        ThresholdKind::Range(lower, upper) => {
+            is_sample(format, lower) && is_sample(format, upper) && lower <= upper
+        }
+    }
+}
