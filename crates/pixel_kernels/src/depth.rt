@@ -42,7 +42,7 @@ impl<P: Overflow> OfOne<i16, u8> for Narrowed<P> {
     }
 }
 
-/// Writes the samples in another format (OpenVX 1.3, "Bit Depth Conversion"): of U8 to S16 times
+/// Writes the samples in another format (OpenVX 1.3, "Convert Bit Depth"): of U8 to S16 times
 /// 2^amount; of S16 to U8 over 2^amount, rounded down and narrowed by the policy.
 pub fn convert_depth(image: &Image<'_>, output: &mut ImageMut<'_>, policy: Policy, amount: u8)
     requires fits { Fits ConvertDepth image.now None output.old }
