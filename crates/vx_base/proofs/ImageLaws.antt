@@ -1,17 +1,19 @@
 -- Images as functions of places.
-use Rattle.std.proofs.Common.{◌≡◌, ℕ, ℤ, pos, ◌+◌, ◌*◌, ◌/◌, ◌%◌, ◌<◌, ◌⊎◌, inl, inr, List, ◌++◌, length, get_or, ap, ◌∙◌, sym, arith, true, false, Bool, zero, suc, add-one, cond, refl}
+use Rattle.std.proofs.Common.{◌≡◌, ℕ, ℤ, pos, ◌+◌, ◌*◌, ◌/◌, ◌%◌, ◌<◌, ◌⊎◌, inl, inr, List, ◌++◌, length, get_or, ap, ◌∙◌, sym, arith, true, false, Bool, zero, suc, add-one, cond, refl, subst}
 use Rattle.std.proofs.lemmas.Bool.Decides.{nat_tests}
 use Rattle.std.proofs.lemmas.List.{ext_get_or, get_or-append_right}
 use Rattle.std.proofs.Math.ListN.{get_or-append}
 use Rattle.std.proofs.Math.Nat.{div-lt_iff_lt-mul}
 use Rattle.std.proofs.lemmas.Nat.{div-add-mod'}
 use Rattle.vx_base.specs.declared.format.Format.{Format}
+use Rattle.vx_base.specs.Sample.{IsSample}
+use Rattle.vx_base.proofs.ResultLaws.{zero_sample}
 use Rattle.vx_base.specs.Rectangle.{Rectangle, inside, whole, IsOrdered, IsWithin}
 use Rattle.vx_base.specs.Image.{ImageValue, IsImage, run, table, within, at, made, new_image}
 use Rattle.vx_base.proofs.TableLaws.{table-more, length-table, get_or-run}
 
 -- a place of a row above the last
-above : (width height x y : ℕ) → x < width → y < height → y * width + x < height * width
+pub above : (width height x y : ℕ) → x < width → y < height → y * width + x < height * width
 above width height x y a b = grind arith
 
 last_or_not : (y height : ℕ) → y < suc height → (y < height) ⊎ (y ≡ height)
@@ -44,6 +46,10 @@ within_true r f x y h = ap (λ b. cond b (f x y) (pos 0)) h
 within_false : (r : Rectangle) (f : ℕ → ℕ → ℤ) (x y : ℕ) → inside r x y ≡ false → within r f x y ≡ pos 0
 within_false r f x y h = ap (λ b. cond b (f x y) (pos 0)) h
 
+true_or_false : (b : Bool) → (b ≡ true) ⊎ (b ≡ false)
+true_or_false true = inl refl
+true_or_false false = inr refl
+
 module _ (width height : ℕ) (format : Format) (valid : Rectangle) (f : ℕ → ℕ → ℤ) where
   pub at-made : (x y : ℕ) → x < width → y < height → inside valid x y ≡ true → at (made width height format valid f) x y ≡ f x y
   at-made x y a b h = get_or-table width height x y (within valid f) a b ∙ within_true valid f x y h
@@ -51,8 +57,17 @@ module _ (width height : ℕ) (format : Format) (valid : Rectangle) (f : ℕ →
   pub at-made_outside : (x y : ℕ) → x < width → y < height → inside valid x y ≡ false → at (made width height format valid f) x y ≡ pos 0
   at-made_outside x y a b h = get_or-table width height x y (within valid f) a b ∙ within_false valid f x y h
 
-  pub made_image : IsOrdered valid → IsWithin valid width height → IsImage (made width height format valid f)
-  made_image ordered room = record { size = length-table width height (within valid f); ordered = ordered; room = room; outside = at-made_outside }
+  -- samples at the valid places, and 0 elsewhere
+  made_sampled : ((x y : ℕ) → inside valid x y ≡ true → IsSample format (f x y)) → (x y : ℕ) → x < width → y < height → IsSample format (at (made width height format valid f) x y)
+  made_sampled sampled x y a b = cases (true_or_false (inside valid x y))
+    where
+      cases : (inside valid x y ≡ true) ⊎ (inside valid x y ≡ false) → IsSample format (at (made width height format valid f) x y)
+      cases (inl e) = let Q : ℤ → Type 0 = λ z. IsSample format z in subst Q (sym (at-made x y a b e)) (sampled x y e)
+      cases (inr e) = let Q : ℤ → Type 0 = λ z. IsSample format z in subst Q (sym (at-made_outside x y a b e)) (zero_sample format)
+
+  pub made_image : IsOrdered valid → IsWithin valid width height → ((x y : ℕ) → inside valid x y ≡ true → IsSample format (f x y)) → IsImage (made width height format valid f)
+  made_image ordered room sampled =
+      record { size = length-table width height (within valid f); ordered = ordered; room = room; sampled = made_sampled sampled; outside = at-made_outside }
 
 -- every index is the one of a place
 pub index_of_place : (width height k : ℕ) → k < height * width → (x : ℕ) × (y : ℕ) × (x < width) × (y < height) × (y * width + x ≡ k)
@@ -80,33 +95,34 @@ places_decide a b p q w h f v same =
     (same_samples a.samples b.samples a.width a.height p.size (q.size ∙ ap (λ n. n * b.width) (sym h) ∙ ap (λ n. a.height * n) (sym w))
     (λ x y i j. same x y i j ∙ ap (λ n. get_or b.samples (y * n + x) (pos 0)) (sym w)))
 
-true_or_false : (b : Bool) → (b ≡ true) ⊎ (b ≡ false)
-true_or_false true = inl refl
-true_or_false false = inr refl
-
-pub made_of_itself : (a : ImageValue) → IsImage a → made a.width a.height a.format a.valid (at a) ≡ a
-made_of_itself a h =
-    places_decide (made a.width a.height a.format a.valid (at a)) a (made_image a.width a.height a.format a.valid (at a) h.ordered h.room) h refl refl refl refl
-    (λ x y i j. cases x y i j (true_or_false (inside a.valid x y)))
-  where
-    cases : (x y : ℕ) → x < a.width → y < a.height → (inside a.valid x y ≡ true) ⊎ (inside a.valid x y ≡ false) → at (made a.width a.height a.format a.valid (at a)) x y ≡ at a x y
-    cases x y i j (inl e) = at-made a.width a.height a.format a.valid (at a) x y i j e
-    cases x y i j (inr e) = at-made_outside a.width a.height a.format a.valid (at a) x y i j e ∙ sym (h.outside x y i j e)
-
-inside_whole : (width height x y : ℕ) → x < width → y < height → inside (whole width height) x y ≡ true
-inside_whole width height x y a b = grind (arith, nat_tests)
-
-pub new_image_is : (width height : ℕ) (format : Format) → IsImage (new_image width height format)
-new_image_is width height format =
-    made_image width height format (whole width height) (λ _ _. pos 0)
-    (record { columns = omega arith; rows = omega arith }) (record { columns = omega arith; rows = omega arith })
-
-pub at-new_image : (width height : ℕ) (format : Format) (x y : ℕ) → x < width → y < height → at (new_image width height format) x y ≡ pos 0
-at-new_image width height format x y a b = at-made width height format (whole width height) (λ _ _. pos 0) x y a b (inside_whole width height x y a b)
-
 -- a valid place is a place
 pub column_inside : (r : Rectangle) (width height x y : ℕ) → IsWithin r width height → inside r x y ≡ true → x < width
 column_inside r width height x y room h = let a : x < r.x1 = grind (arith, nat_tests) in omega arith
 
 pub row_inside : (r : Rectangle) (width height x y : ℕ) → IsWithin r width height → inside r x y ≡ true → y < height
 row_inside r width height x y room h = let a : y < r.y1 = grind (arith, nat_tests) in omega arith
+
+-- at a valid place there is a sample
+pub valid_sampled : (a : ImageValue) (x y : ℕ) → IsImage a → inside a.valid x y ≡ true → IsSample a.format (at a x y)
+valid_sampled a x y h e = h.sampled x y (column_inside a.valid a.width a.height x y h.room e) (row_inside a.valid a.width a.height x y h.room e)
+
+pub made_of_itself : (a : ImageValue) → IsImage a → made a.width a.height a.format a.valid (at a) ≡ a
+made_of_itself a h =
+    places_decide (made a.width a.height a.format a.valid (at a)) a (made_image a.width a.height a.format a.valid (at a) h.ordered h.room (λ x y e. valid_sampled a x y h e)) h refl refl refl refl
+    (λ x y i j. cases x y i j (true_or_false (inside a.valid x y)))
+  where
+    cases : (x y : ℕ) → x < a.width → y < a.height → (inside a.valid x y ≡ true) ⊎ (inside a.valid x y ≡ false) → at (made a.width a.height a.format a.valid (at a)) x y ≡ at a x y
+    cases x y i j (inl e) = at-made a.width a.height a.format a.valid (at a) x y i j e
+    cases x y i j (inr e) = at-made_outside a.width a.height a.format a.valid (at a) x y i j e ∙ sym (h.outside x y i j e)
+
+pub inside_whole : (width height x y : ℕ) → x < width → y < height → inside (whole width height) x y ≡ true
+inside_whole width height x y a b = grind (arith, nat_tests)
+
+pub new_image_is : (width height : ℕ) (format : Format) → IsImage (new_image width height format)
+new_image_is width height format =
+    made_image width height format (whole width height) (λ _ _. pos 0)
+    (record { columns = omega arith; rows = omega arith }) (record { columns = omega arith; rows = omega arith })
+    (λ x y e. zero_sample format)
+
+pub at-new_image : (width height : ℕ) (format : Format) (x y : ℕ) → x < width → y < height → at (new_image width height format) x y ≡ pos 0
+at-new_image width height format x y a b = at-made width height format (whole width height) (λ _ _. pos 0) x y a b (inside_whole width height x y a b)

@@ -5,3 +5,5 @@ pub mod ImageLaws
 pub mod PixelLaws
 pub mod ZeroLaws
 pub mod ResultLaws
+pub mod NodeLaws
+pub mod PictureLaws

@@ -2,23 +2,26 @@
 use Rattle.std.proofs.Common.{◌≡◌, ℕ, ℤ, ◌≤◌, true, arith}
 use Rattle.std.specs.Prelude.{min, max}
 use Rattle.vx_base.specs.declared.format.Format.{Format}
+use Rattle.vx_base.specs.Sample.{IsSample}
 use Rattle.vx_base.specs.Rectangle.{inside, meet_of, IsOrdered, IsWithin}
 use Rattle.vx_base.specs.Image.{ImageValue, IsImage, at}
 use Rattle.vx_base.specs.Pixelwise.{from_one, from_two}
-use Rattle.vx_base.proofs.RectangleLaws.{bounded_ordered, bounded_within, inside_meet}
-use Rattle.vx_base.proofs.ImageLaws.{made_image, at-made, column_inside, row_inside}
+use Rattle.vx_base.proofs.RectangleLaws.{bounded_ordered, bounded_within, inside_meet, both_inside}
+use Rattle.vx_base.proofs.ImageLaws.{made_image, at-made, column_inside, row_inside, valid_sampled}
 
-pub from_one_is : (format : Format) (f : ℤ → ℤ) (a : ImageValue) → IsImage a → IsImage (from_one format f a)
-from_one_is format f a h = made_image a.width a.height format a.valid (λ x y. f (at a x y)) h.ordered h.room
+pub from_one_is : (format : Format) (f : ℤ → ℤ) (a : ImageValue) → IsImage a → ((z : ℤ) → IsSample a.format z → IsSample format (f z)) → IsImage (from_one format f a)
+from_one_is format f a h gives =
+    made_image a.width a.height format a.valid (λ x y. f (at a x y)) h.ordered h.room (λ x y e. gives (at a x y) (valid_sampled a x y h e))
 
 pub at-from_one : (format : Format) (f : ℤ → ℤ) (a : ImageValue) (x y : ℕ) → IsImage a → inside a.valid x y ≡ true → at (from_one format f a) x y ≡ f (at a x y)
 at-from_one format f a x y h e =
     at-made a.width a.height format a.valid (λ x y. f (at a x y)) x y
     (column_inside a.valid a.width a.height x y h.room e) (row_inside a.valid a.width a.height x y h.room e) e
 
-pub from_two_is : (format : Format) (f : ℤ → ℤ → ℤ) (a b : ImageValue) → IsImage a → IsImage b → IsImage (from_two format f a b)
-from_two_is format f a b h k =
+pub from_two_is : (format : Format) (f : ℤ → ℤ → ℤ) (a b : ImageValue) → IsImage a → IsImage b → ((y z : ℤ) → IsSample a.format y → IsSample b.format z → IsSample format (f y z)) → IsImage (from_two format f a b)
+from_two_is format f a b h k gives =
     made_image a.width a.height format (meet_of a.valid b.valid) (λ x y. f (at a x y) (at b x y)) ordered room
+    (λ x y e. let p = both_inside a.valid b.valid x y e in gives (at a x y) (at b x y) (valid_sampled a x y h p.0) (valid_sampled b x y k p.1))
   where
     ordered : IsOrdered (meet_of a.valid b.valid)
     ordered = bounded_ordered (max a.valid.x0 b.valid.x0) (max a.valid.y0 b.valid.y0) (min a.valid.x1 b.valid.x1) (min a.valid.y1 b.valid.y1)

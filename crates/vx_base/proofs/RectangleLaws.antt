@@ -99,6 +99,14 @@ inside_meet r s x y p q =
     bounded_inside (max r.x0 s.x0) (max r.y0 s.y0) (min r.x1 s.x1) (min r.y1 s.y1) x y
     ∙ in_between _ x y (record { left = omega arith; right = omega arith; top = omega arith; bottom = omega arith })
 
+-- a place in the meet is in both
+pub both_inside : (r s : Rectangle) (x y : ℕ) → inside (meet_of r s) x y ≡ true → (inside r x y ≡ true) × (inside s x y ≡ true)
+both_inside r s x y h =
+    let b = between _ x y (sym (bounded_inside (max r.x0 s.x0) (max r.y0 s.y0) (min r.x1 s.x1) (min r.y1 s.y1) x y) ∙ h) in (
+      in_between r x y (record { left = omega (arith, b.left); right = omega (arith, b.right); top = omega (arith, b.top); bottom = omega (arith, b.bottom) }),
+      in_between s x y (record { left = omega (arith, b.left); right = omega (arith, b.right); top = omega (arith, b.top); bottom = omega (arith, b.bottom) }),
+    )
+
 pub shrunk_places : (r : Rectangle) (rx ry x y : ℕ) → IsTrue (inside (shrunk r rx ry) x y) ↔ ((rx ≤ x) × (ry ≤ y) × ((i j : ℕ) → x ≤ i + rx → i ≤ x + rx → y ≤ j + ry → j ≤ y + ry → IsTrue (inside r i j)))
 shrunk_places r rx ry x y = (there, back)
   where

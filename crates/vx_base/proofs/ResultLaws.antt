@@ -50,7 +50,7 @@ smaller_sample format a b p q = search rules
 greater_sample : (format : Format) (a b : ℤ) → IsSample format a → IsSample format b → IsSample format (greater a b)
 greater_sample format a b p q = search rules
 
-zero_sample : (format : Format) → IsSample format (pos 0)
+pub zero_sample : (format : Format) → IsSample format (pos 0)
 zero_sample format = search rules
 
 -- 255 times 2^7 is no more than 32767
@@ -63,17 +63,17 @@ widened_sample n (pos a) h p = widened a (2 ^ n) (omega (arith, ints, p.at_most)
 
 -- ---- the functions
 
-not_so : {A : Type 0} → IsTrue false → A
+pub not_so : {A : Type 0} → IsTrue false → A
 not_so h = absurd (grind arith)
 
-pub of_one : (function : Function) (first output : Format) (policy : Policy) (n : ℕ) (a : ℤ) → IsTrue (takes_formats function first None output) → IsTrue (has_amount (parameters function) policy n) → IsSample first a → IsSample output (formula_of_one function output policy n a)
+pub of_one : (function : Function) (first output : Format) (policy : Policy) (n : ℕ) (a : ℤ) → IsTrue (takes_formats function first None (Some output)) → IsTrue (has_amount (parameters function) policy n) → IsSample first a → IsSample output (formula_of_one function output policy n a)
 of_one NotBits U8 U8 policy n a t h s = search rules
 of_one ConvertDepth U8 S16 policy n a t h s = widened_sample n a (grind arith) s
 of_one ConvertDepth S16 U8 policy n a t h s = narrow_sample U8 policy (int_div_euclid a (pos (2 ^ n)))
 of_one Threshold U8 output policy n a t h s = not_so t
 of_one function first output policy n a t h s = not_so t
 
-pub of_two : (function : Function) (first second output : Format) (policy : Policy) (n : ℕ) (a b : ℤ) → IsTrue (takes_formats function first (Some second) output) → IsSample first a → IsSample second b → IsSample output (formula_of_two function output policy n a b)
+pub of_two : (function : Function) (first second output : Format) (policy : Policy) (n : ℕ) (a b : ℤ) → IsTrue (takes_formats function first (Some second) (Some output)) → IsSample first a → IsSample second b → IsSample output (formula_of_two function output policy n a b)
 of_two AndBits U8 U8 U8 policy n a b t p q = and_sample a b p q
 of_two OrBits U8 U8 U8 policy n a b t p q = or_sample a b p q
 of_two XorBits U8 U8 U8 policy n a b t p q = xor_sample a b p q

@@ -1,5 +1,5 @@
 -- An image's description: its size and format.
-use Rattle.std.specs.Prelude.{ℕ, ◌*◌, Bool, ◌&&◌, nat_le, if◌then◌else◌, Option, Some, None}
+use Rattle.std.specs.Prelude.{ℕ, ◌*◌, ◌==◌, Bool, ◌&&◌, nat_le, IsTrue, if◌then◌else◌, Option, Some, None}
 use Rattle.vx_base.specs.declared.format.Format.{Format}
 use Rattle.vx_base.specs.Sample.{sample_bytes}
 
@@ -24,3 +24,12 @@ sample_count d = d.height * d.width
 -- how many bytes these samples take
 abbrev pub byte_count : Description → ℕ
 byte_count d = sample_count d * sample_bytes d.format
+
+-- whether two images are as wide and as high
+abbrev pub same_size : Description → Description → Bool
+same_size a b = (a.width == b.width) && (a.height == b.height)
+
+-- a description whose sides are allowed
+pub record IsDescription (d : Description) : Type 0 where
+  pub width : IsTrue (is_side d.width)
+  pub height : IsTrue (is_side d.height)

@@ -25,22 +25,22 @@ are_arithmetic S16 U8 S16 = true
 are_arithmetic S16 S16 S16 = true
 are_arithmetic a b g = false
 
--- whether a function takes these formats: of its first input, of its second, which is that of an image, of a table's
--- entries or of what a threshold tests, and of its output
-abbrev pub takes_formats : Function → Format → Option Format → Format → Bool
-takes_formats AndBits a (Some b) g = are_bytes a b g
-takes_formats OrBits a (Some b) g = are_bytes a b g
-takes_formats XorBits a (Some b) g = are_bytes a b g
-takes_formats NotBits U8 None U8 = true
-takes_formats Add a (Some b) g = are_arithmetic a b g
-takes_formats Subtract a (Some b) g = are_arithmetic a b g
-takes_formats Multiply a (Some b) g = are_arithmetic a b g
-takes_formats AbsoluteDifference a (Some b) g = are_equal a b g
-takes_formats MinPixel a (Some b) g = are_equal a b g
-takes_formats MaxPixel a (Some b) g = are_equal a b g
-takes_formats Threshold U8 (Some U8) U8 = true
-takes_formats Threshold S16 (Some S16) U8 = true
-takes_formats TableLookup a (Some b) g = are_equal a b g
-takes_formats ConvertDepth U8 None S16 = true
-takes_formats ConvertDepth S16 None U8 = true
-takes_formats function a second g = false
+-- whether a function takes these formats: of its first input, of its second and of its output. A second input's is that of
+-- an image, of a table's entries or of what a threshold tests; none stands for no second input, or for one without a format.
+abbrev pub takes_formats : Function → Format → Option Format → Option Format → Bool
+takes_formats AndBits a (Some b) (Some g) = are_bytes a b g
+takes_formats OrBits a (Some b) (Some g) = are_bytes a b g
+takes_formats XorBits a (Some b) (Some g) = are_bytes a b g
+takes_formats NotBits U8 None (Some U8) = true
+takes_formats Add a (Some b) (Some g) = are_arithmetic a b g
+takes_formats Subtract a (Some b) (Some g) = are_arithmetic a b g
+takes_formats Multiply a (Some b) (Some g) = are_arithmetic a b g
+takes_formats AbsoluteDifference a (Some b) (Some g) = are_equal a b g
+takes_formats MinPixel a (Some b) (Some g) = are_equal a b g
+takes_formats MaxPixel a (Some b) (Some g) = are_equal a b g
+takes_formats Threshold U8 (Some U8) (Some U8) = true
+takes_formats Threshold S16 (Some S16) (Some U8) = true
+takes_formats TableLookup a (Some b) (Some g) = are_equal a b g
+takes_formats ConvertDepth U8 None (Some S16) = true
+takes_formats ConvertDepth S16 None (Some U8) = true
+takes_formats function a second output = false

@@ -2,7 +2,9 @@
 use Rattle.std.specs.Prelude.{ℕ, ℤ, pos, ◌+◌, ◌*◌, ◌<◌, ◌≡◌, false, List, map, length, slice_index_or, if◌then◌else◌}
 use Rattle.std.specs.List.{range_with_len, flat_map}
 use Rattle.vx_base.specs.declared.format.Format.{Format}
+use Rattle.vx_base.specs.Sample.{IsSample}
 use Rattle.vx_base.specs.Rectangle.{Rectangle, inside, whole, IsOrdered, IsWithin}
+use Rattle.vx_base.specs.Description.{Description}
 
 -- f x, f (x + 1), .. at n places
 abbrev pub run : ℕ → ℕ → (ℕ → ℤ) → List ℤ
@@ -24,15 +26,23 @@ pub record ImageValue : Type 0 where
   pub valid : Rectangle
   pub samples : List ℤ
 
+abbrev pub description_of : ImageValue → Description
+description_of image = record { width = image.width; height = image.height; format = image.format }
+
+-- the image of a description, a rectangle and samples
+abbrev pub image_over : Description → Rectangle → List ℤ → ImageValue
+image_over d valid samples = record { width = d.width; height = d.height; format = d.format; valid = valid; samples = samples }
+
 -- the sample in column x of row y
 abbrev pub at : ImageValue → ℕ → ℕ → ℤ
 at image x y = slice_index_or image.samples (y * image.width + x) (pos 0)
 
--- a sample for each place, and 0 at each that is not valid
+-- at each place a sample of the format, which is 0 where the place is not valid
 pub record IsImage (image : ImageValue) : Type 0 where
   pub size : length image.samples ≡ image.height * image.width
   pub ordered : IsOrdered image.valid
   pub room : IsWithin image.valid image.width image.height
+  pub sampled : (x y : ℕ) → x < image.width → y < image.height → IsSample image.format (at image x y)
   pub outside : (x y : ℕ) → x < image.width → y < image.height → inside image.valid x y ≡ false → at image x y ≡ pos 0
 
 -- the image whose samples are f at the valid places and 0 elsewhere

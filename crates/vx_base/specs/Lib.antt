@@ -12,3 +12,4 @@ pub mod Lut
 pub mod Threshold
 pub mod Object
 pub mod Pixelwise
+pub mod Outputs

@@ -1,8 +1,8 @@
 -- Lookup tables: an entry for each sample of a format. OpenVX 1.3, "Object: LUT".
-use Rattle.std.specs.Prelude.{ℕ, ℤ, pos, ◌-ℤ◌, ◌==◌, Bool, false, List, slice_index_or, unsigned_abs}
+use Rattle.std.specs.Prelude.{ℕ, ℤ, pos, ◌-ℤ◌, ◌==◌, Bool, false, IsTrue, List, length, All, slice_index_or, unsigned_abs}
 use Rattle.vx_base.specs.declared.format.Format.{Format}
 use Rattle.vx_base.specs.declared.format.Format.TheVariants.{U8, S16, U32}
-use Rattle.vx_base.specs.Sample.{least, range_size}
+use Rattle.vx_base.specs.Sample.{least, range_size, IsSample}
 
 pub record LutValue : Type 0 where
   pub format : Format
@@ -17,3 +17,8 @@ is_full U32 count = false
 -- the entry for a sample; the least sample's stands first
 abbrev pub entry_for : LutValue → ℤ → ℤ
 entry_for lut a = slice_index_or lut.entries (unsigned_abs (a -ℤ least lut.format)) (pos 0)
+
+-- an entry of the format for each of its samples
+pub record IsLut (lut : LutValue) : Type 0 where
+  pub full : IsTrue (is_full lut.format (length lut.entries))
+  pub sampled : All (IsSample lut.format) lut.entries

@@ -1,23 +1,27 @@
 -- Nodes, which read and write cells.
-use Rattle.std.specs.Prelude.{ℕ, Bool, true, false, not, ◌&&◌, ◌||◌, ◌==◌, nat_le, if◌then◌else◌, Option, Some, None, is_some, is_none, unwrap_or}
+use Rattle.std.specs.Prelude.{ℕ, ◌<◌, ◌^◌, Bool, true, false, not, ◌&&◌, ◌||◌, ◌==◌, nat_le, IsTrue, ⊤, if◌then◌else◌, List, [], ◌∷◌, ◌++◌, Option, Some, None, IfSome, is_some, is_none, unwrap_or}
+use Rattle.vx_base.specs.declared.border.Border.{Border}
+use Rattle.vx_base.specs.declared.border.Border.TheVariants.{Undefined, Constant, Replicate}
+use Rattle.vx_base.specs.declared.kind.Kind.{Kind}
+use Rattle.vx_base.specs.declared.kind.Kind.TheVariants as kind
 use Rattle.vx_base.specs.declared.policy.Policy.{Policy}
 use Rattle.vx_base.specs.declared.policy.Policy.TheVariants.{Wrap, Saturate}
 use Rattle.vx_base.specs.declared.function.Parameters.{Parameters}
 use Rattle.vx_base.specs.declared.node.Node.{Node}
 use Rattle.vx_base.specs.Function.{parameters}
-use Rattle.vx_base.specs.Cell.{Cell}
+use Rattle.vx_base.specs.Cell.{Cell, IsCell}
 
 -- name 0 without a slot stands for no operand
 abbrev pub is_nothing : Cell → Bool
 is_nothing cell = (cell.name == 0) && is_none cell.slot
 
--- whether an operand that may be left out is one
-abbrev pub is_given : Option Cell → Bool
-is_given None = true
-is_given (Some cell) = not (is_nothing cell)
+-- whether an operand, if there is one, names something
+abbrev pub is_named : Option Cell → Bool
+is_named None = true
+is_named (Some cell) = not (is_nothing cell)
 
-abbrev pub all_given : Node → Bool
-all_given n = not (is_nothing n.in1) && (is_given n.in2 && (is_given n.out1 && is_given n.out2))
+abbrev pub all_named : Node → Bool
+all_named n = not (is_nothing n.in1) && (is_named n.in2 && (is_named n.out1 && is_named n.out2))
 
 abbrev pub is_wrap : Policy → Bool
 is_wrap Wrap = true
@@ -30,13 +34,55 @@ has_amount p policy amount = (p.policy || is_wrap policy) && nat_le amount (unwr
 -- the second input is there where the function has one; a function of two outputs has one of them or both, every other its first
 abbrev pub has_operands : Parameters → Node → Bool
 has_operands p n =
-    (if p.second_input then is_some n.in2 else is_none n.in2)
+    (if is_some p.second_input then is_some n.in2 else is_none n.in2)
     && (if p.output_pair then (is_some n.out1 || is_some n.out2) else (is_some n.out1 && is_none n.out2))
 
 -- whether a node has what its function has and nothing else
 abbrev pub is_node : Node → Bool
-is_node n = has_amount (parameters n.function) n.policy n.amount && (has_operands (parameters n.function) n && all_given n)
+is_node n = has_amount (parameters n.function) n.policy n.amount && (has_operands (parameters n.function) n && all_named n)
 
 -- the node with these fields, if it is one
 abbrev pub node_spec : Node → Option Node
 node_spec n = if is_node n then Some n else None
+
+-- ---- what a node names
+
+abbrev pub given : Option Cell → List Cell
+given None = []
+given (Some cell) = cell ∷ []
+
+-- the cells that a node reads, and those that it writes
+abbrev pub inputs : Node → List Cell
+inputs n = n.in1 ∷ given n.in2
+
+abbrev pub outputs : Node → List Cell
+outputs n = given n.out1 ++ given n.out2
+
+-- the kind of object that the function has as its second input; where it has none, no node names one
+abbrev pub second_kind : Node → Kind
+second_kind n = unwrap_or (parameters n.function).second_input kind.Image
+
+abbrev pub with_kind : Kind → Option Cell → List (Cell × Kind)
+with_kind k None = []
+with_kind k (Some cell) = (cell, k) ∷ []
+
+-- all cells that a node names, each with the kind of object that its function has there
+abbrev pub operands : Node → List (Cell × Kind)
+operands n =
+    (n.in1, kind.Image) ∷ (with_kind (second_kind n) n.in2
+    ++ (with_kind (parameters n.function).output n.out1 ++ with_kind (parameters n.function).output n.out2))
+
+abbrev pub IsBorder : Border → Type 0
+IsBorder Undefined = ⊤
+IsBorder (Constant value) = value < 2 ^ 8
+IsBorder Replicate = ⊤
+
+-- a node that has what its function has, of numbers that their types allow
+pub record IsNode (n : Node) : Type 0 where
+  pub shape : IsTrue (is_node n)
+  pub border : IsBorder n.border
+  pub amount : n.amount < 2 ^ 8
+  pub in1 : IsCell n.in1
+  pub in2 : IfSome n.in2 IsCell
+  pub out1 : IfSome n.out1 IsCell
+  pub out2 : IfSome n.out2 IsCell

@@ -1,10 +1,13 @@
 -- A picture: the samples of a whole image, with no rectangle.
-use Rattle.std.specs.Prelude.{ℤ, pos, ◌≡◌, List, map, length}
+use Rattle.std.specs.Prelude.{ℤ, pos, ◌≡◌, List, map, length, All}
 use Rattle.vx_base.specs.declared.format.Format.{Format}
 use Rattle.vx_base.specs.declared.format.Format.TheVariants.{U8 as FormatU8, S16 as FormatS16, U32 as FormatU32}
 use Rattle.vx_base.specs.declared.samples.Samples.{Samples}
 use Rattle.vx_base.specs.declared.samples.Samples.TheVariants.{U8, S16, U32}
-use Rattle.vx_base.specs.Description.{Description, sample_count}
+use Rattle.vx_base.specs.Sample.{IsSample}
+use Rattle.vx_base.specs.Rectangle.{whole}
+use Rattle.vx_base.specs.Description.{Description, IsDescription, sample_count}
+use Rattle.vx_base.specs.Image.{ImageValue, description_of, image_over}
 
 -- the samples as numbers
 abbrev pub values : Samples → List ℤ
@@ -21,7 +24,21 @@ pub record PictureValue : Type 0 where
   pub description : Description
   pub samples : List ℤ
 
+-- the picture of all places of an image
+abbrev pub picture_of : ImageValue → PictureValue
+picture_of image = record { description = description_of image; samples = image.samples }
+
+-- the image that a picture makes: wholly valid
+abbrev pub pictured : PictureValue → ImageValue
+pictured p = image_over p.description (whole p.description.width p.description.height) p.samples
+
+-- a sample of the format for each place
+pub record IsPicture (p : PictureValue) : Type 0 where
+  pub description : IsDescription p.description
+  pub size : length p.samples ≡ sample_count p.description
+  pub sampled : All (IsSample p.description.format) p.samples
+
 -- samples of the description's format, one for each place
-pub record Fills (d : Description) (samples : Samples) : Type 0 where
+pub record Describes (d : Description) (samples : Samples) : Type 0 where
   pub format : samples_format samples ≡ d.format
   pub size : length (values samples) ≡ sample_count d

@@ -1,5 +1,5 @@
 -- A sample is a whole number; a format is a range of them.
-use Rattle.std.specs.Prelude.{ℕ, ℤ, pos, negsuc, ◌≡◌, ◌≤ℤ◌, ◌+ℤ◌, ◌-ℤ◌, ◌*ℤ◌, if◌then◌else◌, int_lt, unsigned_abs}
+use Rattle.std.specs.Prelude.{ℕ, ℤ, pos, negsuc, Bool, true, false, ◌≡◌, ◌≤ℤ◌, ◌+ℤ◌, ◌-ℤ◌, ◌*ℤ◌, if◌then◌else◌, int_lt, unsigned_abs}
 use Rattle.std.specs.Int.{int_rem_euclid, int_max, int_min}
 use Rattle.vx_base.specs.declared.format.Format.{Format}
 use Rattle.vx_base.specs.declared.format.Format.TheVariants.{U8, S16, U32}
@@ -11,6 +11,12 @@ abbrev pub sample_bytes : Format → ℕ
 sample_bytes U8 = 1
 sample_bytes S16 = 2
 sample_bytes U32 = 4
+
+abbrev pub same_format : Format → Format → Bool
+same_format U8 U8 = true
+same_format S16 S16 = true
+same_format U32 U32 = true
+same_format a b = false
 
 -- how many numbers are samples of the format
 abbrev pub range_size : Format → ℕ

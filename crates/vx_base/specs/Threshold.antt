@@ -1,5 +1,5 @@
 -- Thresholds: what is compared with what, and the two values that come of it. OpenVX 1.3, "Object: Threshold".
-use Rattle.std.specs.Prelude.{ℕ, ℤ, Bool, false, ◌&&◌, int_lt, int_le, if◌then◌else◌, Option, Some, None}
+use Rattle.std.specs.Prelude.{ℕ, ℤ, ◌<◌, ◌^◌, Bool, false, ◌&&◌, IsTrue, int_lt, int_le, if◌then◌else◌, Option, Some, None}
 use Rattle.vx_base.specs.declared.format.Format.{Format}
 use Rattle.vx_base.specs.declared.format.Format.TheVariants.{U32}
 use Rattle.vx_base.specs.declared.threshold.ThresholdKind.{ThresholdKind}
@@ -33,3 +33,9 @@ threshold format kind true_value false_value =
 abbrev pub passes : ThresholdKind → ℤ → Bool
 passes (Binary t) a = int_lt t a
 passes (Range lower upper) a = int_le lower a && int_le a upper
+
+-- limits that are allowed, and two U8 samples
+pub record IsThreshold (t : ThresholdValue) : Type 0 where
+  pub limits : IsTrue (has_limits t.format t.kind)
+  pub true_value : t.true_value < 2 ^ 8
+  pub false_value : t.false_value < 2 ^ 8

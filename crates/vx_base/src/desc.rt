@@ -1,6 +1,6 @@
 //! Descriptions of images.
-ghost use Rattle.std.specs.Prelude.{◌≡◌, ◌≤◌, ◌*◌};
-ghost use Rattle.vx_base.specs.Description.{description, sample_count, byte_count};
+ghost use Rattle.std.specs.Prelude.{◌≡◌, ◌≤◌, ◌*◌, IsTrue, ◌&&◌};
+ghost use Rattle.vx_base.specs.Description.{description, is_side, IsDescription, same_size, sample_count, byte_count};
 ghost use Rattle.vx_base.specs.Rectangle.{whole};
 
 use crate::format::Format;
@@ -38,14 +38,36 @@ impl Desc {
     {
         let sides = 1..=GREATEST_SIDE;
         if sides.contains(&width) && sides.contains(&height) {
-            Some(Desc {
-                width,
-                height,
-                format,
-            })
+            Some(Desc::with_sides(width, height, format))
         } else {
             None
         }
+    }
+
+    /// The description of an image of this width and height, which are 1 to 4096.
+    pub fn with_sides(width: u16, height: u16, format: Format) -> Desc
+        requires { IsTrue (is_side width && is_side height) }
+        ensures { result ≡ record { width = width; height = height; format = format } }
+    {
+        Desc {
+            width,
+            height,
+            format,
+        }
+    }
+
+    /// Its sides are allowed, which the prover knows where they are read.
+    pub fn has_sides(self)
+        ensures { IsDescription self }
+    {
+        let _sides = (self.width, self.height);
+    }
+
+    /// Whether the images are as wide and as high.
+    pub fn has_size_of(self, other: Desc) -> bool
+        ensures { result ≡ same_size self other }
+    {
+        self.width == other.width && self.height == other.height
     }
 
     /// The samples of a row.

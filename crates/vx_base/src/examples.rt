@@ -11,8 +11,10 @@ ghost use Rattle.vx_base.specs.Rectangle.{Rectangle, rectangle, empty, meet_of, 
 ghost use Rattle.vx_base.specs.Description.{description, byte_count};
 ghost use Rattle.vx_base.specs.Image.{ImageValue, made, at, new_image};
 ghost use Rattle.vx_base.specs.Lut.{entry_for};
-ghost use Rattle.vx_base.specs.Object.{ImageObject, LutObject, is_second};
+ghost use Rattle.vx_base.specs.Object.{ImageObject, LutObject, object_kind};
 ghost use Rattle.vx_base.specs.Formats.{takes_formats};
+ghost use Rattle.vx_base.specs.Function.{parameters};
+ghost use Rattle.vx_base.specs.declared.kind.Kind.TheVariants.{Image};
 ghost use Rattle.vx_base.specs.Pixelwise.{and_bits, or_bits, xor_bits, not_bits, sum, difference, product, absolute_difference, thresholded, converted, from_one, node_image};
 ghost use Rattle.vx_base.specs.Code.{code_number, code_name};
 ghost use Rattle.vx_base.specs.Node.{is_node};
@@ -119,16 +121,16 @@ pub fn thresholds()
 pub fn tables()
     ensures third { entry_for (record { format = U8; entries = pos 5 ∷ pos 6 ∷ pos 7 ∷ [] }) (pos 2) ≡ pos 7 }
     ensures least { entry_for (record { format = S16; entries = pos 5 ∷ pos 6 ∷ pos 7 ∷ [] }) (negsuc 32767) ≡ pos 5 }
-    ensures second { is_second TableLookup (LutObject (record { format = U8; entries = [] })) ≡ true }
-    ensures not_second { is_second AndBits (LutObject (record { format = U8; entries = [] })) ≡ false }
+    ensures second { (parameters TableLookup).second_input ≡ Some (object_kind (LutObject (record { format = U8; entries = [] }))) }
+    ensures not_second { (parameters AndBits).second_input ≡ Some Image }
 {}
 
 /// Formats that functions take and do not.
 pub fn formats()
-    ensures widened { takes_formats Add U8 (Some U8) S16 ≡ true }
-    ensures narrowed { takes_formats Add U8 (Some S16) U8 ≡ false }
-    ensures tested { takes_formats Threshold S16 (Some S16) U8 ≡ true }
-    ensures same { takes_formats ConvertDepth U8 None U8 ≡ false }
+    ensures widened { takes_formats Add U8 (Some U8) (Some S16) ≡ true }
+    ensures narrowed { takes_formats Add U8 (Some S16) (Some U8) ≡ false }
+    ensures tested { takes_formats Threshold S16 (Some S16) (Some U8) ≡ true }
+    ensures same { takes_formats ConvertDepth U8 None (Some U8) ≡ false }
 {}
 
 /// And of a row that is valid in its left half and one that is valid in its right.

@@ -1,6 +1,7 @@
 //! Formats of images.
 ghost use Rattle.std.specs.Prelude.{◌≡◌};
 ghost use Rattle.vx_base.specs.Sample.{sample_bytes};
+ghost use Rattle.vx_base.specs.Threshold.{is_sample};
 
 /// The format of an image: the range of its samples (OpenVX 1.3, `vx_df_image_e`).
 #[derive(Clone, Copy, PartialEq, Eq, Debug)]
@@ -22,6 +23,17 @@ impl Format {
             Format::U8 => 1,
             Format::S16 => 2,
             Format::U32 => 4,
+        }
+    }
+
+    /// Whether a number is a sample of the format.
+    pub fn has_sample(self, number: i16) -> bool
+        ensures { result ≡ is_sample self number }
+    {
+        match self {
+            Format::U8 => 0 <= number && number <= 255,
+            Format::S16 => true,
+            Format::U32 => 0 <= number,
         }
     }
 }

@@ -5,6 +5,7 @@ ghost use Rattle.vx_base.specs.Formats.{are_bytes, are_equal, are_arithmetic, ta
 ghost use Rattle.vx_base.specs.declared.function.Function.{Function as VisionFunction};
 
 use crate::format::Format;
+use crate::kind::Kind;
 
 /// A vision function (OpenVX 1.3, "Vision Functions").
 #[derive(Clone, Copy, PartialEq, Eq, Debug)]
@@ -37,15 +38,17 @@ pub enum Function {
     ConvertDepth,
 }
 
-/// What a node of a function has, beside its first input and its border.
+/// What a node of a function has, beside its first input, which is an image, and its border.
 #[derive(Clone, Copy, PartialEq, Eq, Debug)]
 pub struct Parameters {
-    /// It reads a second input.
-    pub second_input: bool,
+    /// It reads a second input of this kind.
+    pub second_input: Option<Kind>,
     /// It has an overflow policy.
     pub policy: bool,
     /// It has an amount, which goes from 0 to this.
     pub greatest_amount: Option<u8>,
+    /// Its outputs are of this kind.
+    pub output: Kind,
     /// It has two outputs, of which one may be left out.
     pub output_pair: bool,
 }
@@ -100,24 +103,42 @@ impl Function {
         ensures { result ≡ parameters self }
     {
         let (second_input, policy, greatest_amount) = match self {
-            Function::NotBits => (false, false, None),
-            Function::Add | Function::Subtract => (true, true, None),
-            Function::Multiply => (true, true, Some(15)),
-            Function::ConvertDepth => (false, true, Some(7)),
-            _ => (true, false, None),
+            Function::NotBits => (None, false, None),
+            Function::Add | Function::Subtract => (Some(Kind::Image), true, None),
+            Function::Multiply => (Some(Kind::Image), true, Some(15)),
+            Function::Threshold => (Some(Kind::Threshold), false, None),
+            Function::TableLookup => (Some(Kind::Lut), false, None),
+            Function::ConvertDepth => (None, true, Some(7)),
+            _ => (Some(Kind::Image), false, None),
         };
         Parameters {
             second_input,
             policy,
             greatest_amount,
+            output: Kind::Image,
             output_pair: false,
         }
     }
 
     /// Whether the function takes these formats: of its first input, of its second, which is that
     /// of an image, of a table's entries or of what a threshold tests, and of its output.
-    pub fn takes_formats(self, first: Format, second: Option<Format>, output: Format) -> bool
+    pub fn takes_formats(
+        self,
+        first: Format,
+        second: Option<Format>,
+        output: Option<Format>,
+    ) -> bool
         ensures { result ≡ takes_formats self first second output }
+    {
+        match output {
+            None => false,
+            Some(output) => self.gives_format(first, second, output),
+        }
+    }
+
+    /// Whether the function takes these formats, where its output is an image.
+    fn gives_format(self, first: Format, second: Option<Format>, output: Format) -> bool
+        ensures { result ≡ takes_formats self first second (Some output) }
     {
         match (self, second) {
             (Function::NotBits, None) => (first, output) == (Format::U8, Format::U8),

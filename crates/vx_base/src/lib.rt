@@ -14,6 +14,7 @@ mod desc;
 pub mod examples;
 mod format;
 mod function;
+mod kind;
 pub mod laws;
 mod lut;
 mod narrow;
@@ -31,6 +32,7 @@ pub use code::Code;
 pub use desc::{Desc, GREATEST_SIDE};
 pub use format::Format;
 pub use function::{Function, Parameters};
+pub use kind::Kind;
 pub use lut::Lut;
 pub use narrow::{narrow_s16, narrow_u8};
 pub use node::{Node, NodeSpec};
@@ -40,6 +42,3 @@ pub use rect::Rect;
 pub use reference::ObjRef;
 pub use samples::Samples;
 pub use threshold::{ThresholdKind, ThresholdRule};
-
-#[cfg(test)]
-mod tests;

@@ -1,5 +1,6 @@
 //! Lookup tables.
 ghost use Rattle.std.specs.Prelude.{◌≡◌, IsTrue, IfOk, length, Some, None, if◌then◌else◌};
+ghost use Rattle.vx_base.specs.Sample.{range_size};
 ghost use Rattle.vx_base.specs.Lut.{is_full};
 ghost use Rattle.vx_base.specs.Picture.{values, samples_format};
 
@@ -16,33 +17,46 @@ pub struct Lut {
 }
 
 impl Model for Lut {
-    ghost use Rattle.std.specs.Prelude.{IsTrue, length};
-    ghost use Rattle.vx_base.specs.Lut.{LutValue, is_full};
+    ghost use Rattle.vx_base.specs.Lut.{LutValue, IsLut};
     ghost use Rattle.vx_base.specs.Picture.{values, samples_format};
 
     ghost Value = { LutValue };
 
     ghost view = { λ t. record { format = samples_format t.entries; entries = values t.entries } };
 
-    ghost invariant = { λ t. IsTrue (is_full (samples_format t.entries) (length (values t.entries))) };
+    ghost invariant = { λ t. IsLut (record { format = samples_format t.entries; entries = values t.entries }) };
 }
 
 impl Lut {
-    ghost use Rattle.vx_base.specs.Lut.{LutValue};
+    ghost use Rattle.vx_base.specs.Lut.{LutValue, IsLut};
 
     /// The table with these entries. `None` unless they are 256 of U8 or 65,536 of S16.
     pub fn new(entries: Samples) -> Option<Lut>
         ensures { result ≡ (if is_full (samples_format entries) (length (values entries)) then Some (record { format = samples_format entries; entries = values entries }) else None) }
     {
-        let count = match entries.format() {
+        if entries.format() == Format::U32 || entries.len() != Lut::entry_count(entries.format()) {
+            return None;
+        }
+        Some(Lut::of(entries))
+    }
+
+    /// The table with these entries, 256 of U8 or 65,536 of S16.
+    pub fn of(entries: Samples) -> Lut
+        requires { IsTrue (is_full (samples_format entries) (length (values entries))) }
+        ensures { result ≡ record { format = samples_format entries; entries = values entries } }
+    {
+        entries.are_samples();
+        Lut { entries }
+    }
+
+    /// How many entries a table of this format has: one for each sample.
+    pub fn entry_count(format: Format) -> usize
+        ensures { result ≡ range_size format }
+    {
+        match format {
             Format::U8 => 256,
             Format::S16 => 65_536,
-            Format::U32 => return None,
-        };
-        if entries.len() == count {
-            Some(Lut { entries })
-        } else {
-            None
+            Format::U32 => 4_294_967_296,
         }
     }
 
@@ -58,7 +72,7 @@ impl Lut {
     /// The format of the samples that are looked up, and of the entries.
     pub fn format(&self) -> Format
         ensures value { result ≡ self.now.format }
-        ensures full { IsTrue (is_full self.now.format (length self.now.entries)) }
+        ensures table { IsLut self.now }
     {
         self.entries.format()
     }
@@ -67,7 +81,7 @@ impl Lut {
     pub fn entries(&self) -> &Samples
         ensures format { samples_format result.now ≡ self.now.format }
         ensures value { values result.now ≡ self.now.entries }
-        ensures full { IsTrue (is_full self.now.format (length self.now.entries)) }
+        ensures table { IsLut self.now }
     {
         &self.entries
     }

@@ -5,7 +5,7 @@ use crate::border::Border;
 use crate::function::Function;
 use crate::policy::Policy;
 use crate::reference::ObjRef;
-use crate::shape::is_node;
+use crate::shape::{has_numbers, is_node};
 use std::marker::Model;
 
 /// The fields of a node: a vision function, what it reads and what it writes.
@@ -29,21 +29,20 @@ pub struct NodeSpec {
 }
 
 impl Model for NodeSpec {
-    ghost use Rattle.std.specs.Prelude.{IsTrue};
     ghost use Rattle.vx_base.specs.declared.node.Node.{Node as Fields};
-    ghost use Rattle.vx_base.specs.Node.{is_node};
+    ghost use Rattle.vx_base.specs.Node.{IsNode};
 
     ghost Value = { Fields };
 
     ghost view = { λ n. n.node };
 
-    ghost invariant = { λ n. IsTrue (is_node n.node) };
+    ghost invariant = { λ n. IsNode n.node };
 
     ghost inverse = { λ n. record { node = n } };
 }
 
 impl NodeSpec {
-    ghost use Rattle.vx_base.specs.Node.{is_node, node_spec};
+    ghost use Rattle.vx_base.specs.Node.{is_node, node_spec, IsNode};
 
     /// The node with these fields. `None` unless it has the operands, the policy and the amount
     /// of its function: what the function lacks is `None`, `Policy::Wrap` or 0, and no operand
@@ -52,16 +51,25 @@ impl NodeSpec {
         ensures { result ≡ node_spec node }
     {
         if is_node(&node) {
-            Some(NodeSpec { node })
+            Some(NodeSpec::of(node))
         } else {
             None
         }
     }
 
+    /// The node with these fields, which are those that its function has.
+    pub fn of(node: Node) -> NodeSpec
+        requires { IsTrue (is_node node) }
+        ensures { result ≡ node }
+    {
+        has_numbers(&node);
+        NodeSpec { node }
+    }
+
     /// The node's fields.
     pub fn node(self) -> Node
         ensures value { result ≡ self }
-        ensures shape { IsTrue (is_node result) }
+        ensures node { IsNode self }
     {
         self.node
     }

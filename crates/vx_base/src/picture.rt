@@ -1,6 +1,6 @@
 //! Pictures: what is written to an image and read from it.
 ghost use Rattle.std.specs.Prelude.{◌≡◌};
-ghost use Rattle.vx_base.specs.Picture.{values, Fills};
+ghost use Rattle.vx_base.specs.Picture.{values, Describes, IsPicture};
 
 use crate::desc::Desc;
 use crate::samples::Samples;
@@ -14,22 +14,25 @@ pub struct Picture {
 }
 
 impl Model for Picture {
-    ghost use Rattle.vx_base.specs.Picture.{PictureValue, values, Fills};
+    ghost use Rattle.std.specs.Prelude.{◌≡◌};
+    ghost use Rattle.vx_base.specs.Picture.{PictureValue, IsPicture, values, samples_format};
 
     ghost Value = { PictureValue };
 
     ghost view = { λ p. record { description = p.desc; samples = values p.samples } };
 
-    ghost invariant = { λ p. Fills p.desc p.samples };
+    ghost invariant = { λ p. IsPicture (record { description = p.desc; samples = values p.samples }) × (samples_format p.samples ≡ p.desc.format) };
 }
 
 impl Picture {
     /// The picture of these samples, which are of the description's format and as many as its
     /// width times its height.
     pub fn new(desc: Desc, samples: Samples) -> Picture
-        requires { Fills desc samples }
+        requires { Describes desc samples }
         ensures { result ≡ record { description = desc; samples = values samples } }
     {
+        desc.has_sides();
+        samples.are_samples();
         Picture { desc, samples }
     }
 
@@ -42,7 +45,8 @@ impl Picture {
     /// The samples, by rows from the top.
     pub fn samples(&self) -> &Samples
         ensures value { values result.now ≡ self.now.samples }
-        ensures fills { Fills self.now.description result.now }
+        ensures described { Describes self.now.description result.now }
+        ensures picture { IsPicture self.now }
     {
         &self.samples
     }
@@ -50,7 +54,8 @@ impl Picture {
     /// The samples, by rows from the top.
     pub fn into_samples(self) -> Samples
         ensures value { values result ≡ self.samples }
-        ensures fills { Fills self.description result }
+        ensures described { Describes self.description result }
+        ensures picture { IsPicture self }
     {
         self.samples
     }

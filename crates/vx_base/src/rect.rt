@@ -82,7 +82,7 @@ impl Rect {
         self.y0
     }
 
-    /// The column behind the last.
+    /// The column after the last.
     pub fn x1(self) -> u16
         ensures value { result ≡ self.x1 }
         ensures ordered { IsOrdered self }

@@ -1,5 +1,5 @@
 //! References to objects.
-ghost use Rattle.std.specs.Prelude.{◌≡◌, ◌<◌};
+ghost use Rattle.std.specs.Prelude.{◌≡◌, ◌<◌, ◌^◌};
 ghost use Rattle.std.specs.Option.{ForSome};
 
 use std::marker::Model;
@@ -27,6 +27,7 @@ impl Model for ObjRef {
 }
 
 impl ObjRef {
+    ghost use Rattle.vx_base.specs.Cell.{IsCell};
     ghost use Rattle.vx_base.specs.Node.{is_nothing};
 
     /// The object of that name, or a slot of it, which is below 255.
@@ -38,7 +39,8 @@ impl ObjRef {
     }
 
     pub fn name(self) -> u32
-        ensures { result ≡ self.name }
+        ensures value { result ≡ self.name }
+        ensures limit { self.name < 2 ^ 32 }
     {
         self.name
     }
@@ -48,6 +50,13 @@ impl ObjRef {
         ensures limit { ForSome result (λ k. k < 255) }
     {
         self.slot
+    }
+
+    /// Its name and its slot are in their ranges, which the prover knows where they are read.
+    pub fn is_cell(self)
+        ensures { IsCell self }
+    {
+        let _parts = (self.name, self.slot);
     }
 
     /// Whether it is name 0 without a slot, which stands for no operand.

@@ -1,5 +1,7 @@
 //! Samples of whole images.
-ghost use Rattle.std.specs.Prelude.{◌≡◌, length, pos, replicate, IfOk};
+ghost use Rattle.std.specs.Prelude.{◌≡◌, length, map, pos, replicate, IfOk, All};
+ghost use Rattle.vx_base.specs.declared.format.Format.TheVariants.{U8, S16, U32};
+ghost use Rattle.vx_base.specs.Sample.{IsSample};
 ghost use Rattle.vx_base.specs.Picture.{values, samples_format};
 
 use crate::format::Format;
@@ -71,5 +73,33 @@ impl Samples {
             Samples::S16(samples) => samples.len(),
             Samples::U32(samples) => samples.len(),
         }
+    }
+
+    /// Each of them is a sample of their format. Only the prover learns something: it knows of a
+    /// signed number that it has 16 bits once that is read. Nothing is done when this runs.
+    pub(crate) fn are_samples(&self)
+        ensures { All (IsSample (samples_format self.now)) (values self.now) }
+    {
+        match self {
+            Samples::U8(samples) => are_bytes(samples),
+            Samples::S16(samples) => are_shorts(samples),
+            Samples::U32(samples) => are_words(samples),
+        }
+    }
+}
+
+fn are_bytes(samples: &[u8])
+    ensures { All (IsSample U8) (map pos samples.now) }
+{}
+
+fn are_words(samples: &[u32])
+    ensures { All (IsSample U32) (map pos samples.now) }
+{}
+
+fn are_shorts(samples: &[i16])
+    ensures { All (IsSample S16) samples.now }
+{
+    for sample in samples {
+        let _number = *sample;
     }
 }

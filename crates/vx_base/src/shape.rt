@@ -1,7 +1,9 @@
 //! Whether a node has what its function has.
-ghost use Rattle.std.specs.Prelude.{◌≡◌};
-ghost use Rattle.vx_base.specs.Node.{is_given, all_given, has_amount, has_operands, is_node};
+ghost use Rattle.std.specs.Prelude.{◌≡◌, ◌<◌, ◌^◌, IfSome};
+ghost use Rattle.vx_base.specs.Cell.{IsCell};
+ghost use Rattle.vx_base.specs.Node.{is_named, all_named, has_amount, has_operands, is_node, IsBorder};
 
+use crate::border::Border;
 use crate::function::Parameters;
 use crate::node::Node;
 use crate::policy::Policy;
@@ -14,7 +16,7 @@ pub fn is_node(node: &Node) -> bool
     let parameters = node.function.parameters();
     has_amount(parameters, node.policy, node.amount)
         && has_operands(parameters, node)
-        && all_given(node)
+        && all_named(node)
 }
 
 fn has_amount(parameters: Parameters, policy: Policy, amount: u8) -> bool
@@ -32,11 +34,11 @@ fn has_operands(parameters: Parameters, node: &Node) -> bool
     } else {
         node.out1.is_some() && node.out2.is_none()
     };
-    node.in2.is_some() == parameters.second_input && outputs
+    node.in2.is_some() == parameters.second_input.is_some() && outputs
 }
 
-fn is_given(operand: Option<ObjRef>) -> bool
-    ensures { result ≡ is_given operand }
+fn is_named(operand: Option<ObjRef>) -> bool
+    ensures { result ≡ is_named operand }
 {
     match operand {
         None => true,
@@ -44,8 +46,43 @@ fn is_given(operand: Option<ObjRef>) -> bool
     }
 }
 
-fn all_given(node: &Node) -> bool
-    ensures { result ≡ all_given node.now }
+fn all_named(node: &Node) -> bool
+    ensures { result ≡ all_named node.now }
 {
-    !node.in1.is_nothing() && is_given(node.in2) && is_given(node.out1) && is_given(node.out2)
+    !node.in1.is_nothing() && is_named(node.in2) && is_named(node.out1) && is_named(node.out2)
+}
+
+/// Its numbers are those that their types allow, which the prover knows of what is read. Nothing is
+/// done when this runs.
+pub fn has_numbers(node: &Node)
+    ensures border { IsBorder node.now.border }
+    ensures amount { node.now.amount < 2 ^ 8 }
+    ensures in1 { IsCell node.now.in1 }
+    ensures in2 { IfSome node.now.in2 IsCell }
+    ensures out1 { IfSome node.now.out1 IsCell }
+    ensures out2 { IfSome node.now.out2 IsCell }
+{
+    let _amount = node.amount;
+    has_constant(node.border);
+    node.in1.is_cell();
+    are_cells(node.in2);
+    are_cells(node.out1);
+    are_cells(node.out2);
+}
+
+fn has_constant(border: Border)
+    ensures { IsBorder border }
+{
+    match border {
+        Border::Constant(_value) => {}
+        Border::Undefined | Border::Replicate => {}
+    }
+}
+
+fn are_cells(cell: Option<ObjRef>)
+    ensures { IfSome cell IsCell }
+{
+    if let Some(cell) = cell {
+        cell.is_cell();
+    }
 }

@@ -1,6 +1,6 @@
 //! Thresholds.
-ghost use Rattle.std.specs.Prelude.{◌≡◌, IsTrue};
-ghost use Rattle.vx_base.specs.Threshold.{threshold, has_limits, is_sample};
+ghost use Rattle.std.specs.Prelude.{◌≡◌, ◌<◌, IsTrue};
+ghost use Rattle.vx_base.specs.Threshold.{threshold, has_limits};
 
 use crate::format::Format;
 use std::marker::Model;
@@ -49,14 +49,27 @@ impl ThresholdRule {
         ensures { result ≡ threshold format kind true_value false_value }
     {
         if has_limits(format, kind) {
-            Some(ThresholdRule {
-                format,
-                kind,
-                true_value,
-                false_value,
-            })
+            Some(ThresholdRule::with_limits(format, kind, true_value, false_value))
         } else {
             None
+        }
+    }
+
+    /// The threshold with these limits, which are allowed.
+    pub fn with_limits(
+        format: Format,
+        kind: ThresholdKind,
+        true_value: u8,
+        false_value: u8,
+    ) -> ThresholdRule
+        requires { IsTrue (has_limits format kind) }
+        ensures { result ≡ record { format = format; kind = kind; true_value = true_value; false_value = false_value } }
+    {
+        ThresholdRule {
+            format,
+            kind,
+            true_value,
+            false_value,
         }
     }
 
@@ -77,27 +90,18 @@ impl ThresholdRule {
 
     /// What a sample that passes becomes.
     pub fn true_value(self) -> u8
-        ensures { result ≡ self.true_value }
+        ensures value { result ≡ self.true_value }
+        ensures limit { self.true_value < 256 }
     {
         self.true_value
     }
 
     /// What another sample becomes.
     pub fn false_value(self) -> u8
-        ensures { result ≡ self.false_value }
+        ensures value { result ≡ self.false_value }
+        ensures limit { self.false_value < 256 }
     {
         self.false_value
-    }
-}
-
-/// Whether a number is a sample of the format.
-fn is_sample(format: Format, number: i16) -> bool
-    ensures { result ≡ is_sample format number }
-{
-    match format {
-        Format::U8 => 0 <= number && number <= 255,
-        Format::S16 => true,
-        Format::U32 => 0 <= number,
     }
 }
 
@@ -109,9 +113,9 @@ fn has_limits(format: Format, kind: ThresholdKind) -> bool
         return false;
     }
     match kind {
-        ThresholdKind::Binary(limit) => is_sample(format, limit),
+        ThresholdKind::Binary(limit) => format.has_sample(limit),
         ThresholdKind::Range(lower, upper) => {
-            is_sample(format, lower) && is_sample(format, upper) && lower <= upper
+            format.has_sample(lower) && format.has_sample(upper) && lower <= upper
         }
     }
 }

@@ -1,22 +1,33 @@
 //! Laws of image values.
 ghost use Rattle.std.specs.Prelude.{◌≡◌, ◌<◌, ◌*◌, ℕ, ℤ, pos, true, false, length};
+ghost use Rattle.vx_base.specs.Sample.{IsSample};
 ghost use Rattle.vx_base.specs.declared.format.Format.{Format};
 ghost use Rattle.vx_base.specs.Rectangle.{Rectangle, inside, IsOrdered, IsWithin};
-ghost use Rattle.vx_base.specs.Image.{ImageValue, IsImage, table, at, made, new_image};
+ghost use Rattle.vx_base.specs.Description.{IsDescription};
+ghost use Rattle.vx_base.specs.Image.{ImageValue, IsImage, description_of, table, at, made, new_image};
+ghost use Rattle.vx_base.specs.Picture.{PictureValue, IsPicture, picture_of, pictured};
 
 /// A table has a sample for each place.
 pub fn table_size()
     ensures { (width height : ℕ) (f : ℕ → ℕ → ℤ) → length (table width height f) ≡ height * width }
 {}
 
-/// An image made of a function is that function at the valid places, and 0 elsewhere.
+/// An image made of a function is that function at the valid places, and 0 elsewhere; where the
+/// function gives samples of the format it is an image.
 pub fn made_samples()
     ensures image { (width height : ℕ) (format : Format) (valid : Rectangle) (f : ℕ → ℕ → ℤ) →
-        IsOrdered valid → IsWithin valid width height → IsImage (made width height format valid f) }
+        IsOrdered valid → IsWithin valid width height →
+        ((x y : ℕ) → inside valid x y ≡ true → IsSample format (f x y)) → IsImage (made width height format valid f) }
     ensures valid { (width height : ℕ) (format : Format) (valid : Rectangle) (f : ℕ → ℕ → ℤ) (x y : ℕ) →
         x < width → y < height → inside valid x y ≡ true → at (made width height format valid f) x y ≡ f x y }
     ensures outside { (width height : ℕ) (format : Format) (valid : Rectangle) (f : ℕ → ℕ → ℤ) (x y : ℕ) →
         x < width → y < height → inside valid x y ≡ false → at (made width height format valid f) x y ≡ pos 0 }
+{}
+
+/// A picture makes an image, and the samples of an image make a picture.
+pub fn pictures()
+    ensures image { (p : PictureValue) → IsPicture p → IsImage (pictured p) }
+    ensures picture { (a : ImageValue) → IsDescription (description_of a) → IsImage a → IsPicture (picture_of a) }
 {}
 
 /// Two images of one description and rectangle that agree at each place are one.

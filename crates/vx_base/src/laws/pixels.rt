@@ -1,6 +1,7 @@
 //! Laws of the pixel formulas.
-ghost use Rattle.std.specs.Prelude.{◌≡◌, ◌<◌, ◌≤◌, ◌+◌, ◌*◌, ◌^◌, ◌<ℤ◌, ◌≤ℤ◌, ◌+ℤ◌, ◌*ℤ◌, ◌&&◌, ℕ, ℤ, pos, true, IsTrue, All, Some, None, min, bit_xor, int_div, unsigned_abs};
+ghost use Rattle.std.specs.Prelude.{◌≡◌, ◌<◌, Option, IfSome, ◌≤◌, ◌+◌, ◌*◌, ◌^◌, ◌<ℤ◌, ◌≤ℤ◌, ◌+ℤ◌, ◌*ℤ◌, ◌&&◌, ℕ, ℤ, pos, true, IsTrue, All, Some, None, min, bit_xor, int_div, unsigned_abs};
 ghost use Rattle.std.specs.Int.{int_div_euclid};
+ghost use Rattle.std.specs.Option.{option_and_then};
 ghost use Rattle.vx_base.specs.declared.format.Format.{Format};
 ghost use Rattle.vx_base.specs.declared.format.Format.TheVariants.{U8, S16};
 ghost use Rattle.vx_base.specs.declared.policy.Policy.{Policy};
@@ -9,11 +10,13 @@ ghost use Rattle.vx_base.specs.Sample.{IsSample, distance};
 ghost use Rattle.vx_base.specs.Rectangle.{inside};
 ghost use Rattle.vx_base.specs.Function.{parameters};
 ghost use Rattle.vx_base.specs.Formats.{takes_formats};
-ghost use Rattle.vx_base.specs.Node.{has_amount};
+ghost use Rattle.vx_base.specs.Node.{has_amount, is_node};
 ghost use Rattle.vx_base.specs.Image.{ImageValue, IsImage, at};
 ghost use Rattle.vx_base.specs.Lut.{LutValue};
 ghost use Rattle.vx_base.specs.Threshold.{ThresholdValue};
-ghost use Rattle.vx_base.specs.Pixelwise.{and_bits, or_bits, xor_bits, not_bits, absolute_difference, thresholded, looked_up, formula_of_one, formula_of_two, from_one, from_two};
+ghost use Rattle.vx_base.specs.declared.node.Node.{Node};
+ghost use Rattle.vx_base.specs.Object.{ObjectValue, IsObject, object_kind, object_format};
+ghost use Rattle.vx_base.specs.Pixelwise.{node_image, and_bits, or_bits, xor_bits, not_bits, absolute_difference, thresholded, looked_up, formula_of_one, formula_of_two, from_one, from_two};
 
 /// Bitwise Not turns each of the eight bits of a U8 sample over.
 pub fn not_turns_bits()
@@ -54,28 +57,39 @@ pub fn absolute_differences()
 /// From samples of the formats that a function takes come samples of the output's.
 pub fn results_are_samples()
     ensures one { (function : Function) (first output : Format) (policy : Policy) (n : ℕ) (a : ℤ) →
-        IsTrue (takes_formats function first None output) → IsTrue (has_amount (parameters function) policy n) →
+        IsTrue (takes_formats function first None (Some output)) → IsTrue (has_amount (parameters function) policy n) →
         IsSample first a → IsSample output (formula_of_one function output policy n a) }
     ensures two { (function : Function) (first second output : Format) (policy : Policy) (n : ℕ) (a b : ℤ) →
-        IsTrue (takes_formats function first (Some second) output) →
+        IsTrue (takes_formats function first (Some second) (Some output)) →
         IsSample first a → IsSample second b → IsSample output (formula_of_two function output policy n a b) }
     ensures looked_up { (lut : LutValue) (a : ℤ) → All (IsSample lut.format) lut.entries → IsSample lut.format (looked_up lut a) }
     ensures thresholded { (threshold : ThresholdValue) (a : ℤ) → threshold.true_value < 256 → threshold.false_value < 256 →
         IsSample U8 (thresholded threshold a) }
 {}
 
-/// A formula of one image gives an image, and the formula's value at each valid place.
+/// A formula of one image gives its value at each valid place, and where it gives samples an image.
 pub fn from_one_samples()
-    ensures image { (format : Format) (f : ℤ → ℤ) (a : ImageValue) → IsImage a → IsImage (from_one format f a) }
+    ensures image { (format : Format) (f : ℤ → ℤ) (a : ImageValue) → IsImage a →
+        ((z : ℤ) → IsSample a.format z → IsSample format (f z)) → IsImage (from_one format f a) }
     ensures valid { (format : Format) (f : ℤ → ℤ) (a : ImageValue) (x y : ℕ) → IsImage a → inside a.valid x y ≡ true →
         at (from_one format f a) x y ≡ f (at a x y) }
 {}
 
-/// A formula of two images gives an image that is valid where both are, and the formula's value there.
+/// A formula of two images gives its value where both are valid, and where it gives samples an image.
 pub fn from_two_samples()
-    ensures image { (format : Format) (f : ℤ → ℤ → ℤ) (a b : ImageValue) → IsImage a → IsImage b → IsImage (from_two format f a b) }
+    ensures image { (format : Format) (f : ℤ → ℤ → ℤ) (a b : ImageValue) → IsImage a → IsImage b →
+        ((y z : ℤ) → IsSample a.format y → IsSample b.format z → IsSample format (f y z)) → IsImage (from_two format f a b) }
     ensures rectangle { (format : Format) (f : ℤ → ℤ → ℤ) (a b : ImageValue) (x y : ℕ) →
         inside (from_two format f a b).valid x y ≡ (inside a.valid x y && inside b.valid x y) }
     ensures valid { (format : Format) (f : ℤ → ℤ → ℤ) (a b : ImageValue) (x y : ℕ) → IsImage a → IsImage b →
         inside a.valid x y ≡ true → inside b.valid x y ≡ true → at (from_two format f a b) x y ≡ f (at a x y) (at b x y) }
+{}
+
+/// What a node gives of images, tables and thresholds of the formats and kinds that it takes is an
+/// image of the output's format.
+pub fn results_are_images()
+    ensures { (n : Node) (format : Format) (a : ImageValue) (second : Option ObjectValue) → IsTrue (is_node n) →
+        IsImage a → IfSome second IsObject → IfSome second (λ object. (parameters n.function).second_input ≡ Some (object_kind object)) →
+        IsTrue (takes_formats n.function a.format (option_and_then object_format second) (Some format)) →
+        IsImage (node_image n format a second) }
 {}

@@ -1,0 +1,30 @@
+-- Pictures and images.
+use Rattle.std.proofs.Common.{ℕ, pos, ◌+◌, ◌*◌, ◌<◌, length, get_or, arith, subst}
+use Rattle.std.proofs.lemmas.List.Elements.{All-get_or, All-from_get_or}
+use Rattle.vx_base.specs.Sample.{IsSample}
+use Rattle.vx_base.specs.Description.{IsDescription}
+use Rattle.vx_base.specs.Image.{ImageValue, IsImage, description_of}
+use Rattle.vx_base.specs.Picture.{PictureValue, IsPicture, picture_of, pictured}
+use Rattle.vx_base.proofs.ImageLaws.{above, index_of_place, inside_whole}
+
+pub pictured_image : (p : PictureValue) → IsPicture p → IsImage (pictured p)
+pictured_image p h =
+    record {
+      size = h.size;
+      ordered = record { columns = omega arith; rows = omega arith };
+      room = record { columns = omega arith; rows = omega arith };
+      sampled = λ x y a b.
+          let below : y * p.description.width + x < length p.samples = omega (arith, h.size, above p.description.width p.description.height x y a b) in
+          All-get_or (IsSample p.description.format) p.samples (y * p.description.width + x) (pos 0) below h.sampled;
+      outside = λ x y a b e. let i = inside_whole p.description.width p.description.height x y a b in cc;
+    }
+
+pub picture_of_image : (a : ImageValue) → IsDescription (description_of a) → IsImage a → IsPicture (picture_of a)
+picture_of_image a d h =
+    record { description = d; size = h.size; sampled = All-from_get_or (IsSample a.format) a.samples (pos 0) each }
+  where
+    each : (k : ℕ) → k < length a.samples → IsSample a.format (get_or a.samples k (pos 0))
+    each k below =
+        let p = index_of_place a.width a.height k (omega (arith, h.size)) in
+        let P : ℕ → Type 0 = λ n. IsSample a.format (get_or a.samples n (pos 0)) in
+        subst P p.4 (h.sampled p.0 p.1 p.2 p.3)
