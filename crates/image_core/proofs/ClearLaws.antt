@@ -6,7 +6,7 @@ use borrow.Rule.Slice.PartMut.{put_mid}
 use Rattle.vx_base.specs.Rectangle.{Rectangle, inside}
 use Rattle.vx_base.specs.Image.{run, within}
 use Rattle.vx_base.proofs.TableLaws.{part_is_run, part_of_row, row_part, row_fits, length_part, run-same, get_or-run}
-use Rattle.image_core.specs.Slices.{sample_at, sample_in}
+use Rattle.image_core.specs.Rows.{sample_at, sample_in}
 
 row_is_run : (zs : List ℤ) (n : ℕ) → length zs ≡ n → zs ≡ run 0 n (λ x. get_or zs x (pos 0))
 row_is_run zs n long =

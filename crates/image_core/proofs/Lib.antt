@@ -1,2 +1,3 @@
 mod RowLaws
 mod ClearLaws
+pub mod SizeLaws

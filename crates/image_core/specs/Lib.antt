@@ -1,2 +1,5 @@
 pub mod Slices
+pub mod Rows
 pub mod Target
+pub mod Second
+pub mod Fits

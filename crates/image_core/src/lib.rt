@@ -1,20 +1,29 @@
-//! Images over slices of samples, and images that are computed place by place.
+//! Images over slices of samples, images that are computed place by place, and what all kernels
+//! are given.
 //!
 //! An `Image` lends the samples of an image to who reads it: its rows are those of an image value,
 //! 0 outside the valid rectangle. An `ImageMut` lends the samples of an image to who writes it.
-//! What is computed place by place is a `Formula`; `ImageMut::write_u8` and its kin write a whole
-//! image of one: each sample, and 0 outside the rectangle.
+//! Both are read and written by the number type of the format, a `Sample`. What is computed place
+//! by place is a `Formula`; `ImageMut::write` writes a whole image of one: each sample, and 0
+//! outside the rectangle. `Second` is what a kernel reads beside its first image, `Overflow` a
+//! policy as a type.
 #![tactic(auto)]
 
+mod formula;
 mod image;
 mod image_mut;
+mod number;
+mod overflow;
 mod rows;
 mod sample;
+mod second;
+mod slice;
 
+pub use formula::Formula;
 pub use image::Image;
 pub use image_mut::ImageMut;
-pub use rows::{Formula, write_rows};
+pub use number::Number;
+pub use overflow::{Overflow, Saturated, Wrapped};
 pub use sample::Sample;
-
-#[cfg(test)]
-mod tests;
+pub use second::Second;
+pub use slice::Slice;

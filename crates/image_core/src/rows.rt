@@ -1,32 +1,15 @@
-//! Samples that are computed place by place, row by row.
-ghost use Rattle.std.specs.Prelude.{◌≡◌, ◌+◌, ◌*◌, ◌<◌, ◌≤◌, ℕ, ℤ, pos, length, map, replicate};
-ghost use Rattle.vx_base.specs.Rectangle.{Rectangle, IsWithin};
+//! Samples that are written and cleared row by row.
+ghost use Rattle.std.specs.Prelude.{◌≡◌, ◌*◌, ◌<◌, ◌≤◌, length, map, replicate};
+ghost use Rattle.vx_base.specs.Rectangle.{IsWithin};
 ghost use Rattle.vx_base.specs.Image.{run, table, within};
-ghost use Rattle.image_core.specs.Slices.{sample_at, sample_in};
+ghost use Rattle.image_core.specs.Rows.{sample_at, sample_in};
 
-use crate::sample::Sample;
+use crate::formula::Formula;
+use crate::number::Number;
 use vx_base::Rect;
 
-/// What has a sample at each place of a rectangle.
-pub trait Formula<T: Sample> {
-    /// The sample in a column of a row.
-    ghost at: { Self → ℕ → ℕ → ℤ };
-
-    /// The places that can be asked for.
-    ghost area: { Self → Rectangle };
-
-    fn area(&self) -> Rect
-        ensures { result ≡ area self.now };
-
-    /// Writes the samples of row y from column x on.
-    fn fill(&self, x: u16, y: u16, out: &mut [T])
-        requires in_rows { ((area self.now).y0 ≤ y) × (y < (area self.now).y1) }
-        requires in_columns { ((area self.now).x0 ≤ x) × (x + length out.old ≤ (area self.now).x1) }
-        ensures { map T.value out.new ≡ run x (length out.old) (λ k. at self.now k y) };
-}
-
 /// Writes one sample to each place.
-pub fn set_all<T: Sample>(out: &mut [T], sample: T)
+pub fn set_all<T: Number>(out: &mut [T], sample: T)
     ensures { map T.value out.new ≡ replicate (length out.old) (T.value sample) }
 {
     for item in out.iter_mut() {
@@ -35,7 +18,7 @@ pub fn set_all<T: Sample>(out: &mut [T], sample: T)
 }
 
 /// Writes a row that goes through the formula's area, which is in the columns from x0 to x1 - 1.
-fn write_across<T: Sample, F: Formula<T>>(formula: &F, y: u16, x0: u16, x1: u16, out: &mut [T])
+fn write_across<T: Number, F: Formula<T>>(formula: &F, y: u16, x0: u16, x1: u16, out: &mut [T])
     requires in_rows { ((F.area formula.now).y0 ≤ y) × (y < (F.area formula.now).y1) }
     requires columns { ((F.area formula.now).x0 ≡ x0) × ((F.area formula.now).x1 ≡ x1) }
     requires ordered { x0 ≤ x1 }
@@ -49,7 +32,7 @@ fn write_across<T: Sample, F: Formula<T>>(formula: &F, y: u16, x0: u16, x1: u16,
     set_all(right, T::zero());
 }
 
-fn write_row<T: Sample, F: Formula<T>>(formula: &F, y: u16, out: &mut [T])
+fn write_row<T: Number, F: Formula<T>>(formula: &F, y: u16, out: &mut [T])
     requires room { (F.area formula.now).x1 ≤ length out.old }
     ensures { map T.value out.new ≡ run 0 (length out.old) (λ x. within (F.area formula.now) (F.at formula.now) x y) }
 {
@@ -62,7 +45,7 @@ fn write_row<T: Sample, F: Formula<T>>(formula: &F, y: u16, out: &mut [T])
 }
 
 /// Writes all samples of an image by rows from the top: the formula's in its area, 0 elsewhere.
-pub fn write_rows<T: Sample, F: Formula<T>>(formula: &F, width: u16, height: u16, out: &mut [T])
+pub fn write_rows<T: Number, F: Formula<T>>(formula: &F, width: u16, height: u16, out: &mut [T])
     requires size { length out.old ≡ height * width }
     requires room { (F.area formula.now).x1 ≤ width }
     ensures { map T.value out.new ≡ table width height (within (F.area formula.now) (F.at formula.now)) }
@@ -75,19 +58,19 @@ pub fn write_rows<T: Sample, F: Formula<T>>(formula: &F, width: u16, height: u16
 }
 
 /// Makes the samples of a row 0 outside the columns from x0 to x1 - 1.
-fn clear_beside<T: Sample>(valid: Rect, y: u16, row: &mut [T])
+fn clear_beside<T: Number>(valid: Rect, y: u16, row: &mut [T])
     requires in_rows { (valid.y0 ≤ y) × (y < valid.y1) }
     requires room { valid.x1 ≤ length row.old }
     ensures { map T.value row.new ≡ run 0 (length row.old) (λ x. within valid (sample_in (map T.value row.old)) x y) }
 {
     let (before, others) = row.split_at_mut(usize::from(valid.x0()));
-    let (_, behind) = others.split_at_mut(usize::from(valid.x1() - valid.x0()));
+    let (_, after) = others.split_at_mut(usize::from(valid.x1() - valid.x0()));
     set_all(before, T::zero());
-    set_all(behind, T::zero());
+    set_all(after, T::zero());
 }
 
 /// Makes the samples of row y 0 outside the rectangle.
-fn clear_row<T: Sample>(valid: Rect, y: u16, row: &mut [T])
+fn clear_row<T: Number>(valid: Rect, y: u16, row: &mut [T])
     requires room { valid.x1 ≤ length row.old }
     ensures { map T.value row.new ≡ run 0 (length row.old) (λ x. within valid (sample_in (map T.value row.old)) x y) }
 {
@@ -99,7 +82,7 @@ fn clear_row<T: Sample>(valid: Rect, y: u16, row: &mut [T])
 }
 
 /// Makes the samples of an image 0 outside the rectangle; they stand by rows from the top.
-pub fn clear_rows<T: Sample>(valid: Rect, width: u16, height: u16, samples: &mut [T])
+pub fn clear_rows<T: Number>(valid: Rect, width: u16, height: u16, samples: &mut [T])
     requires size { length samples.old ≡ height * width }
     requires room { IsWithin valid width height }
     ensures { map T.value samples.new ≡ table width height (within valid (sample_at width (map T.value samples.old))) }

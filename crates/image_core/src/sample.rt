@@ -1,35 +1,144 @@
-//! Number types of samples.
-ghost use Rattle.std.specs.Prelude.{◌≡◌, ℤ, pos};
+//! Number types of the samples of each format.
+ghost use Rattle.std.specs.Prelude.{◌≡◌, ◌≤◌, ℕ, map, length};
+ghost use Rattle.vx_base.specs.declared.format.Format.{Format};
+ghost use Rattle.vx_base.specs.declared.format.Format.TheVariants.{U8, S16, U32};
+ghost use Rattle.vx_base.specs.Rectangle.{empty};
+ghost use Rattle.vx_base.specs.Description.{sample_count};
+ghost use Rattle.vx_base.specs.Image.{image_over, table, within};
+ghost use Rattle.image_core.specs.Slices.{slice_format, slice_values};
 
-/// A number type that samples of a format have.
-pub trait Sample: Copy {
-    /// The number.
-    ghost value: { Self → ℤ };
+use crate::formula::Formula;
+use crate::image_mut::ImageMut;
+use crate::number::Number;
+use crate::rows::write_rows;
+use crate::slice::Slice;
+use vx_base::{Desc, Rect};
 
-    fn zero() -> Self
-        ensures { value result ≡ pos 0 };
+/// The number type of a format's samples. Images are read and written by it: `Image::row` and
+/// `ImageMut::write`.
+pub trait Sample: Number {
+    ghost use Rattle.image_core.specs.declared.image_mut.ImageMut.{ImageMut};
+    ghost use Rattle.image_core.specs.Target.{written, IsTarget, Writes};
+
+    /// The format of images of such samples.
+    ghost format: { Format };
+
+    /// These samples, lent as those of an image.
+    fn lend(samples: &[Self]) -> Slice<'_>
+        ensures format { slice_format result ≡ format }
+        ensures value { slice_values result ≡ map Self.value samples.now };
+
+    /// The samples that are lent.
+    fn lent(samples: Slice<'_>) -> &[Self]
+        requires { slice_format samples ≡ format }
+        ensures { map Self.value result.now ≡ slice_values samples.entry };
+
+    /// Of the slices of an image that is written the name of the one of such samples.
+    ghost slice_name: { ImageMut → ℕ };
+
+    /// The image over these samples, lent to who writes it, as `ImageMut::new` has it.
+    fn lend_mut<'a>(desc: Desc, samples: &'a mut [Self]) -> ImageMut<'a>
+        requires format { desc.format ≡ format }
+        requires size { length samples.old ≡ sample_count desc }
+        ensures target { IsTarget result }
+        ensures value { written result ≡ image_over desc empty (map Self.value samples.old) }
+        ensures same_slice { slice_name result ≡ samples.entry.ghost_name };
+
+    /// Writes the samples of an image: the formula's in its area, 0 elsewhere.
+    fn write_samples<F: Formula<Self>>(output: &mut ImageMut<'_>, formula: &F)
+        requires target { IsTarget output.old }
+        requires format { (written output.old).format ≡ format }
+        requires room { (F.area formula.now).x1 ≤ (written output.old).width }
+        ensures { Writes (image_over output.old.desc output.old.valid (table (written output.old).width (written output.old).height (within (F.area formula.now) (F.at formula.now)))) output.old output.new };
+}
+
+/// The image over one of three slices, of which the others are empty.
+macro_rules! image_mut {
+    ($desc:expr, $bytes:expr, $shorts:expr, $words:expr) => {
+        ImageMut {
+            desc: $desc,
+            valid: Rect::empty(),
+            bytes: $bytes,
+            shorts: $shorts,
+            words: $words,
+        }
+    };
 }
 
 impl Sample for u8 {
-    ghost value = { pos };
+    ghost format = { U8 };
 
-    fn zero() -> u8 {
-        0
+    ghost slice_name = { λ image. image.bytes.ghost_name };
+
+    fn lend(samples: &[u8]) -> Slice<'_> {
+        Slice::U8(samples)
+    }
+
+    fn lent(samples: Slice<'_>) -> &[u8] {
+        match samples {
+            Slice::U8(samples) => samples,
+            _ => unreachable!(),
+        }
+    }
+
+    fn lend_mut<'a>(desc: Desc, samples: &'a mut [u8]) -> ImageMut<'a> {
+        image_mut!(desc, samples, &mut [], &mut [])
+    }
+
+    fn write_samples<F: Formula<u8>>(output: &mut ImageMut<'_>, formula: &F) {
+        let desc = output.desc;
+        write_rows(formula, desc.width(), desc.height(), output.bytes);
     }
 }
 
 impl Sample for i16 {
-    ghost value = { λ z. z };
+    ghost format = { S16 };
 
-    fn zero() -> i16 {
-        0
+    ghost slice_name = { λ image. image.shorts.ghost_name };
+
+    fn lend(samples: &[i16]) -> Slice<'_> {
+        Slice::S16(samples)
+    }
+
+    fn lent(samples: Slice<'_>) -> &[i16] {
+        match samples {
+            Slice::S16(samples) => samples,
+            _ => unreachable!(),
+        }
+    }
+
+    fn lend_mut<'a>(desc: Desc, samples: &'a mut [i16]) -> ImageMut<'a> {
+        image_mut!(desc, &mut [], samples, &mut [])
+    }
+
+    fn write_samples<F: Formula<i16>>(output: &mut ImageMut<'_>, formula: &F) {
+        let desc = output.desc;
+        write_rows(formula, desc.width(), desc.height(), output.shorts);
     }
 }
 
 impl Sample for u32 {
-    ghost value = { pos };
+    ghost format = { U32 };
 
-    fn zero() -> u32 {
-        0
+    ghost slice_name = { λ image. image.words.ghost_name };
+
+    fn lend(samples: &[u32]) -> Slice<'_> {
+        Slice::U32(samples)
+    }
+
+    fn lent(samples: Slice<'_>) -> &[u32] {
+        match samples {
+            Slice::U32(samples) => samples,
+            _ => unreachable!(),
+        }
+    }
+
+    fn lend_mut<'a>(desc: Desc, samples: &'a mut [u32]) -> ImageMut<'a> {
+        image_mut!(desc, &mut [], &mut [], samples)
+    }
+
+    fn write_samples<F: Formula<u32>>(output: &mut ImageMut<'_>, formula: &F) {
+        let desc = output.desc;
+        write_rows(formula, desc.width(), desc.height(), output.words);
     }
 }

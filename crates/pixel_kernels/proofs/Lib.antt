@@ -2,4 +2,3 @@ mod RowLaws
 mod WriteLaws
 mod DepthLaws
 mod ThresholdLaws
-mod ImageLaws

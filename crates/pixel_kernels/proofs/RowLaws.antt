@@ -1,9 +1,7 @@
--- Rows that are read in part and written sample by sample.
-use Rattle.std.proofs.Common.{◌≡◌, ℕ, ℤ, ◌+◌, ◌-◌, ◌<◌, ◌≤◌, List, [], ◌∷◌, ◌++◌, length, map, take, drop, get_or, set, ap, ◌∙◌, sym, refl, arith}
-use Rattle.std.proofs.lemmas.List.{take_more_set, map_push, map_more, length-map, length-take-le, take-take}
+-- Rows that are written sample by sample.
+use Rattle.std.proofs.Common.{◌≡◌, ℕ, ℤ, ◌+◌, ◌<◌, List, [], ◌∷◌, ◌++◌, length, map, take, get_or, set, ap, ◌∙◌, sym, refl, arith}
+use Rattle.std.proofs.lemmas.List.{take_more_set, map_push, map_more, length-map, length-take-le}
 use Rattle.std.specs.Simd.Lanes.{zip2}
-use Rattle.vx_base.specs.Image.{run}
-use Rattle.vx_base.proofs.TableLaws.{part_of_row}
 
 zip2-push : (f : ℤ → ℤ → ℤ) (xs ys : List ℤ) (x y : ℤ) → length xs ≡ length ys → zip2 f (xs ++ x ∷ []) (ys ++ y ∷ []) ≡ zip2 f xs ys ++ f x y ∷ []
 zip2-push f [] [] x y same = refl
@@ -25,11 +23,3 @@ pair_written of with value f xs ys out i x y z room long also before first secon
     (length-map (take i xs) of ∙ length-take-le i xs (omega arith) ∙ sym (length-map (take i ys) with ∙ length-take-le i ys (omega arith))))
     ∙ ap (λ l. zip2 f l (map with (take i ys) ++ with (get_or ys i y) ∷ [])) (sym (map_more of xs i x (omega arith)))
     ∙ ap (zip2 f (map of (take (i + 1) xs))) (sym (map_more with ys i y (omega arith)))
-
--- samples of a row, so many from a place on
-pub part_of : {A : Type 0} (of : A → ℤ) (row : List A) (g : ℕ → ℤ) (w start x n : ℕ) → start ≡ x → x + n ≤ w → length row ≡ w → map of row ≡ run 0 w g → map of (take n (take (length row - start) (drop start row))) ≡ run x n g
-part_of of row g w start x n at room long same =
-    ap (map of) (take-take n (length row - start) (drop start row) (omega arith))
-    ∙ ap (λ k. map of (take k (drop start row))) (let e : n ≡ start + n - start = omega arith in e)
-    ∙ part_of_row of row g w start n (start + n) (omega arith) refl same
-    ∙ ap (λ s. run s n g) at

@@ -6,7 +6,7 @@ use Rattle.vx_base.specs.Image.{ImageValue}
 use Rattle.vx_base.specs.Threshold.{ThresholdValue}
 use Rattle.vx_base.specs.Pixelwise.{thresholded, from_one}
 use Rattle.image_core.specs.declared.image_mut.ImageMut.{ImageMut}
-use Rattle.pixel_kernels.specs.Kernels.{Writes}
+use Rattle.image_core.specs.Target.{Writes}
 
 abbrev of_parts : Format → ThresholdKind → ℕ → ℕ → ThresholdValue
 of_parts format kind true_value false_value = record { format = format; kind = kind; true_value = true_value; false_value = false_value }

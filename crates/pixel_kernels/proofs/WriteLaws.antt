@@ -6,7 +6,7 @@ use Rattle.vx_base.specs.Rectangle.{Rectangle}
 use Rattle.vx_base.specs.Image.{ImageValue, made}
 use Rattle.vx_base.specs.Formats.{are_arithmetic}
 use Rattle.image_core.specs.declared.image_mut.ImageMut.{ImageMut}
-use Rattle.pixel_kernels.specs.Kernels.{Writes}
+use Rattle.image_core.specs.Target.{Writes}
 
 -- what is written is the image of the output's format
 pub in_format : (image : Format → ImageValue) (format known : Format) (old new : ImageMut) → format ≡ known → Writes (image known) old new → Writes (image format) old new

@@ -1,14 +1,14 @@
 //! Functions of two U8 or S16 images, at the formats that they may have.
 ghost use Rattle.std.specs.Prelude.{◌≡◌, ℤ, pos, IsTrue};
-ghost use Rattle.vx_base.specs.declared.format.Format.{Format as Range};
+ghost use Rattle.vx_base.specs.declared.format.Format.{Format as FormatValue};
 ghost use Rattle.vx_base.specs.declared.format.Format.TheVariants.{U8, S16};
 ghost use Rattle.vx_base.specs.Sample.{IsSample};
 ghost use Rattle.vx_base.specs.Formats.{are_arithmetic};
 ghost use Rattle.vx_base.specs.Pixelwise.{from_two};
-ghost use Rattle.image_core.specs.Target.{written, IsTarget};
-ghost use Rattle.pixel_kernels.specs.Kernels.{SameSize, Writes};
+ghost use Rattle.image_core.specs.Fits.{HaveSameSize};
+ghost use Rattle.image_core.specs.Target.{written, IsTarget, Writes};
 
-use crate::pixel::Pixel;
+use crate::short_sample::ShortSample;
 use crate::two::{OfTwo, write_two};
 use image_core::{Image, ImageMut};
 use vx_base::Format;
@@ -16,7 +16,7 @@ use vx_base::Format;
 /// What a function of two U8 or S16 images gives at a place.
 pub trait Arithmetic {
     /// The sample of a format, from those of the two images.
-    ghost formula: { Self → Range → ℤ → ℤ → ℤ };
+    ghost formula: { Self → FormatValue → ℤ → ℤ → ℤ };
 
     /// The U8 sample, from two of U8.
     fn byte(&self, a: u8, b: u8) -> u8
@@ -49,7 +49,7 @@ struct Shorts<'a, K> {
     kernel: &'a K,
 }
 
-impl<A: Pixel, B: Pixel, K: Arithmetic> OfTwo<A, B, i16> for Shorts<'_, K> {
+impl<A: ShortSample, B: ShortSample, K: Arithmetic> OfTwo<A, B, i16> for Shorts<'_, K> {
     ghost formula = { λ s. K.formula s.kernel.now S16 };
 
     fn sample(&self, a: A, b: B) -> i16 {
@@ -66,18 +66,13 @@ pub fn write_arithmetic<K: Arithmetic>(
     output: &mut ImageMut<'_>,
 )
     requires target { IsTarget output.old }
-    requires size { SameSize (written output.old) first.now }
-    requires second_size { SameSize second.now first.now }
+    requires size { HaveSameSize (written output.old) first.now }
+    requires second_size { HaveSameSize second.now first.now }
     requires formats { IsTrue (are_arithmetic first.now.format second.now.format (written output.old).format) }
     ensures { Writes (from_two (written output.old).format (K.formula kernel.now (written output.old).format) first.now second.now) output.old output.new }
 {
     match output.desc().format() {
-        Format::U8 => write_two::<u8, u8, u8, Bytes<'_, K>>(
-            &Bytes { kernel },
-            first,
-            second,
-            output,
-        ),
+        Format::U8 => write_two::<u8, u8, u8, _>(&Bytes { kernel }, first, second, output),
         _ => write_shorts(&Shorts { kernel }, first, second, output),
     }
 }
@@ -90,18 +85,16 @@ fn write_shorts<K: Arithmetic>(
     output: &mut ImageMut<'_>,
 )
     requires target { IsTarget output.old }
-    requires size { SameSize (written output.old) first.now }
-    requires second_size { SameSize second.now first.now }
+    requires size { HaveSameSize (written output.old) first.now }
+    requires second_size { HaveSameSize second.now first.now }
     requires formats { IsTrue (are_arithmetic first.now.format second.now.format S16) }
     requires format { (written output.old).format ≡ S16 }
     ensures { Writes (from_two S16 (K.formula kernel.now.kernel.now S16) first.now second.now) output.old output.new }
 {
     match (first.desc().format(), second.desc().format()) {
-        (Format::U8, Format::U8) => write_two::<u8, u8, i16, Shorts<'_, K>>(
-            kernel, first, second, output,
-        ),
-        (Format::U8, _) => write_two::<u8, i16, i16, Shorts<'_, K>>(kernel, first, second, output),
-        (_, Format::U8) => write_two::<i16, u8, i16, Shorts<'_, K>>(kernel, first, second, output),
-        _ => write_two::<i16, i16, i16, Shorts<'_, K>>(kernel, first, second, output),
+        (Format::U8, Format::U8) => write_two::<u8, u8, i16, _>(kernel, first, second, output),
+        (Format::U8, _) => write_two::<u8, i16, i16, _>(kernel, first, second, output),
+        (_, Format::U8) => write_two::<i16, u8, i16, _>(kernel, first, second, output),
+        _ => write_two::<i16, i16, i16, _>(kernel, first, second, output),
     }
 }

@@ -4,7 +4,8 @@ ghost use Rattle.vx_base.specs.declared.format.Format.TheVariants.{U8};
 ghost use Rattle.vx_base.specs.declared.function.Function.TheVariants.{AndBits, OrBits, XorBits, NotBits};
 ghost use Rattle.vx_base.specs.Object.{ImageObject};
 ghost use Rattle.vx_base.specs.Pixelwise.{and_bits, or_bits, xor_bits, not_bits, from_one, from_two};
-ghost use Rattle.pixel_kernels.specs.Kernels.{Fits, Writes};
+ghost use Rattle.image_core.specs.Fits.{Fits};
+ghost use Rattle.image_core.specs.Target.{Writes};
 
 use crate::one::{OfOne, write_one};
 use crate::two::{OfTwo, write_two};
@@ -55,23 +56,25 @@ pub fn bit_and(first: &Image<'_>, second: &Image<'_>, output: &mut ImageMut<'_>)
     requires { Fits AndBits first.now (Some (ImageObject second.now)) output.old }
     ensures { Writes (from_two U8 and_bits first.now second.now) output.old output.new }
 {
-    write_two::<u8, u8, u8, And>(&And, first, second, output);
+    write_two::<u8, u8, u8, _>(&And, first, second, output);
 }
 
-/// Writes the bits that one sample has or both have (OpenVX 1.3, "Bitwise INCLUSIVE OR"); all images are U8.
+/// Writes the bits that one sample has or both have (OpenVX 1.3, "Bitwise INCLUSIVE OR"); all
+/// images are U8.
 pub fn bit_or(first: &Image<'_>, second: &Image<'_>, output: &mut ImageMut<'_>)
     requires { Fits OrBits first.now (Some (ImageObject second.now)) output.old }
     ensures { Writes (from_two U8 or_bits first.now second.now) output.old output.new }
 {
-    write_two::<u8, u8, u8, Or>(&Or, first, second, output);
+    write_two::<u8, u8, u8, _>(&Or, first, second, output);
 }
 
-/// Writes the bits that one sample has and the other has not (OpenVX 1.3, "Bitwise EXCLUSIVE OR"); all images are U8.
+/// Writes the bits that one sample has and the other has not (OpenVX 1.3, "Bitwise EXCLUSIVE OR");
+/// all images are U8.
 pub fn bit_xor(first: &Image<'_>, second: &Image<'_>, output: &mut ImageMut<'_>)
     requires { Fits XorBits first.now (Some (ImageObject second.now)) output.old }
     ensures { Writes (from_two U8 xor_bits first.now second.now) output.old output.new }
 {
-    write_two::<u8, u8, u8, Xor>(&Xor, first, second, output);
+    write_two::<u8, u8, u8, _>(&Xor, first, second, output);
 }
 
 /// Writes the samples with each of the eight bits turned over (OpenVX 1.3, "Bitwise NOT"); both
@@ -80,5 +83,5 @@ pub fn bit_not(image: &Image<'_>, output: &mut ImageMut<'_>)
     requires { Fits NotBits image.now None output.old }
     ensures { Writes (from_one U8 not_bits image.now) output.old output.new }
 {
-    write_one::<u8, u8, Not>(&Not, image, output);
+    write_one::<u8, u8, _>(&Not, image, output);
 }

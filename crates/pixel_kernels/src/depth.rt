@@ -3,12 +3,11 @@ ghost use Rattle.std.specs.Prelude.{◌≡◌, ◌≤◌, ◌^◌, ◌*ℤ◌, p
 ghost use Rattle.vx_base.specs.declared.format.Format.TheVariants.{U8, S16};
 ghost use Rattle.vx_base.specs.declared.function.Function.TheVariants.{ConvertDepth};
 ghost use Rattle.vx_base.specs.Pixelwise.{converted, from_one};
-ghost use Rattle.image_core.specs.Target.{written};
-ghost use Rattle.pixel_kernels.specs.Kernels.{Fits, Writes};
+ghost use Rattle.image_core.specs.Fits.{Fits};
+ghost use Rattle.image_core.specs.Target.{written, Writes};
 
 use crate::one::{OfOne, write_one};
-use crate::overflow::{Overflow, Saturated, Wrapped};
-use image_core::{Image, ImageMut};
+use image_core::{Image, ImageMut, Overflow, Saturated, Wrapped, with_overflow};
 use vx_base::{Format, Policy, narrow_u8};
 
 /// To S16: times 2^amount.
@@ -49,24 +48,10 @@ pub fn convert_depth(image: &Image<'_>, output: &mut ImageMut<'_>, policy: Polic
     requires amount { amount ≤ 7 }
     ensures { Writes (from_one (written output.old).format (converted (written output.old).format policy amount) image.now) output.old output.new }
 {
-    match (image.desc().format(), policy) {
-        (Format::U8, _) => {
-            let kernel = Deepened { amount };
-            write_one::<u8, i16, Deepened>(&kernel, image, output);
-        }
-        (_, Policy::Wrap) => {
-            let kernel = Narrowed {
-                amount,
-                overflow: Wrapped,
-            };
-            write_one::<i16, u8, Narrowed<Wrapped>>(&kernel, image, output);
-        }
-        (_, Policy::Saturate) => {
-            let kernel = Narrowed {
-                amount,
-                overflow: Saturated,
-            };
-            write_one::<i16, u8, Narrowed<Saturated>>(&kernel, image, output);
-        }
+    match image.desc().format() {
+        Format::U8 => write_one::<u8, i16, _>(&Deepened { amount }, image, output),
+        _ => with_overflow!(policy, overflow => {
+            write_one::<i16, u8, _>(&Narrowed { amount, overflow }, image, output)
+        }),
     }
 }

@@ -3,8 +3,8 @@ ghost use Rattle.std.specs.Prelude.{◌≡◌, Some};
 ghost use Rattle.vx_base.specs.declared.function.Function.TheVariants.{MinPixel, MaxPixel};
 ghost use Rattle.vx_base.specs.Object.{ImageObject};
 ghost use Rattle.vx_base.specs.Pixelwise.{smaller, greater, from_two};
-ghost use Rattle.image_core.specs.Target.{written};
-ghost use Rattle.pixel_kernels.specs.Kernels.{Fits, Writes};
+ghost use Rattle.image_core.specs.Fits.{Fits};
+ghost use Rattle.image_core.specs.Target.{written, Writes};
 
 use crate::arithmetic::{Arithmetic, write_arithmetic};
 use image_core::{Image, ImageMut};

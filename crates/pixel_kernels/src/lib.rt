@@ -1,10 +1,10 @@
 //! Functions that give each sample of an image from the samples at the same place.
 //!
 //! Each writes a whole output: the formula of OpenVX 1.3 where the inputs are valid, 0 elsewhere,
-//! and their rectangle, or that in which two meet. `run_node` runs the one that a node names. A
-//! kernel is a type with a `sample` at a place, `OfOne` or `OfTwo`; that it gives a whole image is
-//! proved once for all, in `write_one` and `write_two`. Formats and policies are type parameters,
-//! so that the loop over a row asks for neither.
+//! and their rectangle, or that in which two meet. A kernel is a type with a `sample` at a place,
+//! `OfOne` or `OfTwo`; that it gives a whole image is proved once for all, in `write_one` and
+//! `write_two`. Formats and policies are type parameters, so that the loop over a row asks for
+//! neither.
 #![tactic(auto)]
 
 mod arithmetic;
@@ -13,11 +13,8 @@ mod depth;
 mod distance;
 mod extremes;
 mod one;
-mod overflow;
-mod pixel;
 mod product;
-mod run;
-mod second;
+mod short_sample;
 mod sum;
 mod tables;
 mod thresholds;
@@ -28,11 +25,6 @@ pub use depth::convert_depth;
 pub use distance::absolute_difference;
 pub use extremes::{maximum, minimum};
 pub use product::multiply;
-pub use run::run_node;
-pub use second::Second;
 pub use sum::{add, subtract};
 pub use tables::lookup;
 pub use thresholds::threshold;
-
-#[cfg(test)]
-mod tests;

@@ -3,16 +3,15 @@ ghost use Rattle.std.specs.Prelude.{◌≡◌, ℤ, map, length};
 ghost use Rattle.vx_base.specs.Rectangle.{IsWithin};
 ghost use Rattle.vx_base.specs.Image.{at};
 ghost use Rattle.vx_base.specs.Pixelwise.{from_one};
-ghost use Rattle.image_core.specs.Target.{written, IsTarget};
-ghost use Rattle.pixel_kernels.specs.Kernels.{SameSize, Writes};
+ghost use Rattle.image_core.specs.Fits.{HaveSameSize};
+ghost use Rattle.image_core.specs.Target.{written, IsTarget, Writes};
 
-use crate::pixel::{Pixel, part_of_row};
-use image_core::{Formula, Image, ImageMut};
+use image_core::{Formula, Image, ImageMut, Sample};
 use std::marker::PhantomData;
 use vx_base::Rect;
 
 /// What a function of one image gives at a place.
-pub trait OfOne<A: Pixel, T: Pixel> {
+pub trait OfOne<A: Sample, T: Sample> {
     /// The sample, from that of the image.
     ghost formula: { Self → ℤ → ℤ };
 
@@ -21,7 +20,7 @@ pub trait OfOne<A: Pixel, T: Pixel> {
 }
 
 /// Writes what the kernel gives at each place of a row.
-fn write_samples<A: Pixel, T: Pixel, K: OfOne<A, T>>(kernel: &K, row: &[A], out: &mut [T])
+fn map_row<A: Sample, T: Sample, K: OfOne<A, T>>(kernel: &K, row: &[A], out: &mut [T])
     requires { length row.now ≡ length out.old }
     ensures { map T.value out.new ≡ map (K.formula kernel.now) (map A.value row.now) }
 {
@@ -32,7 +31,7 @@ fn write_samples<A: Pixel, T: Pixel, K: OfOne<A, T>>(kernel: &K, row: &[A], out:
 
 /// What a kernel gives of an image, where it is valid.
 #[derive(Drop)]
-struct FromOne<'a, 'b, A: Pixel, K> {
+struct FromOne<'a, 'b, A: Sample, K> {
     kernel: &'a K,
     image: &'a Image<'b>,
     area: Rect,
@@ -41,7 +40,7 @@ struct FromOne<'a, 'b, A: Pixel, K> {
     ghost room: { IsWithin area image.now.width image.now.height },
 }
 
-impl<A: Pixel, T: Pixel, K: OfOne<A, T>> Formula<T> for FromOne<'_, '_, A, K> {
+impl<A: Sample, T: Sample, K: OfOne<A, T>> Formula<T> for FromOne<'_, '_, A, K> {
     ghost at = { λ s x y. K.formula s.kernel.now (at s.image.now x y) };
 
     ghost area = { λ s. s.area };
@@ -51,31 +50,29 @@ impl<A: Pixel, T: Pixel, K: OfOne<A, T>> Formula<T> for FromOne<'_, '_, A, K> {
     }
 
     fn fill(&self, x: u16, y: u16, out: &mut [T]) {
-        let row = part_of_row::<A>(self.image, x, y, out.len());
-        write_samples(self.kernel, row, out);
+        let row = self.image.part_of_row::<A>(x, y, out.len());
+        map_row(self.kernel, row, out);
     }
 }
 
 /// Writes what the kernel gives of an image to another of its size.
-pub fn write_one<A: Pixel, T: Pixel, K: OfOne<A, T>>(
+pub fn write_one<A: Sample, T: Sample, K: OfOne<A, T>>(
     kernel: &K,
     image: &Image<'_>,
     output: &mut ImageMut<'_>,
 )
     requires target { IsTarget output.old }
-    requires size { SameSize (written output.old) image.now }
+    requires size { HaveSameSize (written output.old) image.now }
     requires input_format { image.now.format ≡ A.format }
     requires format { (written output.old).format ≡ T.format }
     ensures { Writes (from_one T.format (K.formula kernel.now) image.now) output.old output.new }
 {
     let area = image.valid();
-    T::write(
-        output,
-        &FromOne {
-            kernel,
-            image,
-            area,
-            samples: PhantomData,
-        },
-    );
+    let formula = FromOne {
+        kernel,
+        image,
+        area,
+        samples: PhantomData,
+    };
+    output.write::<T, _>(&formula);
 }

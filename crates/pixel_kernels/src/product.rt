@@ -5,12 +5,11 @@ ghost use Rattle.vx_base.specs.declared.function.Function.TheVariants.{Multiply}
 ghost use Rattle.vx_base.specs.Sample.{IsSample};
 ghost use Rattle.vx_base.specs.Object.{ImageObject};
 ghost use Rattle.vx_base.specs.Pixelwise.{product, from_two};
-ghost use Rattle.image_core.specs.Target.{written};
-ghost use Rattle.pixel_kernels.specs.Kernels.{Fits, Writes};
+ghost use Rattle.image_core.specs.Fits.{Fits};
+ghost use Rattle.image_core.specs.Target.{written, Writes};
 
 use crate::arithmetic::{Arithmetic, write_arithmetic};
-use crate::overflow::{Overflow, Saturated, Wrapped};
-use image_core::{Image, ImageMut};
+use image_core::{Image, ImageMut, Overflow, Saturated, Wrapped, with_overflow};
 use vx_base::{Policy, narrow_s16, narrow_u8};
 
 #[derive(Drop)]
@@ -66,20 +65,7 @@ pub fn multiply(
     requires amount { amount ≤ 15 }
     ensures { Writes (from_two (written output.old).format (product (written output.old).format policy amount) first.now second.now) output.old output.new }
 {
-    match policy {
-        Policy::Wrap => {
-            let kernel = Product {
-                amount,
-                overflow: Wrapped,
-            };
-            write_arithmetic(&kernel, first, second, output);
-        }
-        Policy::Saturate => {
-            let kernel = Product {
-                amount,
-                overflow: Saturated,
-            };
-            write_arithmetic(&kernel, first, second, output);
-        }
-    }
+    with_overflow!(policy, overflow => {
+        write_arithmetic(&Product { amount, overflow }, first, second, output)
+    })
 }

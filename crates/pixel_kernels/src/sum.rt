@@ -3,13 +3,12 @@ ghost use Rattle.std.specs.Prelude.{◌≡◌, Some};
 ghost use Rattle.vx_base.specs.declared.function.Function.TheVariants.{Add, Subtract};
 ghost use Rattle.vx_base.specs.Object.{ImageObject};
 ghost use Rattle.vx_base.specs.Pixelwise.{sum, difference, from_two};
-ghost use Rattle.image_core.specs.Target.{written};
-ghost use Rattle.pixel_kernels.specs.Kernels.{Fits, Writes};
+ghost use Rattle.image_core.specs.Fits.{Fits};
+ghost use Rattle.image_core.specs.Target.{written, Writes};
 
 use crate::arithmetic::{Arithmetic, write_arithmetic};
-use crate::overflow::{Overflow, Saturated, Wrapped};
-use image_core::{Image, ImageMut};
-use vx_base::{Policy, narrow_s16, narrow_u8};
+use image_core::{Image, ImageMut, Overflow, Saturated, Wrapped, with_overflow};
+use vx_base::{Policy, narrow_s16};
 
 #[derive(Drop)]
 struct Sum<P> {
@@ -37,17 +36,7 @@ pub fn add(first: &Image<'_>, second: &Image<'_>, output: &mut ImageMut<'_>, pol
     requires { Fits Add first.now (Some (ImageObject second.now)) output.old }
     ensures { Writes (from_two (written output.old).format (sum (written output.old).format policy) first.now second.now) output.old output.new }
 {
-    match policy {
-        Policy::Wrap => write_arithmetic(&Sum { overflow: Wrapped }, first, second, output),
-        Policy::Saturate => write_arithmetic(
-            &Sum {
-                overflow: Saturated,
-            },
-            first,
-            second,
-            output,
-        ),
-    }
+    with_overflow!(policy, overflow => write_arithmetic(&Sum { overflow }, first, second, output))
 }
 
 #[derive(Drop)]
@@ -76,15 +65,5 @@ pub fn subtract(first: &Image<'_>, second: &Image<'_>, output: &mut ImageMut<'_>
     requires { Fits Subtract first.now (Some (ImageObject second.now)) output.old }
     ensures { Writes (from_two (written output.old).format (difference (written output.old).format policy) first.now second.now) output.old output.new }
 {
-    match policy {
-        Policy::Wrap => write_arithmetic(&Difference { overflow: Wrapped }, first, second, output),
-        Policy::Saturate => write_arithmetic(
-            &Difference {
-                overflow: Saturated,
-            },
-            first,
-            second,
-            output,
-        ),
-    }
+    with_overflow!(policy, overflow => write_arithmetic(&Difference { overflow }, first, second, output))
 }

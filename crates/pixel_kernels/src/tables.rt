@@ -4,8 +4,8 @@ ghost use Rattle.vx_base.specs.declared.format.Format.TheVariants.{U8, S16};
 ghost use Rattle.vx_base.specs.declared.function.Function.TheVariants.{TableLookup};
 ghost use Rattle.vx_base.specs.Object.{LutObject};
 ghost use Rattle.vx_base.specs.Pixelwise.{looked_up, from_one};
-ghost use Rattle.image_core.specs.Target.{written};
-ghost use Rattle.pixel_kernels.specs.Kernels.{Fits, Writes};
+ghost use Rattle.image_core.specs.Fits.{Fits};
+ghost use Rattle.image_core.specs.Target.{written, Writes};
 
 use crate::one::{OfOne, write_one};
 use image_core::{Image, ImageMut};
@@ -52,13 +52,13 @@ pub fn lookup(image: &Image<'_>, output: &mut ImageMut<'_>, lut: &Lut)
             let kernel = ByteTable {
                 entries: entries.as_slice(),
             };
-            write_one::<u8, u8, ByteTable<'_>>(&kernel, image, output);
+            write_one::<u8, u8, _>(&kernel, image, output);
         }
         Samples::S16(entries) => {
             let kernel = ShortTable {
                 entries: entries.as_slice(),
             };
-            write_one::<i16, i16, ShortTable<'_>>(&kernel, image, output);
+            write_one::<i16, i16, _>(&kernel, image, output);
         }
         Samples::U32(_) => unreachable!(),
     }

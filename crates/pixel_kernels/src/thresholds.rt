@@ -6,11 +6,11 @@ ghost use Rattle.vx_base.specs.declared.threshold.ThresholdKind.TheVariants.{Bin
 ghost use Rattle.vx_base.specs.Threshold.{has_limits};
 ghost use Rattle.vx_base.specs.Object.{ThresholdObject};
 ghost use Rattle.vx_base.specs.Pixelwise.{thresholded, from_one};
-ghost use Rattle.image_core.specs.Target.{written, IsTarget};
-ghost use Rattle.pixel_kernels.specs.Kernels.{Fits, SameSize, Writes};
+ghost use Rattle.image_core.specs.Fits.{Fits, HaveSameSize};
+ghost use Rattle.image_core.specs.Target.{written, IsTarget, Writes};
 
 use crate::one::{OfOne, write_one};
-use crate::pixel::Pixel;
+use crate::short_sample::ShortSample;
 use image_core::{Image, ImageMut};
 use vx_base::{Format, ThresholdKind, ThresholdRule};
 
@@ -22,7 +22,7 @@ struct Above<A> {
     false_value: u8,
 }
 
-impl<A: Pixel> OfOne<A, u8> for Above<A> {
+impl<A: ShortSample> OfOne<A, u8> for Above<A> {
     ghost formula = { λ s. thresholded (record { format = A.format; kind = Binary (A.value s.limit); true_value = s.true_value; false_value = s.false_value }) };
 
     fn sample(&self, a: A) -> u8 {
@@ -43,7 +43,7 @@ struct Between<A> {
     false_value: u8,
 }
 
-impl<A: Pixel> OfOne<A, u8> for Between<A> {
+impl<A: ShortSample> OfOne<A, u8> for Between<A> {
     ghost formula = { λ s. thresholded (record { format = A.format; kind = Range (A.value s.lower) (A.value s.upper); true_value = s.true_value; false_value = s.false_value }) };
 
     fn sample(&self, a: A) -> u8 {
@@ -56,9 +56,13 @@ impl<A: Pixel> OfOne<A, u8> for Between<A> {
 }
 
 /// Writes the rule's values to a U8 image; it tests samples of the image's format.
-fn write_thresholded<A: Pixel>(image: &Image<'_>, output: &mut ImageMut<'_>, rule: ThresholdRule)
+fn write_thresholded<A: ShortSample>(
+    image: &Image<'_>,
+    output: &mut ImageMut<'_>,
+    rule: ThresholdRule,
+)
     requires target { IsTarget output.old }
-    requires size { SameSize (written output.old) image.now }
+    requires size { HaveSameSize (written output.old) image.now }
     requires input_format { image.now.format ≡ A.format }
     requires rule_format { rule.format ≡ A.format }
     requires format { (written output.old).format ≡ U8 }
@@ -72,7 +76,7 @@ fn write_thresholded<A: Pixel>(image: &Image<'_>, output: &mut ImageMut<'_>, rul
                 true_value,
                 false_value,
             };
-            write_one::<A, u8, Above<A>>(&kernel, image, output);
+            write_one::<A, u8, _>(&kernel, image, output);
         }
         ThresholdKind::Range(lower, upper) => {
             let kernel = Between {
@@ -81,7 +85,7 @@ fn write_thresholded<A: Pixel>(image: &Image<'_>, output: &mut ImageMut<'_>, rul
                 true_value,
                 false_value,
             };
-            write_one::<A, u8, Between<A>>(&kernel, image, output);
+            write_one::<A, u8, _>(&kernel, image, output);
         }
     }
 }

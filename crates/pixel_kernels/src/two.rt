@@ -4,16 +4,15 @@ ghost use Rattle.std.specs.Simd.Lanes.{zip2};
 ghost use Rattle.vx_base.specs.Rectangle.{IsWithin, meet_of};
 ghost use Rattle.vx_base.specs.Image.{at};
 ghost use Rattle.vx_base.specs.Pixelwise.{from_two};
-ghost use Rattle.image_core.specs.Target.{written, IsTarget};
-ghost use Rattle.pixel_kernels.specs.Kernels.{SameSize, Writes};
+ghost use Rattle.image_core.specs.Fits.{HaveSameSize};
+ghost use Rattle.image_core.specs.Target.{written, IsTarget, Writes};
 
-use crate::pixel::{Pixel, part_of_row};
-use image_core::{Formula, Image, ImageMut};
+use image_core::{Formula, Image, ImageMut, Sample};
 use std::marker::PhantomData;
 use vx_base::Rect;
 
 /// What a function of two images gives at a place.
-pub trait OfTwo<A: Pixel, B: Pixel, T: Pixel> {
+pub trait OfTwo<A: Sample, B: Sample, T: Sample> {
     /// The sample, from those of the two images.
     ghost formula: { Self → ℤ → ℤ → ℤ };
 
@@ -22,7 +21,7 @@ pub trait OfTwo<A: Pixel, B: Pixel, T: Pixel> {
 }
 
 /// Writes what the kernel gives at each place of a row.
-fn write_samples<A: Pixel, B: Pixel, T: Pixel, K: OfTwo<A, B, T>>(
+fn zip_rows<A: Sample, B: Sample, T: Sample, K: OfTwo<A, B, T>>(
     kernel: &K,
     first: &[A],
     second: &[B],
@@ -39,7 +38,7 @@ fn write_samples<A: Pixel, B: Pixel, T: Pixel, K: OfTwo<A, B, T>>(
 
 /// What a kernel gives of two images of one size, where both are valid.
 #[derive(Drop)]
-struct FromTwo<'a, 'b, A: Pixel, B: Pixel, K> {
+struct FromTwo<'a, 'b, A: Sample, B: Sample, K> {
     kernel: &'a K,
     first: &'a Image<'b>,
     second: &'a Image<'b>,
@@ -51,7 +50,7 @@ struct FromTwo<'a, 'b, A: Pixel, B: Pixel, K> {
     ghost second_room: { IsWithin area second.now.width second.now.height },
 }
 
-impl<A: Pixel, B: Pixel, T: Pixel, K: OfTwo<A, B, T>> Formula<T> for FromTwo<'_, '_, A, B, K> {
+impl<A: Sample, B: Sample, T: Sample, K: OfTwo<A, B, T>> Formula<T> for FromTwo<'_, '_, A, B, K> {
     ghost at = { λ s x y. K.formula s.kernel.now (at s.first.now x y) (at s.second.now x y) };
 
     ghost area = { λ s. s.area };
@@ -61,36 +60,34 @@ impl<A: Pixel, B: Pixel, T: Pixel, K: OfTwo<A, B, T>> Formula<T> for FromTwo<'_,
     }
 
     fn fill(&self, x: u16, y: u16, out: &mut [T]) {
-        let first = part_of_row::<A>(self.first, x, y, out.len());
-        let second = part_of_row::<B>(self.second, x, y, out.len());
-        write_samples(self.kernel, first, second, out);
+        let first = self.first.part_of_row::<A>(x, y, out.len());
+        let second = self.second.part_of_row::<B>(x, y, out.len());
+        zip_rows(self.kernel, first, second, out);
     }
 }
 
 /// Writes what the kernel gives of two images to a third of their size.
-pub fn write_two<A: Pixel, B: Pixel, T: Pixel, K: OfTwo<A, B, T>>(
+pub fn write_two<A: Sample, B: Sample, T: Sample, K: OfTwo<A, B, T>>(
     kernel: &K,
     first: &Image<'_>,
     second: &Image<'_>,
     output: &mut ImageMut<'_>,
 )
     requires target { IsTarget output.old }
-    requires size { SameSize (written output.old) first.now }
-    requires second_size { SameSize second.now first.now }
+    requires size { HaveSameSize (written output.old) first.now }
+    requires second_size { HaveSameSize second.now first.now }
     requires first_format { first.now.format ≡ A.format }
     requires second_format { second.now.format ≡ B.format }
     requires format { (written output.old).format ≡ T.format }
     ensures { Writes (from_two T.format (K.formula kernel.now) first.now second.now) output.old output.new }
 {
     let area = first.valid().meet(second.valid());
-    T::write(
-        output,
-        &FromTwo {
-            kernel,
-            first,
-            second,
-            area,
-            samples: PhantomData,
-        },
-    );
+    let formula = FromTwo {
+        kernel,
+        first,
+        second,
+        area,
+        samples: PhantomData,
+    };
+    output.write::<T, _>(&formula);
 }

@@ -1,13 +1,13 @@
 use Rattle.std.proofs.Common.{◌≡◌, ◌*◌, ap, ◌∙◌, map, take}
 use Rattle.vx_base.specs.Image.{within}
 use Rattle.vx_base.proofs.TableLaws.{row_written, length_part}
-use Rattle.image_core.specs.Slices.{sample_at}
+use Rattle.image_core.specs.Rows.{sample_at}
 use Rattle.image_core.proofs.ClearLaws.{row_cleared, next_kept}
 use Rattle.image_core.proofs.rows.clear_rows.Goals as goal
 
 pub loop-y-preserved : goal.loop-y-preserved
 loop-y-preserved g c =
-    let value = g.T.Sample.value in
+    let value = g.T.Number.value in
     let samples = c.args.samples.now in
     let start : c.from.result * c.from-step.result ≡ c.loop-y.y * c.args.width = ap (λ n. n * c.from-step.result) c.from.ensures ∙ ap (λ n. c.loop-y.y * n) c.from-step.ensures in
     let size = c.loop-y.auto.samples ∙ c.requires.size in

@@ -6,7 +6,7 @@ use Rattle.image_core.proofs.rows.write_across.Goals as goal
 
 pub returns : goal.returns
 returns g c =
-    let value = g.T.Sample.value in
+    let value = g.T.Number.value in
     let f = g.F.Formula.at c.args.formula.now in
     let r = g.F.Formula.area c.args.formula.now in
     let x0 = c.args.x0 in

@@ -1,4 +1,6 @@
 use Rattle.vx_base.specs.Image.{at}
+use Rattle.image_core.specs.Target.{written}
+use Rattle.image_core.proofs.SizeLaws.{same_sides}
 use Rattle.pixel_kernels.proofs.WriteLaws.{written_alike}
 use Rattle.pixel_kernels.proofs.one.write_one.Goals as goal
 
@@ -6,5 +8,6 @@ pub returns : goal.returns
 returns g c =
     let image = c.args.image.now in
     let desc = c.args.output.now.desc in
-    written_alike desc.width desc.height image.width image.height g.T.Pixel.format c.valid-area.result image.valid (λ x y. g.K.OfOne.formula c.args.kernel.now (at image x y)) c.args.output.now c.write.new.output
-    c.requires.size.width c.requires.size.height c.valid-area.ensures.value c.write.ensures
+    let sides = same_sides (written c.args.output.now) image c.requires.size in
+    written_alike desc.width desc.height image.width image.height g.T.Sample.format c.valid-area.result image.valid (λ x y. g.K.OfOne.formula c.args.kernel.now (at image x y)) c.args.output.now c.write.new.self
+    sides.0 sides.1 c.valid-area.ensures.value c.write.ensures

@@ -1,0 +1,9 @@
+-- Images of the same size.
+use Rattle.std.proofs.Common.{◌≡◌, arith}
+use Rattle.std.proofs.lemmas.Bool.Decides.{nat_tests}
+use Rattle.vx_base.specs.Image.{ImageValue}
+use Rattle.image_core.specs.Fits.{HaveSameSize}
+
+-- their sides are equal
+pub same_sides : (a b : ImageValue) → HaveSameSize a b → (a.width ≡ b.width) × (a.height ≡ b.height)
+same_sides a b same = (grind (arith, nat_tests), grind (arith, nat_tests))

@@ -1,0 +1,15 @@
+-- Samples by rows.
+use Rattle.std.specs.Prelude.{ℕ, ℤ, pos, ◌+◌, ◌*◌, List, slice_index_or}
+use Rattle.vx_base.specs.Image.{ImageValue, run, at}
+
+-- the samples of a row
+abbrev pub row_of : ImageValue → ℕ → List ℤ
+row_of image y = run 0 image.width (λ x. at image x y)
+
+-- of samples that stand by rows of this width, the one in column x of row y
+abbrev pub sample_at : ℕ → List ℤ → ℕ → ℕ → ℤ
+sample_at width samples x y = slice_index_or samples (y * width + x) (pos 0)
+
+-- of the samples of a row, the one in column x
+abbrev pub sample_in : List ℤ → ℕ → ℕ → ℤ
+sample_in row x y = slice_index_or row x (pos 0)

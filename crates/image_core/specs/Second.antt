@@ -1,0 +1,12 @@
+-- What a node reads beside its first input.
+use Rattle.std.specs.Prelude.{Option, Some, None}
+use Rattle.vx_base.specs.Object.{ObjectValue, ImageObject, LutObject, ThresholdObject}
+use Rattle.image_core.specs.declared.second.Second.{Second}
+use Rattle.image_core.specs.declared.second.Second.TheVariants.{Nothing, Image, Lut, Threshold}
+
+-- the object that stands beside the first input
+abbrev pub second_object : Second → Option ObjectValue
+second_object Nothing = None
+second_object (Image image) = Some (ImageObject image)
+second_object (Lut lut) = Some (LutObject lut.now)
+second_object (Threshold threshold) = Some (ThresholdObject threshold)

@@ -1,8 +1,0 @@
-use Rattle.vx_base.specs.Image.{at}
-use Rattle.pixel_kernels.proofs.RowLaws.{part_of}
-use Rattle.pixel_kernels.proofs.pixel.part_of_row.Goals as goal
-
-pub returns-clause-value : goal.returns-clause-value
-returns-clause-value g c =
-    part_of g.A.Sample.value c.row-row.result.now (λ k. at c.args.image.now k c.args.y) c.args.image.now.width c.from.result c.args.x c.args.count
-    c.from.ensures c.requires.room c.row-row.ensures.len c.row-row.ensures.value
