@@ -1,109 +1,116 @@
--- A context's objects when one is added or written.
-use Rattle.std.proofs.Common.{◌≡◌, ◌≢◌, ℕ, ◌+◌, ◌<◌, ◌≤◌, cond, List, [], ◌∷◌, ◌++◌, length, set, zero, suc, refl, sym, ap, subst, ◌∙◌, arith}
-use Rattle.std.proofs.lemmas.Bool.{eq-eqb, ne_eqb}
-use Rattle.std.proofs.lemmas.List.{length-set, length_push}
+-- A context's objects when one is added or another stands in its place.
+use Rattle.std.proofs.Common.{◌≡◌, ◌≢◌, ℕ, ◌+◌, ◌<◌, ◌≤◌, ◌⊎◌, inl, inr, cond, List, [], ◌∷◌, ◌++◌, length, map, set, get_or, zero, suc, refl, sym, ap, subst, ◌∙◌, arith}
+use Rattle.std.specs.List.Sorted.{IsStrictlyIncreasing}
+use Rattle.std.proofs.lemmas.Bool.{eq-eqb, ne_eqb, cases_lt}
+use Rattle.std.proofs.lemmas.List.{length-set, length_push, length-map, map-append, get_or-map, get_or_append_left}
+use Rattle.std.proofs.lemmas.List.Elements.{All-push, All-set}
+use Rattle.std.proofs.lemmas.List.Kept.{AllPairs-from_increasing}
 use Rattle.std.proofs.lemmas.List.Sums.{sum_by-set, sum_by_push}
-use Rattle.vx_base.specs.Object.{ObjectValue}
-use Rattle.client_contexts.specs.Context.{Named, Context, with_object, object_bytes}
-use Rattle.client_contexts.specs.Places.{no_object, object_at, LacksName, AreBelow, AreDistinct, IsContext}
+use Rattle.std.proofs.Math.Seq.{map-set_same, get_or-append_seam}
+use Rattle.vx_base.specs.Object.{ObjectValue, object_bytes}
+use Rattle.client_contexts.specs.Context.{Named, with_object}
+use Rattle.client_contexts.specs.Places.{no_object, entry_at, object_at, IsContext}
+use Rattle.client_contexts.specs.Steps.{replaced}
 
--- a name that is above all others is no other's
-lacks_from_below : (n : ℕ) (objects : List Named) → AreBelow n objects → LacksName n objects
-lacks_from_below n [] h = tt
-lacks_from_below n (o ∷ objects) h = ((λ e. omega (arith, h.0)), lacks_from_below n objects h.1)
-
-LacksName-push : (name : ℕ) (objects : List Named) (o : Named) → LacksName name objects → o.name ≢ name → LacksName name (objects ++ o ∷ [])
-LacksName-push name [] o h differ = (differ, tt)
-LacksName-push name (p ∷ objects) o h differ = (h.0, LacksName-push name objects o h.1 differ)
-
-AreBelow-push : (n : ℕ) (objects : List Named) (o : Named) → AreBelow n objects → o.name ≡ n → AreBelow (n + 1) (objects ++ o ∷ [])
-AreBelow-push n [] o h e = (omega arith, tt)
-AreBelow-push n (p ∷ objects) o h e = (omega (arith, h.0), AreBelow-push n objects o h.1 e)
-
-AreDistinct-push : (n : ℕ) (objects : List Named) (o : Named) → AreDistinct objects → AreBelow n objects → o.name ≡ n → AreDistinct (objects ++ o ∷ [])
-AreDistinct-push n [] o h below e = (tt, tt)
-AreDistinct-push n (p ∷ objects) o h below e =
-    (LacksName-push p.name objects o h.0 (λ same. omega (arith, below.0)), AreDistinct-push n objects o h.1 below.1 e)
+-- a number that is above all others comes last
+increasing-push : (ns : List ℕ) (n : ℕ) → IsStrictlyIncreasing ns → ((k : ℕ) → k < length ns → get_or ns k 0 < n) → IsStrictlyIncreasing (ns ++ n ∷ [])
+increasing-push ns n h below k room = there_or_last (cases_lt (k + 1) (length ns))
+  where
+    there_or_last : ((k + 1) < length ns) ⊎ (length ns ≤ (k + 1)) → get_or (ns ++ n ∷ []) k 0 < get_or (ns ++ n ∷ []) (k + 1) 0
+    there_or_last (inl early) =
+        rw (get_or_append_left ns (n ∷ []) 0 k (omega (arith, early))) (rw (get_or_append_left ns (n ∷ []) 0 (k + 1) early) (h k early))
+    there_or_last (inr late) =
+        let last : k + 1 ≡ length ns = omega (arith, length_push ns n, room, late) in
+        rw (get_or_append_left ns (n ∷ []) 0 k (omega (arith, last))) (rw last (rw (get_or-append_seam ns n [] 0) (below k (omega (arith, last)))))
 
 pub IsContext-push : (next charge bytes : ℕ) (objects : List Named) (o : Named) → IsContext next charge objects → next < 4294967296 → length objects < 1024 → charge + bytes ≤ 1099511627776 → o.name ≡ next → object_bytes o.object ≡ bytes
     → IsContext (next + 1) (charge + bytes) (objects ++ o ∷ [])
 IsContext-push next charge bytes objects o h left few limit named long =
+    let name : Named → ℕ = λ p. p.name in
     record {
       charged = omega (arith, h.charged, long, sum_by_push (λ (p : Named). object_bytes p.object) objects o);
       limit = limit;
-      names = omega arith;
+      names_left = omega arith;
       count = omega (arith, length_push objects o);
-      below = AreBelow-push next objects o h.below named;
-      distinct = AreDistinct-push next objects o h.distinct h.below named;
+      names = subst IsStrictlyIncreasing (sym (map-append name objects (o ∷ [])))
+          (increasing-push (map name objects) o.name h.names
+          (λ k below.
+          let within : k < length objects = omega (arith, below, length-map objects name) in
+          omega (arith, named, get_or-map name objects k no_object 0 within, h.below k no_object within)));
+      below = All-push (λ (p : Named). p.name < next + 1) objects o (λ k d within. omega (arith, h.below k d within)) (omega (arith, named));
     }
 
--- one object is written under its name
-LacksName-set : (name : ℕ) (objects : List Named) (place : ℕ) (o : Named) → LacksName name objects → o.name ≡ (object_at objects place).name → LacksName name (set objects place o)
-LacksName-set name [] place o h e = tt
-LacksName-set name (p ∷ objects) zero o h e = ((λ same. h.0 (sym e ∙ same)), h.1)
-LacksName-set name (p ∷ objects) (suc place) o h e = (h.0, LacksName-set name objects place o h.1 e)
+-- another object stands in the place of one, under its name
+module _ (next charge : ℕ) (objects : List Named) (place : ℕ) (object : ObjectValue) (h : IsContext next charge objects) (within : place < length objects) where
+  pub IsContext-replaced : object_bytes object ≡ object_bytes (object_at objects place) → IsContext next charge (replaced objects place object)
+  IsContext-replaced long =
+      let name : Named → ℕ = λ p. p.name in
+      let o : Named = record { name = (entry_at objects place).name; object = object } in
+      record {
+        charged = omega (arith, h.charged, long, sum_by-set (λ (p : Named). object_bytes p.object) objects place o no_object within);
+        limit = h.limit;
+        names_left = h.names_left;
+        count = omega (arith, h.count, length-set objects place o);
+        names = subst IsStrictlyIncreasing (sym (map-set_same name objects place o no_object refl)) h.names;
+        below = All-set (λ (p : Named). p.name < next) objects place o (h.below place no_object within) h.below;
+      }
 
-AreBelow-set : (n : ℕ) (objects : List Named) (place : ℕ) (o : Named) → AreBelow n objects → o.name ≡ (object_at objects place).name → AreBelow n (set objects place o)
-AreBelow-set n [] place o h e = tt
-AreBelow-set n (p ∷ objects) zero o h e = (omega (arith, h.0), h.1)
-AreBelow-set n (p ∷ objects) (suc place) o h e = (h.0, AreBelow-set n objects place o h.1 e)
+-- names that differ
+abbrev AreDistinct : List Named → Type 0
+AreDistinct objects = (i j : ℕ) → i < length objects → j < length objects → i ≢ j → (entry_at objects i).name ≢ (entry_at objects j).name
 
-AreDistinct-set : (objects : List Named) (place : ℕ) (o : Named) → AreDistinct objects → o.name ≡ (object_at objects place).name → AreDistinct (set objects place o)
-AreDistinct-set [] place o h e = tt
-AreDistinct-set (p ∷ objects) zero o h e = (rw e h.0, h.1)
-AreDistinct-set (p ∷ objects) (suc place) o h e = (LacksName-set p.name objects place o h.0 e, AreDistinct-set objects place o h.1 e)
+distinct : (objects : List Named) → IsStrictlyIncreasing (map (λ o. o.name) objects) → AreDistinct objects
+distinct objects h i j a b apart same = before_or_after (cases_lt i j)
+  where
+    name : Named → ℕ
+    name p = p.name
 
-pub IsContext-set : (next charge : ℕ) (objects : List Named) (place : ℕ) (o : Named) → IsContext next charge objects → place < length objects → o.name ≡ (object_at objects place).name → object_bytes o.object ≡ object_bytes (object_at objects place).object
-    → IsContext next charge (set objects place o)
-IsContext-set next charge objects place o h within named long =
-    record {
-      charged = omega (arith, h.charged, long, sum_by-set (λ (p : Named). object_bytes p.object) objects place o no_object within);
-      limit = h.limit;
-      names = h.names;
-      count = omega (arith, h.count, length-set objects place o);
-      below = AreBelow-set next objects place o h.below named;
-      distinct = AreDistinct-set objects place o h.distinct named;
-    }
+    there : (k : ℕ) → k < length objects → get_or (map (λ o. o.name) objects) k 0 ≡ (entry_at objects k).name
+    there k within = get_or-map (λ (o : Named). o.name) objects k no_object 0 within
 
-with_object-lacking : (objects : List Named) (name : ℕ) (object : ObjectValue) → LacksName name objects → with_object objects name object ≡ objects
+    before_or_after : (i < j) ⊎ (j ≤ i) → ⊥
+    before_or_after (inl less) = omega (arith, same, there i a, there j b, AllPairs-from_increasing (map (λ (o : Named). o.name) objects) h i j 0 less (omega (arith, b, length-map objects (λ (o : Named). o.name))))
+    before_or_after (inr more) =
+        let less : j < i = (let differ : i ≢ j = apart in le_and_differ i j more differ) in
+        omega (arith, same, there i a, there j b, AllPairs-from_increasing (map (λ (o : Named). o.name) objects) h j i 0 less (omega (arith, a, length-map objects (λ (o : Named). o.name))))
+      where
+        le_and_differ : (i j : ℕ) → j ≤ i → i ≢ j → j < i
+        le_and_differ i j h k = cases (cases_lt j i)
+          where
+            cases : (j < i) ⊎ (i ≤ j) → j < i
+            cases (inl less) = less
+            cases (inr more) = absurd (k (omega (arith, h, more)))
+
+abbrev Lacks : ℕ → List Named → Type 0
+Lacks name objects = (k : ℕ) → k < length objects → (entry_at objects k).name ≢ name
+
+with_object-lacking : (objects : List Named) (name : ℕ) (object : ObjectValue) → Lacks name objects → with_object objects name object ≡ objects
 with_object-lacking [] name object h = refl
 with_object-lacking (o ∷ objects) name object h =
-    ap (λ b. cond b (record { name = o.name; object = object }) o ∷ with_object objects name object) (ne_eqb o.name name h.0)
-    ∙ ap (λ l. o ∷ l) (with_object-lacking objects name object h.1)
+    ap (λ b. cond b (record { name = o.name; object = object }) o ∷ with_object objects name object) (ne_eqb o.name name (h zero (omega arith)))
+    ∙ ap (λ l. o ∷ l) (with_object-lacking objects name object (λ k below. h (suc k) (omega (arith, below))))
 
-lacks_at : (name : ℕ) (objects : List Named) (place : ℕ) → LacksName name objects → place < length objects → (object_at objects place).name ≢ name
-lacks_at name [] place h within = absurd (omega arith)
-lacks_at name (o ∷ objects) zero h within = h.0
-lacks_at name (o ∷ objects) (suc place) h within = lacks_at name objects place h.1 (omega arith)
-
--- where names are distinct, the object under a name is the one at the name's place
-pub with_object-at : (objects : List Named) (place : ℕ) (object : ObjectValue) → AreDistinct objects → place < length objects
-    → with_object objects (object_at objects place).name object ≡ set objects place (record { name = (object_at objects place).name; object = object })
-with_object-at [] place object h within = absurd (omega arith)
+with_object-at : (objects : List Named) (place : ℕ) (object : ObjectValue) → AreDistinct objects → place < length objects
+    → with_object objects (entry_at objects place).name object ≡ replaced objects place object
+with_object-at [] place object h within = absurd (omega (arith, within))
 with_object-at (o ∷ objects) zero object h within =
     ap (λ b. cond b (record { name = o.name; object = object }) o ∷ with_object objects o.name object) (eq-eqb o.name o.name refl)
-    ∙ ap (λ l. record { name = o.name; object = object } ∷ l) (with_object-lacking objects o.name object h.0)
+    ∙ ap (λ l. record { name = o.name; object = object } ∷ l) (with_object-lacking objects o.name object (λ k below. h (suc k) zero (omega (arith, below)) (omega arith) (λ e. omega (arith, e))))
 with_object-at (o ∷ objects) (suc place) object h within =
-    let name = (object_at objects place).name in
+    let name = (entry_at objects place).name in
     ap (λ b. cond b (record { name = o.name; object = object }) o ∷ with_object objects name object)
-    (ne_eqb o.name name (λ same. lacks_at o.name objects place h.0 (omega arith) (sym same)))
-    ∙ ap (λ l. o ∷ l) (with_object-at objects place object h.1 (omega arith))
+    (ne_eqb o.name name (h zero (suc place) (omega arith) within (λ e. omega (arith, e))))
+    ∙ ap (λ l. o ∷ l) (with_object-at objects place object (λ i j a b apart. h (suc i) (suc j) (omega (arith, a)) (omega (arith, b)) (λ e. apart (omega (arith, e)))) (omega (arith, within)))
+
+-- the object under a name is the one at the name's place
+pub replaced_is_named : (next charge : ℕ) (objects : List Named) (place : ℕ) (object : ObjectValue) → IsContext next charge objects → place < length objects
+    → with_object objects (entry_at objects place).name object ≡ replaced objects place object
+replaced_is_named next charge objects place object h within = with_object-at objects place object (distinct objects h.names) within
 
 same_named : (o : Named) (name : ℕ) (object : ObjectValue) → o.name ≡ name → o.object ≡ object → o ≡ record { name = name; object = object }
 same_named o name object named is =
     ap (λ n. let p : Named = record { name = n; object = o.object } in p) named
     ∙ ap (λ i. let p : Named = record { name = name; object = i } in p) is
 
--- the objects with another object at a place, under the name that stands there
-abbrev pub replaced : List Named → ℕ → ObjectValue → List Named
-replaced objects place object = set objects place (record { name = (object_at objects place).name; object = object })
-
-pub replaced_by : (objects : List Named) (place : ℕ) (o : Named) (object : ObjectValue) → o.name ≡ (object_at objects place).name → o.object ≡ object → set objects place o ≡ replaced objects place object
-replaced_by objects place o object named is = ap (set objects place) (same_named o (object_at objects place).name object named is)
-
-module _ (next charge : ℕ) (objects new : List Named) (place : ℕ) (object : ObjectValue) (h : IsContext next charge objects) (within : place < length objects) (is : new ≡ replaced objects place object) where
-  pub IsContext-replaced : object_bytes object ≡ object_bytes (object_at objects place).object → IsContext next charge new
-  IsContext-replaced long = subst (IsContext next charge) (sym is) (IsContext-set next charge objects place _ h within refl long)
-
-  pub with_object_replaced : ◌≡◌ {A = Context} (record { next = next; objects = new }) (record { next = next; objects = with_object objects (object_at objects place).name object })
-  with_object_replaced = ap (λ l. let c : Context = record { next = next; objects = l } in c) (is ∙ sym (with_object-at objects place object h.distinct within))
+pub replaced_by : (objects : List Named) (place : ℕ) (o : Named) (object : ObjectValue) → o.name ≡ (entry_at objects place).name → o.object ≡ object → set objects place o ≡ replaced objects place object
+replaced_by objects place o object named is = ap (set objects place) (same_named o (entry_at objects place).name object named is)

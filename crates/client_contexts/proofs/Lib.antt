@@ -1,6 +1,12 @@
-mod StoredLemmas
-mod KernelLemmas
-mod PlaceLemmas
 mod ContextLemmas
-mod NodeLemmas
-mod VacantLemmas
+mod LookupLemmas
+mod StoredLemmas
+mod RunLemmas
+pub mod RefusalLaws
+pub mod NamedLaws
+pub mod StateLaws
+pub mod OutcomeLaws
+pub mod ImageStepLaws
+pub mod VerdictLaws
+pub mod NodeStepLaws
+pub mod StepLaws

@@ -1,21 +1,11 @@
 -- What a call of apply does.
 use Rattle.std.specs.Prelude.{◌≡◌, ◌≢◌, ℕ, Result, IfOk, OnOk, OnErr}
 use Rattle.client_contexts.specs.declared.request.Request.{Request}
-use Rattle.client_contexts.specs.declared.request.Request.TheVariants.{OpenContext, CreateImage, WriteImage, ReadImage, CreateLut, CreateThreshold, Immediate}
 use Rattle.client_contexts.specs.declared.reply.Reply.{Reply}
 use Rattle.client_contexts.specs.declared.memory.NoMemory.{NoMemory}
 use Rattle.client_contexts.specs.Context.{World, state_of}
+use Rattle.client_contexts.specs.Request.{TakesMemory}
 use Rattle.client_contexts.specs.Answer.{answer_to}
-
--- the requests that take memory, and may find none
-abbrev pub TakesMemory : Request → Type 0
-TakesMemory OpenContext = Unit {0}
-TakesMemory (CreateImage d) = Unit {0}
-TakesMemory (WriteImage cell p) = ⊥
-TakesMemory (ReadImage cell) = Unit {0}
-TakesMemory (CreateLut lut) = Unit {0}
-TakesMemory (CreateThreshold threshold) = Unit {0}
-TakesMemory (Immediate n) = Unit {0}
 
 -- Ok is the model's reply and the client's new state; where memory was wanted nothing is changed; other clients never are.
 pub record Applies (client : ℕ) (request : Request) (old new : World) (result : Result Reply NoMemory) : Type 0 where

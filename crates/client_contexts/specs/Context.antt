@@ -1,11 +1,11 @@
 -- One client's state, and the states of all clients.
-use Rattle.std.specs.Prelude.{ℕ, ◌+◌, ◌*◌, ◌==◌, Bool, ◌&&◌, nat_le, nat_lt, if◌then◌else◌, List, [], ◌∷◌, length, sum_by, find, Option}
+use Rattle.std.specs.Prelude.{ℕ, ◌+◌, ◌==◌, Bool, ◌&&◌, nat_le, nat_lt, if◌then◌else◌, List, [], ◌∷◌, ◌++◌, length, sum_by, find, Option}
 use Rattle.std.specs.Option.{option_map}
 use Rattle.std.specs.Ordering.{nat_cmp}
 use Rattle.std.specs.Map.{lookup}
 use Rattle.std.specs.BTreeMap.{is_at}
-use Rattle.vx_base.specs.Sample.{sample_bytes}
-use Rattle.vx_base.specs.Object.{ObjectValue, ImageObject}
+use Rattle.vx_base.specs.Cell.{Cell}
+use Rattle.vx_base.specs.Object.{ObjectValue, object_bytes}
 use Rattle.client_contexts.specs.Allowance.{Allowance}
 
 -- an object and its name
@@ -36,10 +36,10 @@ with_object [] name object = []
 with_object (o ∷ objects) name object =
     (if o.name == name then record { name = o.name; object = object } else o) ∷ with_object objects name object
 
--- what an object is charged: an image its sample bytes, others nothing
-abbrev pub object_bytes : ObjectValue → ℕ
-object_bytes (ImageObject image) = image.height * image.width * sample_bytes image.format
-object_bytes other = 0
+-- the objects, where these cells hold these
+abbrev pub with_written : List Named → List (Cell × ObjectValue) → List Named
+with_written objects [] = objects
+with_written objects (w ∷ written) = with_written (with_object objects w.0.name w.1) written
 
 -- what a context is charged for its objects
 abbrev pub charge_of : List Named → ℕ
@@ -48,6 +48,14 @@ charge_of objects = sum_by (λ o. object_bytes o.object) objects
 -- whether an object that is charged so many bytes can be created: a name is left, fewer than 1,024 objects are held, and the quota allows it
 abbrev pub has_room : Allowance → Context → ℕ → Bool
 has_room limits c bytes = nat_lt c.next 4294967296 && (nat_lt (length c.objects) 1024 && nat_le (charge_of c.objects + bytes) limits.quota)
+
+-- the context with one more object, under the next name
+abbrev pub with_new : Context → ObjectValue → Context
+with_new c object = record { next = c.next + 1; objects = c.objects ++ record { name = c.next; object = object } ∷ [] }
+
+-- the context with other objects under its names
+abbrev pub with_objects : Context → List Named → Context
+with_objects c objects = record { next = c.next; objects = objects }
 
 -- the limits, and the contexts that are open, each with its client
 pub record World : Type 0 where

@@ -1,9 +1,14 @@
 pub mod Allowance
 pub mod Context
+pub mod Request
+pub mod Refusal
 pub mod Operands
+pub mod Images
 pub mod Immediate
 pub mod Answer
+pub mod States
 pub mod Applies
+pub mod Stored
 pub mod Held
 pub mod Places
 pub mod Steps

@@ -1,82 +1,156 @@
 -- What a request does in the context of its client, and where a node runs.
-use Rattle.std.specs.Prelude.{ℕ, ◌≡◌, ◌≢◌, ◌<◌, IsTrue, List, [], length, Option, Some, Result, IfOk, OnOk, OnErr, IfSome}
+use Rattle.std.specs.Prelude.{ℕ, ◌≡◌, ◌≢◌, ◌<◌, IsTrue, ⊤, if◌then◌else◌, List, length, Option, Some, None, Result, Ok, Err, IfOk, IfErr, OnOk, OnErr, IfSome, slice_set}
+use Rattle.std.specs.List.{list_any}
 use Rattle.std.specs.Option.{option_map, option_and_then}
-use Rattle.vx_base.specs.declared.code.Code.{Code}
-use Rattle.vx_base.specs.declared.code.Code.TheVariants.{Success}
-use Rattle.vx_base.specs.Code.{code_number}
+use Rattle.vx_base.specs.declared.kind.Kind.{Kind}
+use Rattle.vx_base.specs.declared.kind.Kind.TheVariants as kind
 use Rattle.vx_base.specs.declared.node.Node.{Node}
-use Rattle.vx_base.specs.declared.samples.Samples.{Samples}
-use Rattle.vx_base.specs.Description.{Description}
 use Rattle.vx_base.specs.Cell.{Cell}
-use Rattle.vx_base.specs.Image.{ImageValue, IsImage}
-use Rattle.vx_base.specs.Node.{is_node}
-use Rattle.vx_base.specs.Object.{ObjectValue, ImageObject, is_image, is_second}
+use Rattle.vx_base.specs.Formats.{takes_formats}
+use Rattle.vx_base.specs.Description.{Description}
+use Rattle.vx_base.specs.Image.{ImageValue}
 use Rattle.vx_base.specs.Picture.{values, samples_format}
 use Rattle.vx_base.specs.Pixelwise.{node_image}
-use Rattle.vx_base.specs.Rectangle.{Rectangle, empty}
-use Rattle.image_core.specs.Slices.{image_over}
+use Rattle.vx_base.specs.Rectangle.{Rectangle}
+use Rattle.vx_base.specs.declared.samples.Samples.{Samples}
+use Rattle.vx_base.specs.Function.{parameters}
+use Rattle.vx_base.specs.Node.{is_node, second_kind}
+use Rattle.vx_base.specs.Object.{ObjectValue, object_kind, object_format}
+use Rattle.vx_base.specs.Outputs.{node_output}
+use Rattle.image_core.specs.Fits.{HaveSameSize, SecondHasSize}
+use Rattle.graph_verify.specs.declared.operand.Operands.{Operands}
+use Rattle.graph_verify.specs.Operand.{operand_of}
+use Rattle.graph_verify.specs.Verdict.{verdict_on}
+use Rattle.client_contexts.specs.declared.fault.RequestFault.{RequestFault}
+use Rattle.client_contexts.specs.declared.fault.RequestFault.TheVariants.{Refused, NoMemory}
+use Rattle.client_contexts.specs.declared.memory.NoMemory.{NoMemory as MemoryFault}
 use Rattle.client_contexts.specs.declared.places.Places.{Places}
+use Rattle.client_contexts.specs.declared.refusal.Refusal.{Refusal}
+use Rattle.client_contexts.specs.declared.refusal.Refusal.TheVariants.{InvalidReference, InvalidType}
 use Rattle.client_contexts.specs.declared.reply.Reply.{Reply}
-use Rattle.client_contexts.specs.declared.memory.NoMemory.{NoMemory}
-use Rattle.client_contexts.specs.Context.{Named, Context, State, object_named, with_object}
-use Rattle.client_contexts.specs.Immediate.{operand_code, immediate_code, objects_after}
-use Rattle.client_contexts.specs.Places.{object_at, object_if_at, image_at}
+use Rattle.client_contexts.specs.Context.{Named, Context, State}
+use Rattle.client_contexts.specs.Refusal.{Outcome}
+use Rattle.client_contexts.specs.Operands.{is_unknown, is_of_other_kind}
+use Rattle.client_contexts.specs.Places.{entry_at, object_at, object_if_at, image_value, StandsAt, StandsIf}
 
--- the reply and the state that were expected, or no memory and nothing changed
-pub record Answers (expected : Reply × State) (old new : Context) (result : Result Reply NoMemory) : Type 0 where
+-- ---- results
+
+-- a method that takes no memory comes to the outcome: its reply and the new context, or a refusal, which leaves the context
+pub record ComesTo (outcome : Outcome) (old new : Context) (result : Result Reply Refusal) : Type 0 where
+  pub done : IfOk result (λ reply. outcome ≡ Ok (reply, new))
+  pub refused : IfErr result (λ refusal. outcome ≡ Err refusal)
+  pub kept : OnErr result (new ≡ old)
+
+abbrev pub SaysWhy : Outcome → RequestFault → Type 0
+SaysWhy outcome (Refused refusal) = outcome ≡ Err refusal
+SaysWhy outcome NoMemory = ⊤
+
+-- a method that may take memory comes to the outcome, or finds no memory and leaves the context
+pub record MayComeTo (outcome : Outcome) (old new : Context) (result : Result Reply RequestFault) : Type 0 where
+  pub done : IfOk result (λ reply. outcome ≡ Ok (reply, new))
+  pub refused : IfErr result (SaysWhy outcome)
+  pub kept : OnErr result (new ≡ old)
+
+-- the reply and the state that a client is to have, or no memory and nothing changed
+pub record Answers (expected : Reply × State) (old new : Context) (result : Result Reply MemoryFault) : Type 0 where
   pub reply : IfOk result (λ r. r ≡ expected.0)
   pub own : OnOk result (Some new ≡ expected.1)
   pub no_memory : OnErr result (new ≡ old)
 
--- a node's function, with what it reads and writes, can run
+-- no memory, which only some requests take
+abbrev pub WantsMemory : RequestFault → Type 0 → Type 0
+WantsMemory (Refused refusal) takes = ⊤
+WantsMemory NoMemory takes = takes
+
+-- ---- operands
+
+-- the refusal of what cells hold, all names before any kind
+abbrev pub operands_refusal : List Named → List (Cell × Kind) → Option Refusal
+operands_refusal objects operands =
+    if list_any (λ operand. is_unknown objects operand.0) operands then Some InvalidReference
+    else (if list_any (is_of_other_kind objects) operands then Some InvalidType else None)
+
+-- why there is no result
+abbrev pub refusal_in : {A : Type 0} → Result A Refusal → Option Refusal
+refusal_in (Ok value) = None
+refusal_in (Err refusal) = Some refusal
+
+-- of two refusals that of a name that no object has, or else the first
+abbrev pub first_class : Option Refusal → Option Refusal → Option Refusal
+first_class None other = other
+first_class (Some InvalidReference) other = Some InvalidReference
+first_class (Some refusal) (Some InvalidReference) = Some InvalidReference
+first_class (Some refusal) other = Some refusal
+
+-- ---- nodes
+
+-- the places of a node's operands
+pub record StandAt (objects : List Named) (n : Node) (p : Places) : Type 0 where
+  pub in1 : StandsAt objects n.in1 kind.Image p.in1
+  pub in2 : StandsIf objects n.in2 (second_kind n) p.in2
+  pub out1 : StandsIf objects n.out1 (parameters n.function).output p.out1
+  pub out2 : StandsIf objects n.out2 (parameters n.function).output p.out2
+
+pub record AreWithin (objects : List Named) (p : Places) : Type 0 where
+  pub in1 : p.in1 < length objects
+  pub in2 : IfSome p.in2 (λ place. place < length objects)
+  pub out1 : IfSome p.out1 (λ place. place < length objects)
+  pub out2 : IfSome p.out2 (λ place. place < length objects)
+
+-- what stands there, as operands
+abbrev pub operands_at : List Named → Places → Operands
+operands_at objects p =
+    record {
+      in1 = operand_of (object_at objects p.in1);
+      in2 = option_map operand_of (object_if_at objects p.in2);
+      out1 = option_map operand_of (object_if_at objects p.out1);
+      out2 = option_map operand_of (object_if_at objects p.out2);
+    }
+
+-- a node whose operands stand at these places, and that can run
+pub record Runs (objects : List Named) (n : Node) (p : Places) : Type 0 where
+  pub shape : IsTrue (is_node n)
+  pub places : StandAt objects n p
+  pub verdict : verdict_on n (operands_at objects p) ≡ None
+
+-- a node and an image that it can read, with what stands beside that, and an image that it can write
 pub record CanRun (n : Node) (a : ImageValue) (second : Option ObjectValue) (out : ImageValue) : Type 0 where
   pub shape : IsTrue (is_node n)
-  pub kind : IfSome second (λ object. IsTrue (is_second n.function object))
-  pub verdict : operand_code n a second out ≡ Success
+  pub kind : IfSome second (λ object. (parameters n.function).second_input ≡ Some (object_kind object))
+  pub formats : IsTrue (takes_formats n.function a.format (option_and_then object_format second) (Some out.format))
+  pub size : HaveSameSize out a
+  pub second_size : SecondHasSize a second
 
--- samples that a node wrote, and the rectangle beside them
+-- samples that the node wrote, and the rectangle beside them
 pub record IsWritten (n : Node) (a : ImageValue) (second : Option ObjectValue) (d : Description) (area : Rectangle) (samples : Samples) : Type 0 where
-  pub image : IsImage a
-  pub can_run : CanRun n a second (image_over d empty [])
   pub format : samples_format samples ≡ d.format
   pub valid : area ≡ (node_image n d.format a second).valid
   pub samples_are : values samples ≡ (node_image n d.format a second).samples
 
--- the place of a cell that may be left out: of the object that it names, if there is one
-pub record StandsIf (objects : List Named) (cell : Option Cell) (place : Option ℕ) : Type 0 where
-  pub within : IfSome place (λ p. p < length objects)
-  pub object : option_and_then (λ c. object_named objects c.name) cell ≡ object_if_at objects place
-  pub name : IfSome place (λ p. option_map (λ c. c.name) cell ≡ Some (object_at objects p).name)
+-- objects that are such images
+pub record RunsOn (n : Node) (first : ObjectValue) (second : Option ObjectValue) (out : ObjectValue) : Type 0 where
+  pub first_kind : object_kind first ≡ kind.Image
+  pub out_kind : object_kind out ≡ kind.Image
+  pub can_run : CanRun n (image_value first) second (image_value out)
 
--- the places of the operands of a node
-pub record StandsAt (objects : List Named) (n : Node) (p : Places) : Type 0 where
-  pub first : StandsIf objects (Some n.in1) (Some p.first)
-  pub second : StandsIf objects n.in2 p.second
-  pub output : StandsIf objects n.out1 (Some p.output)
+-- an output at a place, apart from what the node reads
+pub record RunsTo (objects : List Named) (n : Node) (p : Places) (output : ℕ) : Type 0 where
+  pub in1_within : p.in1 < length objects
+  pub in2_within : IfSome p.in2 (λ place. place < length objects)
+  pub within : output < length objects
+  pub in1_apart : p.in1 ≢ output
+  pub in2_apart : IfSome p.in2 (λ place. place ≢ output)
+  pub runs : RunsOn n (object_at objects p.in1) (object_if_at objects p.in2) (object_at objects output)
 
--- places of images that a node can run on: its output is none of its inputs
-pub record RunsAt (objects : List Named) (n : Node) (p : Places) : Type 0 where
-  pub first_within : p.first < length objects
-  pub second_within : IfSome p.second (λ place. place < length objects)
-  pub output_within : p.output < length objects
-  pub first_apart : p.first ≢ p.output
-  pub second_apart : IfSome p.second (λ place. place ≢ p.output)
-  pub first_image : IsTrue (is_image (object_at objects p.first).object)
-  pub output_image : IsTrue (is_image (object_at objects p.output).object)
-  pub can_run : CanRun n (image_at objects p.first) (object_if_at objects p.second) (image_at objects p.output)
+-- what the output becomes
+abbrev pub output_at : List Named → Node → Places → ℕ → ObjectValue
+output_at objects n p output = node_output n (object_at objects p.in1) (object_if_at objects p.in2) (object_at objects output)
 
--- what the node writes there
-abbrev pub result_at : List Named → Node → Places → ObjectValue
-result_at objects n p =
-    ImageObject (node_image n (image_at objects p.output).format (image_at objects p.first) (object_if_at objects p.second))
+-- the objects, with another at a place under the name that stands there
+abbrev pub replaced : List Named → ℕ → ObjectValue → List Named
+replaced objects place object = slice_set objects place (record { name = (entry_at objects place).name; object = object })
 
--- a node that runs at these places
-pub record Runs (objects : List Named) (n : Node) (p : Places) : Type 0 where
-  pub verdict : immediate_code objects n ≡ Success
-  pub runs : RunsAt objects n p
-  pub after : objects_after objects n ≡ with_object objects (object_at objects p.output).name (result_at objects n p)
-
--- a node that cannot run
-pub record IsRefused (objects : List Named) (n : Node) (code : Code) : Type 0 where
-  pub verdict : immediate_code objects n ≡ code
-  pub refusal : code_number code ≢ 0
+-- the objects once the output is written, if it is there
+abbrev pub written_at : List Named → Node → Places → Option ℕ → List Named
+written_at objects n p None = objects
+written_at objects n p (Some output) = replaced objects output (output_at objects n p output)

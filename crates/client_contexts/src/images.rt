@@ -1,76 +1,73 @@
-//! Requests on the samples of images.
-ghost use Rattle.std.specs.Prelude.{◌≡◌, ◌&&◌, is_none, IsTrue, Ok, Err, MatchResult};
-ghost use Rattle.vx_base.specs.Object.{is_image};
-ghost use Rattle.client_contexts.specs.Operands.{image_of};
-ghost use Rattle.client_contexts.specs.Answer.{write_image, read_image, picture_code};
-ghost use Rattle.client_contexts.specs.Held.{value_of};
-ghost use Rattle.client_contexts.specs.Places.{object_at, image_at, IsPlaceOf};
-ghost use Rattle.client_contexts.specs.Steps.{Answers};
+//! Requests on images: creating, writing and reading them.
+ghost use Rattle.std.specs.Prelude.{◌≡◌};
+ghost use Rattle.client_contexts.specs.Images.{create_image, write_image, read_image, picture_refusal};
+ghost use Rattle.client_contexts.specs.Steps.{ComesTo, MayComeTo};
 
 use crate::context::Context;
-use crate::memory::NoMemory;
+use crate::fault::RequestFault;
+use crate::limits::Limits;
+use crate::lookup::find;
 use crate::object::Object;
+use crate::refusal::Refusal;
 use crate::reply::Reply;
 use crate::stored::Stored;
 use std::alloc::Global;
-use vx_base::{Code, ObjRef, Picture};
+use vx_base::{Desc, Kind, ObjRef, Picture};
 
-/// Whether an object is an image, and the reference that names it has no slot.
-fn is_named_image(reference: ObjRef, object: &Object) -> bool
-    ensures { result ≡ is_none reference.slot && is_image (value_of object.now) }
+/// Creates an image that is 0 everywhere and wholly valid.
+pub fn create_image(
+    context: &mut Context,
+    limits: Limits,
+    desc: Desc,
+) -> Result<Reply, RequestFault>
+    ensures { MayComeTo (create_image limits context.old desc) context.old context.new result }
 {
-    reference.slot().is_none() && object.is_image()
-}
-
-/// The place of the image that a reference names, or why it names none.
-fn find_image(context: &Context, reference: ObjRef) -> Result<usize, Code>
-    ensures { MatchResult result
-        (λ place. IsPlaceOf context.now.objects reference.name place × IsTrue (is_image (object_at context.now.objects place).object) × (image_of context.now.objects reference ≡ Ok (image_at context.now.objects place)))
-        (λ code. image_of context.now.objects reference ≡ Err code) }
-{
-    match context.place_of(reference.name()) {
-        None => Err(Code::InvalidReference),
-        Some(place) if is_named_image(reference, context.object_at(place)) => Ok(place),
-        Some(_) => Err(Code::InvalidType),
+    if !context.has_room(limits, desc.byte_count()) {
+        return Err(RequestFault::Refused(Refusal::NoResources));
     }
+    let image = Stored::new(context.allocator(), desc)?;
+    Ok(Reply::Name(context.add(Object::Image(image))?))
 }
 
-/// Why a picture can't be written to an image: Success where it can.
-fn picture_code(image: &Stored, picture: &Picture) -> Code
-    ensures { result ≡ picture_code image.now picture.now }
+/// Why a picture can't be written to an image of this description. `None` where it can.
+fn picture_refusal(image: Desc, picture: Desc) -> Option<Refusal>
+    ensures { result ≡ picture_refusal image picture }
 {
-    let (own, other) = (image.desc(), picture.desc());
-    if own.format() != other.format() {
-        Code::InvalidFormat
-    } else if own.width() != other.width() || own.height() != other.height() {
-        Code::InvalidDimension
+    if image.format() != picture.format() {
+        Some(Refusal::InvalidFormat)
+    } else if image.has_size_of(picture) {
+        None
     } else {
-        Code::Success
+        Some(Refusal::InvalidDimension)
     }
 }
 
 /// Writes a picture to an image.
-pub fn write_image(context: &mut Context, reference: ObjRef, picture: &Picture) -> Reply
-    ensures { Answers (write_image context.old reference picture.now (image_of context.old.objects reference)) context.old context.new (Ok result) }
+pub fn write_image(
+    context: &mut Context,
+    reference: ObjRef,
+    picture: &Picture,
+) -> Result<Reply, Refusal>
+    ensures { ComesTo (write_image context.old reference picture.now) context.old context.new result }
 {
-    match find_image(context, reference) {
-        Err(code) => Reply::Refused(code),
-        Ok(place) => match picture_code(context.image_at(place), picture) {
-            Code::Success => {
-                context.write(place, picture);
-                Reply::Empty
-            }
-            code => Reply::Refused(code),
-        },
+    let place = find(context, reference, Kind::Image)?;
+    let image = context.object_at(place).image();
+    if let Some(refusal) = picture_refusal(image.desc(), picture.desc()) {
+        return Err(refusal);
     }
+    context.write(place, picture);
+    Ok(Reply::Empty)
 }
 
 /// The samples of an image, in memory of the allocator.
-pub fn read_image(context: &Context, alloc: Global, reference: ObjRef) -> Result<Reply, NoMemory>
-    ensures { Answers (read_image context.now (image_of context.now.objects reference)) context.now context.now result }
+pub fn read_image(
+    context: &Context,
+    alloc: Global,
+    reference: ObjRef,
+) -> Result<Reply, RequestFault>
+    ensures { MayComeTo (read_image context.now reference) context.now context.now result }
 {
-    match find_image(context, reference) {
-        Err(code) => Ok(Reply::Refused(code)),
-        Ok(place) => Ok(Reply::Picture(context.image_at(place).picture(alloc)?)),
-    }
+    let place = find(context, reference, Kind::Image)?;
+    let image = context.object_at(place).image();
+    Ok(Reply::Picture(image.picture(alloc)?))
 }

@@ -4,36 +4,42 @@
 //! model, the other clients' states are as they were, and where memory was wanted nothing is
 //! changed; so no client sees or moves what another holds. Each client names its objects by 1, 2,
 //! .. in the order in which it made them, and holds at most 1,024, of which images are charged
-//! against its quota. A node that runs at once reads its inputs where they stand and takes no
-//! memory.
+//! against its quota. A node that runs at once reads its inputs where they stand; a request of
+//! one may take memory, though none of today's functions does.
 //!
-//! - `request`, `reply`, `memory`: what a client asks for, what it is answered, and want of memory
+//! - `request`, `reply`: what a client asks for, and what it is answered
+//! - `refusal`, `memory`, `fault`: why a request isn't done: it is refused, or finds no memory
 //! - `limits`: what a client may hold
 //! - `stored`, `object`: an image with samples of its own; an image, a lookup table or a threshold
-//! - `context`, `places`: the objects of a client under their names, and where they stand
-//! - `creation`, `images`, `immediate`: the requests that make objects, those that write and read
-//!   images, and the nodes that run at once
-//! - `runtime`: all clients
+//! - `entries`, `context`: objects under their names, and nodes that run on them; the objects of a
+//!   client, with the names and the charge
+//! - `places`, `lookup`: where the operands of a node stand, and how they are found
+//! - the requests by family: `images` (to create, write and read them), `tables` (to create lookup
+//!   tables and thresholds), `immediate` (nodes that run at once)
+//! - `runtime`: all clients; contexts are opened there
+//! - `laws`: what the definitions mean: states keep the limits, refusals leave them
 #![tactic(auto)]
 
 mod context;
-mod creation;
+mod entries;
+mod fault;
 mod images;
 mod immediate;
+pub mod laws;
 mod limits;
+mod lookup;
 mod memory;
 mod object;
 mod places;
+mod refusal;
 mod reply;
 mod request;
 mod runtime;
 mod stored;
+mod tables;
 
 pub use limits::Limits;
 pub use memory::NoMemory;
 pub use reply::Reply;
 pub use request::Request;
 pub use runtime::Runtime;
-
-#[cfg(test)]
-mod tests;

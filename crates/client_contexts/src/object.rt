@@ -1,12 +1,14 @@
 //! Objects that a context holds.
-ghost use Rattle.std.specs.Prelude.{◌≡◌, IsTrue};
-ghost use Rattle.vx_base.specs.Object.{object_format, is_image, is_second};
-ghost use Rattle.client_contexts.specs.Context.{object_bytes};
-ghost use Rattle.client_contexts.specs.Places.{as_image};
+ghost use Rattle.std.specs.Prelude.{◌≡◌, ◌&&◌, is_none};
+ghost use Rattle.vx_base.specs.declared.kind.Kind.TheVariants as kind;
+ghost use Rattle.vx_base.specs.Object.{object_bytes, object_kind, same_kind};
+ghost use Rattle.graph_verify.specs.Operand.{operand_of};
 ghost use Rattle.client_contexts.specs.Held.{value_of};
+ghost use Rattle.client_contexts.specs.Places.{image_value};
 
 use crate::stored::Stored;
-use vx_base::{Format, Function, Lut, ThresholdRule};
+use graph_verify::Operand;
+use vx_base::{Kind, Lut, ObjRef, ThresholdRule};
 
 /// What a client's name stands for.
 #[derive(Drop)]
@@ -17,15 +19,25 @@ pub enum Object {
 }
 
 impl Object {
-    /// The format of an image's samples, of a table's entries, or of the samples that a threshold
-    /// tests.
-    pub fn format(&self) -> Format
-        ensures { result ≡ object_format (value_of self.now) }
+    /// What verdicts on graphs have to know of the object.
+    pub fn operand(&self) -> Operand
+        ensures { result ≡ operand_of (value_of self.now) }
     {
         match self {
-            Object::Image(image) => image.desc().format(),
-            Object::Lut(lut) => lut.format(),
-            Object::Threshold(threshold) => threshold.format(),
+            Object::Image(image) => Operand::Image(image.desc()),
+            Object::Lut(lut) => Operand::Lut(lut.format()),
+            Object::Threshold(threshold) => Operand::Threshold(threshold.format()),
+        }
+    }
+
+    /// Whether the object is of this kind.
+    pub fn is_of_kind(&self, kind: Kind) -> bool
+        ensures { result ≡ same_kind kind (object_kind (value_of self.now)) }
+    {
+        match self {
+            Object::Image(_) => kind == Kind::Image,
+            Object::Lut(_) => kind == Kind::Lut,
+            Object::Threshold(_) => kind == Kind::Threshold,
         }
     }
 
@@ -39,27 +51,10 @@ impl Object {
         }
     }
 
-    pub fn is_image(&self) -> bool
-        ensures { result ≡ is_image (value_of self.now) }
-    {
-        matches!(self, Object::Image(_))
-    }
-
-    /// Whether the object is what the function has as its second input.
-    pub fn is_second(&self, function: Function) -> bool
-        ensures { result ≡ is_second function (value_of self.now) }
-    {
-        match function {
-            Function::Threshold => matches!(self, Object::Threshold(_)),
-            Function::TableLookup => matches!(self, Object::Lut(_)),
-            _ => self.is_image(),
-        }
-    }
-
     /// The image that the object is.
     pub fn image(&self) -> &Stored
-        requires { IsTrue (is_image (value_of self.now)) }
-        ensures { result.now ≡ as_image (value_of self.now) }
+        requires { object_kind (value_of self.now) ≡ kind.Image }
+        ensures { result.now ≡ image_value (value_of self.now) }
     {
         match self {
             Object::Image(image) => image,

@@ -1,10 +1,10 @@
 //! Where the operands of a node stand.
 
-/// The places of a node's first input, of its second where it has one, and of its first output
-/// among the objects of a context.
+/// The places of a node's operands among the objects of a context, as far as it has them.
 #[derive(Clone, Copy)]
 pub struct Places {
-    pub first: usize,
-    pub second: Option<usize>,
-    pub output: usize,
+    pub in1: usize,
+    pub in2: Option<usize>,
+    pub out1: Option<usize>,
+    pub out2: Option<usize>,
 }

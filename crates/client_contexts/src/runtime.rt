@@ -1,18 +1,21 @@
 //! All clients, and what their requests do.
-ghost use Rattle.std.specs.Prelude.{◌≡◌, [], None, OnErr};
+ghost use Rattle.std.specs.Prelude.{◌≡◌, [], None, IfErr, OnErr};
 ghost use Rattle.client_contexts.specs.Context.{state_of};
-ghost use Rattle.client_contexts.specs.Answer.{answer_in};
-ghost use Rattle.client_contexts.specs.Applies.{Applies, TakesMemory};
-ghost use Rattle.client_contexts.specs.Steps.{Answers};
+ghost use Rattle.client_contexts.specs.Request.{TakesMemory};
+ghost use Rattle.client_contexts.specs.Answer.{answered, outcome_of};
+ghost use Rattle.client_contexts.specs.Applies.{Applies};
+ghost use Rattle.client_contexts.specs.Steps.{Answers, MayComeTo, WantsMemory};
 
 use crate::context::Context;
-use crate::creation::{create_image, create_lut, create_threshold};
-use crate::images::{read_image, write_image};
+use crate::fault::RequestFault;
+use crate::images::{create_image, read_image, write_image};
 use crate::immediate::run_at_once;
 use crate::limits::Limits;
 use crate::memory::NoMemory;
+use crate::refusal::Refusal;
 use crate::reply::Reply;
 use crate::request::Request;
+use crate::tables::{create_lut, create_threshold};
 use std::alloc::Global;
 use std::collections::BTreeMap;
 use std::marker::Model;
@@ -86,16 +89,33 @@ fn answer(
     alloc: Global,
     request: &Request,
 ) -> Result<Reply, NoMemory>
-    ensures answers { Answers (answer_in limits context.old request.now) context.old context.new result }
+    ensures answers { Answers (answered context.old (outcome_of limits context.old request.now)) context.old context.new result }
     ensures takes { OnErr result (TakesMemory request.now) }
 {
+    match perform(context, limits, alloc, request) {
+        Ok(reply) => Ok(reply),
+        Err(RequestFault::Refused(refusal)) => Ok(Reply::Refused(refusal.code())),
+        Err(RequestFault::NoMemory) => Err(NoMemory),
+    }
+}
+
+/// Does what a request asks for in this context, or says why not.
+fn perform(
+    context: &mut Context,
+    limits: Limits,
+    alloc: Global,
+    request: &Request,
+) -> Result<Reply, RequestFault>
+    ensures comes { MayComeTo (outcome_of limits context.old request.now) context.old context.new result }
+    ensures takes { IfErr result (λ fault. WantsMemory fault (TakesMemory request.now)) }
+{
     match request {
-        Request::OpenContext => Ok(Reply::Refused(Code::InvalidValue)),
+        Request::OpenContext => Err(RequestFault::Refused(Refusal::InvalidValue)),
         Request::CreateImage(desc) => create_image(context, limits, *desc),
-        Request::WriteImage(reference, picture) => Ok(write_image(context, *reference, picture)),
+        Request::WriteImage(reference, picture) => Ok(write_image(context, *reference, picture)?),
         Request::ReadImage(reference) => read_image(context, alloc, *reference),
         Request::CreateLut(lut) => create_lut(context, limits, lut),
         Request::CreateThreshold(threshold) => create_threshold(context, limits, *threshold),
-        Request::Immediate(node) => Ok(run_at_once(context, *node)),
+        Request::Immediate(node) => Ok(run_at_once(context, *node)?),
     }
 }

@@ -1,23 +1,23 @@
 //! Images that a context holds.
-ghost use Rattle.std.specs.Prelude.{◌≡◌, [], Some, IfOk, length, map, pos};
-ghost use Rattle.vx_base.specs.declared.format.Format.TheVariants.{U8, S16};
+ghost use Rattle.std.specs.Prelude.{◌≡◌, [], Some, IfOk, IfSome, length, map, pos};
+ghost use Rattle.vx_base.specs.declared.format.Format.TheVariants.{U8, S16, U32};
 ghost use Rattle.vx_base.specs.Rectangle.{empty};
 ghost use Rattle.vx_base.specs.Description.{sample_count};
-ghost use Rattle.vx_base.specs.Image.{IsImage, new_image};
-ghost use Rattle.vx_base.specs.Picture.{Fills};
+ghost use Rattle.vx_base.specs.Image.{IsImage, new_image, image_over, description_of};
+ghost use Rattle.vx_base.specs.Object.{IsObject};
+ghost use Rattle.vx_base.specs.Threshold.{IsThreshold};
+ghost use Rattle.vx_base.specs.Picture.{Describes, picture_of, pictured};
 ghost use Rattle.vx_base.specs.Pixelwise.{node_image};
-ghost use Rattle.image_core.specs.Slices.{image_over, description_of};
-ghost use Rattle.client_contexts.specs.Answer.{pictured, picture_of};
+ghost use Rattle.image_core.specs.Second.{second_object};
 ghost use Rattle.client_contexts.specs.Held.{value_of, lent};
-ghost use Rattle.pixel_kernels.specs.Kernels.{second_object};
 ghost use Rattle.client_contexts.specs.Steps.{CanRun, IsWritten};
 
 use crate::object::Object;
-use image_core::{Image, ImageMut};
-use pixel_kernels::{Second, run_node};
+use graph_run::run_node;
+use image_core::{Image, ImageMut, Second};
 use std::alloc::{AllocError, Global};
 use std::marker::Model;
-use vx_base::{Desc, Node, Picture, Rect, Samples};
+use vx_base::{Desc, Node, Picture, Rect, Samples, ThresholdRule};
 
 /// An image with samples of its own.
 #[derive(Drop)]
@@ -28,15 +28,15 @@ pub struct Stored {
 }
 
 impl Model for Stored {
-    ghost use Rattle.vx_base.specs.Image.{ImageValue, IsImage};
-    ghost use Rattle.vx_base.specs.Picture.{values, Fills};
-    ghost use Rattle.image_core.specs.Slices.{image_over};
+    ghost use Rattle.vx_base.specs.Image.{ImageValue, image_over};
+    ghost use Rattle.vx_base.specs.Picture.{values};
+    ghost use Rattle.client_contexts.specs.Stored.{IsStored};
 
     ghost Value = { ImageValue };
 
     ghost view = { λ i. image_over i.desc i.valid (values i.samples) };
 
-    ghost invariant = { λ i. IsImage (image_over i.desc i.valid (values i.samples)) × Fills i.desc i.samples };
+    ghost invariant = { λ i. IsStored i.desc i.valid i.samples };
 }
 
 impl Stored {
@@ -72,9 +72,9 @@ impl Stored {
         ensures image { IsImage result }
     {
         match &self.samples {
-            Samples::U8(samples) => Image::from_u8(self.desc, self.valid, samples),
-            Samples::S16(samples) => Image::from_s16(self.desc, self.valid, samples),
-            Samples::U32(samples) => Image::from_u32(self.desc, self.valid, samples),
+            Samples::U8(samples) => Image::new(self.desc, self.valid, samples),
+            Samples::S16(samples) => Image::new(self.desc, self.valid, samples),
+            Samples::U32(samples) => Image::new(self.desc, self.valid, samples),
         }
     }
 
@@ -93,40 +93,42 @@ impl Stored {
         ensures { self.new ≡ node_image node.now self.old.format first.now (lent second.entry) }
     {
         let first = first.image();
-        match second {
-            None => self.run_beside(node, &first, &Second::Nothing),
-            Some(object) => self.run_with(node, &first, object),
-        }
-    }
-
-    /// Becomes what a node writes whose second input is an object.
-    fn run_with(&mut self, node: &Node, first: &Image<'_>, second: &Object)
-        requires image { IsImage first.now }
-        requires can_run { CanRun node.now first.now (Some (value_of second.now)) self.old }
-        ensures { self.new ≡ node_image node.now self.old.format first.now (Some (value_of second.now)) }
-    {
-        match second {
-            Object::Image(stored) => {
-                self.run_beside(node, first, &Second::Image(&stored.image()));
-            }
-            Object::Lut(lut) => self.run_beside(node, first, &Second::Lut(lut)),
-            Object::Threshold(threshold) => {
-                self.run_beside(node, first, &Second::Threshold(*threshold));
-            }
-        }
-    }
-
-    /// Becomes what a node writes that reads these inputs.
-    fn run_beside(&mut self, node: &Node, first: &Image<'_>, second: &Second<'_>)
-        requires image { IsImage first.now }
-        requires can_run { CanRun node.now first.now (second_object second.now) self.old }
-        ensures { self.new ≡ node_image node.now self.old.format first.now (second_object second.now) }
-    {
-        self.valid = run_into(self.desc, &mut self.samples, node, first, second);
+        let second = beside(second);
+        self.valid = run_into(self.desc, &mut self.samples, node, &first, &second);
     }
 }
 
-/// Writes the samples of an output, and gives its valid rectangle.
+/// What a node reads beside its first input, lent to its kernel.
+fn beside(second: Option<&Object>) -> Second<'_>
+    ensures value { second_object result ≡ lent second.entry }
+    ensures object { IfSome (lent second.entry) IsObject }
+{
+    match second {
+        None => Second::Nothing,
+        Some(Object::Image(stored)) => Second::Image(stored.image()),
+        Some(Object::Lut(lut)) => {
+            let _format = lut.format();
+            Second::Lut(lut)
+        }
+        Some(Object::Threshold(threshold)) => {
+            is_threshold(*threshold);
+            Second::Threshold(*threshold)
+        }
+    }
+}
+
+/// Its limits and its values are in their ranges, which the prover knows where they are read.
+fn is_threshold(threshold: ThresholdRule)
+    ensures { IsThreshold threshold }
+{
+    let _parts = (
+        threshold.kind(),
+        threshold.true_value(),
+        threshold.false_value(),
+    );
+}
+
+/// Writes all samples of an output, and gives its valid rectangle.
 fn run_into(
     desc: Desc,
     samples: &mut Samples,
@@ -134,16 +136,23 @@ fn run_into(
     first: &Image<'_>,
     second: &Second<'_>,
 ) -> Rect
-    requires fills { Fills desc samples.old }
-    requires image { IsImage first.now }
+    requires described { Describes desc samples.old }
     requires can_run { CanRun node.now first.now (second_object second.now) (image_over desc empty []) }
     ensures { IsWritten node.now first.now (second_object second.now) desc result samples.new }
 {
     match samples {
         Samples::U8(samples) => run_u8(desc, samples, node, first, second),
         Samples::S16(samples) => run_s16(desc, samples, node, first, second),
-        Samples::U32(_) => unreachable!(),
+        Samples::U32(samples) => run_u32(desc, samples, node, first, second),
     }
+}
+
+macro_rules! run_into {
+    ($desc:expr, $samples:expr, $node:expr, $first:expr, $second:expr) => {{
+        let mut output = ImageMut::new($desc, $samples);
+        run_node($node, $first, $second, &mut output);
+        output.valid()
+    }};
 }
 
 /// Writes the samples of a U8 output, and gives its valid rectangle.
@@ -160,9 +169,7 @@ fn run_u8(
     ensures valid { result ≡ (node_image node.now U8 first.now (second_object second.now)).valid }
     ensures samples { map pos samples.new ≡ (node_image node.now U8 first.now (second_object second.now)).samples }
 {
-    let mut output = ImageMut::from_u8(desc, samples);
-    run_node(node, first, second, &mut output);
-    output.valid()
+    run_into!(desc, samples, node, first, second)
 }
 
 /// Writes the samples of an S16 output, as `run_u8` does.
@@ -179,7 +186,22 @@ fn run_s16(
     ensures valid { result ≡ (node_image node.now S16 first.now (second_object second.now)).valid }
     ensures samples { samples.new ≡ (node_image node.now S16 first.now (second_object second.now)).samples }
 {
-    let mut output = ImageMut::from_s16(desc, samples);
-    run_node(node, first, second, &mut output);
-    output.valid()
+    run_into!(desc, samples, node, first, second)
+}
+
+/// Writes the samples of a U32 output, as `run_u8` does.
+fn run_u32(
+    desc: Desc,
+    samples: &mut [u32],
+    node: &Node,
+    first: &Image<'_>,
+    second: &Second<'_>,
+) -> Rect
+    requires format { desc.format ≡ U32 }
+    requires size { length samples.old ≡ sample_count desc }
+    requires can_run { CanRun node.now first.now (second_object second.now) (image_over desc empty []) }
+    ensures valid { result ≡ (node_image node.now U32 first.now (second_object second.now)).valid }
+    ensures samples { map pos samples.new ≡ (node_image node.now U32 first.now (second_object second.now)).samples }
+{
+    run_into!(desc, samples, node, first, second)
 }

@@ -1,0 +1,49 @@
+-- Outcomes that keep the limits.
+use Rattle.std.proofs.Common.{◌≡◌, Bool, true, false, cond, Option, Some, None, Ok, Err, IfOk, refl}
+use Rattle.std.specs.Prelude.{◌==◌}
+use Rattle.std.proofs.lemmas.Bool.{cond_both, and_parts, eqb-true}
+use Rattle.vx_base.specs.Description.{Description, same_size, byte_count}
+use Rattle.vx_base.specs.Object.{ObjectValue, IsObject, object_bytes}
+use Rattle.client_contexts.specs.declared.refusal.Refusal.{Refusal}
+use Rattle.client_contexts.specs.declared.refusal.Refusal.TheVariants.{NoResources}
+use Rattle.client_contexts.specs.declared.reply.Reply.{Reply}
+use Rattle.client_contexts.specs.declared.reply.Reply.TheVariants.{Name}
+use Rattle.client_contexts.specs.Allowance.{Allowance}
+use Rattle.client_contexts.specs.Context.{Context, with_new, has_room}
+use Rattle.client_contexts.specs.Refusal.{Outcome, unless}
+use Rattle.client_contexts.specs.Images.{create}
+use Rattle.client_contexts.specs.States.{KeepsLimits}
+use Rattle.client_contexts.proofs.StateLaws.{with_new_keeps}
+
+-- where an outcome is a reply and a context, the context keeps the limits
+abbrev pub Keeps : Allowance → Outcome → Type 0
+Keeps limits outcome = IfOk outcome (λ done. KeepsLimits limits done.1)
+
+-- what is done unless it is refused keeps the limits, if the context does where nothing refuses
+pub unless_keeps : (limits : Allowance) (refusal : Option Refusal) (reply : Reply) (c : Context) → (refusal ≡ None → KeepsLimits limits c) → Keeps limits (unless refusal reply c)
+unless_keeps limits None reply c h = h refl
+unless_keeps limits (Some refusal) reply c h = tt
+
+-- a create of any object keeps the limits
+pub create_keeps : (limits : Allowance) (c : Context) (object : ObjectValue) → KeepsLimits limits c → IsObject object → Keeps limits (create limits c object)
+create_keeps limits c object h is =
+    cond_both (has_room limits c (object_bytes object)) (Ok (Name c.next, with_new c object)) (Err NoResources) (Keeps limits)
+    (λ room. with_new_keeps limits c object h is room) (λ full. tt)
+
+-- where nothing refuses, the first reason doesn't hold, and no later one refuses
+pub passed : {R : Type 0} (b : Bool) (refusal : R) (rest : Option R) → cond b (Some refusal) rest ≡ None → (b ≡ false) × (rest ≡ None)
+passed true refusal rest h = cc
+passed false refusal rest h = (refl, h)
+
+-- and where a last condition has to hold, it does
+pub met : {R : Type 0} (b : Bool) (refusal : R) → cond b None (Some refusal) ≡ None → b ≡ true
+met true refusal h = refl
+met false refusal h = cc
+
+-- images of one size and format are charged alike
+pub same_bytes : (a b : Description) → same_size a b ≡ true → a.format ≡ b.format → byte_count a ≡ byte_count b
+same_bytes a b size format =
+    let both = and_parts (a.width == b.width) (a.height == b.height) size in
+    let w = eqb-true a.width b.width both.0 in
+    let h = eqb-true a.height b.height both.1 in
+    cc

@@ -1,0 +1,100 @@
+-- A reply that is a refusal: what it says, and that it leaves the state.
+use Rattle.std.proofs.Common.{◌≡◌, ◌≢◌, Bool, true, false, if◌then◌else◌, Option, Some, None, Result, Ok, Err, IfOk, refl}
+use Rattle.vx_base.specs.declared.code.Code.{Code}
+use Rattle.vx_base.specs.declared.code.Code.TheVariants.{Success, NoMemory}
+use Rattle.vx_base.specs.Cell.{Cell}
+use Rattle.vx_base.specs.Image.{ImageValue, description_of, new_image}
+use Rattle.vx_base.specs.Object.{ObjectValue, ImageObject, LutObject, ThresholdObject, object_bytes}
+use Rattle.vx_base.specs.Picture.{PictureValue}
+use Rattle.graph_verify.specs.declared.verdict.Verdict.TheVariants.{MultipleWriters}
+use Rattle.client_contexts.specs.declared.request.Request.{Request}
+use Rattle.client_contexts.specs.declared.request.Request.TheVariants.{OpenContext, CreateImage, WriteImage, ReadImage, CreateLut, CreateThreshold, Immediate}
+use Rattle.client_contexts.specs.declared.refusal.Refusal.{Refusal}
+use Rattle.client_contexts.specs.declared.refusal.Refusal.TheVariants.{InvalidReference, NoResources, Rejected}
+use Rattle.client_contexts.specs.declared.reply.Reply.{Reply}
+use Rattle.client_contexts.specs.declared.reply.Reply.TheVariants.{Refused, Empty, Name}
+use Rattle.client_contexts.specs.Allowance.{Allowance}
+use Rattle.client_contexts.specs.Context.{Context, State, with_new, has_room}
+use Rattle.client_contexts.specs.Refusal.{Outcome, refusal_code, unless}
+use Rattle.client_contexts.specs.Operands.{image_of}
+use Rattle.client_contexts.specs.Images.{create, write_to, picture_refusal, read_from}
+use Rattle.client_contexts.specs.Immediate.{node_refusal}
+use Rattle.client_contexts.specs.Answer.{outcome_of, answered, answer_to}
+
+-- ---- what is done is no refusal
+
+-- where an outcome is a reply and a context, the reply is no refusal
+abbrev pub IsTold : Outcome → Type 0
+IsTold outcome = IfOk outcome (λ done. (code : Code) → done.0 ≢ Refused code)
+
+-- what is done unless it is refused, with a reply that is no refusal
+unless_told : (refusal : Option Refusal) (reply : Reply) (c : Context) → ((code : Code) → reply ≢ Refused code) → IsTold (unless refusal reply c)
+unless_told None reply c h = h
+unless_told (Some refusal) reply c h = tt
+
+-- a create tells the name
+create_told : (limits : Allowance) (c : Context) (object : ObjectValue) → IsTold (create limits c object)
+create_told limits c object = with_room (has_room limits c (object_bytes object))
+  where
+    with_room : (room : Bool) → IsTold (if room then Ok (Name c.next, with_new c object) else Err NoResources)
+    with_room true = λ code e. cc
+    with_room false = tt
+
+-- a write tells nothing
+write_told : (image : Result ImageValue Refusal) (c : Context) (cell : Cell) (p : PictureValue) → IsTold (write_to image c cell p)
+write_told (Err refusal) c cell p = tt
+write_told (Ok image) c cell p = unless_told (picture_refusal (description_of image) p.description) Empty _ (λ code e. cc)
+
+-- a read tells the picture
+read_told : (image : Result ImageValue Refusal) (c : Context) → IsTold (read_from image c)
+read_told (Err refusal) c = tt
+read_told (Ok image) c = λ code e. cc
+
+-- each request that is done is answered by no refusal
+pub outcome_told : (limits : Allowance) (c : Context) (request : Request) → IsTold (outcome_of limits c request)
+outcome_told limits c OpenContext = tt
+outcome_told limits c (CreateImage d) = create_told limits c (ImageObject (new_image d.width d.height d.format))
+outcome_told limits c (WriteImage cell p) = write_told (image_of c.objects cell) c cell p
+outcome_told limits c (ReadImage cell) = read_told (image_of c.objects cell) c
+outcome_told limits c (CreateLut lut) = create_told limits c (LutObject lut)
+outcome_told limits c (CreateThreshold threshold) = create_told limits c (ThresholdObject threshold)
+outcome_told limits c (Immediate n) = unless_told (node_refusal c.objects n) Empty _ (λ code e. cc)
+
+-- ---- what a refusal says
+
+-- no refusal says success, nor that there is no memory
+refusal_says : (refusal : Refusal) → (refusal_code refusal ≢ Success) × (refusal_code refusal ≢ NoMemory)
+refusal_says (Rejected MultipleWriters) = ((λ e. cc), (λ e. cc))
+refusal_says other = ((λ e. cc), (λ e. cc))
+
+-- ---- replies
+
+-- a reply that is a refusal leaves the context
+answered_leaves : (c : Context) (outcome : Outcome) (code : Code) → IsTold outcome → (answered c outcome).0 ≡ Refused code → (answered c outcome).1 ≡ Some c
+answered_leaves c (Ok done) code told e = absurd (told code e)
+answered_leaves c (Err refusal) code told e = refl
+
+-- a reply says no code that no refusal says
+answered_without : (c : Context) (outcome : Outcome) (code : Code) → IsTold outcome → ((refusal : Refusal) → refusal_code refusal ≢ code) → (answered c outcome).0 ≢ Refused code
+answered_without c (Ok done) code told never = told code
+answered_without c (Err refusal) code told never = λ e. never refusal (cc)
+
+-- a reply that is a refusal leaves the state
+pub refusal_leaves : (limits : Allowance) (state : State) (request : Request) (code : Code) → (answer_to limits state request).0 ≡ Refused code → (answer_to limits state request).1 ≡ state
+refusal_leaves limits None OpenContext code e = cc
+refusal_leaves limits None other code e = refl
+refusal_leaves limits (Some c) request code e = answered_leaves c (outcome_of limits c request) code (outcome_told limits c request) e
+
+-- a reply says no code that no refusal says
+never_said : (limits : Allowance) (state : State) (request : Request) (code : Code) → ((refusal : Refusal) → refusal_code refusal ≢ code) → (answer_to limits state request).0 ≢ Refused code
+never_said limits None OpenContext code never = λ e. cc
+never_said limits None other code never = λ e. never InvalidReference (cc)
+never_said limits (Some c) request code never = answered_without c (outcome_of limits c request) code (outcome_told limits c request) never
+
+-- no reply is a refusal that says success
+pub never_success : (limits : Allowance) (state : State) (request : Request) → (answer_to limits state request).0 ≢ Refused Success
+never_success limits state request = never_said limits state request Success (λ refusal. (refusal_says refusal).0)
+
+-- no reply is a refusal that says that there is no memory
+pub never_no_memory : (limits : Allowance) (state : State) (request : Request) → (answer_to limits state request).0 ≢ Refused NoMemory
+never_no_memory limits state request = never_said limits state request NoMemory (λ refusal. (refusal_says refusal).1)

@@ -1,0 +1,313 @@
+-- Nodes at the places of their operands, and what they write.
+use Rattle.std.proofs.Common.{◌≡◌, ◌≢◌, ℕ, ◌<◌, Bool, true, false, List, [], ◌∷◌, ◌++◌, Option, Some, None, IsTrue, length, refl, sym, ap, subst, ◌∙◌}
+use Rattle.std.specs.Prelude.{◌==◌, ◌||◌, ◌&&◌, not, is_some, is_none, unwrap_or, if◌then◌else◌, IfSome, option_to_list, Ok, Err}
+use Rattle.std.specs.List.{list_any, list_all, flat_map}
+use Rattle.std.specs.Option.{option_map, option_and_then}
+use Rattle.std.proofs.lemmas.Bool.{eq-eqb, eqb-true}
+use Rattle.vx_base.specs.declared.function.Function.{Function}
+use Rattle.vx_base.specs.declared.function.Function.TheVariants.{AndBits}
+use Rattle.vx_base.specs.declared.kind.Kind.{Kind}
+use Rattle.vx_base.specs.declared.kind.Kind.TheVariants as kind
+use Rattle.vx_base.specs.declared.node.Node.{Node}
+use Rattle.vx_base.specs.Cell.{Cell, same_slot, same_cell}
+use Rattle.vx_base.specs.Description.{Description, same_size, byte_count}
+use Rattle.vx_base.specs.Formats.{takes_formats}
+use Rattle.vx_base.specs.Function.{parameters}
+use Rattle.vx_base.specs.Image.{ImageValue, description_of}
+use Rattle.vx_base.specs.Node.{is_node, has_amount, has_operands, all_named, given, outputs, operands, second_kind}
+use Rattle.vx_base.specs.Object.{ObjectValue, ImageObject, LutObject, ThresholdObject, object_kind, object_format, object_bytes}
+use Rattle.vx_base.specs.Outputs.{node_output, written_to, written_by}
+use Rattle.image_core.specs.Fits.{SecondHasSize}
+use Rattle.graph_verify.specs.declared.operand.Operand.{Operand}
+use Rattle.graph_verify.specs.declared.operand.Operands.{Operands}
+use Rattle.graph_verify.specs.declared.verdict.Verdict.{Verdict}
+use Rattle.graph_verify.specs.declared.verdict.Verdict.TheVariants.{MultipleWriters, InvalidGraph, InvalidFormat, InvalidDimension}
+use Rattle.graph_verify.specs.Operand.{operand_of, operand_format, are_of_one_size, other_operands}
+use Rattle.graph_verify.specs.Verdict.{writes_twice, reads_own_output, takes_first, takes_operands, node_fault, verdict_on}
+use Rattle.client_contexts.specs.declared.places.Places.{Places}
+use Rattle.client_contexts.specs.declared.refusal.Refusal.{Refusal}
+use Rattle.client_contexts.specs.declared.refusal.Refusal.TheVariants.{InvalidReference, InvalidType, Rejected}
+use Rattle.client_contexts.specs.declared.reply.Reply.TheVariants.{Empty}
+use Rattle.client_contexts.specs.Context.{Named, Context, object_named, with_object, with_objects, with_written}
+use Rattle.client_contexts.specs.Refusal.{unless}
+use Rattle.client_contexts.specs.Operands.{in_slot, held, is_unknown, is_of_other_kind}
+use Rattle.client_contexts.specs.Immediate.{operand_if, operands_in, node_refusal, immediate}
+use Rattle.client_contexts.specs.Places.{no_object, entry_at, object_at, object_if_at, StandsAt, StandsIf, IsContext}
+use Rattle.std.proofs.Math.Seq.{get_or-append_seam, set-append_seam}
+use Rattle.client_contexts.specs.Steps.{RunsOn, RunsTo, StandAt, operands_at, operands_refusal, output_at, replaced, written_at}
+use Rattle.client_contexts.proofs.ContextLemmas.{IsContext-replaced, replaced_is_named}
+use Rattle.client_contexts.proofs.StoredLemmas.{description_kept}
+
+neither : (a b : Bool) → (a || b) ≡ false → (a ≡ false) × (b ≡ false)
+neither true b e = cc
+neither false b e = (refl, e)
+
+both : (a b : Bool) → (a && b) ≡ true → (a ≡ true) × (b ≡ true)
+both true true e = (refl, refl)
+both true false e = cc
+both false b e = cc
+
+-- ---- a verdict that rejects nothing
+
+accepted : (twice reads : Bool) (fault : Option Verdict) → (if twice then Some MultipleWriters else (if reads then Some InvalidGraph else fault)) ≡ None → (reads ≡ false) × (fault ≡ None)
+accepted true reads fault e = cc
+accepted false true fault e = cc
+accepted false false fault e = (refl, e)
+
+faultless : (takes sizes : Bool) → (if not takes then Some InvalidFormat else (if sizes then None else Some InvalidDimension)) ≡ None → (takes ≡ true) × (sizes ≡ true)
+faultless true true e = (refl, refl)
+faultless true false e = cc
+faultless false sizes e = cc
+
+-- ---- cells
+
+no_slot : (slot : Option ℕ) (named : Option ObjectValue) (object : ObjectValue) → option_and_then (in_slot slot) named ≡ Some object → slot ≡ None
+no_slot None named object e = refl
+no_slot (Some k) None object e = cc
+no_slot (Some k) (Some named) object e = cc
+
+-- two cells that aren't one stand apart
+apart : (objects : List Named) (a b : Cell) (k l : Kind) (p q : ℕ) → StandsAt objects a k p → StandsAt objects b l q → same_cell a b ≡ false → p ≢ q
+apart objects a b k l p q h i differ same =
+    let names : a.name ≡ b.name = sym h.name ∙ ap (λ n. (entry_at objects n).name) same ∙ i.name in
+    let one : same_cell a b ≡ true =
+    ap (λ t. t && same_slot a.slot b.slot) (eq-eqb a.name b.name names)
+    ∙ ap (λ s. same_slot s b.slot) (no_slot a.slot (object_named objects a.name) (object_at objects p) h.object)
+    ∙ ap (λ s. same_slot None s) (no_slot b.slot (object_named objects b.name) (object_at objects q) i.object) in
+    cc
+
+-- ---- what a node's function has
+
+no_pair : (function : Function) → (parameters function).output_pair ≡ false
+no_pair AndBits = refl
+no_pair other = refl
+
+image_output : (function : Function) → (parameters function).output ≡ kind.Image
+image_output AndBits = refl
+image_output other = refl
+
+has_of_node : (n : Node) → is_node n ≡ true → has_operands (parameters n.function) n ≡ true
+has_of_node n shape = (both (has_operands (parameters n.function) n) (all_named n) (both (has_amount (parameters n.function) n.policy n.amount) (has_operands (parameters n.function) n && all_named n) shape).1).0
+
+one_output : (n : Node) → is_node n ≡ true → n.out2 ≡ None
+one_output n shape =
+    let second = if is_some (parameters n.function).second_input then is_some n.in2 else is_none n.in2 in
+    let has : (if (parameters n.function).output_pair then (is_some n.out1 || is_some n.out2) else (is_some n.out1 && is_none n.out2)) ≡ true =
+    (both second (if (parameters n.function).output_pair then (is_some n.out1 || is_some n.out2) else (is_some n.out1 && is_none n.out2)) (has_of_node n shape)).1 in
+    let single : (is_some n.out1 && is_none n.out2) ≡ true =
+    sym (ap (λ b. if b then (is_some n.out1 || is_some n.out2) else (is_some n.out1 && is_none n.out2)) (no_pair n.function)) ∙ has in
+    none n.out2 (both (is_some n.out1) (is_none n.out2) single).1
+  where
+    none : (cell : Option Cell) → is_none cell ≡ true → cell ≡ None
+    none None e = refl
+    none (Some cell) e = cc
+
+-- ---- the objects that a node reads and writes
+
+same_formats : (second : Option ObjectValue) → option_and_then operand_format (option_map operand_of second) ≡ option_and_then object_format second
+same_formats None = refl
+same_formats (Some (ImageObject image)) = refl
+same_formats (Some (LutObject lut)) = refl
+same_formats (Some (ThresholdObject threshold)) = refl
+
+swapped : (a b : Description) → same_size a b ≡ true → same_size b a ≡ true
+swapped a b e =
+    let p = both (a.width == b.width) (a.height == b.height) e in
+    ap (λ t. t && (b.height == a.height)) (eq-eqb b.width a.width (sym (eqb-true a.width b.width p.0)))
+    ∙ eq-eqb b.height a.height (sym (eqb-true a.height b.height p.1))
+
+second_fits : (a : ImageValue) (second : Option ObjectValue) (others : List Operand) → list_all (are_of_one_size (operand_of (ImageObject a))) (option_to_list (option_map operand_of second) ++ others) ≡ true
+    → SecondHasSize a second × (list_all (are_of_one_size (operand_of (ImageObject a))) others ≡ true)
+second_fits a None others e = (tt, e)
+second_fits a (Some (ImageObject b)) others e =
+    let p = both (same_size (description_of a) (description_of b)) (list_all (are_of_one_size (operand_of (ImageObject a))) others) e in
+    (swapped (description_of a) (description_of b) p.0, p.1)
+second_fits a (Some (LutObject lut)) others e = (tt, e)
+second_fits a (Some (ThresholdObject threshold)) others e = (tt, e)
+
+module _ (n : Node) (shape : IsTrue (is_node n)) where
+  runs_on : (first : ObjectValue) (second : Option ObjectValue) (out : ObjectValue) (others : List Operand)
+      → object_kind first ≡ kind.Image → object_kind out ≡ kind.Image → IfSome second (λ object. (parameters n.function).second_input ≡ Some (object_kind object))
+      → takes_first n.function (operand_format (operand_of first)) (option_and_then operand_format (option_map operand_of second)) (operand_of out ∷ others) ≡ true
+      → list_all (are_of_one_size (operand_of first)) (option_to_list (option_map operand_of second) ++ (operand_of out ∷ others)) ≡ true
+      → RunsOn n first second out
+  runs_on (ImageObject a) second (ImageObject b) others h i k takes sizes =
+      let fit = second_fits a second (operand_of (ImageObject b) ∷ others) sizes in
+      record {
+        first_kind = refl;
+        out_kind = refl;
+        can_run = record {
+          shape = shape;
+          kind = k;
+          formats =
+              ap (λ f. takes_formats n.function a.format f (Some b.format)) (sym (same_formats second))
+              ∙ (both (takes_formats n.function a.format (option_and_then operand_format (option_map operand_of second)) (Some b.format))
+              (list_all (λ o. takes_formats n.function a.format (option_and_then operand_format (option_map operand_of second)) (operand_format o)) others) takes).0;
+          size = swapped (description_of a) (description_of b) (both (same_size (description_of a) (description_of b)) (list_all (are_of_one_size (operand_of (ImageObject a))) others) fit.1).0;
+          second_size = fit.0;
+        };
+      }
+  runs_on (ImageObject a) second (LutObject b) others h i k takes sizes = cc
+  runs_on (ImageObject a) second (ThresholdObject b) others h i k takes sizes = cc
+  runs_on (LutObject a) second b others h i k takes sizes = cc
+  runs_on (ThresholdObject a) second b others h i k takes sizes = cc
+
+  -- a second input is what the function has there
+  second_wanted : (objects : List Named) (cell : Option Cell) (place : Option ℕ) (s : Option Kind) → (if is_some s then is_some cell else is_none cell) ≡ true → StandsIf objects cell (unwrap_or s kind.Image) place
+      → IfSome (object_if_at objects place) (λ object. s ≡ Some (object_kind object))
+  second_wanted objects cell None s has h = tt
+  second_wanted objects None (Some place) s has h = absurd h
+  second_wanted objects (Some cell) (Some place) None has h = cc
+  second_wanted objects (Some cell) (Some place) (Some s) has h = ap Some (sym h.kind)
+
+  module _ (objects : List Named) (p : Places) (h : StandAt objects n p) (verdict : verdict_on n (operands_at objects p) ≡ None) where
+    parts : (reads_own_output n ≡ false) × (takes_operands n.function (operands_at objects p) ≡ true) × (list_all (are_of_one_size (operand_of (object_at objects p.in1))) (other_operands (operands_at objects p)) ≡ true)
+    parts =
+        let v = accepted (writes_twice n) (reads_own_output n) (node_fault n.function (operands_at objects p)) verdict in
+        let f = faultless (takes_operands n.function (operands_at objects p)) (list_all (are_of_one_size (operand_of (object_at objects p.in1))) (other_operands (operands_at objects p))) v.1 in
+        (v.0, f.0, f.1)
+
+    -- the second input stands apart from an output, and within
+    second_there : (cell2 : Option Cell) (place2 : Option ℕ) (wanted : Kind) (cell : Cell) (output : ℕ) (others : List Cell) → StandsIf objects cell2 wanted place2 → StandsAt objects cell kind.Image output
+        → list_any (λ a. list_any (same_cell a) (cell ∷ others)) (given cell2) ≡ false → IfSome place2 (λ q. q < length objects) × IfSome place2 (λ q. q ≢ output)
+    second_there cell2 None wanted cell output others a b e = (tt, tt)
+    second_there None (Some q) wanted cell output others a b e = absurd a
+    second_there (Some c) (Some q) wanted cell output others a b e =
+        let differ = (neither (same_cell c cell) (list_any (same_cell c) others) (neither (list_any (same_cell c) (cell ∷ others)) false e).0).0 in
+        (a.within, apart objects c cell wanted kind.Image q output a b differ)
+
+    each : (cell : Option Cell) (place : Option ℕ) → n.out1 ≡ cell → p.out1 ≡ place → StandsIf objects cell kind.Image place → IfSome place (RunsTo objects n p)
+    each cell None e f stands = tt
+    each None (Some output) e f stands = absurd stands
+    each (Some cell) (Some output) e f stands =
+        let reads = neither (list_any (same_cell n.in1) (outputs n)) (list_any (λ a. list_any (same_cell a) (outputs n)) (given n.in2)) parts.0 in
+        let second = second_there n.in2 p.in2 (second_kind n) cell output (given n.out2) h.in2 stands (ap (λ o. list_any (λ a. list_any (same_cell a) (given o ++ given n.out2)) (given n.in2)) (sym e) ∙ reads.1) in
+        let differ = (neither (same_cell n.in1 cell) (list_any (same_cell n.in1) (given n.out2)) (ap (λ o. list_any (same_cell n.in1) (given o ++ given n.out2)) (sym e) ∙ reads.0)).0 in
+        let others = option_to_list (option_map operand_of (object_if_at objects p.out2)) in
+        record {
+          in1_within = h.in1.within;
+          in2_within = second.0;
+          within = stands.within;
+          in1_apart = apart objects n.in1 cell kind.Image kind.Image p.in1 output h.in1 stands differ;
+          in2_apart = second.1;
+          runs =
+              runs_on (object_at objects p.in1) (object_if_at objects p.in2) (object_at objects output) others h.in1.kind stands.kind
+              (second_wanted objects n.in2 p.in2 (parameters n.function).second_input (both (if is_some (parameters n.function).second_input then is_some n.in2 else is_none n.in2) _ (has_of_node n shape)).0 h.in2)
+              (ap (λ o. takes_first n.function (operand_format (operand_of (object_at objects p.in1))) (option_and_then operand_format (option_map operand_of (object_if_at objects p.in2))) (option_to_list (option_map operand_of (object_if_at objects o)) ++ others)) (sym f) ∙ parts.1)
+              (ap (λ o. list_all (are_of_one_size (operand_of (object_at objects p.in1))) (option_to_list (option_map operand_of (object_if_at objects p.in2)) ++ (option_to_list (option_map operand_of (object_if_at objects o)) ++ others))) (sym f) ∙ parts.2);
+        }
+
+    pub runs_to : IfSome p.out1 (RunsTo objects n p)
+    runs_to = each n.out1 p.out1 refl refl (subst (λ k. StandsIf objects n.out1 k p.out1) (image_output n.function) h.out1)
+
+    -- no function has a second output
+    pub no_second_place : p.out2 ≡ None
+    no_second_place = none n.out2 p.out2 (one_output n shape) h.out2
+      where
+        none : (cell : Option Cell) (place : Option ℕ) → cell ≡ None → StandsIf objects cell (parameters n.function).output place → place ≡ None
+        none cell None e s = refl
+        none None (Some place) e s = absurd s
+        none (Some cell) (Some place) e s = cc
+
+    second_held : (cell : Option Cell) (place : Option ℕ) (wanted : Kind) → StandsIf objects cell wanted place → option_and_then (held objects) cell ≡ object_if_at objects place
+    second_held None None wanted s = refl
+    second_held (Some cell) (Some place) wanted s = s.object
+    second_held None (Some place) wanted s = absurd s
+    second_held (Some cell) None wanted s = absurd s
+
+    -- what the node writes is what its output becomes
+    pub written_is : (next charge : ℕ) → IsContext next charge objects → with_written objects (written_by n (held objects)) ≡ written_at objects n p p.out1
+    written_is next charge context =
+        ap (λ o. with_written objects (flat_map (λ cell. written_to n cell (held objects n.in1) (option_and_then (held objects) n.in2) (held objects cell)) (given n.out1 ++ given o))) (one_output n shape)
+        ∙ ap (λ o. with_written objects (flat_map (λ cell. written_to n cell o (option_and_then (held objects) n.in2) (held objects cell)) (given n.out1 ++ []))) h.in1.object
+        ∙ ap (λ o. with_written objects (flat_map (λ cell. written_to n cell (Some (object_at objects p.in1)) o (held objects cell)) (given n.out1 ++ []))) (second_held n.in2 p.in2 (second_kind n) h.in2)
+        ∙ written n.out1 p.out1 h.out1
+      where
+        written : (cell : Option Cell) (place : Option ℕ) → StandsIf objects cell (parameters n.function).output place
+            → with_written objects (flat_map (λ c. written_to n c (Some (object_at objects p.in1)) (object_if_at objects p.in2) (held objects c)) (given cell ++ [])) ≡ written_at objects n p place
+        written None None s = refl
+        written (Some cell) (Some place) s =
+            ap (λ o. with_written objects (written_to n cell (Some (object_at objects p.in1)) (object_if_at objects p.in2) o ++ [])) s.object
+            ∙ ap (λ k. with_object objects k (output_at objects n p place)) (sym s.name)
+            ∙ replaced_is_named next charge objects place (output_at objects n p place) context s.within
+        written None (Some place) s = absurd s
+        written (Some cell) None s = absurd s
+
+-- an output keeps its charge
+bytes_kept : (n : Node) (first : ObjectValue) (second : Option ObjectValue) (out : ObjectValue) → RunsOn n first second out → object_bytes (node_output n first second out) ≡ object_bytes out
+bytes_kept n (ImageObject a) second (ImageObject out) h = ap byte_count (description_kept n a second out h.can_run.size)
+bytes_kept n (ImageObject a) second (LutObject out) h = refl
+bytes_kept n (ImageObject a) second (ThresholdObject out) h = refl
+bytes_kept n (LutObject a) second out h = refl
+bytes_kept n (ThresholdObject a) second out h = refl
+
+pub IsContext-written : (next charge : ℕ) (objects : List Named) (n : Node) (p : Places) (output : Option ℕ) → IsContext next charge objects → IfSome output (RunsTo objects n p) → IsContext next charge (written_at objects n p output)
+IsContext-written next charge objects n p None h runs = h
+IsContext-written next charge objects n p (Some output) h runs =
+    IsContext-replaced next charge objects output (output_at objects n p output) h runs.within
+    (bytes_kept n (object_at objects p.in1) (object_if_at objects p.in2) (object_at objects output) runs.runs)
+
+-- an entry that is written where it stands, among those before it and after it
+pub put_back : (before rest after : List Named) (n : Node) (p : Places) (entry new : Named) (first : ObjectValue) (second : Option ObjectValue)
+    → rest ≡ entry ∷ after → first ≡ object_at (before ++ entry ∷ after) p.in1 → second ≡ object_if_at (before ++ entry ∷ after) p.in2
+    → new ≡ record { name = entry.name; object = node_output n first second entry.object }
+    → before ++ new ∷ after ≡ replaced (before ++ rest) (length before) (output_at (before ++ rest) n p (length before))
+put_back before rest after n p entry new first second parts a b is =
+    let whole : List Named = before ++ entry ∷ after in
+    let here : entry_at whole (length before) ≡ entry = get_or-append_seam before entry after no_object in
+    ap (λ e. before ++ e ∷ after)
+    (is
+    ∙ ap (λ o. let e : Named = record { name = entry.name; object = node_output n o second entry.object } in e) a
+    ∙ ap (λ o. let e : Named = record { name = entry.name; object = node_output n (object_at whole p.in1) o entry.object } in e) b
+    ∙ ap (λ (w : Named). let e : Named = record { name = w.name; object = node_output n (object_at whole p.in1) (object_if_at whole p.in2) w.object } in e) (sym here))
+    ∙ sym (set-append_seam before entry after (record { name = (entry_at whole (length before)).name; object = output_at whole n p (length before) }))
+    ∙ ap (λ r. replaced (before ++ r) (length before) (output_at (before ++ r) n p (length before))) (sym parts)
+
+-- ---- immediate mode
+
+refused_first : (unknown other : Bool) (rest : Option Refusal) (refusal : Refusal) → (if unknown then Some InvalidReference else (if other then Some InvalidType else None)) ≡ Some refusal
+    → (if unknown then Some InvalidReference else (if other then Some InvalidType else rest)) ≡ Some refusal
+refused_first true other rest refusal e = e
+refused_first false true rest refusal e = e
+refused_first false false rest refusal e = cc
+
+refused_last : (unknown other : Bool) (rest : Option Refusal) → (if unknown then Some InvalidReference else (if other then Some InvalidType else None)) ≡ None
+    → (if unknown then Some InvalidReference else (if other then Some InvalidType else rest)) ≡ rest
+refused_last true other rest e = cc
+refused_last false true rest e = cc
+refused_last false false rest e = refl
+
+module _ (c : Context) (n : Node) where
+  refused_is : (refusal : Refusal) → node_refusal c.objects n ≡ Some refusal → immediate c n ≡ Err refusal
+  refused_is refusal e = ap (λ r. unless r Empty (with_objects c (with_written c.objects (written_by n (held c.objects))))) e
+
+  -- a cell that names nothing of its kind
+  pub operands_refuse : (refusal : Refusal) → Some refusal ≡ operands_refusal c.objects (operands n) → immediate c n ≡ Err refusal
+  operands_refuse refusal e =
+      refused_is refusal
+      (refused_first (list_any (λ operand. is_unknown c.objects operand.0) (operands n)) (list_any (is_of_other_kind c.objects) (operands n)) _ refusal (sym e))
+
+  module _ (p : Places) (h : StandAt c.objects n p) (known : None ≡ operands_refusal c.objects (operands n)) where
+    operand_there : (cell : Option Cell) (place : Option ℕ) (wanted : Kind) → StandsIf c.objects cell wanted place → operand_if c.objects cell ≡ option_map operand_of (object_if_at c.objects place)
+    operand_there None None wanted s = refl
+    operand_there (Some cell) (Some place) wanted s = ap (option_map operand_of) s.object
+    operand_there None (Some place) wanted s = absurd s
+    operand_there (Some cell) None wanted s = absurd s
+
+    operands_there : operands_in c.objects n ≡ Some (operands_at c.objects p)
+    operands_there =
+        ap (λ o. option_map (λ in1. let r : Operands = record { in1 = in1; in2 = operand_if c.objects n.in2; out1 = operand_if c.objects n.out1; out2 = operand_if c.objects n.out2 } in r) (option_map operand_of o)) h.in1.object
+        ∙ ap (λ o. let r : Operands = record { in1 = operand_of (object_at c.objects p.in1); in2 = o; out1 = operand_if c.objects n.out1; out2 = operand_if c.objects n.out2 } in Some r) (operand_there n.in2 p.in2 (second_kind n) h.in2)
+        ∙ ap (λ o. let r : Operands = record { in1 = operand_of (object_at c.objects p.in1); in2 = option_map operand_of (object_if_at c.objects p.in2); out1 = o; out2 = operand_if c.objects n.out2 } in Some r) (operand_there n.out1 p.out1 (parameters n.function).output h.out1)
+        ∙ ap (λ o. let r : Operands = record { in1 = operand_of (object_at c.objects p.in1); in2 = option_map operand_of (object_if_at c.objects p.in2); out1 = option_map operand_of (object_if_at c.objects p.out1); out2 = o } in Some r) (operand_there n.out2 p.out2 (parameters n.function).output h.out2)
+
+    verdict_is : node_refusal c.objects n ≡ option_map Rejected (verdict_on n (operands_at c.objects p))
+    verdict_is =
+        refused_last (list_any (λ operand. is_unknown c.objects operand.0) (operands n)) (list_any (is_of_other_kind c.objects) (operands n)) _ (sym known)
+        ∙ ap (λ o. option_map Rejected (option_and_then (verdict_on n) o)) operands_there
+
+    pub verdict_refuses : (verdict : Verdict) → verdict_on n (operands_at c.objects p) ≡ Some verdict → immediate c n ≡ Err (Rejected verdict)
+    verdict_refuses verdict e = refused_is (Rejected verdict) (verdict_is ∙ ap (option_map Rejected) e)
+
+    pub nothing_refuses : verdict_on n (operands_at c.objects p) ≡ None → immediate c n ≡ Ok (Empty, with_objects c (with_written c.objects (written_by n (held c.objects))))
+    nothing_refuses e = ap (λ r. unless r Empty (with_objects c (with_written c.objects (written_by n (held c.objects))))) (verdict_is ∙ ap (option_map Rejected) e)

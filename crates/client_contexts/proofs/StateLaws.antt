@@ -1,0 +1,75 @@
+-- What the state of a client keeps, when an object is added and when others are written.
+use Rattle.std.proofs.Common.{ℕ, ◌+◌, ◌<◌, ◌≤◌, IsTrue, List, [], ◌∷◌, length, arith}
+use Rattle.std.specs.Prelude.{All, ◌&&◌, nat_lt, nat_le}
+use Rattle.std.proofs.lemmas.Bool.{and_parts, ltb-true, leb-true}
+use Rattle.std.proofs.lemmas.List.{length_push}
+use Rattle.std.proofs.lemmas.List.Elements.{All-nil, All-head, All-tail, All-push, All-weaker}
+use Rattle.std.proofs.lemmas.List.Sums.{sum_by_push}
+use Rattle.vx_base.specs.Cell.{Cell}
+use Rattle.vx_base.specs.Object.{ObjectValue, IsObject, object_bytes}
+use Rattle.client_contexts.specs.Allowance.{Allowance}
+use Rattle.client_contexts.specs.Context.{Named, Context, new_context, with_object, with_written, with_new, with_objects, has_room, charge_of}
+use Rattle.client_contexts.specs.States.{KeepsLimits}
+use Rattle.client_contexts.proofs.NamedLaws.{IsCharged, increasing_names_push, All-with_object, names-with_object, length-with_object, charge-with_object, charged-with_object}
+
+-- a new context keeps the limits
+pub new_context_keeps : (limits : Allowance) → KeepsLimits limits new_context
+new_context_keeps limits =
+    record {
+      objects = All-nil (λ o. IsObject o.object);
+      names = λ k h. absurd (omega arith);
+      below = All-nil (λ o. o.name < 1);
+      count = omega arith;
+      quota = omega arith;
+    }
+
+-- what room for an object means
+has_room_means : (limits : Allowance) (c : Context) (bytes : ℕ) → IsTrue (has_room limits c bytes) → (length c.objects < 1024) × (charge_of c.objects + bytes ≤ limits.quota)
+has_room_means limits c bytes h =
+    let named = and_parts (nat_lt c.next 4294967296) (nat_lt (length c.objects) 1024 && nat_le (charge_of c.objects + bytes) limits.quota) h in
+    let both = and_parts (nat_lt (length c.objects) 1024) (nat_le (charge_of c.objects + bytes) limits.quota) named.1 in
+    (ltb-true (length c.objects) 1024 both.0, leb-true (charge_of c.objects + bytes) limits.quota both.1)
+
+-- where there is room for an object, the limits are kept with it
+pub with_new_keeps : (limits : Allowance) (c : Context) (object : ObjectValue) → KeepsLimits limits c → IsObject object → IsTrue (has_room limits c (object_bytes object)) → KeepsLimits limits (with_new c object)
+with_new_keeps limits c object h is room =
+    let o : Named = record { name = c.next; object = object } in
+    let r = has_room_means limits c (object_bytes object) room in
+    record {
+      objects = All-push (λ p. IsObject p.object) c.objects o h.objects is;
+      names = increasing_names_push c.objects o h.names h.below;
+      below = All-push (λ p. p.name < c.next + 1) c.objects o (All-weaker (λ p. p.name < c.next) (λ p. p.name < c.next + 1) (λ p less. omega arith) c.objects h.below) (omega arith);
+      count = omega (arith, length_push c.objects o);
+      quota = omega (arith, sum_by_push (λ (p : Named). object_bytes p.object) c.objects o);
+    }
+
+-- a cell and an object that may be written there: it is charged what the objects of the cell's name are
+pub record IsReplacement (objects : List Named) (w : Cell × ObjectValue) : Type 0 where
+  pub is_object : IsObject w.1
+  pub charged : All (IsCharged w.0.name (object_bytes w.1)) objects
+
+-- the limits are kept where an object is written under a name
+pub with_object_keeps : (limits : Allowance) (c : Context) (w : Cell × ObjectValue) → KeepsLimits limits c → IsReplacement c.objects w → KeepsLimits limits (with_objects c (with_object c.objects w.0.name w.1))
+with_object_keeps limits c w h fits =
+    record {
+      objects = All-with_object (λ o. IsObject o.object) c.objects w.0.name w.1 (λ o is e. fits.is_object) h.objects;
+      names = rw (names-with_object c.objects w.0.name w.1) h.names;
+      below = All-with_object (λ o. o.name < c.next) c.objects w.0.name w.1 (λ o less e. less) h.below;
+      count = omega (arith, h.count, length-with_object c.objects w.0.name w.1);
+      quota = omega (arith, h.quota, charge-with_object c.objects w.0.name w.1 fits.charged);
+    }
+
+-- after a write, what else may be written may still be
+replacement_after : (objects : List Named) (w other : Cell × ObjectValue) → IsReplacement objects w → IsReplacement objects other → IsReplacement (with_object objects w.0.name w.1) other
+replacement_after objects w other fits also =
+    record { is_object = also.is_object; charged = charged-with_object other.0.name (object_bytes other.1) objects w.0.name w.1 fits.charged also.charged }
+
+-- the limits are kept where objects are written under their names
+pub with_written_keeps : (limits : Allowance) (c : Context) (written : List (Cell × ObjectValue)) → KeepsLimits limits c → All (IsReplacement c.objects) written → KeepsLimits limits (with_objects c (with_written c.objects written))
+with_written_keeps limits c [] h fit = h
+with_written_keeps limits c (w ∷ written) h fit =
+    let first : IsReplacement c.objects w = All-head (IsReplacement c.objects) w written fit in
+    let rest : All (IsReplacement c.objects) written = All-tail (IsReplacement c.objects) w written fit in
+    let after : List Named = with_object c.objects w.0.name w.1 in
+    with_written_keeps limits (with_objects c after) written (with_object_keeps limits c w h first)
+    (All-weaker (IsReplacement c.objects) (IsReplacement after) (λ other also. replacement_after c.objects w other first also) written rest)

@@ -1,0 +1,52 @@
+-- What each request does with the limits, and the states after requests.
+use Rattle.std.proofs.Common.{List, [], ◌∷◌, Some, None, IfSome, Ok, Err}
+use Rattle.std.specs.Prelude.{All}
+use Rattle.std.proofs.lemmas.List.Elements.{All-head, All-tail}
+use Rattle.vx_base.specs.Image.{new_image}
+use Rattle.vx_base.specs.Object.{ImageObject, LutObject, ThresholdObject}
+use Rattle.vx_base.proofs.ImageLaws.{new_image_is}
+use Rattle.client_contexts.specs.declared.request.Request.{Request}
+use Rattle.client_contexts.specs.declared.request.Request.TheVariants.{OpenContext, CreateImage, WriteImage, ReadImage, CreateLut, CreateThreshold, Immediate}
+use Rattle.client_contexts.specs.Allowance.{Allowance}
+use Rattle.client_contexts.specs.Context.{Context, State}
+use Rattle.client_contexts.specs.Request.{IsRequest}
+use Rattle.client_contexts.specs.Refusal.{Outcome}
+use Rattle.client_contexts.specs.Answer.{outcome_of, answered, answer_to}
+use Rattle.client_contexts.specs.States.{KeepsLimits, state_after}
+use Rattle.client_contexts.proofs.StateLaws.{new_context_keeps}
+use Rattle.client_contexts.proofs.OutcomeLaws.{Keeps, create_keeps}
+use Rattle.client_contexts.proofs.ImageStepLaws.{write_image_keeps, read_image_keeps}
+use Rattle.client_contexts.proofs.NodeStepLaws.{immediate_keeps}
+
+-- each request keeps the limits of a context
+pub outcome_keeps : (limits : Allowance) (c : Context) (request : Request) → KeepsLimits limits c → IsRequest request → Keeps limits (outcome_of limits c request)
+outcome_keeps limits c OpenContext h is = tt
+outcome_keeps limits c (CreateImage d) h is = create_keeps limits c (ImageObject (new_image d.width d.height d.format)) h (new_image_is d.width d.height d.format)
+outcome_keeps limits c (WriteImage cell p) h is = write_image_keeps limits c cell p h is.1
+outcome_keeps limits c (ReadImage cell) h is = read_image_keeps limits c cell h
+outcome_keeps limits c (CreateLut lut) h is = create_keeps limits c (LutObject lut) h is
+outcome_keeps limits c (CreateThreshold threshold) h is = create_keeps limits c (ThresholdObject threshold) h is
+outcome_keeps limits c (Immediate n) h is = immediate_keeps limits c n h is
+
+-- the state of a client, where a context keeps the limits
+abbrev pub StateKeeps : Allowance → State → Type 0
+StateKeeps limits state = IfSome state (KeepsLimits limits)
+
+-- the state after an outcome keeps the limits
+answered_keeps : (limits : Allowance) (c : Context) (outcome : Outcome) → KeepsLimits limits c → Keeps limits outcome → StateKeeps limits (answered c outcome).1
+answered_keeps limits c (Ok done) h kept = kept
+answered_keeps limits c (Err refusal) h kept = h
+
+-- the state after a request keeps the limits
+pub answer_keeps : (limits : Allowance) (state : State) (request : Request) → StateKeeps limits state → IsRequest request → StateKeeps limits (answer_to limits state request).1
+answer_keeps limits None OpenContext h is = new_context_keeps limits
+answer_keeps limits None other h is = tt
+answer_keeps limits (Some c) request h is = answered_keeps limits c (outcome_of limits c request) h (outcome_keeps limits c request h is)
+
+-- the state after requests keeps the limits
+pub state_after_keeps : (limits : Allowance) (state : State) (requests : List Request) → StateKeeps limits state → All IsRequest requests → StateKeeps limits (state_after limits state requests)
+state_after_keeps limits state [] h is = h
+state_after_keeps limits state (request ∷ requests) h is =
+    state_after_keeps limits (answer_to limits state request).1 requests
+    (answer_keeps limits state request h (All-head IsRequest request requests is))
+    (All-tail IsRequest request requests is)

@@ -1,0 +1,36 @@
+use Rattle.std.proofs.Common.{◌∙◌, ap, sym, refl, rules, Ok}
+use Rattle.vx_base.specs.declared.node.Node.{Node}
+use Rattle.client_contexts.specs.Context.{Context}
+use Rattle.graph_verify.specs.Verdict.{verdict_on}
+use Rattle.client_contexts.specs.declared.reply.Reply.TheVariants.{Empty}
+use Rattle.client_contexts.specs.Refusal.{Outcome}
+use Rattle.client_contexts.specs.Immediate.{immediate}
+use Rattle.client_contexts.proofs.RunLemmas.{operands_refuse, verdict_refuses, nothing_refuses}
+use Rattle.client_contexts.proofs.immediate.run_at_once.Goals as goal
+
+pub returns-in_err-places : goal.returns-in_err-places
+returns-in_err-places c =
+    let e = ap (λ (n : Node). immediate c.args.context.now n) (sym c.node-node.ensures.value)
+    ∙ operands_refuse c.args.context.now c.node-node.result c.in_err-places.field-0.0 c.in_err-places.ensures.err in
+    search (rules, e)
+
+pub returns-in-Some : goal.returns-in-Some
+returns-in-Some c =
+    record {
+      done = tt;
+      refused = ap (λ (n : Node). immediate c.args.context.now n) (sym c.node-node.ensures.value)
+          ∙ verdict_refuses c.args.context.now c.node-node.result c.in_ok-places.places c.in_ok-places.ensures.ok c.in_ok-places.ensures.err c.in-Some.verdict
+          (ap (λ o. verdict_on c.node-node.result o) (sym c.operands_at.ensures) ∙ sym c.verdict_on.ensures ∙ c.in-Some.is);
+      kept = refl;
+    }
+
+pub returns : goal.returns
+returns c =
+    record {
+      done = ap (λ (n : Node). immediate c.args.context.now n) (sym c.node-node.ensures.value)
+          ∙ nothing_refuses c.args.context.now c.node-node.result c.in_ok-places.places c.in_ok-places.ensures.ok c.in_ok-places.ensures.err
+          (ap (λ o. verdict_on c.node-node.result o) (sym c.operands_at.ensures) ∙ sym c.verdict_on.ensures ∙ c.in_default.is)
+          ∙ ap (λ (after : Context). let done : Outcome = Ok (Empty, after) in done) (sym c.run.ensures);
+      refused = tt;
+      kept = tt;
+    }

@@ -1,0 +1,46 @@
+-- Requests that make objects, and those on the samples of images.
+use Rattle.std.specs.Prelude.{not, Option, Some, None, Result, Ok, Err, if◌then◌else◌}
+use Rattle.vx_base.specs.Cell.{Cell}
+use Rattle.vx_base.specs.Sample.{same_format}
+use Rattle.vx_base.specs.Description.{Description, same_size}
+use Rattle.vx_base.specs.Image.{ImageValue, new_image, description_of}
+use Rattle.vx_base.specs.Picture.{PictureValue, picture_of, pictured}
+use Rattle.vx_base.specs.Object.{ObjectValue, ImageObject, object_bytes}
+use Rattle.client_contexts.specs.declared.refusal.Refusal.{Refusal}
+use Rattle.client_contexts.specs.declared.refusal.Refusal.TheVariants.{InvalidFormat, InvalidDimension, NoResources}
+use Rattle.client_contexts.specs.declared.reply.Reply.TheVariants.{Empty, Name, Picture}
+use Rattle.client_contexts.specs.Allowance.{Allowance}
+use Rattle.client_contexts.specs.Context.{Context, with_object, with_new, with_objects, has_room}
+use Rattle.client_contexts.specs.Refusal.{Outcome, unless}
+use Rattle.client_contexts.specs.Operands.{image_of}
+
+-- a create: the next name, for this object
+abbrev pub create : Allowance → Context → ObjectValue → Outcome
+create limits c object = if has_room limits c (object_bytes object) then Ok (Name c.next, with_new c object) else Err NoResources
+
+-- CreateImage: an image that is 0 everywhere
+abbrev pub create_image : Allowance → Context → Description → Outcome
+create_image limits c d = create limits c (ImageObject (new_image d.width d.height d.format))
+
+-- why a picture can't be written to an image: another format, or another size
+abbrev pub picture_refusal : Description → Description → Option Refusal
+picture_refusal image picture =
+    if not (same_format image.format picture.format) then Some InvalidFormat
+    else (if same_size image picture then None else Some InvalidDimension)
+
+-- WriteImage: the picture's samples, all of them valid
+abbrev pub write_to : Result ImageValue Refusal → Context → Cell → PictureValue → Outcome
+write_to (Err refusal) c cell p = Err refusal
+write_to (Ok image) c cell p =
+    unless (picture_refusal (description_of image) p.description) Empty (with_objects c (with_object c.objects cell.name (ImageObject (pictured p))))
+
+abbrev pub write_image : Context → Cell → PictureValue → Outcome
+write_image c cell p = write_to (image_of c.objects cell) c cell p
+
+-- ReadImage: the samples of all places
+abbrev pub read_from : Result ImageValue Refusal → Context → Outcome
+read_from (Err refusal) c = Err refusal
+read_from (Ok image) c = Ok (Picture (picture_of image), c)
+
+abbrev pub read_image : Context → Cell → Outcome
+read_image c cell = read_from (image_of c.objects cell) c

@@ -1,0 +1,28 @@
+-- Why a request is refused: it changes nothing then.
+use Rattle.std.specs.Prelude.{Option, Some, None, Result, Ok, Err}
+use Rattle.vx_base.specs.declared.code.Code.{Code}
+use Rattle.vx_base.specs.declared.code.Code.TheVariants as code
+use Rattle.graph_verify.specs.Verdict.{verdict_code}
+use Rattle.client_contexts.specs.declared.refusal.Refusal.{Refusal}
+use Rattle.client_contexts.specs.declared.refusal.Refusal.TheVariants.{InvalidReference, InvalidType, InvalidValue, InvalidFormat, InvalidDimension, NoResources, Rejected}
+use Rattle.client_contexts.specs.declared.reply.Reply.{Reply}
+use Rattle.client_contexts.specs.Context.{Context}
+
+-- the code that says so
+abbrev pub refusal_code : Refusal → Code
+refusal_code InvalidReference = code.InvalidReference
+refusal_code InvalidType = code.InvalidType
+refusal_code InvalidValue = code.InvalidValue
+refusal_code InvalidFormat = code.InvalidFormat
+refusal_code InvalidDimension = code.InvalidDimension
+refusal_code NoResources = code.NoResources
+refusal_code (Rejected verdict) = verdict_code verdict
+
+-- what a request comes to in a client's context: a reply and the new context, or a refusal
+abbrev pub Outcome : Type 0
+Outcome = Result (Reply × Context) Refusal
+
+-- it is done, unless it is refused
+abbrev pub unless : Option Refusal → Reply → Context → Outcome
+unless None reply c = Ok (reply, c)
+unless (Some refusal) reply c = Err refusal

@@ -1,0 +1,46 @@
+//! Why a request isn't done.
+use crate::memory::NoMemory;
+use crate::refusal::Refusal;
+use std::alloc::{AllocError, AllocFailed};
+
+/// Why a request that may take memory isn't done. It has changed nothing then.
+#[derive(Clone, Copy, PartialEq, Eq, Debug)]
+pub enum RequestFault {
+    /// It is refused.
+    Refused(Refusal),
+    /// No memory was found.
+    NoMemory,
+}
+
+impl From<Refusal> for RequestFault {
+    ghost use Rattle.std.specs.Prelude.{◌≡◌};
+    ghost use Rattle.client_contexts.specs.declared.fault.RequestFault.TheVariants.{Refused};
+
+    ghost from_gives = { λ refusal fault. fault ≡ Refused refusal };
+
+    fn from(refusal: Refusal) -> RequestFault {
+        RequestFault::Refused(refusal)
+    }
+}
+
+impl From<NoMemory> for RequestFault {
+    ghost use Rattle.std.specs.Prelude.{◌≡◌};
+    ghost use Rattle.client_contexts.specs.declared.fault.RequestFault.TheVariants as fault;
+
+    ghost from_gives = { λ _ f. f ≡ fault.NoMemory };
+
+    fn from(_fault: NoMemory) -> RequestFault {
+        RequestFault::NoMemory
+    }
+}
+
+impl From<AllocError> for RequestFault {
+    ghost use Rattle.std.specs.Prelude.{◌≡◌};
+    ghost use Rattle.client_contexts.specs.declared.fault.RequestFault.TheVariants as fault;
+
+    ghost from_gives = { λ _ f. f ≡ fault.NoMemory };
+
+    fn from(_error: AllocError) -> RequestFault {
+        RequestFault::NoMemory
+    }
+}

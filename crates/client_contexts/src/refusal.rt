@@ -1,0 +1,43 @@
+//! Why a request is refused.
+ghost use Rattle.std.specs.Prelude.{◌≡◌};
+
+use graph_verify::Verdict;
+use vx_base::Code;
+
+/// Why a request is refused. It has changed nothing then.
+#[derive(Clone, Copy, PartialEq, Eq, Debug)]
+pub enum Refusal {
+    /// No object has a name that is used.
+    InvalidReference,
+    /// An object is not of the kind that is wanted there, or has no slots and is named with one.
+    InvalidType,
+    /// The client has a context already.
+    InvalidValue,
+    /// A picture is of another format than the image.
+    InvalidFormat,
+    /// A picture is of another size than the image.
+    InvalidDimension,
+    /// The names are used up, 1,024 objects are held, or the quota doesn't allow another.
+    NoResources,
+    /// The verdict on a graph.
+    Rejected(Verdict),
+}
+
+impl Refusal {
+    ghost use Rattle.client_contexts.specs.Refusal.{refusal_code};
+
+    /// The code that says so.
+    pub fn code(self) -> Code
+        ensures { result ≡ refusal_code self }
+    {
+        match self {
+            Refusal::InvalidReference => Code::InvalidReference,
+            Refusal::InvalidType => Code::InvalidType,
+            Refusal::InvalidValue => Code::InvalidValue,
+            Refusal::InvalidFormat => Code::InvalidFormat,
+            Refusal::InvalidDimension => Code::InvalidDimension,
+            Refusal::NoResources => Code::NoResources,
+            Refusal::Rejected(verdict) => verdict.code(),
+        }
+    }
+}

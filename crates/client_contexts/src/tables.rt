@@ -1,0 +1,38 @@
+//! Requests that create what functions compare samples with, or look them up in: lookup tables
+//! and thresholds.
+ghost use Rattle.vx_base.specs.Object.{LutObject, ThresholdObject};
+ghost use Rattle.client_contexts.specs.Images.{create};
+ghost use Rattle.client_contexts.specs.Steps.{MayComeTo};
+
+use crate::context::Context;
+use crate::fault::RequestFault;
+use crate::limits::Limits;
+use crate::object::Object;
+use crate::refusal::Refusal;
+use crate::reply::Reply;
+use vx_base::{Lut, ThresholdRule};
+
+/// Creates a lookup table like this one.
+pub fn create_lut(context: &mut Context, limits: Limits, lut: &Lut) -> Result<Reply, RequestFault>
+    ensures { MayComeTo (create limits context.old (LutObject lut.now)) context.old context.new result }
+{
+    if !context.has_room(limits, 0) {
+        return Err(RequestFault::Refused(Refusal::NoResources));
+    }
+    let copy = lut.copy(context.allocator())?;
+    Ok(Reply::Name(context.add(Object::Lut(copy))?))
+}
+
+/// Creates a threshold.
+pub fn create_threshold(
+    context: &mut Context,
+    limits: Limits,
+    threshold: ThresholdRule,
+) -> Result<Reply, RequestFault>
+    ensures { MayComeTo (create limits context.old (ThresholdObject threshold)) context.old context.new result }
+{
+    if !context.has_room(limits, 0) {
+        return Err(RequestFault::Refused(Refusal::NoResources));
+    }
+    Ok(Reply::Name(context.add(Object::Threshold(threshold))?))
+}

@@ -1,0 +1,40 @@
+-- What a verdict has to know of the objects that a node names: their kinds, sizes and formats.
+use Rattle.std.specs.Prelude.{Bool, true, List, ◌++◌, Option, Some, option_to_list}
+use Rattle.vx_base.specs.declared.format.Format.{Format}
+use Rattle.vx_base.specs.declared.kind.Kind.{Kind}
+use Rattle.vx_base.specs.declared.kind.Kind.TheVariants as kind
+use Rattle.vx_base.specs.Description.{same_size}
+use Rattle.vx_base.specs.Image.{description_of}
+use Rattle.vx_base.specs.Object.{ObjectValue, ImageObject, LutObject, ThresholdObject}
+use Rattle.graph_verify.specs.declared.operand.Operand.{Operand}
+use Rattle.graph_verify.specs.declared.operand.Operand.TheVariants.{Image, Lut, Threshold}
+use Rattle.graph_verify.specs.declared.operand.Operands.{Operands}
+
+-- what an object is as an operand
+abbrev pub operand_of : ObjectValue → Operand
+operand_of (ImageObject image) = Image (description_of image)
+operand_of (LutObject lut) = Lut lut.format
+operand_of (ThresholdObject threshold) = Threshold threshold.format
+
+abbrev pub operand_kind : Operand → Kind
+operand_kind (Image d) = kind.Image
+operand_kind (Lut format) = kind.Lut
+operand_kind (Threshold format) = kind.Threshold
+
+-- the format of an image's samples, of a table's entries, or of the samples that a threshold tests
+abbrev pub operand_format : Operand → Option Format
+operand_format (Image d) = Some d.format
+operand_format (Lut format) = Some format
+operand_format (Threshold format) = Some format
+
+-- whether two operands are of one size, as far as both are images
+abbrev pub are_of_one_size : Operand → Operand → Bool
+are_of_one_size (Image d) (Image e) = same_size d e
+are_of_one_size a b = true
+
+-- the operands that a node writes, and those beside its first input
+abbrev pub written_operands : Operands → List Operand
+written_operands o = option_to_list o.out1 ++ option_to_list o.out2
+
+abbrev pub other_operands : Operands → List Operand
+other_operands o = option_to_list o.in2 ++ written_operands o

@@ -1,0 +1,49 @@
+//! What a verdict has to know of the objects that a node names.
+ghost use Rattle.std.specs.Prelude.{◌≡◌};
+
+use vx_base::{Desc, Format, Kind};
+
+/// An object that a node names, by its kind, and by what verdicts ask of that kind.
+#[derive(Clone, Copy, PartialEq, Eq, Debug)]
+pub enum Operand {
+    /// An image of this size and format.
+    Image(Desc),
+    /// A lookup table of samples of this format.
+    Lut(Format),
+    /// A threshold of samples of this format.
+    Threshold(Format),
+}
+
+/// The operands of a node, as far as it has them.
+#[derive(Clone, Copy, PartialEq, Eq, Debug)]
+pub struct Operands {
+    pub in1: Operand,
+    pub in2: Option<Operand>,
+    pub out1: Option<Operand>,
+    pub out2: Option<Operand>,
+}
+
+impl Operand {
+    ghost use Rattle.graph_verify.specs.Operand.{operand_kind, operand_format};
+
+    pub fn kind(self) -> Kind
+        ensures { result ≡ operand_kind self }
+    {
+        match self {
+            Operand::Image(_) => Kind::Image,
+            Operand::Lut(_) => Kind::Lut,
+            Operand::Threshold(_) => Kind::Threshold,
+        }
+    }
+
+    /// The format of an image's samples, of a table's entries, or of the samples that a threshold
+    /// tests.
+    pub fn format(self) -> Option<Format>
+        ensures { result ≡ operand_format self }
+    {
+        match self {
+            Operand::Image(desc) => Some(desc.format()),
+            Operand::Lut(format) | Operand::Threshold(format) => Some(format),
+        }
+    }
+}
