@@ -4,17 +4,17 @@ use Rattle.std.specs.Prelude.{All, filter, ◌&&◌, ◌==◌}
 use Rattle.std.proofs.lemmas.List.{map_push}
 use Rattle.std.proofs.lemmas.List.Elements.{filter-append}
 use Rattle.std.proofs.lemmas.Bool.{eqb-true}
-use Rattle.vx_requests.specs.Spelling.{Said}
-use Rattle.vx_requests.specs.Frames.{Frame, ReplyFrame}
-use Rattle.vx_requests.specs.Clients.{Marked, reply_to, no_memory, frames_of, is_kept_of, mine, kept_replies, answer_frame, after, alone, reply_in, state_then, states_behind, served_behind, served}
+use Rattle.vx_requests.specs.Frame.Frames.{Frame, ReplyFrame}
+use Rattle.vx_requests.specs.Serving.Clients.{Received, reply_to, no_memory, frames_of, is_kept_of, mine, kept_replies, answer_frame, after, alone, reply_in, state_then, states_after, served_after, served}
+use Rattle.vx_wire.specs.Replies.{Said}
 
 -- a frame at the end is its client's, if it was kept
-pub mine-push : (client : ℕ) (marked : List Marked) (m : Marked)
+pub mine-push : (client : ℕ) (marked : List Received) (m : Received)
     → mine client (marked ++ m ∷ []) ≡ cond (is_kept_of client m) (mine client marked ++ m.frame ∷ []) (mine client marked)
 mine-push client marked m =
-    ap (map (λ (x : Marked). x.frame)) (filter-append (is_kept_of client) marked (m ∷ [])) ∙ elim (is_kept_of client m) as (λ b. map (λ (x : Marked). x.frame) (filter (is_kept_of client) marked ++ cond b (m ∷ []) []) ≡ cond b (mine client marked ++ m.frame ∷ []) (mine client marked)) [
-      | true ↦ map_push (λ (x : Marked). x.frame) (filter (is_kept_of client) marked) m
-      | false ↦ ap (map (λ (x : Marked). x.frame)) (append-nil (filter (is_kept_of client) marked))
+    ap (map (λ (x : Received). x.frame)) (filter-append (is_kept_of client) marked (m ∷ [])) ∙ elim (is_kept_of client m) as (λ b. map (λ (x : Received). x.frame) (filter (is_kept_of client) marked ++ cond b (m ∷ []) []) ≡ cond b (mine client marked ++ m.frame ∷ []) (mine client marked)) [
+      | true ↦ map_push (λ (x : Received). x.frame) (filter (is_kept_of client) marked) m
+      | false ↦ ap (map (λ (x : Received). x.frame)) (append-nil (filter (is_kept_of client) marked))
     ]
 
 both : {P : Type 0} (a b : Bool) → (a && not b) ≡ true → (a ≡ true → P) → P × (b ≡ false)
@@ -31,25 +31,25 @@ tells true = inl refl
 tells false = inr refl
 
 -- a kept frame is its client's, and isn't lost
-kept_is : (client : ℕ) (m : Marked) → is_kept_of client m ≡ true → (m.frame.client ≡ client) × (m.lost ≡ false)
+kept_is : (client : ℕ) (m : Received) → is_kept_of client m ≡ true → (m.frame.client ≡ client) × (m.lost ≡ false)
 kept_is client m kept = both (eqb m.frame.client client) m.lost kept (eqb-true m.frame.client client)
 
-kept_of : (client : ℕ) (m : Marked) → m.frame.client ≡ client → m.lost ≡ false → is_kept_of client m ≡ true
+kept_of : (client : ℕ) (m : Received) → m.frame.client ≡ client → m.lost ≡ false → is_kept_of client m ≡ true
 kept_of client m same kept = ap (λ b. (m.frame.client == client) && not b) kept ∙ ap (λ b. b && true) (eq-eqb m.frame.client client same)
 
-abbrev AllKept : ℕ → List Marked → Type 0
+abbrev AllKept : ℕ → List Received → Type 0
 AllKept client marked = All (λ m. (m.frame.client ≡ client) × (m.lost ≡ false)) marked
 
 -- where all frames are kept frames of the client, they are its kept frames
-mine-all : (client : ℕ) (marked : List Marked) → AllKept client marked → mine client marked ≡ frames_of marked
+mine-all : (client : ℕ) (marked : List Received) → AllKept client marked → mine client marked ≡ frames_of marked
 mine-all client [] each = refl
 mine-all client (m ∷ marked) each =
     let first = each 0 m (omega arith) in
-    ap (λ b. map (λ (x : Marked). x.frame) (cond b (m ∷ filter (is_kept_of client) marked) (filter (is_kept_of client) marked))) (kept_of client m first.0 first.1)
+    ap (λ b. map (λ (x : Received). x.frame) (cond b (m ∷ filter (is_kept_of client) marked) (filter (is_kept_of client) marked))) (kept_of client m first.0 first.1)
     ∙ ap (λ l. m.frame ∷ l) (mine-all client marked (λ k d within. each (suc k) d (omega arith)))
 
 -- and all replies stand at them
-kept_replies-all : (client : ℕ) (marked : List Marked) (replies : List ReplyFrame) → AllKept client marked → length replies ≡ length marked
+kept_replies-all : (client : ℕ) (marked : List Received) (replies : List ReplyFrame) → AllKept client marked → length replies ≡ length marked
     → kept_replies client marked replies ≡ replies
 kept_replies-all client [] [] each long = refl
 kept_replies-all client [] (r ∷ replies) each long = cc
@@ -64,77 +64,77 @@ module _ {S : Type 0} (answer : S → ℕ → List ℕ → Said × S) where
   after-push state [] f = refl
   after-push state (g ∷ frames) f = after-push (answer_frame answer state g).1 frames f
 
-  pub states_behind-push : (start : ℕ → S) (marked : List Marked) (m : Marked) (client : ℕ)
-      → states_behind answer start (marked ++ m ∷ []) client ≡ state_then answer (states_behind answer start marked) m client
-  states_behind-push start marked m client =
-      ap (after answer (start client)) (mine-push client marked m) ∙ elim (is_kept_of client m) as (λ b. after answer (start client) (cond b (mine client marked ++ m.frame ∷ []) (mine client marked)) ≡ cond b (answer_frame answer (states_behind answer start marked client) m.frame).1 (states_behind answer start marked client)) [
+  pub states_after-push : (start : ℕ → S) (marked : List Received) (m : Received) (client : ℕ)
+      → states_after answer start (marked ++ m ∷ []) client ≡ state_then answer (states_after answer start marked) m client
+  states_after-push start marked m client =
+      ap (after answer (start client)) (mine-push client marked m) ∙ elim (is_kept_of client m) as (λ b. after answer (start client) (cond b (mine client marked ++ m.frame ∷ []) (mine client marked)) ≡ cond b (answer_frame answer (states_after answer start marked client) m.frame).1 (states_after answer start marked client)) [
         | true ↦ after-push (start client) (mine client marked) m.frame
         | false ↦ refl
       ]
 
-  served_behind-push : (start : ℕ → S) (before marked : List Marked) (m : Marked)
-      → served_behind answer start before (marked ++ m ∷ []) ≡ served_behind answer start before marked ++ reply_in answer (states_behind answer start (before ++ marked)) m ∷ []
-  served_behind-push start before [] m = ap (λ l. reply_in answer (states_behind answer start l) m ∷ []) (sym (append-nil before))
-  served_behind-push start before (x ∷ marked) m =
-      ap (λ l. reply_in answer (states_behind answer start before) x ∷ l) (served_behind-push start (before ++ x ∷ []) marked m
-      ∙ ap (λ l. served_behind answer start (before ++ x ∷ []) marked ++ reply_in answer (states_behind answer start l) m ∷ []) (append_assoc before (x ∷ []) marked))
+  served_after-push : (start : ℕ → S) (before marked : List Received) (m : Received)
+      → served_after answer start before (marked ++ m ∷ []) ≡ served_after answer start before marked ++ reply_in answer (states_after answer start (before ++ marked)) m ∷ []
+  served_after-push start before [] m = ap (λ l. reply_in answer (states_after answer start l) m ∷ []) (sym (append-nil before))
+  served_after-push start before (x ∷ marked) m =
+      ap (λ l. reply_in answer (states_after answer start before) x ∷ l) (served_after-push start (before ++ x ∷ []) marked m
+      ∙ ap (λ l. served_after answer start (before ++ x ∷ []) marked ++ reply_in answer (states_after answer start l) m ∷ []) (append_assoc before (x ∷ []) marked))
 
-  pub served-push : (start : ℕ → S) (marked : List Marked) (m : Marked)
-      → served answer start (marked ++ m ∷ []) ≡ served answer start marked ++ reply_in answer (states_behind answer start marked) m ∷ []
-  served-push start marked m = served_behind-push start [] marked m
+  pub served-push : (start : ℕ → S) (marked : List Received) (m : Received)
+      → served answer start (marked ++ m ∷ []) ≡ served answer start marked ++ reply_in answer (states_after answer start marked) m ∷ []
+  served-push start marked m = served_after-push start [] marked m
 
   -- only the states of the clients matter
-  pub reply_in-same : (old new : ℕ → S) (m : Marked) → ((client : ℕ) → new client ≡ old client) → reply_in answer new m ≡ reply_in answer old m
+  pub reply_in-same : (old new : ℕ → S) (m : Received) → ((client : ℕ) → new client ≡ old client) → reply_in answer new m ≡ reply_in answer old m
   reply_in-same old new m same = ap (λ s. cond m.lost (no_memory m.frame) (reply_to m.frame (answer_frame answer s m.frame).0)) (same m.frame.client)
 
-  pub state_then-same : (old new : ℕ → S) (m : Marked) (client : ℕ) → ((client : ℕ) → new client ≡ old client) → state_then answer new m client ≡ state_then answer old m client
+  pub state_then-same : (old new : ℕ → S) (m : Received) (client : ℕ) → ((client : ℕ) → new client ≡ old client) → state_then answer new m client ≡ state_then answer old m client
   state_then-same old new m client same = ap (λ s. cond (is_kept_of client m) (answer_frame answer s m.frame).1 s) (same client)
 
-  pub length-served_behind : (start : ℕ → S) (before marked : List Marked) → length (served_behind answer start before marked) ≡ length marked
-  length-served_behind start before [] = refl
-  length-served_behind start before (m ∷ marked) = ap suc (length-served_behind start (before ++ m ∷ []) marked)
+  pub length-served_after : (start : ℕ → S) (before marked : List Received) → length (served_after answer start before marked) ≡ length marked
+  length-served_after start before [] = refl
+  length-served_after start before (m ∷ marked) = ap suc (length-served_after start (before ++ m ∷ []) marked)
 
-  -- a client's kept replies, behind other frames
-  pub each_alone_behind : (start : ℕ → S) (before marked : List Marked) (client : ℕ)
-      → kept_replies client marked (served_behind answer start before marked) ≡ alone answer (states_behind answer start before client) (mine client marked)
-  each_alone_behind start before [] client = refl
-  each_alone_behind start before (m ∷ marked) client =
-      let rest = each_alone_behind start (before ++ m ∷ []) marked client in
-      let next = states_behind-push start before m client in
+  -- a client's kept replies, after other frames
+  pub each_alone_after : (start : ℕ → S) (before marked : List Received) (client : ℕ)
+      → kept_replies client marked (served_after answer start before marked) ≡ alone answer (states_after answer start before client) (mine client marked)
+  each_alone_after start before [] client = refl
+  each_alone_after start before (m ∷ marked) client =
+      let rest = each_alone_after start (before ++ m ∷ []) marked client in
+      let next = states_after-push start before m client in
       elim (tells (is_kept_of client m)) [
         | inl kept ↦
             let of = kept_is client m kept in
-            ap (λ b. cond b (reply_in answer (states_behind answer start before) m ∷ kept_replies client marked (served_behind answer start (before ++ m ∷ []) marked)) (kept_replies client marked (served_behind answer start (before ++ m ∷ []) marked))) kept
-            ∙ ap (λ b. cond b (no_memory m.frame) (reply_to m.frame (answer_frame answer (states_behind answer start before m.frame.client) m.frame).0) ∷ kept_replies client marked (served_behind answer start (before ++ m ∷ []) marked)) of.1
-            ∙ ap (λ n. reply_to m.frame (answer_frame answer (states_behind answer start before n) m.frame).0 ∷ kept_replies client marked (served_behind answer start (before ++ m ∷ []) marked)) of.0
-            ∙ ap (λ l. reply_to m.frame (answer_frame answer (states_behind answer start before client) m.frame).0 ∷ l) (rest ∙ ap (λ s. alone answer s (mine client marked)) (next ∙ ap (λ b. cond b (answer_frame answer (states_behind answer start before client) m.frame).1 (states_behind answer start before client)) kept))
-            ∙ sym (ap (λ b. alone answer (states_behind answer start before client) (map (λ (x : Marked). x.frame) (cond b (m ∷ filter (is_kept_of client) marked) (filter (is_kept_of client) marked)))) kept)
+            ap (λ b. cond b (reply_in answer (states_after answer start before) m ∷ kept_replies client marked (served_after answer start (before ++ m ∷ []) marked)) (kept_replies client marked (served_after answer start (before ++ m ∷ []) marked))) kept
+            ∙ ap (λ b. cond b (no_memory m.frame) (reply_to m.frame (answer_frame answer (states_after answer start before m.frame.client) m.frame).0) ∷ kept_replies client marked (served_after answer start (before ++ m ∷ []) marked)) of.1
+            ∙ ap (λ n. reply_to m.frame (answer_frame answer (states_after answer start before n) m.frame).0 ∷ kept_replies client marked (served_after answer start (before ++ m ∷ []) marked)) of.0
+            ∙ ap (λ l. reply_to m.frame (answer_frame answer (states_after answer start before client) m.frame).0 ∷ l) (rest ∙ ap (λ s. alone answer s (mine client marked)) (next ∙ ap (λ b. cond b (answer_frame answer (states_after answer start before client) m.frame).1 (states_after answer start before client)) kept))
+            ∙ sym (ap (λ b. alone answer (states_after answer start before client) (map (λ (x : Received). x.frame) (cond b (m ∷ filter (is_kept_of client) marked) (filter (is_kept_of client) marked)))) kept)
         | inr other ↦
-            ap (λ b. cond b (reply_in answer (states_behind answer start before) m ∷ kept_replies client marked (served_behind answer start (before ++ m ∷ []) marked)) (kept_replies client marked (served_behind answer start (before ++ m ∷ []) marked))) other
-            ∙ rest ∙ ap (λ s. alone answer s (mine client marked)) (next ∙ ap (λ b. cond b (answer_frame answer (states_behind answer start before client) m.frame).1 (states_behind answer start before client)) other)
-            ∙ sym (ap (λ b. alone answer (states_behind answer start before client) (map (λ (x : Marked). x.frame) (cond b (m ∷ filter (is_kept_of client) marked) (filter (is_kept_of client) marked)))) other)
+            ap (λ b. cond b (reply_in answer (states_after answer start before) m ∷ kept_replies client marked (served_after answer start (before ++ m ∷ []) marked)) (kept_replies client marked (served_after answer start (before ++ m ∷ []) marked))) other
+            ∙ rest ∙ ap (λ s. alone answer s (mine client marked)) (next ∙ ap (λ b. cond b (answer_frame answer (states_after answer start before client) m.frame).1 (states_after answer start before client)) other)
+            ∙ sym (ap (λ b. alone answer (states_after answer start before client) (map (λ (x : Received). x.frame) (cond b (m ∷ filter (is_kept_of client) marked) (filter (is_kept_of client) marked)))) other)
       ]
 
-  pub each_alone : (start : ℕ → S) (marked : List Marked) (client : ℕ) → kept_replies client marked (served answer start marked) ≡ alone answer (start client) (mine client marked)
-  each_alone start marked client = each_alone_behind start [] marked client
+  pub each_alone : (start : ℕ → S) (marked : List Received) (client : ℕ) → kept_replies client marked (served answer start marked) ≡ alone answer (start client) (mine client marked)
+  each_alone start marked client = each_alone_after start [] marked client
 
   -- where all frames are kept frames of one client
-  pub one_client : (start : ℕ → S) (marked : List Marked) (client : ℕ) → All (λ m. (m.frame.client ≡ client) × (m.lost ≡ false)) marked
+  pub one_client : (start : ℕ → S) (marked : List Received) (client : ℕ) → All (λ m. (m.frame.client ≡ client) × (m.lost ≡ false)) marked
       → served answer start marked ≡ alone answer (start client) (frames_of marked)
   one_client start marked client each =
-      sym (kept_replies-all client marked (served answer start marked) each (length-served_behind start [] marked))
+      sym (kept_replies-all client marked (served answer start marked) each (length-served_after start [] marked))
       ∙ each_alone start marked client ∙ ap (alone answer (start client)) (mine-all client marked each)
 
-  pub isolated : (start other : ℕ → S) (marked others : List Marked) (client : ℕ) → start client ≡ other client → mine client marked ≡ mine client others
+  pub isolated : (start other : ℕ → S) (marked others : List Received) (client : ℕ) → start client ≡ other client → mine client marked ≡ mine client others
       → kept_replies client marked (served answer start marked) ≡ kept_replies client others (served answer other others)
   isolated start other marked others client same agree =
       each_alone start marked client ∙ ap (λ s. alone answer s (mine client marked)) same ∙ ap (alone answer (other client)) agree ∙ sym (each_alone other others client)
 
   -- where the model never says 1, a lost frame shows
-  pub lost_shows_behind : ((state : S) (op : ℕ) (body : List ℕ) → ((answer state op body).0.code == 1) ≡ false) → (start : ℕ → S) (before marked : List Marked)
-      → map (λ (r : ReplyFrame). r.code == 1) (served_behind answer start before marked) ≡ map (λ (m : Marked). m.lost) marked
-  lost_shows_behind never start before [] = refl
-  lost_shows_behind never start before (m ∷ marked) =
-      let here : ((reply_in answer (states_behind answer start before) m).code == 1) ≡ m.lost = shows m.lost (no_memory m.frame) (reply_to m.frame (answer_frame answer (states_behind answer start before m.frame.client) m.frame).0) refl (never _ _ _) in
-      ap (λ b. b ∷ map (λ (r : ReplyFrame). r.code == 1) (served_behind answer start (before ++ m ∷ []) marked)) here
-      ∙ ap (λ l. m.lost ∷ l) (lost_shows_behind never start (before ++ m ∷ []) marked)
+  pub lost_shows_after : ((state : S) (op : ℕ) (body : List ℕ) → ((answer state op body).0.code == 1) ≡ false) → (start : ℕ → S) (before marked : List Received)
+      → map (λ (r : ReplyFrame). r.code == 1) (served_after answer start before marked) ≡ map (λ (m : Received). m.lost) marked
+  lost_shows_after never start before [] = refl
+  lost_shows_after never start before (m ∷ marked) =
+      let here : ((reply_in answer (states_after answer start before) m).code == 1) ≡ m.lost = shows m.lost (no_memory m.frame) (reply_to m.frame (answer_frame answer (states_after answer start before m.frame.client) m.frame).0) refl (never _ _ _) in
+      ap (λ b. b ∷ map (λ (r : ReplyFrame). r.code == 1) (served_after answer start (before ++ m ∷ []) marked)) here
+      ∙ ap (λ l. m.lost ∷ l) (lost_shows_after never start (before ++ m ∷ []) marked)

@@ -5,7 +5,7 @@ use Rattle.std.specs.Int.{w16, w32, to_be_bytes, from_be_bytes}
 use Rattle.std.proofs.lemmas.Bool.{cases_lt}
 use Rattle.std.proofs.lemmas.List.Elements.{All-cons, All-drop}
 use Rattle.std.proofs.lemmas.Nat.{be_bytes_2, be_bytes_4}
-use Rattle.vx_requests.specs.Frames.{Frame, IsFrame, IsLength, IsRest, Splits, said_length, frame_bytes, joined}
+use Rattle.vx_requests.specs.Frame.Frames.{Frame, IsFrame, IsLength, IsRest, Splits, said_length, frame_bytes, joined}
 
 abbrev IsBytes : List ℕ → Type 0
 IsBytes stream = All (λ byte. byte < 256) stream
@@ -18,8 +18,8 @@ only_rest : (stream : List ℕ) → IsRest stream → HasSplit stream
 only_rest stream is = ([], stream, record { whole = refl; each = λ k d within. absurd (omega arith); rest_is = is })
 
 -- a frame before others
-one_more : (f : Frame) (stream behind : List ℕ) → IsFrame f → stream ≡ frame_bytes f ++ behind → HasSplit behind → HasSplit stream
-one_more f stream behind is e (frames, rest, split) = (
+one_more : (f : Frame) (stream later : List ℕ) → IsFrame f → stream ≡ frame_bytes f ++ later → HasSplit later → HasSplit stream
+one_more f stream later is e (frames, rest, split) = (
   f ∷ frames,
   rest,
   record {
@@ -44,7 +44,7 @@ two_bytes a b p q (suc (suc i)) = omega arith
 
 -- the frame that stands at the front, where the bytes say an allowed length and have a frame of it
 first_frame : (stream : List ℕ) → IsBytes stream → 4 ≤ length stream → IsLength (said_length stream) → said_length stream + 4 ≤ length stream
-    → (f : Frame) × (behind : List ℕ) × IsFrame f × (stream ≡ frame_bytes f ++ behind) × (length behind < length stream) × IsBytes behind
+    → (f : Frame) × (later : List ℕ) × IsFrame f × (stream ≡ frame_bytes f ++ later) × (length later < length stream) × IsBytes later
 first_frame [] bytes four ok whole = absurd (omega arith)
 first_frame (a ∷ []) bytes four ok whole = absurd (omega arith)
 first_frame (a ∷ b ∷ []) bytes four ok whole = absurd (omega arith)
@@ -56,7 +56,7 @@ first_frame (a ∷ b ∷ c ∷ d ∷ e ∷ g ∷ op ∷ tail) bytes four ok whol
     let said : ℕ = from_be_bytes w32 (a ∷ b ∷ c ∷ d ∷ []) in
     let client : ℕ = from_be_bytes w16 (e ∷ g ∷ []) in
     let body : List ℕ = take (said - 3) tail in
-    let behind : List ℕ = drop (said - 3) tail in
+    let later : List ℕ = drop (said - 3) tail in
     let byte : (i : ℕ) → i < 7 → get_or (a ∷ b ∷ c ∷ d ∷ e ∷ g ∷ op ∷ tail) i 0 < 256 = λ i within. bytes i 0 (omega arith) in
     let size : length body ≡ said - 3 = length-take-le (said - 3) tail (omega (arith, ok.0, whole)) in
     let long : length body + 3 ≡ said = omega (arith, ok.0, size) in
@@ -64,15 +64,15 @@ first_frame (a ∷ b ∷ c ∷ d ∷ e ∷ g ∷ op ∷ tail) bytes four ok whol
     be_bytes_4 (a ∷ b ∷ c ∷ d ∷ []) (length body + 3) refl (four_bytes a b c d (byte 0 (omega arith)) (byte 1 (omega arith)) (byte 2 (omega arith)) (byte 3 (omega arith))) long in
     let sender : to_be_bytes w16 client ≡ e ∷ g ∷ [] =
     be_bytes_2 (e ∷ g ∷ []) client refl (two_bytes e g (byte 4 (omega arith)) (byte 5 (omega arith))) refl in
-    let rest : body ++ behind ≡ tail = take-append-drop (said - 3) tail in
+    let rest : body ++ later ≡ tail = take-append-drop (said - 3) tail in
     let fifth : e < 256 = byte 4 (omega arith) in
     let sixth : g < 256 = byte 5 (omega arith) in
-    let whole_frame : (to_be_bytes w32 (length body + 3) ++ (to_be_bytes w16 client ++ op ∷ body)) ++ behind ≡ a ∷ b ∷ c ∷ d ∷ e ∷ g ∷ op ∷ tail =
-    ap (λ l. (l ++ (to_be_bytes w16 client ++ op ∷ body)) ++ behind) front
-    ∙ ap (λ l. ((a ∷ b ∷ c ∷ d ∷ []) ++ (l ++ op ∷ body)) ++ behind) sender
+    let whole_frame : (to_be_bytes w32 (length body + 3) ++ (to_be_bytes w16 client ++ op ∷ body)) ++ later ≡ a ∷ b ∷ c ∷ d ∷ e ∷ g ∷ op ∷ tail =
+    ap (λ l. (l ++ (to_be_bytes w16 client ++ op ∷ body)) ++ later) front
+    ∙ ap (λ l. ((a ∷ b ∷ c ∷ d ∷ []) ++ (l ++ op ∷ body)) ++ later) sender
     ∙ ap (λ l. a ∷ b ∷ c ∷ d ∷ e ∷ g ∷ op ∷ l) rest in (
       record { client = client; op = op; body = body },
-      behind,
+      later,
       record { client = omega arith; op = byte 6 (omega arith); len = omega (arith, ok.1, long) },
       sym whole_frame,
       omega (arith, length-drop (said - 3) tail),
@@ -95,8 +95,8 @@ split_within (suc n) stream fits bytes =
                       elim (cases_lt (length stream) (said_length stream + 4)) [
                         | inl begun ↦ only_rest stream (inl (λ _. ((least, greatest), begun)))
                         | inr whole ↦
-                            let (f, behind, is, e, fewer, more) = first_frame stream bytes four (least, greatest) whole in
-                            one_more f stream behind is e (split_within n behind (omega arith) more)
+                            let (f, later, is, e, fewer, more) = first_frame stream bytes four (least, greatest) whole in
+                            one_more f stream later is e (split_within n later (omega arith) more)
                       ]
                 ]
           ]

@@ -1,5 +1,6 @@
 pub mod TransferSteps
 pub mod Pieces
+pub mod ReadCounts
 pub mod WrittenPieces
 pub mod PictureFrames
 pub mod FrameReplies
@@ -9,19 +10,5 @@ pub mod Progress
 pub mod OneSplit
 pub mod EverySplit
 pub mod AnswerCodes
-pub mod GrammarFaults
-pub mod NodeShape
-pub mod FunctionNumbers
-pub mod TableSizes
-pub mod SampleBytes
 pub mod RequestFrames
-pub mod SpelledFields
-pub mod SpelledNode
-pub mod SpelledObjects
-pub mod SpelledBack
-pub mod ReadFields
-pub mod ReadSamples
-pub mod ReadNode
-pub mod ReadObjects
-pub mod OneSpelling
 pub mod RequestSizes

@@ -3,7 +3,7 @@ use Rattle.std.proofs.Common.{◌≡◌, ℕ, ◌+◌, suc, List, [], ◌∷◌,
 use Rattle.std.specs.Prelude.{All}
 use Rattle.std.specs.Int.{w16, from_be_bytes}
 use Rattle.std.proofs.lemmas.Nat.{from_be_bytes-to_be_bytes_4, from_be_bytes-to_be_bytes_2}
-use Rattle.vx_requests.specs.Frames.{Frame, IsFrame, IsRest, Splits, said_length, frame_bytes, joined}
+use Rattle.vx_requests.specs.Frame.Frames.{Frame, IsFrame, IsRest, Splits, said_length, frame_bytes, joined}
 
 frame_eq : (f g : Frame) → f.client ≡ g.client → f.op ≡ g.op → f.body ≡ g.body → f ≡ g
 frame_eq f g p q r =
@@ -26,8 +26,8 @@ same_front f g x y is is' e =
     let op : f.op ≡ g.op = ap (λ l. get_or l 6 0) e in
     let rest : f.body ++ x ≡ g.body ++ y = ap (drop 7) e in
     let body : f.body ≡ g.body = sym (take_at f.body x (length f.body) refl) ∙ ap (take (length f.body)) rest ∙ take_at g.body y (length f.body) long in
-    let behind : x ≡ y = sym (drop_at f.body x (length f.body) refl) ∙ ap (drop (length f.body)) rest ∙ drop_at g.body y (length f.body) long in
-    (frame_eq f g client op body, behind)
+    let later : x ≡ y = sym (drop_at f.body x (length f.body) refl) ∙ ap (drop (length f.body)) rest ∙ drop_at g.body y (length f.body) long in
+    (frame_eq f g client op body, later)
 
 pub no_prefix : (f g : Frame) (more : List ℕ) → IsFrame f → IsFrame g → frame_bytes g ≡ frame_bytes f ++ more → more ≡ []
 no_prefix f g more is is' e = sym (same_front g f [] more is' is (append-nil (frame_bytes g) ∙ e)).1

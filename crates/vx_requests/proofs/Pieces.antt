@@ -1,11 +1,11 @@
 -- Pieces read or written one after the other.
-use Rattle.std.proofs.Common.{ℕ, ◌+◌, ◌≤◌, List, [], ◌++◌, Option, Result, Ok, Err, arith, length, sym, ap, ◌∙◌, append_assoc, append-nil, length-append}
+use Rattle.std.proofs.Common.{ℕ, ◌+◌, ◌≤◌, List, [], ◌++◌, Option, Result, Ok, Err, arith, length, sym, append-nil, length-append}
 use Rattle.std.specs.Prelude.{OnOk, OnErr}
 use Rattle.std.specs.Io.KnownBytes.{Consumes, Appends, Keeps}
-use Rattle.std.proofs.KnownBytes.{Consumes-trans, Appends-trans, Appends-kept}
-use Rattle.vx_requests.specs.declared.fault.StreamFault.{StreamFault}
-use Rattle.vx_requests.specs.Transfer.{AppendsPart, AppendsFront}
-use Rattle.vx_requests.specs.Session.{ReadsPart}
+use Rattle.std.proofs.KnownBytes.{Consumes-trans, Appends-kept}
+use Rattle.vx_requests.specs.declared.stream.fault.StreamFault.{StreamFault}
+use Rattle.vx_requests.specs.Stream.Transfer.{AppendsPart, AppendsFront}
+use Rattle.vx_requests.specs.Frame.Reading.{ReadsPart}
 
 -- what holds in any case holds in either
 pub on_ok : {T E P : Type 0} (r : Result T E) → P → OnOk r P
@@ -20,16 +20,10 @@ on_err (Err e) p = p
 pub part_front : (a b : Option (List ℕ)) (x : List ℕ) → AppendsPart a b x → AppendsFront a b x
 part_front a b x (front, rest, e, some, p) = (front, rest, e, p)
 
-pub front_of : (a b : Option (List ℕ)) (x y : List ℕ) → AppendsFront a b x → AppendsFront a b (x ++ y)
-front_of a b x y (front, rest, e, p) = (front, rest ++ y, ap (λ l. l ++ y) e ∙ append_assoc front rest y, p)
-
-pub front_behind : (a b c : Option (List ℕ)) (x y : List ℕ) → Appends a b x → AppendsFront b c y → AppendsFront a c (x ++ y)
-front_behind a b c x y p (front, rest, e, q) = (x ++ front, rest, ap (λ l. x ++ l) e ∙ sym (append_assoc x front rest), Appends-trans a b c x front p q)
-
 -- all was written, and the flush failed
 pub whole_front : (a b c : Option (List ℕ)) (x : List ℕ) → Appends a b x → Keeps b c → AppendsFront a c x
 whole_front a b c x p r = (x, [], sym (append-nil x), Appends-kept a b c x p r)
 
 -- some bytes, and then fewer than were wanted
-pub part_behind : (a b c : Option (List ℕ)) (bytes : List ℕ) (n m : ℕ) (e : StreamFault) → Consumes a b bytes → length bytes + n ≤ m → ReadsPart b c n e → ReadsPart a c m e
-part_behind a b c bytes n m e p fits (part, q, fewer, breaks) = (bytes ++ part, Consumes-trans a b c bytes part p q, omega (arith, length-append bytes part), breaks)
+pub part_after : (a b c : Option (List ℕ)) (bytes : List ℕ) (n m : ℕ) (e : StreamFault) → Consumes a b bytes → length bytes + n ≤ m → ReadsPart b c n e → ReadsPart a c m e
+part_after a b c bytes n m e p fits (part, q, fewer, breaks) = (bytes ++ part, Consumes-trans a b c bytes part p q, omega (arith, length-append bytes part), breaks)

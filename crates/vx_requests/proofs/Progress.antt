@@ -1,30 +1,34 @@
 -- How far serve has come, and how it ends.
-use Rattle.std.proofs.Common.{◌≡◌, ℕ, ◌+◌, Bool, true, false, cond, not, List, [], ◌∷◌, ◌++◌, Option, None, Ok, Err, inl, inr, length, arith, refl, sym, ap, ◌∙◌, subst, append-nil, zero-add}
+use Rattle.std.proofs.Common.{◌≡◌, ℕ, ◌+◌, Bool, true, false, cond, not, List, [], ◌∷◌, ◌++◌, Option, None, Result, Ok, Err, inl, inr, length, arith, refl, sym, ap, ◌∙◌, subst, append-nil, zero-add}
 use Rattle.std.specs.Prelude.{All, count_by, ◌==◌}
 use Rattle.std.specs.Io.KnownBytes.{Consumes, Appends}
 use Rattle.std.proofs.KnownBytes.{Consumes-nil, Appends-nil, Consumes-trans, Appends-trans}
 use Rattle.std.proofs.lemmas.List.{map_push, flat_map_more, length_push}
 use Rattle.std.proofs.lemmas.List.Elements.{All-push}
 use Rattle.std.proofs.lemmas.List.Sums.{sum_by-append}
-use Rattle.vx_requests.specs.declared.fault.StreamFault.{StreamFault}
-use Rattle.vx_requests.specs.declared.fault.StreamFault.TheVariants.{Truncated, BadLength, ReadFailed, WriteFailed, ReaderWouldNotEnd}
+use Rattle.vx_requests.specs.declared.stream.fault.StreamFault.{StreamFault}
+use Rattle.vx_requests.specs.declared.stream.fault.StreamFault.TheVariants.{WriteFailed}
 use Rattle.client_contexts.specs.Allowance.{Allowance}
 use Rattle.client_contexts.specs.Context.{State}
-use Rattle.vx_requests.specs.declared.summary.Summary.{Summary}
-use Rattle.vx_requests.specs.Frames.{Frame, ReplyFrame, IsFrame, frame_bytes, reply_bytes, joined, joined_replies}
-use Rattle.vx_requests.specs.Clients.{Marked, frames_of, served, reply_in, state_then, states_behind}
-use Rattle.vx_requests.specs.Answer.{answer}
-use Rattle.vx_requests.specs.Session.{AnswersFrame, Turn, Session, EndsBy, BreaksOff, MayBeLost}
-use Rattle.vx_requests.proofs.Alone.{states_behind-push, served-push, reply_in-same, state_then-same}
+use Rattle.vx_requests.specs.declared.serving.summary.Summary.{Summary}
+use Rattle.vx_requests.specs.Frame.Frames.{Frame, ReplyFrame, IsFrame, frame_bytes, reply_bytes, joined, joined_replies}
+use Rattle.vx_requests.specs.Serving.Clients.{Received, frames_of, served, reply_in, state_then, states_after}
+use Rattle.vx_requests.specs.Serving.Answer.{answer}
+use Rattle.vx_requests.specs.Serving.Lost.{MayBeLost}
+use Rattle.vx_requests.specs.Frame.Reading.{BreaksOff}
+use Rattle.vx_requests.specs.Serving.Turn.{ServesFrame, Turn}
+use Rattle.vx_requests.specs.Serving.Ends.{EndsBy}
+use Rattle.vx_requests.specs.Serving.Session.{Session}
+use Rattle.vx_requests.proofs.Alone.{states_after-push, served-push, reply_in-same, state_then-same}
 
 -- some whole frames were read and answered
 pub record Progress (limits : Allowance) (left_old left_now taken_old taken_now : Option (List ℕ)) (old now : ℕ → State) (requests refused : ℕ) : Type 0 where
-  pub marked : List Marked
+  pub marked : List Received
   pub frames : All IsFrame (frames_of marked)
   pub lost : All (λ m. m.lost ≡ true → MayBeLost m.frame) marked
   pub read : Consumes left_old left_now (joined (frames_of marked))
   pub wrote : Appends taken_old taken_now (joined_replies (served (answer limits) old marked))
-  pub states : (client : ℕ) → now client ≡ states_behind (answer limits) old marked client
+  pub states : (client : ℕ) → now client ≡ states_after (answer limits) old marked client
   pub requests_are : requests ≡ length (served (answer limits) old marked)
   pub refused_are : refused ≡ count_by (λ r. not (r.code == 0)) (served (answer limits) old marked)
 
@@ -46,8 +50,8 @@ joined_push frames f = sym (flat_map_more frame_bytes [] frames f)
 joined_replies_push : (replies : List ReplyFrame) (r : ReplyFrame) → joined_replies (replies ++ r ∷ []) ≡ joined_replies replies ++ reply_bytes r
 joined_replies_push replies r = sym (flat_map_more reply_bytes [] replies r)
 
-frames_of-push : (marked : List Marked) (m : Marked) → frames_of (marked ++ m ∷ []) ≡ frames_of marked ++ m.frame ∷ []
-frames_of-push marked m = map_push (λ (x : Marked). x.frame) marked m
+frames_of-push : (marked : List Received) (m : Received) → frames_of (marked ++ m ∷ []) ≡ frames_of marked ++ m.frame ∷ []
+frames_of-push marked m = map_push (λ (x : Received). x.frame) marked m
 
 turned : (b : Bool) → cond {A = ℕ} (not b) 1 0 ≡ cond b 0 1
 turned true = refl
@@ -60,76 +64,78 @@ count_push replies r =
 
 -- what a reader's fault leaves
 breaks_ends : (e : StreamFault) (rest : List ℕ) (left to u : Option (List ℕ)) (replies : List ReplyFrame) → BreaksOff e rest left → Appends to u (joined_replies replies) → EndsBy e rest left to u replies
-breaks_ends Truncated rest left to u replies breaks wrote = (breaks.0, breaks.1, wrote)
-breaks_ends BadLength rest left to u replies breaks wrote = (breaks.0, breaks.1, wrote)
-breaks_ends ReadFailed rest left to u replies breaks wrote = (breaks, wrote)
 breaks_ends WriteFailed rest left to u replies breaks wrote = absurd breaks
-breaks_ends ReaderWouldNotEnd rest left to u replies breaks wrote = (breaks, wrote)
+breaks_ends e rest left to u replies breaks wrote = (breaks, wrote)
 
 module _ (limits : Allowance) (a b c to t u : Option (List ℕ)) (old mid new : ℕ → State) where
   -- the marked frame of a turn
-  frames_more : {requests refused : ℕ} (p : Progress limits a b to t old mid requests refused) (m : Marked) → IsFrame m.frame → All IsFrame (frames_of (p.marked ++ m ∷ []))
+  frames_more : {requests refused : ℕ} (p : Progress limits a b to t old mid requests refused) (m : Received) → IsFrame m.frame → All IsFrame (frames_of (p.marked ++ m ∷ []))
   frames_more p m is = subst (All IsFrame) (sym (frames_of-push p.marked m)) (All-push IsFrame (frames_of p.marked) m.frame p.frames is)
 
-  read_more : {requests refused : ℕ} (p : Progress limits a b to t old mid requests refused) (m : Marked) → Consumes b c (frame_bytes m.frame) → Consumes a c (joined (frames_of (p.marked ++ m ∷ [])))
+  read_more : {requests refused : ℕ} (p : Progress limits a b to t old mid requests refused) (m : Received) → Consumes b c (frame_bytes m.frame) → Consumes a c (joined (frames_of (p.marked ++ m ∷ [])))
   read_more p m read = subst (Consumes a c) (sym (ap joined (frames_of-push p.marked m) ∙ joined_push (frames_of p.marked) m.frame)) (Consumes-trans a b c _ _ p.read read)
 
-  states_more : {requests refused : ℕ} (p : Progress limits a b to t old mid requests refused) (m : Marked) → ((client : ℕ) → new client ≡ state_then (answer limits) mid m client)
-      → (client : ℕ) → new client ≡ states_behind (answer limits) old (p.marked ++ m ∷ []) client
-  states_more p m states client = states client ∙ state_then-same (answer limits) (states_behind (answer limits) old p.marked) mid m client p.states ∙ sym (states_behind-push (answer limits) old p.marked m client)
+  states_more : {requests refused : ℕ} (p : Progress limits a b to t old mid requests refused) (m : Received) → ((client : ℕ) → new client ≡ state_then (answer limits) mid m client)
+      → (client : ℕ) → new client ≡ states_after (answer limits) old (p.marked ++ m ∷ []) client
+  states_more p m states client = states client ∙ state_then-same (answer limits) (states_after (answer limits) old p.marked) mid m client p.states ∙ sym (states_after-push (answer limits) old p.marked m client)
 
-  served_more : {requests refused : ℕ} (p : Progress limits a b to t old mid requests refused) (m : Marked)
+  served_more : {requests refused : ℕ} (p : Progress limits a b to t old mid requests refused) (m : Received)
       → served (answer limits) old (p.marked ++ m ∷ []) ≡ served (answer limits) old p.marked ++ reply_in (answer limits) mid m ∷ []
-  served_more p m = served-push (answer limits) old p.marked m ∙ ap (λ r. served (answer limits) old p.marked ++ r ∷ []) (sym (reply_in-same (answer limits) (states_behind (answer limits) old p.marked) mid m p.states))
+  served_more p m = served-push (answer limits) old p.marked m ∙ ap (λ r. served (answer limits) old p.marked ++ r ∷ []) (sym (reply_in-same (answer limits) (states_after (answer limits) old p.marked) mid m p.states))
 
-  pub went_on : (requests refused code : ℕ) → Progress limits a b to t old mid requests refused → AnswersFrame limits b c t u mid new (Ok code)
+  pub went_on : (requests refused code : ℕ) → Progress limits a b to t old mid requests refused → ServesFrame limits b c t u mid new (Ok code)
       → Progress limits a c to u old new (requests + 1) (refused + cond (code == 0) 0 1)
-  went_on requests refused code p (f, is, read, answered) =
-      let m : Marked = record { frame = f; lost = answered.lost } in
+  went_on requests refused code p (f, reply, is, read, answered, writes) =
+      let m : Received = record { frame = f; lost = answered.lost } in
       let more = served_more p m in
       record {
         marked = p.marked ++ m ∷ [];
         frames = frames_more p m is;
-        lost = All-push (λ (x : Marked). x.lost ≡ true → MayBeLost x.frame) p.marked m p.lost answered.may;
+        lost = All-push (λ (x : Received). x.lost ≡ true → MayBeLost x.frame) p.marked m p.lost answered.may;
         read = read_more p m read;
-        wrote = subst (Appends to u) (sym (ap joined_replies more ∙ joined_replies_push (served (answer limits) old p.marked) (reply_in (answer limits) mid m))) (Appends-trans to t u _ _ p.wrote answered.writes.0);
+        wrote = subst (Appends to u) (sym (ap joined_replies more ∙ joined_replies_push (served (answer limits) old p.marked) (reply_in (answer limits) mid m))) (Appends-trans to t u _ _ p.wrote (subst (λ r. Appends t u (reply_bytes r)) answered.said writes.0));
         states = states_more p m answered.states;
         requests_are = ap (λ n. n + 1) p.requests_are ∙ sym (ap length more ∙ length_push (served (answer limits) old p.marked) (reply_in (answer limits) mid m));
         refused_are = ap (λ n. n + cond (code == 0) 0 1) p.refused_are
-            ∙ ap (λ n. count_by (λ r. not (r.code == 0)) (served (answer limits) old p.marked) + cond (n == 0) 0 1) answered.writes.1
+            ∙ ap (λ n. count_by (λ r. not (r.code == 0)) (served (answer limits) old p.marked) + cond (n == 0) 0 1) (writes.1 ∙ ap (λ (r : ReplyFrame). r.code) answered.said)
             ∙ sym (ap (count_by (λ r. not (r.code == 0))) more ∙ count_push (served (answer limits) old p.marked) (reply_in (answer limits) mid m));
       }
 
   pub ended_well : (s : Summary) → Progress limits a b to t old mid s.requests s.refused → Turn limits b c t u mid new (Ok None) → Session limits a c to u old new (Ok s)
-  ended_well s p (read, end, nothing) = record {
+  ended_well s p (read, end, same, wrote) = record {
     marked = p.marked;
     rest = [];
     frames = p.frames;
     lost = p.lost;
     read = Consumes-trans a b c _ [] p.read read;
-    ends = (refl, end, subst (Appends to u) (append-nil _) (Appends-trans to t u _ [] p.wrote nothing.1), p.requests_are, p.refused_are);
-    states = λ client. nothing.0 client ∙ p.states client;
+    ends = (refl, end, subst (Appends to u) (append-nil _) (Appends-trans to t u _ [] p.wrote wrote), p.requests_are, p.refused_are);
+    states = λ client. same client ∙ p.states client;
   }
 
   pub broke_off : (requests refused : ℕ) (e : StreamFault) → Progress limits a b to t old mid requests refused → Turn limits b c t u mid new (Err e) → Session limits a c to u old new (Err e)
-  broke_off requests refused e p (inl (rest, read, breaks, nothing)) = record {
+  broke_off requests refused e p (inl (rest, read, breaks, same, wrote)) = record {
     marked = p.marked;
     rest = rest;
     frames = p.frames;
     lost = p.lost;
     read = Consumes-trans a b c _ rest p.read read;
-    ends = breaks_ends e rest c to u _ breaks (subst (Appends to u) (append-nil _) (Appends-trans to t u _ [] p.wrote nothing.1));
-    states = λ client. nothing.0 client ∙ p.states client;
+    ends = breaks_ends e rest c to u _ breaks (subst (Appends to u) (append-nil _) (Appends-trans to t u _ [] p.wrote wrote));
+    states = λ client. same client ∙ p.states client;
   }
-  broke_off requests refused e p (inr (f, is, read, answered)) =
-      let m : Marked = record { frame = f; lost = answered.lost } in
+  broke_off requests refused e p (inr (f, reply, is, read, answered, writes)) =
+      let m : Received = record { frame = f; lost = answered.lost } in
       record {
         marked = p.marked ++ m ∷ [];
         rest = [];
         frames = frames_more p m is;
-        lost = All-push (λ (x : Marked). x.lost ≡ true → MayBeLost x.frame) p.marked m p.lost answered.may;
+        lost = All-push (λ (x : Received). x.lost ≡ true → MayBeLost x.frame) p.marked m p.lost answered.may;
         read = subst (Consumes a c) (sym (append-nil _)) (read_more p m read);
-        ends = subst (λ (f : StreamFault). EndsBy f [] c to u (served (answer limits) old (p.marked ++ m ∷ []))) (sym answered.writes.0)
-            (refl, (served (answer limits) old p.marked, reply_in (answer limits) mid m, answered.writes.1.0, answered.writes.1.1, served_more p m, answered.writes.1.2, Appends-trans to t u _ _ p.wrote answered.writes.1.3));
+        ends = subst (λ (f : StreamFault). EndsBy f [] c to u (served (answer limits) old (p.marked ++ m ∷ []))) (sym writes.0)
+            (refl, (served (answer limits) old p.marked, reply_in (answer limits) mid m, writes.1.0, writes.1.1, served_more p m, ap reply_bytes (sym answered.said) ∙ writes.1.2, Appends-trans to t u _ _ p.wrote writes.1.3));
         states = states_more p m answered.states;
       }
+
+-- the bytes that are left, under another name
+pub left_there : (limits : Allowance) (a b c to u : Option (List ℕ)) (old new : ℕ → State) (result : Result Summary StreamFault) → b ≡ c
+    → Session limits a b to u old new result → Session limits a c to u old new result
+left_there limits a b c to u old new result same did = subst (λ left. Session limits a left to u old new result) same did

@@ -4,7 +4,7 @@ use Rattle.std.proofs.lemmas.Slice.{take-put_mid_below}
 use Rattle.std.proofs.lemmas.List.{take_rest}
 use Rattle.std.specs.Io.KnownBytes.{Consumes, Appends}
 use Rattle.std.proofs.KnownBytes.{Consumes-trans, Appends-trans}
-use Rattle.vx_requests.specs.Calls.{failed_writes}
+use Rattle.vx_requests.specs.Stream.Calls.{failed_writes}
 use borrow.Rule.Slice.PartMut.{put_mid, post_of}
 use lib.Seq.{take-add, take-append-le}
 
@@ -18,7 +18,7 @@ take-put_mid from n xs ys within fits =
     let back : drop from all ≡ ys ++ post_of from room xs = drop_at (take from xs) (ys ++ post_of from room xs) from (length-take-le from xs within) in
     take-add from n all ∙ ap (λ l. l ++ take n (drop from all)) front ∙ ap (λ l. take from xs ++ take n l) back ∙ ap (λ l. take from xs ++ l) (take-append-le n ys (post_of from room xs) fits)
 
--- n more bytes were read, behind the first from of the buffer
+-- n more bytes were read, after the first from of the buffer
 pub reads_more : (a b c : Option (List ℕ)) (from n : ℕ) (xs ys : List ℕ) → from ≤ length xs → n ≤ length ys
     → Consumes a b (take from xs) → Consumes b c (take n ys) → Consumes a c (take (from + n) (put_mid from (length xs - from) xs ys))
 reads_more a b c from n xs ys within fits before read =

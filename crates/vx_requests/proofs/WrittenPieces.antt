@@ -1,13 +1,17 @@
 -- Bytes that are written one piece after the other.
-use Rattle.std.proofs.Common.{◌≡◌, ℕ, pos, List, [], ◌∷◌, ◌++◌, Option, refl, sym, ap, subst, ◌∙◌, append_assoc, map, arith, length-append}
+use Rattle.std.proofs.Common.{◌≡◌, ℕ, pos, List, [], ◌∷◌, ◌++◌, Option, Result, Ok, Err, ◌+◌, refl, sym, ap, subst, ◌∙◌, append_assoc, map, arith, length-append}
 use Rattle.std.specs.List.{flat_map}
-use Rattle.std.specs.Int.{w32, to_be_bytes}
-use Rattle.std.specs.Io.KnownBytes.{Appends}
-use Rattle.std.proofs.KnownBytes.{Appends-trans}
+use Rattle.std.specs.Prelude.{IfErr}
+use Rattle.std.specs.Io.KnownBytes.{Appends, Keeps}
+use Rattle.std.proofs.KnownBytes.{Appends-trans, Appends-kept}
 use Rattle.std.proofs.lemmas.Grind.{flat_map-append}
 use Rattle.vx_base.specs.declared.format.Format.TheVariants.{U8, U32}
-use Rattle.vx_requests.specs.Transfer.{AppendsPart}
-use Rattle.vx_requests.specs.Spelling.{sample_spelling}
+use Rattle.vx_requests.specs.declared.stream.fault.StreamFault.{StreamFault}
+use Rattle.vx_requests.specs.declared.stream.fault.StreamFault.TheVariants.{WriteFailed}
+use Rattle.vx_requests.specs.Stream.Calls.{failed_calls}
+use Rattle.vx_requests.specs.Stream.Transfer.{AppendsPart, Writes, Sends}
+use Rattle.vx_requests.proofs.Pieces.{on_ok, on_err, part_front, whole_front}
+use Rattle.vx_wire.specs.Samples.{encoded_sample}
 
 -- the first of two pieces failed
 pub AppendsPart-first : (a b : Option (List ℕ)) (x y : List ℕ) → AppendsPart a b x → AppendsPart a b (x ++ y)
@@ -19,30 +23,86 @@ pub AppendsPart-second : (a b c : Option (List ℕ)) (x y : List ℕ) → Append
 AppendsPart-second a b c x y before (front, rest, e, some, appended) =
     (x ++ front, rest, ap (λ l. x ++ l) e ∙ sym (append_assoc x front rest), some, Appends-trans a b c x front before appended)
 
-module _ {A : Type 0} (f : A → List ℕ) (a b c : Option (List ℕ)) (all done rest front behind : List A) where
+module _ {A : Type 0} (f : A → List ℕ) (a b c : Option (List ℕ)) (all done rest front back : List A) where
   -- a block more was written
-  pub block_more : all ≡ done ++ rest → rest ≡ front ++ behind → Appends a b (flat_map f done) → Appends b c (flat_map f front)
-      → (more : List A) × (all ≡ more ++ behind) × Appends a c (flat_map f more)
+  pub block_more : all ≡ done ++ rest → rest ≡ front ++ back → Appends a b (flat_map f done) → Appends b c (flat_map f front)
+      → (more : List A) × (all ≡ more ++ back) × Appends a c (flat_map f more)
   block_more e split before wrote = (
     done ++ front,
-    e ∙ ap (λ l. done ++ l) split ∙ sym (append_assoc done front behind),
+    e ∙ ap (λ l. done ++ l) split ∙ sym (append_assoc done front back),
     subst (Appends a c) (sym (flat_map-append f done front)) (Appends-trans a b c (flat_map f done) (flat_map f front) before wrote),
   )
 
   -- a block failed
-  pub block_part : all ≡ done ++ rest → rest ≡ front ++ behind → Appends a b (flat_map f done) → AppendsPart b c (flat_map f front)
+  pub block_part : all ≡ done ++ rest → rest ≡ front ++ back → Appends a b (flat_map f done) → AppendsPart b c (flat_map f front)
       → AppendsPart a c (flat_map f all)
   block_part e split before wrote =
-      let whole : flat_map f all ≡ flat_map f done ++ (flat_map f front ++ flat_map f behind) =
-      ap (flat_map f) e ∙ flat_map-append f done rest ∙ ap (λ l. flat_map f done ++ flat_map f l) split ∙ ap (λ l. flat_map f done ++ l) (flat_map-append f front behind) in
+      let whole : flat_map f all ≡ flat_map f done ++ (flat_map f front ++ flat_map f back) =
+      ap (flat_map f) e ∙ flat_map-append f done rest ∙ ap (λ l. flat_map f done ++ flat_map f l) split ∙ ap (λ l. flat_map f done ++ l) (flat_map-append f front back) in
       subst (AppendsPart a c) (sym whole)
-      (AppendsPart-second a b c (flat_map f done) (flat_map f front ++ flat_map f behind) before (AppendsPart-first b c (flat_map f front) (flat_map f behind) wrote))
+      (AppendsPart-second a b c (flat_map f done) (flat_map f front ++ flat_map f back) before (AppendsPart-first b c (flat_map f front) (flat_map f back) wrote))
+
+module _ {K : Type 0} (taken : K → Option (List ℕ)) (failures : K → ℕ) where
+  -- the first of two pieces failed
+  pub Writes-first : {T U : Type 0} (a b : K) (x y both : List ℕ) (e : StreamFault) → x ++ y ≡ both → Writes {T = T} taken failures a b x (Err e) → Writes {T = U} taken failures a b both (Err e)
+  Writes-first a b x y both e joined wrote = record {
+    ok = tt;
+    err = subst (AppendsPart (taken a) (taken b)) joined (AppendsPart-first (taken a) (taken b) x y wrote.err);
+    fault = wrote.fault;
+    failed = wrote.failed;
+  }
+
+  -- the second of two pieces was written, or failed
+  pub Writes-then : {T U : Type 0} (a b c : K) (x y both : List ℕ) (u : T) (result : Result U StreamFault) → x ++ y ≡ both
+      → Writes {T = T} taken failures a b x (Ok u) → Writes {T = U} taken failures b c y result → Writes taken failures a c both result
+  Writes-then a b c x y both u (Ok v) joined before wrote = record {
+    ok = subst (Appends (taken a) (taken c)) joined (Appends-trans (taken a) (taken b) (taken c) x y before.ok wrote.ok);
+    err = tt;
+    fault = tt;
+    failed = omega (arith, before.failed, wrote.failed);
+  }
+  Writes-then a b c x y both u (Err e) joined before wrote = record {
+    ok = tt;
+    err = subst (AppendsPart (taken a) (taken c)) joined (AppendsPart-second (taken a) (taken b) (taken c) x y before.ok wrote.err);
+    fault = wrote.fault;
+    failed = omega (arith, before.failed, wrote.failed);
+  }
+
+  -- what failed before the flush
+  pub Sends-failed : {T U : Type 0} (a b : K) (bytes : List ℕ) (e : StreamFault) → Writes {T = T} taken failures a b bytes (Err e) → Sends {T = U} taken failures a b bytes (Err e)
+  Sends-failed a b bytes e wrote = record {
+    ok = tt;
+    err = part_front (taken a) (taken b) bytes wrote.err;
+    fault = wrote.fault;
+    failed = wrote.failed;
+  }
+
+  -- all was written, and then the sink was flushed
+  pub Sends-flushed : {T U : Type 0} (a b c : K) (bytes : List ℕ) (u : T) (result : Result U StreamFault) → Writes {T = T} taken failures a b bytes (Ok u)
+      → Keeps (taken b) (taken c) → IfErr result (λ e. e ≡ WriteFailed) → failures c ≡ failures b + failed_calls result → Sends taken failures a c bytes result
+  Sends-flushed a b c bytes u result wrote kept fault failed = record {
+    ok = on_ok result (Appends-kept (taken a) (taken b) (taken c) bytes wrote.ok kept);
+    err = on_err result (whole_front (taken a) (taken b) (taken c) bytes wrote.ok kept);
+    fault = fault;
+    failed = omega (arith, wrote.failed, failed);
+  }
+
+  -- a block failed, after others that were written
+  pub Writes-block : {A T U : Type 0} (f : A → List ℕ) (a b c : K) (all done rest front back : List A) (e : StreamFault) → all ≡ done ++ rest → rest ≡ front ++ back
+      → Appends (taken a) (taken b) (flat_map f done) → failures b ≡ failures a → Writes {T = T} taken failures b c (flat_map f front) (Err e)
+      → Writes {T = U} taken failures a c (flat_map f all) (Err e)
+  Writes-block f a b c all done rest front back e whole split before fewer wrote = record {
+    ok = tt;
+    err = block_part f (taken a) (taken b) (taken c) all done rest front back whole split before wrote.err;
+    fault = wrote.fault;
+    failed = omega (arith, fewer, wrote.failed);
+  }
 
 -- a byte's sample is the byte
-pub flat_map-bytes : (bytes : List ℕ) → flat_map (sample_spelling U8) (map pos bytes) ≡ bytes
+pub flat_map-bytes : (bytes : List ℕ) → flat_map (encoded_sample U8) (map pos bytes) ≡ bytes
 flat_map-bytes [] = refl
 flat_map-bytes (b ∷ bytes) = ap (λ l. b ∷ l) (flat_map-bytes bytes)
 
-pub flat_map-words : (words : List ℕ) → flat_map (sample_spelling U32) (map pos words) ≡ flat_map (to_be_bytes w32) words
+pub flat_map-words : (words : List ℕ) → flat_map (encoded_sample U32) (map pos words) ≡ flat_map (λ n. encoded_sample U32 (pos n)) words
 flat_map-words [] = refl
-flat_map-words (n ∷ words) = ap (λ l. to_be_bytes w32 n ++ l) (flat_map-words words)
+flat_map-words (n ∷ words) = ap (λ l. encoded_sample U32 (pos n) ++ l) (flat_map-words words)

@@ -1,14 +1,3 @@
-pub mod Calls
-pub mod FromRead
-pub mod FromWrite
-pub mod Transfer
-pub mod Fields
-pub mod NodeFields
-pub mod ObjectFields
-pub mod Bodies
-pub mod Spelling
-pub mod Frames
-pub mod Clients
-pub mod Answer
-pub mod Session
-pub mod Requests
+pub mod Stream
+pub mod Frame
+pub mod Serving

@@ -1,4 +1,4 @@
 //! What the definitions mean: functions that do nothing, whose contracts are facts.
 
-pub mod bodies;
+pub mod frames;
 pub mod streams;

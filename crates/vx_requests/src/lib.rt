@@ -1,48 +1,23 @@
 //! Requests and replies as streams of bytes.
 //!
-//! Requests come from a `Source` and replies go to a `Sink`, which tell how many of their calls
-//! failed, and where they can, which bytes they gave and took. `FromRead` and `FromWrite` make them
-//! of std's readers and writers. `fill` and `write_all` move whole buffers; on these stand the
-//! frames, the bodies of requests and the serving of a stream. A call that fails ends the stream,
-//! with a `StreamFault`: nothing is tried again.
+//! - `stream`: a `Source` gives bytes and a `Sink` takes them, and both tell how many of their
+//!   calls failed, and where they can, which bytes they gave and took; `FromRead` and `FromWrite`
+//!   make them of std's readers and writers; `fill` and `write_all` move whole buffers.
+//! - `frame`: the length, the client, the op and the body of a request as they are read, and frames
+//!   of requests (`write_request`) and of replies (`write_reply`) as they are written.
+//! - `serving`: a stream of requests answered frame by frame (`serve`), and its `Summary`.
+//! - `laws::frames`, `laws::streams`: what the definitions of `specs/Serving` mean.
+//!
+//! The headline is `Session` (`specs/Serving/Session.antt`), the clause `session` of `serve`.
 #![tactic(auto)]
 
-mod bodies;
 pub mod examples;
-mod fault;
-mod fields;
-mod from_read;
-mod from_write;
+mod frame;
 pub mod laws;
-mod node_fields;
-mod object_fields;
-mod parse_fault;
-mod pictures;
-mod presence;
-mod reading;
-mod requests;
-mod samples_field;
 mod serving;
-mod sink;
-mod source;
-mod spelled_samples;
-mod spelling;
-mod summary;
-mod transfer;
-mod writing;
+mod stream;
 
-pub use bodies::parse;
-pub use fault::{Failed, StreamFault};
-pub use from_read::FromRead;
-pub use from_write::FromWrite;
-pub use parse_fault::ParseFault;
-pub use requests::write_request;
-pub use serving::serve;
-pub use sink::Sink;
-pub use source::Source;
-pub use summary::Summary;
-pub use transfer::{fill, write_all};
-pub use writing::write_reply;
-
-#[cfg(test)]
-mod tests;
+pub use frame::{write_reply, write_request};
+pub use serving::{Summary, serve};
+pub use stream::{Failed, FromRead, FromWrite, Sink, Source, StreamFault, fill, write_all};
+pub use vx_wire::{ParseFault, parse};

@@ -2,12 +2,13 @@
 ghost use Rattle.std.specs.Prelude.{◌≡◌, ℕ, ◌<◌, false, List, [], ◌++◌, ◌==◌, map, All, Option, Some, Result};
 ghost use Rattle.client_contexts.specs.Allowance.{Allowance};
 ghost use Rattle.client_contexts.specs.Context.{State};
-ghost use Rattle.vx_requests.specs.declared.fault.StreamFault.{StreamFault};
-ghost use Rattle.vx_requests.specs.declared.summary.Summary.{Summary};
-ghost use Rattle.vx_requests.specs.Frames.{Frame, IsFrame, frame_bytes, Splits};
-ghost use Rattle.vx_requests.specs.Clients.{Marked, mine, kept_replies, alone, served, frames_of};
-ghost use Rattle.vx_requests.specs.Answer.{answer};
-ghost use Rattle.vx_requests.specs.Session.{Session, ReadsToARest};
+ghost use Rattle.vx_requests.specs.declared.stream.fault.StreamFault.{StreamFault};
+ghost use Rattle.vx_requests.specs.declared.serving.summary.Summary.{Summary};
+ghost use Rattle.vx_requests.specs.Frame.Frames.{Frame, IsFrame, frame_bytes, Splits};
+ghost use Rattle.vx_requests.specs.Serving.Clients.{Received, mine, kept_replies, alone, served, frames_of};
+ghost use Rattle.vx_requests.specs.Serving.Answer.{answer};
+ghost use Rattle.vx_requests.specs.Serving.Ends.{ReadsToARest};
+ghost use Rattle.vx_requests.specs.Serving.Session.{Session};
 
 /// No frame is a proper prefix of another frame.
 pub fn no_prefix()
@@ -29,14 +30,14 @@ pub fn one_split()
 
 /// Each client's kept replies are those that it would get alone.
 pub fn each_alone()
-    ensures { (limits : Allowance) (start : ℕ → State) (marked : List Marked) (client : ℕ) →
+    ensures { (limits : Allowance) (start : ℕ → State) (marked : List Received) (client : ℕ) →
         kept_replies client marked (served (answer limits) start marked)
         ≡ alone (answer limits) (start client) (mine client marked) }
 {}
 
 /// Where all frames are of one client and none was lost, the replies are those to these frames.
 pub fn one_client()
-    ensures { (limits : Allowance) (start : ℕ → State) (marked : List Marked) (client : ℕ) →
+    ensures { (limits : Allowance) (start : ℕ → State) (marked : List Received) (client : ℕ) →
         All (λ m. (m.frame.client ≡ client) × (m.lost ≡ false)) marked →
         served (answer limits) start marked ≡ alone (answer limits) (start client) (frames_of marked) }
 {}
@@ -45,7 +46,7 @@ pub fn one_client()
 /// same replies.
 pub fn isolated()
     ensures { (limits : Allowance) (start other : ℕ → State)
-        (marked others : List Marked) (client : ℕ) →
+        (marked others : List Received) (client : ℕ) →
         start client ≡ other client → mine client marked ≡ mine client others →
         kept_replies client marked (served (answer limits) start marked)
         ≡ kept_replies client others (served (answer limits) other others) }
@@ -53,7 +54,7 @@ pub fn isolated()
 
 /// A frame was lost exactly where its reply's code is 1, NO_MEMORY.
 pub fn lost_shows()
-    ensures { (limits : Allowance) (start : ℕ → State) (marked : List Marked) →
+    ensures { (limits : Allowance) (start : ℕ → State) (marked : List Received) →
         map (λ r. r.code == 1) (served (answer limits) start marked) ≡ map (λ m. m.lost) marked }
 {}
 

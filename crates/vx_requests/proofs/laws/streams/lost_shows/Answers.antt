@@ -1,8 +1,8 @@
 use Rattle.std.proofs.Common.{[]}
-use Rattle.vx_requests.specs.Answer.{answer}
-use Rattle.vx_requests.proofs.Alone.{lost_shows_behind}
+use Rattle.vx_requests.specs.Serving.Answer.{answer}
+use Rattle.vx_requests.proofs.Alone.{lost_shows_after}
 use Rattle.vx_requests.proofs.AnswerCodes.{answer-other}
 use Rattle.vx_requests.proofs.laws.streams.lost_shows.Goals as goal
 
 pub returns : goal.returns
-returns c = λ limits start marked. lost_shows_behind (answer limits) (answer-other limits) start [] marked
+returns c = λ limits start marked. lost_shows_after (answer limits) (answer-other limits) start [] marked

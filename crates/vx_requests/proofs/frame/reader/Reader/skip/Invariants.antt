@@ -1,0 +1,13 @@
+use Rattle.std.proofs.Common.{◌≡◌, ◌+◌, ℕ, List, length, Ok}
+use Rattle.std.specs.Io.KnownBytes.{Consumes}
+use Rattle.vx_requests.specs.Frame.Reading.{KeepsCount}
+use Rattle.vx_requests.proofs.frame.reader.Reader.skip.Given as goal
+
+abbrev pub invariant-loop-rest : goal.invariant-loop-rest
+invariant-loop-rest g l = record {
+  bytes : (done : List ℕ) × Consumes (g.S.Source.left l.initial.self.source.now) (g.S.Source.left l.self.source.now) done × (length done + l.rest ≡ l.count);
+  counted : KeepsCount {T = ℕ} g.S.Source.reads g.S.Source.failures l.initial.self l.self (Ok 0);
+}
+
+abbrev pub decreases-loop-rest : goal.decreases-loop-rest
+decreases-loop-rest g l = l.rest

@@ -1,0 +1,7 @@
+use Rattle.vx_requests.proofs.frame.requests.write_request.Goals as goal
+
+pub returns-in-WriteImage-clause-written : goal.returns-in-WriteImage-clause-written
+returns-in-WriteImage-clause-written g c = rw c.in-WriteImage.is c.write_write_image.ensures
+
+pub returns-in-Immediate-clause-written : goal.returns-in-Immediate-clause-written
+returns-in-Immediate-clause-written g c = rw c.in-Immediate.is (rw (c.number-in-Immediate.ensures, c.node_bytes-body.ensures) at c.write_short-in-Immediate.ensures)

@@ -1,0 +1,90 @@
+-- Request frames, reply frames, and how a stream splits into whole frames and a rest.
+use Rattle.std.specs.Prelude.{◌≡◌, ℕ, ◌+◌, ◌<◌, ◌≤◌, ◌^◌, List, [], ◌∷◌, ◌++◌, length, take, All, ◌⊎◌}
+use Rattle.std.specs.List.{flat_map}
+use Rattle.std.specs.Int.{w16, w32, to_be_bytes, from_be_bytes}
+use Rattle.client_contexts.specs.declared.request.Request.{Request}
+use Rattle.vx_wire.specs.Op.{op_number, op_of}
+use Rattle.vx_wire.specs.Requests.{body_of}
+
+-- a request frame
+pub record Frame : Type 0 where
+  pub client : ℕ
+  pub op : ℕ
+  pub body : List ℕ
+
+-- a reply frame
+pub record ReplyFrame : Type 0 where
+  pub client : ℕ
+  pub op : ℕ
+  pub code : ℕ
+  pub body : List ℕ
+
+abbrev pub frame_of : ℕ → ℕ → List ℕ → Frame
+frame_of client op body = record { client = client; op = op; body = body }
+
+-- the bytes after the length: the client, the op, the body
+abbrev pub payload : Frame → List ℕ
+payload f = to_be_bytes w16 f.client ++ f.op ∷ f.body
+
+-- the length of the payload, and the payload
+abbrev pub frame_bytes : Frame → List ℕ
+frame_bytes f = to_be_bytes w32 (length f.body + 3) ++ payload f
+
+-- what stands before a request's body
+abbrev pub frame_head : ℕ → ℕ → ℕ → List ℕ
+frame_head len client op = to_be_bytes w32 len ++ (to_be_bytes w16 client ++ op ∷ [])
+
+-- what stands before a reply's body
+abbrev pub reply_head : ℕ → ℕ → ℕ → ℕ → List ℕ
+reply_head len client op code = to_be_bytes w32 len ++ (to_be_bytes w16 client ++ op ∷ code ∷ [])
+
+-- the length of the rest, the client, the op, the code, the body
+abbrev pub reply_bytes : ReplyFrame → List ℕ
+reply_bytes r = to_be_bytes w32 (length r.body + 4) ++ (to_be_bytes w16 r.client ++ r.op ∷ r.code ∷ r.body)
+
+-- the frames, joined
+abbrev pub joined : List Frame → List ℕ
+joined frames = flat_map frame_bytes frames
+
+abbrev pub joined_replies : List ReplyFrame → List ℕ
+joined_replies replies = flat_map reply_bytes replies
+
+-- a length that is allowed
+abbrev pub IsLength : ℕ → Type 0
+IsLength n = (3 ≤ n) × (n ≤ 134217728)
+
+-- what can be sent as a frame
+pub record IsFrame (f : Frame) : Type 0 where
+  pub client : f.client < 2 ^ 16
+  pub op : f.op < 2 ^ 8
+  pub len : length f.body + 3 ≤ 134217728
+
+-- the length that the four bytes at the front say
+abbrev pub said_length : List ℕ → ℕ
+said_length bytes = from_be_bytes w32 (take 4 bytes)
+
+-- less than a whole frame, nothing included; one to three bytes always are
+abbrev pub IsBegun : List ℕ → Type 0
+IsBegun rest = 4 ≤ length rest → IsLength (said_length rest) × (length rest < said_length rest + 4)
+
+-- the truncated start of a frame
+abbrev pub IsTruncated : List ℕ → Type 0
+IsTruncated rest = (0 < length rest) × IsBegun rest
+
+-- four bytes of a length that isn't allowed, and whatever follows
+abbrev pub BeginsBadly : List ℕ → Type 0
+BeginsBadly rest = (4 ≤ length rest) × (IsLength (said_length rest) → ⊥)
+
+-- a rest in which no whole frame is left: less than a whole one, or a length that isn't allowed
+abbrev pub IsRest : List ℕ → Type 0
+IsRest rest = IsBegun rest ⊎ BeginsBadly rest
+
+-- the stream is these frames, and after them this rest
+pub record Splits (stream : List ℕ) (frames : List Frame) (rest : List ℕ) : Type 0 where
+  pub whole : stream ≡ joined frames ++ rest
+  pub each : All IsFrame frames
+  pub rest_is : IsRest rest
+
+-- the frame in which a client sends the request
+abbrev pub request_frame : ℕ → Request → Frame
+request_frame client request = record { client = client; op = op_number (op_of request); body = body_of request }

@@ -1,0 +1,53 @@
+-- What reading the parts of a frame does.
+use Rattle.std.specs.Prelude.{◌≡◌, ℕ, ◌+◌, ◌<◌, ◌^◌, List, [], length, Option, Some, None, Result, Ok, Err}
+use Rattle.std.specs.Int.{w32, to_be_bytes}
+use Rattle.std.specs.Io.KnownBytes.{Consumes, IsAtEnd}
+use Rattle.vx_requests.specs.declared.stream.fault.StreamFault.{StreamFault}
+use Rattle.vx_requests.specs.declared.stream.fault.StreamFault.TheVariants.{Truncated, BadLength, ReadFailed, WriteFailed, ReaderWouldNotEnd}
+use Rattle.vx_requests.specs.declared.frame.reader.Reader.{Reader}
+use Rattle.vx_requests.specs.Stream.Transfer.{read_failures, CountsReads}
+use Rattle.vx_requests.specs.Frame.Frames.{IsBegun, IsTruncated, IsLength, said_length}
+
+-- ---- what was read
+
+-- how a stream breaks off within a frame
+abbrev pub BreaksIn : StreamFault → Option (List ℕ) → Type 0
+BreaksIn Truncated left = IsAtEnd left
+BreaksIn ReadFailed left = Unit {0}
+BreaksIn ReaderWouldNotEnd left = Unit {0}
+BreaksIn e left = ⊥
+
+-- how it breaks off after whole frames: what was read then, and what is left
+abbrev pub BreaksOff : StreamFault → (rest : List ℕ) (left : Option (List ℕ)) → Type 0
+BreaksOff Truncated rest left = IsTruncated rest × IsAtEnd left
+BreaksOff BadLength rest left = (length rest ≡ 4) × (IsLength (said_length rest) → ⊥)
+BreaksOff ReadFailed rest left = IsBegun rest
+BreaksOff WriteFailed rest left = ⊥
+BreaksOff ReaderWouldNotEnd rest left = IsBegun rest
+
+-- fewer than len bytes were read, within a frame
+abbrev pub ReadsPart : Option (List ℕ) → Option (List ℕ) → ℕ → StreamFault → Type 0
+ReadsPart old new len e = (part : List ℕ) × Consumes old new part × (length part < len) × BreaksIn e new
+
+-- len bytes were read
+abbrev pub ReadsSome : Option (List ℕ) → Option (List ℕ) → ℕ → Type 0
+ReadsSome old new len = (bytes : List ℕ) × Consumes old new bytes × (length bytes ≡ len)
+
+-- the length of the next frame was read, or the end was there
+abbrev pub ReadsLength : Option (List ℕ) → Option (List ℕ) → Result (Option ℕ) StreamFault → Type 0
+ReadsLength old new (Ok None) = Consumes old new [] × IsAtEnd new
+ReadsLength old new (Ok (Some len)) = IsLength len × Consumes old new (to_be_bytes w32 len)
+ReadsLength old new (Err e) = (rest : List ℕ) × Consumes old new rest × BreaksOff e rest new
+
+-- ---- how often it was read: reads and failures count them for a source
+
+-- the counts have room for the reads that are still allowed
+pub record CanRead {S : Type 0} (reads failures : S → ℕ) (r : Reader S) : Type 0 where
+  pub reads_fit : reads r.source.now + r.budget < 2 ^ 63
+  pub failures_fit : failures r.source.now < 2 ^ 62
+
+-- each read of the source took one of the budget, and each failure was counted
+pub record KeepsCount {S T : Type 0} (reads failures : S → ℕ) (old new : Reader S) (result : Result T StreamFault) : Type 0 where
+  pub source : new.source.ghost_name ≡ old.source.ghost_name
+  pub counted : CountsReads (reads old.source.now) (reads new.source.now) old.budget new.budget result
+  pub failed : failures new.source.now ≡ failures old.source.now + read_failures result

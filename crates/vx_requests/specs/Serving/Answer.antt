@@ -1,0 +1,18 @@
+-- What one client by itself is answered: the body's request, and then the model's answer.
+use Rattle.std.specs.Prelude.{ℕ, List, Result, Ok, Err}
+use Rattle.client_contexts.specs.declared.request.Request.{Request}
+use Rattle.client_contexts.specs.Allowance.{Allowance}
+use Rattle.client_contexts.specs.Context.{State}
+use Rattle.client_contexts.specs.Answer.{answer_to}
+use Rattle.vx_wire.specs.declared.body_fault.BodyFault.{BodyFault}
+use Rattle.vx_wire.specs.Requests.{request_of}
+use Rattle.vx_wire.specs.Replies.{Said, refusal, said_of}
+use Rattle.vx_wire.specs.Faults.{parse_fault, fault_code}
+
+-- a body that spells no request is refused, whether a context is open or not
+abbrev pub answer_spelled : Allowance → State → Result Request BodyFault → Said × State
+answer_spelled limits state (Ok request) = (said_of (answer_to limits state request).0, (answer_to limits state request).1)
+answer_spelled limits state (Err fault) = (refusal (fault_code (parse_fault fault)), state)
+
+unfoldable pub answer : Allowance → State → ℕ → List ℕ → Said × State
+answer limits state op body = answer_spelled limits state (request_of op body)

@@ -1,0 +1,78 @@
+-- What each client of a stream gets, from what one client by itself gets.
+use Rattle.std.specs.Prelude.{ℕ, Bool, not, ◌&&◌, ◌==◌, cond, List, [], ◌∷◌, ◌++◌, map, filter}
+use Rattle.client_contexts.specs.Context.{State, World, state_of}
+use Rattle.vx_requests.specs.Frame.Frames.{Frame, ReplyFrame}
+use Rattle.vx_wire.specs.Replies.{Said}
+
+-- the states of all clients
+abbrev pub states_of : World → ℕ → State
+states_of world client = state_of client world
+
+-- the reply frame of what is said
+abbrev pub spelled : ℕ → ℕ → Said → ReplyFrame
+spelled client op said = record { client = client; op = op; code = said.code; body = said.body }
+
+abbrev pub reply_to : Frame → Said → ReplyFrame
+reply_to f said = spelled f.client f.op said
+
+-- a frame that was received, and whether it was lost for want of memory
+pub record Received : Type 0 where
+  pub frame : Frame
+  pub lost : Bool
+
+abbrev pub frames_of : List Received → List Frame
+frames_of marked = map (λ m. m.frame) marked
+
+-- whether this is a kept frame of the client
+abbrev pub is_kept_of : ℕ → Received → Bool
+is_kept_of client m = (m.frame.client == client) && not m.lost
+
+-- the client's kept frames, in their order
+abbrev pub mine : ℕ → List Received → List Frame
+mine client marked = map (λ m. m.frame) (filter (is_kept_of client) marked)
+
+-- the replies at the client's kept frames
+abbrev pub kept_replies : ℕ → List Received → List ReplyFrame → List ReplyFrame
+kept_replies client [] replies = []
+kept_replies client (m ∷ marked) [] = []
+kept_replies client (m ∷ marked) (r ∷ replies) = cond (is_kept_of client m) (r ∷ kept_replies client marked replies) (kept_replies client marked replies)
+
+-- what a lost frame is answered: NO_MEMORY
+abbrev pub no_memory : Frame → ReplyFrame
+no_memory f = reply_to f (record { code = 1; body = [] })
+
+-- answer gives what is said to an op and a body in a state, and the new state
+module _ {S : Type 0} (answer : S → ℕ → List ℕ → Said × S) where
+  abbrev pub answer_frame : S → Frame → Said × S
+  answer_frame state f = answer state f.op f.body
+
+  -- a client's state after these frames of its own
+  abbrev pub after : S → List Frame → S
+  after state [] = state
+  after state (f ∷ frames) = after (answer_frame state f).1 frames
+
+  -- the replies to these frames of one client; no other client exists
+  abbrev pub alone : S → List Frame → List ReplyFrame
+  alone state [] = []
+  alone state (f ∷ frames) = reply_to f (answer_frame state f).0 ∷ alone (answer_frame state f).1 frames
+
+  -- the reply to a frame, where the clients are in these states: a lost one's is NO_MEMORY
+  abbrev pub reply_in : (ℕ → S) → Received → ReplyFrame
+  reply_in states m = cond m.lost (no_memory m.frame) (reply_to m.frame (answer_frame (states m.frame.client) m.frame).0)
+
+  -- a client's state after the frame
+  abbrev pub state_then : (ℕ → S) → Received → ℕ → S
+  state_then states m client = cond (is_kept_of client m) (answer_frame (states client) m.frame).1 (states client)
+
+  -- each client's state after its own kept frames
+  abbrev pub states_after : (ℕ → S) → List Received → ℕ → S
+  states_after start marked client = after (start client) (mine client marked)
+
+  -- the replies to frames that come after others: each the next of its client alone
+  abbrev pub served_after : (ℕ → S) → List Received → List Received → List ReplyFrame
+  served_after start before [] = []
+  served_after start before (m ∷ marked) = reply_in (states_after start before) m ∷ served_after start (before ++ m ∷ []) marked
+
+  -- one reply for each frame, in order
+  abbrev pub served : (ℕ → S) → List Received → List ReplyFrame
+  served start marked = served_after start [] marked

@@ -1,0 +1,16 @@
+-- Which frames may be lost for want of memory.
+use Rattle.std.specs.Prelude.{◌<◌, length, Result, Ok, Err, ◌⊎◌}
+use Rattle.client_contexts.specs.declared.request.Request.{Request}
+use Rattle.vx_requests.specs.Frame.Frames.{Frame}
+use Rattle.vx_wire.specs.declared.body_fault.BodyFault.{BodyFault}
+use Rattle.client_contexts.specs.Request.{TakesMemory}
+use Rattle.vx_wire.specs.Requests.{request_of, HoldsSamples}
+
+-- a request was spelled for which memory is taken, when its samples are parsed or when it is answered
+abbrev pub SpellsTaking : Result Request BodyFault → Type 0
+SpellsTaking (Ok request) = HoldsSamples request ⊎ TakesMemory request
+SpellsTaking (Err fault) = ⊥
+
+-- one with a body of more than 64 bytes, or a request for which memory is taken
+abbrev pub MayBeLost : Frame → Type 0
+MayBeLost f = (64 < length f.body) ⊎ SpellsTaking (request_of f.op f.body)

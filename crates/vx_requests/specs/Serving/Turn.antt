@@ -1,0 +1,54 @@
+-- One turn of serve: a frame is read and answered, and its reply is written.
+use Rattle.std.specs.Prelude.{◌≡◌, ℕ, ◌+◌, Bool, true, List, [], length, Option, Some, None, Result, Ok, Err, ◌⊎◌}
+use Rattle.std.specs.Io.KnownBytes.{Consumes, Appends, IsAtEnd}
+use Rattle.client_contexts.specs.Allowance.{Allowance}
+use Rattle.client_contexts.specs.Context.{State}
+use Rattle.vx_requests.specs.declared.stream.fault.StreamFault.{StreamFault}
+use Rattle.vx_requests.specs.declared.stream.fault.StreamFault.TheVariants.{WriteFailed}
+use Rattle.vx_requests.specs.declared.serving.answering.Answered.{Answered}
+use Rattle.vx_requests.specs.Stream.Transfer.{AppendsFront}
+use Rattle.vx_requests.specs.Frame.Frames.{Frame, ReplyFrame, IsFrame, payload, frame_bytes, reply_bytes}
+use Rattle.vx_requests.specs.Serving.Answer.{answer}
+use Rattle.vx_requests.specs.Serving.Clients.{spelled, reply_in, state_then}
+use Rattle.vx_requests.specs.Serving.Lost.{MayBeLost}
+use Rattle.vx_requests.specs.Frame.Reading.{BreaksOff, ReadsPart}
+use Rattle.vx_wire.specs.Replies.{said_of}
+
+-- the reply that a frame gets, kept or lost, and the states that it leaves
+pub record IsReply (limits : Allowance) (f : Frame) (old new : ℕ → State) (reply : ReplyFrame) : Type 0 where
+  pub lost : Bool
+  pub may : lost ≡ true → MayBeLost f
+  pub states : (client : ℕ) → new client ≡ state_then (answer limits) old (record { frame = f; lost = lost }) client
+  pub said : reply ≡ reply_in (answer limits) old (record { frame = f; lost = lost })
+
+abbrev pub SameStates : (old new : ℕ → State) → Type 0
+SameStates old new = (client : ℕ) → new client ≡ old client
+
+abbrev pub reply_frame : Answered → ReplyFrame
+reply_frame a = spelled a.client a.op (said_of a.reply)
+
+-- after a length: a whole payload of that length was read and answered, or less than that was read
+module _ (limits : Allowance) (left_old left_new : Option (List ℕ)) (old new : ℕ → State) where
+  abbrev pub AnswersPayload : ℕ → Result Answered StreamFault → Type 0
+  AnswersPayload len (Ok a) = (f : Frame) × IsFrame f × (length f.body + 3 ≡ len) × Consumes left_old left_new (payload f) × IsReply limits f old new (reply_frame a)
+  AnswersPayload len (Err e) = ReadsPart left_old left_new len e × SameStates old new
+
+-- the reply was written, or a front of it
+abbrev pub WritesReply : Option (List ℕ) → Option (List ℕ) → ReplyFrame → Result ℕ StreamFault → Type 0
+WritesReply old new r (Ok code) = Appends old new (reply_bytes r) × (code ≡ r.code)
+WritesReply old new r (Err e) = (e ≡ WriteFailed) × AppendsFront old new (reply_bytes r)
+
+module _ (limits : Allowance) (left_old left_new taken_old taken_new : Option (List ℕ)) (old new : ℕ → State) where
+  -- a whole frame was read, and its reply was written
+  abbrev pub ServesFrame : Result ℕ StreamFault → Type 0
+  ServesFrame result = (f : Frame) × (reply : ReplyFrame) × IsFrame f × Consumes left_old left_new (frame_bytes f) × IsReply limits f old new reply × WritesReply taken_old taken_new reply result
+
+  -- less than a frame was read, and nothing was written
+  abbrev pub ServesNothing : StreamFault → Type 0
+  ServesNothing e = (rest : List ℕ) × Consumes left_old left_new rest × BreaksOff e rest left_new × SameStates old new × Appends taken_old taken_new []
+
+  -- the end, a frame, or a fault
+  abbrev pub Turn : Result (Option ℕ) StreamFault → Type 0
+  Turn (Ok None) = Consumes left_old left_new [] × IsAtEnd left_new × SameStates old new × Appends taken_old taken_new []
+  Turn (Ok (Some code)) = ServesFrame (Ok code)
+  Turn (Err e) = ServesNothing e ⊎ ServesFrame (Err e)

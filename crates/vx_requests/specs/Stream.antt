@@ -1,0 +1,4 @@
+pub mod Calls
+pub mod FromRead
+pub mod FromWrite
+pub mod Transfer

@@ -1,0 +1,33 @@
+//! Requests are within the limits of their types.
+ghost use Rattle.client_contexts.specs.Request.{IsRequest};
+
+use client_contexts::Request;
+
+/// The request is one that the laws of requests speak of. Nothing is done when this runs: the
+/// prover learns what a type keeps where a part is read.
+pub fn is_request(request: &Request)
+    ensures { IsRequest request.now }
+{
+    match request {
+        Request::OpenContext => {}
+        Request::CreateImage(desc) => desc.has_sides(),
+        Request::WriteImage(image, picture) => {
+            image.is_cell();
+            let _samples = picture.samples();
+        }
+        Request::ReadImage(image) => image.is_cell(),
+        Request::CreateLut(lut) => {
+            let _entries = lut.entries();
+        }
+        Request::CreateThreshold(threshold) => {
+            let _parts = (
+                threshold.kind(),
+                threshold.true_value(),
+                threshold.false_value(),
+            );
+        }
+        Request::Immediate(node) => {
+            let _fields = node.node();
+        }
+    }
+}

@@ -1,0 +1,114 @@
+//! The parts of a frame, read from a source.
+ghost use Rattle.std.specs.Prelude.{◌≡◌, ◌<◌, [], ◌∷◌, ◌++◌, length, OnOk, IfOk, IfErr};
+ghost use Rattle.std.specs.Int.{w16, w32, to_be_bytes};
+ghost use Rattle.std.specs.Io.KnownBytes.{Consumes};
+ghost use Rattle.vx_requests.specs.Frame.Reading.{ReadsPart, ReadsSome, ReadsLength, CanRead, KeepsCount};
+
+use crate::stream::{Source, StreamFault, fill};
+
+/// The least number of bytes after a frame's length: those of the client and the op.
+const LEAST_LENGTH: u32 = 3;
+
+/// The greatest number of bytes after a frame's length: 2^27.
+const GREATEST_LENGTH: u32 = 134_217_728;
+
+/// How many bytes are read past at a time.
+const PAST: usize = 4096;
+
+/// A source, and how often it may still be read.
+#[derive(Drop)]
+pub struct Reader<'a, S> {
+    pub source: &'a mut S,
+    pub budget: u64,
+}
+
+impl<S: Source> Reader<'_, S> {
+    /// Reads the length of the next frame. `None` is the end of the stream; no byte after the four
+    /// of the length is asked for.
+    pub fn read_length(&mut self) -> Result<Option<u32>, StreamFault>
+        requires { CanRead S.reads S.failures self.old }
+        ensures read { ReadsLength
+            (S.left self.old.source.now) (S.left self.new.source.now) result }
+        ensures counted { KeepsCount S.reads S.failures self.old self.new result }
+        ensures once { IfOk result (λ length. self.new.budget < self.old.budget) }
+    {
+        let mut bytes = [0u8; 4];
+        let count = fill(self.source, &mut self.budget, &mut bytes)?;
+        if count == 0 {
+            return Ok(None);
+        }
+        if count < 4 {
+            return Err(StreamFault::Truncated);
+        }
+        let length = number_of_four(&bytes);
+        if length < LEAST_LENGTH || length > GREATEST_LENGTH {
+            return Err(StreamFault::BadLength);
+        }
+        Ok(Some(length))
+    }
+
+    /// Reads the buffer full, within a frame.
+    pub fn read_exactly(&mut self, buf: &mut [u8]) -> Result<(), StreamFault>
+        requires { CanRead S.reads S.failures self.old }
+        ensures ok { OnOk result (Consumes
+            (S.left self.old.source.now) (S.left self.new.source.now) buf.new) }
+        ensures err { IfErr result (ReadsPart
+            (S.left self.old.source.now) (S.left self.new.source.now) (length buf.new)) }
+        ensures counted { KeepsCount S.reads S.failures self.old self.new result }
+    {
+        let count = fill(self.source, &mut self.budget, buf)?;
+        if count < buf.len() {
+            return Err(StreamFault::Truncated);
+        }
+        Ok(())
+    }
+
+    /// Reads past so many bytes, within a frame.
+    pub fn skip(&mut self, count: usize) -> Result<(), StreamFault>
+        requires { CanRead S.reads S.failures self.old }
+        ensures ok { OnOk result (ReadsSome
+            (S.left self.old.source.now) (S.left self.new.source.now) count) }
+        ensures err { IfErr result (ReadsPart
+            (S.left self.old.source.now) (S.left self.new.source.now) count) }
+        ensures counted { KeepsCount S.reads S.failures self.old self.new result }
+    {
+        let mut buf = [0u8; PAST];
+        let mut rest = count;
+        while rest > 0 {
+            let now = rest.min(PAST);
+            self.read_exactly(&mut buf[..now])?;
+            rest -= now;
+        }
+        Ok(())
+    }
+
+    /// Reads the client and the op of a frame.
+    pub fn read_front(&mut self) -> Result<(u16, u8), StreamFault>
+        requires { CanRead S.reads S.failures self.old }
+        ensures ok { IfOk result (λ front. Consumes
+            (S.left self.old.source.now) (S.left self.new.source.now)
+            (to_be_bytes w16 front.0 ++ front.1 ∷ [])) }
+        ensures err { IfErr result (ReadsPart
+            (S.left self.old.source.now) (S.left self.new.source.now) 3) }
+        ensures counted { KeepsCount S.reads S.failures self.old self.new result }
+    {
+        let mut bytes = [0u8; 3];
+        self.read_exactly(&mut bytes)?;
+        Ok((number_of_two(&bytes[..2]), bytes[2]))
+    }
+}
+
+/// The number that the four bytes spell.
+fn number_of_four(bytes: &[u8; 4]) -> u32
+    ensures { to_be_bytes w32 result ≡ bytes.now }
+{
+    u32::from_be_bytes(*bytes)
+}
+
+/// The number that the two bytes spell.
+pub fn number_of_two(bytes: &[u8]) -> u16
+    requires { length bytes.now ≡ 2 }
+    ensures { to_be_bytes w16 result ≡ bytes.now }
+{
+    u16::from_be_bytes([bytes[0], bytes[1]])
+}

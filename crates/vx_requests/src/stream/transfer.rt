@@ -1,0 +1,60 @@
+//! Whole buffers, from a source and to a sink.
+ghost use Rattle.std.specs.Prelude.{◌≡◌, ◌+◌, ◌<◌, ◌≤◌, ◌^◌, length, IfOk, IfErr, OnErr};
+ghost use Rattle.vx_requests.specs.Stream.Transfer.{read_failures, IsReadFault, CountsReads, Fills, FillsPart, Writes};
+
+use crate::stream::{Failed, Sink, Source, StreamFault};
+
+/// Fills the buffer, unless the bytes end before, and returns how many bytes came.
+///
+/// `budget` is how many reads are still allowed; each read takes one of it. A read that fails is
+/// `ReadFailed`, and with no read left in the budget the result is `ReaderWouldNotEnd`. The bytes
+/// that came before a fault stand at the front of the buffer.
+pub fn fill<S: Source>(
+    source: &mut S,
+    budget: &mut u64,
+    buf: &mut [u8],
+) -> Result<usize, StreamFault>
+    requires reads_fit { S.reads source.old + budget.old < 2 ^ 63 }
+    requires failures_fit { S.failures source.old < 2 ^ 62 }
+    ensures ok { IfOk result (Fills (S.left source.old) (S.left source.new) buf.new) }
+    ensures err { OnErr result (FillsPart (S.left source.old) (S.left source.new) buf.new) }
+    ensures fault { IfErr result IsReadFault }
+
+    // A buffer that isn't empty takes a read, and at most one for each of its bytes.
+    ensures counted { CountsReads (S.reads source.old) (S.reads source.new)
+        budget.old budget.new result }
+    ensures once { IfOk result (λ count. 0 < length buf.new → budget.new < budget.old) }
+    ensures sparing { S.reads source.new ≤ S.reads source.old + length buf.new }
+    ensures failed { S.failures source.new ≡ S.failures source.old + read_failures result }
+{
+    let mut count = 0;
+    while count < buf.len() {
+        if *budget == 0 {
+            return Err(StreamFault::ReaderWouldNotEnd);
+        }
+        *budget -= 1;
+        match source.read(&mut buf[count..]) {
+            Ok(0) => return Ok(count),
+            Ok(more) => count += more,
+            Err(Failed) => return Err(StreamFault::ReadFailed),
+        }
+    }
+    Ok(count)
+}
+
+/// Writes all of the bytes. `WriteFailed`, the one fault, comes where a write fails or takes none
+/// of the rest, and a front of the bytes was taken then.
+pub fn write_all<K: Sink>(sink: &mut K, bytes: &[u8]) -> Result<(), StreamFault>
+    requires { K.failures sink.old < 2 ^ 62 }
+    ensures { Writes K.taken K.failures sink.old sink.new bytes.now result }
+{
+    let mut rest = bytes;
+    while !rest.is_empty() {
+        match sink.write(rest) {
+            Ok(0) => return Err(StreamFault::WriteFailed),
+            Ok(count) => rest = &rest[count..],
+            Err(Failed) => return Err(StreamFault::WriteFailed),
+        }
+    }
+    Ok(())
+}

@@ -1,0 +1,17 @@
+pub mod NodeShape
+pub mod FunctionNumbers
+pub mod Numbers
+pub mod OpNumbers
+pub mod TableSizes
+pub mod SampleBytes
+pub mod SampleLoops
+pub mod SpelledSizes
+pub mod SpelledFields
+pub mod SpelledNode
+pub mod SpelledObjects
+pub mod SpelledBack
+pub mod ReadFields
+pub mod ReadSamples
+pub mod ReadNode
+pub mod ReadObjects
+pub mod OneSpelling

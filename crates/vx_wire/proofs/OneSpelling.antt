@@ -1,0 +1,110 @@
+-- Each request has one spelling.
+use Rattle.std.proofs.Common.{◌≡◌, ℕ, List, [], ◌∷◌, ◌++◌, Option, Some, None, Result, Ok, refl, ap, subst, ◌∙◌, append-nil}
+use Rattle.vx_base.specs.Cell.{Cell}
+use Rattle.client_contexts.specs.declared.request.Request.{Request}
+use Rattle.client_contexts.specs.declared.request.Request.TheVariants.{OpenContext, CreateImage, WriteImage, ReadImage, CreateLut, CreateThreshold, Immediate}
+use Rattle.vx_wire.specs.declared.body_fault.BodyFault.{BodyFault}
+use Rattle.vx_wire.specs.declared.op.Op.{Op}
+use Rattle.vx_wire.specs.declared.op.Op.TheVariants as kinds
+use Rattle.vx_wire.specs.Op.{op_number, ops, op_numbered, op_of}
+use Rattle.vx_wire.specs.Fields.{and_then, at_end}
+use Rattle.vx_wire.specs.Requests.{request_with, request_with_known, request_of, body_of}
+use Rattle.vx_wire.specs.Description.{take_description, description_bytes}
+use Rattle.vx_wire.specs.Reference.{take_reference, reference_bytes}
+use Rattle.vx_wire.specs.Samples.{take_picture, picture_bytes}
+use Rattle.vx_wire.specs.Lut.{take_lut, lut_bytes}
+use Rattle.vx_wire.specs.Threshold.{take_threshold, threshold_bytes}
+use Rattle.vx_wire.specs.Node.{take_node}
+use Rattle.vx_wire.specs.Contexts.{open_context_in}
+use Rattle.vx_wire.specs.Images.{create_image_in, write_image_in, read_image_in}
+use Rattle.vx_wire.specs.Tables.{create_lut_in, create_threshold_in}
+use Rattle.vx_wire.specs.Immediate.{immediate_in}
+use Rattle.vx_wire.proofs.Numbers.{number_is}
+use Rattle.vx_wire.proofs.ReadFields.{AllBytes, then_of, description_of, cell_of}
+use Rattle.vx_wire.proofs.ReadSamples.{picture_of}
+use Rattle.vx_wire.proofs.ReadObjects.{lut_of, threshold_of}
+use Rattle.vx_wire.proofs.ReadNode.{node_of}
+use Rattle.client_contexts.specs.Request.{IsRequest}
+
+end_of : {A : Type 0} (x y : A) (rest : List ℕ) → at_end x rest ≡ Ok y → (x ≡ y) × (rest ≡ [])
+end_of x y [] e = (cc, refl)
+end_of x y (b ∷ rest) e = cc
+
+-- the one spelling of a request
+pub record Spelled (op : Op) (body : List ℕ) (request : Request) : Type 0 where
+  pub op_is : op ≡ op_of request
+  pub body_is : body ≡ body_of request
+  pub within : IsRequest request
+
+open_of : (body : List ℕ) (request : Request) → open_context_in body ≡ Ok request → Spelled kinds.OpenContext body request
+open_of body request e =
+    let (same, empty) = end_of OpenContext request body e in
+    subst (Spelled kinds.OpenContext body) same (record { op_is = refl; body_is = empty; within = tt })
+
+create_of : (body : List ℕ) (request : Request) → AllBytes body → create_image_in body ≡ Ok request → Spelled kinds.CreateImage body request
+create_of body request is e =
+    let (d, rest, is_d, e1) = then_of (take_description body) (λ d rest. at_end (CreateImage d) rest) request e in
+    let (same, empty) = end_of (CreateImage d) request rest e1 in
+    let (body_is, d_is, is1) = description_of body d rest is is_d in
+    subst (Spelled kinds.CreateImage body) same (record { op_is = refl; body_is = body_is ∙ ap (λ l. description_bytes d ++ l) empty; within = d_is })
+
+write_of : (body : List ℕ) (request : Request) → AllBytes body → write_image_in body ≡ Ok request → Spelled kinds.WriteImage body request
+write_of body request is e =
+    let next : Cell → List ℕ → Result Request BodyFault = λ cell rest. and_then (take_picture rest) (λ p rest. at_end (WriteImage cell p) rest) in
+    let (cell, rest, is_cell, e1) = then_of (take_reference body) next request e in
+    let (p, rest1, is_p, e2) = then_of (take_picture rest) (λ p rest. at_end (WriteImage cell p) rest) request e1 in
+    let (same, empty) = end_of (WriteImage cell p) request rest1 e2 in
+    let (body_is, cell_is, is1) = cell_of body cell rest is is_cell in
+    let (rest_is, p_is, is2) = picture_of rest p rest1 is1 is_p in
+    let no_more : picture_bytes p ++ rest1 ≡ picture_bytes p = ap (λ l. picture_bytes p ++ l) empty ∙ append-nil (picture_bytes p) in
+    subst (Spelled kinds.WriteImage body) same (record { op_is = refl; body_is = body_is ∙ ap (λ l. reference_bytes cell ++ l) (rest_is ∙ no_more); within = (cell_is, p_is) })
+
+read_of : (body : List ℕ) (request : Request) → AllBytes body → read_image_in body ≡ Ok request → Spelled kinds.ReadImage body request
+read_of body request is e =
+    let (cell, rest, is_cell, e1) = then_of (take_reference body) (λ cell rest. at_end (ReadImage cell) rest) request e in
+    let (same, empty) = end_of (ReadImage cell) request rest e1 in
+    let (body_is, cell_is, is1) = cell_of body cell rest is is_cell in
+    subst (Spelled kinds.ReadImage body) same (record { op_is = refl; body_is = body_is ∙ ap (λ l. reference_bytes cell ++ l) empty; within = cell_is })
+
+create_lut_of : (body : List ℕ) (request : Request) → AllBytes body → create_lut_in body ≡ Ok request → Spelled kinds.CreateLut body request
+create_lut_of body request is e =
+    let (lut, rest, is_lut, e1) = then_of (take_lut body) (λ lut rest. at_end (CreateLut lut) rest) request e in
+    let (same, empty) = end_of (CreateLut lut) request rest e1 in
+    let (body_is, lut_is, is1) = lut_of body lut rest is is_lut in
+    subst (Spelled kinds.CreateLut body) same (record { op_is = refl; body_is = body_is ∙ ap (λ l. lut_bytes lut ++ l) empty ∙ append-nil (lut_bytes lut); within = lut_is })
+
+create_threshold_of : (body : List ℕ) (request : Request) → AllBytes body → create_threshold_in body ≡ Ok request → Spelled kinds.CreateThreshold body request
+create_threshold_of body request is e =
+    let (t, rest, is_t, e1) = then_of (take_threshold body) (λ t rest. at_end (CreateThreshold t) rest) request e in
+    let (same, empty) = end_of (CreateThreshold t) request rest e1 in
+    let (body_is, t_is, is1) = threshold_of body t rest is is_t in
+    subst (Spelled kinds.CreateThreshold body) same (record { op_is = refl; body_is = body_is ∙ ap (λ l. threshold_bytes t ++ l) empty ∙ append-nil (threshold_bytes t); within = t_is })
+
+immediate_of : (body : List ℕ) (request : Request) → AllBytes body → immediate_in body ≡ Ok request → Spelled kinds.Immediate body request
+immediate_of body request is e =
+    let (n, rest, is_n, e1) = then_of (take_node body) (λ n rest. at_end (Immediate n) rest) request e in
+    let (same, empty) = end_of (Immediate n) request rest e1 in
+    let (body_is, n_is) = node_of body n is (is_n ∙ ap (λ l. Ok (n, l)) empty) in
+    subst (Spelled kinds.Immediate body) same (record { op_is = refl; body_is = body_is; within = n_is })
+
+-- a body of each op
+with_op : (op : Op) (body : List ℕ) (request : Request) → AllBytes body → request_with op body ≡ Ok request → Spelled op body request
+with_op kinds.OpenContext body request is e = open_of body request e
+with_op kinds.CreateImage body request is e = create_of body request is e
+with_op kinds.WriteImage body request is e = write_of body request is e
+with_op kinds.ReadImage body request is e = read_of body request is e
+with_op kinds.CreateLut body request is e = create_lut_of body request is e
+with_op kinds.CreateThreshold body request is e = create_threshold_of body request is e
+with_op kinds.Immediate body request is e = immediate_of body request is e
+
+-- there is such an op
+known_op : (known : Option Op) (body : List ℕ) (request : Request) → request_with_known known body ≡ Ok request → (op : Op) × (known ≡ Some op) × (request_with op body ≡ Ok request)
+known_op None body request e = cc
+known_op (Some op) body request e = (op, refl, e)
+
+pub one_spelling : (number : ℕ) (body : List ℕ) (request : Request) → AllBytes body → request_of number body ≡ Ok request
+    → (number ≡ op_number (op_of request)) × (body ≡ body_of request) × IsRequest request
+one_spelling number body request is e =
+    let (op, known, e1) = known_op (op_numbered number) body request e in
+    let spelled = with_op op body request is e1 in
+    (number_is op_number ops number op known ∙ ap op_number spelled.op_is, spelled.body_is, spelled.within)

@@ -1,0 +1,166 @@
+-- What is read has one spelling: the bytes that it was read from.
+use Rattle.std.proofs.Common.{◌≡◌, ℕ, ◌+◌, ◌*◌, ◌<◌, ◌≤◌, nat_le, length, take, drop, sym, take-append-drop, length-take-le, ◌^◌, ◌%◌, ◌/◌, ◌==◌, List, [], ◌∷◌, ◌++◌, Option, Some, None, Result, Ok, Err, Bool, true, false, ◌⊎◌, inl, inr, IsTrue, if◌then◌else◌, unwrap_or, arith, refl, ap, subst, ◌∙◌}
+use Rattle.std.specs.Prelude.{All, IfSome}
+use Rattle.std.specs.Int.{w16, w32, to_be_bytes}
+use Rattle.std.proofs.lemmas.Bool.{eqb-true, eq-eqb, leb-true}
+use Rattle.std.proofs.lemmas.List.Elements.{All-head, All-tail, All-take, All-drop}
+use Rattle.vx_base.specs.declared.format.Format.{Format}
+use Rattle.vx_base.specs.declared.format.Format.TheVariants.{U8, S16, U32}
+use Rattle.vx_base.specs.Cell.{Cell, IsCell}
+use Rattle.vx_base.specs.Description.{Description, is_side, IsDescription}
+use Rattle.vx_wire.specs.declared.body_fault.BodyFault.{BodyFault}
+use Rattle.vx_wire.specs.declared.body_fault.BodyFault.TheVariants.{InvalidParameters, InvalidFormat, InvalidDimension}
+use Rattle.vx_wire.specs.Fields.{Taken, and_then, allowed, take_byte, take_short, take_long, take_bytes}
+use Rattle.vx_wire.specs.Format.{format_numbered, take_format, format_number}
+use Rattle.vx_wire.specs.Description.{take_side, take_description, description_bytes}
+use Rattle.vx_wire.specs.Reference.{slot_numbered, take_reference, reference_bytes}
+use Rattle.vx_wire.proofs.Numbers.{number_is}
+
+abbrev pub AllBytes : List ℕ → Type 0
+AllBytes bytes = All (λ b. b < 256) bytes
+
+abbrev pub ok : {A : Type 0} → A → List ℕ → Taken A
+ok x rest = Ok (x, rest)
+
+pub taken_same : {A : Type 0} (x y : A) (r s : List ℕ) → ok x r ≡ ok y s → (x ≡ y) × (r ≡ s)
+taken_same {A} x y r s e =
+    let t : A × List ℕ = (x, r) in
+    let u : A × List ℕ = (y, s) in
+    let same : t ≡ u = cc in
+    (ap (λ t. t.0) same, ap (λ t. t.1) same)
+
+-- the first field, and those after it
+pub then_of : {A B : Type 0} (t : Taken A) (next : A → List ℕ → Result B BodyFault) (r : B) → and_then t next ≡ Ok r
+    → (x : A) × (rest : List ℕ) × (t ≡ Ok (x, rest)) × (next x rest ≡ Ok r)
+then_of (Ok taken) next r e = (taken.0, taken.1, refl, e)
+then_of (Err fault) next r e = cc
+
+pub allowed_of : {A : Type 0} (fault : BodyFault) (o : Option A) (x : A) (rest others : List ℕ) → allowed fault o rest ≡ Ok (x, others) → (o ≡ Some x) × (rest ≡ others)
+allowed_of fault None x rest others e = cc
+allowed_of fault (Some y) x rest others e = let (same, behind) = taken_same y x rest others e in (ap Some same, behind)
+
+pub if_some : {A : Type 0} (b : Bool) (x : A) (o : Option A) (y : A) → (if b then Some x else o) ≡ Some y → ((b ≡ true) × (x ≡ y)) ⊎ ((b ≡ false) × (o ≡ Some y))
+if_some true x o y e = inl (refl, cc)
+if_some false x o y e = inr (refl, e)
+
+pub if_none : {A : Type 0} (b : Bool) (o : Option A) (y : A) → (if b then None else o) ≡ Some y → (b ≡ false) × (o ≡ Some y)
+if_none true o y e = cc
+if_none false o y e = (refl, e)
+
+pub byte_of : (body : List ℕ) (n : ℕ) (rest : List ℕ) → AllBytes body → take_byte body ≡ Ok (n, rest) → (body ≡ n ∷ rest) × (n < 256) × AllBytes rest
+byte_of [] n rest is e = cc
+byte_of (a ∷ others) n rest is e =
+    let (same, behind) = taken_same a n others rest e in
+    let first : a < 256 = All-head (λ b. b < 256) a others is in
+    (ap (λ b. b ∷ others) same ∙ ap (λ l. n ∷ l) behind, omega arith, subst AllBytes behind (All-tail (λ b. b < 256) a others is))
+
+pub short_of : (body : List ℕ) (n : ℕ) (rest : List ℕ) → AllBytes body → take_short body ≡ Ok (n, rest)
+    → (body ≡ to_be_bytes w16 n ++ rest) × (n < 2 ^ 16) × AllBytes rest
+short_of body n rest is e =
+    let (a, rest1, is_a, e1) = then_of (take_byte body) (λ a rest. and_then (take_byte rest) (λ b rest. ok (256 * a + b) rest)) (n, rest) e in
+    let (b, rest2, is_b, e2) = then_of (take_byte rest1) (λ b rest. ok (256 * a + b) rest) (n, rest) e1 in
+    let (same, behind) = taken_same (256 * a + b) n rest2 rest e2 in
+    let (body_is, a_below, is1) = byte_of body a rest1 is is_a in
+    let (rest_is, b_below, is2) = byte_of rest1 b rest2 is1 is_b in
+    let high : a ≡ n / 256 % 256 = omega arith in
+    let low : b ≡ n % 256 = omega arith in
+    (body_is ∙ ap (λ l. a ∷ l) rest_is ∙ ap (λ l. a ∷ b ∷ l) behind ∙ ap (λ x. x ∷ b ∷ rest) high ∙ ap (λ x. n / 256 % 256 ∷ x ∷ rest) low, omega arith, subst AllBytes behind is2)
+
+pub long_of : (body : List ℕ) (n : ℕ) (rest : List ℕ) → AllBytes body → take_long body ≡ Ok (n, rest)
+    → (body ≡ to_be_bytes w32 n ++ rest) × (n < 2 ^ 32) × AllBytes rest
+long_of body n rest is e =
+    let (a, rest1, is_a, e1) = then_of (take_short body) (λ a rest. and_then (take_short rest) (λ b rest. ok (65536 * a + b) rest)) (n, rest) e in
+    let (b, rest2, is_b, e2) = then_of (take_short rest1) (λ b rest. ok (65536 * a + b) rest) (n, rest) e1 in
+    let (same, behind) = taken_same (65536 * a + b) n rest2 rest e2 in
+    let (body_is, a_below, is1) = short_of body a rest1 is is_a in
+    let (rest_is, b_below, is2) = short_of rest1 b rest2 is1 is_b in
+    let e3 : a / 256 % 256 ≡ n / 16777216 % 256 = omega arith in
+    let e2 : a % 256 ≡ n / 65536 % 256 = omega arith in
+    let e1 : b / 256 % 256 ≡ n / 256 % 256 = omega arith in
+    let e0 : b % 256 ≡ n % 256 = omega arith in
+    let spelled : List ℕ → List ℕ = λ l. to_be_bytes w16 a ++ l in (
+      body_is ∙ ap spelled rest_is ∙ ap (λ l. spelled (to_be_bytes w16 b ++ l)) behind
+          ∙ ap (λ x. x ∷ a % 256 ∷ b / 256 % 256 ∷ b % 256 ∷ rest) e3 ∙ ap (λ x. n / 16777216 % 256 ∷ x ∷ b / 256 % 256 ∷ b % 256 ∷ rest) e2
+          ∙ ap (λ x. n / 16777216 % 256 ∷ n / 65536 % 256 ∷ x ∷ b % 256 ∷ rest) e1 ∙ ap (λ x. n / 16777216 % 256 ∷ n / 65536 % 256 ∷ n / 256 % 256 ∷ x ∷ rest) e0,
+      omega arith,
+      subst AllBytes behind is2,
+    )
+
+enough_of : (b : Bool) (x y rest others : List ℕ) → (if b then ok x rest else Err InvalidParameters) ≡ ok y others → (b ≡ true) × (x ≡ y) × (rest ≡ others)
+enough_of true x y rest others e = let p = taken_same x y rest others e in (refl, p.0, p.1)
+enough_of false x y rest others e = cc
+
+-- so many bytes, and those after them
+pub bytes_of : (n : ℕ) (body bytes rest : List ℕ) → AllBytes body → take_bytes n body ≡ Ok (bytes, rest)
+    → (body ≡ bytes ++ rest) × (length bytes ≡ n) × AllBytes bytes × AllBytes rest
+bytes_of n body bytes rest is e =
+    let (enough, same, behind) = enough_of (nat_le n (length body)) (take n body) bytes (drop n body) rest e in
+    let long : n ≤ length body = leb-true n (length body) enough in (
+      sym (take-append-drop n body) ∙ ap (λ l. l ++ drop n body) same ∙ ap (λ l. bytes ++ l) behind,
+      ap length (sym same) ∙ length-take-le n body long,
+      subst AllBytes same (All-take (λ b. b < 256) n body is),
+      subst AllBytes behind (All-drop (λ b. b < 256) n body is),
+    )
+
+-- ---- formats, sides, descriptions, references
+
+format_of : (body : List ℕ) (format : Format) (rest : List ℕ) → AllBytes body → take_format body ≡ Ok (format, rest)
+    → (body ≡ format_number format ∷ rest) × AllBytes rest
+format_of body format rest is e =
+    let (n, rest1, is_n, e1) = then_of (take_byte body) (λ n rest. allowed InvalidFormat (format_numbered n) rest) (format, rest) e in
+    let (same, behind) = allowed_of InvalidFormat (format_numbered n) format rest1 rest e1 in
+    let (body_is, below, is1) = byte_of body n rest1 is is_n in
+    (body_is ∙ ap (λ x. x ∷ rest1) (number_is format_number (U8 ∷ S16 ∷ U32 ∷ []) n format same) ∙ ap (λ l. format_number format ∷ l) behind, subst AllBytes behind is1)
+
+side_of : (body : List ℕ) (n : ℕ) (rest : List ℕ) → AllBytes body → take_side body ≡ Ok (n, rest)
+    → (body ≡ to_be_bytes w16 n ++ rest) × IsTrue (is_side n) × AllBytes rest
+side_of body n rest is e =
+    let (m, rest1, is_m, e1) = then_of (take_short body) (λ m rest. allowed InvalidDimension (if is_side m then Some m else None) rest) (n, rest) e in
+    let (same, behind) = allowed_of InvalidDimension (if is_side m then Some m else None) n rest1 rest e1 in
+    let (body_is, below, is1) = short_of body m rest1 is is_m in
+    elim (if_some (is_side m) m None n same) [
+      | inl h ↦ (body_is ∙ ap (λ x. to_be_bytes w16 x ++ rest1) h.1 ∙ ap (λ l. to_be_bytes w16 n ++ l) behind, subst (λ x. IsTrue (is_side x)) h.1 h.0, subst AllBytes behind is1)
+      | inr h ↦ cc
+    ]
+
+pub description_of : (body : List ℕ) (d : Description) (rest : List ℕ) → AllBytes body → take_description body ≡ Ok (d, rest)
+    → (body ≡ description_bytes d ++ rest) × IsDescription d × AllBytes rest
+description_of body d rest is e =
+    let made : Format → ℕ → ℕ → Description = λ format width height. record { width = width; height = height; format = format } in
+    let last : Format → ℕ → List ℕ → Taken Description = λ format width rest. and_then (take_side rest) (λ height rest. ok (made format width height) rest) in
+    let (format, rest1, is_format, e1) = then_of (take_format body) (λ format rest. and_then (take_side rest) (last format)) (d, rest) e in
+    let (width, rest2, is_width, e2) = then_of (take_side rest1) (last format) (d, rest) e1 in
+    let (height, rest3, is_height, e3) = then_of (take_side rest2) (λ height rest. ok (made format width height) rest) (d, rest) e2 in
+    let (same, behind) = taken_same (made format width height) d rest3 rest e3 in
+    let (body_is, is1) = format_of body format rest1 is is_format in
+    let (rest1_is, width_is, is2) = side_of rest1 width rest2 is1 is_width in
+    let (rest2_is, height_is, is3) = side_of rest2 height rest3 is2 is_height in (
+      body_is ∙ ap (λ l. format_number format ∷ l) rest1_is ∙ ap (λ l. format_number format ∷ (to_be_bytes w16 width ++ l)) rest2_is
+          ∙ ap (λ d. description_bytes d ++ rest3) same ∙ ap (λ l. description_bytes d ++ l) behind,
+      subst IsDescription same (record { width = width_is; height = height_is }),
+      subst AllBytes behind is3,
+    )
+
+number_of_slot : (n : ℕ) → n < 256 → (n ≡ unwrap_or (slot_numbered n) 255) × IfSome (slot_numbered n) (λ k. k < 255)
+number_of_slot n below = slot (n == 255) refl
+  where
+    slot : (b : Bool) → (n == 255) ≡ b → (n ≡ unwrap_or (if b then None else Some n) 255) × IfSome (if b then None else Some n) (λ k. k < 255)
+    slot true e = (eqb-true n 255 e, tt)
+    slot false e = (refl, let other : n ≡ 255 → ⊥ = λ same. let is : (n == 255) ≡ true = eq-eqb n 255 same in cc in omega arith)
+
+pub cell_of : (body : List ℕ) (cell : Cell) (rest : List ℕ) → AllBytes body → take_reference body ≡ Ok (cell, rest)
+    → (body ≡ reference_bytes cell ++ rest) × IsCell cell × AllBytes rest
+cell_of body cell rest is e =
+    let made : ℕ → ℕ → Cell = λ name slot. record { name = name; slot = slot_numbered slot } in
+    let next : ℕ → List ℕ → Taken Cell = λ name rest. and_then (take_byte rest) (λ slot rest. ok (made name slot) rest) in
+    let (name, rest1, is_name, e1) = then_of (take_long body) next (cell, rest) e in
+    let (slot, rest2, is_slot, e2) = then_of (take_byte rest1) (λ slot rest. ok (made name slot) rest) (cell, rest) e1 in
+    let (same, behind) = taken_same (made name slot) cell rest2 rest e2 in
+    let (body_is, name_below, is1) = long_of body name rest1 is is_name in
+    let (rest1_is, slot_below, is2) = byte_of rest1 slot rest2 is1 is_slot in
+    let (slot_is, slot_within) = number_of_slot slot slot_below in (
+      body_is ∙ ap (λ l. to_be_bytes w32 name ++ l) rest1_is ∙ ap (λ k. to_be_bytes w32 name ++ k ∷ rest2) slot_is
+          ∙ ap (λ c. reference_bytes c ++ rest2) same ∙ ap (λ l. reference_bytes cell ++ l) behind,
+      subst IsCell same (record { name = name_below; slot = slot_within }),
+      subst AllBytes behind is2,
+    )

@@ -1,0 +1,100 @@
+-- Each field is read back from its bytes.
+use Rattle.std.proofs.Common.{◌≡◌, ℕ, ℤ, ◌+◌, ◌*◌, ◌<◌, ◌^◌, ◌%◌, ◌/◌, ◌==◌, List, ◌∷◌, ◌++◌, Option, Some, None, Result, Ok, Err, Bool, true, false, IsTrue, if◌then◌else◌, nat_le, unwrap_or, length, take, drop, arith, length-append, refl, sym, ap, ◌∙◌, take_at, drop_at}
+use Rattle.std.specs.Prelude.{All, IfSome}
+use Rattle.std.specs.Int.{w16, w32, to_be_bytes}
+use Rattle.std.proofs.lemmas.Bool.{eqb-true, le-leb}
+use Rattle.std.proofs.lemmas.Bool.Decides.{nat_tests}
+use Rattle.vx_wire.specs.declared.body_fault.BodyFault.{BodyFault}
+use Rattle.vx_wire.specs.declared.body_fault.BodyFault.TheVariants.{InvalidParameters, InvalidDimension}
+use Rattle.std.proofs.lemmas.Nat.{from_be_bytes-to_be_bytes_4}
+use Rattle.vx_base.specs.declared.format.Format.{Format}
+use Rattle.vx_base.specs.declared.format.Format.TheVariants.{U8, S16, U32}
+use Rattle.vx_base.specs.Cell.{Cell, IsCell}
+use Rattle.vx_base.specs.Description.{Description, is_side, sample_count, IsDescription}
+use Rattle.vx_base.specs.Sample.{IsSample, sample_bytes}
+use Rattle.vx_base.specs.Picture.{PictureValue, IsPicture}
+use Rattle.vx_wire.specs.Fields.{Taken, and_then, allowed, take_byte, take_short, take_long, take_bytes}
+use Rattle.vx_wire.specs.Format.{take_format, format_number}
+use Rattle.vx_wire.specs.Description.{take_side, take_description, description_bytes}
+use Rattle.vx_wire.specs.Reference.{slot_numbered, take_reference, reference_bytes}
+use Rattle.vx_wire.specs.Samples.{decoded, encoded, take_samples, take_picture, picture_bytes}
+use Rattle.vx_wire.proofs.SampleBytes.{length-encoded, decoded_back}
+
+-- a field that was read, and those behind it
+pub then_ok : {A B : Type 0} (t : Taken A) (x : A) (rest : List ℕ) (next : A → List ℕ → Result B BodyFault) → t ≡ Ok (x, rest) → and_then t next ≡ next x rest
+then_ok t x rest next e = ap (λ s. and_then s next) e
+
+pub short_back : (n : ℕ) (rest : List ℕ) → n < 2 ^ 16 → take_short (to_be_bytes w16 n ++ rest) ≡ Ok (n, rest)
+short_back n rest below = let e : 256 * (n / 256 % 256) + n % 256 ≡ n = omega arith in ap (λ m. Ok (m, rest)) e
+
+pub long_back : (n : ℕ) (rest : List ℕ) → n < 2 ^ 32 → take_long (to_be_bytes w32 n ++ rest) ≡ Ok (n, rest)
+long_back n rest below =
+    let e : 65536 * (256 * (n / 16777216 % 256) + n / 65536 % 256) + (256 * (n / 256 % 256) + n % 256) ≡ n = omega (arith, from_be_bytes-to_be_bytes_4 n below) in
+    ap (λ m. Ok (m, rest)) e
+
+format_back : (format : Format) (rest : List ℕ) → take_format (format_number format ∷ rest) ≡ Ok (format, rest)
+format_back U8 rest = refl
+format_back S16 rest = refl
+format_back U32 rest = refl
+
+side_below : (n : ℕ) → IsTrue (is_side n) → n < 2 ^ 16
+side_below n is = grind (arith, nat_tests)
+
+side_back : (n : ℕ) (rest : List ℕ) → IsTrue (is_side n) → take_side (to_be_bytes w16 n ++ rest) ≡ Ok (n, rest)
+side_back n rest is =
+    then_ok (take_short (to_be_bytes w16 n ++ rest)) n rest (λ n rest. allowed InvalidDimension (if is_side n then Some n else None) rest) (short_back n rest (side_below n is))
+    ∙ ap (λ b. allowed InvalidDimension (if b then Some n else None) rest) is
+
+pub description_back : (d : Description) (rest : List ℕ) → IsDescription d → take_description (description_bytes d ++ rest) ≡ Ok (d, rest)
+description_back d rest is =
+    let made : Format → ℕ → ℕ → Description = λ format width height. record { width = width; height = height; format = format } in
+    let last : Format → ℕ → List ℕ → Taken Description = λ format width rest. and_then (take_side rest) (λ height rest. Ok (made format width height, rest)) in
+    let behind = to_be_bytes w16 d.height ++ rest in
+    then_ok (take_format (description_bytes d ++ rest)) d.format (to_be_bytes w16 d.width ++ behind) (λ format rest. and_then (take_side rest) (last format)) (format_back d.format _)
+    ∙ then_ok (take_side (to_be_bytes w16 d.width ++ behind)) d.width behind (last d.format) (side_back d.width behind is.width)
+    ∙ then_ok (take_side behind) d.height rest (λ height rest. Ok (made d.format d.width height, rest)) (side_back d.height rest is.height)
+
+slot_back : (slot : Option ℕ) → IfSome slot (λ k. k < 255) → slot_numbered (unwrap_or slot 255) ≡ slot
+slot_back None is = refl
+slot_back (Some k) is = slot (k == 255) refl
+  where
+    slot : (b : Bool) → (k == 255) ≡ b → (if b then None else Some k) ≡ Some k
+    slot true e = absurd (omega (arith, eqb-true k 255 e))
+    slot false e = refl
+
+pub cell_back : (cell : Cell) (rest : List ℕ) → IsCell cell → take_reference (reference_bytes cell ++ rest) ≡ Ok (cell, rest)
+cell_back cell rest is =
+    let next : ℕ → List ℕ → Taken Cell = λ name rest. and_then (take_byte rest) (λ slot rest. Ok (record { name = name; slot = slot_numbered slot }, rest)) in
+    then_ok (take_long (reference_bytes cell ++ rest)) cell.name (unwrap_or cell.slot 255 ∷ rest) next (long_back cell.name _ is.name)
+    ∙ ap (λ slot. Ok (record { name = cell.name; slot = slot }, rest)) (slot_back cell.slot is.slot)
+
+-- so many bytes
+pub bytes_back : (n : ℕ) (bytes rest : List ℕ) → length bytes ≡ n → take_bytes n (bytes ++ rest) ≡ Ok (bytes, rest)
+bytes_back n bytes rest long =
+    let enough : nat_le n (length (bytes ++ rest)) ≡ true = le-leb n (length (bytes ++ rest)) (omega (arith, length-append bytes rest)) in
+    ap (λ b. if b then Ok (take n (bytes ++ rest), drop n (bytes ++ rest)) else Err InvalidParameters) enough
+    ∙ ap (λ l. Ok (l, drop n (bytes ++ rest))) (take_at bytes rest n long)
+    ∙ ap (λ l. Ok (bytes, l)) (drop_at bytes rest n long)
+
+-- ---- samples
+
+-- so many samples
+pub taken_back : (format : Format) (count : ℕ) (samples : List ℤ) (rest : List ℕ) → length samples ≡ count → All (IsSample format) samples
+    → take_samples format count (encoded format samples ++ rest) ≡ Ok (samples, rest)
+taken_back format count samples rest size is =
+    let bytes = encoded format samples in
+    let n = count * sample_bytes format in
+    let long : length bytes ≡ n = length-encoded format samples ∙ ap (λ m. m * sample_bytes format) size in
+    then_ok (take_bytes n (bytes ++ rest)) bytes rest (λ bytes rest. Ok (decoded format count bytes, rest)) (bytes_back n bytes rest long)
+    ∙ ap (λ m. Ok (decoded format m bytes, rest)) (sym size)
+    ∙ ap (λ l. Ok (l, rest)) (decoded_back format samples is)
+
+pub picture_back : (p : PictureValue) (rest : List ℕ) → IsPicture p → take_picture (picture_bytes p ++ rest) ≡ Ok (p, rest)
+picture_back p rest is =
+    let d = p.description in
+    let bytes = encoded d.format p.samples in
+    let last : Description → List ℕ → Taken PictureValue =
+    λ d rest. and_then (take_samples d.format (sample_count d) rest) (λ samples rest. Ok (record { description = d; samples = samples }, rest)) in
+    then_ok (take_description (picture_bytes p ++ rest)) d (bytes ++ rest) last (description_back d (bytes ++ rest) is.description)
+    ∙ then_ok (take_samples d.format (sample_count d) (bytes ++ rest)) p.samples rest (λ samples rest. Ok (record { description = d; samples = samples }, rest))
+    (taken_back d.format (sample_count d) p.samples rest is.size is.sampled)

@@ -1,0 +1,138 @@
+-- A node is read back from its bytes.
+use Rattle.std.proofs.Common.{◌≡◌, ℕ, ◌==◌, List, [], ◌∷◌, ◌++◌, Option, Some, None, Ok, Bool, true, false, not, ◌&&◌, ◌||◌, IsTrue, if◌then◌else◌, cond, nat_le, is_some, is_none, unwrap_or, arith, refl, sym, ap, ◌∙◌, append-nil}
+use Rattle.std.specs.Prelude.{IfSome}
+use Rattle.vx_wire.specs.Numbered.{numbered}
+use Rattle.std.proofs.lemmas.Bool.{eq-eqb, leb-true}
+use Rattle.vx_base.specs.declared.border.Border.{Border}
+use Rattle.vx_base.specs.declared.border.Border.TheVariants.{Undefined, Constant, Replicate}
+use Rattle.vx_base.specs.declared.policy.Policy.{Policy}
+use Rattle.vx_base.specs.declared.policy.Policy.TheVariants.{Wrap, Saturate}
+use Rattle.vx_base.specs.declared.function.Function.{Function}
+use Rattle.vx_base.specs.declared.function.Parameters.{Parameters}
+use Rattle.vx_base.specs.declared.node.Node.{Node}
+use Rattle.vx_base.specs.Function.{function_number, parameters}
+use Rattle.vx_base.specs.Cell.{Cell, IsCell}
+use Rattle.vx_base.specs.Node.{is_nothing, is_named, is_wrap, has_amount, has_operands, all_named, IsNode}
+use Rattle.vx_wire.specs.declared.body_fault.BodyFault.TheVariants.{InvalidParameters, InvalidValue}
+use Rattle.vx_wire.specs.declared.fields.operand.Presence.{Presence}
+use Rattle.vx_wire.specs.declared.fields.operand.Presence.TheVariants.{Required, Absent, Free}
+use Rattle.vx_wire.specs.Fields.{Taken, and_then, allowed}
+use Rattle.vx_wire.specs.Reference.{take_reference, reference_bytes}
+use Rattle.vx_wire.specs.Operand.{operand, take_operand, second_input, first_output, second_output, take_operands, take_first_input, is_operand, operand_bytes}
+use Rattle.vx_wire.specs.Node.{take_function, take_border, take_policy, amount_allowed, take_node, border_bytes, policy_number, node_bytes}
+use Rattle.vx_wire.proofs.NodeShape.{both_of, take_node-fields}
+use Rattle.vx_wire.proofs.FunctionNumbers.{numbered_back}
+use Rattle.vx_wire.proofs.SpelledFields.{then_ok, cell_back}
+
+function_back : (function : Function) (rest : List ℕ) → take_function (function_number function ∷ rest) ≡ Ok (function, rest)
+function_back function rest = ap (λ f. allowed InvalidParameters f rest) (numbered_back function)
+
+border_back : (border : Border) (rest : List ℕ) → take_border (border_bytes border ++ rest) ≡ Ok (border, rest)
+border_back Undefined rest = refl
+border_back (Constant value) rest = ap (λ b. allowed InvalidParameters (cond b (Some (Constant value)) None) rest) (eq-eqb value value refl)
+border_back Replicate rest = refl
+
+policy_back : (p : Parameters) (policy : Policy) (rest : List ℕ) → IsTrue (p.policy || is_wrap policy) → take_policy p (policy_number policy ∷ rest) ≡ Ok (policy, rest)
+policy_back p policy rest is = numbered_back p.policy policy is
+  where
+    numbered_back : (has : Bool) (policy : Policy) → IsTrue (has || is_wrap policy)
+        → allowed InvalidParameters (numbered policy_number (if has then Wrap ∷ Saturate ∷ [] else Wrap ∷ []) (policy_number policy)) rest ≡ Ok (policy, rest)
+    numbered_back true Wrap is = refl
+    numbered_back false Wrap is = refl
+    numbered_back true Saturate is = refl
+    numbered_back false Saturate is = cc
+
+amount_back : (greatest : Option ℕ) (n : ℕ) (rest : List ℕ) → IsTrue (nat_le n (unwrap_or greatest 0)) → amount_allowed greatest n rest ≡ Ok (n, rest)
+amount_back None n rest is = let e : (n == 0) ≡ true = eq-eqb n 0 (omega (arith, leb-true n 0 is)) in ap (λ b. allowed InvalidParameters (if b then Some n else None) rest) e
+amount_back (Some greatest) n rest is = ap (λ b. allowed InvalidValue (if b then Some n else None) rest) is
+
+-- an operand that is there as its presence wants
+allowed_operand : (presence : Presence) (o : Option Cell) (cell : Cell) → IsTrue (is_operand presence o) → unwrap_or o (record { name = 0; slot = None }) ≡ cell
+    → operand presence cell ≡ Some o
+allowed_operand Required None cell is e = cc
+allowed_operand Required (Some c) cell is e = rw (← e) (given (is_nothing c) is)
+  where
+    given : (b : Bool) → IsTrue (not b) → (if b then None else Some (Some c)) ≡ Some (Some c)
+    given true is = cc
+    given false is = refl
+allowed_operand Absent None cell is e = rw (← e) refl
+allowed_operand Absent (Some c) cell is e = cc
+allowed_operand Free None cell is e = rw (← e) refl
+allowed_operand Free (Some c) cell is e = rw (← e) (given (is_nothing c) is)
+  where
+    given : (b : Bool) → IsTrue (not b) → (if b then Some None else Some (Some c)) ≡ Some (Some c)
+    given true is = cc
+    given false is = refl
+
+operand_back : (presence : Presence) (o : Option Cell) (rest : List ℕ) → IsTrue (is_operand presence o) → IfSome o IsCell
+    → take_operand presence (operand_bytes o ++ rest) ≡ Ok (o, rest)
+operand_back presence None rest is cell =
+    let nothing : Cell = record { name = 0; slot = None } in
+    let next : Cell → List ℕ → Taken (Option Cell) = λ cell rest. allowed InvalidParameters (operand presence cell) rest in
+    then_ok (take_reference (reference_bytes nothing ++ rest)) nothing rest next (cell_back nothing rest (record { name = omega arith; slot = tt }))
+    ∙ ap (λ o. allowed InvalidParameters o rest) (allowed_operand presence None nothing is refl)
+operand_back presence (Some c) rest is cell =
+    let next : Cell → List ℕ → Taken (Option Cell) = λ cell rest. allowed InvalidParameters (operand presence cell) rest in
+    then_ok (take_reference (reference_bytes c ++ rest)) c rest next (cell_back c rest cell)
+    ∙ ap (λ o. allowed InvalidParameters o rest) (allowed_operand presence (Some c) c is refl)
+
+first_back : (cell : Cell) (rest : List ℕ) → IsTrue (not (is_nothing cell)) → IsCell cell → take_first_input (reference_bytes cell ++ rest) ≡ Ok (cell, rest)
+first_back cell rest given is =
+    let next : Cell → List ℕ → Taken Cell = λ cell rest. allowed InvalidParameters (if is_nothing cell then None else Some cell) rest in
+    then_ok (take_reference (reference_bytes cell ++ rest)) cell rest next (cell_back cell rest is) ∙ there (is_nothing cell) given
+  where
+    there : (b : Bool) → IsTrue (not b) → allowed InvalidParameters (if b then None else Some cell) rest ≡ Ok (cell, rest)
+    there true is = cc
+    there false is = refl
+
+operands_back : (p : Parameters) (in2 out1 out2 : Option Cell) → IsTrue (is_operand (second_input p) in2) → IsTrue (is_operand (first_output p) out1)
+    → IsTrue (is_operand (second_output p out1) out2) → IfSome in2 IsCell → IfSome out1 IsCell → IfSome out2 IsCell
+    → take_operands p (operand_bytes in2 ++ (operand_bytes out1 ++ operand_bytes out2)) ≡ Ok ((in2, out1, out2), [])
+operands_back p in2 out1 out2 has2 has_out1 has_out2 is2 is_out1 is_out2 =
+    let Others : Type 0 = Option Cell × Option Cell × Option Cell in
+    let third : Option Cell → Option Cell → List ℕ → Taken Others =
+    λ in2 out1 rest. and_then (take_operand (second_output p out1) rest) (λ out2 rest. Ok ((in2, out1, out2), rest)) in
+    let second : Option Cell → List ℕ → Taken Others = λ in2 rest. and_then (take_operand (first_output p) rest) (third in2) in
+    let behind = operand_bytes out1 ++ operand_bytes out2 in
+    then_ok (take_operand (second_input p) (operand_bytes in2 ++ behind)) in2 behind second (operand_back (second_input p) in2 behind has2 is2)
+    ∙ then_ok (take_operand (first_output p) behind) out1 (operand_bytes out2) (third in2) (operand_back (first_output p) out1 (operand_bytes out2) has_out1 is_out1)
+    ∙ then_ok (take_operand (second_output p out1) (operand_bytes out2)) out2 [] (λ out2 rest. Ok ((in2, out1, out2), rest))
+    (ap (take_operand (second_output p out1)) (sym (append-nil (operand_bytes out2))) ∙ operand_back (second_output p out1) out2 [] has_out2 is_out2)
+
+-- ---- what is_node says of the operands
+
+second_is : (second : Bool) (in2 : Option Cell) → IsTrue (if second then is_some in2 else is_none in2) → IsTrue (is_named in2) → IsTrue (is_operand (if second then Required else Absent) in2)
+second_is true None has given = cc
+second_is true (Some cell) has given = given
+second_is false None has given = refl
+second_is false (Some cell) has given = cc
+
+outputs_are : (pair : Bool) (out1 out2 : Option Cell) → IsTrue (if pair then (is_some out1 || is_some out2) else (is_some out1 && is_none out2)) → IsTrue (is_named out1) → IsTrue (is_named out2)
+    → IsTrue (is_operand (if pair then Free else Required) out1) × IsTrue (is_operand (if pair then (if is_none out1 then Required else Free) else Absent) out2)
+outputs_are true None None has one two = cc
+outputs_are true None (Some cell) has one two = (refl, two)
+outputs_are true (Some cell) None has one two = (one, refl)
+outputs_are true (Some cell) (Some other) has one two = (one, two)
+outputs_are false None out2 has one two = cc
+outputs_are false (Some cell) None has one two = (one, refl)
+outputs_are false (Some cell) (Some other) has one two = cc
+
+pub node_back : (n : Node) → IsNode n → take_node (node_bytes n) ≡ Ok (n, [])
+node_back n is =
+    let p = parameters n.function in
+    let (has, others) = both_of (has_amount p n.policy n.amount) (has_operands p n && all_named n) is.shape in
+    let (policy, amount) = both_of (p.policy || is_wrap n.policy) (nat_le n.amount (unwrap_or p.greatest_amount 0)) has in
+    let (operands, given) = both_of (has_operands p n) (all_named n) others in
+    let (second, outputs) = both_of (if is_some p.second_input then is_some n.in2 else is_none n.in2) (if p.output_pair then (is_some n.out1 || is_some n.out2) else (is_some n.out1 && is_none n.out2)) operands in
+    let (given1, given_others) = both_of (not (is_nothing n.in1)) (is_named n.in2 && (is_named n.out1 && is_named n.out2)) given in
+    let (given2, given_outputs) = both_of (is_named n.in2) (is_named n.out1 && is_named n.out2) given_others in
+    let (given_out1, given_out2) = both_of (is_named n.out1) (is_named n.out2) given_outputs in
+    let are = outputs_are p.output_pair n.out1 n.out2 outputs given_out1 given_out2 in
+    let f = operand_bytes n.in2 ++ (operand_bytes n.out1 ++ operand_bytes n.out2) in
+    let e = reference_bytes n.in1 ++ f in
+    let d = n.amount ∷ e in
+    let c = policy_number n.policy ∷ d in
+    let b = border_bytes n.border ++ c in
+    take_node-fields n p (function_number n.function ∷ b) b c d e f [] refl (function_back n.function b) (border_back n.border c) (policy_back p n.policy d policy)
+    (amount_back p.greatest_amount n.amount e amount) (first_back n.in1 f given1 is.in1)
+    (operands_back p n.in2 n.out1 n.out2 (second_is (is_some p.second_input) n.in2 second given2) are.0 are.1 is.in2 is.out1 is.out2)

@@ -1,0 +1,61 @@
+-- How long the bodies of requests are.
+use Rattle.std.proofs.Common.{◌≡◌, ℕ, ◌*◌, ◌≤◌, [], ◌∷◌, Option, Some, None, length, IsTrue, arith, refl, length-append}
+use Rattle.std.proofs.Math.Nat.{mul-le-mul}
+use Rattle.std.proofs.lemmas.Bool.Decides.{nat_tests}
+use Rattle.vx_base.specs.declared.format.Format.{Format}
+use Rattle.vx_base.specs.declared.format.Format.TheVariants.{U8, S16, U32}
+use Rattle.vx_base.specs.declared.border.Border.{Border}
+use Rattle.vx_base.specs.declared.border.Border.TheVariants.{Undefined, Constant, Replicate}
+use Rattle.vx_base.specs.declared.node.Node.{Node}
+use Rattle.vx_base.specs.Cell.{Cell}
+use Rattle.vx_base.specs.Description.{is_side, sample_count}
+use Rattle.vx_base.specs.Picture.{PictureValue, IsPicture}
+use Rattle.vx_base.specs.Sample.{sample_bytes}
+use Rattle.vx_base.specs.Lut.{LutValue, IsLut}
+use Rattle.vx_base.specs.declared.threshold.ThresholdKind.{ThresholdKind}
+use Rattle.vx_base.specs.declared.threshold.ThresholdKind.TheVariants.{Binary, Range}
+use Rattle.vx_base.specs.Threshold.{ThresholdValue}
+use Rattle.vx_wire.specs.Samples.{encoded}
+use Rattle.vx_wire.specs.Threshold.{limit_bytes, threshold_bytes}
+use Rattle.vx_wire.specs.Operand.{operand_bytes}
+use Rattle.vx_wire.specs.Node.{border_bytes, node_bytes}
+use Rattle.vx_wire.proofs.SampleBytes.{length-encoded}
+use Rattle.vx_wire.proofs.TableSizes.{bytes_most}
+
+side_most : (n : ℕ) → IsTrue (is_side n) → n ≤ 4096
+side_most n is = grind (arith, nat_tests)
+
+sample_bytes_most : (format : Format) → sample_bytes format ≤ 4
+sample_bytes_most U8 = omega arith
+sample_bytes_most S16 = omega arith
+sample_bytes_most U32 = omega arith
+
+pub spelled_most : (p : PictureValue) → IsPicture p → length (encoded p.description.format p.samples) ≤ 67108864
+spelled_most p is =
+    let count : sample_count p.description ≤ 4096 * 4096 = mul-le-mul (side_most p.description.height is.description.height) (side_most p.description.width is.description.width) in
+    let most : sample_count p.description * sample_bytes p.description.format ≤ (4096 * 4096) * 4 = mul-le-mul count (sample_bytes_most p.description.format) in
+    let size = is.size in
+    rw (length-encoded p.description.format p.samples, size) (omega arith)
+
+pub entries_most : (lut : LutValue) → IsLut lut → length (encoded lut.format lut.entries) ≤ 131072
+entries_most lut is = rw (length-encoded lut.format lut.entries) (bytes_most lut.format (length lut.entries) is.full)
+
+limits_most : (kind : ThresholdKind) → length (limit_bytes kind) ≤ 4
+limits_most (Binary t) = omega arith
+limits_most (Range lower upper) = omega arith
+
+pub threshold_most : (t : ThresholdValue) → length (threshold_bytes t) ≤ 8
+threshold_most t = omega (arith, limits_most t.kind, length-append (limit_bytes t.kind) (t.true_value ∷ t.false_value ∷ []))
+
+length-border_bytes : (border : Border) → length (border_bytes border) ≡ 2
+length-border_bytes Undefined = refl
+length-border_bytes (Constant value) = refl
+length-border_bytes Replicate = refl
+
+length-operand_bytes : (o : Option Cell) → length (operand_bytes o) ≡ 5
+length-operand_bytes None = refl
+length-operand_bytes (Some cell) = refl
+
+pub length-node_bytes : (n : Node) → length (node_bytes n) ≡ 25
+length-node_bytes n =
+    simp (length-append, length-border_bytes, length-operand_bytes) refl

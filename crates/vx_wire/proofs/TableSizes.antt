@@ -1,0 +1,79 @@
+-- Tables and thresholds are of U8 or S16.
+use Rattle.std.proofs.Common.{◌≡◌, ◌≢◌, ℕ, ℤ, ◌≤◌, ◌*◌, ◌≤ℤ◌, ◌&&◌, int_le, T, IsTrue, arith, refl, sym, subst}
+use Rattle.std.specs.Int.Signed.{le_z_yes}
+use Rattle.std.proofs.lemmas.Bool.{eqb-true}
+use Rattle.std.proofs.lemmas.Int.{ints}
+use Rattle.vx_base.specs.declared.format.Format.{Format}
+use Rattle.vx_base.specs.declared.format.Format.TheVariants.{U8, S16, U32}
+use Rattle.vx_base.specs.declared.threshold.ThresholdKind.TheVariants.{Binary, Range}
+use Rattle.vx_base.specs.Sample.{IsSample, least, greatest, range_size, sample_bytes}
+use Rattle.vx_base.specs.Lut.{is_full}
+use Rattle.vx_base.specs.Threshold.{is_sample, has_limits}
+use Rattle.vx_wire.proofs.NodeShape.{both, both_of}
+
+-- ---- how many entries a table has
+
+pub full_of : (format : Format) → format ≢ U32 → IsTrue (is_full format (range_size format))
+full_of U8 input = refl
+full_of S16 input = refl
+full_of U32 input = absurd (input refl)
+
+pub input_of : (format : Format) (count : ℕ) → IsTrue (is_full format count) → format ≢ U32
+input_of U8 count full = λ e. cc
+input_of S16 count full = λ e. cc
+input_of U32 count full = λ e. cc
+
+pub count_of : (format : Format) (count : ℕ) → IsTrue (is_full format count) → count ≡ range_size format
+count_of U8 count full = eqb-true count 256 full
+count_of S16 count full = eqb-true count 65536 full
+count_of U32 count full = cc
+
+pub bytes_most : (format : Format) (count : ℕ) → IsTrue (is_full format count) → count * sample_bytes format ≤ 131072
+bytes_most U8 count full = omega (arith, eqb-true count 256 full)
+bytes_most S16 count full = omega (arith, eqb-true count 65536 full)
+bytes_most U32 count full = cc
+
+-- ---- the limits of a threshold
+
+pub in_order : (a b : ℤ) → IsTrue (int_le a b) → a ≤ℤ b
+in_order a b is = le_z_yes (subst T (sym is) tt)
+
+-- a sample of U8 is one of S16
+pub sample_of : (format : Format) → format ≢ U32 → (z : ℤ) → IsTrue (is_sample format z) → IsSample S16 z
+sample_of U8 input z is =
+    let (low, high) = both_of (int_le (least U8) z) (int_le z (greatest U8)) is in
+    let at_least : least U8 ≤ℤ z = in_order (least U8) z low in
+    let at_most : z ≤ℤ greatest U8 = in_order z (greatest U8) high in
+    record { at_least = omega (arith, ints); at_most = omega (arith, ints) }
+sample_of S16 input z is =
+    let (low, high) = both_of (int_le (least S16) z) (int_le z (greatest S16)) is in
+    record { at_least = in_order (least S16) z low; at_most = in_order z (greatest S16) high }
+sample_of U32 input z is = absurd (input refl)
+
+pub has_binary : (format : Format) → format ≢ U32 → (t : ℤ) → IsTrue (is_sample format t) → IsTrue (has_limits format (Binary t))
+has_binary U8 input t is = is
+has_binary S16 input t is = is
+has_binary U32 input t is = absurd (input refl)
+
+pub has_range : (format : Format) → format ≢ U32 → (lower upper : ℤ) → IsTrue (is_sample format lower) → IsTrue (is_sample format upper) → IsTrue (int_le lower upper)
+    → IsTrue (has_limits format (Range lower upper))
+has_range U8 input lower upper low up ordered = both (is_sample U8 lower) (is_sample U8 upper && int_le lower upper) low (both (is_sample U8 upper) (int_le lower upper) up ordered)
+has_range S16 input lower upper low up ordered = both (is_sample S16 lower) (is_sample S16 upper && int_le lower upper) low (both (is_sample S16 upper) (int_le lower upper) up ordered)
+has_range U32 input lower upper low up ordered = absurd (input refl)
+
+pub binary_of : (format : Format) (t : ℤ) → IsTrue (has_limits format (Binary t)) → (format ≢ U32) × IsTrue (is_sample format t)
+binary_of U8 t is = (λ e. cc, is)
+binary_of S16 t is = (λ e. cc, is)
+binary_of U32 t is = cc
+
+pub range_of : (format : Format) (lower upper : ℤ) → IsTrue (has_limits format (Range lower upper))
+    → (format ≢ U32) × IsTrue (is_sample format lower) × IsTrue (is_sample format upper) × IsTrue (int_le lower upper)
+range_of U8 lower upper is =
+    let (low, others) = both_of (is_sample U8 lower) (is_sample U8 upper && int_le lower upper) is in
+    let (up, ordered) = both_of (is_sample U8 upper) (int_le lower upper) others in
+    (λ e. cc, low, up, ordered)
+range_of S16 lower upper is =
+    let (low, others) = both_of (is_sample S16 lower) (is_sample S16 upper && int_le lower upper) is in
+    let (up, ordered) = both_of (is_sample S16 upper) (int_le lower upper) others in
+    (λ e. cc, low, up, ordered)
+range_of U32 lower upper is = cc

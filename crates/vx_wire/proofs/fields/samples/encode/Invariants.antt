@@ -1,0 +1,9 @@
+use Rattle.std.proofs.Common.{◌≡◌, ◌*◌, take}
+use Rattle.std.specs.List.{flat_map}
+use Rattle.vx_base.specs.Sample.{sample_bytes}
+use Rattle.vx_wire.specs.Samples.{encoded_sample}
+use Rattle.vx_wire.proofs.fields.samples.encode.Given as goal
+
+abbrev pub invariant-loop-i : goal.invariant-loop-i
+invariant-loop-i g l =
+    take (l.i * sample_bytes g.S.WideSample.format) l.bytes ≡ flat_map (λ s. encoded_sample g.S.WideSample.format (g.S.WideSample.value s)) (take l.i l.samples)

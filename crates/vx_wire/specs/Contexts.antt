@@ -1,0 +1,9 @@
+-- The bodies of requests about contexts.
+use Rattle.std.specs.Prelude.{ℕ, List, Result}
+use Rattle.client_contexts.specs.declared.request.Request.{Request}
+use Rattle.client_contexts.specs.declared.request.Request.TheVariants.{OpenContext}
+use Rattle.vx_wire.specs.declared.body_fault.BodyFault.{BodyFault}
+use Rattle.vx_wire.specs.Fields.{at_end}
+
+abbrev pub open_context_in : List ℕ → Result Request BodyFault
+open_context_in body = at_end OpenContext body

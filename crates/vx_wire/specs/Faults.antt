@@ -1,0 +1,30 @@
+-- Why no request was read from a body, and the code of the reply.
+use Rattle.std.specs.Prelude.{◌≡◌, Result, Ok, Err}
+use Rattle.vx_base.specs.declared.code.Code.{Code}
+use Rattle.vx_base.specs.declared.code.Code.TheVariants as codes
+use Rattle.client_contexts.specs.declared.request.Request.{Request}
+use Rattle.vx_wire.specs.declared.body_fault.BodyFault.{BodyFault}
+use Rattle.vx_wire.specs.declared.body_fault.BodyFault.TheVariants.{InvalidParameters, InvalidFormat, InvalidDimension, InvalidValue}
+use Rattle.vx_wire.specs.declared.parse_fault.ParseFault.{ParseFault}
+use Rattle.vx_wire.specs.declared.parse_fault.ParseFault.TheVariants as parsing
+use Rattle.vx_wire.specs.Requests.{HoldsSamples}
+
+-- a body's fault, as parsing gives it
+abbrev pub parse_fault : BodyFault → ParseFault
+parse_fault InvalidParameters = parsing.InvalidParameters
+parse_fault InvalidFormat = parsing.InvalidFormat
+parse_fault InvalidDimension = parsing.InvalidDimension
+parse_fault InvalidValue = parsing.InvalidValue
+
+-- why parsing failed: there was no memory for the samples of the request that is spelled, or none is spelled
+abbrev pub FailsFor : Result Request BodyFault → ParseFault → Type 0
+FailsFor (Ok request) e = (e ≡ parsing.NoMemory) × HoldsSamples request
+FailsFor (Err fault) e = e ≡ parse_fault fault
+
+-- the code of the reply to a body from which no request was read
+abbrev pub fault_code : ParseFault → Code
+fault_code parsing.NoMemory = codes.NoMemory
+fault_code parsing.InvalidParameters = codes.InvalidParameters
+fault_code parsing.InvalidFormat = codes.InvalidFormat
+fault_code parsing.InvalidDimension = codes.InvalidDimension
+fault_code parsing.InvalidValue = codes.InvalidValue

@@ -1,0 +1,45 @@
+-- Taking fields from the front of a body, in order.
+use Rattle.std.specs.Prelude.{◌≡◌, ℕ, ◌+◌, ◌*◌, if◌then◌else◌, nat_le, List, [], ◌∷◌, length, take, drop, Option, Some, None, Result, Ok, Err, IfOk, IfErr}
+use Rattle.vx_wire.specs.declared.body_fault.BodyFault.{BodyFault}
+use Rattle.vx_wire.specs.declared.body_fault.BodyFault.TheVariants.{InvalidParameters}
+
+-- a field's value and the bytes after it, or the field's fault
+abbrev pub Taken : Type 0 → Type 0
+Taken A = Result (A × List ℕ) BodyFault
+
+-- a call took such a field from the front of the bytes and left those after it; or it gave the field's fault
+pub record Takes {A : Type 0} (take : List ℕ → Taken A) (old new : List ℕ) (result : Result A BodyFault) : Type 0 where
+  pub ok : IfOk result (λ x. take old ≡ Ok (x, new))
+  pub err : IfErr result (λ fault. take old ≡ Err fault)
+
+-- the first fault in the order of the fields is the body's
+abbrev pub and_then : {A B : Type 0} → Taken A → (A → List ℕ → Result B BodyFault) → Result B BodyFault
+and_then (Ok taken) next = next taken.0 taken.1
+and_then (Err fault) next = Err fault
+
+-- nothing may follow the last field
+abbrev pub at_end : {A : Type 0} → A → List ℕ → Result A BodyFault
+at_end value [] = Ok value
+at_end value (b ∷ rest) = Err InvalidParameters
+
+-- a value that is allowed, or the field's fault
+abbrev pub allowed : {A : Type 0} → BodyFault → Option A → List ℕ → Taken A
+allowed fault None rest = Err fault
+allowed fault (Some value) rest = Ok (value, rest)
+
+-- ---- numbers, most significant byte first; one that is cut short is InvalidParameters
+
+abbrev pub take_byte : List ℕ → Taken ℕ
+take_byte [] = Err InvalidParameters
+take_byte (a ∷ rest) = Ok (a, rest)
+
+abbrev pub take_short : List ℕ → Taken ℕ
+take_short body = and_then (take_byte body) (λ a rest. and_then (take_byte rest) (λ b rest. Ok (256 * a + b, rest)))
+
+abbrev pub take_long : List ℕ → Taken ℕ
+take_long body = and_then (take_short body) (λ a rest. and_then (take_short rest) (λ b rest. Ok (65536 * a + b, rest)))
+
+-- ---- so many bytes, which are one field
+
+abbrev pub take_bytes : ℕ → List ℕ → Taken (List ℕ)
+take_bytes n body = if nat_le n (length body) then Ok (take n body, drop n body) else Err InvalidParameters

@@ -1,0 +1,26 @@
+-- The format of samples, by its number.
+use Rattle.std.specs.Prelude.{ℕ, List, [], ◌∷◌, Option}
+use Rattle.vx_base.specs.declared.format.Format.{Format}
+use Rattle.vx_base.specs.declared.format.Format.TheVariants.{U8, S16, U32}
+use Rattle.vx_wire.specs.declared.body_fault.BodyFault.TheVariants.{InvalidFormat}
+use Rattle.vx_wire.specs.Numbered.{numbered}
+use Rattle.vx_wire.specs.Fields.{Taken, and_then, allowed, take_byte}
+
+abbrev pub format_number : Format → ℕ
+format_number U8 = 1
+format_number S16 = 2
+format_number U32 = 3
+
+-- the format with this number
+abbrev pub format_numbered : ℕ → Option Format
+format_numbered n = numbered format_number (U8 ∷ S16 ∷ U32 ∷ []) n
+
+abbrev pub take_format : List ℕ → Taken Format
+take_format body = and_then (take_byte body) (λ n rest. allowed InvalidFormat (format_numbered n) rest)
+
+-- the format with this number, of those that tables and thresholds take
+abbrev pub input_format_numbered : ℕ → Option Format
+input_format_numbered n = numbered format_number (U8 ∷ S16 ∷ []) n
+
+abbrev pub take_input_format : List ℕ → Taken Format
+take_input_format body = and_then (take_byte body) (λ n rest. allowed InvalidFormat (input_format_numbered n) rest)

@@ -1,0 +1,77 @@
+-- The nine fields of a node: function, border mode, constant, policy, amount, in1, in2, out1, out2.
+use Rattle.std.specs.Prelude.{ℕ, ◌==◌, ◌&&◌, if◌then◌else◌, nat_le, List, [], ◌∷◌, ◌++◌, Option, Some, None, Ok}
+use Rattle.std.specs.List.{find}
+use Rattle.vx_base.specs.declared.border.Border.{Border}
+use Rattle.vx_base.specs.declared.border.Border.TheVariants.{Undefined, Constant, Replicate}
+use Rattle.vx_base.specs.declared.policy.Policy.{Policy}
+use Rattle.vx_base.specs.declared.policy.Policy.TheVariants.{Wrap, Saturate}
+use Rattle.vx_base.specs.declared.function.Function.{Function}
+use Rattle.vx_base.specs.declared.function.Parameters.{Parameters}
+use Rattle.vx_base.specs.declared.node.Node.{Node}
+use Rattle.vx_base.specs.Function.{function_number, function_numbered, parameters}
+use Rattle.vx_wire.specs.declared.body_fault.BodyFault.TheVariants.{InvalidParameters, InvalidValue}
+use Rattle.vx_wire.specs.Numbered.{numbered}
+use Rattle.vx_wire.specs.Fields.{Taken, and_then, allowed, take_byte}
+use Rattle.vx_wire.specs.Reference.{reference_bytes}
+use Rattle.vx_wire.specs.Operand.{operand_bytes, take_first_input, take_operands}
+
+abbrev pub take_function : List ℕ → Taken Function
+take_function body = and_then (take_byte body) (λ n rest. allowed InvalidParameters (function_numbered n) rest)
+
+-- ---- the border: its mode, and the constant, which is 0 unless the mode is CONSTANT
+
+abbrev pub border_mode : Border → ℕ
+border_mode Undefined = 0
+border_mode (Constant value) = 1
+border_mode Replicate = 2
+
+abbrev pub border_constant : Border → ℕ
+border_constant Undefined = 0
+border_constant (Constant value) = value
+border_constant Replicate = 0
+
+abbrev pub border_bytes : Border → List ℕ
+border_bytes border = border_mode border ∷ border_constant border ∷ []
+
+-- the border with this mode and this constant
+abbrev pub border_with : ℕ → ℕ → Option Border
+border_with mode constant = find (λ b. (mode == border_mode b) && (constant == border_constant b)) (Undefined ∷ Constant constant ∷ Replicate ∷ [])
+
+abbrev pub take_border : List ℕ → Taken Border
+take_border body =
+    and_then (take_byte body) (λ mode rest. and_then (take_byte rest) (λ constant rest.
+    allowed InvalidParameters (border_with mode constant) rest))
+
+-- ---- the policy and the amount; one that the function lacks is 0
+
+abbrev pub policy_number : Policy → ℕ
+policy_number Wrap = 0
+policy_number Saturate = 1
+
+-- the policies that a node may have
+abbrev pub policies : Parameters → List Policy
+policies p = if p.policy then Wrap ∷ Saturate ∷ [] else Wrap ∷ []
+
+abbrev pub take_policy : Parameters → List ℕ → Taken Policy
+take_policy p body = and_then (take_byte body) (λ n rest. allowed InvalidParameters (numbered policy_number (policies p) n) rest)
+
+abbrev pub amount_allowed : Option ℕ → ℕ → List ℕ → Taken ℕ
+amount_allowed None n rest = allowed InvalidParameters (if n == 0 then Some n else None) rest
+amount_allowed (Some greatest) n rest = allowed InvalidValue (if nat_le n greatest then Some n else None) rest
+
+abbrev pub take_amount : Parameters → List ℕ → Taken ℕ
+take_amount p body = and_then (take_byte body) (λ n rest. amount_allowed p.greatest_amount n rest)
+
+-- ---- the node
+
+abbrev pub take_node : List ℕ → Taken Node
+take_node body =
+    and_then (take_function body) (λ function rest. and_then (take_border rest) (λ border rest.
+    and_then (take_policy (parameters function) rest) (λ policy rest. and_then (take_amount (parameters function) rest) (λ amount rest.
+    and_then (take_first_input rest) (λ in1 rest. and_then (take_operands (parameters function) rest) (λ others rest.
+    Ok (record { function = function; border = border; policy = policy; amount = amount; in1 = in1; in2 = others.0; out1 = others.1; out2 = others.2 }, rest)))))))
+
+abbrev pub node_bytes : Node → List ℕ
+node_bytes n =
+    function_number n.function ∷ (border_bytes n.border ++ policy_number n.policy ∷ n.amount
+    ∷ (reference_bytes n.in1 ++ (operand_bytes n.in2 ++ (operand_bytes n.out1 ++ operand_bytes n.out2))))

@@ -1,0 +1,51 @@
+-- The operands of a node. Name 0 without a slot stands for one that is absent.
+use Rattle.std.specs.Prelude.{ℕ, ◌&&◌, Bool, if◌then◌else◌, List, Option, Some, None, is_some, is_none, Ok}
+use Rattle.vx_base.specs.declared.function.Parameters.{Parameters}
+use Rattle.vx_base.specs.Cell.{Cell}
+use Rattle.vx_base.specs.Node.{is_nothing, is_named}
+use Rattle.vx_wire.specs.declared.body_fault.BodyFault.TheVariants.{InvalidParameters}
+use Rattle.vx_wire.specs.declared.fields.operand.Presence.{Presence}
+use Rattle.vx_wire.specs.declared.fields.operand.Presence.TheVariants.{Required, Absent, Free}
+use Rattle.vx_wire.specs.Fields.{Taken, and_then, allowed}
+use Rattle.vx_wire.specs.Reference.{take_reference, reference_bytes}
+
+-- the operand that a reference stands for, if it is there or isn't as its presence wants
+abbrev pub operand : Presence → Cell → Option (Option Cell)
+operand Required cell = if is_nothing cell then None else Some (Some cell)
+operand Absent cell = if is_nothing cell then Some None else None
+operand Free cell = if is_nothing cell then Some None else Some (Some cell)
+
+abbrev pub take_operand : Presence → List ℕ → Taken (Option Cell)
+take_operand presence body = and_then (take_reference body) (λ cell rest. allowed InvalidParameters (operand presence cell) rest)
+
+abbrev pub operand_bytes : Option Cell → List ℕ
+operand_bytes None = reference_bytes (record { name = 0; slot = None })
+operand_bytes (Some cell) = reference_bytes cell
+
+-- an operand that is one, and is there or isn't as its presence wants
+abbrev pub is_operand : Presence → Option Cell → Bool
+is_operand Required cell = is_some cell && is_named cell
+is_operand Absent cell = is_none cell
+is_operand Free cell = is_named cell
+
+-- ---- which operands the node of a function has
+
+abbrev pub second_input : Parameters → Presence
+second_input p = if is_some p.second_input then Required else Absent
+
+abbrev pub first_output : Parameters → Presence
+first_output p = if p.output_pair then Free else Required
+
+-- of two outputs at least one is there
+abbrev pub second_output : Parameters → Option Cell → Presence
+second_output p out1 = if p.output_pair then (if is_none out1 then Required else Free) else Absent
+
+abbrev pub take_first_input : List ℕ → Taken Cell
+take_first_input body =
+    and_then (take_reference body) (λ cell rest. allowed InvalidParameters (if is_nothing cell then None else Some cell) rest)
+
+-- the operands after the first input
+abbrev pub take_operands : Parameters → List ℕ → Taken (Option Cell × Option Cell × Option Cell)
+take_operands p body =
+    and_then (take_operand (second_input p) body) (λ in2 rest. and_then (take_operand (first_output p) rest) (λ out1 rest.
+    and_then (take_operand (second_output p out1) rest) (λ out2 rest. Ok ((in2, out1, out2), rest))))

@@ -1,0 +1,22 @@
+-- The codes and bodies of replies.
+use Rattle.std.specs.Prelude.{ℕ, List, []}
+use Rattle.std.specs.Int.{w32, to_be_bytes}
+use Rattle.vx_base.specs.declared.code.Code.{Code}
+use Rattle.vx_base.specs.Code.{code_number}
+use Rattle.client_contexts.specs.declared.reply.Reply.{Reply}
+use Rattle.client_contexts.specs.declared.reply.Reply.TheVariants.{Refused, Empty, Name, Picture}
+use Rattle.vx_wire.specs.Samples.{picture_bytes}
+
+-- a reply's code and body
+pub record Said : Type 0 where
+  pub code : ℕ
+  pub body : List ℕ
+
+abbrev pub refusal : Code → Said
+refusal code = record { code = code_number code; body = [] }
+
+abbrev pub said_of : Reply → Said
+said_of (Refused code) = refusal code
+said_of Empty = record { code = 0; body = [] }
+said_of (Name n) = record { code = 0; body = to_be_bytes w32 n }
+said_of (Picture p) = record { code = 0; body = picture_bytes p }

@@ -1,0 +1,58 @@
+-- Requests and their bodies. Each table goes by families: contexts, images, tables and thresholds, nodes that run at once.
+use Rattle.std.specs.Prelude.{ℕ, ⊤, List, [], ◌++◌, Option, Some, None, Result, Err}
+use Rattle.client_contexts.specs.declared.request.Request.{Request}
+use Rattle.client_contexts.specs.declared.request.Request.TheVariants.{OpenContext, CreateImage, WriteImage, ReadImage, CreateLut, CreateThreshold, Immediate}
+use Rattle.vx_wire.specs.declared.body_fault.BodyFault.{BodyFault}
+use Rattle.vx_wire.specs.declared.body_fault.BodyFault.TheVariants.{InvalidParameters}
+use Rattle.vx_wire.specs.declared.op.Op.{Op}
+use Rattle.vx_wire.specs.declared.op.Op.TheVariants as ops
+use Rattle.vx_wire.specs.Op.{op_numbered}
+use Rattle.vx_wire.specs.Description.{description_bytes}
+use Rattle.vx_wire.specs.Reference.{reference_bytes}
+use Rattle.vx_wire.specs.Samples.{picture_bytes}
+use Rattle.vx_wire.specs.Lut.{lut_bytes}
+use Rattle.vx_wire.specs.Threshold.{threshold_bytes}
+use Rattle.vx_wire.specs.Node.{node_bytes}
+use Rattle.vx_wire.specs.Contexts.{open_context_in}
+use Rattle.vx_wire.specs.Images.{create_image_in, write_image_in, read_image_in}
+use Rattle.vx_wire.specs.Tables.{create_lut_in, create_threshold_in}
+use Rattle.vx_wire.specs.Immediate.{immediate_in}
+
+-- the request that a body of this op spells
+abbrev pub request_with : Op → List ℕ → Result Request BodyFault
+request_with ops.OpenContext body = open_context_in body
+request_with ops.CreateImage body = create_image_in body
+request_with ops.WriteImage body = write_image_in body
+request_with ops.ReadImage body = read_image_in body
+request_with ops.CreateLut body = create_lut_in body
+request_with ops.CreateThreshold body = create_threshold_in body
+request_with ops.Immediate body = immediate_in body
+
+-- without an op it spells none
+abbrev pub request_with_known : Option Op → List ℕ → Result Request BodyFault
+request_with_known None body = Err InvalidParameters
+request_with_known (Some op) body = request_with op body
+
+-- the request that a body spells after an op's number
+abbrev pub request_of : ℕ → List ℕ → Result Request BodyFault
+request_of number body = request_with_known (op_numbered number) body
+
+-- the body that spells a request
+abbrev pub body_of : Request → List ℕ
+body_of OpenContext = []
+body_of (CreateImage d) = description_bytes d
+body_of (WriteImage image picture) = reference_bytes image ++ picture_bytes picture
+body_of (ReadImage image) = reference_bytes image
+body_of (CreateLut lut) = lut_bytes lut
+body_of (CreateThreshold threshold) = threshold_bytes threshold
+body_of (Immediate node) = node_bytes node
+
+-- a request whose body holds samples or entries, for which parsing takes memory
+abbrev pub HoldsSamples : Request → Type 0
+HoldsSamples OpenContext = ⊥
+HoldsSamples (CreateImage d) = ⊥
+HoldsSamples (WriteImage image picture) = ⊤
+HoldsSamples (ReadImage image) = ⊥
+HoldsSamples (CreateLut lut) = ⊤
+HoldsSamples (CreateThreshold threshold) = ⊥
+HoldsSamples (Immediate node) = ⊥

@@ -1,0 +1,45 @@
+-- Samples as bytes: each of 1, 2 or 4, the most significant first.
+use Rattle.std.specs.Prelude.{ℕ, zero, suc, ◌*◌, ℤ, pos, unsigned_abs, List, [], ◌∷◌, ◌++◌, take, drop, Ok}
+use Rattle.std.specs.List.{flat_map}
+use Rattle.std.specs.Int.{w8, w16, w32, to_be_bytes, from_be_bytes, cast_unsigned}
+use Rattle.vx_base.specs.declared.format.Format.{Format}
+use Rattle.vx_base.specs.declared.format.Format.TheVariants.{U8, S16, U32}
+use Rattle.vx_base.specs.Sample.{sample_bytes, signed_of}
+use Rattle.vx_base.specs.Description.{sample_count}
+use Rattle.vx_base.specs.Picture.{PictureValue}
+use Rattle.vx_wire.specs.Fields.{Taken, and_then, take_bytes}
+use Rattle.vx_wire.specs.Description.{take_description, description_bytes}
+
+-- the sample that these bytes encode
+abbrev pub decoded_sample : Format → List ℕ → ℤ
+decoded_sample U8 bytes = pos (from_be_bytes w8 bytes)
+decoded_sample S16 bytes = signed_of (pos (from_be_bytes w16 bytes))
+decoded_sample U32 bytes = pos (from_be_bytes w32 bytes)
+
+-- the bytes of a sample
+abbrev pub encoded_sample : Format → ℤ → List ℕ
+encoded_sample U8 z = unsigned_abs z ∷ []
+encoded_sample S16 z = to_be_bytes w16 (cast_unsigned w16 z)
+encoded_sample U32 z = to_be_bytes w32 (unsigned_abs z)
+
+-- so many samples, one after the other
+abbrev pub decoded : Format → ℕ → List ℕ → List ℤ
+decoded format zero bytes = []
+decoded format (suc count) bytes = decoded_sample format (take (sample_bytes format) bytes) ∷ decoded format count (drop (sample_bytes format) bytes)
+
+abbrev pub encoded : Format → List ℤ → List ℕ
+encoded format samples = flat_map (encoded_sample format) samples
+
+-- they are one field
+abbrev pub take_samples : Format → ℕ → List ℕ → Taken (List ℤ)
+take_samples format count body = and_then (take_bytes (count * sample_bytes format) body) (λ bytes rest. Ok (decoded format count bytes, rest))
+
+-- ---- pictures: the description, and then the samples by rows from the top
+
+abbrev pub take_picture : List ℕ → Taken PictureValue
+take_picture body =
+    and_then (take_description body) (λ d rest. and_then (take_samples d.format (sample_count d) rest) (λ samples rest.
+    Ok (record { description = d; samples = samples }, rest)))
+
+abbrev pub picture_bytes : PictureValue → List ℕ
+picture_bytes p = description_bytes p.description ++ encoded p.description.format p.samples

@@ -1,0 +1,91 @@
+//! Worked examples: what bodies spell, in bytes.
+ghost use Rattle.std.specs.Prelude.{◌≡◌, [], ◌∷◌, Some, None, Ok, Err, pos, negsuc};
+ghost use Rattle.vx_base.specs.declared.format.Format.TheVariants.{U8, S16, U32};
+ghost use Rattle.vx_base.specs.declared.policy.Policy.TheVariants.{Wrap, Saturate};
+ghost use Rattle.vx_base.specs.declared.border.Border.TheVariants.{Undefined, Constant};
+ghost use Rattle.vx_base.specs.declared.function.Function.TheVariants.{NotBits, Multiply};
+ghost use Rattle.vx_base.specs.declared.threshold.ThresholdKind.TheVariants.{Binary, Range};
+ghost use Rattle.client_contexts.specs.declared.request.Request.TheVariants.{OpenContext, CreateImage, WriteImage, ReadImage, CreateThreshold, Immediate};
+ghost use Rattle.vx_wire.specs.declared.body_fault.BodyFault.TheVariants.{InvalidParameters, InvalidFormat, InvalidDimension, InvalidValue};
+ghost use Rattle.vx_wire.specs.Requests.{request_of, body_of};
+
+/// Contexts are opened by an empty body, and no request has another op than those of the table.
+pub fn ops()
+    ensures open { request_of 1 [] ≡ Ok OpenContext }
+    ensures open_with_more { request_of 1 (0 ∷ []) ≡ Err InvalidParameters }
+    ensures none { request_of 0 [] ≡ Err InvalidParameters }
+    ensures not_known { request_of 200 [] ≡ Err InvalidParameters }
+{}
+
+/// Images of one sample, of 4096 by 2 samples, and of what no image has.
+pub fn images_made()
+    ensures smallest { request_of 3 (1 ∷ 0 ∷ 1 ∷ 0 ∷ 1 ∷ []) ≡ Ok (CreateImage (record { width = 1; height = 1; format = U8 })) }
+    ensures wide { request_of 3 (3 ∷ 16 ∷ 0 ∷ 0 ∷ 2 ∷ []) ≡ Ok (CreateImage (record { width = 4096; height = 2; format = U32 })) }
+    ensures no_format { request_of 3 (4 ∷ 0 ∷ 1 ∷ 0 ∷ 1 ∷ []) ≡ Err InvalidFormat }
+    ensures no_width { request_of 3 (1 ∷ 0 ∷ 0 ∷ 0 ∷ 1 ∷ []) ≡ Err InvalidDimension }
+    ensures too_high { request_of 3 (1 ∷ 0 ∷ 1 ∷ 16 ∷ 1 ∷ []) ≡ Err InvalidDimension }
+    ensures cut { request_of 3 (1 ∷ 0 ∷ 1 ∷ 0 ∷ []) ≡ Err InvalidParameters }
+    ensures more { request_of 3 (1 ∷ 0 ∷ 1 ∷ 0 ∷ 1 ∷ 0 ∷ []) ≡ Err InvalidParameters }
+    ensures first_fault { request_of 3 (4 ∷ 0 ∷ []) ≡ Err InvalidFormat }
+{}
+
+/// Two samples of -2 and 1 that are written to image 7, and slot 3 of delay 258 that is read.
+pub fn images_written_and_read()
+    ensures written { request_of 5 (0 ∷ 0 ∷ 0 ∷ 7 ∷ 255 ∷ 2 ∷ 0 ∷ 2 ∷ 0 ∷ 1 ∷ 255 ∷ 254 ∷ 0 ∷ 1 ∷ [])
+        ≡ Ok (WriteImage (record { name = 7; slot = None }) (record { description = record { width = 2; height = 1; format = S16 }; samples = negsuc 1 ∷ pos 1 ∷ [] })) }
+    ensures a_byte_short { request_of 5 (0 ∷ 0 ∷ 0 ∷ 7 ∷ 255 ∷ 2 ∷ 0 ∷ 2 ∷ 0 ∷ 1 ∷ 255 ∷ 254 ∷ 0 ∷ []) ≡ Err InvalidParameters }
+    ensures a_byte_more { request_of 5 (0 ∷ 0 ∷ 0 ∷ 7 ∷ 255 ∷ 1 ∷ 0 ∷ 1 ∷ 0 ∷ 1 ∷ 9 ∷ 9 ∷ []) ≡ Err InvalidParameters }
+    ensures read { request_of 7 (0 ∷ 0 ∷ 1 ∷ 2 ∷ 3 ∷ []) ≡ Ok (ReadImage (record { name = 258; slot = Some 3 })) }
+{}
+
+/// Tables of what no table is of, and tables that are cut short.
+pub fn tables()
+    ensures no_format { request_of 11 (3 ∷ []) ≡ Err InvalidFormat }
+    ensures one_entry { request_of 11 (1 ∷ 5 ∷ []) ≡ Err InvalidParameters }
+    ensures no_entries { request_of 11 (2 ∷ []) ≡ Err InvalidParameters }
+    ensures empty { request_of 11 [] ≡ Err InvalidParameters }
+{}
+
+/// U8 samples above 10, S16 samples from -1 to 2, and thresholds of what none is.
+pub fn thresholds()
+    ensures binary { request_of 12 (0 ∷ 1 ∷ 0 ∷ 10 ∷ 255 ∷ 0 ∷ [])
+        ≡ Ok (CreateThreshold (record { format = U8; kind = Binary (pos 10); true_value = 255; false_value = 0 })) }
+    ensures range { request_of 12 (1 ∷ 2 ∷ 255 ∷ 255 ∷ 0 ∷ 2 ∷ 255 ∷ 0 ∷ [])
+        ≡ Ok (CreateThreshold (record { format = S16; kind = Range (negsuc 0) (pos 2); true_value = 255; false_value = 0 })) }
+    ensures no_kind { request_of 12 (2 ∷ 1 ∷ 0 ∷ 10 ∷ 255 ∷ 0 ∷ []) ≡ Err InvalidParameters }
+    ensures no_format { request_of 12 (0 ∷ 3 ∷ 0 ∷ 10 ∷ 255 ∷ 0 ∷ []) ≡ Err InvalidFormat }
+    ensures below { request_of 12 (0 ∷ 1 ∷ 255 ∷ 255 ∷ 255 ∷ 0 ∷ []) ≡ Err InvalidValue }
+    ensures above { request_of 12 (0 ∷ 1 ∷ 1 ∷ 0 ∷ 255 ∷ 0 ∷ []) ≡ Err InvalidValue }
+    ensures turned { request_of 12 (1 ∷ 2 ∷ 0 ∷ 2 ∷ 255 ∷ 255 ∷ 255 ∷ 0 ∷ []) ≡ Err InvalidValue }
+    ensures cut { request_of 12 (0 ∷ 1 ∷ []) ≡ Err InvalidParameters }
+    ensures more { request_of 12 (0 ∷ 1 ∷ 0 ∷ 10 ∷ 255 ∷ 0 ∷ 0 ∷ []) ≡ Err InvalidParameters }
+{}
+
+/// Not of image 1 to image 2, and nodes of Not with what it lacks or without what it has.
+pub fn nodes()
+    ensures whole { request_of 24 (4 ∷ 0 ∷ 0 ∷ 0 ∷ 0 ∷ 0 ∷ 0 ∷ 0 ∷ 1 ∷ 255 ∷ 0 ∷ 0 ∷ 0 ∷ 0 ∷ 255 ∷ 0 ∷ 0 ∷ 0 ∷ 2 ∷ 255 ∷ 0 ∷ 0 ∷ 0 ∷ 0 ∷ 255 ∷ [])
+        ≡ Ok (Immediate (record { function = NotBits; border = Undefined; policy = Wrap; amount = 0; in1 = record { name = 1; slot = None }; in2 = None; out1 = Some (record { name = 2; slot = None }); out2 = None })) }
+    ensures constant { request_of 24 (4 ∷ 1 ∷ 5 ∷ 0 ∷ 0 ∷ 0 ∷ 0 ∷ 0 ∷ 1 ∷ 255 ∷ 0 ∷ 0 ∷ 0 ∷ 0 ∷ 255 ∷ 0 ∷ 0 ∷ 0 ∷ 2 ∷ 255 ∷ 0 ∷ 0 ∷ 0 ∷ 0 ∷ 255 ∷ [])
+        ≡ Ok (Immediate (record { function = NotBits; border = Constant 5; policy = Wrap; amount = 0; in1 = record { name = 1; slot = None }; in2 = None; out1 = Some (record { name = 2; slot = None }); out2 = None })) }
+    ensures cut { request_of 24 (4 ∷ []) ≡ Err InvalidParameters }
+    ensures other_policy { request_of 24 (4 ∷ 0 ∷ 0 ∷ 1 ∷ 0 ∷ 0 ∷ 0 ∷ 0 ∷ 1 ∷ 255 ∷ 0 ∷ 0 ∷ 0 ∷ 0 ∷ 255 ∷ 0 ∷ 0 ∷ 0 ∷ 2 ∷ 255 ∷ 0 ∷ 0 ∷ 0 ∷ 0 ∷ 255 ∷ []) ≡ Err InvalidParameters }
+    ensures other_constant { request_of 24 (4 ∷ 0 ∷ 5 ∷ 0 ∷ 0 ∷ 0 ∷ 0 ∷ 0 ∷ 1 ∷ 255 ∷ 0 ∷ 0 ∷ 0 ∷ 0 ∷ 255 ∷ 0 ∷ 0 ∷ 0 ∷ 2 ∷ 255 ∷ 0 ∷ 0 ∷ 0 ∷ 0 ∷ 255 ∷ []) ≡ Err InvalidParameters }
+    ensures no_input { request_of 24 (4 ∷ 0 ∷ 0 ∷ 0 ∷ 0 ∷ 0 ∷ 0 ∷ 0 ∷ 0 ∷ 255 ∷ 0 ∷ 0 ∷ 0 ∷ 0 ∷ 255 ∷ 0 ∷ 0 ∷ 0 ∷ 2 ∷ 255 ∷ 0 ∷ 0 ∷ 0 ∷ 0 ∷ 255 ∷ []) ≡ Err InvalidParameters }
+    ensures second_input { request_of 24 (4 ∷ 0 ∷ 0 ∷ 0 ∷ 0 ∷ 0 ∷ 0 ∷ 0 ∷ 1 ∷ 255 ∷ 0 ∷ 0 ∷ 0 ∷ 3 ∷ 255 ∷ 0 ∷ 0 ∷ 0 ∷ 2 ∷ 255 ∷ 0 ∷ 0 ∷ 0 ∷ 0 ∷ 255 ∷ []) ≡ Err InvalidParameters }
+{}
+
+/// Multiply of images 1 and 2 to image 3 by 1 / 2^15, saturating, and amounts beyond 15.
+pub fn multiplied()
+    ensures whole { request_of 24 (7 ∷ 0 ∷ 0 ∷ 1 ∷ 15 ∷ 0 ∷ 0 ∷ 0 ∷ 1 ∷ 255 ∷ 0 ∷ 0 ∷ 0 ∷ 2 ∷ 255 ∷ 0 ∷ 0 ∷ 0 ∷ 3 ∷ 255 ∷ 0 ∷ 0 ∷ 0 ∷ 0 ∷ 255 ∷ [])
+        ≡ Ok (Immediate (record { function = Multiply; border = Undefined; policy = Saturate; amount = 15; in1 = record { name = 1; slot = None }; in2 = Some (record { name = 2; slot = None }); out1 = Some (record { name = 3; slot = None }); out2 = None })) }
+    ensures too_much { request_of 24 (7 ∷ 0 ∷ 0 ∷ 1 ∷ 16 ∷ 0 ∷ 0 ∷ 0 ∷ 1 ∷ 255 ∷ 0 ∷ 0 ∷ 0 ∷ 2 ∷ 255 ∷ 0 ∷ 0 ∷ 0 ∷ 3 ∷ 255 ∷ 0 ∷ 0 ∷ 0 ∷ 0 ∷ 255 ∷ []) ≡ Err InvalidValue }
+    ensures too_much_and_cut { request_of 24 (7 ∷ 0 ∷ 0 ∷ 0 ∷ 16 ∷ []) ≡ Err InvalidValue }
+{}
+
+/// The spellings of a picture and of a threshold.
+pub fn spelled()
+    ensures picture { body_of (WriteImage (record { name = 7; slot = None }) (record { description = record { width = 2; height = 1; format = S16 }; samples = negsuc 1 ∷ pos 1 ∷ [] }))
+        ≡ 0 ∷ 0 ∷ 0 ∷ 7 ∷ 255 ∷ 2 ∷ 0 ∷ 2 ∷ 0 ∷ 1 ∷ 255 ∷ 254 ∷ 0 ∷ 1 ∷ [] }
+    ensures threshold { body_of (CreateThreshold (record { format = S16; kind = Range (negsuc 0) (pos 2); true_value = 255; false_value = 0 }))
+        ≡ 1 ∷ 2 ∷ 255 ∷ 255 ∷ 0 ∷ 2 ∷ 255 ∷ 0 ∷ [] }
+{}

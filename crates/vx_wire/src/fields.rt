@@ -1,0 +1,99 @@
+//! Taking fields from the front of a body, in order.
+ghost use Rattle.std.specs.Prelude.{◌≡◌, length, Ok, Err, IfOk, IfErr, OnOk};
+ghost use Rattle.client_contexts.specs.declared.request.Request.{Request as RequestValue};
+ghost use Rattle.vx_wire.specs.Fields.{Takes, take_byte, take_short, take_long, take_bytes, at_end};
+
+pub mod description;
+pub mod format;
+pub mod node;
+pub mod operand;
+pub mod reference;
+pub mod samples;
+pub mod threshold;
+
+use crate::body_fault::BodyFault;
+use std::marker::Model;
+
+/// The bytes of a body that are left.
+///
+/// Each method takes one field from their front, and so does each function of the modules here.
+/// After a fault nothing is said of what is left: the first fault ends the reading of a body.
+#[derive(Drop)]
+pub struct Fields<'a> {
+    rest: &'a [u8],
+}
+
+impl<'a> Model for Fields<'a> {
+    ghost use Rattle.std.specs.Prelude.{ℕ, List};
+
+    ghost Value = { List ℕ };
+
+    ghost view = { λ f. f.rest.now };
+}
+
+impl<'a> Fields<'a> {
+    /// All fields of the body.
+    pub fn new(body: &'a [u8]) -> Fields<'a>
+        ensures { result ≡ body.now }
+    {
+        Fields { rest: body }
+    }
+
+    /// A number of one byte.
+    pub fn byte(&mut self) -> Result<u8, BodyFault>
+        ensures { Takes take_byte self.old self.new result }
+    {
+        match self.rest.split_first() {
+            Some((byte, rest)) => {
+                self.rest = rest;
+                Ok(*byte)
+            }
+            None => Err(BodyFault::InvalidParameters),
+        }
+    }
+
+    /// A number of two bytes.
+    pub fn short(&mut self) -> Result<u16, BodyFault>
+        ensures { Takes take_short self.old self.new result }
+    {
+        let high = self.byte()?;
+        let low = self.byte()?;
+        Ok(u16::from_be_bytes([high, low]))
+    }
+
+    /// A number of four bytes.
+    pub fn long(&mut self) -> Result<u32, BodyFault>
+        ensures { Takes take_long self.old self.new result }
+    {
+        let high = self.short()?;
+        let low = self.short()?;
+        Ok(u32::from(high) * 65536 + u32::from(low))
+    }
+
+    /// So many bytes, which are one field.
+    pub fn bytes(&mut self, count: usize) -> Result<&'a [u8], BodyFault>
+        ensures ok { IfOk result (λ bytes. take_bytes count self.old ≡ Ok (bytes.now, self.new)) }
+        ensures len { IfOk result (λ bytes. length bytes.now ≡ count) }
+        ensures err { IfErr result (λ e. take_bytes count self.old ≡ Err e) }
+    {
+        match self.rest.split_at_checked(count) {
+            Some((bytes, rest)) => {
+                self.rest = rest;
+                Ok(bytes)
+            }
+            None => Err(BodyFault::InvalidParameters),
+        }
+    }
+
+    /// The end: nothing follows the last field.
+    pub fn end(&self) -> Result<(), BodyFault>
+        ensures ok { OnOk result ((request : RequestValue) → at_end request self.now ≡ Ok request) }
+        ensures err { IfErr result (λ e. (request : RequestValue) → at_end request self.now ≡ Err e) }
+    {
+        if self.rest.is_empty() {
+            Ok(())
+        } else {
+            Err(BodyFault::InvalidParameters)
+        }
+    }
+}

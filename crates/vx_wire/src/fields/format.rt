@@ -1,0 +1,44 @@
+//! The format of samples, by its number.
+ghost use Rattle.std.specs.Prelude.{◌≡◌, ◌≢◌, IfOk};
+ghost use Rattle.vx_base.specs.declared.format.Format.TheVariants.{U32 as FormatU32};
+ghost use Rattle.vx_wire.specs.Fields.{Takes};
+ghost use Rattle.vx_wire.specs.Format.{format_number, take_format, take_input_format};
+
+use crate::body_fault::BodyFault;
+use crate::fields::Fields;
+use vx_base::Format;
+
+/// The format of an image: 1, 2 or 3.
+pub fn take_format(fields: &mut Fields) -> Result<Format, BodyFault>
+    ensures { Takes take_format fields.old fields.new result }
+{
+    match fields.byte()? {
+        1 => Ok(Format::U8),
+        2 => Ok(Format::S16),
+        3 => Ok(Format::U32),
+        _ => Err(BodyFault::InvalidFormat),
+    }
+}
+
+/// The format of the samples that a table or a threshold takes: 1 or 2.
+pub fn take_input_format(fields: &mut Fields) -> Result<Format, BodyFault>
+    ensures taken { Takes take_input_format fields.old fields.new result }
+    ensures input { IfOk result (λ f. f ≢ FormatU32) }
+{
+    match fields.byte()? {
+        1 => Ok(Format::U8),
+        2 => Ok(Format::S16),
+        _ => Err(BodyFault::InvalidFormat),
+    }
+}
+
+/// The number of a format.
+pub fn format_number(format: Format) -> u8
+    ensures { result ≡ format_number format }
+{
+    match format {
+        Format::U8 => 1,
+        Format::S16 => 2,
+        Format::U32 => 3,
+    }
+}

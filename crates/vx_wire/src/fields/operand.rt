@@ -1,0 +1,104 @@
+//! The operands of a node. Name 0 without a slot stands for one that is absent.
+ghost use Rattle.std.specs.Prelude.{◌≡◌, not, IfOk, IsTrue};
+ghost use Rattle.vx_base.specs.Node.{is_nothing};
+ghost use Rattle.vx_wire.specs.Fields.{Takes};
+ghost use Rattle.vx_wire.specs.Operand.{take_operand, operand_bytes, is_operand, second_input, first_output, second_output, take_first_input, take_operands};
+
+use crate::body_fault::BodyFault;
+use crate::fields::Fields;
+use crate::fields::reference::{reference_bytes, take_reference};
+use vx_base::{ObjRef, Parameters};
+
+/// Whether an operand has to be there.
+#[derive(Clone, Copy, Debug, PartialEq, Eq)]
+pub enum Presence {
+    /// The node has the operand.
+    Required,
+    /// The node's function lacks it.
+    Absent,
+    /// It may be left out.
+    Free,
+}
+
+/// An operand, or `None` where it is absent.
+fn take_operand(fields: &mut Fields, presence: Presence) -> Result<Option<ObjRef>, BodyFault>
+    ensures taken { Takes (take_operand presence) fields.old fields.new result }
+    ensures has { IfOk result (λ o. IsTrue (is_operand presence o)) }
+{
+    let reference = take_reference(fields)?;
+    match (presence, reference.is_nothing()) {
+        (Presence::Required | Presence::Free, false) => Ok(Some(reference)),
+        (Presence::Absent | Presence::Free, true) => Ok(None),
+        _ => Err(BodyFault::InvalidParameters),
+    }
+}
+
+/// The bytes of an operand.
+pub fn operand_bytes(operand: Option<ObjRef>) -> [u8; 5]
+    ensures { result ≡ operand_bytes operand }
+{
+    match operand {
+        None => reference_bytes(ObjRef::new(0, None)),
+        Some(reference) => reference_bytes(reference),
+    }
+}
+
+fn second_input(parameters: Parameters) -> Presence
+    ensures { result ≡ second_input parameters }
+{
+    if parameters.second_input.is_some() {
+        Presence::Required
+    } else {
+        Presence::Absent
+    }
+}
+
+fn first_output(parameters: Parameters) -> Presence
+    ensures { result ≡ first_output parameters }
+{
+    if parameters.output_pair {
+        Presence::Free
+    } else {
+        Presence::Required
+    }
+}
+
+/// Of two outputs at least one is there.
+fn second_output(parameters: Parameters, out1: &Option<ObjRef>) -> Presence
+    ensures { result ≡ second_output parameters out1.now }
+{
+    match (parameters.output_pair, out1) {
+        (false, _) => Presence::Absent,
+        (true, None) => Presence::Required,
+        (true, Some(_)) => Presence::Free,
+    }
+}
+
+/// The first input.
+pub fn take_first_input(fields: &mut Fields) -> Result<ObjRef, BodyFault>
+    ensures taken { Takes take_first_input fields.old fields.new result }
+    ensures has { IfOk result (λ cell. IsTrue (not (is_nothing cell))) }
+{
+    let reference = take_reference(fields)?;
+    if reference.is_nothing() {
+        Err(BodyFault::InvalidParameters)
+    } else {
+        Ok(reference)
+    }
+}
+
+/// The second input and the outputs.
+pub fn take_operands(
+    fields: &mut Fields,
+    parameters: Parameters,
+) -> Result<(Option<ObjRef>, Option<ObjRef>, Option<ObjRef>), BodyFault>
+    ensures taken { Takes (take_operands parameters) fields.old fields.new result }
+    ensures in2 { IfOk result (λ others. IsTrue (is_operand (second_input parameters) others.0)) }
+    ensures out1 { IfOk result (λ others. IsTrue (is_operand (first_output parameters) others.1)) }
+    ensures out2 { IfOk result (λ others. IsTrue (is_operand (second_output parameters others.1) others.2)) }
+{
+    let in2 = take_operand(fields, second_input(parameters))?;
+    let out1 = take_operand(fields, first_output(parameters))?;
+    let out2 = take_operand(fields, second_output(parameters, &out1))?;
+    Ok((in2, out1, out2))
+}

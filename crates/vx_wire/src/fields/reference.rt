@@ -1,0 +1,34 @@
+//! References to objects: a name and a slot, where 255 stands for none.
+ghost use Rattle.std.specs.Prelude.{◌≡◌, ◌<◌};
+ghost use Rattle.std.specs.Option.{ForSome};
+ghost use Rattle.vx_wire.specs.Fields.{Takes};
+ghost use Rattle.vx_wire.specs.Reference.{slot_numbered, take_reference, reference_bytes};
+
+use crate::body_fault::BodyFault;
+use crate::fields::Fields;
+use vx_base::ObjRef;
+
+/// A reference.
+pub fn take_reference(fields: &mut Fields) -> Result<ObjRef, BodyFault>
+    ensures { Takes take_reference fields.old fields.new result }
+{
+    let name = fields.long()?;
+    let slot = fields.byte()?;
+    Ok(ObjRef::new(name, slot_numbered(slot)))
+}
+
+/// The slot with this number, if it is one.
+fn slot_numbered(number: u8) -> Option<u8>
+    ensures value { result ≡ slot_numbered number }
+    ensures limit { ForSome result (λ k. k < 255) }
+{
+    if number == 255 { None } else { Some(number) }
+}
+
+/// The bytes of a reference.
+pub fn reference_bytes(reference: ObjRef) -> [u8; 5]
+    ensures { result ≡ reference_bytes reference }
+{
+    let [a, b, c, d] = reference.name().to_be_bytes();
+    [a, b, c, d, reference.slot().unwrap_or(255)]
+}

@@ -1,0 +1,3 @@
+//! What the definitions mean: functions that do nothing, whose contracts are facts.
+
+pub mod bodies;

@@ -1,0 +1,36 @@
+//! The bodies of requests and replies, as bytes.
+//!
+//! `parse` reads the request that a body spells; the functions named after what they encode, as
+//! `description_bytes`, give the bytes of a field. A field that is read and then encoded gives its
+//! bytes again, and the laws say so of whole requests. No stream, no frame and no client stands
+//! here.
+//!
+//! - `op`: what kind of request a frame holds, and its number
+//! - `body_fault`, `parse_fault`: why a body spells no request, and why none was read
+//! - `fields`: taking fields from the front of a body, and in its modules what each subject takes
+//!   and gives: `format`, `description`, `reference`, `samples`, `threshold`, `operand`, `node`
+//! - `requests`: the bodies of requests, by families: `contexts`, `images`, `tables` (and
+//!   thresholds), `immediate`
+//! - `parsing`: the body of any request
+//! - `laws`, `examples`: what the definitions mean
+#![tactic(auto)]
+
+mod body_fault;
+pub mod examples;
+mod fields;
+pub mod laws;
+mod op;
+mod parse_fault;
+mod parsing;
+mod requests;
+
+pub use body_fault::BodyFault;
+pub use fields::description::description_bytes;
+pub use fields::format::format_number;
+pub use fields::node::node_bytes;
+pub use fields::reference::reference_bytes;
+pub use fields::samples::{WideSample, encode};
+pub use fields::threshold::{binary_bytes, range_bytes};
+pub use op::Op;
+pub use parse_fault::ParseFault;
+pub use parsing::parse;

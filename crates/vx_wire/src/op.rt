@@ -1,0 +1,67 @@
+//! The ops of requests.
+ghost use Rattle.std.specs.Prelude.{◌≡◌, ◌↔◌, Some};
+ghost use Rattle.vx_wire.specs.declared.op.Op.{Op as RequestOp};
+ghost use Rattle.vx_wire.specs.Op.{op_number, op_numbered, op_of};
+
+use client_contexts::Request;
+
+/// What kind of request a frame holds.
+#[derive(Clone, Copy, PartialEq, Eq, Debug)]
+pub enum Op {
+    OpenContext,
+    CreateImage,
+    WriteImage,
+    ReadImage,
+    CreateLut,
+    CreateThreshold,
+    Immediate,
+}
+
+impl Op {
+    /// The byte that stands for the op in a frame.
+    pub fn number(self) -> u8
+        ensures { result ≡ op_number self }
+    {
+        match self {
+            Op::OpenContext => 1,
+            Op::CreateImage => 3,
+            Op::WriteImage => 5,
+            Op::ReadImage => 7,
+            Op::CreateLut => 11,
+            Op::CreateThreshold => 12,
+            Op::Immediate => 24,
+        }
+    }
+
+    /// The op with this number, if there is one.
+    pub fn from_number(number: u8) -> Option<Op>
+        ensures value { result ≡ op_numbered number }
+        ensures inverse { (op : RequestOp) → (result ≡ Some op) ↔ (op_number op ≡ number) }
+    {
+        match number {
+            1 => Some(Op::OpenContext),
+            3 => Some(Op::CreateImage),
+            5 => Some(Op::WriteImage),
+            7 => Some(Op::ReadImage),
+            11 => Some(Op::CreateLut),
+            12 => Some(Op::CreateThreshold),
+            24 => Some(Op::Immediate),
+            _ => None,
+        }
+    }
+
+    /// The op of a request.
+    pub fn of(request: &Request) -> Op
+        ensures { result ≡ op_of request.now }
+    {
+        match request {
+            Request::OpenContext => Op::OpenContext,
+            Request::CreateImage(_) => Op::CreateImage,
+            Request::WriteImage(_, _) => Op::WriteImage,
+            Request::ReadImage(_) => Op::ReadImage,
+            Request::CreateLut(_) => Op::CreateLut,
+            Request::CreateThreshold(_) => Op::CreateThreshold,
+            Request::Immediate(_) => Op::Immediate,
+        }
+    }
+}

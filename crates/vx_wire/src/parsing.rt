@@ -1,0 +1,35 @@
+//! The body of any request.
+ghost use Rattle.std.specs.Prelude.{◌≡◌, Ok, IfOk, IfErr};
+ghost use Rattle.vx_wire.specs.Faults.{FailsFor};
+ghost use Rattle.vx_wire.specs.Requests.{request_of};
+
+use crate::op::Op;
+use crate::parse_fault::ParseFault;
+use crate::requests::contexts::open_context;
+use crate::requests::images::{create_image, read_image, write_image};
+use crate::requests::immediate::immediate;
+use crate::requests::tables::{create_lut, create_threshold};
+use client_contexts::Request;
+use std::alloc::Global;
+
+/// The request that a body spells after the number of its op.
+///
+/// The fault is that of the first field that is cut short or isn't allowed, and
+/// `InvalidParameters` where something follows the last field or no op has the number. Memory is
+/// taken for the samples of a picture or the entries of a table alone, and only once nothing else
+/// is wrong.
+pub fn parse(alloc: Global, op: u8, body: &[u8]) -> Result<Request, ParseFault>
+    ensures ok { IfOk result (λ request. request_of op body.now ≡ Ok request) }
+    ensures err { IfErr result (FailsFor (request_of op body.now)) }
+{
+    match Op::from_number(op) {
+        None => Err(ParseFault::InvalidParameters),
+        Some(Op::OpenContext) => Ok(open_context(body)?),
+        Some(Op::CreateImage) => Ok(create_image(body)?),
+        Some(Op::WriteImage) => write_image(alloc, body),
+        Some(Op::ReadImage) => Ok(read_image(body)?),
+        Some(Op::CreateLut) => create_lut(alloc, body),
+        Some(Op::CreateThreshold) => Ok(create_threshold(body)?),
+        Some(Op::Immediate) => Ok(immediate(body)?),
+    }
+}

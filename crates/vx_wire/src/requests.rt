@@ -1,0 +1,6 @@
+//! The bodies of requests, by families.
+
+pub mod contexts;
+pub mod images;
+pub mod immediate;
+pub mod tables;

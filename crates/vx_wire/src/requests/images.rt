@@ -1,0 +1,49 @@
+//! The bodies of requests about images.
+ghost use Rattle.std.specs.Prelude.{◌≡◌, Ok, IfOk, IfErr};
+ghost use Rattle.vx_wire.specs.Faults.{FailsFor};
+ghost use Rattle.vx_wire.specs.Images.{create_image_in, write_image_in, read_image_in};
+
+use crate::body_fault::BodyFault;
+use crate::fields::Fields;
+use crate::fields::description::take_description;
+use crate::fields::reference::take_reference;
+use crate::fields::samples::{decode, take_samples};
+use crate::parse_fault::ParseFault;
+use client_contexts::Request;
+use std::alloc::Global;
+use vx_base::Picture;
+
+/// A description.
+pub fn create_image(body: &[u8]) -> Result<Request, BodyFault>
+    ensures { result ≡ create_image_in body.now }
+{
+    let mut fields = Fields::new(body);
+    let desc = take_description(&mut fields)?;
+    fields.end()?;
+    Ok(Request::CreateImage(desc))
+}
+
+/// A reference and a picture.
+pub fn write_image(alloc: Global, body: &[u8]) -> Result<Request, ParseFault>
+    ensures ok { IfOk result (λ request. write_image_in body.now ≡ Ok request) }
+    ensures err { IfErr result (FailsFor (write_image_in body.now)) }
+{
+    let mut fields = Fields::new(body);
+    let image = take_reference(&mut fields)?;
+    let desc = take_description(&mut fields)?;
+    let (format, count) = (desc.format(), desc.sample_count());
+    let bytes = take_samples(&mut fields, format, count)?;
+    fields.end()?;
+    let samples = decode(alloc, format, count, bytes)?;
+    Ok(Request::WriteImage(image, Picture::new(desc, samples)))
+}
+
+/// A reference.
+pub fn read_image(body: &[u8]) -> Result<Request, BodyFault>
+    ensures { result ≡ read_image_in body.now }
+{
+    let mut fields = Fields::new(body);
+    let image = take_reference(&mut fields)?;
+    fields.end()?;
+    Ok(Request::ReadImage(image))
+}

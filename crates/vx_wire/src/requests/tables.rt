@@ -1,0 +1,38 @@
+//! The bodies of requests about lookup tables and thresholds.
+ghost use Rattle.std.specs.Prelude.{◌≡◌, Ok, IfOk, IfErr};
+ghost use Rattle.vx_wire.specs.Faults.{FailsFor};
+ghost use Rattle.vx_wire.specs.Tables.{create_lut_in, create_threshold_in};
+
+use crate::body_fault::BodyFault;
+use crate::fields::Fields;
+use crate::fields::format::take_input_format;
+use crate::fields::samples::{decode, take_samples};
+use crate::fields::threshold::take_threshold;
+use crate::parse_fault::ParseFault;
+use client_contexts::Request;
+use std::alloc::Global;
+use vx_base::Lut;
+
+/// A format and its table's entries.
+pub fn create_lut(alloc: Global, body: &[u8]) -> Result<Request, ParseFault>
+    ensures ok { IfOk result (λ request. create_lut_in body.now ≡ Ok request) }
+    ensures err { IfErr result (FailsFor (create_lut_in body.now)) }
+{
+    let mut fields = Fields::new(body);
+    let format = take_input_format(&mut fields)?;
+    let count = Lut::entry_count(format);
+    let bytes = take_samples(&mut fields, format, count)?;
+    fields.end()?;
+    let entries = decode(alloc, format, count, bytes)?;
+    Ok(Request::CreateLut(Lut::of(entries)))
+}
+
+/// A threshold.
+pub fn create_threshold(body: &[u8]) -> Result<Request, BodyFault>
+    ensures { result ≡ create_threshold_in body.now }
+{
+    let mut fields = Fields::new(body);
+    let threshold = take_threshold(&mut fields)?;
+    fields.end()?;
+    Ok(Request::CreateThreshold(threshold))
+}
