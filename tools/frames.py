@@ -1,4 +1,4 @@
-"""Request frames, reply frames, and a stream that shows most of what the server does."""
+"""Request frames and reply frames, in bytes and in words."""
 
 import struct
 
@@ -9,6 +9,7 @@ SAMPLE_LETTERS = {U8: "B", S16: "h", U32: "I"}
 (AND_BITS, OR_BITS, XOR_BITS, NOT_BITS, ADD, SUBTRACT, MULTIPLY, ABSOLUTE_DIFFERENCE, MIN_PIXEL, MAX_PIXEL, THRESHOLD,
  TABLE_LOOKUP, CONVERT_DEPTH) = range(1, 14)
 WRAP, SATURATE = 0, 1
+UNDEFINED, CONSTANT, REPLICATE = 0, 1, 2
 BINARY, RANGE = 0, 1
 ABSENT = struct.pack(">IB", 0, 255)
 
@@ -23,8 +24,19 @@ def frame(client, op, body=b""):
     return struct.pack(">IHB", len(body) + 3, client, op) + body
 
 
-def reference(name):
-    return struct.pack(">IB", name, 255)
+def reply_frame(client, op, code=0, body=b""):
+    return struct.pack(">IHBB", len(body) + 4, client, op, code) + body
+
+
+def reference(name, slot=255):
+    return struct.pack(">IB", name, slot)
+
+
+def operand(named):
+    """A node's operand: a name, the bytes of a reference, or None where it is absent."""
+    if named is None:
+        return ABSENT
+    return named if isinstance(named, bytes) else reference(named)
 
 
 def open_context(client):
@@ -35,12 +47,12 @@ def create_image(client, fmt, width, height):
     return frame(client, CREATE_IMAGE, struct.pack(">BHH", fmt, width, height))
 
 
-def write_image(client, name, fmt, width, height, samples):
-    return frame(client, WRITE_IMAGE, reference(name) + struct.pack(">BHH", fmt, width, height) + samples)
+def write_image(client, named, fmt, width, height, samples):
+    return frame(client, WRITE_IMAGE, operand(named) + struct.pack(">BHH", fmt, width, height) + samples)
 
 
-def read_image(client, name):
-    return frame(client, READ_IMAGE, reference(name))
+def read_image(client, named):
+    return frame(client, READ_IMAGE, operand(named))
 
 
 def create_lut(client, fmt, entries):
@@ -54,11 +66,15 @@ def create_threshold(client, fmt, limits, true_value=255, false_value=0):
     return frame(client, CREATE_THRESHOLD, body)
 
 
+def node(function, in1, in2, out1, policy=WRAP, amount=0, border=UNDEFINED, constant=0, out2=None):
+    """The bytes of a node; in2 is None where the function has no second input."""
+    fields = bytes([function, border, constant, policy, amount])
+    return fields + b"".join(operand(named) for named in (in1, in2, out1, out2))
+
+
 def immediate(client, function, in1, in2, out1, policy=WRAP, amount=0):
-    """One node run at once; in2 is None where the function has no second input."""
-    second = ABSENT if in2 is None else reference(in2)
-    node = bytes([function, 0, 0, policy, amount]) + reference(in1) + second + reference(out1) + ABSENT
-    return frame(client, IMMEDIATE, node)
+    """One node run at once."""
+    return frame(client, IMMEDIATE, node(function, in1, in2, out1, policy, amount))
 
 
 def bitwise_not(client, source, target):
