@@ -1,8 +1,8 @@
 -- The status and the line that the program ends with.
 use Rattle.std.specs.Prelude.{ℕ, List, codes, string_bytes}
 use Rattle.vx_base.specs.Code.{code_name}
-use Rattle.vx_requests.specs.declared.fault.StreamFault.{StreamFault}
-use Rattle.vx_requests.specs.declared.fault.StreamFault.TheVariants.{Truncated, BadLength, ReadFailed, WriteFailed, ReaderWouldNotEnd}
+use Rattle.vx_requests.specs.declared.stream.fault.StreamFault.{StreamFault}
+use Rattle.vx_requests.specs.declared.stream.fault.StreamFault.TheVariants.{Truncated, BadLength, ReadFailed, WriteFailed, ReaderWouldNotEnd}
 use Rattle.vx_main.specs.declared.ended.Ended.{Ended}
 use Rattle.vx_main.specs.declared.ended.Ended.TheVariants.{CommandLine, Stream, Refused}
 

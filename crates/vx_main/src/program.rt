@@ -11,7 +11,7 @@ use vx_requests::{FromRead, FromWrite, StreamFault, serve};
 
 /// Runs the program with these words, which come without its name.
 ///
-/// A text of help goes to the writer, and is `Ok`.
+/// A text of help, or the name and version, goes to the writer, and is `Ok`.
 pub fn run<R: Read + Drop, W: Write + Drop>(
     alloc: Global,
     words: &[&str],
@@ -24,7 +24,8 @@ pub fn run<R: Read + Drop, W: Write + Drop>(
     }
 }
 
-/// Answers a command line that asks for no work: help goes to the writer, all else is refused.
+/// Answers a command line that asks for no work: help and the version go to the writer, all else is
+/// refused.
 fn refuse<W: Write>(alloc: Global, error: &Error, writer: &mut W) -> Result<(), Ended> {
     if error.kind() == ErrorKind::OutOfMemory {
         return Err(Ended::Refused(Code::NoMemory));
@@ -33,10 +34,10 @@ fn refuse<W: Write>(alloc: Global, error: &Error, writer: &mut W) -> Result<(), 
     if error.use_stderr() {
         return Err(Ended::CommandLine(text.trim_end().to_string(alloc)?));
     }
-    write_help(writer, text.as_str())
+    write_text(writer, text.as_str())
 }
 
-fn write_help<W: Write>(writer: &mut W, text: &str) -> Result<(), Ended> {
+fn write_text<W: Write>(writer: &mut W, text: &str) -> Result<(), Ended> {
     let written = writer.write_all(text.as_bytes());
     if written.is_err() || writer.flush().is_err() {
         return Err(Ended::Stream(StreamFault::WriteFailed));

@@ -105,9 +105,13 @@ fn reads_the_command_line(rt: HostRuntime) {
         }
         assert!(rt; written.is_empty());
     }
-    for words in [&["--help"][..], &["serve", "--help"]] {
+    for (words, text) in [
+        (&["--help"][..], &b"An OpenVX server"[..]),
+        (&["serve", "--help"], b"Reads request frames"),
+        (&["--version"], b"vx_main 0.1.0\n"),
+    ] {
         let mut written = Vec::new(rt.alloc());
         assert!(rt; run(rt.alloc(), words, REQUESTS, &mut written).is_ok());
-        assert!(rt; !written.is_empty());
+        assert!(rt; written.as_slice().starts_with(text), "{words:?}");
     }
 }

@@ -1,0 +1,29 @@
+-- Images of bytes.
+use Rattle.std.proofs.Common.{◌≡◌, ℕ, ℤ, pos, ◌+◌, ◌*◌, ◌<◌, List, map, get_or, arith, true, ap, sym, ◌∙◌, subst}
+use Rattle.std.proofs.lemmas.Int.{ints}
+use Rattle.std.proofs.Math.ListN.{get_or-map}
+use Rattle.vx_base.specs.declared.format.Format.TheVariants.{U8}
+use Rattle.vx_base.specs.Sample.{IsSample}
+use Rattle.vx_base.specs.Rectangle.{Rectangle, inside, IsOrdered, IsWithin}
+use Rattle.vx_base.specs.Description.{Description}
+use Rattle.vx_base.specs.Image.{ImageValue, IsImage, at, made, image_over}
+use Rattle.vx_base.proofs.ImageLaws.{at-made, made_image, column_inside, row_inside}
+
+-- what equals an image is one
+image_by : (a b : ImageValue) → a ≡ b → IsImage b → IsImage a
+image_by a b same h = rw same h
+
+-- bytes that are what an image is made of are an image
+pub bytes_image : (d : Description) (valid : Rectangle) (bytes : List ℕ) (f : ℕ → ℕ → ℤ) → image_over d valid (map pos bytes) ≡ made d.width d.height U8 valid f
+    → IsOrdered valid → IsWithin valid d.width d.height → ((k : ℕ) → get_or bytes k 0 < 256) → IsImage (image_over d valid (map pos bytes))
+bytes_image d valid bytes f same ordered room fits = image_by _ _ same (made_image d.width d.height U8 valid f ordered room sampled)
+  where
+    sampled : (x y : ℕ) → inside valid x y ≡ true → IsSample U8 (f x y)
+    sampled x y e =
+        let here : at (image_over d valid (map pos bytes)) x y ≡ pos (get_or bytes (y * d.width + x) 0) = get_or-map pos bytes (y * d.width + x) 0 in
+        let there : at (image_over d valid (map pos bytes)) x y ≡ f x y =
+        ap (λ a. at a x y) same
+        ∙ at-made d.width d.height U8 valid f x y (column_inside valid d.width d.height x y room e) (row_inside valid d.width d.height x y room e) e in
+        let P : ℤ → Type 0 = λ z. IsSample U8 z in
+        let fit = fits (y * d.width + x) in
+        subst P (sym here ∙ there) (record { at_least = omega (arith, ints); at_most = omega (arith, ints, fit) })

@@ -1,0 +1,80 @@
+//! Images that are valid in a part: what is cleared, and what a function of two images writes.
+ghost use Rattle.std.specs.Prelude.{◌≡◌, ◌<◌, ℕ, map, pos, length, get_or};
+ghost use Rattle.vx_base.specs.declared.format.Format.TheVariants.{U8};
+ghost use Rattle.vx_base.specs.Description.{sample_count};
+ghost use Rattle.vx_base.specs.Rectangle.{IsWithin};
+ghost use Rattle.vx_base.specs.Image.{at, made, image_over, description_of};
+
+use image_core::{Image, ImageMut};
+use pixel_kernels::bit_xor;
+use std::test::Fail;
+use vx_base::{Desc, Format, Rect};
+
+/// Makes samples outside the rectangle 0.
+fn clear(desc: Desc, valid: Rect, samples: &mut [u8])
+    requires format { desc.format ≡ U8 }
+    requires size { length samples.old ≡ sample_count desc }
+    requires room { IsWithin valid desc.width desc.height }
+    ensures { image_over desc valid (map pos samples.new) ≡ made desc.width desc.height U8 valid (at (image_over desc valid (map pos samples.old))) }
+{
+    let mut image = ImageMut::new(desc, samples);
+    image.set_valid(valid);
+    image.clear_outside();
+}
+
+/// Each sample is a byte, which the prover knows where they are read.
+fn are_bytes(samples: &[u8])
+    ensures { (k : ℕ) → get_or samples.now k 0 < 256 }
+{}
+
+/// The image of these samples, which are 0 outside the rectangle from here on.
+fn lend(desc: Desc, valid: Rect, samples: &mut [u8]) -> Image<'_>
+    requires format { desc.format ≡ U8 }
+    requires size { length samples.old ≡ sample_count desc }
+    requires room { IsWithin valid desc.width desc.height }
+    ensures { description_of result ≡ desc }
+{
+    let _ordered = valid.x0();
+    clear(desc, valid, samples);
+    are_bytes(samples);
+    Image::new(desc, valid, samples)
+}
+
+/// Exclusive or of the samples 1, 2 and on of a 3 by 2 image with 16 everywhere, each valid in its
+/// rectangle; and where the result is valid.
+fn xor(left: Rect, right: Rect) -> ([u8; 6], Rect)
+    requires left { IsWithin left 3 2 }
+    requires right { IsWithin right 3 2 }
+{
+    let mut output = [77; 6];
+    let mut valid = Rect::empty();
+    if let Some(desc) = Desc::new(3, 2, Format::U8) {
+        let (mut first, mut second) = ([1, 2, 3, 4, 5, 6], [16; 6]);
+        let image = lend(desc, left, &mut first);
+        let other = lend(desc, right, &mut second);
+        let mut target = ImageMut::new(desc, &mut output);
+        bit_xor(&image, &other, &mut target);
+        valid = target.valid();
+    }
+    (output, valid)
+}
+
+#[test]
+fn valid_where_both_are(rt: HostRuntime) -> Result<(), Fail> {
+    let whole = Rect::new(0, 0, 3, 2).ok_or("a rectangle")?;
+    let middle = Rect::new(1, 0, 2, 2).ok_or("a rectangle")?;
+    let below = Rect::new(1, 1, 3, 2).ok_or("a rectangle")?;
+    let left = Rect::new(0, 0, 1, 1).ok_or("a rectangle")?;
+    let place = Rect::new(1, 1, 2, 2).ok_or("a rectangle")?;
+    for (first, second, samples, valid) in [
+        (whole, whole, [17, 18, 19, 20, 21, 22], whole),
+        (whole, middle, [0, 18, 0, 0, 21, 0], middle),
+        (below, whole, [0, 0, 0, 0, 21, 22], below),
+        (middle, below, [0, 0, 0, 0, 21, 0], place),
+        (left, middle, [0; 6], Rect::empty()),
+        (Rect::empty(), whole, [0; 6], Rect::empty()),
+    ] {
+        assert_eq!(rt; xor(first, second), (samples, valid));
+    }
+    Ok(())
+}

@@ -1,0 +1,200 @@
+//! Requests as bytes, and back; and the texts of faults.
+use crate::devices::{NEVER, PiecewiseSink};
+use client_contexts::Request;
+use std::alloc::Global;
+use std::fmt::Display;
+use std::test::Fail;
+use vx_base::{
+    Border, Desc, Format, Function, Lut, Node, NodeSpec, ObjRef, Picture, Policy, Samples,
+    ThresholdKind, ThresholdRule,
+};
+use vx_requests::{Failed, ParseFault, StreamFault, parse, write_request};
+
+/// The result of writing a request of client 258 by seven bytes at a call, and what was taken.
+fn write(alloc: Global, request: &Request, good_writes: u64) -> (Result<(), StreamFault>, Vec<u8>) {
+    let mut sink = PiecewiseSink {
+        bytes: Vec::new(alloc),
+        piece: 7,
+        until_failure: good_writes,
+        failures: 0,
+    };
+    let result = write_request(&mut sink, 258, request);
+    (result, sink.bytes)
+}
+
+/// Requests with their frames, by number.
+fn request(number: u8) -> Option<Request> {
+    match number {
+        0 => Some(Request::OpenContext),
+        1 => Some(Request::CreateImage(Desc::new(4096, 2, Format::U32)?)),
+        2 => Some(Request::ReadImage(ObjRef::new(7, Some(254)))),
+        3 => {
+            let binary = ThresholdKind::Binary(10);
+            Some(Request::CreateThreshold(ThresholdRule::new(Format::U8, binary, 255, 0)?))
+        }
+        4 => {
+            let range = ThresholdKind::Range(-1, 2);
+            Some(Request::CreateThreshold(ThresholdRule::new(Format::S16, range, 255, 0)?))
+        }
+        5 => Some(Request::Immediate(node()?)),
+        _ => None,
+    }
+}
+
+fn node() -> Option<NodeSpec> {
+    NodeSpec::new(Node {
+        function: Function::NotBits,
+        border: Border::Constant(5),
+        policy: Policy::Wrap,
+        amount: 0,
+        in1: ObjRef::new(1, Some(3)),
+        in2: None,
+        out1: Some(ObjRef::new(65536, None)),
+        out2: None,
+    })
+}
+
+const FRAMES: [&[u8]; 6] = [
+    b"\0\0\0\x03\x01\x02\x01",
+    b"\0\0\0\x08\x01\x02\x03\x03\x10\0\0\x02",
+    b"\0\0\0\x08\x01\x02\x07\0\0\0\x07\xfe",
+    b"\0\0\0\x09\x01\x02\x0c\0\x01\0\x0a\xff\0",
+    b"\0\0\0\x0b\x01\x02\x0c\x01\x02\xff\xff\0\x02\xff\0",
+    b"\0\0\0\x1c\x01\x02\x18\x04\x01\x05\0\0\0\0\0\x01\x03\0\0\0\0\xff\0\x01\0\0\xff\0\0\0\0\xff",
+];
+
+/// Whether a request is written to these bytes.
+fn is_written(alloc: Global, request: &Request, bytes: &[u8]) -> bool {
+    let (result, taken) = write(alloc, request, NEVER);
+    result.is_ok() && taken.as_slice() == bytes
+}
+
+#[test]
+fn written_as_bytes(rt: HostRuntime) {
+    let mut number = 0;
+    for bytes in FRAMES {
+        match request(number) {
+            Some(request) => assert!(rt; is_written(rt.alloc(), &request, bytes), "{number}"),
+            None => panic!(rt; "no request {number}"),
+        }
+        number = number.wrapping_add(1);
+    }
+}
+
+/// The request that is parsed from what was written of this one, where that ends in these bytes.
+fn there_and_back(alloc: Global, request: &Request, end: &[u8]) -> Option<Request> {
+    let (result, taken) = write(alloc, request, NEVER);
+    if result.is_err() || !taken.as_slice().ends_with(end) {
+        return None;
+    }
+    match taken.as_slice() {
+        [_, _, _, _, _, _, op, body @ ..] => parse(alloc, *op, body).ok(),
+        _ => None,
+    }
+}
+
+/// The samples of a picture of one column that was written, to an end of these bytes, and parsed.
+fn picture_and_back(alloc: Global, samples: Samples, end: &[u8]) -> Option<Samples> {
+    let desc = Desc::new(1, 3, samples.format())?;
+    if samples.len() != desc.sample_count() {
+        return None;
+    }
+    let picture = Picture::new(desc, samples);
+    let request = Request::WriteImage(ObjRef::new(258, None), picture);
+    match there_and_back(alloc, &request, end) {
+        Some(Request::WriteImage(_, parsed)) => Some(parsed.into_samples()),
+        _ => None,
+    }
+}
+
+/// The entries of a table that was written and parsed.
+fn table_and_back(alloc: Global, entries: Samples) -> Option<Samples> {
+    let request = Request::CreateLut(Lut::new(entries)?);
+    match there_and_back(alloc, &request, b"") {
+        Some(Request::CreateLut(parsed)) => parsed.entries().copy(alloc).ok(),
+        _ => None,
+    }
+}
+
+#[test]
+fn bytes_there_and_back(rt: HostRuntime) -> Result<(), Fail> {
+    let alloc = rt.alloc();
+    let samples = Samples::U8(vec![in alloc; 7, 0, 255]?);
+    let parsed = picture_and_back(alloc, samples.copy(alloc)?, b"\x07\0\xff");
+    assert!(rt; parsed == Some(samples));
+    let entries = Samples::U8(vec![in alloc; 9; 256]?);
+    assert!(rt; table_and_back(alloc, entries.copy(alloc)?) == Some(entries));
+    Ok(())
+}
+
+#[test]
+fn shorts_there_and_back(rt: HostRuntime) -> Result<(), Fail> {
+    let alloc = rt.alloc();
+    let samples = Samples::S16(vec![in alloc; -2, -32768, 258]?);
+    let parsed = picture_and_back(alloc, samples.copy(alloc)?, b"\xff\xfe\x80\0\x01\x02");
+    assert!(rt; parsed == Some(samples));
+    let entries = Samples::S16(vec![in alloc; -2; 65_536]?);
+    assert!(rt; table_and_back(alloc, entries.copy(alloc)?) == Some(entries));
+    Ok(())
+}
+
+#[test]
+fn words_there_and_back(rt: HostRuntime) -> Result<(), Fail> {
+    let alloc = rt.alloc();
+    let samples = Samples::U32(vec![in alloc; 4_294_967_294, 0, 16_909_060]?);
+    let end = b"\xff\xff\xff\xfe\0\0\0\0\x01\x02\x03\x04";
+    let parsed = picture_and_back(alloc, samples.copy(alloc)?, end);
+    assert!(rt; parsed == Some(samples));
+    Ok(())
+}
+
+/// A request with a picture of 3000 samples.
+fn long_request(alloc: Global) -> Option<Request> {
+    let desc = Desc::new(1500, 2, Format::S16)?;
+    let samples = Samples::zeros(alloc, Format::S16, desc.sample_count()).ok()?;
+    Some(Request::WriteImage(ObjRef::new(9, None), Picture::new(desc, samples)))
+}
+
+#[test]
+fn stops_at_a_write_that_fails(rt: HostRuntime) -> Result<(), Fail> {
+    let request = long_request(rt.alloc()).ok_or("a request")?;
+    let (_, whole) = write(rt.alloc(), &request, NEVER);
+    for good_writes in [0, 1, 2, 3, 100, 400] {
+        let (result, taken) = write(rt.alloc(), &request, good_writes);
+        assert_eq!(rt; result, Err(StreamFault::WriteFailed));
+        assert!(rt; whole.as_slice().starts_with(taken.as_slice()));
+        assert!(rt; taken.len() < whole.len());
+    }
+    Ok(())
+}
+
+/// Whether a value is shown as this text.
+fn is_shown<T: Display>(alloc: Global, value: &T, text: &str) -> bool {
+    match format!(in alloc; "{value}") {
+        Ok(shown) => shown.as_str() == text,
+        Err(_) => false,
+    }
+}
+
+#[test]
+fn texts_of_faults(rt: HostRuntime) {
+    for (fault, text) in [
+        (ParseFault::NoMemory, "no memory"),
+        (ParseFault::InvalidParameters, "invalid parameters"),
+        (ParseFault::InvalidFormat, "invalid format"),
+        (ParseFault::InvalidDimension, "invalid dimension"),
+        (ParseFault::InvalidValue, "invalid value"),
+    ] {
+        assert!(rt; is_shown(rt.alloc(), &fault, text), "{text}");
+    }
+    for (fault, text) in [
+        (StreamFault::Truncated, "truncated"),
+        (StreamFault::BadLength, "bad length"),
+        (StreamFault::ReadFailed, "read failed"),
+        (StreamFault::WriteFailed, "write failed"),
+        (StreamFault::ReaderWouldNotEnd, "reader would not end"),
+    ] {
+        assert!(rt; is_shown(rt.alloc(), &fault, text), "{text}");
+    }
+    assert!(rt; is_shown(rt.alloc(), &Failed, "a read, a write or a flush failed"));
+}

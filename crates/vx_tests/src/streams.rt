@@ -1,0 +1,209 @@
+//! One stream of two clients, over devices that move it in pieces or fail, and how far a stream is
+//! read that ends badly.
+use crate::devices::{NEVER, PiecewiseSink, PiecewiseSource};
+use client_contexts::{Limits, Runtime};
+use std::alloc::Global;
+use std::process::Abort;
+use vx_requests::{StreamFault, Summary, serve};
+
+/// Clients 1 and 2 in turn: each opens a context, makes an image of one U8 sample, writes 10 or 20
+/// and reads.
+pub const TURNS: &[u8] = b"\x00\x00\x00\x03\x00\x01\x01\
+\x00\x00\x00\x03\x00\x02\x01\
+\x00\x00\x00\x08\x00\x01\x03\x01\x00\x01\x00\x01\
+\x00\x00\x00\x08\x00\x02\x03\x01\x00\x01\x00\x01\
+\x00\x00\x00\x0e\x00\x01\x05\x00\x00\x00\x01\xff\x01\x00\x01\x00\x01\x0a\
+\x00\x00\x00\x0e\x00\x02\x05\x00\x00\x00\x01\xff\x01\x00\x01\x00\x01\x14\
+\x00\x00\x00\x08\x00\x01\x07\x00\x00\x00\x01\xff\
+\x00\x00\x00\x08\x00\x02\x07\x00\x00\x00\x01\xff";
+
+pub const REPLIES: &[u8] = b"\x00\x00\x00\x04\x00\x01\x01\x00\
+\x00\x00\x00\x04\x00\x02\x01\x00\
+\x00\x00\x00\x08\x00\x01\x03\x00\x00\x00\x00\x01\
+\x00\x00\x00\x08\x00\x02\x03\x00\x00\x00\x00\x01\
+\x00\x00\x00\x04\x00\x01\x05\x00\
+\x00\x00\x00\x04\x00\x02\x05\x00\
+\x00\x00\x00\x0a\x00\x01\x07\x00\x01\x00\x01\x00\x01\x0a\
+\x00\x00\x00\x0a\x00\x02\x07\x00\x01\x00\x01\x00\x01\x14";
+
+/// Where the replies end.
+const REPLY_ENDS: [usize; 9] = [0, 8, 16, 28, 40, 48, 56, 70, 84];
+
+/// How the devices of a stream behave: pieces, and calls until one fails.
+#[derive(Clone, Copy)]
+struct Devices {
+    source_piece: usize,
+    good_reads: u64,
+    sink_piece: usize,
+    good_writes: u64,
+}
+
+/// What serving a stream gave.
+#[derive(Drop)]
+struct Served {
+    result: Result<Summary, StreamFault>,
+    written: Vec<u8>,
+    /// How many bytes were left, and how often they were read.
+    left: (usize, u64),
+}
+
+fn serve_bytes(alloc: Global, runtime: &mut Runtime, stream: &[u8], devices: Devices) -> Served {
+    let mut source = PiecewiseSource {
+        bytes: stream,
+        piece: devices.source_piece.max(1),
+        until_failure: devices.good_reads,
+        reads: 0,
+        failures: 0,
+    };
+    let mut sink = PiecewiseSink {
+        bytes: Vec::new(alloc),
+        piece: devices.sink_piece,
+        until_failure: devices.good_writes,
+        failures: 0,
+    };
+    let result = serve(alloc, &mut source, &mut sink, runtime);
+    Served {
+        result,
+        written: sink.bytes,
+        left: (source.bytes.len(), source.reads),
+    }
+}
+
+/// Serves the stream of the two clients to a new runtime.
+fn serve_turns(alloc: Global, devices: Devices) -> Served {
+    let mut runtime = Runtime::new(alloc, Limits::default());
+    serve_bytes(alloc, &mut runtime, TURNS, devices)
+}
+
+const ALL_AT_ONCE: Devices = Devices {
+    source_piece: 1000,
+    good_reads: NEVER,
+    sink_piece: 1000,
+    good_writes: NEVER,
+};
+
+#[test]
+fn in_pieces(rt: HostRuntime) {
+    for (source_piece, sink_piece) in [(1000, 1000), (1, 1), (5, 3)] {
+        let devices = Devices {
+            source_piece,
+            sink_piece,
+            ..ALL_AT_ONCE
+        };
+        let served = serve_turns(rt.alloc(), devices);
+        assert_eq!(rt; served.written.as_slice(), REPLIES);
+        assert_eq!(rt;
+            served.result,
+            Ok(Summary {
+                requests: 8,
+                refused: 0
+            })
+        );
+    }
+}
+
+/// Serves over devices of which one fails; whether it ended well, with all replies.
+fn ends_well(rt: &impl Abort, alloc: Global, devices: Devices, fault: StreamFault) -> bool {
+    let served = serve_turns(alloc, devices);
+    assert!(rt; REPLIES.starts_with(served.written.as_slice()));
+    let is_whole = REPLY_ENDS.contains(&served.written.len());
+    assert!(rt; is_whole || fault == StreamFault::WriteFailed);
+    let is_ok = served.result.is_ok();
+    assert!(rt; is_ok || served.result == Err(fault));
+    assert!(rt; !is_ok || served.written.len() == REPLIES.len());
+    is_ok
+}
+
+/// The stream has 98 bytes and its replies 84, each of which takes a call here; beyond are the read
+/// that finds the end, and the flushes.
+#[test]
+fn each_read_and_each_write_failing(rt: HostRuntime) {
+    for good in 0..120 {
+        let reads = Devices {
+            source_piece: 1,
+            good_reads: good,
+            ..ALL_AT_ONCE
+        };
+        let fault = StreamFault::ReadFailed;
+        assert_eq!(rt;
+            ends_well(&rt, rt.alloc(), reads, fault),
+            good > 98,
+            "{good} reads"
+        );
+        let writes = Devices {
+            sink_piece: 1,
+            good_writes: good,
+            ..ALL_AT_ONCE
+        };
+        let fault = StreamFault::WriteFailed;
+        assert_eq!(rt;
+            ends_well(&rt, rt.alloc(), writes, fault),
+            good > 91,
+            "{good} writes"
+        );
+    }
+}
+
+#[test]
+fn a_write_that_takes_nothing(rt: HostRuntime) {
+    let devices = Devices {
+        sink_piece: 0,
+        ..ALL_AT_ONCE
+    };
+    let served = serve_turns(rt.alloc(), devices);
+    assert_eq!(rt; served.result, Err(StreamFault::WriteFailed));
+    assert!(rt; served.written.is_empty());
+}
+
+/// Streams that end badly, one after the other to the same runtime: how they end, what is written,
+/// how many bytes are left, and how often they are read.
+#[test]
+fn how_far_it_reads(rt: HostRuntime) {
+    let mut runtime = Runtime::new(rt.alloc(), Limits::default());
+    for (stream, fault, written, left) in [
+        (
+            &b"\x00\x00\x00"[..],
+            StreamFault::Truncated,
+            &b""[..],
+            (0, 2),
+        ),
+        (
+            b"\x00\x00\x00\x04\x00\x07\x01",
+            StreamFault::Truncated,
+            b"",
+            (0, 3),
+        ),
+        // No byte after a length that isn't allowed is asked for.
+        (
+            b"\x00\x00\x00\x02\x00\x07",
+            StreamFault::BadLength,
+            b"",
+            (2, 1),
+        ),
+        (
+            b"\x08\x00\x00\x01\x00\x07\x01",
+            StreamFault::BadLength,
+            b"",
+            (3, 1),
+        ),
+        // A whole frame, in two reads, and a byte.
+        (
+            b"\x00\x00\x00\x03\x00\x07\x01\xff",
+            StreamFault::Truncated,
+            b"\x00\x00\x00\x04\x00\x07\x01\x00",
+            (0, 4),
+        ),
+        // The context that the stream before opened is still open.
+        (
+            b"\x00\x00\x00\x03\x00\x07\x01\xff",
+            StreamFault::Truncated,
+            b"\x00\x00\x00\x04\x00\x07\x01\x07",
+            (0, 4),
+        ),
+    ] {
+        let served = serve_bytes(rt.alloc(), &mut runtime, stream, ALL_AT_ONCE);
+        assert_eq!(rt; served.result, Err(fault), "{stream:?}");
+        assert_eq!(rt; served.written.as_slice(), written, "{stream:?}");
+        assert_eq!(rt; served.left, left, "{stream:?}");
+    }
+}

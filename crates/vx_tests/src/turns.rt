@@ -1,0 +1,121 @@
+//! A reply is flushed before a byte of the next frame is asked for: a source that watches the sink.
+ghost use Rattle.std.specs.Prelude.{None};
+
+use crate::devices::NEVER;
+use crate::streams::{REPLIES, TURNS};
+use client_contexts::{Limits, Runtime};
+use std::cell::Cell;
+use vx_requests::{Failed, Sink, Source, Summary, serve};
+
+/// Gives frames, and fails where it is asked for a byte past a frame before the reply to it was
+/// flushed.
+#[derive(Drop)]
+struct InTurns<'a> {
+    stream: &'a [u8],
+    /// How many bytes of the frame are left.
+    frame: usize,
+    begun: u64,
+    flushed: &'a Cell<u64>,
+    reads: u64,
+    failures: u64,
+}
+
+impl InTurns<'_> {
+    /// The bytes of the next frame, or 0 where it may not be asked for.
+    fn next_frame(&self) -> usize {
+        match self.stream {
+            [a, b, c, d, ..] if self.flushed.get() == self.begun => {
+                4 + u32::from_be_bytes([*a, *b, *c, *d]) as usize
+            }
+            _ => 0,
+        }
+    }
+}
+
+impl Source for InTurns<'_> {
+    ghost left = { λ s. None };
+
+    ghost reads = { λ s. s.reads };
+
+    ghost failures = { λ s. s.failures };
+
+    fn read(&mut self, buf: &mut [u8]) -> Result<usize, Failed> {
+        self.reads += 1;
+        if self.stream.is_empty() {
+            return Ok(0);
+        }
+        if self.frame == 0 {
+            self.frame = self.next_frame();
+            if self.begun < NEVER {
+                self.begun += 1;
+            }
+        }
+        let count = buf.len();
+        if count > self.frame || count > self.stream.len() {
+            self.failures += 1;
+            return Err(Failed);
+        }
+        buf.copy_from_slice(&self.stream[..count]);
+        self.stream = &self.stream[count..];
+        self.frame -= count;
+        Ok(count)
+    }
+}
+
+/// Takes bytes, and counts its flushes where the source sees them.
+#[derive(Drop)]
+struct Flushed<'a> {
+    bytes: Vec<u8>,
+    flushed: &'a Cell<u64>,
+    failures: u64,
+}
+
+impl Sink for Flushed<'_> {
+    ghost taken = { λ s. None };
+
+    ghost failures = { λ s. s.failures };
+
+    fn write(&mut self, bytes: &[u8]) -> Result<usize, Failed> {
+        match self.bytes.extend_from_slice(bytes) {
+            Ok(()) => Ok(bytes.len()),
+            Err(_) => {
+                self.failures += 1;
+                Err(Failed)
+            }
+        }
+    }
+
+    fn flush(&mut self) -> Result<(), Failed> {
+        self.flushed.set(self.flushed.get().wrapping_add(1));
+        Ok(())
+    }
+}
+
+#[test]
+fn replies_before_it_reads_on(rt: HostRuntime) {
+    let flushed = Cell::new(0);
+    let mut source = InTurns {
+        stream: TURNS,
+        frame: 0,
+        begun: 0,
+        flushed: &flushed,
+        reads: 0,
+        failures: 0,
+    };
+    let mut sink = Flushed {
+        bytes: Vec::new(rt.alloc()),
+        flushed: &flushed,
+        failures: 0,
+    };
+    let mut runtime = Runtime::new(rt.alloc(), Limits::default());
+    let result = serve(rt.alloc(), &mut source, &mut sink, &mut runtime);
+    assert_eq!(rt;
+        result,
+        Ok(Summary {
+            requests: 8,
+            refused: 0
+        })
+    );
+    assert_eq!(rt; sink.bytes.as_slice(), REPLIES);
+    assert_eq!(rt; flushed.get(), 8);
+}
