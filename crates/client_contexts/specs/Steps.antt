@@ -1,5 +1,5 @@
 -- What a request does in the context of its client, and where a node runs.
-use Rattle.std.specs.Prelude.{ℕ, ◌≡◌, ◌≢◌, ◌<◌, IsTrue, ⊤, if◌then◌else◌, List, length, Option, Some, None, Result, Ok, Err, IfOk, IfErr, OnOk, OnErr, IfSome, slice_set}
+use Rattle.std.specs.Prelude.{ℕ, ◌≡◌, ◌≢◌, ◌<◌, IsTrue, ⊤, if◌then◌else◌, List, length, Option, Some, None, Result, Ok, Err, IfOk, IfErr, OnErr, IfSome, slice_set}
 use Rattle.std.specs.List.{list_any}
 use Rattle.std.specs.Option.{option_map, option_and_then}
 use Rattle.vx_base.specs.declared.kind.Kind.{Kind}
@@ -23,12 +23,11 @@ use Rattle.graph_verify.specs.Operand.{operand_of}
 use Rattle.graph_verify.specs.Verdict.{verdict_on}
 use Rattle.client_contexts.specs.declared.fault.RequestFault.{RequestFault}
 use Rattle.client_contexts.specs.declared.fault.RequestFault.TheVariants.{Refused, NoMemory}
-use Rattle.client_contexts.specs.declared.memory.NoMemory.{NoMemory as MemoryFault}
 use Rattle.client_contexts.specs.declared.places.Places.{Places}
 use Rattle.client_contexts.specs.declared.refusal.Refusal.{Refusal}
 use Rattle.client_contexts.specs.declared.refusal.Refusal.TheVariants.{InvalidReference, InvalidType}
 use Rattle.client_contexts.specs.declared.reply.Reply.{Reply}
-use Rattle.client_contexts.specs.Context.{Named, Context, State}
+use Rattle.client_contexts.specs.Context.{Named, Context}
 use Rattle.client_contexts.specs.Refusal.{Outcome}
 use Rattle.client_contexts.specs.Operands.{is_unknown, is_of_other_kind}
 use Rattle.client_contexts.specs.Places.{entry_at, object_at, object_if_at, image_value, StandsAt, StandsIf}
@@ -50,12 +49,6 @@ pub record MayComeTo (outcome : Outcome) (old new : Context) (result : Result Re
   pub done : IfOk result (λ reply. outcome ≡ Ok (reply, new))
   pub refused : IfErr result (SaysWhy outcome)
   pub kept : OnErr result (new ≡ old)
-
--- the reply and the state that a client is to have, or no memory and nothing changed
-pub record Answers (expected : Reply × State) (old new : Context) (result : Result Reply MemoryFault) : Type 0 where
-  pub reply : IfOk result (λ r. r ≡ expected.0)
-  pub own : OnOk result (Some new ≡ expected.1)
-  pub no_memory : OnErr result (new ≡ old)
 
 -- no memory, which only some requests take
 abbrev pub WantsMemory : RequestFault → Type 0 → Type 0

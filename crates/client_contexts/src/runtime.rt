@@ -2,9 +2,9 @@
 ghost use Rattle.std.specs.Prelude.{◌≡◌, [], None, IfErr, OnErr};
 ghost use Rattle.client_contexts.specs.Context.{state_of};
 ghost use Rattle.client_contexts.specs.Request.{TakesMemory};
-ghost use Rattle.client_contexts.specs.Answer.{answered, outcome_of};
+ghost use Rattle.client_contexts.specs.Answer.{outcome_of};
 ghost use Rattle.client_contexts.specs.Applies.{Applies};
-ghost use Rattle.client_contexts.specs.Steps.{Answers, MayComeTo, WantsMemory};
+ghost use Rattle.client_contexts.specs.Steps.{MayComeTo, WantsMemory};
 
 use crate::context::Context;
 use crate::fault::RequestFault;
@@ -62,7 +62,11 @@ impl Runtime {
     {
         let limits = self.limits;
         match self.contexts.get_mut(&client) {
-            Some(context) => answer(context, limits, alloc, request),
+            Some(context) => match answer(context, limits, alloc, request) {
+                Ok(reply) => Ok(reply),
+                Err(RequestFault::Refused(refusal)) => Ok(Reply::Refused(refusal.code())),
+                Err(RequestFault::NoMemory) => Err(NoMemory),
+            },
             None => self.answer_without(client, request),
         }
     }
@@ -82,25 +86,8 @@ impl Runtime {
     }
 }
 
-/// Answers a request of a client that has this context.
+/// Answers a request of a client that has this context, or says why not.
 fn answer(
-    context: &mut Context,
-    limits: Limits,
-    alloc: Global,
-    request: &Request,
-) -> Result<Reply, NoMemory>
-    ensures answers { Answers (answered context.old (outcome_of limits context.old request.now)) context.old context.new result }
-    ensures takes { OnErr result (TakesMemory request.now) }
-{
-    match perform(context, limits, alloc, request) {
-        Ok(reply) => Ok(reply),
-        Err(RequestFault::Refused(refusal)) => Ok(Reply::Refused(refusal.code())),
-        Err(RequestFault::NoMemory) => Err(NoMemory),
-    }
-}
-
-/// Does what a request asks for in this context, or says why not.
-fn perform(
     context: &mut Context,
     limits: Limits,
     alloc: Global,
