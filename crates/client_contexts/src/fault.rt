@@ -1,7 +1,7 @@
 //! Why a request isn't done.
 use crate::memory::NoMemory;
 use crate::refusal::Refusal;
-use std::alloc::{AllocError, AllocFailed};
+use std::alloc::AllocError;
 
 /// Why a request that may take memory isn't done. It has changed nothing then.
 #[derive(Clone, Copy, PartialEq, Eq, Debug)]

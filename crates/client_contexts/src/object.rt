@@ -34,11 +34,7 @@ impl Object {
     pub fn is_of_kind(&self, kind: Kind) -> bool
         ensures { result ≡ same_kind kind (object_kind (value_of self.now)) }
     {
-        match self {
-            Object::Image(_) => kind == Kind::Image,
-            Object::Lut(_) => kind == Kind::Lut,
-            Object::Threshold(_) => kind == Kind::Threshold,
-        }
+        self.operand().kind() == kind
     }
 
     /// What the object is charged: an image its sample bytes, others nothing.

@@ -147,7 +147,8 @@ fn run_into(
     }
 }
 
-macro_rules! run_into {
+/// Runs a node to samples of one format, and gives the rectangle that is then valid.
+macro_rules! run_on {
     ($desc:expr, $samples:expr, $node:expr, $first:expr, $second:expr) => {{
         let mut output = ImageMut::new($desc, $samples);
         run_node($node, $first, $second, &mut output);
@@ -169,7 +170,7 @@ fn run_u8(
     ensures valid { result ≡ (node_image node.now U8 first.now (second_object second.now)).valid }
     ensures samples { map pos samples.new ≡ (node_image node.now U8 first.now (second_object second.now)).samples }
 {
-    run_into!(desc, samples, node, first, second)
+    run_on!(desc, samples, node, first, second)
 }
 
 /// Writes the samples of an S16 output, as `run_u8` does.
@@ -186,7 +187,7 @@ fn run_s16(
     ensures valid { result ≡ (node_image node.now S16 first.now (second_object second.now)).valid }
     ensures samples { samples.new ≡ (node_image node.now S16 first.now (second_object second.now)).samples }
 {
-    run_into!(desc, samples, node, first, second)
+    run_on!(desc, samples, node, first, second)
 }
 
 /// Writes the samples of a U32 output, as `run_u8` does.
@@ -203,5 +204,5 @@ fn run_u32(
     ensures valid { result ≡ (node_image node.now U32 first.now (second_object second.now)).valid }
     ensures samples { map pos samples.new ≡ (node_image node.now U32 first.now (second_object second.now)).samples }
 {
-    run_into!(desc, samples, node, first, second)
+    run_on!(desc, samples, node, first, second)
 }
