@@ -7,7 +7,7 @@ use Rattle.std.proofs.lemmas.List.Elements.{All-push, All-set}
 use Rattle.std.proofs.lemmas.List.Kept.{AllPairs-from_increasing}
 use Rattle.std.proofs.lemmas.List.Sums.{sum_by-set, sum_by_push}
 use Rattle.std.proofs.Math.Seq.{map-set_same, get_or-append_seam}
-use Rattle.vx_base.specs.Object.{ObjectValue, object_bytes}
+use Rattle.vx_base.specs.Object.{ObjectValue, IsObject, object_bytes}
 use Rattle.client_contexts.specs.Context.{Named, with_object}
 use Rattle.client_contexts.specs.Places.{no_object, entry_at, object_at, IsContext}
 use Rattle.client_contexts.specs.Steps.{replaced}
@@ -23,9 +23,9 @@ increasing-push ns n h below k room = there_or_last (cases_lt (k + 1) (length ns
         let last : k + 1 ≡ length ns = omega (arith, length_push ns n, room, late) in
         rw (get_or_append_left ns (n ∷ []) 0 k (omega (arith, last))) (rw last (rw (get_or-append_seam ns n [] 0) (below k (omega (arith, last)))))
 
-pub IsContext-push : (next charge bytes : ℕ) (objects : List Named) (o : Named) → IsContext next charge objects → next < 4294967296 → length objects < 1024 → charge + bytes ≤ 1099511627776 → o.name ≡ next → object_bytes o.object ≡ bytes
+pub IsContext-push : (next charge bytes : ℕ) (objects : List Named) (o : Named) → IsContext next charge objects → next < 4294967296 → length objects < 1024 → charge + bytes ≤ 1099511627776 → o.name ≡ next → object_bytes o.object ≡ bytes → IsObject o.object
     → IsContext (next + 1) (charge + bytes) (objects ++ o ∷ [])
-IsContext-push next charge bytes objects o h left few limit named long =
+IsContext-push next charge bytes objects o h left few limit named long is =
     let name : Named → ℕ = λ p. p.name in
     record {
       charged = omega (arith, h.charged, long, sum_by_push (λ (p : Named). object_bytes p.object) objects o);
@@ -38,12 +38,13 @@ IsContext-push next charge bytes objects o h left few limit named long =
           let within : k < length objects = omega (arith, below, length-map objects name) in
           omega (arith, named, get_or-map name objects k no_object 0 within, h.below k no_object within)));
       below = All-push (λ (p : Named). p.name < next + 1) objects o (λ k d within. omega (arith, h.below k d within)) (omega (arith, named));
+      objects_are = All-push (λ (p : Named). IsObject p.object) objects o h.objects_are is;
     }
 
 -- another object stands in the place of one, under its name
 module _ (next charge : ℕ) (objects : List Named) (place : ℕ) (object : ObjectValue) (h : IsContext next charge objects) (within : place < length objects) where
-  pub IsContext-replaced : object_bytes object ≡ object_bytes (object_at objects place) → IsContext next charge (replaced objects place object)
-  IsContext-replaced long =
+  pub IsContext-replaced : object_bytes object ≡ object_bytes (object_at objects place) → IsObject object → IsContext next charge (replaced objects place object)
+  IsContext-replaced long is =
       let name : Named → ℕ = λ p. p.name in
       let o : Named = record { name = (entry_at objects place).name; object = object } in
       record {
@@ -53,6 +54,7 @@ module _ (next charge : ℕ) (objects : List Named) (place : ℕ) (object : Obje
         count = omega (arith, h.count, length-set objects place o);
         names = subst IsStrictlyIncreasing (sym (map-set_same name objects place o no_object refl)) h.names;
         below = All-set (λ (p : Named). p.name < next) objects place o (h.below place no_object within) h.below;
+        objects_are = All-set (λ (p : Named). IsObject p.object) objects place o is h.objects_are;
       }
 
 -- names that differ

@@ -1,6 +1,7 @@
 mod ContextLemmas
 mod LookupLemmas
 mod StoredLemmas
+mod OutputLemmas
 mod RunLemmas
 pub mod RefusalLaws
 pub mod NamedLaws

@@ -1,6 +1,6 @@
 -- Nodes at the places of their operands, and what they write.
 use Rattle.std.proofs.Common.{◌≡◌, ◌≢◌, ℕ, ◌<◌, Bool, true, false, List, [], ◌∷◌, ◌++◌, Option, Some, None, IsTrue, length, refl, sym, ap, subst, ◌∙◌}
-use Rattle.std.specs.Prelude.{◌==◌, ◌||◌, ◌&&◌, not, is_some, is_none, unwrap_or, if◌then◌else◌, IfSome, option_to_list, Ok, Err}
+use Rattle.std.specs.Prelude.{All, ◌==◌, ◌||◌, ◌&&◌, not, is_some, is_none, unwrap_or, if◌then◌else◌, IfSome, option_to_list, Ok, Err}
 use Rattle.std.specs.List.{list_any, list_all, flat_map}
 use Rattle.std.specs.Option.{option_map, option_and_then}
 use Rattle.std.proofs.lemmas.Bool.{eq-eqb, eqb-true}
@@ -15,7 +15,7 @@ use Rattle.vx_base.specs.Formats.{takes_formats}
 use Rattle.vx_base.specs.Function.{parameters}
 use Rattle.vx_base.specs.Image.{ImageValue, description_of}
 use Rattle.vx_base.specs.Node.{is_node, has_amount, has_operands, all_named, given, outputs, operands, second_kind}
-use Rattle.vx_base.specs.Object.{ObjectValue, ImageObject, LutObject, ThresholdObject, object_kind, object_format, object_bytes}
+use Rattle.vx_base.specs.Object.{ObjectValue, ImageObject, LutObject, ThresholdObject, IsObject, object_kind, object_format, object_bytes}
 use Rattle.vx_base.specs.Outputs.{node_output, written_to, written_by}
 use Rattle.image_core.specs.Fits.{SecondHasSize}
 use Rattle.graph_verify.specs.declared.operand.Operand.{Operand}
@@ -33,10 +33,10 @@ use Rattle.client_contexts.specs.Refusal.{unless}
 use Rattle.client_contexts.specs.Operands.{in_slot, held, is_unknown, is_of_other_kind}
 use Rattle.client_contexts.specs.Immediate.{operand_if, operands_in, node_refusal, immediate}
 use Rattle.client_contexts.specs.Places.{no_object, entry_at, object_at, object_if_at, StandsAt, StandsIf, IsContext}
-use Rattle.std.proofs.Math.Seq.{get_or-append_seam, set-append_seam}
-use Rattle.client_contexts.specs.Steps.{RunsOn, RunsTo, StandAt, operands_at, operands_refusal, output_at, replaced, written_at}
+use Rattle.client_contexts.specs.Steps.{RunsOn, RunsTo, StandAt, operands_at, operands_refusal, output_at, written_at}
 use Rattle.client_contexts.proofs.ContextLemmas.{IsContext-replaced, replaced_is_named}
 use Rattle.client_contexts.proofs.StoredLemmas.{description_kept}
+use Rattle.vx_base.proofs.NodeLaws.{node_image_is}
 
 neither : (a b : Bool) → (a || b) ≡ false → (a ≡ false) × (b ≡ false)
 neither true b e = cc
@@ -127,15 +127,18 @@ second_fits a (Some (ThresholdObject threshold)) others e = (tt, e)
 
 module _ (n : Node) (shape : IsTrue (is_node n)) where
   runs_on : (first : ObjectValue) (second : Option ObjectValue) (out : ObjectValue) (others : List Operand)
-      → object_kind first ≡ kind.Image → object_kind out ≡ kind.Image → IfSome second (λ object. (parameters n.function).second_input ≡ Some (object_kind object))
+      → object_kind first ≡ kind.Image → object_kind out ≡ kind.Image → IsObject first → IfSome second IsObject → IsObject out → IfSome second (λ object. (parameters n.function).second_input ≡ Some (object_kind object))
       → takes_first n.function (operand_format (operand_of first)) (option_and_then operand_format (option_map operand_of second)) (operand_of out ∷ others) ≡ true
       → list_all (are_of_one_size (operand_of first)) (option_to_list (option_map operand_of second) ++ (operand_of out ∷ others)) ≡ true
       → RunsOn n first second out
-  runs_on (ImageObject a) second (ImageObject b) others h i k takes sizes =
+  runs_on (ImageObject a) second (ImageObject b) others h i is_first is_second is_out k takes sizes =
       let fit = second_fits a second (operand_of (ImageObject b) ∷ others) sizes in
       record {
         first_kind = refl;
         out_kind = refl;
+        first_is = is_first;
+        second_is = is_second;
+        out_is = is_out;
         can_run = record {
           shape = shape;
           kind = k;
@@ -147,10 +150,10 @@ module _ (n : Node) (shape : IsTrue (is_node n)) where
           second_size = fit.0;
         };
       }
-  runs_on (ImageObject a) second (LutObject b) others h i k takes sizes = cc
-  runs_on (ImageObject a) second (ThresholdObject b) others h i k takes sizes = cc
-  runs_on (LutObject a) second b others h i k takes sizes = cc
-  runs_on (ThresholdObject a) second b others h i k takes sizes = cc
+  runs_on (ImageObject a) second (LutObject b) others h i is_first is_second is_out k takes sizes = cc
+  runs_on (ImageObject a) second (ThresholdObject b) others h i is_first is_second is_out k takes sizes = cc
+  runs_on (LutObject a) second b others h i is_first is_second is_out k takes sizes = cc
+  runs_on (ThresholdObject a) second b others h i is_first is_second is_out k takes sizes = cc
 
   -- a second input is what the function has there
   second_wanted : (objects : List Named) (cell : Option Cell) (place : Option ℕ) (s : Option Kind) → (if is_some s then is_some cell else is_none cell) ≡ true → StandsIf objects cell (unwrap_or s kind.Image) place
@@ -160,7 +163,7 @@ module _ (n : Node) (shape : IsTrue (is_node n)) where
   second_wanted objects (Some cell) (Some place) None has h = cc
   second_wanted objects (Some cell) (Some place) (Some s) has h = ap Some (sym h.kind)
 
-  module _ (objects : List Named) (p : Places) (h : StandAt objects n p) (verdict : verdict_on n (operands_at objects p) ≡ None) where
+  module _ (objects : List Named) (p : Places) (objects_are : All (λ o. IsObject o.object) objects) (h : StandAt objects n p) (verdict : verdict_on n (operands_at objects p) ≡ None) where
     parts : (reads_own_output n ≡ false) × (takes_operands n.function (operands_at objects p) ≡ true) × (list_all (are_of_one_size (operand_of (object_at objects p.in1))) (other_operands (operands_at objects p)) ≡ true)
     parts =
         let v = accepted (writes_twice n) (reads_own_output n) (node_fault n.function (operands_at objects p)) verdict in
@@ -175,6 +178,13 @@ module _ (n : Node) (shape : IsTrue (is_node n)) where
     second_there (Some c) (Some q) wanted cell output others a b e =
         let differ = (neither (same_cell c cell) (list_any (same_cell c) others) (neither (list_any (same_cell c) (cell ∷ others)) false e).0).0 in
         (a.within, apart objects c cell wanted kind.Image q output a b differ)
+
+    object_is : (place : ℕ) → place < length objects → IsObject (object_at objects place)
+    object_is place within = objects_are place no_object within
+
+    object_if_is : (place : Option ℕ) → IfSome place (λ q. q < length objects) → IfSome (object_if_at objects place) IsObject
+    object_if_is None within = tt
+    object_if_is (Some q) within = object_is q within
 
     each : (cell : Option Cell) (place : Option ℕ) → n.out1 ≡ cell → p.out1 ≡ place → StandsIf objects cell kind.Image place → IfSome place (RunsTo objects n p)
     each cell None e f stands = tt
@@ -192,6 +202,7 @@ module _ (n : Node) (shape : IsTrue (is_node n)) where
           in2_apart = second.1;
           runs =
               runs_on (object_at objects p.in1) (object_if_at objects p.in2) (object_at objects output) others h.in1.kind stands.kind
+              (object_is p.in1 h.in1.within) (object_if_is p.in2 second.0) (object_is output stands.within)
               (second_wanted objects n.in2 p.in2 (parameters n.function).second_input (both (if is_some (parameters n.function).second_input then is_some n.in2 else is_none n.in2) _ (has_of_node n shape)).0 h.in2)
               (ap (λ o. takes_first n.function (operand_format (operand_of (object_at objects p.in1))) (option_and_then operand_format (option_map operand_of (object_if_at objects p.in2))) (option_to_list (option_map operand_of (object_if_at objects o)) ++ others)) (sym f) ∙ parts.1)
               (ap (λ o. list_all (are_of_one_size (operand_of (object_at objects p.in1))) (option_to_list (option_map operand_of (object_if_at objects p.in2)) ++ (option_to_list (option_map operand_of (object_if_at objects o)) ++ others))) (sym f) ∙ parts.2);
@@ -241,27 +252,20 @@ bytes_kept n (ImageObject a) second (ThresholdObject out) h = refl
 bytes_kept n (LutObject a) second out h = refl
 bytes_kept n (ThresholdObject a) second out h = refl
 
+-- an output becomes an object
+becomes_object : (n : Node) (first : ObjectValue) (second : Option ObjectValue) (out : ObjectValue) → RunsOn n first second out → IsObject (node_output n first second out)
+becomes_object n (ImageObject a) second (ImageObject out) h = node_image_is n out.format a h.can_run.shape h.first_is second h.second_is h.can_run.kind h.can_run.formats
+becomes_object n (ImageObject a) second (LutObject out) h = h.out_is
+becomes_object n (ImageObject a) second (ThresholdObject out) h = h.out_is
+becomes_object n (LutObject a) second out h = h.out_is
+becomes_object n (ThresholdObject a) second out h = h.out_is
+
 pub IsContext-written : (next charge : ℕ) (objects : List Named) (n : Node) (p : Places) (output : Option ℕ) → IsContext next charge objects → IfSome output (RunsTo objects n p) → IsContext next charge (written_at objects n p output)
 IsContext-written next charge objects n p None h runs = h
 IsContext-written next charge objects n p (Some output) h runs =
     IsContext-replaced next charge objects output (output_at objects n p output) h runs.within
     (bytes_kept n (object_at objects p.in1) (object_if_at objects p.in2) (object_at objects output) runs.runs)
-
--- an entry that is written where it stands, among those before it and after it
-pub put_back : (before rest after : List Named) (n : Node) (p : Places) (entry new : Named) (first : ObjectValue) (second : Option ObjectValue)
-    → rest ≡ entry ∷ after → first ≡ object_at (before ++ entry ∷ after) p.in1 → second ≡ object_if_at (before ++ entry ∷ after) p.in2
-    → new ≡ record { name = entry.name; object = node_output n first second entry.object }
-    → before ++ new ∷ after ≡ replaced (before ++ rest) (length before) (output_at (before ++ rest) n p (length before))
-put_back before rest after n p entry new first second parts a b is =
-    let whole : List Named = before ++ entry ∷ after in
-    let here : entry_at whole (length before) ≡ entry = get_or-append_seam before entry after no_object in
-    ap (λ e. before ++ e ∷ after)
-    (is
-    ∙ ap (λ o. let e : Named = record { name = entry.name; object = node_output n o second entry.object } in e) a
-    ∙ ap (λ o. let e : Named = record { name = entry.name; object = node_output n (object_at whole p.in1) o entry.object } in e) b
-    ∙ ap (λ (w : Named). let e : Named = record { name = w.name; object = node_output n (object_at whole p.in1) (object_if_at whole p.in2) w.object } in e) (sym here))
-    ∙ sym (set-append_seam before entry after (record { name = (entry_at whole (length before)).name; object = output_at whole n p (length before) }))
-    ∙ ap (λ r. replaced (before ++ r) (length before) (output_at (before ++ r) n p (length before))) (sym parts)
+    (becomes_object n (object_at objects p.in1) (object_if_at objects p.in2) (object_at objects output) runs.runs)
 
 -- ---- immediate mode
 

@@ -1,6 +1,6 @@
 -- Images that a context holds, and what nodes write to them.
-use Rattle.std.proofs.Common.{◌≡◌, ℕ, pos, Option, Some, None, true, false, Bool, replicate, refl, ap, ◌∙◌, sym, subst}
-use Rattle.std.specs.Prelude.{IfSome, ◌==◌, ◌&&◌}
+use Rattle.std.proofs.Common.{◌≡◌, ℕ, ℤ, List, pos, Option, Some, None, true, false, Bool, replicate, refl, ap, ◌∙◌, sym}
+use Rattle.std.specs.Prelude.{◌==◌, ◌&&◌}
 use Rattle.std.proofs.lemmas.Bool.{eqb-true}
 use Rattle.vx_base.specs.declared.node.Node.{Node}
 use Rattle.vx_base.specs.declared.format.Format.{Format}
@@ -9,14 +9,12 @@ use Rattle.vx_base.specs.Rectangle.{Rectangle, whole}
 use Rattle.vx_base.specs.Description.{Description, sample_count, byte_count}
 use Rattle.vx_base.specs.Image.{ImageValue, IsImage, new_image, image_over, description_of}
 use Rattle.vx_base.specs.Object.{ObjectValue, ImageObject, LutObject, ThresholdObject, IsObject, object_kind, object_bytes}
-use Rattle.vx_base.specs.Picture.{values, samples_format}
+use Rattle.vx_base.specs.Picture.{values}
 use Rattle.vx_base.specs.Pixelwise.{node_image}
 use Rattle.vx_base.proofs.ImageLaws.{same_parts}
-use Rattle.vx_base.proofs.NodeLaws.{node_image_is}
 use Rattle.vx_base.proofs.ZeroLaws.{samples-new_image}
 use Rattle.image_core.specs.Fits.{HaveSameSize}
 use Rattle.client_contexts.specs.Steps.{CanRun}
-use Rattle.client_contexts.specs.Stored.{IsStored}
 use Rattle.client_contexts.specs.Places.{image_value}
 use Rattle.vx_base.specs.declared.kind.Kind.TheVariants as kind
 
@@ -55,28 +53,28 @@ pub description_kept : (n : Node) (a : ImageValue) (second : Option ObjectValue)
 description_kept n a second out h = described_node n out.format a second ∙ sym (described out.width out.height a.width a.height out.format (widths out a h) (heights out a h))
 
 -- samples that a node has written, with the rectangle beside them
-module _ (n : Node) (a : ImageValue) (second : Option ObjectValue) (d : Description) (old : ImageValue) (area : Rectangle) (samples : Samples)
-    (is : description_of old ≡ d) (image : IsImage a) (objects : IfSome second IsObject) (h : CanRun n a second old)
-    (valid : area ≡ (node_image n d.format a second).valid) (written : values samples ≡ (node_image n d.format a second).samples) where
+module _ (n : Node) (a : ImageValue) (second : Option ObjectValue) (d : Description) (old : ImageValue) (area : Rectangle) (samples : List ℤ)
+    (is : description_of old ≡ d) (h : CanRun n a second old)
+    (valid : area ≡ (node_image n d.format a second).valid) (written : samples ≡ (node_image n d.format a second).samples) where
   format_is : old.format ≡ d.format
   format_is = ap (λ (e : Description). e.format) is
 
   same_size : description_of (node_image n d.format a second) ≡ d
   same_size = ap (λ f. description_of (node_image n f a second)) (sym format_is) ∙ description_kept n a second old h.size ∙ is
 
-  pub stored_is : image_over d area (values samples) ≡ node_image n d.format a second
+  pub stored_is : image_over d area (samples) ≡ node_image n d.format a second
   stored_is =
-      same_parts (image_over d area (values samples)) (node_image n d.format a second)
+      same_parts (image_over d area (samples)) (node_image n d.format a second)
       (sym (ap (λ (e : Description). e.width) same_size)) (sym (ap (λ (e : Description). e.height) same_size)) (sym (ap (λ (e : Description). e.format) same_size)) valid written
-
-  pub stored_kept : samples_format samples ≡ d.format → IsStored d area samples
-  stored_kept format = record { image = subst IsImage (sym stored_is) gives_image; format = format }
-    where
-      gives_image : IsImage (node_image n d.format a second)
-      gives_image = subst (λ f. IsImage (node_image n f a second)) format_is (node_image_is n old.format a h.shape image second objects h.kind h.formats)
 
 -- an object that is an image has as many sample bytes as its description says
 pub bytes_of_image : (object : ObjectValue) → object_kind object ≡ kind.Image → object_bytes object ≡ byte_count (description_of (image_value object))
 bytes_of_image (ImageObject image) e = refl
 bytes_of_image (LutObject lut) e = cc
 bytes_of_image (ThresholdObject threshold) e = cc
+
+-- and is an image
+pub image_of_object : (object : ObjectValue) → object_kind object ≡ kind.Image → IsObject object → IsImage (image_value object)
+image_of_object (ImageObject image) e is = is
+image_of_object (LutObject lut) e is = cc
+image_of_object (ThresholdObject threshold) e is = cc

@@ -1,7 +1,4 @@
 -- The objects that entries hold.
-use Rattle.std.specs.Prelude.{Option}
-use Rattle.std.specs.Option.{option_map}
-use Rattle.std.specs.Borrow.{Bor}
 use Rattle.vx_base.specs.Object.{ObjectValue, ImageObject, LutObject, ThresholdObject}
 use Rattle.client_contexts.specs.declared.object.Object.{Object}
 use Rattle.client_contexts.specs.declared.object.Object.TheVariants.{Image, Lut, Threshold}
@@ -11,7 +8,3 @@ abbrev pub value_of : Object → ObjectValue
 value_of (Image image) = ImageObject image
 value_of (Lut lut) = LutObject lut
 value_of (Threshold threshold) = ThresholdObject threshold
-
--- an object that is lent, if there is one
-abbrev pub lent : Option (Bor Object) → Option ObjectValue
-lent object = option_map (λ o. value_of o.now) object

@@ -8,7 +8,6 @@ pub mod Immediate
 pub mod Answer
 pub mod States
 pub mod Applies
-pub mod Stored
 pub mod Held
 pub mod Places
 pub mod Steps

@@ -1,12 +1,13 @@
 -- Where a context's objects stand, and what its fields keep.
-use Rattle.std.specs.Prelude.{ℕ, ◌≡◌, ◌≤◌, ◌<◌, ⊤, List, map, All, Option, Some, None, length, slice_index_or}
+use Rattle.std.specs.Prelude.{ℕ, ℤ, [], ◌≡◌, ◌≤◌, ◌<◌, ⊤, List, map, All, Option, Some, None, length, slice_index_or}
 use Rattle.std.specs.Option.{option_map}
 use Rattle.std.specs.List.Sorted.{IsStrictlyIncreasing}
 use Rattle.vx_base.specs.declared.format.Format.TheVariants.{U8}
 use Rattle.vx_base.specs.declared.kind.Kind.{Kind}
 use Rattle.vx_base.specs.Cell.{Cell}
-use Rattle.vx_base.specs.Image.{ImageValue, new_image}
-use Rattle.vx_base.specs.Object.{ObjectValue, ImageObject, object_kind}
+use Rattle.vx_base.specs.Image.{ImageValue, new_image, image_over, description_of}
+use Rattle.vx_base.specs.Object.{ObjectValue, ImageObject, IsObject, object_kind}
+use Rattle.vx_base.specs.Rectangle.{Rectangle}
 use Rattle.client_contexts.specs.Context.{Named, charge_of}
 use Rattle.client_contexts.specs.Operands.{held}
 
@@ -33,6 +34,13 @@ image_value other = new_image 0 0 U8
 abbrev pub image_at : List Named → ℕ → ImageValue
 image_at objects place = image_value (object_at objects place)
 
+-- an image's entry while the samples are elsewhere, and once they are back with a rectangle
+abbrev pub with_samples : Named → Rectangle → List ℤ → Named
+with_samples o valid samples = record { name = o.name; object = ImageObject (image_over (description_of (image_value o.object)) valid samples) }
+
+abbrev pub emptied : Named → Named
+emptied o = with_samples o (image_value o.object).valid []
+
 -- an object of the kind stands at the place, and the cell holds it
 pub record StandsAt (objects : List Named) (cell : Cell) (wanted : Kind) (place : ℕ) : Type 0 where
   pub within : place < length objects
@@ -54,3 +62,4 @@ pub record IsContext (next charge : ℕ) (objects : List Named) : Type 0 where
   pub count : length objects ≤ 1024
   pub names : IsStrictlyIncreasing (map (λ o. o.name) objects)
   pub below : All (λ o. o.name < next) objects
+  pub objects_are : All (λ o. IsObject o.object) objects

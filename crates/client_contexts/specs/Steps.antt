@@ -7,15 +7,10 @@ use Rattle.vx_base.specs.declared.kind.Kind.TheVariants as kind
 use Rattle.vx_base.specs.declared.node.Node.{Node}
 use Rattle.vx_base.specs.Cell.{Cell}
 use Rattle.vx_base.specs.Formats.{takes_formats}
-use Rattle.vx_base.specs.Description.{Description}
 use Rattle.vx_base.specs.Image.{ImageValue}
-use Rattle.vx_base.specs.Picture.{values, samples_format}
-use Rattle.vx_base.specs.Pixelwise.{node_image}
-use Rattle.vx_base.specs.Rectangle.{Rectangle}
-use Rattle.vx_base.specs.declared.samples.Samples.{Samples}
 use Rattle.vx_base.specs.Function.{parameters}
 use Rattle.vx_base.specs.Node.{is_node, second_kind}
-use Rattle.vx_base.specs.Object.{ObjectValue, object_kind, object_format}
+use Rattle.vx_base.specs.Object.{ObjectValue, IsObject, object_kind, object_format}
 use Rattle.vx_base.specs.Outputs.{node_output}
 use Rattle.image_core.specs.Fits.{HaveSameSize, SecondHasSize}
 use Rattle.graph_verify.specs.declared.operand.Operands.{Operands}
@@ -114,16 +109,13 @@ pub record CanRun (n : Node) (a : ImageValue) (second : Option ObjectValue) (out
   pub size : HaveSameSize out a
   pub second_size : SecondHasSize a second
 
--- samples that the node wrote, and the rectangle beside them
-pub record IsWritten (n : Node) (a : ImageValue) (second : Option ObjectValue) (d : Description) (area : Rectangle) (samples : Samples) : Type 0 where
-  pub format : samples_format samples ≡ d.format
-  pub valid : area ≡ (node_image n d.format a second).valid
-  pub samples_are : values samples ≡ (node_image n d.format a second).samples
-
--- objects that are such images
+-- objects that are such images, and one beside them
 pub record RunsOn (n : Node) (first : ObjectValue) (second : Option ObjectValue) (out : ObjectValue) : Type 0 where
   pub first_kind : object_kind first ≡ kind.Image
   pub out_kind : object_kind out ≡ kind.Image
+  pub first_is : IsObject first
+  pub second_is : IfSome second IsObject
+  pub out_is : IsObject out
   pub can_run : CanRun n (image_value first) second (image_value out)
 
 -- an output at a place, apart from what the node reads

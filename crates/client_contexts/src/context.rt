@@ -1,8 +1,8 @@
 //! The context of a client: its objects, their names and their charge.
 ghost use Rattle.std.specs.Prelude.{◌≡◌, ◌+◌, ◌*◌, ◌<◌, ◌≤◌, ◌++◌, ◌∷◌, ◌==◌, [], length, position, IfOk, OnOk, OnErr};
 ghost use Rattle.vx_base.specs.declared.kind.Kind.TheVariants as kind;
-ghost use Rattle.vx_base.specs.Image.{description_of};
-ghost use Rattle.vx_base.specs.Object.{ImageObject, object_bytes, object_kind};
+ghost use Rattle.vx_base.specs.Image.{IsImage, description_of};
+ghost use Rattle.vx_base.specs.Object.{ImageObject, IsObject, object_bytes, object_kind};
 ghost use Rattle.vx_base.specs.Outputs.{written_by};
 ghost use Rattle.vx_base.specs.Picture.{pictured};
 ghost use Rattle.client_contexts.specs.Context.{new_context, has_room, charge_of, with_object, with_objects, with_written, with_new};
@@ -11,11 +11,13 @@ ghost use Rattle.client_contexts.specs.Held.{value_of};
 ghost use Rattle.client_contexts.specs.Places.{entry_at, object_at, image_at};
 ghost use Rattle.client_contexts.specs.Steps.{Runs};
 
-use crate::entries::{Entry, object_at, run_at};
+use crate::entries::{Entry, object_at};
 use crate::limits::Limits;
 use crate::memory::NoMemory;
 use crate::object::Object;
 use crate::places::Places;
+use crate::run::run_at;
+use crate::stored::Stored;
 use std::alloc::Global;
 use std::marker::Model;
 use vx_base::{Node, Picture};
@@ -78,6 +80,7 @@ impl Context {
         requires name_left { self.old.next < 4294967296 }
         requires place_left { length self.old.objects < 1024 }
         requires charge { charge_of self.old.objects + object_bytes (value_of object) ≤ 1099511627776 }
+        requires object { IsObject (value_of object) }
         ensures name { IfOk result (λ name. name ≡ self.old.next) }
         ensures ok { OnOk result (self.new ≡ with_new self.old (value_of object)) }
         ensures err { OnErr result (self.new ≡ self.old) }
@@ -103,6 +106,16 @@ impl Context {
         ensures { value_of result.now ≡ object_at self.now.objects place }
     {
         object_at(&self.entries, place)
+    }
+
+    /// The image at a place.
+    pub fn image_at(&self, place: usize) -> &Stored
+        requires within { place < length self.now.objects }
+        requires kind { object_kind (object_at self.now.objects place) ≡ kind.Image }
+        ensures value { result.now ≡ image_at self.now.objects place }
+        ensures image { IsImage result.now }
+    {
+        object_at(&self.entries, place).image()
     }
 
     /// Writes a picture to the image at a place; both are of one description.

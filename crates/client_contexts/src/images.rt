@@ -51,7 +51,7 @@ pub fn write_image(
     ensures { ComesTo (write_image context.old reference picture.now) context.old context.new result }
 {
     let place = find(context, reference, Kind::Image)?;
-    let image = context.object_at(place).image();
+    let image = context.image_at(place);
     if let Some(refusal) = picture_refusal(image.desc(), picture.desc()) {
         return Err(refusal);
     }
@@ -68,6 +68,6 @@ pub fn read_image(
     ensures { MayComeTo (read_image context.now reference) context.now context.now result }
 {
     let place = find(context, reference, Kind::Image)?;
-    let image = context.object_at(place).image();
+    let image = context.image_at(place);
     Ok(Reply::Picture(image.picture(alloc)?))
 }

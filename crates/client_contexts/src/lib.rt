@@ -11,9 +11,10 @@
 //! - `refusal`, `memory`, `fault`: why a request isn't done: it is refused, or finds no memory
 //! - `limits`: what a client may hold
 //! - `stored`, `object`: an image with samples of its own; an image, a lookup table or a threshold
-//! - `entries`, `context`: objects under their names, and nodes that run on them; the objects of a
-//!   client, with the names and the charge
-//! - `places`, `lookup`: where the operands of a node stand, and how they are found
+//! - `entries`, `context`: objects under their names; the objects of a client, with the names and
+//!   the charge
+//! - `places`, `lookup`, `run`: where the operands of a node stand, how they are found, and how the
+//!   node runs on them
 //! - the requests by family: `images` (to create, write and read them), `tables` (to create lookup
 //!   tables and thresholds), `immediate` (nodes that run at once)
 //! - `runtime`: all clients; contexts are opened there
@@ -34,6 +35,7 @@ mod places;
 mod refusal;
 mod reply;
 mod request;
+mod run;
 mod runtime;
 mod stored;
 mod tables;

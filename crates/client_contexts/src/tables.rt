@@ -34,5 +34,6 @@ pub fn create_threshold(
     if !context.has_room(limits, 0) {
         return Err(RequestFault::Refused(Refusal::NoResources));
     }
+    let _format = threshold.format();
     Ok(Reply::Name(context.add(Object::Threshold(threshold))?))
 }

@@ -62,7 +62,8 @@ impl Lut {
 
     /// The same table once more.
     pub fn copy(&self, alloc: Global) -> Result<Lut, AllocError>
-        ensures { IfOk result (λ made. made ≡ self.now) }
+        ensures value { IfOk result (λ made. made ≡ self.now) }
+        ensures table { IfOk result IsLut }
     {
         Ok(Lut {
             entries: self.entries.copy(alloc)?,

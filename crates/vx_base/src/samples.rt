@@ -1,11 +1,12 @@
 //! Samples of whole images.
-ghost use Rattle.std.specs.Prelude.{◌≡◌, length, map, pos, replicate, IfOk, All};
+ghost use Rattle.std.specs.Prelude.{◌≡◌, [], length, map, pos, replicate, IfOk, All};
 ghost use Rattle.vx_base.specs.declared.format.Format.TheVariants.{U8, S16, U32};
 ghost use Rattle.vx_base.specs.Sample.{IsSample};
 ghost use Rattle.vx_base.specs.Picture.{values, samples_format};
 
 use crate::format::Format;
 use std::alloc::{AllocError, Global};
+use std::mem;
 
 /// The samples of an image of one of the formats, by rows from the top.
 #[derive(PartialEq, Eq, Debug, Drop)]
@@ -55,6 +56,21 @@ impl Samples {
         }
     }
 
+    /// Takes the samples out, for the time in which they are written; none are left. It takes no
+    /// memory.
+    pub fn take(&mut self) -> Samples
+        ensures format { samples_format result ≡ samples_format self.old }
+        ensures value { values result ≡ values self.old }
+        ensures left_format { samples_format self.new ≡ samples_format self.old }
+        ensures left { values self.new ≡ [] }
+    {
+        match self {
+            Samples::U8(samples) => Samples::U8(take_all(samples)),
+            Samples::S16(samples) => Samples::S16(take_all(samples)),
+            Samples::U32(samples) => Samples::U32(take_all(samples)),
+        }
+    }
+
     pub fn format(&self) -> Format
         ensures { result ≡ samples_format self.now }
     {
@@ -86,6 +102,15 @@ impl Samples {
             Samples::U32(samples) => are_words(samples),
         }
     }
+}
+
+/// What a vector holds, which then is empty.
+fn take_all<T: Drop>(samples: &mut Vec<T>) -> Vec<T>
+    ensures value { result.items ≡ samples.old.items }
+    ensures left { samples.new.items ≡ [] }
+{
+    let empty = Vec::new(*samples.allocator());
+    mem::replace(samples, empty)
 }
 
 fn are_bytes(samples: &[u8])

@@ -1,6 +1,6 @@
 //! Thresholds.
 ghost use Rattle.std.specs.Prelude.{◌≡◌, ◌<◌, IsTrue};
-ghost use Rattle.vx_base.specs.Threshold.{threshold, has_limits};
+ghost use Rattle.vx_base.specs.Threshold.{IsThreshold, threshold, has_limits};
 
 use crate::format::Format;
 use std::marker::Model;
@@ -75,8 +75,10 @@ impl ThresholdRule {
 
     /// The format of the samples that it tests.
     pub fn format(self) -> Format
-        ensures { result ≡ self.format }
+        ensures value { result ≡ self.format }
+        ensures threshold { IsThreshold self }
     {
+        let _values = (self.true_value, self.false_value);
         self.format
     }
 

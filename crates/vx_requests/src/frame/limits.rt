@@ -20,11 +20,7 @@ pub fn is_request(request: &Request)
             let _entries = lut.entries();
         }
         Request::CreateThreshold(threshold) => {
-            let _parts = (
-                threshold.kind(),
-                threshold.true_value(),
-                threshold.false_value(),
-            );
+            let _format = threshold.format();
         }
         Request::Immediate(node) => {
             let _fields = node.node();

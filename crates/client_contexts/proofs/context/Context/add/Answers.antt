@@ -1,5 +1,5 @@
 use Rattle.std.proofs.Common.{◌+◌, ◌∙◌, List, length, sym, ap, subst, arith}
-use Rattle.vx_base.specs.Object.{object_bytes}
+use Rattle.vx_base.specs.Object.{ObjectValue, IsObject, object_bytes}
 use Rattle.client_contexts.specs.Context.{Context, Named, charge_of}
 use Rattle.client_contexts.specs.Places.{IsContext}
 use Rattle.client_contexts.proofs.ContextLemmas.{IsContext-push}
@@ -16,4 +16,5 @@ invariant_of-self-2 c =
     (omega (arith, next, c.requires.name_left))
     (omega (arith, ap (λ (l : List Named). length l) held, c.requires.place_left))
     (omega (arith, ap (λ (l : List Named). charge_of l) held, c.self.invariant.charged, c.charge-charge.ensures, c.requires.charge))
-    (ap (λ (o : Named). o.name) c.new.ensures) (ap (λ (o : Named). object_bytes o.object) c.new.ensures ∙ sym c.charge-charge.ensures))
+    (ap (λ (o : Named). o.name) c.new.ensures) (ap (λ (o : Named). object_bytes o.object) c.new.ensures ∙ sym c.charge-charge.ensures)
+    (subst (λ (o : ObjectValue). IsObject o) (sym (ap (λ (o : Named). o.object) c.new.ensures)) c.requires.object))

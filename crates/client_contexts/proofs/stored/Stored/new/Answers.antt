@@ -1,5 +1,11 @@
+use Rattle.std.proofs.Common.{subst, sym}
+use Rattle.vx_base.specs.Image.{IsImage}
+use Rattle.vx_base.proofs.ImageLaws.{new_image_is}
 use Rattle.client_contexts.proofs.StoredLemmas.{zeros_are_new}
 use Rattle.client_contexts.proofs.stored.Stored.new.Goals as goal
 
 pub returns : goal.returns
-returns c = zeros_are_new c.args.desc c.whole.result c.in_ok-samples.samples c.sample_count.result c.whole.ensures c.sample_count.ensures.value c.in_ok-samples.ensures.zero
+returns c =
+    let d = c.args.desc in
+    let new = zeros_are_new d c.whole.result c.in_ok-samples.samples c.sample_count.result c.whole.ensures c.sample_count.ensures.value c.in_ok-samples.ensures.zero in
+    record { value = new; image = subst IsImage (sym new) (new_image_is d.width d.height d.format) }
