@@ -1,16 +1,19 @@
--- A context's objects when one is added or another stands in its place.
-use Rattle.std.proofs.Common.{◌≡◌, ◌≢◌, ℕ, ◌+◌, ◌<◌, ◌≤◌, ◌⊎◌, inl, inr, cond, List, [], ◌∷◌, ◌++◌, length, map, set, get_or, zero, suc, refl, sym, ap, subst, ◌∙◌, arith}
+-- A context's objects when one is added or removed, or another stands in its place.
+use Rattle.std.proofs.Common.{◌≡◌, ◌≢◌, ℕ, ◌+◌, ◌<◌, ◌≤◌, ◌⊎◌, inl, inr, cond, List, [], ◌∷◌, ◌++◌, length, map, set, get_or, remove, zero, suc, refl, sym, ap, subst, ◌∙◌, arith}
+use Rattle.std.specs.Prelude.{Bool, ◌-◌, ◌==◌, not}
 use Rattle.std.specs.List.Sorted.{IsStrictlyIncreasing}
 use Rattle.std.proofs.lemmas.Bool.{eq-eqb, ne_eqb, cases_lt}
 use Rattle.std.proofs.lemmas.List.{length-set, length_push, length-map, map-append, get_or-map, get_or_append_left}
-use Rattle.std.proofs.lemmas.List.Elements.{All-push, All-set}
+use Rattle.std.proofs.lemmas.List.Elements.{All-push, All-set, All-filter}
 use Rattle.std.proofs.lemmas.List.Kept.{AllPairs-from_increasing}
-use Rattle.std.proofs.lemmas.List.Sums.{sum_by-set, sum_by_push}
+use Rattle.std.proofs.lemmas.List.Sums.{sum_by-set, sum_by_push, sum_by-remove}
+use Rattle.std.proofs.lemmas.List.Filters.{length-filter_both}
 use Rattle.std.proofs.Math.Seq.{map-set_same, get_or-append_seam}
 use Rattle.vx_base.specs.Object.{ObjectValue, IsObject, object_bytes}
-use Rattle.client_contexts.specs.Context.{Named, with_object}
+use Rattle.client_contexts.specs.Context.{Named, with_object, without, charge_of}
 use Rattle.client_contexts.specs.Places.{no_object, entry_at, object_at, IsContext}
 use Rattle.client_contexts.specs.Steps.{replaced}
+use Rattle.client_contexts.proofs.NamedLaws.{increasing_names_without}
 
 -- a number that is above all others comes last
 increasing-push : (ns : List ℕ) (n : ℕ) → IsStrictlyIncreasing ns → ((k : ℕ) → k < length ns → get_or ns k 0 < n) → IsStrictlyIncreasing (ns ++ n ∷ [])
@@ -116,3 +119,45 @@ same_named o name object named is =
 
 pub replaced_by : (objects : List Named) (place : ℕ) (o : Named) (object : ObjectValue) → o.name ≡ (entry_at objects place).name → o.object ≡ object → set objects place o ≡ replaced objects place object
 replaced_by objects place o object named is = ap (set objects place) (same_named o (entry_at objects place).name object named is)
+
+-- ---- one is removed
+
+without-lacking : (objects : List Named) (name : ℕ) → Lacks name objects → without objects name ≡ objects
+without-lacking [] name h = refl
+without-lacking (o ∷ objects) name h =
+    ap (λ b. cond (not b) (o ∷ without objects name) (without objects name)) (ne_eqb o.name name (h zero (omega arith)))
+    ∙ ap (λ l. o ∷ l) (without-lacking objects name (λ k below. h (suc k) (omega (arith, below))))
+
+without-at : (objects : List Named) (place : ℕ) → AreDistinct objects → place < length objects → without objects (entry_at objects place).name ≡ remove objects place
+without-at [] place h within = absurd (omega (arith, within))
+without-at (o ∷ objects) zero h within =
+    ap (λ b. cond (not b) (o ∷ without objects o.name) (without objects o.name)) (eq-eqb o.name o.name refl)
+    ∙ without-lacking objects o.name (λ k below. h (suc k) zero (omega (arith, below)) (omega arith) (λ e. omega (arith, e)))
+without-at (o ∷ objects) (suc place) h within =
+    let name = (entry_at objects place).name in
+    ap (λ b. cond (not b) (o ∷ without objects name) (without objects name))
+    (ne_eqb o.name name (h zero (suc place) (omega arith) within (λ e. omega (arith, e))))
+    ∙ ap (λ l. o ∷ l) (without-at objects place (λ i j a b apart. h (suc i) (suc j) (omega (arith, a)) (omega (arith, b)) (λ e. apart (omega (arith, e)))) (omega (arith, within)))
+
+-- the objects without the one at a place
+module _ (next charge : ℕ) (objects : List Named) (place : ℕ) (h : IsContext next charge objects) (within : place < length objects) where
+  -- are those of other names
+  pub removed_is_without : without objects (entry_at objects place).name ≡ remove objects place
+  removed_is_without = without-at objects place (distinct objects h.names) within
+
+  -- and the charge falls by what that one was charged
+  pub IsContext-removed : (bytes : ℕ) → bytes ≡ object_bytes (object_at objects place) → IsContext next (charge - bytes) (remove objects place)
+  IsContext-removed bytes long =
+      let name = (entry_at objects place).name in
+      let named : Named → Bool = λ o. o.name == name in
+      let other : Named → Bool = λ o. not (o.name == name) in
+      subst (IsContext next (charge - bytes)) removed_is_without
+      (record {
+        charged = omega (arith, h.charged, long, sum_by-remove (λ (p : Named). object_bytes p.object) objects place no_object within, ap charge_of removed_is_without);
+        limit = omega (arith, h.limit);
+        names_left = h.names_left;
+        count = omega (arith, h.count, length-filter_both named other (λ o. refl) objects);
+        names = increasing_names_without objects name h.names;
+        below = All-filter other (λ (p : Named). p.name < next) objects h.below;
+        objects_are = All-filter other (λ (p : Named). IsObject p.object) objects h.objects_are;
+      })

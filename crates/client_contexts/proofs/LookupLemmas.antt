@@ -17,7 +17,10 @@ use Rattle.vx_base.specs.Image.{ImageValue}
 use Rattle.vx_base.specs.Object.{ObjectValue, ImageObject, LutObject, ThresholdObject, object_kind, same_kind}
 use Rattle.client_contexts.specs.declared.refusal.Refusal.{Refusal}
 use Rattle.client_contexts.specs.declared.refusal.Refusal.TheVariants.{InvalidReference, InvalidType}
-use Rattle.client_contexts.specs.Context.{Named, object_named}
+use Rattle.client_contexts.specs.declared.reply.Reply.TheVariants.{Empty}
+use Rattle.client_contexts.specs.Context.{Named, Context, object_named, without, with_objects}
+use Rattle.client_contexts.specs.Refusal.{Outcome}
+use Rattle.client_contexts.specs.Objects.{release}
 use Rattle.client_contexts.specs.Operands.{is_unknown, in_slot, held, is_of_kind, is_of_other_kind, as_image, image_of}
 use Rattle.client_contexts.specs.Places.{no_object, entry_at, object_at, image_value, image_at, StandsAt}
 use Rattle.client_contexts.specs.Steps.{operands_refusal, first_class}
@@ -48,19 +51,27 @@ same_kinds kind.Lut kind.Threshold e = cc
 same_kinds kind.Threshold kind.Image e = cc
 same_kinds kind.Threshold kind.Lut e = cc
 
+-- a name that no object has
+pub nothing_named : (objects : List Named) (name : ℕ) → position (λ o. o.name == name) objects ≡ None → object_named objects name ≡ None
+nothing_named objects name e = ap (option_map (λ o. o.object)) (find_none_from (λ o. o.name == name) objects 0 (sym (position_from-zero (λ o. o.name == name) objects) ∙ e))
+
+-- the object of a name stands at the name's place
+pub named_there : (objects : List Named) (name place : ℕ) → position (λ o. o.name == name) objects ≡ Some place
+    → (place < length objects) × ((entry_at objects place).name ≡ name) × (object_named objects name ≡ Some (object_at objects place))
+named_there objects name place e =
+    let p = position-Some (λ o. o.name == name) objects place no_object e in
+    (p.0, eqb-true (entry_at objects place).name name p.1, ap (option_map (λ o. o.object)) (find_at (λ o. o.name == name) objects place no_object p.0 p.1 p.2))
+
 -- an operand whose name no object has
 module _ (objects : List Named) (cell : Cell) (wanted : Kind) where
   pub refused_unknown : position (λ o. o.name == cell.name) objects ≡ None → operands_refusal objects ((cell, wanted) ∷ []) ≡ Some InvalidReference
   refused_unknown e =
-      let none : object_named objects cell.name ≡ None = ap (option_map (λ o. o.object)) (find_none_from (λ o. o.name == cell.name) objects 0 (sym (position_from-zero (λ o. o.name == cell.name) objects) ∙ e)) in
-      ap (λ o. if (is_none o || false) then Some InvalidReference else (if list_any (is_of_other_kind objects) ((cell, wanted) ∷ []) then Some InvalidType else None)) none
+      ap (λ o. if (is_none o || false) then Some InvalidReference else (if list_any (is_of_other_kind objects) ((cell, wanted) ∷ []) then Some InvalidType else None)) (nothing_named objects cell.name e)
 
   -- and one whose name has a place
   module _ (place : ℕ) (e : position (λ o. o.name == cell.name) objects ≡ Some place) where
     placed : (place < length objects) × ((entry_at objects place).name ≡ cell.name) × (object_named objects cell.name ≡ Some (object_at objects place))
-    placed =
-        let p = position-Some (λ o. o.name == cell.name) objects place no_object e in
-        (p.0, eqb-true (entry_at objects place).name cell.name p.1, ap (option_map (λ o. o.object)) (find_at (λ o. o.name == cell.name) objects place no_object p.0 p.1 p.2))
+    placed = named_there objects cell.name place e
 
     held_there : (slot : Option ℕ) (object : ObjectValue) → (is_none slot && same_kind wanted (object_kind object)) ≡ true → (in_slot slot object ≡ Some object) × (object_kind object ≡ wanted)
     held_there None object h = (refl, same_kinds wanted (object_kind object) h)
@@ -145,6 +156,18 @@ image_of-refused objects cell refusal e = refused (is_unknown objects cell) (hel
     refused false (Some (ImageObject image)) h = cc
     refused false (Some (LutObject lut)) h = let same : refusal ≡ InvalidType = cc in ap (λ r. let e : Result ImageValue Refusal = Err r in e) (sym same)
     refused false (Some (ThresholdObject threshold)) h = let same : refusal ≡ InvalidType = cc in ap (λ r. let e : Result ImageValue Refusal = Err r in e) (sym same)
+
+-- ---- objects that are released
+
+pub release-refused : (c : Context) (name : ℕ) → position (λ o. o.name == name) c.objects ≡ None → release c name ≡ Err InvalidReference
+release-refused c name e =
+    ap (λ o. let r : Outcome = if is_none o then Err InvalidReference else Ok (Empty, Some (with_objects c (without c.objects name))) in r) (nothing_named c.objects name e)
+
+pub release-done : (c : Context) (name place : ℕ) → position (λ o. o.name == name) c.objects ≡ Some place → release c name ≡ Ok (Empty, Some (with_objects c (without c.objects (entry_at c.objects place).name)))
+release-done c name place e =
+    let there = named_there c.objects name place e in
+    ap (λ o. let r : Outcome = if is_none o then Err InvalidReference else Ok (Empty, Some (with_objects c (without c.objects name))) in r) there.2
+    ∙ ap (λ n. let r : Outcome = Ok (Empty, Some (with_objects c (without c.objects n))) in r) (sym there.1)
 
 -- ---- the operands of a node
 

@@ -1,10 +1,10 @@
--- Objects under their names, when one is added or others are written.
-use Rattle.std.proofs.Common.{◌≡◌, ℕ, ◌+◌, ◌<◌, List, [], ◌∷◌, ◌++◌, length, map, zero, suc, refl, sym, ap, ◌∙◌, arith, Option, Some, None, IfSome}
-use Rattle.std.specs.Prelude.{All, ◌==◌, if◌then◌else◌, find}
+-- Objects under their names, when one is added or released, or others are written.
+use Rattle.std.proofs.Common.{◌≡◌, ℕ, ◌+◌, ◌<◌, Bool, true, false, cond, List, [], ◌∷◌, ◌++◌, length, map, zero, suc, refl, sym, ap, ◌∙◌, arith, Option, Some, None, IfSome}
+use Rattle.std.specs.Prelude.{All, ◌==◌, not, if◌then◌else◌, find, filter}
 use Rattle.std.specs.List.Sorted.{IsStrictlyIncreasing}
 use Rattle.std.specs.List.{AllPairs}
 use Rattle.std.proofs.lemmas.Bool.{cond_both, eqb-true, eqb-false}
-use Rattle.std.proofs.lemmas.List.Kept.{AllPairs-from_increasing}
+use Rattle.std.proofs.lemmas.List.Kept.{AllPairs-from_increasing, IsStrictlyIncreasing-filter}
 use Rattle.std.proofs.lemmas.List.Quantifiers.{all_pairs_push}
 use Rattle.std.proofs.lemmas.List.Elements.{All-nil, All-cons, All-head, All-tail, All-weaker}
 use Rattle.std.proofs.lemmas.Option.{IfSome_then}
@@ -12,7 +12,7 @@ use Rattle.std.specs.Option.{option_map, option_and_then}
 use Rattle.std.proofs.lemmas.List.Sums.{sum_by-cons}
 use Rattle.vx_base.specs.Cell.{Cell}
 use Rattle.vx_base.specs.Object.{ObjectValue, object_bytes}
-use Rattle.client_contexts.specs.Context.{Named, object_named, with_object, charge_of}
+use Rattle.client_contexts.specs.Context.{Named, object_named, with_object, without, charge_of}
 use Rattle.client_contexts.specs.Operands.{held, in_slot}
 
 -- ---- names that increase
@@ -56,6 +56,22 @@ All-from_names P (o ∷ objects) h = All-cons (λ p. P p.name) o objects (All-he
 pub increasing_names_push : (objects : List Named) (o : Named) → IsStrictlyIncreasing (names_of objects) → All (λ p. p.name < o.name) objects → IsStrictlyIncreasing (names_of (objects ++ o ∷ []))
 increasing_names_push objects o h below =
     rw (names_push objects o) (increasing_push (names_of objects) o.name h (All-names (λ name. name < o.name) objects below))
+
+-- the names of the objects of other names
+names_without : (objects : List Named) (name : ℕ) → names_of (without objects name) ≡ filter (λ other. not (other == name)) (names_of objects)
+names_without [] name = refl
+names_without (o ∷ objects) name = one_more (o.name == name) (names_without objects name)
+  where
+    others : List ℕ
+    others = filter (λ other. not (other == name)) (names_of objects)
+
+    one_more : (same : Bool) → names_of (without objects name) ≡ others → names_of (cond (not same) (o ∷ without objects name) (without objects name)) ≡ cond (not same) (o.name ∷ others) others
+    one_more true e = e
+    one_more false e = ap (λ names. o.name ∷ names) e
+
+-- names still increase without one of them
+pub increasing_names_without : (objects : List Named) (name : ℕ) → IsStrictlyIncreasing (names_of objects) → IsStrictlyIncreasing (names_of (without objects name))
+increasing_names_without objects name h = rw (names_without objects name) (IsStrictlyIncreasing-filter (λ other. not (other == name)) (names_of objects) h)
 
 -- ---- the object of a name
 

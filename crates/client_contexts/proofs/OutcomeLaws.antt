@@ -1,23 +1,28 @@
 -- Outcomes that keep the limits.
-use Rattle.std.proofs.Common.{◌≡◌, Bool, true, false, cond, Option, Some, None, Ok, Err, IfOk, refl}
-use Rattle.std.specs.Prelude.{◌==◌}
+use Rattle.std.proofs.Common.{◌≡◌, Bool, true, false, cond, ℕ, Option, Some, None, Ok, Err, IfOk, IfSome, refl}
+use Rattle.std.specs.Prelude.{◌==◌, is_none}
 use Rattle.std.proofs.lemmas.Bool.{cond_both, and_parts, eqb-true}
 use Rattle.vx_base.specs.Description.{Description, same_size, byte_count}
 use Rattle.vx_base.specs.Object.{ObjectValue, IsObject, object_bytes}
 use Rattle.client_contexts.specs.declared.refusal.Refusal.{Refusal}
-use Rattle.client_contexts.specs.declared.refusal.Refusal.TheVariants.{NoResources}
+use Rattle.client_contexts.specs.declared.refusal.Refusal.TheVariants.{InvalidReference, NoResources}
 use Rattle.client_contexts.specs.declared.reply.Reply.{Reply}
-use Rattle.client_contexts.specs.declared.reply.Reply.TheVariants.{Name}
+use Rattle.client_contexts.specs.declared.reply.Reply.TheVariants.{Empty, Name}
 use Rattle.client_contexts.specs.Allowance.{Allowance}
-use Rattle.client_contexts.specs.Context.{Context, with_new, has_room}
+use Rattle.client_contexts.specs.Context.{Context, State, object_named, without, with_objects, with_new, has_room}
 use Rattle.client_contexts.specs.Refusal.{Outcome, unless}
 use Rattle.client_contexts.specs.Images.{create}
+use Rattle.client_contexts.specs.Objects.{release}
 use Rattle.client_contexts.specs.States.{KeepsLimits}
-use Rattle.client_contexts.proofs.StateLaws.{with_new_keeps}
+use Rattle.client_contexts.proofs.StateLaws.{with_new_keeps, without_keeps}
 
--- where an outcome is a reply and a context, the context keeps the limits
+-- the state of a client, where a context keeps the limits
+abbrev pub StateKeeps : Allowance → State → Type 0
+StateKeeps limits state = IfSome state (KeepsLimits limits)
+
+-- where an outcome is a reply and a state, the state keeps the limits
 abbrev pub Keeps : Allowance → Outcome → Type 0
-Keeps limits outcome = IfOk outcome (λ done. KeepsLimits limits done.1)
+Keeps limits outcome = IfOk outcome (λ done. StateKeeps limits done.1)
 
 -- what is done unless it is refused keeps the limits, if the context does where nothing refuses
 pub unless_keeps : (limits : Allowance) (refusal : Option Refusal) (reply : Reply) (c : Context) → (refusal ≡ None → KeepsLimits limits c) → Keeps limits (unless refusal reply c)
@@ -27,8 +32,14 @@ unless_keeps limits (Some refusal) reply c h = tt
 -- a create of any object keeps the limits
 pub create_keeps : (limits : Allowance) (c : Context) (object : ObjectValue) → KeepsLimits limits c → IsObject object → Keeps limits (create limits c object)
 create_keeps limits c object h is =
-    cond_both (has_room limits c (object_bytes object)) (Ok (Name c.next, with_new c object)) (Err NoResources) (Keeps limits)
+    cond_both (has_room limits c (object_bytes object)) (Ok (Name c.next, Some (with_new c object))) (Err NoResources) (Keeps limits)
     (λ room. with_new_keeps limits c object h is room) (λ full. tt)
+
+-- a release keeps the limits
+pub release_keeps : (limits : Allowance) (c : Context) (name : ℕ) → KeepsLimits limits c → Keeps limits (release c name)
+release_keeps limits c name h =
+    cond_both (is_none (object_named c.objects name)) (Err InvalidReference) (Ok (Empty, Some (with_objects c (without c.objects name)))) (Keeps limits)
+    (λ unknown. tt) (λ known. without_keeps limits c name h)
 
 -- where nothing refuses, the first reason doesn't hold, and no later one refuses
 pub passed : {R : Type 0} (b : Bool) (refusal : R) (rest : Option R) → cond b (Some refusal) rest ≡ None → (b ≡ false) × (rest ≡ None)

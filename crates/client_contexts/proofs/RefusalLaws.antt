@@ -1,5 +1,6 @@
 -- A reply that is a refusal: what it says, and that it leaves the state.
-use Rattle.std.proofs.Common.{◌≡◌, ◌≢◌, Bool, true, false, if◌then◌else◌, Option, Some, None, Result, Ok, Err, IfOk, refl}
+use Rattle.std.proofs.Common.{◌≡◌, ◌≢◌, Bool, true, false, if◌then◌else◌, ℕ, Option, Some, None, Result, Ok, Err, IfOk, refl}
+use Rattle.std.specs.Prelude.{is_none}
 use Rattle.vx_base.specs.declared.code.Code.{Code}
 use Rattle.vx_base.specs.declared.code.Code.TheVariants.{Success, NoMemory}
 use Rattle.vx_base.specs.Cell.{Cell}
@@ -8,22 +9,23 @@ use Rattle.vx_base.specs.Object.{ObjectValue, ImageObject, LutObject, ThresholdO
 use Rattle.vx_base.specs.Picture.{PictureValue}
 use Rattle.graph_verify.specs.declared.verdict.Verdict.TheVariants.{MultipleWriters}
 use Rattle.client_contexts.specs.declared.request.Request.{Request}
-use Rattle.client_contexts.specs.declared.request.Request.TheVariants.{OpenContext, CreateImage, WriteImage, ReadImage, CreateLut, CreateThreshold, Immediate}
+use Rattle.client_contexts.specs.declared.request.Request.TheVariants.{OpenContext, ReleaseContext, CreateImage, WriteImage, ReadImage, Release, CreateLut, CreateThreshold, Immediate}
 use Rattle.client_contexts.specs.declared.refusal.Refusal.{Refusal}
 use Rattle.client_contexts.specs.declared.refusal.Refusal.TheVariants.{InvalidReference, NoResources, Rejected}
 use Rattle.client_contexts.specs.declared.reply.Reply.{Reply}
 use Rattle.client_contexts.specs.declared.reply.Reply.TheVariants.{Refused, Empty, Name}
 use Rattle.client_contexts.specs.Allowance.{Allowance}
-use Rattle.client_contexts.specs.Context.{Context, State, with_new, has_room}
+use Rattle.client_contexts.specs.Context.{Context, State, object_named, without, with_objects, with_new, has_room}
 use Rattle.client_contexts.specs.Refusal.{Outcome, refusal_code, unless}
 use Rattle.client_contexts.specs.Operands.{image_of}
 use Rattle.client_contexts.specs.Images.{create, write_to, picture_refusal, read_from}
+use Rattle.client_contexts.specs.Objects.{release}
 use Rattle.client_contexts.specs.Immediate.{node_refusal}
 use Rattle.client_contexts.specs.Answer.{outcome_of, answered, answer_to}
 
 -- ---- what is done is no refusal
 
--- where an outcome is a reply and a context, the reply is no refusal
+-- where an outcome is a reply and a state, the reply is no refusal
 abbrev pub IsTold : Outcome → Type 0
 IsTold outcome = IfOk outcome (λ done. (code : Code) → done.0 ≢ Refused code)
 
@@ -36,7 +38,7 @@ unless_told (Some refusal) reply c h = tt
 create_told : (limits : Allowance) (c : Context) (object : ObjectValue) → IsTold (create limits c object)
 create_told limits c object = with_room (has_room limits c (object_bytes object))
   where
-    with_room : (room : Bool) → IsTold (if room then Ok (Name c.next, with_new c object) else Err NoResources)
+    with_room : (room : Bool) → IsTold (if room then Ok (Name c.next, Some (with_new c object)) else Err NoResources)
     with_room true = λ code e. cc
     with_room false = tt
 
@@ -50,12 +52,22 @@ read_told : (image : Result ImageValue Refusal) (c : Context) → IsTold (read_f
 read_told (Err refusal) c = tt
 read_told (Ok image) c = λ code e. cc
 
+-- a release tells nothing
+release_told : (c : Context) (name : ℕ) → IsTold (release c name)
+release_told c name = unless_unknown (is_none (object_named c.objects name))
+  where
+    unless_unknown : (unknown : Bool) → IsTold (if unknown then Err InvalidReference else Ok (Empty, Some (with_objects c (without c.objects name))))
+    unless_unknown true = tt
+    unless_unknown false = λ code e. cc
+
 -- each request that is done is answered by no refusal
 pub outcome_told : (limits : Allowance) (c : Context) (request : Request) → IsTold (outcome_of limits c request)
 outcome_told limits c OpenContext = tt
+outcome_told limits c ReleaseContext = λ code e. cc
 outcome_told limits c (CreateImage d) = create_told limits c (ImageObject (new_image d.width d.height d.format))
 outcome_told limits c (WriteImage cell p) = write_told (image_of c.objects cell) c cell p
 outcome_told limits c (ReadImage cell) = read_told (image_of c.objects cell) c
+outcome_told limits c (Release name) = release_told c name
 outcome_told limits c (CreateLut lut) = create_told limits c (LutObject lut)
 outcome_told limits c (CreateThreshold threshold) = create_told limits c (ThresholdObject threshold)
 outcome_told limits c (Immediate n) = unless_told (node_refusal c.objects n) Empty _ (λ code e. cc)

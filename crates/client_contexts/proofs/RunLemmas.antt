@@ -313,5 +313,5 @@ module _ (c : Context) (n : Node) where
     pub verdict_refuses : (verdict : Verdict) → verdict_on n (operands_at c.objects p) ≡ Some verdict → immediate c n ≡ Err (Rejected verdict)
     verdict_refuses verdict e = refused_is (Rejected verdict) (verdict_is ∙ ap (option_map Rejected) e)
 
-    pub nothing_refuses : verdict_on n (operands_at c.objects p) ≡ None → immediate c n ≡ Ok (Empty, with_objects c (with_written c.objects (written_by n (held c.objects))))
+    pub nothing_refuses : verdict_on n (operands_at c.objects p) ≡ None → immediate c n ≡ Ok (Empty, Some (with_objects c (with_written c.objects (written_by n (held c.objects)))))
     nothing_refuses e = ap (λ r. unless r Empty (with_objects c (with_written c.objects (written_by n (held c.objects))))) (verdict_is ∙ ap (option_map Rejected) e)

@@ -1,16 +1,17 @@
--- What the state of a client keeps, when an object is added and when others are written.
-use Rattle.std.proofs.Common.{ℕ, ◌+◌, ◌<◌, ◌≤◌, IsTrue, List, [], ◌∷◌, length, arith}
-use Rattle.std.specs.Prelude.{All, ◌&&◌, nat_lt, nat_le}
+-- What the state of a client keeps, when an object is added, when one is released and when others are written.
+use Rattle.std.proofs.Common.{ℕ, ◌+◌, ◌<◌, ◌≤◌, IsTrue, List, [], ◌∷◌, length, refl, arith}
+use Rattle.std.specs.Prelude.{All, Bool, ◌==◌, ◌&&◌, not, nat_lt, nat_le}
 use Rattle.std.proofs.lemmas.Bool.{and_parts, ltb-true, leb-true}
 use Rattle.std.proofs.lemmas.List.{length_push}
-use Rattle.std.proofs.lemmas.List.Elements.{All-nil, All-head, All-tail, All-push, All-weaker}
+use Rattle.std.proofs.lemmas.List.Elements.{All-nil, All-head, All-tail, All-push, All-filter, All-weaker}
+use Rattle.std.proofs.lemmas.List.Filters.{length-filter_both, sum_by-filter_both}
 use Rattle.std.proofs.lemmas.List.Sums.{sum_by_push}
 use Rattle.vx_base.specs.Cell.{Cell}
 use Rattle.vx_base.specs.Object.{ObjectValue, IsObject, object_bytes}
 use Rattle.client_contexts.specs.Allowance.{Allowance}
-use Rattle.client_contexts.specs.Context.{Named, Context, new_context, with_object, with_written, with_new, with_objects, has_room, charge_of}
+use Rattle.client_contexts.specs.Context.{Named, Context, new_context, with_object, with_written, with_new, with_objects, without, has_room, charge_of}
 use Rattle.client_contexts.specs.States.{KeepsLimits}
-use Rattle.client_contexts.proofs.NamedLaws.{IsCharged, increasing_names_push, All-with_object, names-with_object, length-with_object, charge-with_object, charged-with_object}
+use Rattle.client_contexts.proofs.NamedLaws.{IsCharged, increasing_names_push, increasing_names_without, All-with_object, names-with_object, length-with_object, charge-with_object, charged-with_object}
 
 -- a new context keeps the limits
 pub new_context_keeps : (limits : Allowance) → KeepsLimits limits new_context
@@ -41,6 +42,19 @@ with_new_keeps limits c object h is room =
       below = All-push (λ p. p.name < c.next + 1) c.objects o (All-weaker (λ p. p.name < c.next) (λ p. p.name < c.next + 1) (λ p less. omega arith) c.objects h.below) (omega arith);
       count = omega (arith, length_push c.objects o);
       quota = omega (arith, sum_by_push (λ (p : Named). object_bytes p.object) c.objects o);
+    }
+
+-- the limits are kept without the objects of a name
+pub without_keeps : (limits : Allowance) (c : Context) (name : ℕ) → KeepsLimits limits c → KeepsLimits limits (with_objects c (without c.objects name))
+without_keeps limits c name h =
+    let named : Named → Bool = λ o. o.name == name in
+    let other : Named → Bool = λ o. not (o.name == name) in
+    record {
+      objects = All-filter other (λ o. IsObject o.object) c.objects h.objects;
+      names = increasing_names_without c.objects name h.names;
+      below = All-filter other (λ o. o.name < c.next) c.objects h.below;
+      count = omega (arith, h.count, length-filter_both named other (λ o. refl) c.objects);
+      quota = omega (arith, h.quota, sum_by-filter_both named other (λ o. refl) (λ (o : Named). object_bytes o.object) c.objects);
     }
 
 -- a cell and an object that may be written there: it is charged what the objects of the cell's name are

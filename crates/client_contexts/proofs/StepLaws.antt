@@ -1,12 +1,12 @@
 -- What each request does with the limits, and the states after requests.
-use Rattle.std.proofs.Common.{List, [], ◌∷◌, Some, None, IfSome, Ok, Err}
+use Rattle.std.proofs.Common.{List, [], ◌∷◌, Some, None, Ok, Err}
 use Rattle.std.specs.Prelude.{All}
 use Rattle.std.proofs.lemmas.List.Elements.{All-head, All-tail}
 use Rattle.vx_base.specs.Image.{new_image}
 use Rattle.vx_base.specs.Object.{ImageObject, LutObject, ThresholdObject}
 use Rattle.vx_base.proofs.ImageLaws.{new_image_is}
 use Rattle.client_contexts.specs.declared.request.Request.{Request}
-use Rattle.client_contexts.specs.declared.request.Request.TheVariants.{OpenContext, CreateImage, WriteImage, ReadImage, CreateLut, CreateThreshold, Immediate}
+use Rattle.client_contexts.specs.declared.request.Request.TheVariants.{OpenContext, ReleaseContext, CreateImage, WriteImage, ReadImage, Release, CreateLut, CreateThreshold, Immediate}
 use Rattle.client_contexts.specs.Allowance.{Allowance}
 use Rattle.client_contexts.specs.Context.{Context, State}
 use Rattle.client_contexts.specs.Request.{IsRequest}
@@ -14,23 +14,21 @@ use Rattle.client_contexts.specs.Refusal.{Outcome}
 use Rattle.client_contexts.specs.Answer.{outcome_of, answered, answer_to}
 use Rattle.client_contexts.specs.States.{KeepsLimits, state_after}
 use Rattle.client_contexts.proofs.StateLaws.{new_context_keeps}
-use Rattle.client_contexts.proofs.OutcomeLaws.{Keeps, create_keeps}
+use Rattle.client_contexts.proofs.OutcomeLaws.{StateKeeps, Keeps, create_keeps, release_keeps}
 use Rattle.client_contexts.proofs.ImageStepLaws.{write_image_keeps, read_image_keeps}
 use Rattle.client_contexts.proofs.NodeStepLaws.{immediate_keeps}
 
 -- each request keeps the limits of a context
 pub outcome_keeps : (limits : Allowance) (c : Context) (request : Request) → KeepsLimits limits c → IsRequest request → Keeps limits (outcome_of limits c request)
 outcome_keeps limits c OpenContext h is = tt
+outcome_keeps limits c ReleaseContext h is = tt
 outcome_keeps limits c (CreateImage d) h is = create_keeps limits c (ImageObject (new_image d.width d.height d.format)) h (new_image_is d.width d.height d.format)
 outcome_keeps limits c (WriteImage cell p) h is = write_image_keeps limits c cell p h is.1
 outcome_keeps limits c (ReadImage cell) h is = read_image_keeps limits c cell h
+outcome_keeps limits c (Release name) h is = release_keeps limits c name h
 outcome_keeps limits c (CreateLut lut) h is = create_keeps limits c (LutObject lut) h is
 outcome_keeps limits c (CreateThreshold threshold) h is = create_keeps limits c (ThresholdObject threshold) h is
 outcome_keeps limits c (Immediate n) h is = immediate_keeps limits c n h is
-
--- the state of a client, where a context keeps the limits
-abbrev pub StateKeeps : Allowance → State → Type 0
-StateKeeps limits state = IfSome state (KeepsLimits limits)
 
 -- the state after an outcome keeps the limits
 answered_keeps : (limits : Allowance) (c : Context) (outcome : Outcome) → KeepsLimits limits c → Keeps limits outcome → StateKeeps limits (answered c outcome).1

@@ -3,7 +3,7 @@ use Rattle.std.specs.Prelude.{Some, None, Ok, Err}
 use Rattle.vx_base.specs.declared.code.Code.TheVariants as code
 use Rattle.vx_base.specs.Object.{LutObject, ThresholdObject}
 use Rattle.client_contexts.specs.declared.request.Request.{Request}
-use Rattle.client_contexts.specs.declared.request.Request.TheVariants.{OpenContext, CreateImage, WriteImage, ReadImage, CreateLut, CreateThreshold, Immediate}
+use Rattle.client_contexts.specs.declared.request.Request.TheVariants.{OpenContext, ReleaseContext, CreateImage, WriteImage, ReadImage, Release, CreateLut, CreateThreshold, Immediate}
 use Rattle.client_contexts.specs.declared.refusal.Refusal.TheVariants.{InvalidValue}
 use Rattle.client_contexts.specs.declared.reply.Reply.{Reply}
 use Rattle.client_contexts.specs.declared.reply.Reply.TheVariants.{Refused, Empty}
@@ -11,21 +11,24 @@ use Rattle.client_contexts.specs.Allowance.{Allowance}
 use Rattle.client_contexts.specs.Context.{Context, State, new_context}
 use Rattle.client_contexts.specs.Refusal.{Outcome, refusal_code}
 use Rattle.client_contexts.specs.Images.{create, create_image, write_image, read_image}
+use Rattle.client_contexts.specs.Objects.{release}
 use Rattle.client_contexts.specs.Immediate.{immediate}
 
 -- what a request comes to in the client's context
 abbrev pub outcome_of : Allowance → Context → Request → Outcome
 outcome_of limits c OpenContext = Err InvalidValue
+outcome_of limits c ReleaseContext = Ok (Empty, None)
 outcome_of limits c (CreateImage d) = create_image limits c d
 outcome_of limits c (WriteImage cell p) = write_image c cell p
 outcome_of limits c (ReadImage cell) = read_image c cell
+outcome_of limits c (Release name) = release c name
 outcome_of limits c (CreateLut lut) = create limits c (LutObject lut)
 outcome_of limits c (CreateThreshold threshold) = create limits c (ThresholdObject threshold)
 outcome_of limits c (Immediate n) = immediate c n
 
 -- the reply to a client with a context, and its new state, which a refusal leaves as it is
 abbrev pub answered : Context → Outcome → Reply × State
-answered c (Ok done) = (done.0, Some done.1)
+answered c (Ok done) = done
 answered c (Err refusal) = (Refused (refusal_code refusal), Some c)
 
 -- a client without a context

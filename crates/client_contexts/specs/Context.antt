@@ -1,5 +1,5 @@
 -- One client's state, and the states of all clients.
-use Rattle.std.specs.Prelude.{ℕ, ◌+◌, ◌==◌, Bool, ◌&&◌, nat_le, nat_lt, if◌then◌else◌, List, [], ◌∷◌, ◌++◌, length, sum_by, find, Option}
+use Rattle.std.specs.Prelude.{ℕ, ◌+◌, ◌==◌, Bool, ◌&&◌, not, nat_le, nat_lt, if◌then◌else◌, List, [], ◌∷◌, ◌++◌, length, sum_by, find, filter, Option}
 use Rattle.std.specs.Option.{option_map}
 use Rattle.std.specs.Ordering.{nat_cmp}
 use Rattle.std.specs.Map.{lookup}
@@ -40,6 +40,10 @@ with_object (o ∷ objects) name object =
 abbrev pub with_written : List Named → List (Cell × ObjectValue) → List Named
 with_written objects [] = objects
 with_written objects (w ∷ written) = with_written (with_object objects w.0.name w.1) written
+
+-- the objects of other names
+abbrev pub without : List Named → ℕ → List Named
+without objects name = filter (λ o. not (o.name == name)) objects
 
 -- what a context is charged for its objects
 abbrev pub charge_of : List Named → ℕ

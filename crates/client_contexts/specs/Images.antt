@@ -16,7 +16,7 @@ use Rattle.client_contexts.specs.Operands.{image_of}
 
 -- a create: the next name, for this object
 abbrev pub create : Allowance → Context → ObjectValue → Outcome
-create limits c object = if has_room limits c (object_bytes object) then Ok (Name c.next, with_new c object) else Err NoResources
+create limits c object = if has_room limits c (object_bytes object) then Ok (Name c.next, Some (with_new c object)) else Err NoResources
 
 -- CreateImage: an image that is 0 everywhere
 abbrev pub create_image : Allowance → Context → Description → Outcome
@@ -40,7 +40,7 @@ write_image c cell p = write_to (image_of c.objects cell) c cell p
 -- ReadImage: the samples of all places
 abbrev pub read_from : Result ImageValue Refusal → Context → Outcome
 read_from (Err refusal) c = Err refusal
-read_from (Ok image) c = Ok (Picture (picture_of image), c)
+read_from (Ok image) c = Ok (Picture (picture_of image), Some c)
 
 abbrev pub read_image : Context → Cell → Outcome
 read_image c cell = read_from (image_of c.objects cell) c

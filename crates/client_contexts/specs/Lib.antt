@@ -4,6 +4,7 @@ pub mod Request
 pub mod Refusal
 pub mod Operands
 pub mod Images
+pub mod Objects
 pub mod Immediate
 pub mod Answer
 pub mod States

@@ -6,7 +6,7 @@ use Rattle.graph_verify.specs.Verdict.{verdict_code}
 use Rattle.client_contexts.specs.declared.refusal.Refusal.{Refusal}
 use Rattle.client_contexts.specs.declared.refusal.Refusal.TheVariants.{InvalidReference, InvalidType, InvalidValue, InvalidFormat, InvalidDimension, NoResources, Rejected}
 use Rattle.client_contexts.specs.declared.reply.Reply.{Reply}
-use Rattle.client_contexts.specs.Context.{Context}
+use Rattle.client_contexts.specs.Context.{Context, State}
 
 -- the code that says so
 abbrev pub refusal_code : Refusal → Code
@@ -18,11 +18,11 @@ refusal_code InvalidDimension = code.InvalidDimension
 refusal_code NoResources = code.NoResources
 refusal_code (Rejected verdict) = verdict_code verdict
 
--- what a request comes to in a client's context: a reply and the new context, or a refusal
+-- what a request comes to in a client's context: a reply and the client's new state, or a refusal
 abbrev pub Outcome : Type 0
-Outcome = Result (Reply × Context) Refusal
+Outcome = Result (Reply × State) Refusal
 
--- it is done, unless it is refused
+-- it is done and leaves this context, unless it is refused
 abbrev pub unless : Option Refusal → Reply → Context → Outcome
-unless None reply c = Ok (reply, c)
+unless None reply c = Ok (reply, Some c)
 unless (Some refusal) reply c = Err refusal

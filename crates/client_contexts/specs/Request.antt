@@ -1,5 +1,5 @@
 -- What a client asks for.
-use Rattle.std.specs.Prelude.{⊤}
+use Rattle.std.specs.Prelude.{⊤, ◌<◌, ◌^◌}
 use Rattle.vx_base.specs.Cell.{IsCell}
 use Rattle.vx_base.specs.Description.{IsDescription}
 use Rattle.vx_base.specs.Node.{IsNode}
@@ -7,14 +7,16 @@ use Rattle.vx_base.specs.Picture.{IsPicture}
 use Rattle.vx_base.specs.Lut.{IsLut}
 use Rattle.vx_base.specs.Threshold.{IsThreshold}
 use Rattle.client_contexts.specs.declared.request.Request.{Request}
-use Rattle.client_contexts.specs.declared.request.Request.TheVariants.{OpenContext, CreateImage, WriteImage, ReadImage, CreateLut, CreateThreshold, Immediate}
+use Rattle.client_contexts.specs.declared.request.Request.TheVariants.{OpenContext, ReleaseContext, CreateImage, WriteImage, ReadImage, Release, CreateLut, CreateThreshold, Immediate}
 
 -- a request of values that their types allow
 abbrev pub IsRequest : Request → Type 0
 IsRequest OpenContext = ⊤
+IsRequest ReleaseContext = ⊤
 IsRequest (CreateImage d) = IsDescription d
 IsRequest (WriteImage cell picture) = IsCell cell × IsPicture picture
 IsRequest (ReadImage cell) = IsCell cell
+IsRequest (Release name) = name < 2 ^ 32
 IsRequest (CreateLut lut) = IsLut lut
 IsRequest (CreateThreshold threshold) = IsThreshold threshold
 IsRequest (Immediate node) = IsNode node
@@ -22,9 +24,11 @@ IsRequest (Immediate node) = IsNode node
 -- the requests that may take memory, and may find none
 abbrev pub TakesMemory : Request → Type 0
 TakesMemory OpenContext = ⊤
+TakesMemory ReleaseContext = ⊥
 TakesMemory (CreateImage d) = ⊤
 TakesMemory (WriteImage cell picture) = ⊥
 TakesMemory (ReadImage cell) = ⊤
+TakesMemory (Release name) = ⊥
 TakesMemory (CreateLut lut) = ⊤
 TakesMemory (CreateThreshold threshold) = ⊤
 TakesMemory (Immediate node) = ⊤

@@ -31,7 +31,7 @@ use Rattle.client_contexts.specs.Places.{entry_at, object_at, object_if_at, imag
 
 -- a method that takes no memory comes to the outcome: its reply and the new context, or a refusal, which leaves the context
 pub record ComesTo (outcome : Outcome) (old new : Context) (result : Result Reply Refusal) : Type 0 where
-  pub done : IfOk result (λ reply. outcome ≡ Ok (reply, new))
+  pub done : IfOk result (λ reply. outcome ≡ Ok (reply, Some new))
   pub refused : IfErr result (λ refusal. outcome ≡ Err refusal)
   pub kept : OnErr result (new ≡ old)
 
@@ -41,7 +41,7 @@ SaysWhy outcome NoMemory = ⊤
 
 -- a method that may take memory comes to the outcome, or finds no memory and leaves the context
 pub record MayComeTo (outcome : Outcome) (old new : Context) (result : Result Reply RequestFault) : Type 0 where
-  pub done : IfOk result (λ reply. outcome ≡ Ok (reply, new))
+  pub done : IfOk result (λ reply. outcome ≡ Ok (reply, Some new))
   pub refused : IfErr result (SaysWhy outcome)
   pub kept : OnErr result (new ≡ old)
 

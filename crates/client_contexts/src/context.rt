@@ -5,7 +5,7 @@ ghost use Rattle.vx_base.specs.Image.{IsImage, description_of};
 ghost use Rattle.vx_base.specs.Object.{ImageObject, IsObject, object_bytes, object_kind};
 ghost use Rattle.vx_base.specs.Outputs.{written_by};
 ghost use Rattle.vx_base.specs.Picture.{pictured};
-ghost use Rattle.client_contexts.specs.Context.{new_context, has_room, charge_of, with_object, with_objects, with_written, with_new};
+ghost use Rattle.client_contexts.specs.Context.{new_context, has_room, charge_of, with_object, with_objects, with_written, without, with_new};
 ghost use Rattle.client_contexts.specs.Operands.{held};
 ghost use Rattle.client_contexts.specs.Held.{value_of};
 ghost use Rattle.client_contexts.specs.Places.{entry_at, object_at, image_at};
@@ -91,6 +91,15 @@ impl Context {
         self.next += 1;
         self.charge += charge;
         Ok(name)
+    }
+
+    /// Drops the object at a place. Its name is not used again.
+    pub fn remove(&mut self, place: usize)
+        requires { place < length self.old.objects }
+        ensures { self.new ≡ with_objects self.old (without self.old.objects (entry_at self.old.objects place).name) }
+    {
+        let entry = self.entries.remove(place);
+        self.charge -= entry.object().charge();
     }
 
     /// The place of the object with this name.

@@ -15,9 +15,9 @@
 //!   the charge
 //! - `places`, `lookup`, `run`: where the operands of a node stand, how they are found, and how the
 //!   node runs on them
-//! - the requests by family: `images` (to create, write and read them), `tables` (to create lookup
-//!   tables and thresholds), `immediate` (nodes that run at once)
-//! - `runtime`: all clients; contexts are opened there
+//! - the requests by family: `images` (to create, write and read them), `objects` (to release any),
+//!   `tables` (to create lookup tables and thresholds), `immediate` (nodes that run at once)
+//! - `runtime`: all clients; contexts are opened and released there
 //! - `laws`: what the definitions mean: states keep the limits, refusals leave them
 #![tactic(auto)]
 
@@ -31,6 +31,7 @@ mod limits;
 mod lookup;
 mod memory;
 mod object;
+mod objects;
 mod places;
 mod refusal;
 mod reply;

@@ -1,5 +1,6 @@
 //! All clients, and what their requests do.
-ghost use Rattle.std.specs.Prelude.{◌≡◌, [], None, IfErr, OnErr};
+ghost use Rattle.std.specs.Prelude.{◌≡◌, ◌≢◌, [], None, Ok, IfErr, OnErr};
+ghost use Rattle.client_contexts.specs.declared.request.Request.TheVariants.{ReleaseContext};
 ghost use Rattle.client_contexts.specs.Context.{state_of};
 ghost use Rattle.client_contexts.specs.Request.{TakesMemory};
 ghost use Rattle.client_contexts.specs.Answer.{outcome_of};
@@ -12,6 +13,7 @@ use crate::images::{create_image, read_image, write_image};
 use crate::immediate::run_at_once;
 use crate::limits::Limits;
 use crate::memory::NoMemory;
+use crate::objects::release;
 use crate::refusal::Refusal;
 use crate::reply::Reply;
 use crate::request::Request;
@@ -61,6 +63,9 @@ impl Runtime {
         ensures { Applies client request.now self.old self.new result }
     {
         let limits = self.limits;
+        if let Request::ReleaseContext = request {
+            return Ok(self.release_context(client));
+        }
         match self.contexts.get_mut(&client) {
             Some(context) => match answer(context, limits, alloc, request) {
                 Ok(reply) => Ok(reply),
@@ -68,6 +73,16 @@ impl Runtime {
                 Err(RequestFault::NoMemory) => Err(NoMemory),
             },
             None => self.answer_without(client, request),
+        }
+    }
+
+    /// Drops the context of a client that has one, with all of its objects.
+    fn release_context(&mut self, client: u16) -> Reply
+        ensures { Applies client ReleaseContext self.old self.new (Ok result) }
+    {
+        match self.contexts.remove(&client) {
+            Some(_) => Reply::Empty,
+            None => Reply::Refused(Code::InvalidReference),
         }
     }
 
@@ -86,21 +101,24 @@ impl Runtime {
     }
 }
 
-/// Answers a request of a client that has this context, or says why not.
+/// Answers a request of a client that has this context and keeps it, or says why not.
 fn answer(
     context: &mut Context,
     limits: Limits,
     alloc: Global,
     request: &Request,
 ) -> Result<Reply, RequestFault>
+    requires { request.now ≢ ReleaseContext }
     ensures comes { MayComeTo (outcome_of limits context.old request.now) context.old context.new result }
     ensures takes { IfErr result (λ fault. WantsMemory fault (TakesMemory request.now)) }
 {
     match request {
         Request::OpenContext => Err(RequestFault::Refused(Refusal::InvalidValue)),
+        Request::ReleaseContext => unreachable!(),
         Request::CreateImage(desc) => create_image(context, limits, *desc),
         Request::WriteImage(reference, picture) => Ok(write_image(context, *reference, picture)?),
         Request::ReadImage(reference) => read_image(context, alloc, *reference),
+        Request::Release(name) => Ok(release(context, *name)?),
         Request::CreateLut(lut) => create_lut(context, limits, lut),
         Request::CreateThreshold(threshold) => create_threshold(context, limits, *threshold),
         Request::Immediate(node) => Ok(run_at_once(context, *node)?),

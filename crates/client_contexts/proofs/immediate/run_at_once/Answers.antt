@@ -1,4 +1,4 @@
-use Rattle.std.proofs.Common.{◌∙◌, ap, sym, refl, rules, Ok}
+use Rattle.std.proofs.Common.{◌∙◌, ap, sym, refl, rules, Some, Ok}
 use Rattle.vx_base.specs.declared.node.Node.{Node}
 use Rattle.client_contexts.specs.Context.{Context}
 use Rattle.graph_verify.specs.Verdict.{verdict_on}
@@ -30,7 +30,7 @@ returns c =
       done = ap (λ (n : Node). immediate c.args.context.now n) (sym c.node-node.ensures.value)
           ∙ nothing_refuses c.args.context.now c.node-node.result c.in_ok-places.places c.in_ok-places.ensures.ok c.in_ok-places.ensures.err
           (ap (λ o. verdict_on c.node-node.result o) (sym c.operands_at.ensures) ∙ sym c.verdict_on.ensures ∙ c.in_default.is)
-          ∙ ap (λ (after : Context). let done : Outcome = Ok (Empty, after) in done) (sym c.run.ensures);
+          ∙ ap (λ (after : Context). let done : Outcome = Ok (Empty, Some after) in done) (sym c.run.ensures);
       refused = tt;
       kept = tt;
     }

@@ -1,0 +1,20 @@
+//! Requests on objects of any kind: releasing them.
+ghost use Rattle.client_contexts.specs.Objects.{release};
+ghost use Rattle.client_contexts.specs.Steps.{ComesTo};
+
+use crate::context::Context;
+use crate::refusal::Refusal;
+use crate::reply::Reply;
+
+/// Drops the object with this name.
+pub fn release(context: &mut Context, name: u32) -> Result<Reply, Refusal>
+    ensures { ComesTo (release context.old name) context.old context.new result }
+{
+    match context.place_of(name) {
+        None => Err(Refusal::InvalidReference),
+        Some(place) => {
+            context.remove(place);
+            Ok(Reply::Empty)
+        }
+    }
+}
