@@ -1,13 +1,14 @@
 -- Each request has one spelling.
 use Rattle.std.proofs.Common.{◌≡◌, ℕ, List, [], ◌∷◌, ◌++◌, Option, Some, None, Result, Ok, refl, ap, subst, ◌∙◌, append-nil}
+use Rattle.std.specs.Int.{w32, to_be_bytes}
 use Rattle.vx_base.specs.Cell.{Cell}
 use Rattle.client_contexts.specs.declared.request.Request.{Request}
-use Rattle.client_contexts.specs.declared.request.Request.TheVariants.{OpenContext, CreateImage, WriteImage, ReadImage, CreateLut, CreateThreshold, Immediate}
+use Rattle.client_contexts.specs.declared.request.Request.TheVariants.{OpenContext, ReleaseContext, CreateImage, WriteImage, ReadImage, Release, CreateLut, CreateThreshold, Immediate}
 use Rattle.vx_wire.specs.declared.body_fault.BodyFault.{BodyFault}
 use Rattle.vx_wire.specs.declared.op.Op.{Op}
 use Rattle.vx_wire.specs.declared.op.Op.TheVariants as kinds
 use Rattle.vx_wire.specs.Op.{op_number, ops, op_numbered, op_of}
-use Rattle.vx_wire.specs.Fields.{and_then, at_end}
+use Rattle.vx_wire.specs.Fields.{and_then, at_end, take_long}
 use Rattle.vx_wire.specs.Requests.{request_with, request_with_known, request_of, body_of}
 use Rattle.vx_wire.specs.Description.{take_description, description_bytes}
 use Rattle.vx_wire.specs.Reference.{take_reference, reference_bytes}
@@ -15,12 +16,13 @@ use Rattle.vx_wire.specs.Samples.{take_picture, picture_bytes}
 use Rattle.vx_wire.specs.Lut.{take_lut, lut_bytes}
 use Rattle.vx_wire.specs.Threshold.{take_threshold, threshold_bytes}
 use Rattle.vx_wire.specs.Node.{take_node}
-use Rattle.vx_wire.specs.Contexts.{open_context_in}
+use Rattle.vx_wire.specs.Contexts.{open_context_in, release_context_in}
 use Rattle.vx_wire.specs.Images.{create_image_in, write_image_in, read_image_in}
+use Rattle.vx_wire.specs.Objects.{release_in}
 use Rattle.vx_wire.specs.Tables.{create_lut_in, create_threshold_in}
 use Rattle.vx_wire.specs.Immediate.{immediate_in}
 use Rattle.vx_wire.proofs.Numbers.{number_is}
-use Rattle.vx_wire.proofs.ReadFields.{AllBytes, then_of, description_of, cell_of}
+use Rattle.vx_wire.proofs.ReadFields.{AllBytes, then_of, long_of, description_of, cell_of}
 use Rattle.vx_wire.proofs.ReadSamples.{picture_of}
 use Rattle.vx_wire.proofs.ReadObjects.{lut_of, threshold_of}
 use Rattle.vx_wire.proofs.ReadNode.{node_of}
@@ -40,6 +42,11 @@ open_of : (body : List ℕ) (request : Request) → open_context_in body ≡ Ok 
 open_of body request e =
     let (same, empty) = end_of OpenContext request body e in
     subst (Spelled kinds.OpenContext body) same (record { op_is = refl; body_is = empty; within = tt })
+
+release_context_of : (body : List ℕ) (request : Request) → release_context_in body ≡ Ok request → Spelled kinds.ReleaseContext body request
+release_context_of body request e =
+    let (same, empty) = end_of ReleaseContext request body e in
+    subst (Spelled kinds.ReleaseContext body) same (record { op_is = refl; body_is = empty; within = tt })
 
 create_of : (body : List ℕ) (request : Request) → AllBytes body → create_image_in body ≡ Ok request → Spelled kinds.CreateImage body request
 create_of body request is e =
@@ -66,6 +73,13 @@ read_of body request is e =
     let (body_is, cell_is, is1) = cell_of body cell rest is is_cell in
     subst (Spelled kinds.ReadImage body) same (record { op_is = refl; body_is = body_is ∙ ap (λ l. reference_bytes cell ++ l) empty; within = cell_is })
 
+release_of : (body : List ℕ) (request : Request) → AllBytes body → release_in body ≡ Ok request → Spelled kinds.Release body request
+release_of body request is e =
+    let (name, rest, is_name, e1) = then_of (take_long body) (λ name rest. at_end (Release name) rest) request e in
+    let (same, empty) = end_of (Release name) request rest e1 in
+    let (body_is, name_below, is1) = long_of body name rest is is_name in
+    subst (Spelled kinds.Release body) same (record { op_is = refl; body_is = body_is ∙ ap (λ l. to_be_bytes w32 name ++ l) empty; within = name_below })
+
 create_lut_of : (body : List ℕ) (request : Request) → AllBytes body → create_lut_in body ≡ Ok request → Spelled kinds.CreateLut body request
 create_lut_of body request is e =
     let (lut, rest, is_lut, e1) = then_of (take_lut body) (λ lut rest. at_end (CreateLut lut) rest) request e in
@@ -90,9 +104,11 @@ immediate_of body request is e =
 -- a body of each op
 with_op : (op : Op) (body : List ℕ) (request : Request) → AllBytes body → request_with op body ≡ Ok request → Spelled op body request
 with_op kinds.OpenContext body request is e = open_of body request e
+with_op kinds.ReleaseContext body request is e = release_context_of body request e
 with_op kinds.CreateImage body request is e = create_of body request is e
 with_op kinds.WriteImage body request is e = write_of body request is e
 with_op kinds.ReadImage body request is e = read_of body request is e
+with_op kinds.Release body request is e = release_of body request is e
 with_op kinds.CreateLut body request is e = create_lut_of body request is e
 with_op kinds.CreateThreshold body request is e = create_threshold_of body request is e
 with_op kinds.Immediate body request is e = immediate_of body request is e

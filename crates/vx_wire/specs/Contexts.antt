@@ -1,9 +1,12 @@
 -- The bodies of requests about contexts.
 use Rattle.std.specs.Prelude.{ℕ, List, Result}
 use Rattle.client_contexts.specs.declared.request.Request.{Request}
-use Rattle.client_contexts.specs.declared.request.Request.TheVariants.{OpenContext}
+use Rattle.client_contexts.specs.declared.request.Request.TheVariants.{OpenContext, ReleaseContext}
 use Rattle.vx_wire.specs.declared.body_fault.BodyFault.{BodyFault}
 use Rattle.vx_wire.specs.Fields.{at_end}
 
 abbrev pub open_context_in : List ℕ → Result Request BodyFault
 open_context_in body = at_end OpenContext body
+
+abbrev pub release_context_in : List ℕ → Result Request BodyFault
+release_context_in body = at_end ReleaseContext body

@@ -11,6 +11,7 @@ pub mod Operand
 pub mod Node
 pub mod Contexts
 pub mod Images
+pub mod Objects
 pub mod Tables
 pub mod Immediate
 pub mod Requests

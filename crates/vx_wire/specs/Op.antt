@@ -4,20 +4,22 @@ use Rattle.client_contexts.specs.declared.request.Request.{Request}
 use Rattle.client_contexts.specs.declared.request.Request.TheVariants as requests
 use Rattle.vx_wire.specs.Numbered.{numbered}
 use Rattle.vx_wire.specs.declared.op.Op.{Op}
-use Rattle.vx_wire.specs.declared.op.Op.TheVariants.{OpenContext, CreateImage, WriteImage, ReadImage, CreateLut, CreateThreshold, Immediate}
+use Rattle.vx_wire.specs.declared.op.Op.TheVariants.{OpenContext, ReleaseContext, CreateImage, WriteImage, ReadImage, Release, CreateLut, CreateThreshold, Immediate}
 
 -- the number of this project's that stands for the op
 abbrev pub op_number : Op → ℕ
 op_number OpenContext = 1
+op_number ReleaseContext = 2
 op_number CreateImage = 3
 op_number WriteImage = 5
 op_number ReadImage = 7
+op_number Release = 10
 op_number CreateLut = 11
 op_number CreateThreshold = 12
 op_number Immediate = 24
 
 abbrev pub ops : List Op
-ops = OpenContext ∷ CreateImage ∷ WriteImage ∷ ReadImage ∷ CreateLut ∷ CreateThreshold ∷ Immediate ∷ []
+ops = OpenContext ∷ ReleaseContext ∷ CreateImage ∷ WriteImage ∷ ReadImage ∷ Release ∷ CreateLut ∷ CreateThreshold ∷ Immediate ∷ []
 
 -- the op with this number
 abbrev pub op_numbered : ℕ → Option Op
@@ -26,9 +28,11 @@ op_numbered n = numbered op_number ops n
 -- the op of a request
 abbrev pub op_of : Request → Op
 op_of requests.OpenContext = OpenContext
+op_of requests.ReleaseContext = ReleaseContext
 op_of (requests.CreateImage d) = CreateImage
 op_of (requests.WriteImage cell picture) = WriteImage
 op_of (requests.ReadImage cell) = ReadImage
+op_of (requests.Release name) = Release
 op_of (requests.CreateLut lut) = CreateLut
 op_of (requests.CreateThreshold threshold) = CreateThreshold
 op_of (requests.Immediate node) = Immediate

@@ -1,7 +1,8 @@
--- Requests and their bodies. Each table goes by families: contexts, images, tables and thresholds, nodes that run at once.
+-- Requests and their bodies. Each table goes by families: contexts, images, objects of any kind, tables and thresholds, nodes that run at once.
 use Rattle.std.specs.Prelude.{ℕ, ⊤, List, [], ◌++◌, Option, Some, None, Result, Err}
+use Rattle.std.specs.Int.{w32, to_be_bytes}
 use Rattle.client_contexts.specs.declared.request.Request.{Request}
-use Rattle.client_contexts.specs.declared.request.Request.TheVariants.{OpenContext, CreateImage, WriteImage, ReadImage, CreateLut, CreateThreshold, Immediate}
+use Rattle.client_contexts.specs.declared.request.Request.TheVariants.{OpenContext, ReleaseContext, CreateImage, WriteImage, ReadImage, Release, CreateLut, CreateThreshold, Immediate}
 use Rattle.vx_wire.specs.declared.body_fault.BodyFault.{BodyFault}
 use Rattle.vx_wire.specs.declared.body_fault.BodyFault.TheVariants.{InvalidParameters}
 use Rattle.vx_wire.specs.declared.op.Op.{Op}
@@ -13,17 +14,20 @@ use Rattle.vx_wire.specs.Samples.{picture_bytes}
 use Rattle.vx_wire.specs.Lut.{lut_bytes}
 use Rattle.vx_wire.specs.Threshold.{threshold_bytes}
 use Rattle.vx_wire.specs.Node.{node_bytes}
-use Rattle.vx_wire.specs.Contexts.{open_context_in}
+use Rattle.vx_wire.specs.Contexts.{open_context_in, release_context_in}
 use Rattle.vx_wire.specs.Images.{create_image_in, write_image_in, read_image_in}
+use Rattle.vx_wire.specs.Objects.{release_in}
 use Rattle.vx_wire.specs.Tables.{create_lut_in, create_threshold_in}
 use Rattle.vx_wire.specs.Immediate.{immediate_in}
 
 -- the request that a body of this op spells
 abbrev pub request_with : Op → List ℕ → Result Request BodyFault
 request_with ops.OpenContext body = open_context_in body
+request_with ops.ReleaseContext body = release_context_in body
 request_with ops.CreateImage body = create_image_in body
 request_with ops.WriteImage body = write_image_in body
 request_with ops.ReadImage body = read_image_in body
+request_with ops.Release body = release_in body
 request_with ops.CreateLut body = create_lut_in body
 request_with ops.CreateThreshold body = create_threshold_in body
 request_with ops.Immediate body = immediate_in body
@@ -40,9 +44,11 @@ request_of number body = request_with_known (op_numbered number) body
 -- the body that spells a request
 abbrev pub body_of : Request → List ℕ
 body_of OpenContext = []
+body_of ReleaseContext = []
 body_of (CreateImage d) = description_bytes d
 body_of (WriteImage image picture) = reference_bytes image ++ picture_bytes picture
 body_of (ReadImage image) = reference_bytes image
+body_of (Release name) = to_be_bytes w32 name
 body_of (CreateLut lut) = lut_bytes lut
 body_of (CreateThreshold threshold) = threshold_bytes threshold
 body_of (Immediate node) = node_bytes node
@@ -50,9 +56,11 @@ body_of (Immediate node) = node_bytes node
 -- a request whose body holds samples or entries, for which parsing takes memory
 abbrev pub HoldsSamples : Request → Type 0
 HoldsSamples OpenContext = ⊥
+HoldsSamples ReleaseContext = ⊥
 HoldsSamples (CreateImage d) = ⊥
 HoldsSamples (WriteImage image picture) = ⊤
 HoldsSamples (ReadImage image) = ⊥
+HoldsSamples (Release name) = ⊥
 HoldsSamples (CreateLut lut) = ⊤
 HoldsSamples (CreateThreshold threshold) = ⊥
 HoldsSamples (Immediate node) = ⊥

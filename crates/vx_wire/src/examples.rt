@@ -5,14 +5,17 @@ ghost use Rattle.vx_base.specs.declared.policy.Policy.TheVariants.{Wrap, Saturat
 ghost use Rattle.vx_base.specs.declared.border.Border.TheVariants.{Undefined, Constant};
 ghost use Rattle.vx_base.specs.declared.function.Function.TheVariants.{NotBits, Multiply};
 ghost use Rattle.vx_base.specs.declared.threshold.ThresholdKind.TheVariants.{Binary, Range};
-ghost use Rattle.client_contexts.specs.declared.request.Request.TheVariants.{OpenContext, CreateImage, WriteImage, ReadImage, CreateThreshold, Immediate};
+ghost use Rattle.client_contexts.specs.declared.request.Request.TheVariants.{OpenContext, ReleaseContext, CreateImage, WriteImage, ReadImage, Release, CreateThreshold, Immediate};
 ghost use Rattle.vx_wire.specs.declared.body_fault.BodyFault.TheVariants.{InvalidParameters, InvalidFormat, InvalidDimension, InvalidValue};
 ghost use Rattle.vx_wire.specs.Requests.{request_of, body_of};
 
-/// Contexts are opened by an empty body, and no request has another op than those of the table.
+/// Contexts are opened and released by an empty body, and no request has another op than those of
+/// the table.
 pub fn ops()
     ensures open { request_of 1 [] ≡ Ok OpenContext }
     ensures open_with_more { request_of 1 (0 ∷ []) ≡ Err InvalidParameters }
+    ensures release { request_of 2 [] ≡ Ok ReleaseContext }
+    ensures release_with_more { request_of 2 (0 ∷ []) ≡ Err InvalidParameters }
     ensures none { request_of 0 [] ≡ Err InvalidParameters }
     ensures not_known { request_of 200 [] ≡ Err InvalidParameters }
 {}
@@ -36,6 +39,13 @@ pub fn images_written_and_read()
     ensures a_byte_short { request_of 5 (0 ∷ 0 ∷ 0 ∷ 7 ∷ 255 ∷ 2 ∷ 0 ∷ 2 ∷ 0 ∷ 1 ∷ 255 ∷ 254 ∷ 0 ∷ []) ≡ Err InvalidParameters }
     ensures a_byte_more { request_of 5 (0 ∷ 0 ∷ 0 ∷ 7 ∷ 255 ∷ 1 ∷ 0 ∷ 1 ∷ 0 ∷ 1 ∷ 9 ∷ 9 ∷ []) ≡ Err InvalidParameters }
     ensures read { request_of 7 (0 ∷ 0 ∷ 1 ∷ 2 ∷ 3 ∷ []) ≡ Ok (ReadImage (record { name = 258; slot = Some 3 })) }
+{}
+
+/// Object 258 that is released, and a name that is cut short or has a slot.
+pub fn objects_released()
+    ensures released { request_of 10 (0 ∷ 0 ∷ 1 ∷ 2 ∷ []) ≡ Ok (Release 258) }
+    ensures cut { request_of 10 (0 ∷ 0 ∷ 1 ∷ []) ≡ Err InvalidParameters }
+    ensures with_a_slot { request_of 10 (0 ∷ 0 ∷ 1 ∷ 2 ∷ 255 ∷ []) ≡ Err InvalidParameters }
 {}
 
 /// Tables of what no table is of, and tables that are cut short.

@@ -9,9 +9,11 @@ use client_contexts::Request;
 #[derive(Clone, Copy, PartialEq, Eq, Debug)]
 pub enum Op {
     OpenContext,
+    ReleaseContext,
     CreateImage,
     WriteImage,
     ReadImage,
+    Release,
     CreateLut,
     CreateThreshold,
     Immediate,
@@ -24,9 +26,11 @@ impl Op {
     {
         match self {
             Op::OpenContext => 1,
+            Op::ReleaseContext => 2,
             Op::CreateImage => 3,
             Op::WriteImage => 5,
             Op::ReadImage => 7,
+            Op::Release => 10,
             Op::CreateLut => 11,
             Op::CreateThreshold => 12,
             Op::Immediate => 24,
@@ -40,9 +44,11 @@ impl Op {
     {
         match number {
             1 => Some(Op::OpenContext),
+            2 => Some(Op::ReleaseContext),
             3 => Some(Op::CreateImage),
             5 => Some(Op::WriteImage),
             7 => Some(Op::ReadImage),
+            10 => Some(Op::Release),
             11 => Some(Op::CreateLut),
             12 => Some(Op::CreateThreshold),
             24 => Some(Op::Immediate),
@@ -56,9 +62,11 @@ impl Op {
     {
         match request {
             Request::OpenContext => Op::OpenContext,
+            Request::ReleaseContext => Op::ReleaseContext,
             Request::CreateImage(_) => Op::CreateImage,
             Request::WriteImage(_, _) => Op::WriteImage,
             Request::ReadImage(_) => Op::ReadImage,
+            Request::Release(_) => Op::Release,
             Request::CreateLut(_) => Op::CreateLut,
             Request::CreateThreshold(_) => Op::CreateThreshold,
             Request::Immediate(_) => Op::Immediate,

@@ -5,9 +5,10 @@ ghost use Rattle.vx_wire.specs.Requests.{request_of};
 
 use crate::op::Op;
 use crate::parse_fault::ParseFault;
-use crate::requests::contexts::open_context;
+use crate::requests::contexts::{open_context, release_context};
 use crate::requests::images::{create_image, read_image, write_image};
 use crate::requests::immediate::immediate;
+use crate::requests::objects::release;
 use crate::requests::tables::{create_lut, create_threshold};
 use client_contexts::Request;
 use std::alloc::Global;
@@ -25,9 +26,11 @@ pub fn parse(alloc: Global, op: u8, body: &[u8]) -> Result<Request, ParseFault>
     match Op::from_number(op) {
         None => Err(ParseFault::InvalidParameters),
         Some(Op::OpenContext) => Ok(open_context(body)?),
+        Some(Op::ReleaseContext) => Ok(release_context(body)?),
         Some(Op::CreateImage) => Ok(create_image(body)?),
         Some(Op::WriteImage) => write_image(alloc, body),
         Some(Op::ReadImage) => Ok(read_image(body)?),
+        Some(Op::Release) => Ok(release(body)?),
         Some(Op::CreateLut) => create_lut(alloc, body),
         Some(Op::CreateThreshold) => Ok(create_threshold(body)?),
         Some(Op::Immediate) => Ok(immediate(body)?),

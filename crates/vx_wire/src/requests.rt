@@ -3,4 +3,5 @@
 pub mod contexts;
 pub mod images;
 pub mod immediate;
+pub mod objects;
 pub mod tables;
