@@ -9,13 +9,16 @@ pub fn is_request(request: &Request)
     ensures { IsRequest request.now }
 {
     match request {
-        Request::OpenContext => {}
+        Request::OpenContext | Request::ReleaseContext => {}
         Request::CreateImage(desc) => desc.has_sides(),
         Request::WriteImage(image, picture) => {
             image.is_cell();
             let _samples = picture.samples();
         }
         Request::ReadImage(image) => image.is_cell(),
+        Request::Release(name) => {
+            let _name = *name;
+        }
         Request::CreateLut(lut) => {
             let _entries = lut.entries();
         }

@@ -38,6 +38,7 @@ pub fn write_request<K: Sink>(
     is_request(request);
     match request {
         Request::OpenContext => write_short(sink, client, Op::OpenContext.number(), &[]),
+        Request::ReleaseContext => write_short(sink, client, Op::ReleaseContext.number(), &[]),
         Request::CreateImage(desc) => {
             let body = description_bytes(*desc);
             write_short(sink, client, Op::CreateImage.number(), &body)
@@ -46,6 +47,10 @@ pub fn write_request<K: Sink>(
         Request::ReadImage(image) => {
             let body = reference_bytes(*image);
             write_short(sink, client, Op::ReadImage.number(), &body)
+        }
+        Request::Release(name) => {
+            let body = name.to_be_bytes();
+            write_short(sink, client, Op::Release.number(), &body)
         }
         Request::CreateLut(lut) => write_create_lut(sink, client, lut),
         Request::CreateThreshold(threshold) => write_create_threshold(sink, client, *threshold),
