@@ -2,7 +2,8 @@
 
 import struct
 
-OPEN_CONTEXT, CREATE_IMAGE, WRITE_IMAGE, READ_IMAGE, CREATE_LUT, CREATE_THRESHOLD, IMMEDIATE = 1, 3, 5, 7, 11, 12, 24
+(OPEN_CONTEXT, RELEASE_CONTEXT, CREATE_IMAGE, WRITE_IMAGE, READ_IMAGE, RELEASE, CREATE_LUT, CREATE_THRESHOLD,
+ IMMEDIATE) = 1, 2, 3, 5, 7, 10, 11, 12, 24
 CREATES = (CREATE_IMAGE, CREATE_LUT, CREATE_THRESHOLD)
 U8, S16, U32 = 1, 2, 3
 SAMPLE_LETTERS = {U8: "B", S16: "h", U32: "I"}
@@ -43,6 +44,10 @@ def open_context(client):
     return frame(client, OPEN_CONTEXT)
 
 
+def release_context(client):
+    return frame(client, RELEASE_CONTEXT)
+
+
 def create_image(client, fmt, width, height):
     return frame(client, CREATE_IMAGE, struct.pack(">BHH", fmt, width, height))
 
@@ -53,6 +58,10 @@ def write_image(client, named, fmt, width, height, samples):
 
 def read_image(client, named):
     return frame(client, READ_IMAGE, operand(named))
+
+
+def release(client, name):
+    return frame(client, RELEASE, struct.pack(">I", name))
 
 
 def create_lut(client, fmt, entries):

@@ -35,3 +35,25 @@ fn each_has_its_quota(rt: HostRuntime) -> Result<(), Fail> {
     }
     Ok(())
 }
+
+/// The reply to a request of client 1.
+fn reply(alloc: Global, runtime: &mut Runtime, request: &Request) -> Result<Reply, Fail> {
+    Ok(runtime.apply(alloc, 1, request).ok().ok_or("no memory")?)
+}
+
+#[test]
+fn what_is_released_leaves_room(rt: HostRuntime) -> Result<(), Fail> {
+    let alloc = rt.alloc();
+    let limits = Limits::new(8, 1).ok_or("within the limits")?;
+    let desc = Desc::new(2, 2, Format::U8).ok_or("within the limits")?;
+    let mut runtime = Runtime::new(alloc, limits);
+    assert_eq!(rt; images_made(alloc, &mut runtime, 1, desc), Some(2));
+    let released = reply(alloc, &mut runtime, &Request::Release(1))?;
+    assert!(rt; matches!(released, Reply::Empty));
+    let made = reply(alloc, &mut runtime, &Request::CreateImage(desc))?;
+    assert!(rt; matches!(made, Reply::Name(3)));
+    let closed = reply(alloc, &mut runtime, &Request::ReleaseContext)?;
+    assert!(rt; matches!(closed, Reply::Empty));
+    assert_eq!(rt; images_made(alloc, &mut runtime, 1, desc), Some(2));
+    Ok(())
+}

@@ -37,6 +37,8 @@ fn request(number: u8) -> Option<Request> {
             Some(Request::CreateThreshold(ThresholdRule::new(Format::S16, range, 255, 0)?))
         }
         5 => Some(Request::Immediate(node()?)),
+        6 => Some(Request::ReleaseContext),
+        7 => Some(Request::Release(258)),
         _ => None,
     }
 }
@@ -54,13 +56,15 @@ fn node() -> Option<NodeSpec> {
     })
 }
 
-const FRAMES: [&[u8]; 6] = [
+const FRAMES: [&[u8]; 8] = [
     b"\0\0\0\x03\x01\x02\x01",
     b"\0\0\0\x08\x01\x02\x03\x03\x10\0\0\x02",
     b"\0\0\0\x08\x01\x02\x07\0\0\0\x07\xfe",
     b"\0\0\0\x09\x01\x02\x0c\0\x01\0\x0a\xff\0",
     b"\0\0\0\x0b\x01\x02\x0c\x01\x02\xff\xff\0\x02\xff\0",
     b"\0\0\0\x1c\x01\x02\x18\x04\x01\x05\0\0\0\0\0\x01\x03\0\0\0\0\xff\0\x01\0\0\xff\0\0\0\0\xff",
+    b"\0\0\0\x03\x01\x02\x02",
+    b"\0\0\0\x07\x01\x02\x0a\0\0\x01\x02",
 ];
 
 /// Whether a request is written to these bytes.

@@ -9,8 +9,8 @@
 //! - `body_fault`, `parse_fault`: why a body spells no request, and why none was read
 //! - `fields`: taking fields from the front of a body, and in its modules what each subject takes
 //!   and gives: `format`, `description`, `reference`, `samples`, `threshold`, `operand`, `node`
-//! - `requests`: the bodies of requests, by families: `contexts`, `images`, `objects` (of any kind),
-//!   `tables` (and thresholds), `immediate`
+//! - `requests`: the bodies of requests, by families: `contexts`, `images`, `objects` (of any
+//!   kind), `tables` (and thresholds), `immediate`
 //! - `parsing`: the body of any request
 //! - `laws`, `examples`: what the definitions mean
 #![tactic(auto)]
