@@ -1,0 +1,3 @@
+mod StoredLemmas
+mod NamesLemmas
+mod TableLemmas

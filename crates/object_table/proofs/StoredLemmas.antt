@@ -1,0 +1,15 @@
+-- Images that are stored.
+use Rattle.std.proofs.Common.{◌≡◌, ℕ, pos, replicate, ap, ◌∙◌, sym}
+use Rattle.vx_base.specs.declared.samples.Samples.{Samples}
+use Rattle.vx_base.specs.Rectangle.{Rectangle, whole}
+use Rattle.vx_base.specs.Description.{Description, sample_count}
+use Rattle.vx_base.specs.Image.{new_image, image_over}
+use Rattle.vx_base.specs.Picture.{values}
+use Rattle.vx_base.proofs.ZeroLaws.{samples-new_image}
+
+-- samples that are all 0 make a new image
+pub zeros_are_new : (d : Description) (area : Rectangle) (samples : Samples) (count : ℕ) → area ≡ whole d.width d.height → count ≡ sample_count d → values samples ≡ replicate count (pos 0)
+    → image_over d area (values samples) ≡ new_image d.width d.height d.format
+zeros_are_new d area samples count all long zero =
+    ap (λ r. image_over d r (values samples)) all
+    ∙ ap (image_over d (whole d.width d.height)) (zero ∙ ap (λ n. replicate n (pos 0)) long ∙ sym (samples-new_image d.width d.height d.format))

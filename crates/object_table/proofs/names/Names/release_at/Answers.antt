@@ -1,0 +1,21 @@
+use Rattle.std.proofs.Common.{ap, sym, ◌∙◌, set, false}
+use Rattle.object_table.specs.Names.{held_of}
+use Rattle.object_table.specs.declared.names.Entry.{Entry}
+use Rattle.object_table.proofs.NamesLemmas.{AreNamed-set, IsNames-held_of, changed_there}
+use Rattle.object_table.proofs.names.Names.release_at.Goals as goal
+
+pub returns-clause-names : goal.returns-clause-names
+returns-clause-names g c =
+    let e = c.index_mut.result.now in
+    let l = c.args.self.now.entries.items in
+    let o = record e { live = false } in
+    rw (c.hand_back.ensures.next, c.hand_back.ensures.entries)
+    (IsNames-held_of c.args.self.now.next (set l c.args.place o)
+    (AreNamed-set c.args.self.now.next l c.args.place e o c.requires.names.named c.requires.within (ap (λ k. k.name) c.index_mut.ensures.value)))
+
+pub returns-clause-entries : goal.returns-clause-entries
+returns-clause-entries g c =
+    let e = c.index_mut.result.now in
+    let l = c.args.self.now.entries.items in
+    c.hand_back.ensures.entries
+    ∙ ap held_of (sym (changed_there l c.args.place e (record e { live = false }) (λ (k : Entry g.row.T.Denot). record k { live = false }) c.requires.names.named.names c.requires.within (ap (λ (k : Entry g.row.T.Denot). record k { live = false }) c.index_mut.ensures.value)))

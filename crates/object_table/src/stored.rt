@@ -1,0 +1,101 @@
+//! Images that a context holds.
+ghost use Rattle.std.specs.Prelude.{◌≡◌, [], IfOk};
+ghost use Rattle.vx_base.specs.Image.{IsImage, new_image, image_over, description_of};
+ghost use Rattle.vx_base.specs.Picture.{values, samples_format, picture_of, pictured};
+
+use image_core::Image;
+use std::alloc::{AllocError, Global};
+use std::marker::Model;
+use vx_base::{Desc, Picture, Rect, Samples};
+
+/// An image with samples of its own. While it is written they stand elsewhere, and it has none.
+#[derive(Drop)]
+pub struct Stored {
+    desc: Desc,
+    valid: Rect,
+    samples: Samples,
+}
+
+impl Model for Stored {
+    ghost use Rattle.vx_base.specs.Image.{ImageValue, image_over};
+    ghost use Rattle.std.specs.Prelude.{◌≡◌};
+    ghost use Rattle.vx_base.specs.Picture.{values, samples_format};
+
+    ghost Value = { ImageValue };
+
+    ghost view = { λ i. image_over i.desc i.valid (values i.samples) };
+
+    ghost invariant = { λ i. samples_format i.samples ≡ i.desc.format };
+}
+
+impl Stored {
+    /// A new image: 0 everywhere, and wholly valid.
+    pub fn new(alloc: Global, desc: Desc) -> Result<Stored, AllocError>
+        ensures value { IfOk result (λ image. image ≡ new_image desc.width desc.height desc.format) }
+        ensures image { IfOk result IsImage }
+    {
+        let samples = Samples::zeros(alloc, desc.format(), desc.sample_count())?;
+        Ok(Stored {
+            desc,
+            valid: desc.whole(),
+            samples,
+        })
+    }
+
+    /// The size and format of the image, which never change.
+    pub fn desc(&self) -> Desc
+        ensures { result ≡ description_of self.now }
+    {
+        self.desc
+    }
+
+    /// The samples of all places.
+    pub fn picture(&self, alloc: Global) -> Result<Picture, AllocError>
+        requires { IsImage self.now }
+        ensures { IfOk result (λ picture. picture ≡ picture_of self.now) }
+    {
+        Ok(Picture::new(self.desc, self.samples.copy(alloc)?))
+    }
+
+    /// The image, lent to who reads it.
+    pub fn image(&self) -> Image<'_>
+        requires { IsImage self.now }
+        ensures { result ≡ self.now }
+    {
+        match &self.samples {
+            Samples::U8(samples) => Image::new(self.desc, self.valid, samples),
+            Samples::S16(samples) => Image::new(self.desc, self.valid, samples),
+            Samples::U32(samples) => Image::new(self.desc, self.valid, samples),
+        }
+    }
+
+    /// Takes the samples of a picture of the image's description; all of them are then valid.
+    pub fn write(&mut self, picture: &Picture)
+        requires image { IsImage self.old }
+        requires same { description_of self.old ≡ picture.now.description }
+        ensures value { self.new ≡ pictured picture.now }
+        ensures image { IsImage self.new }
+    {
+        self.valid = self.desc.whole();
+        self.samples.copy_from(picture.samples());
+    }
+
+    /// Takes the samples out, so that they can be written while other images are read; `put` brings
+    /// them back.
+    pub fn take(&mut self) -> Samples
+        ensures value { values result ≡ self.old.samples }
+        ensures format { samples_format result ≡ self.old.format }
+        ensures left { self.new ≡ image_over (description_of self.old) self.old.valid [] }
+    {
+        self.samples.take()
+    }
+
+    /// Has these samples from now on, and this valid rectangle.
+    pub fn put(&mut self, samples: Samples, valid: Rect)
+        requires { samples_format samples ≡ self.old.format }
+        ensures { self.new ≡ image_over (description_of self.old) valid (values samples) }
+    {
+        self.samples = samples;
+        self.valid = valid;
+    }
+}

@@ -1,0 +1,226 @@
+//! Objects under their names, with their charge.
+ghost use Rattle.std.specs.Prelude.{◌≡◌, ◌+◌, ◌<◌, ◌≤◌, IsTrue, unwrap_or, is_none, Some, None, [], if◌then◌else◌, length, position, Any, All, IfOk, IfErr, OnOk, OnErr, Ok, Err};
+ghost use Rattle.std.specs.Option.{option_map};
+ghost use Rattle.vx_base.specs.declared.kind.Kind.TheVariants as kind;
+ghost use Rattle.vx_base.specs.Image.{description_of};
+ghost use Rattle.vx_base.specs.Object.{ImageObject, IsObject, object_bytes, object_kind};
+ghost use Rattle.vx_base.specs.Picture.{values, samples_format, pictured};
+ghost use Rattle.object_table.specs.declared.fault.TableFault.TheVariants.{InvalidReference, NoMemory, NoResources};
+ghost use Rattle.object_table.specs.Names.{is_live_as, object_named, has_place, released, used, unused, IsNames};
+ghost use Rattle.object_table.specs.Object.{with_samples};
+ghost use Rattle.object_table.specs.Table.{new_table, charge_of, with_new, with_objects, object_at, image_at, replaced};
+
+use crate::fault::{InsertFault, TableFault};
+use crate::names::Names;
+use crate::object::Object;
+use crate::stored::Stored;
+use std::alloc::Global;
+use std::marker::Model;
+use vx_base::{Picture, Rect, Samples};
+
+/// The objects that a client holds, in the order of their names, and the name that comes next.
+#[derive(Drop)]
+pub struct Table {
+    names: Names<Object>,
+    charge: u64,
+}
+
+impl Model for Table {
+    ghost use Rattle.object_table.specs.Table.{TableValue, IsTable};
+
+    ghost Value = { TableValue };
+
+    ghost view = { λ t. record { next = t.names.next; objects = t.names.entries.items } };
+
+    ghost invariant = { λ t. IsTable t.names.next t.charge t.names.entries.items };
+}
+
+impl Table {
+    /// A table without objects. Name 1 comes next.
+    pub fn new(alloc: Global) -> Table
+        ensures { result ≡ new_table }
+    {
+        Table {
+            names: Names::new(alloc),
+            charge: 0,
+        }
+    }
+
+    /// The allocator of the objects' table.
+    pub fn allocator(&self) -> Global {
+        *self.names.entries.allocator()
+    }
+
+    /// How many objects are held.
+    pub fn held(&self) -> usize
+        ensures { result ≡ length self.now.objects }
+    {
+        self.names.entries.len()
+    }
+
+    /// What the client is charged for its objects, in bytes.
+    pub fn charged_bytes(&self) -> u64
+        ensures { result ≡ charge_of self.now.objects }
+    {
+        self.charge
+    }
+
+    /// Whether one more object can be held: a name is left, and fewer than 1,024 are held.
+    pub fn has_place(&self) -> bool
+        ensures { result ≡ has_place self.now.next self.now.objects }
+    {
+        self.names.has_place()
+    }
+
+    /// Holds an object under the next name, which is live. Each fault hands the object back, and
+    /// has changed nothing.
+    pub fn insert(&mut self, object: Object) -> Result<u32, InsertFault>
+        ensures name { IfOk result (λ name. name ≡ self.old.next) }
+        ensures ok { OnOk result (self.new ≡ with_new self.old object) }
+        ensures place { OnOk result (IsTrue (has_place self.old.next self.old.objects)) }
+        ensures fault { IfErr result (λ e. e.fault ≡ (if has_place self.old.next self.old.objects then NoMemory else NoResources)) }
+        ensures err { OnErr result (self.new ≡ self.old) }
+        ensures handed_back { IfErr result (λ e. e.object ≡ object) }
+    {
+        if !self.names.has_place() {
+            return Err(InsertFault {
+                fault: TableFault::NoResources,
+                object,
+            });
+        }
+        let bytes = object.bytes() as u64;
+        match self.names.insert(object) {
+            Ok(name) => {
+                self.charge += bytes;
+                Ok(name)
+            }
+            Err(object) => Err(InsertFault {
+                fault: TableFault::NoMemory,
+                object,
+            }),
+        }
+    }
+
+    /// The place of the object whose live name this is. What a table keeps of its names is known
+    /// to who asks.
+    pub fn place_of(&self, name: u32) -> Option<usize>
+        ensures place { result ≡ position (is_live_as name) self.now.objects }
+        ensures names { IsNames self.now.next self.now.objects }
+    {
+        self.names.place_of(name)
+    }
+
+    /// The object at a place.
+    pub fn object_at(&self, place: usize) -> &Object
+        requires { place < length self.now.objects }
+        ensures { result.now ≡ object_at self.now.objects place }
+    {
+        let entry = &self.names.entries[place];
+        &entry.object
+    }
+
+    /// The image at a place.
+    pub fn image_at(&self, place: usize) -> &Stored
+        requires within { place < length self.now.objects }
+        requires kind { object_kind (object_at self.now.objects place) ≡ kind.Image }
+        ensures { result.now ≡ image_at self.now.objects place }
+    {
+        self.object_at(place).image()
+    }
+
+    /// The object whose live name this is.
+    pub fn get(&self, name: u32) -> Result<&Object, TableFault>
+        ensures ok { IfOk result (λ object. object_named self.now.objects name ≡ Some object.now) }
+        ensures err { IfErr result (λ fault. (fault ≡ InvalidReference) × (object_named self.now.objects name ≡ None)) }
+    {
+        match self.names.place_of(name) {
+            Some(place) => Ok(self.object_at(place)),
+            None => Err(TableFault::InvalidReference),
+        }
+    }
+
+    /// Ends a name. What no node uses is no longer held, and its memory is given back.
+    pub fn release(&mut self, name: u32) -> Result<(), TableFault>
+        ensures result { result ≡ (if is_none (object_named self.old.objects name) then Err InvalidReference else Ok tt) }
+        ensures ok { OnOk result (self.new ≡ with_objects self.old (released name self.old.objects)) }
+        ensures err { OnErr result (self.new ≡ self.old) }
+    {
+        let Some(place) = self.names.place_of(name) else {
+            return Err(TableFault::InvalidReference);
+        };
+        let object = self.names.release_at(place);
+        self.charge = discharged(self.charge, object);
+        Ok(())
+    }
+
+    /// One more node uses the object that is held under a name.
+    pub fn use_by(&mut self, name: u32)
+        requires held { Any (λ e. e.name ≡ name) self.old.objects }
+        requires room { All (λ e. e.uses < 4294967295) self.old.objects }
+        ensures { self.new ≡ with_objects self.old (used name self.old.objects) }
+    {
+        if let Some(place) = self.names.search(name) {
+            self.names.use_at(place);
+        }
+    }
+
+    /// A node ends its use of the object that is held under a name. What is then neither named nor
+    /// used is no longer held.
+    pub fn unuse(&mut self, name: u32)
+        requires { Any (λ e. (e.name ≡ name) × (0 < e.uses)) self.old.objects }
+        ensures { self.new ≡ with_objects self.old (unused name self.old.objects) }
+    {
+        if let Some(place) = self.names.search(name) {
+            let object = self.names.unuse_at(place);
+            self.charge = discharged(self.charge, object);
+        }
+    }
+
+    /// Writes a picture to the image at a place; both are of one description.
+    pub fn write(&mut self, place: usize, picture: &Picture)
+        requires within { place < length self.old.objects }
+        requires kind { object_kind (object_at self.old.objects place) ≡ kind.Image }
+        requires image { IsObject (object_at self.old.objects place) }
+        requires same { description_of (image_at self.old.objects place) ≡ picture.now.description }
+        ensures value { self.new ≡ with_objects self.old (replaced self.old.objects place (ImageObject (pictured picture.now))) }
+        ensures image { IsObject (ImageObject (pictured picture.now)) }
+    {
+        let entry = &mut self.names.entries[place];
+        entry.object.write(picture);
+    }
+
+    /// Takes out the samples of the image at a place, so that they can be written while other
+    /// images are read; `put` brings them back.
+    pub fn take(&mut self, place: usize) -> Samples
+        requires within { place < length self.old.objects }
+        requires kind { object_kind (object_at self.old.objects place) ≡ kind.Image }
+        ensures value { values result ≡ (image_at self.old.objects place).samples }
+        ensures format { samples_format result ≡ (image_at self.old.objects place).format }
+        ensures left { self.new ≡ with_objects self.old (replaced self.old.objects place (with_samples (object_at self.old.objects place) (image_at self.old.objects place).valid [])) }
+    {
+        let entry = &mut self.names.entries[place];
+        entry.object.take()
+    }
+
+    /// Gives the image at a place these samples, and this valid rectangle.
+    pub fn put(&mut self, place: usize, samples: Samples, valid: Rect)
+        requires within { place < length self.old.objects }
+        requires kind { object_kind (object_at self.old.objects place) ≡ kind.Image }
+        requires format { samples_format samples ≡ (image_at self.old.objects place).format }
+        ensures { self.new ≡ with_objects self.old (replaced self.old.objects place (with_samples (object_at self.old.objects place) valid (values samples))) }
+    {
+        let entry = &mut self.names.entries[place];
+        entry.object.put(samples, valid);
+    }
+}
+
+/// A charge without that of an object that is no longer held, whose memory is given back.
+fn discharged(charge: u64, object: Option<Object>) -> u64
+    requires { unwrap_or (option_map object_bytes object) 0 ≤ charge }
+    ensures { result + unwrap_or (option_map object_bytes object) 0 ≡ charge }
+{
+    match object {
+        None => charge,
+        Some(object) => charge - object.bytes() as u64,
+    }
+}
