@@ -1,64 +1,30 @@
--- A context's objects when one is added or removed, or another stands in its place.
-use Rattle.std.proofs.Common.{◌≡◌, ◌≢◌, ℕ, ◌+◌, ◌<◌, ◌≤◌, ◌⊎◌, inl, inr, cond, List, [], ◌∷◌, ◌++◌, length, map, set, get_or, remove, zero, suc, refl, sym, ap, subst, ◌∙◌, arith}
-use Rattle.std.specs.Prelude.{Bool, ◌-◌, ◌==◌, not}
+-- What a context's table holds, by name.
+use Rattle.std.proofs.Common.{◌≡◌, ◌≢◌, ℕ, ◌+◌, ◌<◌, ◌≤◌, ◌⊎◌, inl, inr, Bool, true, false, cond, List, [], ◌∷◌, Option, Some, None, length, map, set, get_or, zero, suc, refl, sym, ap, subst, ◌∙◌, arith}
+use Rattle.std.specs.Prelude.{All, Ok, Err, Result, if◌then◌else◌, ◌==◌, ◌&&◌, ◌||◌, not, nat_lt, find, filter, position, is_none}
+use Rattle.std.specs.Option.{option_map}
+use Rattle.std.specs.List.{position_or_len}
 use Rattle.std.specs.List.Sorted.{IsStrictlyIncreasing}
 use Rattle.std.proofs.lemmas.Bool.{eq-eqb, ne_eqb, cases_lt}
-use Rattle.std.proofs.lemmas.List.{length-set, length_push, length-map, map-append, get_or-map, get_or_append_left}
-use Rattle.std.proofs.lemmas.List.Elements.{All-push, All-set, All-filter}
+use Rattle.std.proofs.lemmas.List.{length-map, get_or-map}
+use Rattle.std.proofs.lemmas.List.Elements.{All-head, All-tail, All-filter, All-set}
 use Rattle.std.proofs.lemmas.List.Kept.{AllPairs-from_increasing}
-use Rattle.std.proofs.lemmas.List.Sums.{sum_by-set, sum_by_push, sum_by-remove}
-use Rattle.std.proofs.lemmas.List.Filters.{length-filter_both}
-use Rattle.std.proofs.Math.Seq.{map-set_same, get_or-append_seam}
+use Rattle.std.proofs.lemmas.List.Sums.{sum_by-cons}
+use Rattle.std.proofs.Math.ListN.{get_or-map as get_or-map_default}
+use Rattle.std.proofs.Math.Seq.{map-set}
 use Rattle.vx_base.specs.Object.{ObjectValue, IsObject, object_bytes}
-use Rattle.client_contexts.specs.Context.{Named, with_object, without, charge_of}
-use Rattle.client_contexts.specs.Places.{no_object, entry_at, object_at, IsContext}
-use Rattle.client_contexts.specs.Steps.{replaced}
-use Rattle.client_contexts.proofs.NamedLaws.{increasing_names_without}
+use Rattle.object_table.specs.declared.fault.TableFault.{TableFault}
+use Rattle.object_table.specs.declared.fault.TableFault.TheVariants as fault
+use Rattle.object_table.specs.declared.names.Entry.{Entry}
+use Rattle.object_table.specs.Names.{is_live_as, is_held, object_named as table_named, released, IsNames}
+use Rattle.object_table.specs.Table as table
+use Rattle.client_contexts.specs.declared.refusal.Refusal.{Refusal}
+use Rattle.client_contexts.specs.declared.refusal.Refusal.TheVariants.{InvalidReference}
+use Rattle.client_contexts.specs.Context.{Named, named, object_named, with_object, without, charge_of}
+use Rattle.client_contexts.specs.Places.{no_object, entry_at, object_at, object_if_at, IsInContext}
 
--- a number that is above all others comes last
-increasing-push : (ns : List ℕ) (n : ℕ) → IsStrictlyIncreasing ns → ((k : ℕ) → k < length ns → get_or ns k 0 < n) → IsStrictlyIncreasing (ns ++ n ∷ [])
-increasing-push ns n h below k room = there_or_last (cases_lt (k + 1) (length ns))
-  where
-    there_or_last : ((k + 1) < length ns) ⊎ (length ns ≤ (k + 1)) → get_or (ns ++ n ∷ []) k 0 < get_or (ns ++ n ∷ []) (k + 1) 0
-    there_or_last (inl early) =
-        rw (get_or_append_left ns (n ∷ []) 0 k (omega (arith, early))) (rw (get_or_append_left ns (n ∷ []) 0 (k + 1) early) (h k early))
-    there_or_last (inr late) =
-        let last : k + 1 ≡ length ns = omega (arith, length_push ns n, room, late) in
-        rw (get_or_append_left ns (n ∷ []) 0 k (omega (arith, last))) (rw last (rw (get_or-append_seam ns n [] 0) (below k (omega (arith, last)))))
-
-pub IsContext-push : (next charge bytes : ℕ) (objects : List Named) (o : Named) → IsContext next charge objects → next < 4294967296 → length objects < 1024 → charge + bytes ≤ 1099511627776 → o.name ≡ next → object_bytes o.object ≡ bytes → IsObject o.object
-    → IsContext (next + 1) (charge + bytes) (objects ++ o ∷ [])
-IsContext-push next charge bytes objects o h left few limit named long is =
-    let name : Named → ℕ = λ p. p.name in
-    record {
-      charged = omega (arith, h.charged, long, sum_by_push (λ (p : Named). object_bytes p.object) objects o);
-      limit = limit;
-      names_left = omega arith;
-      count = omega (arith, length_push objects o);
-      names = subst IsStrictlyIncreasing (sym (map-append name objects (o ∷ [])))
-          (increasing-push (map name objects) o.name h.names
-          (λ k below.
-          let within : k < length objects = omega (arith, below, length-map objects name) in
-          omega (arith, named, get_or-map name objects k no_object 0 within, h.below k no_object within)));
-      below = All-push (λ (p : Named). p.name < next + 1) objects o (λ k d within. omega (arith, h.below k d within)) (omega (arith, named));
-      objects_are = All-push (λ (p : Named). IsObject p.object) objects o h.objects_are is;
-    }
-
--- another object stands in the place of one, under its name
-module _ (next charge : ℕ) (objects : List Named) (place : ℕ) (object : ObjectValue) (h : IsContext next charge objects) (within : place < length objects) where
-  pub IsContext-replaced : object_bytes object ≡ object_bytes (object_at objects place) → IsObject object → IsContext next charge (replaced objects place object)
-  IsContext-replaced long is =
-      let name : Named → ℕ = λ p. p.name in
-      let o : Named = record { name = (entry_at objects place).name; object = object } in
-      record {
-        charged = omega (arith, h.charged, long, sum_by-set (λ (p : Named). object_bytes p.object) objects place o no_object within);
-        limit = h.limit;
-        names_left = h.names_left;
-        count = omega (arith, h.count, length-set objects place o);
-        names = subst IsStrictlyIncreasing (sym (map-set_same name objects place o no_object refl)) h.names;
-        below = All-set (λ (p : Named). p.name < next) objects place o (h.below place no_object within) h.below;
-        objects_are = All-set (λ (p : Named). IsObject p.object) objects place o is h.objects_are;
-      }
+-- the objects, with another at a place under the name that stands there
+abbrev pub replaced : List Named → ℕ → ObjectValue → List Named
+replaced objects place object = set objects place (record { name = (entry_at objects place).name; object = object })
 
 -- names that differ
 abbrev AreDistinct : List Named → Type 0
@@ -108,56 +74,117 @@ with_object-at (o ∷ objects) (suc place) object h within =
     ∙ ap (λ l. o ∷ l) (with_object-at objects place object (λ i j a b apart. h (suc i) (suc j) (omega (arith, a)) (omega (arith, b)) (λ e. apart (omega (arith, e)))) (omega (arith, within)))
 
 -- the object under a name is the one at the name's place
-pub replaced_is_named : (next charge : ℕ) (objects : List Named) (place : ℕ) (object : ObjectValue) → IsContext next charge objects → place < length objects
+pub replaced_is_named : (objects : List Named) (place : ℕ) (object : ObjectValue) → IsStrictlyIncreasing (map (λ o. o.name) objects) → place < length objects
     → with_object objects (entry_at objects place).name object ≡ replaced objects place object
-replaced_is_named next charge objects place object h within = with_object-at objects place object (distinct objects h.names) within
+replaced_is_named objects place object names within = with_object-at objects place object (distinct objects names) within
 
-same_named : (o : Named) (name : ℕ) (object : ObjectValue) → o.name ≡ name → o.object ≡ object → o ≡ record { name = name; object = object }
-same_named o name object named is =
-    ap (λ n. let p : Named = record { name = n; object = o.object } in p) named
-    ∙ ap (λ i. let p : Named = record { name = name; object = i } in p) is
+-- ---- a table's objects, by name
 
-pub replaced_by : (objects : List Named) (place : ℕ) (o : Named) (object : ObjectValue) → o.name ≡ (entry_at objects place).name → o.object ≡ object → set objects place o ≡ replaced objects place object
-replaced_by objects place o object named is = ap (set objects place) (same_named o (entry_at objects place).name object named is)
+module _ (objects : List (Entry ObjectValue)) where
+  entry_there : (place : ℕ) → entry_at (map named objects) place ≡ named (table.entry_at objects place)
+  entry_there place = get_or-map_default named objects place table.no_object
 
--- ---- one is removed
+  pub object_there : (place : ℕ) → object_at (map named objects) place ≡ table.object_at objects place
+  object_there place = ap (λ (o : Named). o.object) (entry_there place)
 
-without-lacking : (objects : List Named) (name : ℕ) → Lacks name objects → without objects name ≡ objects
-without-lacking [] name h = refl
-without-lacking (o ∷ objects) name h =
-    ap (λ b. cond (not b) (o ∷ without objects name) (without objects name)) (ne_eqb o.name name (h zero (omega arith)))
-    ∙ ap (λ l. o ∷ l) (without-lacking objects name (λ k below. h (suc k) (omega (arith, below))))
+  pub object_if_there : (place : Option ℕ) → object_if_at (map named objects) place ≡ option_map (table.object_at objects) place
+  object_if_there None = refl
+  object_if_there (Some place) = ap Some (object_there place)
 
-without-at : (objects : List Named) (place : ℕ) → AreDistinct objects → place < length objects → without objects (entry_at objects place).name ≡ remove objects place
-without-at [] place h within = absurd (omega (arith, within))
-without-at (o ∷ objects) zero h within =
-    ap (λ b. cond (not b) (o ∷ without objects o.name) (without objects o.name)) (eq-eqb o.name o.name refl)
-    ∙ without-lacking objects o.name (λ k below. h (suc k) zero (omega (arith, below)) (omega arith) (λ e. omega (arith, e)))
-without-at (o ∷ objects) (suc place) h within =
-    let name = (entry_at objects place).name in
-    ap (λ b. cond (not b) (o ∷ without objects name) (without objects name))
-    (ne_eqb o.name name (h zero (suc place) (omega arith) within (λ e. omega (arith, e))))
-    ∙ ap (λ l. o ∷ l) (without-at objects place (λ i j a b apart. h (suc i) (suc j) (omega (arith, a)) (omega (arith, b)) (λ e. apart (omega (arith, e)))) (omega (arith, within)))
+  pub within_there : (place : ℕ) → place < length (map named objects) → place < length objects
+  within_there place within = omega (arith, within, length-map objects named)
 
--- the objects without the one at a place
-module _ (next charge : ℕ) (objects : List Named) (place : ℕ) (h : IsContext next charge objects) (within : place < length objects) where
-  -- are those of other names
-  pub removed_is_without : without objects (entry_at objects place).name ≡ remove objects place
-  removed_is_without = without-at objects place (distinct objects h.names) within
+  pub replaced_there : (place : ℕ) (object : ObjectValue) → map named (table.replaced objects place object) ≡ replaced (map named objects) place object
+  replaced_there place object =
+      map-set named objects place (record (table.entry_at objects place) { object = object })
+      ∙ ap (λ (o : Named). set (map named objects) place (record { name = o.name; object = object })) (sym (entry_there place))
 
-  -- and the charge falls by what that one was charged
-  pub IsContext-removed : (bytes : ℕ) → bytes ≡ object_bytes (object_at objects place) → IsContext next (charge - bytes) (remove objects place)
-  IsContext-removed bytes long =
-      let name = (entry_at objects place).name in
-      let named : Named → Bool = λ o. o.name == name in
-      let other : Named → Bool = λ o. not (o.name == name) in
-      subst (IsContext next (charge - bytes)) removed_is_without
-      (record {
-        charged = omega (arith, h.charged, long, sum_by-remove (λ (p : Named). object_bytes p.object) objects place no_object within, ap charge_of removed_is_without);
-        limit = omega (arith, h.limit);
-        names_left = h.names_left;
-        count = omega (arith, h.count, length-filter_both named other (λ o. refl) objects);
-        names = increasing_names_without objects name h.names;
-        below = All-filter other (λ (p : Named). p.name < next) objects h.below;
-        objects_are = All-filter other (λ (p : Named). IsObject p.object) objects h.objects_are;
-      })
+  -- names in order increase
+  pub increasing_there : (next : ℕ) → IsNames next objects → IsStrictlyIncreasing (map (λ o. o.name) (map named objects))
+  increasing_there next h k within =
+      let name : Named → ℕ = λ o. o.name in
+      let few : k + 1 < length objects = omega (arith, within, length-map (map named objects) name, length-map objects named) in
+      let first : get_or (map name (map named objects)) k 0 ≡ (table.entry_at objects k).name =
+      get_or-map_default name (map named objects) k no_object ∙ ap name (entry_there k) in
+      let second : get_or (map name (map named objects)) (k + 1) 0 ≡ (table.entry_at objects (k + 1)).name =
+      get_or-map_default name (map named objects) (k + 1) no_object ∙ ap name (entry_there (k + 1)) in
+      omega (arith, first, second, h.named.names k (k + 1) table.no_object (omega arith) few)
+
+  -- an object that is replaced is that of its name
+  pub named_is : (next place : ℕ) (object : ObjectValue) → IsNames next objects → place < length objects → map named (table.replaced objects place object) ≡ with_object (map named objects) (entry_at (map named objects) place).name object
+  named_is next place object h within =
+      replaced_there place object ∙ sym (replaced_is_named (map named objects) place object (increasing_there next h) (omega (arith, within, length-map objects named)))
+
+pub charge_there : (objects : List (Entry ObjectValue)) → charge_of (map named objects) ≡ table.charge_of objects
+charge_there [] = refl
+charge_there (e ∷ objects) =
+    sum_by-cons (λ (o : Named). object_bytes o.object) (named e) (map named objects)
+    ∙ ap (λ n. object_bytes e.object + n) (charge_there objects)
+    ∙ sym (sum_by-cons (λ (o : Entry ObjectValue). object_bytes o.object) e objects)
+
+-- ---- each name is live, and no node uses an object
+
+live_test : (e : Entry ObjectValue) (name : ℕ) → e.live ≡ true → (e.live && e.name == name) ≡ (e.name == name)
+live_test e name live = ap (λ b. b && e.name == name) live
+
+first_there : (objects : List (Entry ObjectValue)) (name : ℕ) → All IsInContext objects → position_or_len (is_live_as name) objects ≡ position_or_len (λ o. o.name == name) (map named objects)
+first_there [] name h = refl
+first_there (e ∷ objects) name h =
+    ap (λ b. cond (not b) (1 + position_or_len (is_live_as name) objects) 0) (live_test e name (All-head IsInContext e objects h).live)
+    ∙ ap (λ n. cond (not (e.name == name)) (1 + n) 0) (first_there objects name (All-tail IsInContext e objects h))
+
+pub position_there : (objects : List (Entry ObjectValue)) (name : ℕ) → All IsInContext objects → position (is_live_as name) objects ≡ position (λ o. o.name == name) (map named objects)
+position_there objects name h =
+    ap (λ n. cond (nat_lt n (length objects)) (Some n) None) (first_there objects name h)
+    ∙ ap (λ k. let n : ℕ = position_or_len (λ (o : Named). o.name == name) (map named objects) in cond (nat_lt n k) (Some n) None) (sym (length-map objects named))
+
+pub object_named_there : (objects : List (Entry ObjectValue)) (name : ℕ) → All IsInContext objects → table_named objects name ≡ object_named (map named objects) name
+object_named_there [] name h = refl
+object_named_there (e ∷ objects) name h =
+    ap (λ b. option_map (λ (o : Entry ObjectValue). o.object) (cond b (Some e) (find (is_live_as name) objects))) (live_test e name (All-head IsInContext e objects h).live)
+    ∙ either (e.name == name) (object_named_there objects name (All-tail IsInContext e objects h))
+  where
+    either : (b : Bool) → table_named objects name ≡ object_named (map named objects) name
+        → option_map (λ (o : Entry ObjectValue). o.object) (cond b (Some e) (find (is_live_as name) objects)) ≡ option_map (λ (o : Named). o.object) (cond b (Some (named e)) (find (λ o. o.name == name) (map named objects)))
+    either true others = refl
+    either false others = others
+
+-- what is released is no longer held
+released_is : (objects : List (Entry ObjectValue)) (name : ℕ) → All IsInContext objects → released name objects ≡ filter (λ e. not (e.name == name)) objects
+released_is [] name h = refl
+released_is (e ∷ objects) name h = either (e.name == name) (All-head IsInContext e objects h) (released_is objects name (All-tail IsInContext e objects h))
+  where
+    either : (b : Bool) → IsInContext e → released name objects ≡ filter (λ e. not (e.name == name)) objects
+        → cond (is_held (cond b (record e { live = false }) e)) (cond b (record e { live = false }) e ∷ released name objects) (released name objects) ≡ cond (not b) (e ∷ filter (λ e. not (e.name == name)) objects) (filter (λ e. not (e.name == name)) objects)
+    either true is others = ap (λ n. cond (false || nat_lt 0 n) (record e { live = false } ∷ released name objects) (released name objects)) is.unused ∙ others
+    either false is others = ap (λ b. cond (b || nat_lt 0 e.uses) (e ∷ released name objects) (released name objects)) is.live ∙ ap (λ l. e ∷ l) others
+
+without_there : (objects : List (Entry ObjectValue)) (name : ℕ) → map named (filter (λ e. not (e.name == name)) objects) ≡ without (map named objects) name
+without_there [] name = refl
+without_there (e ∷ objects) name = either (e.name == name) (without_there objects name)
+  where
+    either : (b : Bool) → map named (filter (λ e. not (e.name == name)) objects) ≡ without (map named objects) name
+        → map named (cond (not b) (e ∷ filter (λ e. not (e.name == name)) objects) (filter (λ e. not (e.name == name)) objects)) ≡ cond (not b) (named e ∷ without (map named objects) name) (without (map named objects) name)
+    either true others = others
+    either false others = ap (λ l. named e ∷ l) others
+
+pub released_there : (objects : List (Entry ObjectValue)) (name : ℕ) → All IsInContext objects → map named (released name objects) ≡ without (map named objects) name
+released_there objects name h = ap (map named) (released_is objects name h) ∙ without_there objects name
+
+pub All-released : (objects : List (Entry ObjectValue)) (name : ℕ) → All IsInContext objects → All IsInContext (released name objects)
+All-released objects name h = subst (All IsInContext) (sym (released_is objects name h)) (All-filter (λ e. not (e.name == name)) IsInContext objects h)
+
+pub All-replaced : (objects : List (Entry ObjectValue)) (place : ℕ) (object : ObjectValue) → All IsInContext objects → place < length objects → IsObject object → All IsInContext (table.replaced objects place object)
+All-replaced objects place object h within is =
+    let here = h place table.no_object within in
+    All-set IsInContext objects place (record (table.entry_at objects place) { object = object }) (record { live = here.live; unused = here.unused; object = is }) h
+
+-- ---- a name that is released or isn't live
+
+pub named_ok : (o p : Option ObjectValue) → o ≡ p → ◌≡◌ {A = Result (Unit {0}) TableFault} (Ok tt) (if is_none o then Err fault.InvalidReference else Ok tt) → ◌≡◌ {A = Result (Unit {0}) Refusal} (Ok tt) (if is_none p then Err InvalidReference else Ok tt)
+named_ok None p e h = cc
+named_ok (Some object) p e h = ap (λ q. let r : Result (Unit {0}) Refusal = if is_none q then Err InvalidReference else Ok tt in r) e
+
+pub named_err : (o p : Option ObjectValue) (why : TableFault) → o ≡ p → ◌≡◌ {A = Result (Unit {0}) TableFault} (Err why) (if is_none o then Err fault.InvalidReference else Ok tt) → ◌≡◌ {A = Result (Unit {0}) Refusal} (Err InvalidReference) (if is_none p then Err InvalidReference else Ok tt)
+named_err None p why e h = ap (λ q. let r : Result (Unit {0}) Refusal = if is_none q then Err InvalidReference else Ok tt in r) e
+named_err (Some object) p why e h = cc

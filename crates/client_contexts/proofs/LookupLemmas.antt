@@ -22,7 +22,8 @@ use Rattle.client_contexts.specs.Context.{Named, Context, object_named, without,
 use Rattle.client_contexts.specs.Refusal.{Outcome}
 use Rattle.client_contexts.specs.Objects.{release}
 use Rattle.client_contexts.specs.Operands.{is_unknown, in_slot, held, is_of_kind, is_of_other_kind, as_image, image_of}
-use Rattle.client_contexts.specs.Places.{no_object, entry_at, object_at, image_value, image_at, StandsAt}
+use Rattle.object_table.specs.Object.{image_value}
+use Rattle.client_contexts.specs.Places.{no_object, entry_at, object_at, image_at, StandsAt}
 use Rattle.client_contexts.specs.Steps.{operands_refusal, first_class}
 
 find_none_from : {X : Type 0} (p : X → Bool) (xs : List X) (k : ℕ) → position_from p k xs ≡ None → find p xs ≡ None

@@ -1,6 +1,7 @@
 -- An output whose samples are taken out, and put back once a node has written them.
 use Rattle.std.proofs.Common.{◌≡◌, ◌≢◌, ℕ, ℤ, List, [], Option, Some, None, length, set, refl, sym, ap, subst, ◌∙◌}
 use Rattle.std.specs.Prelude.{IfSome}
+use Rattle.std.specs.Option.{option_map}
 use Rattle.std.proofs.lemmas.List.{get_or-set_same, get_or-set_other, set-set}
 use Rattle.vx_base.specs.declared.format.Format.{Format}
 use Rattle.vx_base.specs.declared.kind.Kind.TheVariants as kind
@@ -12,8 +13,9 @@ use Rattle.vx_base.specs.Object.{ObjectValue, ImageObject, LutObject, ThresholdO
 use Rattle.vx_base.specs.Outputs.{node_output}
 use Rattle.vx_base.specs.Pixelwise.{node_image}
 use Rattle.client_contexts.specs.declared.places.Places.{Places}
-use Rattle.client_contexts.specs.Context.{Named}
-use Rattle.client_contexts.specs.Places.{no_object, entry_at, object_at, object_if_at, image_value, image_at, emptied, with_samples}
+use Rattle.object_table.specs.declared.names.Entry.{Entry}
+use Rattle.object_table.specs.Object.{image_value, with_samples}
+use Rattle.object_table.specs.Table.{no_object, entry_at, object_at, image_at, replaced}
 use Rattle.client_contexts.specs.Steps.{CanRun, RunsTo, written_at}
 use Rattle.client_contexts.proofs.StoredLemmas.{stored_is, image_of_object}
 
@@ -26,46 +28,43 @@ of_images n (ImageObject a) second (ThresholdObject b) h i = cc
 of_images n (LutObject a) second b h i = cc
 of_images n (ThresholdObject a) second b h i = cc
 
-module _ (objects : List Named) (n : Node) (p : Places) (output : ℕ) (h : RunsTo objects n p output) where
+module _ (objects : List (Entry ObjectValue)) (n : Node) (p : Places) (output : ℕ) (h : RunsTo objects n p output) where
   abbrev pub first : ImageValue
   first = image_at objects p.in1
 
   abbrev pub second : Option ObjectValue
-  second = object_if_at objects p.in2
+  second = option_map (object_at objects) p.in2
 
   abbrev pub out : ImageValue
   out = image_at objects output
 
   -- what the node reads stands beside the output
-  module _ (o : Named) where
-    first_there : image_at (set objects output o) p.in1 ≡ first
-    first_there = ap (λ (e : Named). image_value e.object) (get_or-set_other objects output p.in1 o no_object h.in1_apart)
+  module _ (left : ObjectValue) where
+    first_there : image_at (replaced objects output left) p.in1 ≡ first
+    first_there = ap (λ (e : Entry ObjectValue). image_value e.object) (get_or-set_other objects output p.in1 (record (entry_at objects output) { object = left }) no_object h.in1_apart)
 
-    pub first_is_image : (image : ImageValue) → image ≡ image_at (set objects output o) p.in1 → IsImage image
+    pub first_is_image : (image : ImageValue) → image ≡ image_at (replaced objects output left) p.in1 → IsImage image
     first_is_image image is = subst IsImage (sym (is ∙ first_there)) (image_of_object (object_at objects p.in1) h.runs.first_kind h.runs.first_is)
 
-    second_there : object_if_at (set objects output o) p.in2 ≡ second
+    second_there : option_map (object_at (replaced objects output left)) p.in2 ≡ second
     second_there = there p.in2 h.in2_apart
       where
-        there : (place : Option ℕ) → IfSome place (λ k. k ≢ output) → object_if_at (set objects output o) place ≡ object_if_at objects place
+        there : (place : Option ℕ) → IfSome place (λ k. k ≢ output) → option_map (object_at (replaced objects output left)) place ≡ option_map (object_at objects) place
         there None apart = refl
-        there (Some k) apart = ap (λ (e : Named). Some e.object) (get_or-set_other objects output k o no_object apart)
+        there (Some k) apart = ap (λ (e : Entry ObjectValue). Some e.object) (get_or-set_other objects output k (record (entry_at objects output) { object = left }) no_object apart)
 
-    pub second_is_object : IfSome (object_if_at (set objects output o) p.in2) IsObject
+    pub second_is_object : IfSome (option_map (object_at (replaced objects output left)) p.in2) IsObject
     second_is_object = subst (λ (s : Option ObjectValue). IfSome s IsObject) (sym second_there) h.runs.second_is
 
-  module _ (taken : Named) (read : taken ≡ entry_at objects output) (d : Description) (described : d ≡ description_of out) where
+  module _ (d : Description) (described : d ≡ description_of out) where
     -- as many samples are taken out as the image has
-    pub taken_count : (samples : List ℤ) → samples ≡ (image_value taken.object).samples → length samples ≡ sample_count d
-    taken_count samples is =
-        ap length (is ∙ ap (λ (o : Named). (image_value o.object).samples) read)
-        ∙ (image_of_object (object_at objects output) h.runs.out_kind h.runs.out_is).size
-        ∙ ap sample_count (sym described)
+    pub taken_count : (samples : List ℤ) → samples ≡ out.samples → length samples ≡ sample_count d
+    taken_count samples is = ap length is ∙ (image_of_object (object_at objects output) h.runs.out_kind h.runs.out_is).size ∙ ap sample_count (sym described)
 
-    pub taken_format : (format : Format) → format ≡ (image_value taken.object).format → d.format ≡ format
-    taken_format format is = ap (λ (e : Description). e.format) described ∙ ap (λ (o : Named). (image_value o.object).format) (sym read) ∙ sym is
+    pub taken_format : (format : Format) → format ≡ out.format → d.format ≡ format
+    taken_format format is = ap (λ (e : Description). e.format) described ∙ sym is
 
-    module _ (left : Named) (a : ImageValue) (b : Option ObjectValue) (is_first : a ≡ image_at (set objects output left) p.in1) (is_second : b ≡ object_if_at (set objects output left) p.in2) where
+    module _ (left : ObjectValue) (a : ImageValue) (b : Option ObjectValue) (is_first : a ≡ image_at (replaced objects output left) p.in1) (is_second : b ≡ option_map (object_at (replaced objects output left)) p.in2) where
       -- a kernel can run on what is lent to it
       pub runs_there : CanRun n a b (image_over d empty [])
       runs_there =
@@ -75,20 +74,19 @@ module _ (objects : List Named) (n : Node) (p : Places) (output : ℕ) (h : Runs
           (record { shape = h.runs.can_run.shape; kind = h.runs.can_run.kind; formats = h.runs.can_run.formats; size = h.runs.can_run.size; second_size = h.runs.can_run.second_size })))
 
       -- the output is what the node gives
-      pub put_back : (emptied_is : left ≡ emptied taken) (again back : Named) (area : Rectangle) (samples : List ℤ) (format : Format) → again ≡ entry_at (set objects output left) output → back ≡ with_samples again area samples → d.format ≡ format
-          → area ≡ (node_image n format a b).valid → samples ≡ (node_image n format a b).samples → set (set objects output left) output back ≡ written_at objects n p (Some output)
-      put_back emptied_is again back area samples format there is of_format valid written =
-          let e : Named = entry_at objects output in
+      pub put_back : left ≡ with_samples (object_at objects output) out.valid [] → (area : Rectangle) (samples : List ℤ) (format : Format) → d.format ≡ format → area ≡ (node_image n format a b).valid → samples ≡ (node_image n format a b).samples
+          → replaced (replaced objects output left) output (with_samples (object_at (replaced objects output left) output) area samples) ≡ written_at objects n p (Some output)
+      put_back is_left area samples format of_format valid written =
+          let e : Entry ObjectValue = entry_at objects output in
+          let emptied : Entry ObjectValue = record e { object = left } in
           let same : node_image n format a b ≡ node_image n out.format first second =
           ap (λ f. node_image n f a b) (sym of_format ∙ ap (λ (k : Description). k.format) described)
           ∙ ap (λ v. node_image n out.format v b) (is_first ∙ first_there left)
           ∙ ap (λ s. node_image n out.format first s) (is_second ∙ second_there left) in
           let image : image_over (description_of out) area samples ≡ node_image n out.format first second =
           stored_is n first second (description_of out) out area samples refl h.runs.can_run (valid ∙ ap (λ (i : ImageValue). i.valid) same) (written ∙ ap (λ (i : ImageValue). i.samples) same) in
-          let again_is : again ≡ emptied e = there ∙ get_or-set_same objects output left no_object h.within ∙ emptied_is ∙ ap emptied read in
-          set-set objects output left back
-          ∙ ap (set objects output)
-          (is
-          ∙ ap (λ o. with_samples o area samples) again_is
-          ∙ ap (λ i. let o : Named = record { name = e.name; object = ImageObject i } in o) image
-          ∙ ap (λ i. let o : Named = record { name = e.name; object = i } in o) (of_images n (object_at objects p.in1) second (object_at objects output) h.runs.first_kind h.runs.out_kind))
+          set-set objects output emptied _
+          ∙ ap (λ (k : Entry ObjectValue). set objects output (record k { object = with_samples k.object area samples })) (get_or-set_same objects output emptied no_object h.within)
+          ∙ ap (λ (o : ObjectValue). set objects output (record e { object = with_samples o area samples })) is_left
+          ∙ ap (λ i. set objects output (record e { object = ImageObject i })) image
+          ∙ ap (λ i. set objects output (record e { object = i })) (of_images n (object_at objects p.in1) second (object_at objects output) h.runs.first_kind h.runs.out_kind)

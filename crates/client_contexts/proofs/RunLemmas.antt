@@ -1,5 +1,5 @@
 -- Nodes at the places of their operands, and what they write.
-use Rattle.std.proofs.Common.{◌≡◌, ◌≢◌, ℕ, ◌<◌, Bool, true, false, List, [], ◌∷◌, ◌++◌, Option, Some, None, IsTrue, length, refl, sym, ap, subst, ◌∙◌}
+use Rattle.std.proofs.Common.{◌≡◌, ◌≢◌, ℕ, ◌<◌, Bool, true, false, List, [], ◌∷◌, ◌++◌, Option, Some, None, IsTrue, length, map, refl, sym, ap, subst, ◌∙◌}
 use Rattle.std.specs.Prelude.{All, ◌==◌, ◌||◌, ◌&&◌, not, is_some, is_none, unwrap_or, if◌then◌else◌, IfSome, option_to_list, Ok, Err}
 use Rattle.std.specs.List.{list_any, list_all, flat_map}
 use Rattle.std.specs.Option.{option_map, option_and_then}
@@ -10,12 +10,12 @@ use Rattle.vx_base.specs.declared.kind.Kind.{Kind}
 use Rattle.vx_base.specs.declared.kind.Kind.TheVariants as kind
 use Rattle.vx_base.specs.declared.node.Node.{Node}
 use Rattle.vx_base.specs.Cell.{Cell, same_slot, same_cell}
-use Rattle.vx_base.specs.Description.{Description, same_size, byte_count}
+use Rattle.vx_base.specs.Description.{Description, same_size}
 use Rattle.vx_base.specs.Formats.{takes_formats}
 use Rattle.vx_base.specs.Function.{parameters}
 use Rattle.vx_base.specs.Image.{ImageValue, description_of}
 use Rattle.vx_base.specs.Node.{is_node, has_amount, has_operands, all_named, given, outputs, operands, second_kind}
-use Rattle.vx_base.specs.Object.{ObjectValue, ImageObject, LutObject, ThresholdObject, IsObject, object_kind, object_format, object_bytes}
+use Rattle.vx_base.specs.Object.{ObjectValue, ImageObject, LutObject, ThresholdObject, IsObject, object_kind, object_format}
 use Rattle.vx_base.specs.Outputs.{node_output, written_to, written_by}
 use Rattle.image_core.specs.Fits.{SecondHasSize}
 use Rattle.graph_verify.specs.declared.operand.Operand.{Operand}
@@ -28,14 +28,16 @@ use Rattle.client_contexts.specs.declared.places.Places.{Places}
 use Rattle.client_contexts.specs.declared.refusal.Refusal.{Refusal}
 use Rattle.client_contexts.specs.declared.refusal.Refusal.TheVariants.{InvalidReference, InvalidType, Rejected}
 use Rattle.client_contexts.specs.declared.reply.Reply.TheVariants.{Empty}
-use Rattle.client_contexts.specs.Context.{Named, Context, object_named, with_object, with_objects, with_written}
+use Rattle.client_contexts.specs.Context.{Named, named, Context, object_named, with_object, with_objects, with_written}
 use Rattle.client_contexts.specs.Refusal.{unless}
 use Rattle.client_contexts.specs.Operands.{in_slot, held, is_unknown, is_of_other_kind}
 use Rattle.client_contexts.specs.Immediate.{operand_if, operands_in, node_refusal, immediate}
-use Rattle.client_contexts.specs.Places.{no_object, entry_at, object_at, object_if_at, StandsAt, StandsIf, IsContext}
+use Rattle.object_table.specs.declared.names.Entry.{Entry}
+use Rattle.object_table.specs.Names.{IsNames}
+use Rattle.object_table.specs.Table as table
+use Rattle.client_contexts.specs.Places.{entry_at, object_at, object_if_at, StandsAt, StandsIf, IsInContext}
 use Rattle.client_contexts.specs.Steps.{RunsOn, RunsTo, StandAt, operands_at, operands_refusal, output_at, written_at}
-use Rattle.client_contexts.proofs.ContextLemmas.{IsContext-replaced, replaced_is_named}
-use Rattle.client_contexts.proofs.StoredLemmas.{description_kept}
+use Rattle.client_contexts.proofs.ContextLemmas.{object_there, object_if_there, within_there, named_is, All-replaced}
 use Rattle.vx_base.proofs.NodeLaws.{node_image_is}
 
 neither : (a b : Bool) → (a || b) ≡ false → (a ≡ false) × (b ≡ false)
@@ -163,7 +165,11 @@ module _ (n : Node) (shape : IsTrue (is_node n)) where
   second_wanted objects (Some cell) (Some place) None has h = cc
   second_wanted objects (Some cell) (Some place) (Some s) has h = ap Some (sym h.kind)
 
-  module _ (objects : List Named) (p : Places) (objects_are : All (λ o. IsObject o.object) objects) (h : StandAt objects n p) (verdict : verdict_on n (operands_at objects p) ≡ None) where
+  -- what a node reads and writes, where the operands stand in a table
+  module _ (held_in : List (Entry ObjectValue)) (p : Places) (in_context : All IsInContext held_in) (h : StandAt (map named held_in) n p) (verdict : verdict_on n (operands_at (map named held_in) p) ≡ None) where
+    abbrev objects : List Named
+    objects = map named held_in
+
     parts : (reads_own_output n ≡ false) × (takes_operands n.function (operands_at objects p) ≡ true) × (list_all (are_of_one_size (operand_of (object_at objects p.in1))) (other_operands (operands_at objects p)) ≡ true)
     parts =
         let v = accepted (writes_twice n) (reads_own_output n) (node_fault n.function (operands_at objects p)) verdict in
@@ -179,14 +185,25 @@ module _ (n : Node) (shape : IsTrue (is_node n)) where
         let differ = (neither (same_cell c cell) (list_any (same_cell c) others) (neither (list_any (same_cell c) (cell ∷ others)) false e).0).0 in
         (a.within, apart objects c cell wanted kind.Image q output a b differ)
 
-    object_is : (place : ℕ) → place < length objects → IsObject (object_at objects place)
-    object_is place within = objects_are place no_object within
+    object_is : (place : ℕ) → place < length held_in → IsObject (table.object_at held_in place)
+    object_is place within = (in_context place table.no_object within).object
 
-    object_if_is : (place : Option ℕ) → IfSome place (λ q. q < length objects) → IfSome (object_if_at objects place) IsObject
+    object_if_is : (place : Option ℕ) → IfSome place (λ q. q < length held_in) → IfSome (option_map (table.object_at held_in) place) IsObject
     object_if_is None within = tt
     object_if_is (Some q) within = object_is q within
 
-    each : (cell : Option Cell) (place : Option ℕ) → n.out1 ≡ cell → p.out1 ≡ place → StandsIf objects cell kind.Image place → IfSome place (RunsTo objects n p)
+    within_if : (place : Option ℕ) → IfSome place (λ q. q < length objects) → IfSome place (λ q. q < length held_in)
+    within_if None within = tt
+    within_if (Some q) within = within_there held_in q within
+
+    -- what runs on the objects of the context runs on those of its table
+    on_table : (output : ℕ) → RunsOn n (object_at objects p.in1) (object_if_at objects p.in2) (object_at objects output) → RunsOn n (table.object_at held_in p.in1) (option_map (table.object_at held_in) p.in2) (table.object_at held_in output)
+    on_table output runs =
+        subst (λ (o : ObjectValue). RunsOn n (table.object_at held_in p.in1) (option_map (table.object_at held_in) p.in2) o) (object_there held_in output)
+        (subst (λ (o : Option ObjectValue). RunsOn n (table.object_at held_in p.in1) o (object_at objects output)) (object_if_there held_in p.in2)
+        (subst (λ (o : ObjectValue). RunsOn n o (object_if_at objects p.in2) (object_at objects output)) (object_there held_in p.in1) runs))
+
+    each : (cell : Option Cell) (place : Option ℕ) → n.out1 ≡ cell → p.out1 ≡ place → StandsIf objects cell kind.Image place → IfSome place (RunsTo held_in n p)
     each cell None e f stands = tt
     each None (Some output) e f stands = absurd stands
     each (Some cell) (Some output) e f stands =
@@ -195,20 +212,23 @@ module _ (n : Node) (shape : IsTrue (is_node n)) where
         let differ = (neither (same_cell n.in1 cell) (list_any (same_cell n.in1) (given n.out2)) (ap (λ o. list_any (same_cell n.in1) (given o ++ given n.out2)) (sym e) ∙ reads.0)).0 in
         let others = option_to_list (option_map operand_of (object_if_at objects p.out2)) in
         record {
-          in1_within = h.in1.within;
-          in2_within = second.0;
-          within = stands.within;
+          in1_within = within_there held_in p.in1 h.in1.within;
+          in2_within = within_if p.in2 second.0;
+          within = within_there held_in output stands.within;
           in1_apart = apart objects n.in1 cell kind.Image kind.Image p.in1 output h.in1 stands differ;
           in2_apart = second.1;
           runs =
-              runs_on (object_at objects p.in1) (object_if_at objects p.in2) (object_at objects output) others h.in1.kind stands.kind
-              (object_is p.in1 h.in1.within) (object_if_is p.in2 second.0) (object_is output stands.within)
+              on_table output
+              (runs_on (object_at objects p.in1) (object_if_at objects p.in2) (object_at objects output) others h.in1.kind stands.kind
+              (subst IsObject (sym (object_there held_in p.in1)) (object_is p.in1 (within_there held_in p.in1 h.in1.within)))
+              (subst (λ (o : Option ObjectValue). IfSome o IsObject) (sym (object_if_there held_in p.in2)) (object_if_is p.in2 (within_if p.in2 second.0)))
+              (subst IsObject (sym (object_there held_in output)) (object_is output (within_there held_in output stands.within)))
               (second_wanted objects n.in2 p.in2 (parameters n.function).second_input (both (if is_some (parameters n.function).second_input then is_some n.in2 else is_none n.in2) _ (has_of_node n shape)).0 h.in2)
               (ap (λ o. takes_first n.function (operand_format (operand_of (object_at objects p.in1))) (option_and_then operand_format (option_map operand_of (object_if_at objects p.in2))) (option_to_list (option_map operand_of (object_if_at objects o)) ++ others)) (sym f) ∙ parts.1)
-              (ap (λ o. list_all (are_of_one_size (operand_of (object_at objects p.in1))) (option_to_list (option_map operand_of (object_if_at objects p.in2)) ++ (option_to_list (option_map operand_of (object_if_at objects o)) ++ others))) (sym f) ∙ parts.2);
+              (ap (λ o. list_all (are_of_one_size (operand_of (object_at objects p.in1))) (option_to_list (option_map operand_of (object_if_at objects p.in2)) ++ (option_to_list (option_map operand_of (object_if_at objects o)) ++ others))) (sym f) ∙ parts.2));
         }
 
-    pub runs_to : IfSome p.out1 (RunsTo objects n p)
+    pub runs_to : IfSome p.out1 (RunsTo held_in n p)
     runs_to = each n.out1 p.out1 refl refl (subst (λ k. StandsIf objects n.out1 k p.out1) (image_output n.function) h.out1)
 
     -- no function has a second output
@@ -226,31 +246,30 @@ module _ (n : Node) (shape : IsTrue (is_node n)) where
     second_held None (Some place) wanted s = absurd s
     second_held (Some cell) None wanted s = absurd s
 
+    output_there : (place : ℕ) → node_output n (object_at objects p.in1) (object_if_at objects p.in2) (object_at objects place) ≡ output_at held_in n p place
+    output_there place =
+        ap (λ o. node_output n o (object_if_at objects p.in2) (object_at objects place)) (object_there held_in p.in1)
+        ∙ ap (λ o. node_output n (table.object_at held_in p.in1) o (object_at objects place)) (object_if_there held_in p.in2)
+        ∙ ap (λ o. node_output n (table.object_at held_in p.in1) (option_map (table.object_at held_in) p.in2) o) (object_there held_in place)
+
     -- what the node writes is what its output becomes
-    pub written_is : (next charge : ℕ) → IsContext next charge objects → with_written objects (written_by n (held objects)) ≡ written_at objects n p p.out1
-    written_is next charge context =
+    pub written_is : (next : ℕ) → IfSome p.out1 (λ _. IsNames next held_in) → with_written objects (written_by n (held objects)) ≡ map named (written_at held_in n p p.out1)
+    written_is next names =
         ap (λ o. with_written objects (flat_map (λ cell. written_to n cell (held objects n.in1) (option_and_then (held objects) n.in2) (held objects cell)) (given n.out1 ++ given o))) (one_output n shape)
         ∙ ap (λ o. with_written objects (flat_map (λ cell. written_to n cell o (option_and_then (held objects) n.in2) (held objects cell)) (given n.out1 ++ []))) h.in1.object
         ∙ ap (λ o. with_written objects (flat_map (λ cell. written_to n cell (Some (object_at objects p.in1)) o (held objects cell)) (given n.out1 ++ []))) (second_held n.in2 p.in2 (second_kind n) h.in2)
-        ∙ written n.out1 p.out1 h.out1
+        ∙ written n.out1 p.out1 h.out1 names
       where
-        written : (cell : Option Cell) (place : Option ℕ) → StandsIf objects cell (parameters n.function).output place
-            → with_written objects (flat_map (λ c. written_to n c (Some (object_at objects p.in1)) (object_if_at objects p.in2) (held objects c)) (given cell ++ [])) ≡ written_at objects n p place
-        written None None s = refl
-        written (Some cell) (Some place) s =
+        written : (cell : Option Cell) (place : Option ℕ) → StandsIf objects cell (parameters n.function).output place → IfSome place (λ _. IsNames next held_in)
+            → with_written objects (flat_map (λ c. written_to n c (Some (object_at objects p.in1)) (object_if_at objects p.in2) (held objects c)) (given cell ++ [])) ≡ map named (written_at held_in n p place)
+        written None None s is = refl
+        written (Some cell) (Some place) s is =
             ap (λ o. with_written objects (written_to n cell (Some (object_at objects p.in1)) (object_if_at objects p.in2) o ++ [])) s.object
-            ∙ ap (λ k. with_object objects k (output_at objects n p place)) (sym s.name)
-            ∙ replaced_is_named next charge objects place (output_at objects n p place) context s.within
-        written None (Some place) s = absurd s
-        written (Some cell) None s = absurd s
-
--- an output keeps its charge
-bytes_kept : (n : Node) (first : ObjectValue) (second : Option ObjectValue) (out : ObjectValue) → RunsOn n first second out → object_bytes (node_output n first second out) ≡ object_bytes out
-bytes_kept n (ImageObject a) second (ImageObject out) h = ap byte_count (description_kept n a second out h.can_run.size)
-bytes_kept n (ImageObject a) second (LutObject out) h = refl
-bytes_kept n (ImageObject a) second (ThresholdObject out) h = refl
-bytes_kept n (LutObject a) second out h = refl
-bytes_kept n (ThresholdObject a) second out h = refl
+            ∙ ap (λ k. with_object objects k (node_output n (object_at objects p.in1) (object_if_at objects p.in2) (object_at objects place))) (sym s.name)
+            ∙ ap (λ o. with_object objects (entry_at objects place).name o) (output_there place)
+            ∙ sym (named_is held_in next place (output_at held_in n p place) is (within_there held_in place s.within))
+        written None (Some place) s is = absurd s
+        written (Some cell) None s is = absurd s
 
 -- an output becomes an object
 becomes_object : (n : Node) (first : ObjectValue) (second : Option ObjectValue) (out : ObjectValue) → RunsOn n first second out → IsObject (node_output n first second out)
@@ -260,12 +279,11 @@ becomes_object n (ImageObject a) second (ThresholdObject out) h = h.out_is
 becomes_object n (LutObject a) second out h = h.out_is
 becomes_object n (ThresholdObject a) second out h = h.out_is
 
-pub IsContext-written : (next charge : ℕ) (objects : List Named) (n : Node) (p : Places) (output : Option ℕ) → IsContext next charge objects → IfSome output (RunsTo objects n p) → IsContext next charge (written_at objects n p output)
-IsContext-written next charge objects n p None h runs = h
-IsContext-written next charge objects n p (Some output) h runs =
-    IsContext-replaced next charge objects output (output_at objects n p output) h runs.within
-    (bytes_kept n (object_at objects p.in1) (object_if_at objects p.in2) (object_at objects output) runs.runs)
-    (becomes_object n (object_at objects p.in1) (object_if_at objects p.in2) (object_at objects output) runs.runs)
+pub All-written : (l : List (Entry ObjectValue)) (n : Node) (p : Places) (output : Option ℕ) → All IsInContext l → IfSome output (RunsTo l n p) → All IsInContext (written_at l n p output)
+All-written l n p None h runs = h
+All-written l n p (Some output) h runs =
+    All-replaced l output (output_at l n p output) h runs.within
+    (becomes_object n (table.object_at l p.in1) (option_map (table.object_at l) p.in2) (table.object_at l output) runs.runs)
 
 -- ---- immediate mode
 

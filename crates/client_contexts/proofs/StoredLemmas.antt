@@ -1,29 +1,19 @@
 -- Images that a context holds, and what nodes write to them.
-use Rattle.std.proofs.Common.{◌≡◌, ℕ, ℤ, List, pos, Option, Some, None, true, false, Bool, replicate, refl, ap, ◌∙◌, sym}
+use Rattle.std.proofs.Common.{◌≡◌, ℕ, ℤ, List, Option, Some, None, true, false, Bool, refl, ap, ◌∙◌, sym}
 use Rattle.std.specs.Prelude.{◌==◌, ◌&&◌}
 use Rattle.std.proofs.lemmas.Bool.{eqb-true}
 use Rattle.vx_base.specs.declared.node.Node.{Node}
 use Rattle.vx_base.specs.declared.format.Format.{Format}
-use Rattle.vx_base.specs.declared.samples.Samples.{Samples}
-use Rattle.vx_base.specs.Rectangle.{Rectangle, whole}
-use Rattle.vx_base.specs.Description.{Description, sample_count, byte_count}
-use Rattle.vx_base.specs.Image.{ImageValue, IsImage, new_image, image_over, description_of}
-use Rattle.vx_base.specs.Object.{ObjectValue, ImageObject, LutObject, ThresholdObject, IsObject, object_kind, object_bytes}
-use Rattle.vx_base.specs.Picture.{values}
+use Rattle.vx_base.specs.Rectangle.{Rectangle}
+use Rattle.vx_base.specs.Description.{Description}
+use Rattle.vx_base.specs.Image.{ImageValue, IsImage, image_over, description_of}
+use Rattle.vx_base.specs.Object.{ObjectValue, ImageObject, LutObject, ThresholdObject, IsObject, object_kind}
 use Rattle.vx_base.specs.Pixelwise.{node_image}
 use Rattle.vx_base.proofs.ImageLaws.{same_parts}
-use Rattle.vx_base.proofs.ZeroLaws.{samples-new_image}
 use Rattle.image_core.specs.Fits.{HaveSameSize}
 use Rattle.client_contexts.specs.Steps.{CanRun}
-use Rattle.client_contexts.specs.Places.{image_value}
+use Rattle.object_table.specs.Object.{image_value}
 use Rattle.vx_base.specs.declared.kind.Kind.TheVariants as kind
-
--- samples that are all 0 make a new image
-pub zeros_are_new : (d : Description) (area : Rectangle) (samples : Samples) (count : ℕ) → area ≡ whole d.width d.height → count ≡ sample_count d → values samples ≡ replicate count (pos 0)
-    → image_over d area (values samples) ≡ new_image d.width d.height d.format
-zeros_are_new d area samples count all long zero =
-    ap (λ r. image_over d r (values samples)) all
-    ∙ ap (image_over d (whole d.width d.height)) (zero ∙ ap (λ n. replicate n (pos 0)) long ∙ sym (samples-new_image d.width d.height d.format))
 
 both : (a b : Bool) → (a && b) ≡ true → (a ≡ true) × (b ≡ true)
 both true true e = (refl, refl)
@@ -67,13 +57,7 @@ module _ (n : Node) (a : ImageValue) (second : Option ObjectValue) (d : Descript
       same_parts (image_over d area (samples)) (node_image n d.format a second)
       (sym (ap (λ (e : Description). e.width) same_size)) (sym (ap (λ (e : Description). e.height) same_size)) (sym (ap (λ (e : Description). e.format) same_size)) valid written
 
--- an object that is an image has as many sample bytes as its description says
-pub bytes_of_image : (object : ObjectValue) → object_kind object ≡ kind.Image → object_bytes object ≡ byte_count (description_of (image_value object))
-bytes_of_image (ImageObject image) e = refl
-bytes_of_image (LutObject lut) e = cc
-bytes_of_image (ThresholdObject threshold) e = cc
-
--- and is an image
+-- an object that is an image is one
 pub image_of_object : (object : ObjectValue) → object_kind object ≡ kind.Image → IsObject object → IsImage (image_value object)
 image_of_object (ImageObject image) e is = is
 image_of_object (LutObject lut) e is = cc

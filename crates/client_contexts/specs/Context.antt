@@ -1,11 +1,13 @@
 -- One client's state, and the states of all clients.
-use Rattle.std.specs.Prelude.{ℕ, ◌+◌, ◌==◌, Bool, ◌&&◌, not, nat_le, nat_lt, if◌then◌else◌, List, [], ◌∷◌, ◌++◌, length, sum_by, find, filter, Option}
+use Rattle.std.specs.Prelude.{ℕ, ◌+◌, ◌==◌, Bool, ◌&&◌, not, nat_le, nat_lt, if◌then◌else◌, List, [], ◌∷◌, ◌++◌, length, map, sum_by, find, filter, Option}
 use Rattle.std.specs.Option.{option_map}
 use Rattle.std.specs.Ordering.{nat_cmp}
 use Rattle.std.specs.Map.{lookup}
 use Rattle.std.specs.BTreeMap.{is_at}
 use Rattle.vx_base.specs.Cell.{Cell}
 use Rattle.vx_base.specs.Object.{ObjectValue, object_bytes}
+use Rattle.object_table.specs.declared.names.Entry.{Entry}
+use Rattle.object_table.specs.Table.{TableValue}
 use Rattle.client_contexts.specs.Allowance.{Allowance}
 
 -- an object and its name
@@ -17,6 +19,14 @@ pub record Named : Type 0 where
 pub record Context : Type 0 where
   pub next : ℕ
   pub objects : List Named
+
+-- what is held in a table, by name
+abbrev pub named : Entry ObjectValue → Named
+named e = record { name = e.name; object = e.object }
+
+-- the context whose objects stand in a table
+abbrev pub context_of : TableValue → Context
+context_of t = record { next = t.next; objects = map named t.objects }
 
 -- a new context: no object, and name 1 next
 abbrev pub new_context : Context

@@ -9,6 +9,5 @@ pub mod Immediate
 pub mod Answer
 pub mod States
 pub mod Applies
-pub mod Held
 pub mod Places
 pub mod Steps

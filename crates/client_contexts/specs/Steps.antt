@@ -1,5 +1,5 @@
 -- What a request does in the context of its client, and where a node runs.
-use Rattle.std.specs.Prelude.{ℕ, ◌≡◌, ◌≢◌, ◌<◌, IsTrue, ⊤, if◌then◌else◌, List, length, Option, Some, None, Result, Ok, Err, IfOk, IfErr, OnErr, IfSome, slice_set}
+use Rattle.std.specs.Prelude.{ℕ, ◌≡◌, ◌≢◌, ◌<◌, IsTrue, ⊤, if◌then◌else◌, List, length, Option, Some, None, Result, Ok, Err, IfOk, IfErr, OnErr, IfSome}
 use Rattle.std.specs.List.{list_any}
 use Rattle.std.specs.Option.{option_map, option_and_then}
 use Rattle.vx_base.specs.declared.kind.Kind.{Kind}
@@ -25,7 +25,10 @@ use Rattle.client_contexts.specs.declared.reply.Reply.{Reply}
 use Rattle.client_contexts.specs.Context.{Named, Context}
 use Rattle.client_contexts.specs.Refusal.{Outcome}
 use Rattle.client_contexts.specs.Operands.{is_unknown, is_of_other_kind}
-use Rattle.client_contexts.specs.Places.{entry_at, object_at, object_if_at, image_value, StandsAt, StandsIf}
+use Rattle.object_table.specs.declared.names.Entry.{Entry}
+use Rattle.object_table.specs.Object.{image_value}
+use Rattle.object_table.specs.Table as table
+use Rattle.client_contexts.specs.Places.{object_at, object_if_at, StandsAt, StandsIf}
 
 -- ---- results
 
@@ -118,24 +121,20 @@ pub record RunsOn (n : Node) (first : ObjectValue) (second : Option ObjectValue)
   pub out_is : IsObject out
   pub can_run : CanRun n (image_value first) second (image_value out)
 
--- an output at a place, apart from what the node reads
-pub record RunsTo (objects : List Named) (n : Node) (p : Places) (output : ℕ) : Type 0 where
+-- an output at a place of a table, apart from what the node reads
+pub record RunsTo (objects : List (Entry ObjectValue)) (n : Node) (p : Places) (output : ℕ) : Type 0 where
   pub in1_within : p.in1 < length objects
   pub in2_within : IfSome p.in2 (λ place. place < length objects)
   pub within : output < length objects
   pub in1_apart : p.in1 ≢ output
   pub in2_apart : IfSome p.in2 (λ place. place ≢ output)
-  pub runs : RunsOn n (object_at objects p.in1) (object_if_at objects p.in2) (object_at objects output)
+  pub runs : RunsOn n (table.object_at objects p.in1) (option_map (table.object_at objects) p.in2) (table.object_at objects output)
 
 -- what the output becomes
-abbrev pub output_at : List Named → Node → Places → ℕ → ObjectValue
-output_at objects n p output = node_output n (object_at objects p.in1) (object_if_at objects p.in2) (object_at objects output)
-
--- the objects, with another at a place under the name that stands there
-abbrev pub replaced : List Named → ℕ → ObjectValue → List Named
-replaced objects place object = slice_set objects place (record { name = (entry_at objects place).name; object = object })
+abbrev pub output_at : List (Entry ObjectValue) → Node → Places → ℕ → ObjectValue
+output_at objects n p output = node_output n (table.object_at objects p.in1) (option_map (table.object_at objects) p.in2) (table.object_at objects output)
 
 -- the objects once the output is written, if it is there
-abbrev pub written_at : List Named → Node → Places → Option ℕ → List Named
+abbrev pub written_at : List (Entry ObjectValue) → Node → Places → Option ℕ → List (Entry ObjectValue)
 written_at objects n p None = objects
-written_at objects n p (Some output) = replaced objects output (output_at objects n p output)
+written_at objects n p (Some output) = table.replaced objects output (output_at objects n p output)

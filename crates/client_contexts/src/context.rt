@@ -1,50 +1,43 @@
 //! The context of a client: its objects, their names and their charge.
-ghost use Rattle.std.specs.Prelude.{◌≡◌, ◌+◌, ◌*◌, ◌<◌, ◌≤◌, ◌++◌, ◌∷◌, ◌==◌, [], length, position, IfOk, OnOk, OnErr};
+ghost use Rattle.std.specs.Prelude.{◌≡◌, ◌*◌, ◌<◌, ◌≤◌, ◌==◌, is_none, if◌then◌else◌, Ok, Err, length, position, IfOk, OnOk, OnErr};
 ghost use Rattle.vx_base.specs.declared.kind.Kind.TheVariants as kind;
 ghost use Rattle.vx_base.specs.Image.{IsImage, description_of};
-ghost use Rattle.vx_base.specs.Object.{ImageObject, IsObject, object_bytes, object_kind};
+ghost use Rattle.vx_base.specs.Object.{ImageObject, IsObject, object_kind};
 ghost use Rattle.vx_base.specs.Outputs.{written_by};
 ghost use Rattle.vx_base.specs.Picture.{pictured};
-ghost use Rattle.client_contexts.specs.Context.{new_context, has_room, charge_of, with_object, with_objects, with_written, without, with_new};
+ghost use Rattle.client_contexts.specs.declared.refusal.Refusal.TheVariants.{InvalidReference};
+ghost use Rattle.client_contexts.specs.Context.{new_context, has_room, object_named, with_object, with_objects, with_written, without, with_new};
 ghost use Rattle.client_contexts.specs.Operands.{held};
-ghost use Rattle.client_contexts.specs.Held.{value_of};
 ghost use Rattle.client_contexts.specs.Places.{entry_at, object_at, image_at};
 ghost use Rattle.client_contexts.specs.Steps.{Runs};
 
-use crate::entries::{Entry, object_at};
 use crate::limits::Limits;
 use crate::memory::NoMemory;
-use crate::object::Object;
 use crate::places::Places;
+use crate::refusal::Refusal;
 use crate::run::run_at;
-use crate::stored::Stored;
+use object_table::{Object, Stored, Table};
 use std::alloc::Global;
 use std::marker::Model;
 use vx_base::{Node, Picture};
 
-/// The greatest number of objects in a context.
-const GREATEST_COUNT: usize = 1024;
-
-/// Each name is below this: 2^32.
-const END_OF_NAMES: u64 = 4_294_967_296;
-
-/// The objects of a client in the order of their names, and the name that comes next.
+/// The objects of a client in the order of their names, and the name that comes next. Each of their
+/// names is live, and each image has all its samples.
 #[derive(Drop)]
 pub struct Context {
-    next: u64,
-    charge: u64,
-    entries: Vec<Entry>,
+    table: Table,
 }
 
 impl Model for Context {
-    ghost use Rattle.client_contexts.specs.Context.{Context as ContextValue};
-    ghost use Rattle.client_contexts.specs.Places.{IsContext};
+    ghost use Rattle.std.specs.Prelude.{All};
+    ghost use Rattle.client_contexts.specs.Context.{Context as ContextValue, context_of};
+    ghost use Rattle.client_contexts.specs.Places.{IsInContext};
 
     ghost Value = { ContextValue };
 
-    ghost view = { λ c. record { next = c.next; objects = c.entries.items } };
+    ghost view = { λ c. context_of c.table };
 
-    ghost invariant = { λ c. IsContext c.next c.charge c.entries.items };
+    ghost invariant = { λ c. All IsInContext c.table.objects };
 }
 
 impl Context {
@@ -53,15 +46,13 @@ impl Context {
         ensures { result ≡ new_context }
     {
         Context {
-            next: 1,
-            charge: 0,
-            entries: Vec::new(alloc),
+            table: Table::new(alloc),
         }
     }
 
     /// The allocator of the context's objects.
     pub fn allocator(&self) -> Global {
-        *self.entries.allocator()
+        self.table.allocator()
     }
 
     /// Whether an object that is charged so many bytes, at most those of the largest image, can be
@@ -70,51 +61,49 @@ impl Context {
         requires { bytes ≤ 4 * 4096 * 4096 }
         ensures { result ≡ has_room limits self.now bytes }
     {
-        self.next < END_OF_NAMES
-            && self.entries.len() < GREATEST_COUNT
-            && self.charge + bytes as u64 <= limits.quota()
+        self.table.has_place() && self.table.charged_bytes() + bytes as u64 <= limits.quota()
     }
 
     /// Adds an object under the next name.
     pub fn add(&mut self, object: Object) -> Result<u32, NoMemory>
         requires name_left { self.old.next < 4294967296 }
         requires place_left { length self.old.objects < 1024 }
-        requires charge { charge_of self.old.objects + object_bytes (value_of object) ≤ 1099511627776 }
-        requires object { IsObject (value_of object) }
+        requires object { IsObject object }
         ensures name { IfOk result (λ name. name ≡ self.old.next) }
-        ensures ok { OnOk result (self.new ≡ with_new self.old (value_of object)) }
+        ensures ok { OnOk result (self.new ≡ with_new self.old object) }
         ensures err { OnErr result (self.new ≡ self.old) }
     {
-        let name = self.next as u32;
-        let charge = object.charge();
-        self.entries.push(Entry::new(name, object))?;
-        self.next += 1;
-        self.charge += charge;
-        Ok(name)
+        match self.table.insert(object) {
+            Ok(name) => Ok(name),
+            Err(_) => Err(NoMemory),
+        }
     }
 
-    /// Drops the object at a place. Its name is not used again.
-    pub fn remove(&mut self, place: usize)
-        requires { place < length self.old.objects }
-        ensures { self.new ≡ with_objects self.old (without self.old.objects (entry_at self.old.objects place).name) }
+    /// Drops the object with this name, which no other takes.
+    pub fn release(&mut self, name: u32) -> Result<(), Refusal>
+        ensures result { result ≡ (if is_none (object_named self.old.objects name) then Err InvalidReference else Ok tt) }
+        ensures ok { OnOk result (self.new ≡ with_objects self.old (without self.old.objects name)) }
+        ensures err { OnErr result (self.new ≡ self.old) }
     {
-        let entry = self.entries.remove(place);
-        self.charge -= entry.object().charge();
+        match self.table.release(name) {
+            Ok(()) => Ok(()),
+            Err(_) => Err(Refusal::InvalidReference),
+        }
     }
 
     /// The place of the object with this name.
     pub fn place_of(&self, name: u32) -> Option<usize>
         ensures { result ≡ position (λ o. o.name == name) self.now.objects }
     {
-        self.entries.iter().position(|entry| entry.name() == name)
+        self.table.place_of(name)
     }
 
     /// The object at a place.
     pub fn object_at(&self, place: usize) -> &Object
         requires { place < length self.now.objects }
-        ensures { value_of result.now ≡ object_at self.now.objects place }
+        ensures { result.now ≡ object_at self.now.objects place }
     {
-        object_at(&self.entries, place)
+        self.table.object_at(place)
     }
 
     /// The image at a place.
@@ -124,18 +113,17 @@ impl Context {
         ensures value { result.now ≡ image_at self.now.objects place }
         ensures image { IsImage result.now }
     {
-        object_at(&self.entries, place).image()
+        self.table.image_at(place)
     }
 
     /// Writes a picture to the image at a place; both are of one description.
     pub fn write(&mut self, place: usize, picture: &Picture)
         requires within { place < length self.old.objects }
-        requires image { object_kind (object_at self.old.objects place) ≡ kind.Image }
+        requires kind { object_kind (object_at self.old.objects place) ≡ kind.Image }
         requires same { description_of (image_at self.old.objects place) ≡ picture.now.description }
         ensures { self.new ≡ with_objects self.old (with_object self.old.objects (entry_at self.old.objects place).name (ImageObject (pictured picture.now))) }
     {
-        let entry = &mut self.entries[place];
-        entry.write(picture);
+        self.table.write(place, picture);
     }
 
     /// Runs a node that nothing refuses, at the places of its operands. It takes no memory.
@@ -143,7 +131,7 @@ impl Context {
         requires { Runs self.old.objects node.now places }
         ensures { self.new ≡ with_objects self.old (with_written self.old.objects (written_by node.now (held self.old.objects))) }
     {
-        run_at(&mut self.entries, node, places, places.out1);
-        run_at(&mut self.entries, node, places, places.out2);
+        run_at(&mut self.table, node, places, places.out1);
+        run_at(&mut self.table, node, places, places.out2);
     }
 }

@@ -7,10 +7,9 @@ use crate::context::Context;
 use crate::fault::RequestFault;
 use crate::limits::Limits;
 use crate::lookup::find;
-use crate::object::Object;
 use crate::refusal::Refusal;
 use crate::reply::Reply;
-use crate::stored::Stored;
+use object_table::{Content, Object, Stored};
 use std::alloc::Global;
 use vx_base::{Desc, Kind, ObjRef, Picture};
 
@@ -26,7 +25,7 @@ pub fn create_image(
         return Err(RequestFault::Refused(Refusal::NoResources));
     }
     let image = Stored::new(context.allocator(), desc)?;
-    Ok(Reply::Name(context.add(Object::Image(image))?))
+    Ok(Reply::Name(context.add(Object::new(Content::Image(image)))?))
 }
 
 /// Why a picture can't be written to an image of this description. `None` where it can.

@@ -10,9 +10,7 @@
 //! - `request`, `reply`: what a client asks for, and what it is answered
 //! - `refusal`, `memory`, `fault`: why a request isn't done: it is refused, or finds no memory
 //! - `limits`: what a client may hold
-//! - `stored`, `object`: an image with samples of its own; an image, a lookup table or a threshold
-//! - `entries`, `context`: objects under their names; the objects of a client, with the names and
-//!   the charge
+//! - `context`: the objects of a client, with the names and the charge
 //! - `places`, `lookup`, `run`: where the operands of a node stand, how they are found, and how the
 //!   node runs on them
 //! - the requests by family: `images` (to create, write and read them), `objects` (to release any),
@@ -22,7 +20,6 @@
 #![tactic(auto)]
 
 mod context;
-mod entries;
 mod fault;
 mod images;
 mod immediate;
@@ -30,7 +27,6 @@ pub mod laws;
 mod limits;
 mod lookup;
 mod memory;
-mod object;
 mod objects;
 mod places;
 mod refusal;
@@ -38,7 +34,6 @@ mod reply;
 mod request;
 mod run;
 mod runtime;
-mod stored;
 mod tables;
 
 pub use limits::Limits;

@@ -4,23 +4,22 @@ ghost use Rattle.std.specs.Option.{option_map};
 ghost use Rattle.vx_base.specs.Node.{operands, with_kind};
 ghost use Rattle.vx_base.specs.Object.{object_kind, same_kind};
 ghost use Rattle.graph_verify.specs.Operand.{operand_of};
-ghost use Rattle.client_contexts.specs.Held.{value_of};
 ghost use Rattle.client_contexts.specs.Places.{object_at, object_if_at, StandsAt, StandsIf};
 ghost use Rattle.client_contexts.specs.Steps.{refusal_in, operands_refusal, first_class, StandAt, AreWithin, operands_at};
 
 use crate::context::Context;
-use crate::object::Object;
 use crate::places::Places;
 use crate::refusal::Refusal;
 use graph_verify::{Operand, Operands};
+use object_table::{Content, Object};
 use vx_base::{Kind, Node, ObjRef};
 
 /// Whether an object is what a reference to its name wants: of this kind, and without slots, as
 /// all objects are today.
 fn is_wanted(object: &Object, reference: ObjRef, kind: Kind) -> bool
-    ensures { result ≡ (is_none reference.slot && same_kind kind (object_kind (value_of object.now))) }
+    ensures { result ≡ (is_none reference.slot && same_kind kind (object_kind object.now)) }
 {
-    reference.slot().is_none() && object.is_of_kind(kind)
+    reference.slot().is_none() && object.kind() == kind
 }
 
 /// Where the object of this kind stands that a reference names, or why it names none.
@@ -92,7 +91,11 @@ fn operand_at(context: &Context, place: usize) -> Operand
     requires { place < length context.now.objects }
     ensures { result ≡ operand_of (object_at context.now.objects place) }
 {
-    context.object_at(place).operand()
+    match context.object_at(place).content() {
+        Content::Image(image) => Operand::Image(image.desc()),
+        Content::Lut(lut) => Operand::Lut(lut.format()),
+        Content::Threshold(threshold) => Operand::Threshold(threshold.format()),
+    }
 }
 
 /// What stands at a place, if there is a place.

@@ -10,11 +10,6 @@ use crate::reply::Reply;
 pub fn release(context: &mut Context, name: u32) -> Result<Reply, Refusal>
     ensures { ComesTo (release context.old name) context.old context.new result }
 {
-    match context.place_of(name) {
-        None => Err(Refusal::InvalidReference),
-        Some(place) => {
-            context.remove(place);
-            Ok(Reply::Empty)
-        }
-    }
+    context.release(name)?;
+    Ok(Reply::Empty)
 }

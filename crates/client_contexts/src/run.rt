@@ -1,35 +1,35 @@
 //! Nodes that run on the objects of a context.
 ghost use Rattle.std.specs.Prelude.{◌≡◌, ◌<◌, [], length, map, pos, IfSome};
-ghost use Rattle.vx_base.specs.declared.kind.Kind.TheVariants as kind;
 ghost use Rattle.vx_base.specs.declared.format.Format.TheVariants.{U8, S16, U32};
 ghost use Rattle.vx_base.specs.Rectangle.{empty};
 ghost use Rattle.vx_base.specs.Image.{image_over};
-ghost use Rattle.vx_base.specs.Object.{IsObject, object_kind};
+ghost use Rattle.vx_base.specs.Object.{IsObject};
 ghost use Rattle.vx_base.specs.Description.{sample_count};
 ghost use Rattle.vx_base.specs.Pixelwise.{node_image};
 ghost use Rattle.image_core.specs.Second.{second_object};
-ghost use Rattle.client_contexts.specs.Places.{object_at, object_if_at, image_at};
+ghost use Rattle.std.specs.Option.{option_map};
+ghost use Rattle.object_table.specs.Names.{IsNames};
+ghost use Rattle.object_table.specs.Table.{object_at, with_objects};
 ghost use Rattle.client_contexts.specs.Steps.{CanRun, RunsTo, written_at};
 
-use crate::entries::{Entry, object_at};
-use crate::object::Object;
 use crate::places::Places;
-use crate::stored::Stored;
 use graph_run::run_node;
 use image_core::{Image, ImageMut, Second};
+use object_table::{Content, Table};
 use vx_base::{Desc, Node, Rect, Samples};
 
-/// Runs a node on the entries at these places, to one of its outputs, if it has that. The inputs
+/// Runs a node on the objects at these places, to one of its outputs, if it has that. The inputs
 /// are none of the outputs, and are read where they stand. It takes no memory.
-pub fn run_at(entries: &mut [Entry], node: &Node, places: Places, output: Option<usize>)
-    requires { IfSome output (RunsTo entries.old node.now places) }
-    ensures { entries.new ≡ written_at entries.old node.now places output }
+pub fn run_at(table: &mut Table, node: &Node, places: Places, output: Option<usize>)
+    requires { IfSome output (RunsTo table.old.objects node.now places) }
+    ensures value { table.new ≡ with_objects table.old (written_at table.old.objects node.now places output) }
+    ensures names { IfSome output (λ _. IsNames table.old.next table.old.objects) }
 {
     if let Some(output) = output {
-        let desc = image_at(entries, output).desc();
-        let samples = entries[output].take();
-        let first = image_at(entries, places.in1).image();
-        let second = second_at(entries, places.in2);
+        let desc = table.image_at(output).desc();
+        let samples = table.take(output);
+        let first = table.image_at(places.in1).image();
+        let second = second_at(table, places.in2);
         let (samples, valid) = match samples {
             Samples::U8(mut samples) => {
                 let valid = run_u8(desc, &mut samples, node, &first, &second);
@@ -44,31 +44,22 @@ pub fn run_at(entries: &mut [Entry], node: &Node, places: Places, output: Option
                 (Samples::U32(samples), valid)
             }
         };
-        entries[output].put(samples, valid);
+        table.put(output, samples, valid);
     }
 }
 
-/// The image at a place.
-fn image_at(entries: &[Entry], place: usize) -> &Stored
-    requires within { place < length entries.now }
-    requires image { object_kind (object_at entries.now place) ≡ kind.Image }
-    ensures { result.now ≡ image_at entries.now place }
-{
-    object_at(entries, place).image()
-}
-
 /// What a node reads beside its first input, lent to its kernel.
-fn second_at(entries: &[Entry], place: Option<usize>) -> Second<'_>
-    requires within { IfSome place (λ p. p < length entries.now) }
-    requires object { IfSome (object_if_at entries.now place) IsObject }
-    ensures { second_object result ≡ object_if_at entries.now place }
+fn second_at(table: &Table, place: Option<usize>) -> Second<'_>
+    requires within { IfSome place (λ p. p < length table.now.objects) }
+    requires object { IfSome (option_map (object_at table.now.objects) place) IsObject }
+    ensures { second_object result ≡ option_map (object_at table.now.objects) place }
 {
     match place {
         None => Second::Nothing,
-        Some(place) => match object_at(entries, place) {
-            Object::Image(stored) => Second::Image(stored.image()),
-            Object::Lut(lut) => Second::Lut(lut),
-            Object::Threshold(threshold) => Second::Threshold(*threshold),
+        Some(place) => match table.object_at(place).content() {
+            Content::Image(stored) => Second::Image(stored.image()),
+            Content::Lut(lut) => Second::Lut(lut),
+            Content::Threshold(threshold) => Second::Threshold(*threshold),
         },
     }
 }

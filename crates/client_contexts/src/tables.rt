@@ -7,9 +7,9 @@ ghost use Rattle.client_contexts.specs.Steps.{MayComeTo};
 use crate::context::Context;
 use crate::fault::RequestFault;
 use crate::limits::Limits;
-use crate::object::Object;
 use crate::refusal::Refusal;
 use crate::reply::Reply;
+use object_table::{Content, Object};
 use vx_base::{Lut, ThresholdRule};
 
 /// Creates a lookup table like this one.
@@ -20,7 +20,7 @@ pub fn create_lut(context: &mut Context, limits: Limits, lut: &Lut) -> Result<Re
         return Err(RequestFault::Refused(Refusal::NoResources));
     }
     let copy = lut.copy(context.allocator())?;
-    Ok(Reply::Name(context.add(Object::Lut(copy))?))
+    Ok(Reply::Name(context.add(Object::new(Content::Lut(copy)))?))
 }
 
 /// Creates a threshold.
@@ -35,5 +35,5 @@ pub fn create_threshold(
         return Err(RequestFault::Refused(Refusal::NoResources));
     }
     let _format = threshold.format();
-    Ok(Reply::Name(context.add(Object::Threshold(threshold))?))
+    Ok(Reply::Name(context.add(Object::new(Content::Threshold(threshold)))?))
 }

@@ -20,11 +20,11 @@ bytes_of_image (ImageObject image) e = refl
 bytes_of_image (LutObject lut) e = cc
 bytes_of_image (ThresholdObject threshold) e = cc
 
--- a table has room for the charge of one more object
-pub charge_fits : (next charge : ℕ) (objects : List (Entry ObjectValue)) (bytes : ℕ) → IsTable next charge objects → bytes ≤ 67108864 → charge + bytes ≤ 1025 * 67108864
-charge_fits next charge objects bytes h few =
+-- as many objects as are held at most are charged no more than as many of the largest images
+pub charge_limit : (next charge : ℕ) (objects : List (Entry ObjectValue)) → IsTable next charge objects → charge ≤ 1024 * 67108864
+charge_limit next charge objects h =
     let sum : charge_of objects ≤ length objects * 67108864 = sum_by-le (λ (e : Entry ObjectValue). object_bytes e.object) 67108864 objects h.each in
-    omega (arith, sum, h.charged, h.names.named.count, few)
+    omega (arith, sum, h.charged, h.names.named.count)
 
 -- another object that is charged as much, in the place of one
 pub IsTable-set : (next charge : ℕ) (objects : List (Entry ObjectValue)) (place : ℕ) (e o : Entry ObjectValue) → IsTable next charge objects → place < length objects → e ≡ entry_at objects place

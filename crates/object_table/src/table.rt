@@ -1,5 +1,5 @@
 //! Objects under their names, with their charge.
-ghost use Rattle.std.specs.Prelude.{◌≡◌, ◌+◌, ◌<◌, ◌≤◌, IsTrue, unwrap_or, is_none, Some, None, [], if◌then◌else◌, length, position, Any, All, IfOk, IfErr, OnOk, OnErr, Ok, Err};
+ghost use Rattle.std.specs.Prelude.{◌≡◌, ◌+◌, ◌*◌, ◌<◌, ◌≤◌, IsTrue, unwrap_or, is_none, Some, None, [], if◌then◌else◌, length, position, Any, All, IfOk, IfErr, OnOk, OnErr, Ok, Err};
 ghost use Rattle.std.specs.Option.{option_map};
 ghost use Rattle.vx_base.specs.declared.kind.Kind.TheVariants as kind;
 ghost use Rattle.vx_base.specs.Image.{description_of};
@@ -60,7 +60,8 @@ impl Table {
 
     /// What the client is charged for its objects, in bytes.
     pub fn charged_bytes(&self) -> u64
-        ensures { result ≡ charge_of self.now.objects }
+        ensures value { result ≡ charge_of self.now.objects }
+        ensures limit { result ≤ 1024 * 67108864 }
     {
         self.charge
     }
@@ -184,6 +185,7 @@ impl Table {
         requires same { description_of (image_at self.old.objects place) ≡ picture.now.description }
         ensures value { self.new ≡ with_objects self.old (replaced self.old.objects place (ImageObject (pictured picture.now))) }
         ensures image { IsObject (ImageObject (pictured picture.now)) }
+        ensures names { IsNames self.old.next self.old.objects }
     {
         let entry = &mut self.names.entries[place];
         entry.object.write(picture);
@@ -196,6 +198,7 @@ impl Table {
         requires kind { object_kind (object_at self.old.objects place) ≡ kind.Image }
         ensures value { values result ≡ (image_at self.old.objects place).samples }
         ensures format { samples_format result ≡ (image_at self.old.objects place).format }
+        ensures names { IsNames self.old.next self.old.objects }
         ensures left { self.new ≡ with_objects self.old (replaced self.old.objects place (with_samples (object_at self.old.objects place) (image_at self.old.objects place).valid [])) }
     {
         let entry = &mut self.names.entries[place];
