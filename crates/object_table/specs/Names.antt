@@ -28,10 +28,6 @@ changed name change entries = map (λ e. if e.name == name then change e else e)
 abbrev pub with_entry : {O : Type 0} → ℕ → O → List (Entry O) → List (Entry O)
 with_entry name object entries = entries ++ record { name = name; live = true; uses = 0; object = object } ∷ []
 
--- the entries, where another object has this name
-abbrev pub with_object : {O : Type 0} → ℕ → O → List (Entry O) → List (Entry O)
-with_object name object entries = changed name (λ e. record e { object = object }) entries
-
 -- the entries after a name is released: it isn't live, and what no node uses isn't held
 abbrev pub released : {O : Type 0} → ℕ → List (Entry O) → List (Entry O)
 released name entries = held_of (changed name (λ e. record e { live = false }) entries)

@@ -1,0 +1,342 @@
+"""Wrong readings of docs/wire.md, each of them names of tools/model.py with what stands for them, for
+`tools/check_streams --faults`, which shows that its streams tell them from the right one."""
+
+from collections import namedtuple
+from types import SimpleNamespace
+
+import frames
+import model
+from frames import S16
+
+# What is wrong; the op without which nobody can tell, or None; and what stands for which names of the model.
+Fault = namedtuple("Fault", "words needs changes")
+
+# The model as it is, also while a fault is planted.
+right = SimpleNamespace(**vars(model))
+
+
+# ---- samples and functions
+
+
+def with_value(number, value):
+    """A pixelwise function with another value."""
+    return {"FUNCTIONS": {**right.FUNCTIONS, number: right.FUNCTIONS[number]._replace(gives=right.pixelwise(value))}}
+
+
+def difference_wrapped(a, b, way):
+    return right.wrap(abs(a - b), way.fmt)
+
+
+def difference_turned(a, b, way):
+    return right.subtract(b, a, way)
+
+
+def smaller_without_sign(a, b, _):
+    return min(a, b, key=lambda sample: sample % 2**16)
+
+
+def converted_to_zero(a, b, way):
+    quotient = right.over_power(a, way.amount)
+    return right.converted(a, b, way) if way.fmt == S16 else right.narrow(quotient, way.fmt, way.policy)
+
+
+def passes_at_limit(threshold, sample):
+    return right.passes(threshold, sample) or sample == threshold.limits[0]
+
+
+def passes_below_upper(threshold, sample):
+    return right.passes(threshold, sample) and (len(threshold.limits) == 1 or sample < threshold.limits[1])
+
+
+def next_entry(table, sample):
+    return table.entries[(sample - right.SAMPLES[table.fmt][0] + (table.fmt == S16)) % len(table.entries)]
+
+
+def entry_from_zero(table, sample):
+    return table.entries[sample % len(table.entries)]
+
+
+FUNCTION_FAULTS = (
+    Fault("Multiply rounds up", None, {"over_power": lambda value, exponent: -(-value // 2**exponent)}),
+    Fault("Multiply rounds down", None, {"over_power": lambda value, exponent: value // 2**exponent}),
+    Fault("Multiply rounds to the nearest", None, {"over_power": lambda value, exponent: round(value / 2**exponent)}),
+    Fault("WRAP saturates", None, {"wrap": right.clamp}),
+    Fault("SATURATE wraps", None, {"clamp": right.wrap}),
+    Fault("Subtract takes in1 from in2", None, with_value(frames.SUBTRACT, difference_turned)),
+    Fault("AbsoluteDifference wraps", None, with_value(frames.ABSOLUTE_DIFFERENCE, difference_wrapped)),
+    Fault("MinPixel compares without the sign", None, with_value(frames.MIN_PIXEL, smaller_without_sign)),
+    Fault("ConvertDepth rounds to zero", None, with_value(frames.CONVERT_DEPTH, converted_to_zero)),
+    Fault("a threshold passes at its limit", None, {"passes": passes_at_limit}),
+    Fault("a range ends before its upper limit", None, {"passes": passes_below_upper}),
+    Fault("a table of S16 is one entry off", None, {"entry_for": next_entry}),
+    Fault("a table begins with the entry for 0", None, {"entry_for": entry_from_zero}),
+)
+
+
+# ---- objects
+
+
+def image_of_ones(fmt, width, height):
+    return right.new_image(fmt, width, height)._replace(samples=b"\1" * (width * height))
+
+
+def image_in_part(fmt, width, height):
+    return right.new_image(fmt, width, height)._replace(valid=right.whole(width - 1, height) if width > 1 else right.EMPTY)
+
+
+def put_over(context, cell, thing):
+    old = context.objects[cell.name].samples
+    samples = [one or other for one, other in zip(thing.samples, old)]
+    right.put(context, cell, thing._replace(samples=samples))
+
+
+def write_as_many_samples(limits, state, cell, picture):
+    image = right.image_in(state.context, cell)
+    if picture.fmt == image.fmt and len(picture.samples) == len(image.samples):
+        picture = image._replace(samples=picture.samples)
+    return right.write_image(limits, state, cell, picture)
+
+
+def with_room_for(objects=0, quota=0):
+    """Limits that are greater by so much."""
+    def has_room(limits, context, thing):
+        return right.has_room(limits._replace(objects=limits.objects + objects, quota=limits.quota + quota), context, thing)
+
+    return {"has_room": has_room}
+
+
+def bytes_of_four(thing):
+    return 4 * thing.width * thing.height if isinstance(thing, model.Image) else 0
+
+
+def bytes_of_tables(thing):
+    return len(thing.entries) if isinstance(thing, model.Lut) else right.object_bytes(thing)
+
+
+def create_with_name(limits, state, thing):
+    try:
+        return right.create(limits, state, thing)
+    except model.Refused:
+        state.context.next_name += 1
+        raise
+
+
+def create_with_last_name(limits, state, thing):
+    try:
+        return right.create(limits, state, thing)
+    except model.Refused:
+        state.context.next_name = max(1, state.context.next_name - 1)
+        raise
+
+
+def answer_with_name(limits, state, op, body):
+    code, reply = right.answer(limits, state, op, body)
+    if op in frames.CREATES and code not in (model.SUCCESS, model.NO_RESOURCES) and state.context is not None:
+        state.context.next_name += 1
+    return code, reply
+
+
+def release_to_give_again(limits, state, name):
+    body = right.release(limits, state, name)
+    state.context.next_name = min(state.context.next_name, name)
+    return body
+
+
+def still_charged():
+    """Objects that are gone and charged."""
+    def release(limits, state, name):
+        gone = state.context.objects.get(name)
+        body = right.release(limits, state, name)
+        state.context.gone = [*getattr(state.context, "gone", ()), gone]
+        return body
+
+    def charge(context):
+        return right.charge(context) + sum(map(right.object_bytes, getattr(context, "gone", ())))
+
+    return {**with_outcome(right.RELEASE, release), "charge": charge}
+
+
+def with_outcome(op, outcome):
+    """A request that comes to something else."""
+    return {"REQUESTS": {**right.REQUESTS, op: right.REQUESTS[op]._replace(outcome=outcome)}}
+
+
+OBJECT_FAULTS = (
+    Fault("a new image isn't 0", None, {"new_image": image_of_ones}),
+    Fault("a new image isn't valid in its last column", None, {"new_image": image_in_part}),
+    Fault("what is written leaves the old sample where the new one is 0", None, {"put": put_over}),
+    Fault("a picture may have another shape and as many samples", None,
+          with_outcome(right.WRITE_IMAGE, write_as_many_samples)),
+    Fault("a create that finds no room uses a name", None, {"create": create_with_name}),
+    Fault("after a create that finds no room the last name is given again", None, {"create": create_with_last_name}),
+    Fault("a create whose fields are refused uses a name", None, {"answer": answer_with_name}),
+    Fault("a client may hold one object less", None, with_room_for(objects=-1)),
+    Fault("a client may hold one object more", None, with_room_for(objects=1)),
+    Fault("the quota is one byte less", None, with_room_for(quota=-1)),
+    Fault("the quota is one byte more", None, with_room_for(quota=1)),
+    Fault("every sample is charged 4 bytes", None, {"object_bytes": bytes_of_four}),
+    Fault("a table is charged", None, {"object_bytes": bytes_of_tables}),
+    Fault("the name of an object that was released is given again", right.RELEASE,
+          with_outcome(right.RELEASE, release_to_give_again)),
+    Fault("an image that was released is still charged", right.RELEASE, still_charged()),
+)
+
+
+# ---- clients
+
+
+def charged_together():
+    contexts = []
+
+    class Clients(model.Clients):
+        def __init__(self):
+            super().__init__()
+            contexts.clear()
+
+    class Context(model.Context):
+        def __init__(self):
+            super().__init__()
+            contexts.append(self)
+
+    return {"Clients": Clients, "Context": Context, "charge": lambda _: sum(map(right.charge, contexts))}
+
+
+class ClientsByLowByte(model.Clients):
+    def state_of(self, client):
+        return super().state_of(client % 256)
+
+
+def open_anew(_, state):
+    state.context = model.Context()
+    return b""
+
+
+def open_as_before(limits, state):
+    right.open_context(limits, state)
+    state.context.next_name = getattr(state, "following", 1)
+    return b""
+
+
+def release_for_now(limits, state):
+    state.following = state.context.next_name
+    return right.release_context(limits, state)
+
+
+def names_that_go_on():
+    outcomes = {right.OPEN_CONTEXT: open_as_before, right.RELEASE_CONTEXT: release_for_now}
+    rows = {op: right.REQUESTS[op]._replace(outcome=outcome) for op, outcome in outcomes.items()}
+    return {"REQUESTS": {**right.REQUESTS, **rows}}
+
+
+CLIENT_FAULTS = (
+    Fault("the clients are charged together", None, charged_together()),
+    Fault("a client is the low byte of its number", None, {"Clients": ClientsByLowByte}),
+    Fault("a second OpenContext opens a context anew", None, with_outcome(right.OPEN_CONTEXT, open_anew)),
+    Fault("names go on where a context is opened again", right.RELEASE_CONTEXT, names_that_go_on()),
+)
+
+
+# ---- bodies
+
+
+class EndlessFields(model.Fields):
+    def end(self):
+        pass
+
+
+def answer_context_first(limits, state, op, body):
+    if op in model.STANDING and right.needs_context(op) and state.context is None:
+        return model.INVALID_REFERENCE, b""
+    return right.answer(limits, state, op, body)
+
+
+def description_at_once(fields):
+    """All of its fields are there before one is looked at."""
+    at = fields.at
+    fields.bytes(5)
+    fields.at = at
+    return right.take_description(fields)
+
+
+def description_is(take):
+    rows = {**right.REQUESTS, right.CREATE_IMAGE: right.REQUESTS[right.CREATE_IMAGE]._replace(take=take)}
+    return {"take_description": take, "REQUESTS": rows}
+
+
+def limit_unordered(fields, fmt, least=None):
+    return right.take_limit(fields, fmt)
+
+
+def amount_as_parameter(fields, function):
+    amount = fields.byte()
+    model.refuse_if(amount > (function.greatest_amount or 0), model.INVALID_PARAMETERS)
+    return amount
+
+
+def border_without_constant(fields):
+    model.refuse_if(fields.byte() > frames.REPLICATE, model.INVALID_PARAMETERS)
+    fields.byte()
+
+
+def operand_absent_by_name(fields, kind):
+    cell = right.take_cell(fields)
+    model.refuse_if((cell.name == 0) != (kind is None), model.INVALID_PARAMETERS)
+    return cell if cell.name else None
+
+
+BODY_FAULTS = (
+    Fault("a byte after the last field is passed over", None, {"Fields": EndlessFields}),
+    Fault("a missing context is told before the fields", None, {"answer": answer_context_first}),
+    Fault("a description that is cut short is told before its format", None, description_is(description_at_once)),
+    Fault("a range may end below its start", None, {"take_limit": limit_unordered}),
+    Fault("an amount that is too great answers INVALID_PARAMETERS", None, {"take_amount": amount_as_parameter}),
+    Fault("a constant without CONSTANT is passed over", None, {"take_border": border_without_constant}),
+    Fault("an operand is absent by its name alone", None, {"take_operand": operand_absent_by_name}),
+)
+
+
+# ---- refusals
+
+
+def refusals_in(*order):
+    return {"NODE_REFUSALS": [right.NODE_REFUSALS[k] for k in order]}
+
+
+def of_one(applies, k):
+    """A refusal for one operand alone."""
+    def applies_there(node, things):
+        return applies(node._replace(cells=[cell if at == k else None for at, cell in enumerate(node.cells)]), things)
+
+    return applies_there
+
+
+def by_operands():
+    """All that is wrong with one operand before the next."""
+    names, kinds, *others = right.NODE_REFUSALS
+    first = [(of_one(applies, k), code) for k in range(4) for applies, code in (names, kinds)]
+    return {"NODE_REFUSALS": [*first, *others]}
+
+
+def write_image_by_size(limits, state, cell, picture):
+    image = right.image_in(state.context, cell)
+    model.refuse_if(not right.same_size(picture, image), model.INVALID_DIMENSION)
+    return right.write_image(limits, state, cell, picture)
+
+
+def image_by_kind(context, cell):
+    model.refuse_if(cell.slot != model.NO_SLOT, model.INVALID_TYPE)
+    return right.image_in(context, cell)
+
+
+REFUSAL_FAULTS = (
+    Fault("a node's kinds are tried before its names", None, refusals_in(1, 0, 2, 3, 4, 5)),
+    Fault("a node's own output is tried before its kinds", None, refusals_in(0, 3, 1, 2, 4, 5)),
+    Fault("a node's formats are tried before its own output", None, refusals_in(0, 1, 2, 4, 3, 5)),
+    Fault("a node's sizes are tried before its formats", None, refusals_in(0, 1, 2, 3, 5, 4)),
+    Fault("a node's operands are tried one after another", None, by_operands()),
+    Fault("a slot is passed over", None, {"is_of_kind": lambda cell, thing, kind: isinstance(thing, kind)}),
+    Fault("a slot is told before a name that is no object's", None, {"image_in": image_by_kind}),
+    Fault("WriteImage tries sizes before formats", None, with_outcome(right.WRITE_IMAGE, write_image_by_size)),
+)
+
+FAULTS = FUNCTION_FAULTS + OBJECT_FAULTS + CLIENT_FAULTS + BODY_FAULTS + REFUSAL_FAULTS
