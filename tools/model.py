@@ -14,7 +14,7 @@ import frames
 from frames import S16, U8, U32
 
 # The ops that the program knows. Every other is answered INVALID_PARAMETERS, also where it has a row in REQUESTS.
-STANDING = {1, 3, 5, 7, 11, 12, 24}
+STANDING = {1, 2, 3, 5, 7, 10, 11, 12, 24}
 
 OPEN_CONTEXT, RELEASE_CONTEXT, CREATE_IMAGE, WRITE_IMAGE, READ_IMAGE = 1, 2, 3, 5, 7
 RELEASE, CREATE_LUT, CREATE_THRESHOLD, IMMEDIATE = 10, 11, 12, 24
