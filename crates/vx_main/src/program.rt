@@ -19,7 +19,7 @@ pub fn run<R: Read + Drop, W: Write + Drop>(
     mut writer: W,
 ) -> Result<(), Ended> {
     match read_words(alloc, words) {
-        Ok(()) => serve_stream(alloc, reader, writer),
+        Ok(limits) => serve_stream(alloc, limits, reader, writer),
         Err(error) => refuse(alloc, &error, &mut writer),
     }
 }
@@ -45,13 +45,14 @@ fn write_text<W: Write>(writer: &mut W, text: &str) -> Result<(), Ended> {
     Ok(())
 }
 
-/// Serves the frames that the reader gives, with the default limits.
+/// Serves the frames that the reader gives, with these limits for each client.
 fn serve_stream<R: Read + Drop, W: Write + Drop>(
     alloc: Global,
+    limits: Limits,
     reader: R,
     writer: W,
 ) -> Result<(), Ended> {
-    let mut runtime = Runtime::new(alloc, Limits::default());
+    let mut runtime = Runtime::new(alloc, limits);
     let mut source = FromRead::new(reader);
     let mut sink = FromWrite::new(writer);
     match serve(alloc, &mut source, &mut sink, &mut runtime) {

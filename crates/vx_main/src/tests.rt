@@ -1,5 +1,7 @@
 use crate::ended::Ended;
 use crate::program::run;
+use std::alloc::Global;
+use std::process::Abort;
 use std::test::Fail;
 use vx_base::Code;
 use vx_requests::StreamFault;
@@ -86,25 +88,137 @@ fn tells_why_it_ended(rt: HostRuntime) -> Result<(), Fail> {
     Ok(())
 }
 
+/// Contexts of clients 7 and 8; two images of four bytes and one of one byte for 7; one of four bytes
+/// for 8.
+const CREATES: &[u8] = b"\x00\x00\x00\x03\x00\x07\x01\
+\x00\x00\x00\x03\x00\x08\x01\
+\x00\x00\x00\x08\x00\x07\x03\x01\x00\x02\x00\x02\
+\x00\x00\x00\x08\x00\x07\x03\x01\x00\x02\x00\x02\
+\x00\x00\x00\x08\x00\x07\x03\x01\x00\x01\x00\x01\
+\x00\x00\x00\x08\x00\x08\x03\x01\x00\x02\x00\x02";
+
+/// The replies with a quota of eight bytes.
+const THIRD_REFUSED: &[u8] = b"\x00\x00\x00\x04\x00\x07\x01\x00\
+\x00\x00\x00\x04\x00\x08\x01\x00\
+\x00\x00\x00\x08\x00\x07\x03\x00\x00\x00\x00\x01\
+\x00\x00\x00\x08\x00\x07\x03\x00\x00\x00\x00\x02\
+\x00\x00\x00\x04\x00\x07\x03\x0d\
+\x00\x00\x00\x08\x00\x08\x03\x00\x00\x00\x00\x01";
+
+/// Those with nine bytes and more.
+const THIRD_MADE: &[u8] = b"\x00\x00\x00\x04\x00\x07\x01\x00\
+\x00\x00\x00\x04\x00\x08\x01\x00\
+\x00\x00\x00\x08\x00\x07\x03\x00\x00\x00\x00\x01\
+\x00\x00\x00\x08\x00\x07\x03\x00\x00\x00\x00\x02\
+\x00\x00\x00\x08\x00\x07\x03\x00\x00\x00\x00\x03\
+\x00\x00\x00\x08\x00\x08\x03\x00\x00\x00\x00\x01";
+
+/// Those with seven bytes: the second image is refused, and the third has its name.
+const SECOND_REFUSED: &[u8] = b"\x00\x00\x00\x04\x00\x07\x01\x00\
+\x00\x00\x00\x04\x00\x08\x01\x00\
+\x00\x00\x00\x08\x00\x07\x03\x00\x00\x00\x00\x01\
+\x00\x00\x00\x04\x00\x07\x03\x0d\
+\x00\x00\x00\x08\x00\x07\x03\x00\x00\x00\x00\x02\
+\x00\x00\x00\x08\x00\x08\x03\x00\x00\x00\x00\x01";
+
+#[test]
+fn allows_each_client_its_quota(rt: HostRuntime) {
+    for (words, output) in [
+        (&["serve", "--quota", "8"][..], THIRD_REFUSED),
+        (&["serve", "--quota=8"], THIRD_REFUSED),
+        (&["serve", "--quota", "008"], THIRD_REFUSED),
+        (&["serve", "--quota", "7"], SECOND_REFUSED),
+        (&["serve", "--quota", "9"], THIRD_MADE),
+        (&["serve", "--quota", "1099511627776"], THIRD_MADE),
+        (
+            &["serve", "--quota=00000000000000000000000000009"],
+            THIRD_MADE,
+        ),
+        (&["serve"], THIRD_MADE),
+    ] {
+        let mut written = Vec::new(rt.alloc());
+        let ended = run(rt.alloc(), words, CREATES, &mut written);
+        assert!(rt; ended.is_ok(), "{words:?}");
+        assert_eq!(rt; written.as_slice(), output, "{words:?}");
+    }
+}
+
+/// Runs the program with words that it refuses: it reads and writes nothing, and its line has this
+/// text.
+fn refuses(rt: &impl Abort, alloc: Global, words: &[&str], text: &str) {
+    let mut written = Vec::new(alloc);
+    let mut input = REQUESTS;
+    match run(alloc, words, &mut input, &mut written) {
+        Ok(()) => assert!(rt; false, "{words:?}"),
+        Err(ended) => {
+            assert_eq!(rt; ended.status(), 2, "{words:?}");
+            assert!(rt; ended.line().contains(text), "{words:?}: {}", ended.line());
+        }
+    }
+    assert!(rt; written.is_empty());
+    assert_eq!(rt; input.len(), REQUESTS.len());
+}
+
+#[test]
+fn refuses_other_quotas(rt: HostRuntime) {
+    for word in [
+        "0",
+        "00",
+        "1099511627777",
+        "18446744073709551616",
+        "18446744073709551624",
+        "340282366920938463463374607431768211464",
+        "+8",
+        "-8",
+        "--8",
+        "eight",
+        "8k",
+        "k8",
+        "0x8",
+        "8.0",
+        "8 ",
+        " 8",
+        "8,000",
+        "1_000",
+        "\u{0668}",
+        "",
+    ] {
+        refuses(&rt, rt.alloc(), &["serve", "--quota", word], "error: ");
+        let joined = format!(in rt.alloc(); "--quota={word}");
+        let Ok(joined) = joined else {
+            assert!(rt; false, "no memory");
+            return;
+        };
+        refuses(&rt, rt.alloc(), &["serve", joined.as_str()], "error: ");
+    }
+    refuses(
+        &rt,
+        rt.alloc(),
+        &["serve", "--quota", "0"],
+        "a decimal number from 1 to 1099511627776\n\nUsage: vx_main serve",
+    );
+}
+
 #[test]
 fn reads_the_command_line(rt: HostRuntime) {
     for words in [
         &[][..],
         &["apply"],
-        &["serve", "--quota", "8"],
         &["serve", "now"],
+        &["serve", "8"],
+        &["serve", "--quota", "8", "9"],
+        &["serve", "--quota", "8", "--quota", "8"],
+        &["serve", "--quota=8", "--quota=9"],
+        &["serve", "--quot", "8"],
+        &["serve", "--work", "8"],
+        &["serve", "-q", "8"],
+        &["serve", "--", "--quota", "8"],
+        &["--quota", "8", "serve"],
         &["--work", "8", "serve"],
     ] {
-        let mut written = Vec::new(rt.alloc());
-        match run(rt.alloc(), words, REQUESTS, &mut written) {
-            Ok(()) => assert!(rt; false, "{words:?}"),
-            Err(ended) => {
-                assert_eq!(rt; ended.status(), 2);
-                assert!(rt; ended.line().contains("Usage: vx_main"), "{}", ended.line());
-            }
-        }
-        assert!(rt; written.is_empty());
+        refuses(&rt, rt.alloc(), words, "Usage: vx_main");
     }
+    refuses(&rt, rt.alloc(), &["serve", "--quota"], "'--quota <BYTES>'");
     for (words, text) in [
         (&["--help"][..], &b"An OpenVX server"[..]),
         (&["serve", "--help"], b"Reads request frames"),
