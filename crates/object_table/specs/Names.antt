@@ -67,7 +67,3 @@ AreHeldBut {O} place entries = (k : ℕ) (d : Entry O) → k < length entries �
 -- what is handed back stood in these entries and doesn't stand in those: whatever an object weighs, no weight is lost
 abbrev pub HandsBack : {O : Type 0} → Option O → List (Entry O) → List (Entry O) → Type 0
 HandsBack {O} handed old new = (weight : O → ℕ) → sum_by (λ e. weight e.object) new + unwrap_or (option_map weight handed) 0 ≡ sum_by (λ e. weight e.object) old
-
--- the entry at a place is used
-abbrev pub UsedAt : {O : Type 0} → List (Entry O) → ℕ → Type 0
-UsedAt {O} entries place = (d : Entry O) → 0 < (slice_index_or entries place d).uses

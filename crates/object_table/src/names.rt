@@ -1,7 +1,7 @@
 //! What is held under names, of whatever type it is.
-ghost use Rattle.std.specs.Prelude.{◌≡◌, ◌+◌, ◌<◌, ◌==◌, All, IsTrue, [], length, position, sum_by, unwrap_or, IfOk, IfErr, OnErr, IfSome};
-ghost use Rattle.std.specs.Option.{option_map};
-ghost use Rattle.object_table.specs.Names.{is_live_as, changed, with_entry, released, used, unused, held_of, has_place, entry_name, IsNames, AreHeldBut, HandsBack, UsedAt};
+ghost use Rattle.std.specs.Prelude.{◌≡◌, ◌+◌, ◌<◌, ◌==◌, IsTrue, [], length, position, sum_by, unwrap_or, IfOk, IfErr, OnErr, IfSome};
+ghost use Rattle.std.specs.List.{HoldsAt};
+ghost use Rattle.object_table.specs.Names.{is_live_as, changed, with_entry, released, used, unused, held_of, has_place, entry_name, IsNames, AreHeldBut, HandsBack};
 
 use std::alloc::Global;
 
@@ -121,7 +121,7 @@ impl<T> Names<T> {
     pub fn use_at(&mut self, place: usize)
         requires names { IsNames self.old.next self.old.entries.items }
         requires within { place < length self.old.entries.items }
-        requires room { All (λ e. e.uses < 4294967295) self.old.entries.items }
+        requires room { HoldsAt (λ e. e.uses < 4294967295) self.old.entries.items place }
         ensures names { IsNames self.new.next self.new.entries.items }
         ensures next { self.new.next ≡ self.old.next }
         ensures entries { self.new.entries.items ≡ used (entry_name self.old.entries.items place) self.old.entries.items }
@@ -134,7 +134,7 @@ impl<T> Names<T> {
     pub fn unuse_at(&mut self, place: usize) -> Option<T>
         requires names { IsNames self.old.next self.old.entries.items }
         requires within { place < length self.old.entries.items }
-        requires used { UsedAt self.old.entries.items place }
+        requires used { HoldsAt (λ e. 0 < e.uses) self.old.entries.items place }
         ensures names { IsNames self.new.next self.new.entries.items }
         ensures next { self.new.next ≡ self.old.next }
         ensures entries { self.new.entries.items ≡ unused (entry_name self.old.entries.items place) self.old.entries.items }

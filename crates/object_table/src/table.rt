@@ -154,10 +154,9 @@ impl Table {
         Ok(())
     }
 
-    /// One more node uses the object that is held under a name.
+    /// One more node uses the object that is held under a name, which fewer than 2^32 - 1 use.
     pub fn use_by(&mut self, name: u32)
-        requires held { Any (λ e. e.name ≡ name) self.old.objects }
-        requires room { All (λ e. e.uses < 4294967295) self.old.objects }
+        requires { Any (λ e. (e.name ≡ name) × (e.uses < 4294967295)) self.old.objects }
         ensures { self.new ≡ with_objects self.old (used name self.old.objects) }
     {
         if let Some(place) = self.names.search(name) {

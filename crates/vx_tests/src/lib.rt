@@ -9,7 +9,7 @@
 //! - `adapters`: what std's readers and writers answer, through `FromRead` and `FromWrite`
 //! - `requests`: requests as bytes, and back; texts of faults
 //! - `clients`: what a client with a small quota may hold
-//! - `tables`: names and the charge of a table
+//! - `tables`: names, uses and the charge of a table
 //! - `values`: rectangles, codes and tables
 //! - `images`: images that are valid in a part
 #![tactic(auto)]

@@ -1,4 +1,7 @@
-//! Names and the charge of a table.
+//! Names, uses and the charge of a table.
+ghost use Rattle.std.specs.Prelude.{◌≡◌};
+ghost use Rattle.object_table.specs.Table.{new_table};
+
 use object_table::{Content, Object, Stored, Table, TableFault};
 use std::alloc::Global;
 use std::test::Fail;
@@ -34,6 +37,31 @@ fn names_follow_each_other(rt: HostRuntime) -> Result<(), Fail> {
     assert_eq!(rt; found, Ok(Kind::Image));
     let lost = table.get(4).map(|object| object.kind());
     assert_eq!(rt; lost, Err(TableFault::InvalidReference));
+    Ok(())
+}
+
+/// How many objects are held, and what they are charged: after a use and the name's release, and
+/// after the use's end.
+fn held_by_a_use(table: &mut Table, object: Object) -> Result<[(usize, u64); 2], Fail>
+    requires { table.old ≡ new_table }
+{
+    let Ok(_) = table.insert(object) else {
+        return Err("no memory".into());
+    };
+    table.use_by(1);
+    let Ok(()) = table.release(1) else {
+        return Err("its name is live".into());
+    };
+    let used = (table.held(), table.charged_bytes());
+    table.unuse(1);
+    Ok([used, (table.held(), table.charged_bytes())])
+}
+
+#[test]
+fn what_is_used_is_held(rt: HostRuntime) -> Result<(), Fail> {
+    let object = image(rt.alloc())?;
+    let held = held_by_a_use(&mut Table::new(rt.alloc()), object)?;
+    assert_eq!(rt; held, [(1, 4), (0, 0)]);
     Ok(())
 }
 

@@ -1,11 +1,19 @@
-use Rattle.std.proofs.Common.{◌≡◌, ◌∙◌, ◌≤◌, ◌+◌, ℕ, List, refl, ap, sym, subst}
+use Rattle.std.proofs.Common.{◌≡◌, ◌∙◌, ◌<◌, ◌≤◌, ◌+◌, ℕ, List, refl, ap, sym, subst}
 use Rattle.std.specs.Prelude.{All, Any}
 use Rattle.vx_base.specs.Object.{ObjectValue, object_bytes}
 use Rattle.object_table.specs.declared.names.Entry.{Entry}
 use Rattle.object_table.specs.Names.{used}
 use Rattle.object_table.specs.Table.{TableValue, charge_of, with_objects}
-use Rattle.object_table.proofs.NamesLemmas.{named_there, found_if_any, All-changed, sum-changed}
+use Rattle.object_table.proofs.NamesLemmas.{named_there, found_if_any, found_is_any, All-changed, sum-changed}
 use Rattle.object_table.proofs.table.Table.use_by.Goals as goal
+
+pub use_at-requires-clause-room : goal.use_at-requires-clause-room
+use_at-requires-clause-room c d =
+    let s = c.self.inside in
+    let l = s.names.entries.items in
+    let held = ap (λ (t : TableValue). t.objects) c.self.view_is in
+    let any = subst (λ (k : List (Entry ObjectValue)). Any (λ e. (e.name ≡ c.args.name) × (e.uses < 4294967295)) k) (sym held) c.requires in
+    (found_is_any l c.args.name c.in-Some.place (λ e. (e.name ≡ c.args.name) × (e.uses < 4294967295)) (λ e is. is.0) c.self.invariant.names.named.names any c.in-Some.ensures d).1
 
 pub invariant_of-self : goal.invariant_of-self
 invariant_of-self c =
@@ -32,5 +40,5 @@ returns-in-Some c =
 pub returns-in_default : goal.returns-in_default
 returns-in_default c =
     let held = ap (λ (t : TableValue). t.objects) c.self.view_is in
-    let any = subst (λ (k : List (Entry ObjectValue)). Any (λ e. e.name ≡ c.args.name) k) (sym held) c.requires.held in
-    absurd (found_if_any c.self.inside.names.entries.items c.args.name (λ e. e.name ≡ c.args.name) (λ e is. is) any c.in_default.ensures)
+    let any = subst (λ (k : List (Entry ObjectValue)). Any (λ e. (e.name ≡ c.args.name) × (e.uses < 4294967295)) k) (sym held) c.requires in
+    absurd (found_if_any c.self.inside.names.entries.items c.args.name (λ e. (e.name ≡ c.args.name) × (e.uses < 4294967295)) (λ e is. is.0) any c.in_default.ensures)
