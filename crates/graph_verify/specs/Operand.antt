@@ -1,13 +1,13 @@
 -- What a verdict has to know of the objects that a node names: their kinds, sizes and formats.
-use Rattle.std.specs.Prelude.{Bool, true, List, ◌++◌, Option, Some, option_to_list}
+use Rattle.std.specs.Prelude.{Bool, true, List, ◌++◌, Option, Some, None, option_to_list}
 use Rattle.vx_base.specs.declared.format.Format.{Format}
 use Rattle.vx_base.specs.declared.kind.Kind.{Kind}
 use Rattle.vx_base.specs.declared.kind.Kind.TheVariants as kind
 use Rattle.vx_base.specs.Description.{same_size}
 use Rattle.vx_base.specs.Image.{description_of}
-use Rattle.vx_base.specs.Object.{ObjectValue, ImageObject, LutObject, ThresholdObject}
+use Rattle.vx_base.specs.Object.{ObjectValue, ImageObject, LutObject, ThresholdObject, DelayObject}
 use Rattle.graph_verify.specs.declared.operand.Operand.{Operand}
-use Rattle.graph_verify.specs.declared.operand.Operand.TheVariants.{Image, Lut, Threshold}
+use Rattle.graph_verify.specs.declared.operand.Operand.TheVariants.{Image, Lut, Threshold, Delay}
 use Rattle.graph_verify.specs.declared.operand.Operands.{Operands}
 
 -- what an object is as an operand
@@ -15,17 +15,20 @@ abbrev pub operand_of : ObjectValue → Operand
 operand_of (ImageObject image) = Image (description_of image)
 operand_of (LutObject lut) = Lut lut.format
 operand_of (ThresholdObject threshold) = Threshold threshold.format
+operand_of (DelayObject images) = Delay
 
 abbrev pub operand_kind : Operand → Kind
 operand_kind (Image d) = kind.Image
 operand_kind (Lut format) = kind.Lut
 operand_kind (Threshold format) = kind.Threshold
+operand_kind Delay = kind.Delay
 
--- the format of an image's samples, of a table's entries, or of the samples that a threshold tests
+-- the format of an image's samples, of a table's entries, or of the samples that a threshold tests; an operand may have none
 abbrev pub operand_format : Operand → Option Format
 operand_format (Image d) = Some d.format
 operand_format (Lut format) = Some format
 operand_format (Threshold format) = Some format
+operand_format Delay = None
 
 -- whether two operands are of one size, as far as both are images
 abbrev pub are_of_one_size : Operand → Operand → Bool

@@ -12,6 +12,8 @@ pub enum Operand {
     Lut(Format),
     /// A threshold of samples of this format.
     Threshold(Format),
+    /// A delay as a whole, which no function takes; a slot of it is an image.
+    Delay,
 }
 
 /// The operands of a node, as far as it has them.
@@ -33,17 +35,19 @@ impl Operand {
             Operand::Image(_) => Kind::Image,
             Operand::Lut(_) => Kind::Lut,
             Operand::Threshold(_) => Kind::Threshold,
+            Operand::Delay => Kind::Delay,
         }
     }
 
     /// The format of an image's samples, of a table's entries, or of the samples that a threshold
-    /// tests.
+    /// tests. `None`: the operand has none.
     pub fn format(self) -> Option<Format>
         ensures { result ≡ operand_format self }
     {
         match self {
             Operand::Image(desc) => Some(desc.format()),
             Operand::Lut(format) | Operand::Threshold(format) => Some(format),
+            Operand::Delay => None,
         }
     }
 }

@@ -1,3 +1,6 @@
 mod StoredLemmas
-mod NamesLemmas
+pub mod DelayLemmas
+pub mod SlotLemmas
+pub mod SearchLemmas
+pub mod NamesLemmas
 mod TableLemmas

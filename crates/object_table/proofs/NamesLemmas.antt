@@ -1,20 +1,21 @@
 -- What is held under names: entries that are changed, kept and found.
 use Rattle.std.proofs.Common.{◌≡◌, ◌≢◌, ℕ, ◌+◌, ◌<◌, ◌≤◌, ◌⊎◌, inl, inr, Bool, true, false, cond, List, [], ◌∷◌, ◌++◌, length, set, get_or, zero, suc, IsTrue, refl, sym, ap, subst, ◌∙◌, arith}
-use Rattle.std.specs.Prelude.{All, Any, find, Some, None, ◌==◌, ◌&&◌, ◌||◌, position, sum_by, nat_lt}
+use Rattle.std.specs.Prelude.{All, Any, Some, None, ◌==◌, ◌&&◌, ◌||◌, position, sum_by, nat_lt}
 use Rattle.std.specs.Option.{option_map}
-use Rattle.std.specs.List.{HoldsAt, filter, remove, AllPairs, position_or_len}
+use Rattle.std.specs.List.{HoldsAt, filter, remove, AllPairs}
 use Rattle.std.specs.List.Sorted.{IsPartitionPoint, IsNonDecreasingBy}
 use Rattle.std.specs.Ordering.{nat_cmp, ordering_index}
 use Rattle.std.specs.declared.cmp.Ordering.TheVariants.{Less, Equal, Greater}
-use Rattle.std.proofs.lemmas.Bool.{and_parts, eq-eqb, eqb-true, ne_eqb, cases_lt, lt-ltb, le-ltb}
+use Rattle.std.proofs.lemmas.Bool.{and_parts, eq-eqb, eqb-true, ne_eqb, cases_lt}
 use Rattle.std.proofs.lemmas.Bool.Decides.{nat_tests}
 use Rattle.std.proofs.lemmas.Cmp.{ranked}
 use Rattle.std.proofs.lemmas.List.{length-set, length_push, get_or-map, get_or_default}
 use Rattle.std.proofs.lemmas.List.Elements.{All-push, All-set, All-filter, All-map, All-cons, All-nil, All-weaker}
 use Rattle.std.proofs.lemmas.List.Kept.{AllPairs-filter}
 use Rattle.std.proofs.lemmas.List.Quantifiers.{all_pairs_push, position-Some}
-use Rattle.std.proofs.lemmas.List.Sums.{position_or_len_is, fails_before_first, sum_by-cons}
+use Rattle.std.proofs.lemmas.List.Sums.{sum_by-cons}
 use Rattle.object_table.specs.declared.names.Entry.{Entry}
+use Rattle.object_table.proofs.SearchLemmas.{position_is, position_none, fails_all, find_first, find_none}
 use Rattle.object_table.specs.Names.{is_live_as, object_named, is_held, held_of, changed, entry_name, AreNamed, IsNames, AreHeldBut}
 
 -- a test of what is false and of more fails
@@ -37,44 +38,44 @@ module _ {O : Type 0} where
       ap (λ b. cond b (change e) e ∷ changed name change entries) (ne_eqb e.name name (h zero e (omega arith)))
       ∙ ap (λ l. e ∷ l) (changed-none entries name change (λ k d within. h (suc k) d (omega (arith, within))))
 
-  -- it is the one at the name's place
-  pub changed_at : (entries : List (Entry O)) (place : ℕ) (d : Entry O) (change : Entry O → Entry O) → AreInOrder entries → place < length entries
-      → changed (get_or entries place d).name change entries ≡ set entries place (change (get_or entries place d))
-  changed_at [] place d change h within = absurd (omega (arith, within))
+  -- it is the one at the name's index
+  pub changed_at : (entries : List (Entry O)) (index : ℕ) (d : Entry O) (change : Entry O → Entry O) → AreInOrder entries → index < length entries
+      → changed (get_or entries index d).name change entries ≡ set entries index (change (get_or entries index d))
+  changed_at [] index d change h within = absurd (omega (arith, within))
   changed_at (e ∷ entries) zero d change h within =
       ap (λ b. cond b (change e) e ∷ changed e.name change entries) (eq-eqb e.name e.name refl)
       ∙ ap (λ l. change e ∷ l) (changed-none entries e.name change (λ k c below same. omega (arith, same, h zero (suc k) c (omega arith) (omega (arith, below)))))
-  changed_at (e ∷ entries) (suc place) d change h within =
-      let name = (get_or entries place d).name in
-      ap (λ b. cond b (change e) e ∷ changed name change entries) (ne_eqb e.name name (λ same. omega (arith, same, h zero (suc place) d (omega arith) within)))
-      ∙ ap (λ l. e ∷ l) (changed_at entries place d change (in_order_tail e entries h) (omega (arith, within)))
+  changed_at (e ∷ entries) (suc index) d change h within =
+      let name = (get_or entries index d).name in
+      ap (λ b. cond b (change e) e ∷ changed name change entries) (ne_eqb e.name name (λ same. omega (arith, same, h zero (suc index) d (omega arith) within)))
+      ∙ ap (λ l. e ∷ l) (changed_at entries index d change (in_order_tail e entries h) (omega (arith, within)))
 
-  pub entry_name_is : (entries : List (Entry O)) (place : ℕ) (d : Entry O) → place < length entries → entry_name entries place ≡ (get_or entries place d).name
-  entry_name_is entries place d within = get_or-map (λ (e : Entry O). e.name) entries place d 0 within
+  pub entry_name_is : (entries : List (Entry O)) (index : ℕ) (d : Entry O) → index < length entries → entry_name entries index ≡ (get_or entries index d).name
+  entry_name_is entries index d within = get_or-map (λ (e : Entry O). e.name) entries index d 0 within
 
-  pub changed_there : (entries : List (Entry O)) (place : ℕ) (d o : Entry O) (change : Entry O → Entry O) → AreInOrder entries → place < length entries → o ≡ change (get_or entries place d)
-      → changed (entry_name entries place) change entries ≡ set entries place o
-  changed_there entries place d o change h within is =
-      ap (λ n. changed n change entries) (entry_name_is entries place d within) ∙ changed_at entries place d change h within ∙ ap (set entries place) (sym is)
+  pub changed_there : (entries : List (Entry O)) (index : ℕ) (d o : Entry O) (change : Entry O → Entry O) → AreInOrder entries → index < length entries → o ≡ change (get_or entries index d)
+      → changed (entry_name entries index) change entries ≡ set entries index o
+  changed_there entries index d o change h within is =
+      ap (λ n. changed n change entries) (entry_name_is entries index d within) ∙ changed_at entries index d change h within ∙ ap (set entries index) (sym is)
 
-  -- another entry of the same name in the place of one
-  pub AreNamed-set : (next : ℕ) (entries : List (Entry O)) (place : ℕ) (d o : Entry O) → AreNamed next entries → place < length entries → o.name ≡ (get_or entries place d).name → AreNamed next (set entries place o)
-  AreNamed-set next entries place d o h within same =
+  -- another entry of the same name in the index of one
+  pub AreNamed-set : (next : ℕ) (entries : List (Entry O)) (index : ℕ) (d o : Entry O) → AreNamed next entries → index < length entries → o.name ≡ (get_or entries index d).name → AreNamed next (set entries index o)
+  AreNamed-set next entries index d o h within same =
       record {
         left = h.left;
-        count = omega (arith, h.count, length-set entries place o);
+        count = omega (arith, h.count, length-set entries index o);
         names = λ i j c less below.
-            let k : j < length entries = omega (arith, below, length-set entries place o) in
-            omega (arith, name_kept entries place d o within same i c (omega (arith, less, k)), name_kept entries place d o within same j c k, h.names i j c less k);
-        below = All-set (λ e. e.name < next) entries place o (omega (arith, same, h.below place d within)) h.below;
+            let k : j < length entries = omega (arith, below, length-set entries index o) in
+            omega (arith, name_kept entries index d o within same i c (omega (arith, less, k)), name_kept entries index d o within same j c k, h.names i j c less k);
+        below = All-set (λ e. e.name < next) entries index o (omega (arith, same, h.below index d within)) h.below;
       }
     where
-      name_kept : (entries : List (Entry O)) (place : ℕ) (d o : Entry O) → place < length entries → o.name ≡ (get_or entries place d).name → (k : ℕ) (c : Entry O) → k < length entries → (get_or (set entries place o) k c).name ≡ (get_or entries k c).name
-      name_kept [] place d o within same k c below = absurd (omega (arith, within))
+      name_kept : (entries : List (Entry O)) (index : ℕ) (d o : Entry O) → index < length entries → o.name ≡ (get_or entries index d).name → (k : ℕ) (c : Entry O) → k < length entries → (get_or (set entries index o) k c).name ≡ (get_or entries k c).name
+      name_kept [] index d o within same k c below = absurd (omega (arith, within))
       name_kept (e ∷ entries) zero d o within same zero c below = same
       name_kept (e ∷ entries) zero d o within same (suc k) c below = refl
-      name_kept (e ∷ entries) (suc place) d o within same zero c below = refl
-      name_kept (e ∷ entries) (suc place) d o within same (suc k) c below = name_kept entries place d o (omega (arith, within)) same k c (omega (arith, below))
+      name_kept (e ∷ entries) (suc index) d o within same zero c below = refl
+      name_kept (e ∷ entries) (suc index) d o within same (suc k) c below = name_kept entries index d o (omega (arith, within)) same k c (omega (arith, below))
 
   -- one more entry, under the next name
   pub IsNames-push : (next : ℕ) (entries : List (Entry O)) (o : Entry O) → IsNames next entries → next < 4294967296 → length entries < 1024 → o.name ≡ next → o.live ≡ true → IsNames (next + 1) (entries ++ o ∷ [])
@@ -124,23 +125,23 @@ module _ {O : Type 0} where
   filter-all p (e ∷ entries) h = ap (λ b. cond b (e ∷ filter p entries) (filter p entries)) (h zero e (omega arith)) ∙ ap (λ l. e ∷ l) (filter-all p entries (λ k d within. h (suc k) d (omega (arith, within))))
 
   -- all but one
-  pub filter-but : (p : Entry O → Bool) (entries : List (Entry O)) (place : ℕ) (d : Entry O) → ((k : ℕ) (c : Entry O) → k < length entries → k ≢ place → IsTrue (p (get_or entries k c))) → place < length entries
-      → p (get_or entries place d) ≡ false → filter p entries ≡ remove entries place
-  filter-but p [] place d h within fails = absurd (omega (arith, within))
+  pub filter-but : (p : Entry O → Bool) (entries : List (Entry O)) (index : ℕ) (d : Entry O) → ((k : ℕ) (c : Entry O) → k < length entries → k ≢ index → IsTrue (p (get_or entries k c))) → index < length entries
+      → p (get_or entries index d) ≡ false → filter p entries ≡ remove entries index
+  filter-but p [] index d h within fails = absurd (omega (arith, within))
   filter-but p (e ∷ entries) zero d h within fails =
       ap (λ b. cond b (e ∷ filter p entries) (filter p entries)) fails ∙ filter-all p entries (λ k c below. h (suc k) c (omega (arith, below)) (λ same. omega (arith, same)))
-  filter-but p (e ∷ entries) (suc place) d h within fails =
+  filter-but p (e ∷ entries) (suc index) d h within fails =
       ap (λ b. cond b (e ∷ filter p entries) (filter p entries)) (h zero e (omega arith) (λ same. omega (arith, same)))
-      ∙ ap (λ l. e ∷ l) (filter-but p entries place d (λ k c below apart. h (suc k) c (omega (arith, below)) (λ same. apart (omega (arith, same)))) (omega (arith, within)) fails)
+      ∙ ap (λ l. e ∷ l) (filter-but p entries index d (λ k c below apart. h (suc k) c (omega (arith, below)) (λ same. apart (omega (arith, same)))) (omega (arith, within)) fails)
 
-  pub none_dropped : (entries : List (Entry O)) (place : ℕ) (d : Entry O) → AreHeldBut place entries → IsTrue (is_held (get_or entries place d)) → held_of entries ≡ entries
-  none_dropped entries place d h held = filter-all is_held entries (λ k c within. beside k c within (cases_lt k place) (cases_lt place k))
+  pub none_dropped : (entries : List (Entry O)) (index : ℕ) (d : Entry O) → AreHeldBut index entries → IsTrue (is_held (get_or entries index d)) → held_of entries ≡ entries
+  none_dropped entries index d h held = filter-all is_held entries (λ k c within. beside k c within (cases_lt k index) (cases_lt index k))
     where
-      beside : (k : ℕ) (c : Entry O) → k < length entries → (k < place) ⊎ (place ≤ k) → (place < k) ⊎ (k ≤ place) → IsTrue (is_held (get_or entries k c))
+      beside : (k : ℕ) (c : Entry O) → k < length entries → (k < index) ⊎ (index ≤ k) → (index < k) ⊎ (k ≤ index) → IsTrue (is_held (get_or entries k c))
       beside k c within (inl less) other = h k c within (λ same. omega (arith, less, same))
       beside k c within (inr le) (inl more) = h k c within (λ same. omega (arith, more, same))
       beside k c within (inr le) (inr ge) =
-          let same : place ≡ k = omega (arith, le, ge) in
+          let same : index ≡ k = omega (arith, le, ge) in
           subst (λ (e : Entry O). IsTrue (is_held e)) (ap (λ n. get_or entries n d) same ∙ get_or_default entries k d c within) held
 
   -- ---- names that are found
@@ -150,66 +151,46 @@ module _ {O : Type 0} where
       let names_rise : (get_or entries i d).name ≤ (get_or entries j d).name = grind (arith, h i j d, λ (same : i ≡ j). ap (λ k. (get_or entries k d).name) same) in
       grind (arith, nat_tests)
 
-  -- a test that one entry is the first to pass, and one that none passes
-  position_is : (p : Entry O → Bool) (entries : List (Entry O)) (place : ℕ) (d : Entry O) → place < length entries → p (get_or entries place d) ≡ true → ((k : ℕ) → k < place → p (get_or entries k d) ≡ false) → position p entries ≡ Some place
-  position_is p entries place d within passes before =
-      ap (λ n. cond (nat_lt n (length entries)) (Some n) None) (position_or_len_is p entries place d (omega (arith, within)) before (λ below. passes))
-      ∙ ap (λ b. cond b (Some place) None) (lt-ltb place (length entries) within)
-
-  position_none : (p : Entry O → Bool) (entries : List (Entry O)) → ((k : ℕ) (d : Entry O) → k < length entries → p (get_or entries k d) ≡ false) → position p entries ≡ None
-  position_none p [] fails = refl
-  position_none p (e ∷ entries) fails =
-      let all : List (Entry O) = e ∷ entries in
-      ap (λ n. cond (nat_lt n (length all)) (Some n) None) (position_or_len_is p all (length all) e (omega arith) (λ k less. fails k e less) (λ below. absurd (omega (arith, below))))
-      ∙ ap (λ b. cond b (Some (length all)) None) (le-ltb (length all) (length all) (omega arith))
-
-  fails_all : (p : Entry O → Bool) (entries : List (Entry O)) → position p entries ≡ None → (k : ℕ) (d : Entry O) → k < length entries → p (get_or entries k d) ≡ false
-  fails_all p entries none k d within = fails_before_first p entries k d (omega (arith, within, past (cases_lt (position_or_len p entries) (length entries))))
-    where
-      past : (position_or_len p entries < length entries) ⊎ (length entries ≤ position_or_len p entries) → length entries ≤ position_or_len p entries
-      past (inl less) = let some : Some (position_or_len p entries) ≡ None = sym (ap (λ b. cond b (Some (position_or_len p entries)) None) (lt-ltb (position_or_len p entries) (length entries) less)) ∙ none in cc
-      past (inr more) = more
-
-  pub found_at : (entries : List (Entry O)) (name place : ℕ) (d : Entry O) → AreInOrder entries → place < length entries → (get_or entries place d).name ≡ name → position (λ e. e.name == name) entries ≡ Some place
-  found_at entries name place d h within same =
-      position_is (λ e. e.name == name) entries place d within (eq-eqb (get_or entries place d).name name same)
-      (λ k less. ne_eqb (get_or entries k d).name name (λ e. omega (arith, e, same, h k place d less within)))
+  pub found_at : (entries : List (Entry O)) (name index : ℕ) (d : Entry O) → AreInOrder entries → index < length entries → (get_or entries index d).name ≡ name → position (λ e. e.name == name) entries ≡ Some index
+  found_at entries name index d h within same =
+      position_is (λ e. e.name == name) entries index d within (eq-eqb (get_or entries index d).name name same)
+      (λ k less. ne_eqb (get_or entries k d).name name (λ e. omega (arith, e, same, h k index d less within)))
 
   not_found : (entries : List (Entry O)) (name : ℕ) → ((k : ℕ) (d : Entry O) → k < length entries → (get_or entries k d).name ≢ name) → position (λ e. e.name == name) entries ≡ None
   not_found entries name h = position_none (λ e. e.name == name) entries (λ k d within. ne_eqb (get_or entries k d).name name (h k d within))
 
   -- ---- names that are live
 
-  pub live_there : (entries : List (Entry O)) (name place : ℕ) (d : Entry O) → Some place ≡ position (λ e. e.name == name) entries → (get_or entries place d).live ≡ true → Some place ≡ position (is_live_as name) entries
-  live_there entries name place d found live =
-      let there = position-Some (λ (e : Entry O). e.name == name) entries place d (sym found) in
-      sym (position_is (is_live_as name) entries place d there.0 (ap (λ b. b && (get_or entries place d).name == name) live ∙ there.1)
+  pub live_there : (entries : List (Entry O)) (name index : ℕ) (d : Entry O) → Some index ≡ position (λ e. e.name == name) entries → (get_or entries index d).live ≡ true → Some index ≡ position (is_live_as name) entries
+  live_there entries name index d found live =
+      let there = position-Some (λ (e : Entry O). e.name == name) entries index d (sym found) in
+      sym (position_is (is_live_as name) entries index d there.0 (ap (λ b. b && (get_or entries index d).name == name) live ∙ there.1)
       (λ k less. both_fail (get_or entries k d).live ((get_or entries k d).name == name) (there.2 k less)))
 
-  pub dead_there : (entries : List (Entry O)) (name place : ℕ) (d : Entry O) → AreInOrder entries → Some place ≡ position (λ e. e.name == name) entries → (get_or entries place d).live ≡ false → None ≡ position (is_live_as name) entries
-  dead_there entries name place d h found dead =
-      let there = position-Some (λ (e : Entry O). e.name == name) entries place d (sym found) in
-      let named : (get_or entries place d).name ≡ name = eqb-true (get_or entries place d).name name there.1 in
-      sym (position_none (is_live_as name) entries (λ k c within. beside k c there.0 named within (cases_lt k place) (cases_lt place k)))
+  pub dead_there : (entries : List (Entry O)) (name index : ℕ) (d : Entry O) → AreInOrder entries → Some index ≡ position (λ e. e.name == name) entries → (get_or entries index d).live ≡ false → None ≡ position (is_live_as name) entries
+  dead_there entries name index d h found dead =
+      let there = position-Some (λ (e : Entry O). e.name == name) entries index d (sym found) in
+      let named : (get_or entries index d).name ≡ name = eqb-true (get_or entries index d).name name there.1 in
+      sym (position_none (is_live_as name) entries (λ k c within. beside k c there.0 named within (cases_lt k index) (cases_lt index k)))
     where
-      beside : (k : ℕ) (c : Entry O) → place < length entries → (get_or entries place d).name ≡ name → k < length entries → (k < place) ⊎ (place ≤ k) → (place < k) ⊎ (k ≤ place) → is_live_as name (get_or entries k c) ≡ false
+      beside : (k : ℕ) (c : Entry O) → index < length entries → (get_or entries index d).name ≡ name → k < length entries → (k < index) ⊎ (index ≤ k) → (index < k) ⊎ (k ≤ index) → is_live_as name (get_or entries k c) ≡ false
       beside k c there named within (inl less) other =
-          both_fail (get_or entries k c).live ((get_or entries k c).name == name) (ne_eqb (get_or entries k c).name name (λ e. omega (arith, e, named, ap (λ (o : Entry O). o.name) (get_or_default entries place d c there), h k place c less there)))
+          both_fail (get_or entries k c).live ((get_or entries k c).name == name) (ne_eqb (get_or entries k c).name name (λ e. omega (arith, e, named, ap (λ (o : Entry O). o.name) (get_or_default entries index d c there), h k index c less there)))
       beside k c there named within (inr le) (inl more) =
-          both_fail (get_or entries k c).live ((get_or entries k c).name == name) (ne_eqb (get_or entries k c).name name (λ e. omega (arith, e, named, ap (λ (o : Entry O). o.name) (get_or_default entries place d c there), h place k c more within)))
+          both_fail (get_or entries k c).live ((get_or entries k c).name == name) (ne_eqb (get_or entries k c).name name (λ e. omega (arith, e, named, ap (λ (o : Entry O). o.name) (get_or_default entries index d c there), h index k c more within)))
       beside k c there named within (inr le) (inr ge) =
-          let same : place ≡ k = omega (arith, le, ge) in
+          let same : index ≡ k = omega (arith, le, ge) in
           ap (λ (o : Entry O). o.live && o.name == name) (sym (ap (λ n. get_or entries n d) same ∙ get_or_default entries k d c within))
-          ∙ ap (λ b. b && (get_or entries place d).name == name) dead
+          ∙ ap (λ b. b && (get_or entries index d).name == name) dead
 
   pub none_there : (entries : List (Entry O)) (name : ℕ) → None ≡ position (λ e. e.name == name) entries → None ≡ position (is_live_as name) entries
   none_there entries name none =
       sym (position_none (is_live_as name) entries (λ k d within. both_fail (get_or entries k d).live ((get_or entries k d).name == name) (fails_all (λ e. e.name == name) entries (sym none) k d within)))
 
-  -- what a binary search by name ends at is the name's place, if it has one
-  pub searched_there : (entries : List (Entry O)) (name place : ℕ) → AreInOrder entries → place < length entries → HoldsAt (λ e. nat_cmp e.name name ≡ Equal) entries place → Some place ≡ position (λ e. e.name == name) entries
-  searched_there [] name place h within equal = absurd (omega (arith, within))
-  searched_there (e ∷ entries) name place h within equal = sym (found_at (e ∷ entries) name place e h within (ranked _ name _ (sym (equal e))))
+  -- what a binary search by name ends at is the name's index, if it has one
+  pub searched_there : (entries : List (Entry O)) (name index : ℕ) → AreInOrder entries → index < length entries → HoldsAt (λ e. nat_cmp e.name name ≡ Equal) entries index → Some index ≡ position (λ e. e.name == name) entries
+  searched_there [] name index h within equal = absurd (omega (arith, within))
+  searched_there (e ∷ entries) name index h within equal = sym (found_at (e ∷ entries) name index e h within (ranked _ name _ (sym (equal e))))
 
   pub searched_past : (entries : List (Entry O)) (name gap : ℕ) → AreInOrder entries
       → (IsNonDecreasingBy (λ e. ordering_index (nat_cmp e.name name)) entries → IsPartitionPoint (λ e. nat_cmp e.name name ≡ Less) (λ e. nat_cmp e.name name ≡ Greater) entries gap)
@@ -225,33 +206,23 @@ module _ {O : Type 0} where
 
   -- ---- what stands where a name was found
 
-  pub named_there : (entries : List (Entry O)) (name place : ℕ) → Some place ≡ position (λ e. e.name == name) entries → (place < length entries) × (entry_name entries place ≡ name)
-  named_there [] name place found = cc
-  named_there (e ∷ entries) name place found =
-      let there = position-Some (λ (o : Entry O). o.name == name) (e ∷ entries) place e (sym found) in
-      (there.0, entry_name_is (e ∷ entries) place e there.0 ∙ eqb-true (get_or (e ∷ entries) place e).name name there.1)
+  pub named_there : (entries : List (Entry O)) (name index : ℕ) → Some index ≡ position (λ e. e.name == name) entries → (index < length entries) × (entry_name entries index ≡ name)
+  named_there [] name index found = cc
+  named_there (e ∷ entries) name index found =
+      let there = position-Some (λ (o : Entry O). o.name == name) (e ∷ entries) index e (sym found) in
+      (there.0, entry_name_is (e ∷ entries) index e there.0 ∙ eqb-true (get_or (e ∷ entries) index e).name name there.1)
 
-  pub live_named : (entries : List (Entry O)) (name place : ℕ) → Some place ≡ position (is_live_as name) entries → (place < length entries) × (entry_name entries place ≡ name)
-  live_named [] name place found = cc
-  live_named (e ∷ entries) name place found =
-      let there = position-Some (is_live_as name) (e ∷ entries) place e (sym found) in
-      let o = get_or (e ∷ entries) place e in
-      (there.0, entry_name_is (e ∷ entries) place e there.0 ∙ eqb-true o.name name (and_parts o.live (o.name == name) there.1).1)
+  pub live_named : (entries : List (Entry O)) (name index : ℕ) → Some index ≡ position (is_live_as name) entries → (index < length entries) × (entry_name entries index ≡ name)
+  live_named [] name index found = cc
+  live_named (e ∷ entries) name index found =
+      let there = position-Some (is_live_as name) (e ∷ entries) index e (sym found) in
+      let o = get_or (e ∷ entries) index e in
+      (there.0, entry_name_is (e ∷ entries) index e there.0 ∙ eqb-true o.name name (and_parts o.live (o.name == name) there.1).1)
 
-  find_first : (p : Entry O → Bool) (entries : List (Entry O)) (place : ℕ) (d : Entry O) → place < length entries → p (get_or entries place d) ≡ true → ((k : ℕ) → k < place → p (get_or entries k d) ≡ false) → find p entries ≡ Some (get_or entries place d)
-  find_first p [] place d within passes before = absurd (omega (arith, within))
-  find_first p (e ∷ entries) zero d within passes before = ap (λ b. cond b (Some e) (find p entries)) passes
-  find_first p (e ∷ entries) (suc place) d within passes before =
-      ap (λ b. cond b (Some e) (find p entries)) (before 0 (omega arith)) ∙ find_first p entries place d (omega (arith, within)) passes (λ k less. before (suc k) (omega (arith, less)))
-
-  find_none : (p : Entry O → Bool) (entries : List (Entry O)) → ((k : ℕ) (d : Entry O) → k < length entries → p (get_or entries k d) ≡ false) → find p entries ≡ None
-  find_none p [] fails = refl
-  find_none p (e ∷ entries) fails = ap (λ b. cond b (Some e) (find p entries)) (fails 0 e (omega arith)) ∙ find_none p entries (λ k d within. fails (suc k) d (omega (arith, within)))
-
-  pub object_named_at : (entries : List (Entry O)) (name place : ℕ) (d : Entry O) → Some place ≡ position (is_live_as name) entries → object_named entries name ≡ Some (get_or entries place d).object
-  object_named_at entries name place d found =
-      let there = position-Some (is_live_as name) entries place d (sym found) in
-      ap (option_map (λ (e : Entry O). e.object)) (find_first (is_live_as name) entries place d there.0 there.1 there.2)
+  pub object_named_at : (entries : List (Entry O)) (name index : ℕ) (d : Entry O) → Some index ≡ position (is_live_as name) entries → object_named entries name ≡ Some (get_or entries index d).object
+  object_named_at entries name index d found =
+      let there = position-Some (is_live_as name) entries index d (sym found) in
+      ap (option_map (λ (e : Entry O). e.object)) (find_first (is_live_as name) entries index d there.0 there.1 there.2)
 
   pub object_named_none : (entries : List (Entry O)) (name : ℕ) → None ≡ position (is_live_as name) entries → object_named entries name ≡ None
   object_named_none entries name none = ap (option_map (λ (e : Entry O). e.object)) (find_none (is_live_as name) entries (fails_all (is_live_as name) entries (sym none)))
@@ -263,17 +234,17 @@ module _ {O : Type 0} where
       let passes : (e.name == name) ≡ true = eq-eqb e.name name (named e is) in
       cc
 
-  pub found_is_any : (entries : List (Entry O)) (name place : ℕ) (P : Entry O → Type 0) → ((e : Entry O) → P e → e.name ≡ name) → AreInOrder entries → Any P entries → Some place ≡ position (λ e. e.name == name) entries → (d : Entry O) → P (get_or entries place d)
-  found_is_any entries name place P named h (k, e, within, read, is) found d =
-      let there = position-Some (λ (o : Entry O). o.name == name) entries place e (sym found) in
-      let named_here : (get_or entries place e).name ≡ name = eqb-true (get_or entries place e).name name there.1 in
+  pub found_is_any : (entries : List (Entry O)) (name index : ℕ) (P : Entry O → Type 0) → ((e : Entry O) → P e → e.name ≡ name) → AreInOrder entries → Any P entries → Some index ≡ position (λ e. e.name == name) entries → (d : Entry O) → P (get_or entries index d)
+  found_is_any entries name index P named h (k, e, within, read, is) found d =
+      let there = position-Some (λ (o : Entry O). o.name == name) entries index e (sym found) in
+      let named_here : (get_or entries index e).name ≡ name = eqb-true (get_or entries index e).name name there.1 in
       let named_k : (get_or entries k e).name ≡ name = ap (λ (o : Entry O). o.name) read ∙ named e is in
-      subst P (sym read ∙ one k there.0 within named_here named_k (cases_lt k place) (cases_lt place k)) is
+      subst P (sym read ∙ one k there.0 within named_here named_k (cases_lt k index) (cases_lt index k)) is
     where
-      one : (k : ℕ) → place < length entries → k < length entries → (get_or entries place e).name ≡ name → (get_or entries k e).name ≡ name → (k < place) ⊎ (place ≤ k) → (place < k) ⊎ (k ≤ place) → get_or entries k e ≡ get_or entries place d
-      one k there within here other (inl less) right = absurd (omega (arith, here, other, h k place e less there))
-      one k there within here other (inr le) (inl more) = absurd (omega (arith, here, other, h place k e more within))
-      one k there within here other (inr le) (inr ge) = let same : k ≡ place = omega (arith, le, ge) in get_or_default entries k e d within ∙ ap (λ n. get_or entries n d) same
+      one : (k : ℕ) → index < length entries → k < length entries → (get_or entries index e).name ≡ name → (get_or entries k e).name ≡ name → (k < index) ⊎ (index ≤ k) → (index < k) ⊎ (k ≤ index) → get_or entries k e ≡ get_or entries index d
+      one k there within here other (inl less) right = absurd (omega (arith, here, other, h k index e less there))
+      one k there within here other (inr le) (inl more) = absurd (omega (arith, here, other, h index k e more within))
+      one k there within here other (inr le) (inr ge) = let same : k ≡ index = omega (arith, le, ge) in get_or_default entries k e d within ∙ ap (λ n. get_or entries n d) same
 
   -- ---- what a change keeps
 

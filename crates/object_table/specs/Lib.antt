@@ -1,3 +1,4 @@
+pub mod Delay
 pub mod Object
 pub mod Names
 pub mod Table

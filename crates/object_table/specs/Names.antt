@@ -41,8 +41,8 @@ abbrev pub unused : {O : Type 0} → ℕ → List (Entry O) → List (Entry O)
 unused name entries = held_of (changed name (λ e. record e { uses = e.uses - 1 }) entries)
 
 -- whether one more object can be held: a name is left, and fewer than 1,024 are held
-abbrev pub has_place : {O : Type 0} → ℕ → List (Entry O) → Bool
-has_place next entries = nat_lt next 4294967296 && nat_lt (length entries) 1024
+abbrev pub can_insert : {O : Type 0} → ℕ → List (Entry O) → Bool
+can_insert next entries = nat_lt next 4294967296 && nat_lt (length entries) 1024
 
 -- names in their order, below the next; at most 1,024 are held
 pub record AreNamed {O : Type 0} (next : ℕ) (entries : List (Entry O)) : Type 0 where
@@ -56,13 +56,13 @@ pub record IsNames {O : Type 0} (next : ℕ) (entries : List (Entry O)) : Type 0
   pub named : AreNamed next entries
   pub held : All (λ e. IsTrue (is_held e)) entries
 
--- the name at a place
+-- the name at an index
 abbrev pub entry_name : {O : Type 0} → List (Entry O) → ℕ → ℕ
-entry_name entries place = slice_index_or (map (λ e. e.name) entries) place 0
+entry_name entries index = slice_index_or (map (λ e. e.name) entries) index 0
 
--- each entry is held, except perhaps the one at a place
+-- each entry is held, except perhaps the one at an index
 abbrev pub AreHeldBut : {O : Type 0} → ℕ → List (Entry O) → Type 0
-AreHeldBut {O} place entries = (k : ℕ) (d : Entry O) → k < length entries → k ≢ place → IsTrue (is_held (slice_index_or entries k d))
+AreHeldBut {O} index entries = (k : ℕ) (d : Entry O) → k < length entries → k ≢ index → IsTrue (is_held (slice_index_or entries k d))
 
 -- what is handed back stood in these entries and doesn't stand in those: whatever an object weighs, no weight is lost
 abbrev pub HandsBack : {O : Type 0} → Option O → List (Entry O) → List (Entry O) → Type 0

@@ -2,21 +2,28 @@
 use Rattle.std.specs.Prelude.{ℤ, List}
 use Rattle.vx_base.specs.declared.format.Format.TheVariants.{U8}
 use Rattle.vx_base.specs.Image.{ImageValue, new_image, image_over, description_of}
-use Rattle.vx_base.specs.Object.{ObjectValue, ImageObject, LutObject, ThresholdObject}
+use Rattle.vx_base.specs.Object.{ObjectValue, ImageObject, LutObject, ThresholdObject, DelayObject}
 use Rattle.vx_base.specs.Rectangle.{Rectangle}
 use Rattle.object_table.specs.declared.object.Content.{Content}
-use Rattle.object_table.specs.declared.object.Content.TheVariants.{Image, Lut, Threshold}
+use Rattle.object_table.specs.Delay.{aged}
+use Rattle.object_table.specs.declared.object.Content.TheVariants.{Image, Lut, Threshold, Delay}
 
 -- the object as a value
 abbrev pub value_of : Content → ObjectValue
 value_of (Image image) = ImageObject image
 value_of (Lut lut) = LutObject lut
 value_of (Threshold threshold) = ThresholdObject threshold
+value_of (Delay images) = DelayObject images
 
 -- an object that is an image, as one
 abbrev pub image_value : ObjectValue → ImageValue
 image_value (ImageObject image) = image
 image_value other = new_image 0 0 U8
+
+-- a delay whose images are one step later; other objects have no age
+abbrev pub aged_object : ObjectValue → ObjectValue
+aged_object (DelayObject images) = DelayObject (aged images)
+aged_object other = other
 
 -- an image of the same description, with these samples
 abbrev pub with_samples : ObjectValue → Rectangle → List ℤ → ObjectValue

@@ -1,10 +1,12 @@
 -- The objects of a client.
-use Rattle.std.specs.Prelude.{ℕ, ◌≡◌, ◌≤◌, ◌+◌, List, [], sum_by, slice_index_or, slice_set, All, true}
+use Rattle.std.specs.Prelude.{ℕ, ◌≡◌, ◌<◌, ◌≤◌, ◌+◌, ◌*◌, IsTrue, is_some, List, [], length, sum_by, slice_index_or, slice_set, All, true}
 use Rattle.vx_base.specs.declared.format.Format.TheVariants.{U8}
 use Rattle.vx_base.specs.Image.{ImageValue, new_image}
 use Rattle.vx_base.specs.Object.{ObjectValue, ImageObject, object_bytes}
 use Rattle.object_table.specs.declared.names.Entry.{Entry}
 use Rattle.object_table.specs.Names.{IsNames, with_entry}
+use Rattle.object_table.specs.declared.place.Place.{Place}
+use Rattle.object_table.specs.Delay.{in_slot, object_in, with_slot, HasImage}
 use Rattle.object_table.specs.Object.{image_value}
 
 -- the name that comes next, and what is held, in the order of the names
@@ -34,24 +36,37 @@ with_objects t objects = record { next = t.next; objects = objects }
 abbrev pub no_object : Entry ObjectValue
 no_object = record { name = 0; live = true; uses = 0; object = ImageObject (new_image 0 0 U8) }
 
--- what stands at a place
+-- what is held at an index
 abbrev pub entry_at : List (Entry ObjectValue) → ℕ → Entry ObjectValue
-entry_at objects place = slice_index_or objects place no_object
+entry_at objects index = slice_index_or objects index no_object
 
-abbrev pub object_at : List (Entry ObjectValue) → ℕ → ObjectValue
-object_at objects place = (entry_at objects place).object
+-- what stands at a place
+abbrev pub object_at : List (Entry ObjectValue) → Place → ObjectValue
+object_at objects place = object_in place.slot (entry_at objects place.index).object
 
-abbrev pub image_at : List (Entry ObjectValue) → ℕ → ImageValue
+abbrev pub image_at : List (Entry ObjectValue) → Place → ImageValue
 image_at objects place = image_value (object_at objects place)
 
--- the objects, with another at a place under the name that stands there
-abbrev pub replaced : List (Entry ObjectValue) → ℕ → ObjectValue → List (Entry ObjectValue)
-replaced objects place object = slice_set objects place (record (entry_at objects place) { object = object })
+-- a place at which an object stands
+pub record IsPlace (objects : List (Entry ObjectValue)) (place : Place) : Type 0 where
+  pub within : place.index < length objects
+  pub there : IsTrue (is_some (in_slot place.slot (entry_at objects place.index).object))
+
+-- a place at which an image stands
+pub record HasImageAt (objects : List (Entry ObjectValue)) (place : Place) : Type 0 where
+  pub within : place.index < length objects
+  pub image : HasImage place.slot (entry_at objects place.index).object
+
+-- the objects, with another at a place
+abbrev pub replaced : List (Entry ObjectValue) → Place → ObjectValue → List (Entry ObjectValue)
+replaced objects place object =
+    let e = entry_at objects place.index in
+    slice_set objects place.index (record e { object = with_slot place.slot object e.object })
 
 -- ---- what a table keeps
 
--- names that are in order and held, and the sum of what the objects are charged, none more than the largest image
+-- names that are in order and held, and the sum of what the objects are charged, none more than 16 of the largest images
 pub record IsTable (next charge : ℕ) (objects : List (Entry ObjectValue)) : Type 0 where
   pub names : IsNames next objects
   pub charged : charge ≡ charge_of objects
-  pub each : All (λ e. object_bytes e.object ≤ 67108864) objects
+  pub each : All (λ e. object_bytes e.object ≤ 16 * 67108864) objects

@@ -5,19 +5,25 @@
 //! uses it; at most 1,024 are held at a time, and a table knows what they are charged. Only `insert`
 //! takes memory.
 //!
-//! - `stored`, `object`: an image with samples of its own; an image, a lookup table or a threshold
+//! - `stored`, `delay`: an image with samples of its own, and such images in slots
+//! - `object`: an image, a lookup table, a threshold or a delay
 //! - `names`: what is held under names, of whatever type: names and uses
-//! - `table`: objects under their names, with their charge, and images that are written
+//! - `table`, `place`: objects under their names, with their charge; where an object stands, and
+//!   images that are written there
 //! - `fault`: why a call isn't done
 #![tactic(auto)]
 
+mod delay;
 mod fault;
 mod names;
 mod object;
+mod place;
 mod stored;
 mod table;
 
+pub use delay::Delay;
 pub use fault::{InsertFault, TableFault};
 pub use object::{Content, Object};
+pub use place::Place;
 pub use stored::Stored;
 pub use table::Table;

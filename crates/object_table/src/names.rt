@@ -1,7 +1,7 @@
 //! What is held under names, of whatever type it is.
 ghost use Rattle.std.specs.Prelude.{◌≡◌, ◌+◌, ◌<◌, ◌==◌, IsTrue, [], length, position, sum_by, unwrap_or, IfOk, IfErr, OnErr, IfSome};
 ghost use Rattle.std.specs.List.{HoldsAt};
-ghost use Rattle.object_table.specs.Names.{is_live_as, changed, with_entry, released, used, unused, held_of, has_place, entry_name, IsNames, AreHeldBut, HandsBack};
+ghost use Rattle.object_table.specs.Names.{is_live_as, changed, with_entry, released, used, unused, held_of, can_insert, entry_name, IsNames, AreHeldBut, HandsBack};
 
 use std::alloc::Global;
 
@@ -40,8 +40,8 @@ impl<T> Names<T> {
     }
 
     /// Whether one more object can be held.
-    pub fn has_place(&self) -> bool
-        ensures { result ≡ has_place self.now.next self.now.entries.items }
+    pub fn can_insert(&self) -> bool
+        ensures { result ≡ can_insert self.now.next self.now.entries.items }
     {
         self.next < END_OF_NAMES && self.entries.len() < GREATEST_COUNT
     }
@@ -49,7 +49,7 @@ impl<T> Names<T> {
     /// Holds an object under the next name. `Err` hands it back: no memory was found.
     pub fn insert(&mut self, object: T) -> Result<u32, T>
         requires names { IsNames self.old.next self.old.entries.items }
-        requires place { IsTrue (has_place self.old.next self.old.entries.items) }
+        requires room { IsTrue (can_insert self.old.next self.old.entries.items) }
         ensures names { IsNames self.new.next self.new.entries.items }
         ensures name { IfOk result (λ name. name ≡ self.old.next) }
         ensures next { IfOk result (λ name. self.new.next ≡ self.old.next + 1) }
@@ -82,77 +82,77 @@ impl<T> Names<T> {
         }
     }
 
-    /// The place of this name, whether it is live or not.
+    /// The index of this name, whether it is live or not.
     pub fn search(&self, name: u32) -> Option<usize>
         requires { IsNames self.now.next self.now.entries.items }
         ensures { result ≡ position (λ e. e.name == name) self.now.entries.items }
     {
         match self.entries.binary_search_by_key(&name, |entry| entry.name) {
-            Ok(place) => Some(place),
+            Ok(index) => Some(index),
             Err(_) => None,
         }
     }
 
-    /// The place of this name, if it is live.
-    pub fn place_of(&self, name: u32) -> Option<usize>
+    /// The index of this name, if it is live.
+    pub fn index_of(&self, name: u32) -> Option<usize>
         requires { IsNames self.now.next self.now.entries.items }
         ensures { result ≡ position (is_live_as name) self.now.entries.items }
     {
         match self.search(name) {
-            Some(place) if self.entries[place].live => Some(place),
+            Some(index) if self.entries[index].live => Some(index),
             _ => None,
         }
     }
 
-    /// Ends the name at a place, and hands back what is then no longer held.
-    pub fn release_at(&mut self, place: usize) -> Option<T>
+    /// Ends the name at an index, and hands back what is then no longer held.
+    pub fn release_at(&mut self, index: usize) -> Option<T>
         requires names { IsNames self.old.next self.old.entries.items }
-        requires within { place < length self.old.entries.items }
+        requires within { index < length self.old.entries.items }
         ensures names { IsNames self.new.next self.new.entries.items }
         ensures next { self.new.next ≡ self.old.next }
-        ensures entries { self.new.entries.items ≡ released (entry_name self.old.entries.items place) self.old.entries.items }
+        ensures entries { self.new.entries.items ≡ released (entry_name self.old.entries.items index) self.old.entries.items }
         ensures handed_back { HandsBack result self.old.entries.items self.new.entries.items }
     {
-        self.entries[place].live = false;
-        self.hand_back(place)
+        self.entries[index].live = false;
+        self.hand_back(index)
     }
 
-    /// One more node uses what is held at a place.
-    pub fn use_at(&mut self, place: usize)
+    /// One more node uses what is held at an index.
+    pub fn use_at(&mut self, index: usize)
         requires names { IsNames self.old.next self.old.entries.items }
-        requires within { place < length self.old.entries.items }
-        requires room { HoldsAt (λ e. e.uses < 4294967295) self.old.entries.items place }
+        requires within { index < length self.old.entries.items }
+        requires room { HoldsAt (λ e. e.uses < 4294967295) self.old.entries.items index }
         ensures names { IsNames self.new.next self.new.entries.items }
         ensures next { self.new.next ≡ self.old.next }
-        ensures entries { self.new.entries.items ≡ used (entry_name self.old.entries.items place) self.old.entries.items }
+        ensures entries { self.new.entries.items ≡ used (entry_name self.old.entries.items index) self.old.entries.items }
     {
-        self.entries[place].uses += 1;
+        self.entries[index].uses += 1;
     }
 
-    /// A node ends its use of what is held at a place, which is handed back if it is then no longer
+    /// A node ends its use of what is held at an index, which is handed back if it is then no longer
     /// held.
-    pub fn unuse_at(&mut self, place: usize) -> Option<T>
+    pub fn unuse_at(&mut self, index: usize) -> Option<T>
         requires names { IsNames self.old.next self.old.entries.items }
-        requires within { place < length self.old.entries.items }
-        requires used { HoldsAt (λ e. 0 < e.uses) self.old.entries.items place }
+        requires within { index < length self.old.entries.items }
+        requires used { HoldsAt (λ e. 0 < e.uses) self.old.entries.items index }
         ensures names { IsNames self.new.next self.new.entries.items }
         ensures next { self.new.next ≡ self.old.next }
-        ensures entries { self.new.entries.items ≡ unused (entry_name self.old.entries.items place) self.old.entries.items }
+        ensures entries { self.new.entries.items ≡ unused (entry_name self.old.entries.items index) self.old.entries.items }
         ensures handed_back { HandsBack result self.old.entries.items self.new.entries.items }
     {
-        self.entries[place].uses -= 1;
-        self.hand_back(place)
+        self.entries[index].uses -= 1;
+        self.hand_back(index)
     }
 
-    /// Hands back what stands at a place, unless it is held.
-    fn hand_back(&mut self, place: usize) -> Option<T>
-        requires within { place < length self.old.entries.items }
-        requires others { AreHeldBut place self.old.entries.items }
+    /// Hands back what stands at an index, unless it is held.
+    fn hand_back(&mut self, index: usize) -> Option<T>
+        requires within { index < length self.old.entries.items }
+        requires others { AreHeldBut index self.old.entries.items }
         ensures next { self.new.next ≡ self.old.next }
         ensures entries { self.new.entries.items ≡ held_of self.old.entries.items }
         ensures handed_back { HandsBack result self.old.entries.items self.new.entries.items }
     {
-        let entry = &self.entries[place];
+        let entry = &self.entries[index];
         if entry.live || entry.uses > 0 {
             return None;
         }
@@ -161,7 +161,7 @@ impl<T> Names<T> {
             live: _,
             uses: _,
             object,
-        } = self.entries.remove(place);
+        } = self.entries.remove(index);
         Some(object)
     }
 }

@@ -1,11 +1,13 @@
 //! Objects that a client holds.
-ghost use Rattle.std.specs.Prelude.{◌≡◌, ◌≤◌, []};
+ghost use Rattle.std.specs.Prelude.{◌≡◌, ◌≤◌, ◌*◌, [], is_some};
 ghost use Rattle.vx_base.specs.declared.kind.Kind.TheVariants as kind;
-ghost use Rattle.vx_base.specs.Image.{image_over, description_of};
-ghost use Rattle.vx_base.specs.Object.{ImageObject, IsObject, object_bytes, object_kind};
+ghost use Rattle.vx_base.specs.Image.{IsImage, description_of};
+ghost use Rattle.vx_base.specs.Object.{ImageObject, DelayObject, IsObject, object_bytes, object_kind};
 ghost use Rattle.vx_base.specs.Picture.{values, samples_format, pictured};
-ghost use Rattle.object_table.specs.Object.{value_of, image_value, with_samples};
+ghost use Rattle.object_table.specs.Delay.{in_slot, object_in, slot_kind, with_slot, HasImage};
+ghost use Rattle.object_table.specs.Object.{value_of, image_value, aged_object, with_samples};
 
+use crate::delay::Delay;
 use crate::stored::Stored;
 use std::marker::Model;
 use vx_base::{Kind, Lut, Picture, Rect, Samples, ThresholdRule};
@@ -22,6 +24,7 @@ pub enum Content {
     Image(Stored),
     Lut(Lut),
     Threshold(ThresholdRule),
+    Delay(Delay),
 }
 
 impl Model for Object {
@@ -53,66 +56,110 @@ impl Object {
             Content::Image(_) => Kind::Image,
             Content::Lut(_) => Kind::Lut,
             Content::Threshold(_) => Kind::Threshold,
+            Content::Delay(_) => Kind::Delay,
         }
     }
 
-    /// What the object is charged, in bytes: an image its samples', others nothing.
+    /// The kind of what a slot is for, or without a slot that of the object itself. `None`: only a
+    /// delay has slots.
+    pub fn slot_kind(&self, slot: Option<u8>) -> Option<Kind>
+        ensures { result ≡ slot_kind slot self.now }
+    {
+        match (slot, &self.content) {
+            (None, _) => Some(self.kind()),
+            (Some(_), Content::Delay(_)) => Some(Kind::Image),
+            (Some(_), _) => None,
+        }
+    }
+
+    /// Whether the slot is there; without a slot, the object itself is.
+    pub fn has_slot(&self, slot: Option<u8>) -> bool
+        ensures { result ≡ is_some (in_slot slot self.now) }
+    {
+        match (slot, &self.content) {
+            (None, _) => true,
+            (Some(k), Content::Delay(delay)) => delay.slot(k).is_ok(),
+            (Some(_), _) => false,
+        }
+    }
+
+    /// What the object is charged, in bytes: its images' samples.
     pub fn bytes(&self) -> usize
         ensures value { result ≡ object_bytes self.now }
-        ensures limit { result ≤ 67108864 }
+        ensures limit { result ≤ 16 * 67108864 }
     {
         match &self.content {
             Content::Image(image) => image.desc().byte_count(),
+            Content::Delay(delay) => delay.bytes(),
             _ => 0,
         }
     }
 
-    /// The image that the object is.
-    pub fn image(&self) -> &Stored
-        requires { object_kind self.now ≡ kind.Image }
-        ensures { result.now ≡ image_value self.now }
+    /// The image that stands in a slot, or without a slot that the object is.
+    pub fn image(&self, slot: Option<u8>) -> &Stored
+        requires { HasImage slot self.now }
+        ensures { result.now ≡ image_value (object_in slot self.now) }
     {
-        match &self.content {
-            Content::Image(image) => image,
+        match (slot, &self.content) {
+            (None, Content::Image(image)) => image,
+            (Some(k), Content::Delay(delay)) => delay.slot(k).unwrap(),
             _ => unreachable!(),
         }
     }
 
-    /// Takes the samples of a picture of the description that the image has.
-    pub fn write(&mut self, picture: &Picture)
-        requires kind { object_kind self.old ≡ kind.Image }
-        requires image { IsObject self.old }
-        requires same { description_of (image_value self.old) ≡ picture.now.description }
-        ensures value { self.new ≡ ImageObject (pictured picture.now) }
-        ensures image { IsObject self.new }
+    /// Takes the samples of a picture of the description that the image there has.
+    pub fn write(&mut self, slot: Option<u8>, picture: &Picture)
+        requires there { HasImage slot self.old }
+        requires object { IsObject self.old }
+        requires same { description_of (image_value (object_in slot self.old)) ≡ picture.now.description }
+        ensures value { self.new ≡ with_slot slot (ImageObject (pictured picture.now)) self.old }
+        ensures bytes { object_bytes self.new ≡ object_bytes self.old }
+        ensures image { IsImage (pictured picture.now) }
     {
-        match &mut self.content {
-            Content::Image(image) => image.write(picture),
+        match (slot, &mut self.content) {
+            (None, Content::Image(image)) => image.write(picture),
+            (Some(k), Content::Delay(delay)) => delay.write(k, picture),
             _ => unreachable!(),
         }
     }
 
-    /// Takes out the samples of the image.
-    pub fn take(&mut self) -> Samples
-        requires { object_kind self.old ≡ kind.Image }
-        ensures value { values result ≡ (image_value self.old).samples }
-        ensures format { samples_format result ≡ (image_value self.old).format }
-        ensures left { self.new ≡ with_samples self.old (image_value self.old).valid [] }
+    /// Takes out the samples of the image there.
+    pub fn take(&mut self, slot: Option<u8>) -> Samples
+        requires { HasImage slot self.old }
+        ensures value { values result ≡ (image_value (object_in slot self.old)).samples }
+        ensures format { samples_format result ≡ (image_value (object_in slot self.old)).format }
+        ensures left { self.new ≡ with_slot slot (with_samples (object_in slot self.old) (image_value (object_in slot self.old)).valid []) self.old }
+        ensures bytes { object_bytes self.new ≡ object_bytes self.old }
     {
-        match &mut self.content {
-            Content::Image(image) => image.take(),
+        match (slot, &mut self.content) {
+            (None, Content::Image(image)) => image.take(),
+            (Some(k), Content::Delay(delay)) => delay.take(k),
             _ => unreachable!(),
         }
     }
 
-    /// Gives the image these samples, and this valid rectangle.
-    pub fn put(&mut self, samples: Samples, valid: Rect)
-        requires kind { object_kind self.old ≡ kind.Image }
-        requires format { samples_format samples ≡ (image_value self.old).format }
-        ensures { self.new ≡ with_samples self.old valid (values samples) }
+    /// Gives the image there these samples, and this valid rectangle.
+    pub fn put(&mut self, slot: Option<u8>, samples: Samples, valid: Rect)
+        requires there { HasImage slot self.old }
+        requires format { samples_format samples ≡ (image_value (object_in slot self.old)).format }
+        ensures value { self.new ≡ with_slot slot (with_samples (object_in slot self.old) valid (values samples)) self.old }
+        ensures bytes { object_bytes self.new ≡ object_bytes self.old }
+    {
+        match (slot, &mut self.content) {
+            (None, Content::Image(image)) => image.put(samples, valid),
+            (Some(k), Content::Delay(delay)) => delay.put(k, samples, valid),
+            _ => unreachable!(),
+        }
+    }
+
+    /// Ages the delay that the object is. It takes no memory.
+    pub fn age(&mut self)
+        requires { object_kind self.old ≡ kind.Delay }
+        ensures value { self.new ≡ aged_object self.old }
+        ensures bytes { object_bytes self.new ≡ object_bytes self.old }
     {
         match &mut self.content {
-            Content::Image(image) => image.put(samples, valid),
+            Content::Delay(delay) => delay.age(),
             _ => unreachable!(),
         }
     }

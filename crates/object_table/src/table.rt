@@ -2,17 +2,18 @@
 ghost use Rattle.std.specs.Prelude.{◌≡◌, ◌+◌, ◌*◌, ◌<◌, ◌≤◌, IsTrue, unwrap_or, is_none, Some, None, [], if◌then◌else◌, length, position, Any, All, IfOk, IfErr, OnOk, OnErr, Ok, Err};
 ghost use Rattle.std.specs.Option.{option_map};
 ghost use Rattle.vx_base.specs.declared.kind.Kind.TheVariants as kind;
-ghost use Rattle.vx_base.specs.Image.{description_of};
+ghost use Rattle.vx_base.specs.Image.{IsImage, description_of};
 ghost use Rattle.vx_base.specs.Object.{ImageObject, IsObject, object_bytes, object_kind};
 ghost use Rattle.vx_base.specs.Picture.{values, samples_format, pictured};
 ghost use Rattle.object_table.specs.declared.fault.TableFault.TheVariants.{InvalidReference, NoMemory, NoResources};
-ghost use Rattle.object_table.specs.Names.{is_live_as, object_named, has_place, released, used, unused, IsNames};
-ghost use Rattle.object_table.specs.Object.{with_samples};
-ghost use Rattle.object_table.specs.Table.{new_table, charge_of, with_new, with_objects, object_at, image_at, replaced};
+ghost use Rattle.object_table.specs.Names.{is_live_as, object_named, can_insert, released, used, unused, IsNames};
+ghost use Rattle.object_table.specs.Object.{aged_object, with_samples};
+ghost use Rattle.object_table.specs.Table.{new_table, charge_of, with_new, with_objects, entry_at, object_at, image_at, replaced, HasImageAt};
 
 use crate::fault::{InsertFault, TableFault};
 use crate::names::Names;
 use crate::object::Object;
+use crate::place::Place;
 use crate::stored::Stored;
 use std::alloc::Global;
 use std::marker::Model;
@@ -61,16 +62,16 @@ impl Table {
     /// What the client is charged for its objects, in bytes.
     pub fn charged_bytes(&self) -> u64
         ensures value { result ≡ charge_of self.now.objects }
-        ensures limit { result ≤ 1024 * 67108864 }
+        ensures limit { result ≤ 1024 * (16 * 67108864) }
     {
         self.charge
     }
 
     /// Whether one more object can be held: a name is left, and fewer than 1,024 are held.
-    pub fn has_place(&self) -> bool
-        ensures { result ≡ has_place self.now.next self.now.objects }
+    pub fn can_insert(&self) -> bool
+        ensures { result ≡ can_insert self.now.next self.now.objects }
     {
-        self.names.has_place()
+        self.names.can_insert()
     }
 
     /// Holds an object under the next name, which is live. Each fault hands the object back, and
@@ -78,12 +79,12 @@ impl Table {
     pub fn insert(&mut self, object: Object) -> Result<u32, InsertFault>
         ensures name { IfOk result (λ name. name ≡ self.old.next) }
         ensures ok { OnOk result (self.new ≡ with_new self.old object) }
-        ensures place { OnOk result (IsTrue (has_place self.old.next self.old.objects)) }
-        ensures fault { IfErr result (λ e. e.fault ≡ (if has_place self.old.next self.old.objects then NoMemory else NoResources)) }
+        ensures room { OnOk result (IsTrue (can_insert self.old.next self.old.objects)) }
+        ensures fault { IfErr result (λ e. e.fault ≡ (if can_insert self.old.next self.old.objects then NoMemory else NoResources)) }
         ensures err { OnErr result (self.new ≡ self.old) }
         ensures handed_back { IfErr result (λ e. e.object ≡ object) }
     {
-        if !self.names.has_place() {
+        if !self.names.can_insert() {
             return Err(InsertFault {
                 fault: TableFault::NoResources,
                 object,
@@ -102,31 +103,30 @@ impl Table {
         }
     }
 
-    /// The place of the object whose live name this is. What a table keeps of its names is known
+    /// The index of the object whose live name this is. What a table keeps of its names is known
     /// to who asks.
-    pub fn place_of(&self, name: u32) -> Option<usize>
-        ensures place { result ≡ position (is_live_as name) self.now.objects }
+    pub fn index_of(&self, name: u32) -> Option<usize>
+        ensures index { result ≡ position (is_live_as name) self.now.objects }
         ensures names { IsNames self.now.next self.now.objects }
     {
-        self.names.place_of(name)
+        self.names.index_of(name)
     }
 
-    /// The object at a place.
-    pub fn object_at(&self, place: usize) -> &Object
-        requires { place < length self.now.objects }
-        ensures { result.now ≡ object_at self.now.objects place }
+    /// The object at an index.
+    pub fn object(&self, index: usize) -> &Object
+        requires { index < length self.now.objects }
+        ensures { result.now ≡ (entry_at self.now.objects index).object }
     {
-        let entry = &self.names.entries[place];
+        let entry = &self.names.entries[index];
         &entry.object
     }
 
     /// The image at a place.
-    pub fn image_at(&self, place: usize) -> &Stored
-        requires within { place < length self.now.objects }
-        requires kind { object_kind (object_at self.now.objects place) ≡ kind.Image }
+    pub fn image_at(&self, place: Place) -> &Stored
+        requires { HasImageAt self.now.objects place }
         ensures { result.now ≡ image_at self.now.objects place }
     {
-        self.object_at(place).image()
+        self.object(place.index).image(place.slot)
     }
 
     /// The object whose live name this is.
@@ -134,8 +134,8 @@ impl Table {
         ensures ok { IfOk result (λ object. object_named self.now.objects name ≡ Some object.now) }
         ensures err { IfErr result (λ fault. (fault ≡ InvalidReference) × (object_named self.now.objects name ≡ None)) }
     {
-        match self.names.place_of(name) {
-            Some(place) => Ok(self.object_at(place)),
+        match self.names.index_of(name) {
+            Some(index) => Ok(self.object(index)),
             None => Err(TableFault::InvalidReference),
         }
     }
@@ -146,10 +146,10 @@ impl Table {
         ensures ok { OnOk result (self.new ≡ with_objects self.old (released name self.old.objects)) }
         ensures err { OnErr result (self.new ≡ self.old) }
     {
-        let Some(place) = self.names.place_of(name) else {
+        let Some(index) = self.names.index_of(name) else {
             return Err(TableFault::InvalidReference);
         };
-        let object = self.names.release_at(place);
+        let object = self.names.release_at(index);
         self.charge = discharged(self.charge, object);
         Ok(())
     }
@@ -159,8 +159,8 @@ impl Table {
         requires { Any (λ e. (e.name ≡ name) × (e.uses < 4294967295)) self.old.objects }
         ensures { self.new ≡ with_objects self.old (used name self.old.objects) }
     {
-        if let Some(place) = self.names.search(name) {
-            self.names.use_at(place);
+        if let Some(index) = self.names.search(name) {
+            self.names.use_at(index);
         }
     }
 
@@ -170,49 +170,57 @@ impl Table {
         requires { Any (λ e. (e.name ≡ name) × (0 < e.uses)) self.old.objects }
         ensures { self.new ≡ with_objects self.old (unused name self.old.objects) }
     {
-        if let Some(place) = self.names.search(name) {
-            let object = self.names.unuse_at(place);
+        if let Some(index) = self.names.search(name) {
+            let object = self.names.unuse_at(index);
             self.charge = discharged(self.charge, object);
         }
     }
 
     /// Writes a picture to the image at a place; both are of one description.
-    pub fn write(&mut self, place: usize, picture: &Picture)
-        requires within { place < length self.old.objects }
-        requires kind { object_kind (object_at self.old.objects place) ≡ kind.Image }
-        requires image { IsObject (object_at self.old.objects place) }
+    pub fn write(&mut self, place: Place, picture: &Picture)
+        requires there { HasImageAt self.old.objects place }
+        requires object { IsObject (entry_at self.old.objects place.index).object }
         requires same { description_of (image_at self.old.objects place) ≡ picture.now.description }
         ensures value { self.new ≡ with_objects self.old (replaced self.old.objects place (ImageObject (pictured picture.now))) }
-        ensures image { IsObject (ImageObject (pictured picture.now)) }
+        ensures image { IsImage (pictured picture.now) }
         ensures names { IsNames self.old.next self.old.objects }
     {
-        let entry = &mut self.names.entries[place];
-        entry.object.write(picture);
+        let entry = &mut self.names.entries[place.index];
+        entry.object.write(place.slot, picture);
     }
 
     /// Takes out the samples of the image at a place, so that they can be written while other
     /// images are read; `put` brings them back.
-    pub fn take(&mut self, place: usize) -> Samples
-        requires within { place < length self.old.objects }
-        requires kind { object_kind (object_at self.old.objects place) ≡ kind.Image }
+    pub fn take(&mut self, place: Place) -> Samples
+        requires { HasImageAt self.old.objects place }
         ensures value { values result ≡ (image_at self.old.objects place).samples }
         ensures format { samples_format result ≡ (image_at self.old.objects place).format }
         ensures names { IsNames self.old.next self.old.objects }
         ensures left { self.new ≡ with_objects self.old (replaced self.old.objects place (with_samples (object_at self.old.objects place) (image_at self.old.objects place).valid [])) }
     {
-        let entry = &mut self.names.entries[place];
-        entry.object.take()
+        let entry = &mut self.names.entries[place.index];
+        entry.object.take(place.slot)
     }
 
     /// Gives the image at a place these samples, and this valid rectangle.
-    pub fn put(&mut self, place: usize, samples: Samples, valid: Rect)
-        requires within { place < length self.old.objects }
-        requires kind { object_kind (object_at self.old.objects place) ≡ kind.Image }
+    pub fn put(&mut self, place: Place, samples: Samples, valid: Rect)
+        requires there { HasImageAt self.old.objects place }
         requires format { samples_format samples ≡ (image_at self.old.objects place).format }
         ensures { self.new ≡ with_objects self.old (replaced self.old.objects place (with_samples (object_at self.old.objects place) valid (values samples))) }
     {
-        let entry = &mut self.names.entries[place];
-        entry.object.put(samples, valid);
+        let entry = &mut self.names.entries[place.index];
+        entry.object.put(place.slot, samples, valid);
+    }
+
+    /// Ages the delay at an index. It takes no memory.
+    pub fn age(&mut self, index: usize)
+        requires within { index < length self.old.objects }
+        requires kind { object_kind (entry_at self.old.objects index).object ≡ kind.Delay }
+        ensures value { self.new ≡ with_objects self.old (replaced self.old.objects (record { index = index; slot = None }) (aged_object (entry_at self.old.objects index).object)) }
+        ensures names { IsNames self.old.next self.old.objects }
+    {
+        let entry = &mut self.names.entries[index];
+        entry.object.age();
     }
 }
 

@@ -9,7 +9,8 @@ use Rattle.vx_base.specs.declared.format.Format.{Format}
 use Rattle.vx_base.specs.declared.format.Format.TheVariants.{U8, S16}
 use Rattle.vx_base.specs.declared.node.Node.{Node}
 use Rattle.vx_base.specs.declared.function.Function.{Function}
-use Rattle.vx_base.specs.declared.function.Function.TheVariants.{Threshold, TableLookup}
+use Rattle.vx_base.specs.declared.function.Function.TheVariants.{AndBits, Threshold, TableLookup}
+use Rattle.vx_base.specs.declared.kind.Kind.{Kind}
 use Rattle.vx_base.specs.declared.kind.Kind.TheVariants as kind
 use Rattle.vx_base.specs.Sample.{IsSample, least}
 use Rattle.vx_base.specs.Function.{parameters}
@@ -18,7 +19,7 @@ use Rattle.vx_base.specs.Node.{is_node, has_amount}
 use Rattle.vx_base.specs.Image.{ImageValue, IsImage}
 use Rattle.vx_base.specs.Lut.{LutValue, IsLut}
 use Rattle.vx_base.specs.Threshold.{ThresholdValue, IsThreshold, passes}
-use Rattle.vx_base.specs.Object.{ObjectValue, ImageObject, LutObject, ThresholdObject, IsObject, object_kind, object_format}
+use Rattle.vx_base.specs.Object.{ObjectValue, ImageObject, LutObject, ThresholdObject, DelayObject, IsObject, object_kind, same_kind, object_format}
 use Rattle.vx_base.specs.Pixelwise.{node_image, from_one, looked_up, thresholded, formula_of_one, formula_of_two}
 use Rattle.vx_base.proofs.ResultLaws.{of_one, of_two, not_so, zero_sample}
 use Rattle.vx_base.proofs.PixelLaws.{from_one_is, from_two_is}
@@ -58,6 +59,19 @@ is_threshold : (function : Function) → (parameters function).second_input ≡ 
 is_threshold Threshold h = refl
 is_threshold other h = cc
 
+-- kinds that pass the test are one
+pub same_kind_equal : (a b : Kind) → same_kind a b ≡ true → a ≡ b
+same_kind_equal kind.Image kind.Image h = refl
+same_kind_equal kind.Lut kind.Lut h = refl
+same_kind_equal kind.Threshold kind.Threshold h = refl
+same_kind_equal kind.Delay kind.Delay h = refl
+same_kind_equal a b h = cc
+
+-- no function reads a delay as a whole
+pub takes_no_delay : (function : Function) → (parameters function).second_input ≡ Some kind.Delay → ⊥
+takes_no_delay AndBits h = cc
+takes_no_delay other h = cc
+
 lookup_format : (first second output : Format) → IsTrue (takes_formats TableLookup first (Some second) (Some output)) → second ≡ output
 lookup_format U8 U8 U8 h = refl
 lookup_format S16 S16 S16 h = refl
@@ -88,3 +102,4 @@ module _ (n : Node) (format : Format) (a : ImageValue) (shape : IsTrue (is_node 
       from_two_is format (formula_of_two n.function format n.policy n.amount) a b image h (λ y z p q. of_two n.function a.format b.format format n.policy n.amount y z t p q)
   node_image_is (Some (LutObject lut)) h k t = of_lut lut h (is_lookup n.function k) t
   node_image_is (Some (ThresholdObject threshold)) h k t = of_threshold threshold h (is_threshold n.function k) t
+  node_image_is (Some (DelayObject images)) h k t = absurd (takes_no_delay n.function k)

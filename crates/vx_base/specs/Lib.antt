@@ -10,6 +10,7 @@ pub mod Node
 pub mod Picture
 pub mod Lut
 pub mod Threshold
+pub mod Slots
 pub mod Object
 pub mod Pixelwise
 pub mod Outputs

@@ -1,5 +1,6 @@
--- Objects that a client names and nodes use. OpenVX 1.3, "Object: Image", "Object: LUT", "Object: Threshold".
-use Rattle.std.specs.Prelude.{ℕ, Bool, true, false, Option, Some}
+-- Objects that a client names and nodes use. OpenVX 1.3, "Object: Image", "Object: LUT", "Object: Threshold", "Object: Delay".
+use Rattle.std.specs.Prelude.{ℕ, ◌≡◌, ◌≤◌, Bool, true, false, Option, Some, None, List, length, map, sum_by, All}
+use Rattle.std.specs.List.{AllPairs}
 use Rattle.vx_base.specs.declared.format.Format.{Format}
 use Rattle.vx_base.specs.declared.kind.Kind.{Kind}
 use Rattle.vx_base.specs.declared.kind.Kind.TheVariants as kind
@@ -8,34 +9,52 @@ use Rattle.vx_base.specs.Image.{ImageValue, IsImage, description_of}
 use Rattle.vx_base.specs.Lut.{LutValue, IsLut}
 use Rattle.vx_base.specs.Threshold.{ThresholdValue, IsThreshold}
 
+-- a delay is its images, the newest first
 pub data ObjectValue : Type 0 where
   ImageObject : ImageValue → ObjectValue
   LutObject : LutValue → ObjectValue
   ThresholdObject : ThresholdValue → ObjectValue
+  DelayObject : List ImageValue → ObjectValue
 
 abbrev pub same_kind : Kind → Kind → Bool
 same_kind kind.Image kind.Image = true
 same_kind kind.Lut kind.Lut = true
 same_kind kind.Threshold kind.Threshold = true
+same_kind kind.Delay kind.Delay = true
 same_kind a b = false
 
 abbrev pub object_kind : ObjectValue → Kind
 object_kind (ImageObject image) = kind.Image
 object_kind (LutObject lut) = kind.Lut
 object_kind (ThresholdObject threshold) = kind.Threshold
+object_kind (DelayObject images) = kind.Delay
 
 -- the format of an image's samples, of a table's entries, or of the samples that a threshold tests; an object may have none
 abbrev pub object_format : ObjectValue → Option Format
 object_format (ImageObject image) = Some image.format
 object_format (LutObject lut) = Some lut.format
 object_format (ThresholdObject threshold) = Some threshold.format
+object_format (DelayObject images) = None
 
--- what an object is charged: an image its sample bytes, others nothing
+-- the sample bytes of an image
+abbrev pub image_bytes : ImageValue → ℕ
+image_bytes image = byte_count (description_of image)
+
+-- what an object is charged: the sample bytes of its images
 abbrev pub object_bytes : ObjectValue → ℕ
-object_bytes (ImageObject image) = byte_count (description_of image)
+object_bytes (ImageObject image) = image_bytes image
+object_bytes (DelayObject images) = sum_by image_bytes images
 object_bytes other = 0
+
+-- 1 to 16 images of one description
+pub record IsDelay (images : List ImageValue) : Type 0 where
+  pub least : 1 ≤ length images
+  pub greatest : length images ≤ 16
+  pub each : All IsImage images
+  pub alike : AllPairs (λ d e. d ≡ e) (map description_of images)
 
 abbrev pub IsObject : ObjectValue → Type 0
 IsObject (ImageObject image) = IsImage image
 IsObject (LutObject lut) = IsLut lut
 IsObject (ThresholdObject threshold) = IsThreshold threshold
+IsObject (DelayObject images) = IsDelay images

@@ -13,7 +13,7 @@ use Rattle.vx_base.specs.Rectangle.{meet_of}
 use Rattle.vx_base.specs.Image.{ImageValue, at, made}
 use Rattle.vx_base.specs.Lut.{LutValue, entry_for}
 use Rattle.vx_base.specs.Threshold.{ThresholdValue, passes}
-use Rattle.vx_base.specs.Object.{ObjectValue, ImageObject, LutObject, ThresholdObject}
+use Rattle.vx_base.specs.Object.{ObjectValue, ImageObject, LutObject, ThresholdObject, DelayObject}
 
 -- ---- the formulas
 
@@ -105,3 +105,4 @@ node_image n format a None = from_one format (formula_of_one n.function format n
 node_image n format a (Some (ImageObject b)) = from_two format (formula_of_two n.function format n.policy n.amount) a b
 node_image n format a (Some (LutObject lut)) = from_one format (looked_up lut) a
 node_image n format a (Some (ThresholdObject threshold)) = from_one format (thresholded threshold) a
+node_image n format a (Some (DelayObject images)) = from_one format (λ _. pos 0) a

@@ -1,6 +1,6 @@
 //! Kinds of objects.
 
-/// What an operand of a node is (OpenVX 1.3, `vx_type_e`).
+/// What an object is (OpenVX 1.3, `vx_type_e`).
 #[derive(Clone, Copy, PartialEq, Eq, Debug)]
 pub enum Kind {
     /// An image, `VX_TYPE_IMAGE`.
@@ -9,4 +9,6 @@ pub enum Kind {
     Lut,
     /// A threshold, `VX_TYPE_THRESHOLD`.
     Threshold,
+    /// A delay as a whole, `VX_TYPE_DELAY`, which no function takes: each of its slots is an image.
+    Delay,
 }

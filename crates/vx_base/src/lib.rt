@@ -25,6 +25,7 @@ mod rect;
 mod reference;
 mod samples;
 mod shape;
+mod slots;
 mod threshold;
 
 pub use border::Border;
@@ -41,4 +42,5 @@ pub use policy::Policy;
 pub use rect::Rect;
 pub use reference::ObjRef;
 pub use samples::Samples;
+pub use slots::{GREATEST_SLOTS, SlotCount};
 pub use threshold::{ThresholdKind, ThresholdRule};

@@ -11,15 +11,15 @@ returns-then-entry-clause-entries g c =
     let read = sym (ap is_held c.index-entry.ensures) in
     elim c.then-entry.branch [
       | then-entry-via-then-entry w ↦
-          ap (λ n. n.entries.items) w.self-is ∙ sym (none_dropped l c.args.place e c.requires.others (read ∙ ap (λ (b : Bool). b || nat_lt 0 e.uses) w.if-entry.true))
+          ap (λ n. n.entries.items) w.self-is ∙ sym (none_dropped l c.args.index e c.requires.others (read ∙ ap (λ (b : Bool). b || nat_lt 0 e.uses) w.if-entry.true))
       | then-entry-via-else-entry+then-entry-gt0 w ↦
           ap (λ n. n.entries.items) w.self-is
-          ∙ sym (none_dropped l c.args.place e c.requires.others (read ∙ ap (λ (b : Bool). b || nat_lt 0 e.uses) w.if-entry.false ∙ lt-ltb 0 e.uses w.if-entry-gt0.true))
+          ∙ sym (none_dropped l c.args.index e c.requires.others (read ∙ ap (λ (b : Bool). b || nat_lt 0 e.uses) w.if-entry.false ∙ lt-ltb 0 e.uses w.if-entry-gt0.true))
     ]
 
 pub returns-clause-entries : goal.returns-clause-entries
 returns-clause-entries g c =
     let e = c.index-entry.result.now in
     c.remove-object.ensures.items
-    ∙ sym (filter-but is_held c.args.self.now.entries.items c.args.place e c.requires.others c.requires.within
+    ∙ sym (filter-but is_held c.args.self.now.entries.items c.args.index e c.requires.others c.requires.within
     (sym (ap is_held c.index-entry.ensures) ∙ ap (λ (b : Bool). b || nat_lt 0 e.uses) c.if-entry.false ∙ le-ltb 0 e.uses c.if-entry-gt0.false))

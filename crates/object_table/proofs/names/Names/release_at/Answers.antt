@@ -10,12 +10,12 @@ returns-clause-names g c =
     let l = c.args.self.now.entries.items in
     let o = record e { live = false } in
     rw (c.hand_back.ensures.next, c.hand_back.ensures.entries)
-    (IsNames-held_of c.args.self.now.next (set l c.args.place o)
-    (AreNamed-set c.args.self.now.next l c.args.place e o c.requires.names.named c.requires.within (ap (λ k. k.name) c.index_mut.ensures.value)))
+    (IsNames-held_of c.args.self.now.next (set l c.args.index o)
+    (AreNamed-set c.args.self.now.next l c.args.index e o c.requires.names.named c.requires.within (ap (λ k. k.name) c.index_mut.ensures.value)))
 
 pub returns-clause-entries : goal.returns-clause-entries
 returns-clause-entries g c =
     let e = c.index_mut.result.now in
     let l = c.args.self.now.entries.items in
     c.hand_back.ensures.entries
-    ∙ ap held_of (sym (changed_there l c.args.place e (record e { live = false }) (λ (k : Entry g.row.T.Denot). record k { live = false }) c.requires.names.named.names c.requires.within (ap (λ (k : Entry g.row.T.Denot). record k { live = false }) c.index_mut.ensures.value)))
+    ∙ ap held_of (sym (changed_there l c.args.index e (record e { live = false }) (λ (k : Entry g.row.T.Denot). record k { live = false }) c.requires.names.named.names c.requires.within (ap (λ (k : Entry g.row.T.Denot). record k { live = false }) c.index_mut.ensures.value)))

@@ -1,4 +1,4 @@
-use Rattle.std.proofs.Common.{◌≡◌, ◌∙◌, ◌<◌, ◌≤◌, ◌-◌, ℕ, List, refl, ap, sym, subst}
+use Rattle.std.proofs.Common.{◌*◌, ◌≡◌, ◌∙◌, ◌<◌, ◌≤◌, ◌-◌, ℕ, List, refl, ap, sym, subst}
 use Rattle.std.specs.Prelude.{All, Any}
 use Rattle.std.proofs.lemmas.List.Elements.{All-filter}
 use Rattle.vx_base.specs.Object.{ObjectValue, object_bytes}
@@ -15,28 +15,28 @@ unuse_at-object-requires-clause-used c d =
     let l = s.names.entries.items in
     let held = ap (λ (t : TableValue). t.objects) c.self.view_is in
     let any = subst (λ (k : List (Entry ObjectValue)). Any (λ e. (e.name ≡ c.args.name) × (0 < e.uses)) k) (sym held) c.requires in
-    (found_is_any l c.args.name c.in-Some.place (λ e. (e.name ≡ c.args.name) × (0 < e.uses)) (λ e is. is.0) c.self.invariant.names.named.names any c.in-Some.ensures d).1
+    (found_is_any l c.args.name c.in-Some.index (λ e. (e.name ≡ c.args.name) × (0 < e.uses)) (λ e is. is.0) c.self.invariant.names.named.names any c.in-Some.ensures d).1
 
 pub invariant_of-self : goal.invariant_of-self
 invariant_of-self c =
     let s = c.self.inside in
     let l = s.names.entries.items in
     let new = c.unuse_at-object.new.self in
-    let place = named_there l c.args.name c.in-Some.place c.in-Some.ensures in
-    let each : All (λ e. object_bytes e.object ≤ 67108864) (unused c.args.name l) =
-    All-filter is_held (λ e. object_bytes e.object ≤ 67108864) (changed c.args.name (λ e. record e { uses = e.uses - 1 }) l)
-    (All-changed (λ o. object_bytes o ≤ 67108864) l c.args.name (λ e. record e { uses = e.uses - 1 }) (λ e. refl) c.self.invariant.each) in
+    let index = named_there l c.args.name c.in-Some.index c.in-Some.ensures in
+    let each : All (λ e. object_bytes e.object ≤ 16 * 67108864) (unused c.args.name l) =
+    All-filter is_held (λ e. object_bytes e.object ≤ 16 * 67108864) (changed c.args.name (λ e. record e { uses = e.uses - 1 }) l)
+    (All-changed (λ o. object_bytes o ≤ 16 * 67108864) l c.args.name (λ e. record e { uses = e.uses - 1 }) (λ e. refl) c.self.invariant.each) in
     IsTable-back new.next s.charge c.discharged-self-inside.result l new.entries.items c.unuse_at-object.result c.self.invariant.charged c.unuse_at-object.ensures.names c.unuse_at-object.ensures.handed_back
     c.discharged-self-inside.ensures
-    (subst (λ (k : List (Entry ObjectValue)). All (λ e. object_bytes e.object ≤ 67108864) k) (sym (c.unuse_at-object.ensures.entries ∙ ap (λ n. unused n l) place.1)) each)
+    (subst (λ (k : List (Entry ObjectValue)). All (λ e. object_bytes e.object ≤ 16 * 67108864) k) (sym (c.unuse_at-object.ensures.entries ∙ ap (λ n. unused n l) index.1)) each)
 
 pub returns-in-Some : goal.returns-in-Some
 returns-in-Some c =
     let s = c.self.inside in
     let l = s.names.entries.items in
-    let place = named_there l c.args.name c.in-Some.place c.in-Some.ensures in
+    let index = named_there l c.args.name c.in-Some.index c.in-Some.ensures in
     ap (λ (n : ℕ). let t : TableValue = record { next = n; objects = c.unuse_at-object.new.self.entries.items } in t) c.unuse_at-object.ensures.next
-    ∙ ap (λ (k : List (Entry ObjectValue)). let t : TableValue = record { next = s.names.next; objects = k } in t) (c.unuse_at-object.ensures.entries ∙ ap (λ n. unused n l) place.1)
+    ∙ ap (λ (k : List (Entry ObjectValue)). let t : TableValue = record { next = s.names.next; objects = k } in t) (c.unuse_at-object.ensures.entries ∙ ap (λ n. unused n l) index.1)
     ∙ ap (λ (t : TableValue). with_objects t (unused c.args.name t.objects)) c.self.view_is
 
 pub returns-in_default : goal.returns-in_default

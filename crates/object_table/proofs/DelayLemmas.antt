@@ -1,0 +1,53 @@
+-- Delays: images of one description.
+use Rattle.std.proofs.Common.{◌≡◌, ℕ, ◌*◌, ◌<◌, ◌≤◌, List, [], ◌∷◌, ◌++◌, length, map, get_or, refl, sym, ap, ◌∙◌, arith}
+use Rattle.std.specs.Prelude.{All, take, drop, sum_by, nat_le, IsTrue}
+use Rattle.std.specs.List.{AllPairs}
+use Rattle.std.proofs.lemmas.Bool.{and_parts, leb-true}
+use Rattle.std.proofs.lemmas.List.{length-map, length-replicate, get_or-map}
+use Rattle.std.proofs.lemmas.List.Elements.{All-head, All-tail, All-replicate}
+use Rattle.std.proofs.lemmas.List.Sums.{sum_by-cons, sum_by-append, sum_by-take-drop}
+use Rattle.vx_base.specs.Description.{Description, byte_count}
+use Rattle.vx_base.specs.Image.{ImageValue, IsImage, new_image, description_of}
+use Rattle.vx_base.specs.Object.{IsDelay, image_bytes}
+use Rattle.vx_base.specs.Slots.{is_slot_count}
+use Rattle.vx_base.proofs.ImageLaws.{new_image_is}
+use Rattle.object_table.specs.Delay.{new_delay}
+
+-- images of one description take as many bytes as one of them, times their number
+pub bytes_alike : (d : Description) (images : List ImageValue) → All (λ image. description_of image ≡ d) images → sum_by image_bytes images ≡ length images * byte_count d
+bytes_alike d [] h = omega arith
+bytes_alike d (image ∷ images) h =
+    let first : image_bytes image ≡ byte_count d = ap byte_count (All-head (λ i. description_of i ≡ d) image images h) in
+    let others = bytes_alike d images (All-tail (λ i. description_of i ≡ d) image images h) in
+    sum_by-cons image_bytes image images ∙ omega (arith, first, others)
+
+-- what is turned round takes as much
+pub sum-turned : {X : Type 0} (f : X → ℕ) (n : ℕ) (xs : List X) → sum_by f (drop n xs ++ take n xs) ≡ sum_by f xs
+sum-turned f n xs = omega (arith, sum_by-append f (drop n xs) (take n xs), sum_by-take-drop f xs n)
+
+-- as many images of the description take as many bytes
+pub bytes_kept : (d : Description) (old new : List ImageValue) → All (λ image. description_of image ≡ d) old → All (λ image. description_of image ≡ d) new → length new ≡ length old
+    → sum_by image_bytes new ≡ sum_by image_bytes old
+bytes_kept d old new h i same = bytes_alike d new i ∙ ap (λ n. n * byte_count d) same ∙ sym (bytes_alike d old h)
+
+-- images of one description are alike, any two of them
+pub alike : (d : Description) (images : List ImageValue) → All (λ image. description_of image ≡ d) images → AllPairs (λ a b. a ≡ b) (map description_of images)
+alike d images h i j default less within =
+    let j_within : j < length images = omega (arith, within, length-map images description_of) in
+    let at : (k : ℕ) → k < length images → get_or (map description_of images) k default ≡ d =
+    λ k below. get_or-map description_of images k (new_image 0 0 d.format) default below ∙ h k (new_image 0 0 d.format) below in
+    at i (omega (arith, less, j_within)) ∙ sym (at j j_within)
+
+pub count_is : (n : ℕ) → IsTrue (is_slot_count n) → (1 ≤ n) × (n ≤ 16)
+count_is n h = let both = and_parts (nat_le 1 n) (nat_le n 16) h in (leb-true 1 n both.0, leb-true n 16 both.1)
+
+-- a new delay is one
+pub new_delay_is : (d : Description) (slots : ℕ) → 1 ≤ slots → slots ≤ 16 → IsDelay (new_delay d slots)
+new_delay_is d slots least greatest =
+    let new = new_image d.width d.height d.format in
+    record {
+      least = omega (arith, least, length-replicate slots new);
+      greatest = omega (arith, greatest, length-replicate slots new);
+      each = All-replicate IsImage slots new (new_image_is d.width d.height d.format);
+      alike = alike d (new_delay d slots) (All-replicate (λ image. description_of image ≡ d) slots new refl);
+    }

@@ -1,0 +1,13 @@
+use Rattle.std.proofs.Common.{◌-◌, List, vec_len, ap, ◌∙◌}
+use Rattle.std.specs.Prelude.{sum_by}
+use Rattle.vx_base.specs.Image.{ImageValue}
+use Rattle.vx_base.specs.Object.{image_bytes}
+use Rattle.object_table.proofs.DelayLemmas.{sum-turned}
+use Rattle.object_table.proofs.delay.Delay.age.Goals as goal
+
+pub returns-clause-bytes : goal.returns-clause-bytes
+returns-clause-bytes c =
+    let images = c.self.inside.images.items in
+    ap (λ (l : List ImageValue). sum_by image_bytes l) c.rotate_right.ensures.items
+    ∙ sum-turned image_bytes (vec_len c.self.inside.images - 1) images
+    ∙ ap (λ (l : List ImageValue). sum_by image_bytes l) c.self.view_is

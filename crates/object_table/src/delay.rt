@@ -1,0 +1,119 @@
+//! Delays: images in slots.
+ghost use Rattle.std.specs.Prelude.{◌≡◌, ◌<◌, ◌≤◌, ◌*◌, [], length, slice_get, slice_index_or, slice_set, sum_by, Some, None, IfOk, IfErr};
+ghost use Rattle.vx_base.specs.declared.format.Format.TheVariants.{U8};
+ghost use Rattle.vx_base.specs.Image.{ImageValue, IsImage, new_image, image_over, description_of};
+ghost use Rattle.vx_base.specs.Object.{IsDelay, image_bytes};
+ghost use Rattle.vx_base.specs.Picture.{values, samples_format, pictured};
+ghost use Rattle.object_table.specs.declared.fault.TableFault.TheVariants.{InvalidValue};
+ghost use Rattle.object_table.specs.Delay.{new_delay, aged, image_in};
+
+use crate::fault::TableFault;
+use crate::stored::Stored;
+use std::alloc::{AllocError, Global};
+use std::marker::Model;
+use vx_base::{Desc, Picture, Rect, Samples, SlotCount};
+
+/// 1 to 16 images of one description, the newest first: slot k stands k steps behind it.
+#[derive(Drop)]
+pub struct Delay {
+    desc: Desc,
+    images: Vec<Stored>,
+}
+
+impl Model for Delay {
+    ghost use Rattle.std.specs.Prelude.{List};
+    ghost use Rattle.vx_base.specs.Image.{ImageValue};
+    ghost use Rattle.object_table.specs.Delay.{AreSlots};
+
+    ghost Value = { List ImageValue };
+
+    ghost view = { λ d. d.images.items };
+
+    ghost invariant = { λ d. AreSlots d.desc d.images.items };
+}
+
+impl Delay {
+    /// A delay of so many new images of a description.
+    pub fn new(alloc: Global, desc: Desc, slots: SlotCount) -> Result<Delay, AllocError>
+        ensures value { IfOk result (λ delay. delay ≡ new_delay desc slots) }
+        ensures delay { IfOk result IsDelay }
+    {
+        let count = usize::from(slots.get());
+        let images = new_images(alloc, desc, count)?;
+        Ok(Delay { desc, images })
+    }
+
+    /// The image in a slot; slot 0 is the newest. `InvalidValue`: the delay has no such slot.
+    pub fn slot(&self, k: u8) -> Result<&Stored, TableFault>
+        ensures ok { IfOk result (λ image. slice_get self.now k ≡ Some image.now) }
+        ensures err { IfErr result (λ fault. (fault ≡ InvalidValue) × (slice_get self.now k ≡ None)) }
+    {
+        match self.images.get(usize::from(k)) {
+            Some(image) => Ok(image),
+            None => Err(TableFault::InvalidValue),
+        }
+    }
+
+    /// The sample bytes of all images.
+    pub fn bytes(&self) -> usize
+        ensures value { result ≡ sum_by image_bytes self.now }
+        ensures limit { result ≤ 16 * 67108864 }
+    {
+        self.images.len() * self.desc.byte_count()
+    }
+
+    /// Each image comes to the slot behind its own, and the last to slot 0. It takes no memory.
+    pub fn age(&mut self)
+        ensures value { self.new ≡ aged self.old }
+        ensures bytes { sum_by image_bytes self.new ≡ sum_by image_bytes self.old }
+    {
+        self.images.rotate_right(1);
+    }
+
+    /// Writes a picture to the image in a slot; both are of one description.
+    pub fn write(&mut self, k: u8, picture: &Picture)
+        requires within { k < length self.old }
+        requires image { IsImage (image_in self.old k) }
+        requires same { description_of (image_in self.old k) ≡ picture.now.description }
+        ensures value { self.new ≡ slice_set self.old k (pictured picture.now) }
+        ensures bytes { sum_by image_bytes self.new ≡ sum_by image_bytes self.old }
+        ensures image { IsImage (pictured picture.now) }
+    {
+        let image = &mut self.images[usize::from(k)];
+        image.write(picture);
+    }
+
+    /// Takes out the samples of the image in a slot; `put` brings them back.
+    pub fn take(&mut self, k: u8) -> Samples
+        requires within { k < length self.old }
+        ensures value { values result ≡ (image_in self.old k).samples }
+        ensures format { samples_format result ≡ (image_in self.old k).format }
+        ensures left { self.new ≡ slice_set self.old k (image_over (description_of (image_in self.old k)) (image_in self.old k).valid []) }
+        ensures bytes { sum_by image_bytes self.new ≡ sum_by image_bytes self.old }
+    {
+        let image = &mut self.images[usize::from(k)];
+        image.take()
+    }
+
+    /// Gives the image in a slot these samples, and this valid rectangle.
+    pub fn put(&mut self, k: u8, samples: Samples, valid: Rect)
+        requires within { k < length self.old }
+        requires format { samples_format samples ≡ (image_in self.old k).format }
+        ensures value { self.new ≡ slice_set self.old k (image_over (description_of (image_in self.old k)) valid (values samples)) }
+        ensures bytes { sum_by image_bytes self.new ≡ sum_by image_bytes self.old }
+    {
+        let image = &mut self.images[usize::from(k)];
+        image.put(samples, valid);
+    }
+}
+
+/// So many new images of a description.
+fn new_images(alloc: Global, desc: Desc, count: usize) -> Result<Vec<Stored>, AllocError>
+    ensures { IfOk result (λ images. images.items ≡ new_delay desc count) }
+{
+    let mut images = Vec::with_capacity(alloc, count)?;
+    while images.len() < count {
+        images.push(Stored::new(alloc, desc)?)?;
+    }
+    Ok(images)
+}

@@ -1,0 +1,9 @@
+-- How many images a delay has. OpenVX 1.3, "Object: Delay"; the greatest number is this project's.
+use Rattle.std.specs.Prelude.{ℕ, Bool, ◌&&◌, nat_le, if◌then◌else◌, Option, Some, None}
+
+abbrev pub is_slot_count : ℕ → Bool
+is_slot_count n = nat_le 1 n && nat_le n 16
+
+-- so many slots, if a delay may have them
+abbrev pub slot_count : ℕ → Option ℕ
+slot_count n = if is_slot_count n then Some n else None
