@@ -1,119 +1,72 @@
 -- What a context's table holds, by name.
-use Rattle.std.proofs.Common.{◌≡◌, ◌≢◌, ℕ, ◌+◌, ◌<◌, ◌≤◌, ◌⊎◌, inl, inr, Bool, true, false, cond, List, [], ◌∷◌, Option, Some, None, length, map, set, get_or, zero, suc, refl, sym, ap, subst, ◌∙◌, arith}
-use Rattle.std.specs.Prelude.{All, Ok, Err, Result, if◌then◌else◌, ◌==◌, ◌&&◌, ◌||◌, not, nat_lt, find, filter, position, is_none}
+use Rattle.std.proofs.Common.{◌≡◌, ℕ, ◌+◌, ◌<◌, Bool, true, false, cond, IsTrue, List, [], ◌∷◌, Option, Some, None, length, map, refl, sym, ap, subst, ◌∙◌, arith}
+use Rattle.std.specs.Prelude.{All, Ok, Err, Result, if◌then◌else◌, ◌==◌, ◌&&◌, ◌||◌, not, nat_lt, find, filter, position, is_none, is_some}
 use Rattle.std.specs.Option.{option_map}
 use Rattle.std.specs.List.{position_or_len}
-use Rattle.std.specs.List.Sorted.{IsStrictlyIncreasing}
-use Rattle.std.proofs.lemmas.Bool.{eq-eqb, ne_eqb, cases_lt}
-use Rattle.std.proofs.lemmas.List.{length-map, get_or-map}
+use Rattle.std.proofs.lemmas.List.{length-map}
 use Rattle.std.proofs.lemmas.List.Elements.{All-head, All-tail, All-filter, All-set}
-use Rattle.std.proofs.lemmas.List.Kept.{AllPairs-from_increasing}
 use Rattle.std.proofs.lemmas.List.Sums.{sum_by-cons}
 use Rattle.std.proofs.Math.ListN.{get_or-map as get_or-map_default}
-use Rattle.std.proofs.Math.Seq.{map-set}
-use Rattle.vx_base.specs.Object.{ObjectValue, IsObject, object_bytes}
+use Rattle.vx_base.specs.Cell.{Cell}
+use Rattle.vx_base.specs.Image.{ImageValue, IsImage, description_of}
+use Rattle.vx_base.specs.Object.{ObjectValue, ImageObject, IsObject, object_bytes}
 use Rattle.object_table.specs.declared.fault.TableFault.{TableFault}
 use Rattle.object_table.specs.declared.fault.TableFault.TheVariants as fault
 use Rattle.object_table.specs.declared.names.Entry.{Entry}
-use Rattle.object_table.specs.Names.{is_live_as, is_held, object_named as table_named, released, IsNames}
+use Rattle.object_table.specs.Names.{changed, is_live_as, is_held, object_named as table_named, released, IsNames}
+use Rattle.object_table.specs.declared.place.Place.{Place}
+use Rattle.object_table.specs.Delay.{in_slot, object_in, with_slot, HasImage}
 use Rattle.object_table.specs.Table as table
 use Rattle.client_contexts.specs.declared.refusal.Refusal.{Refusal}
 use Rattle.client_contexts.specs.declared.refusal.Refusal.TheVariants.{InvalidReference}
 use Rattle.client_contexts.specs.Context.{Named, named, object_named, with_object, without, charge_of}
-use Rattle.client_contexts.specs.Places.{no_object, entry_at, object_at, object_if_at, IsInContext}
-
--- the objects, with another at a place under the name that stands there
-abbrev pub replaced : List Named → ℕ → ObjectValue → List Named
-replaced objects place object = set objects place (record { name = (entry_at objects place).name; object = object })
-
--- names that differ
-abbrev AreDistinct : List Named → Type 0
-AreDistinct objects = (i j : ℕ) → i < length objects → j < length objects → i ≢ j → (entry_at objects i).name ≢ (entry_at objects j).name
-
-distinct : (objects : List Named) → IsStrictlyIncreasing (map (λ o. o.name) objects) → AreDistinct objects
-distinct objects h i j a b apart same = before_or_after (cases_lt i j)
-  where
-    name : Named → ℕ
-    name p = p.name
-
-    there : (k : ℕ) → k < length objects → get_or (map (λ o. o.name) objects) k 0 ≡ (entry_at objects k).name
-    there k within = get_or-map (λ (o : Named). o.name) objects k no_object 0 within
-
-    before_or_after : (i < j) ⊎ (j ≤ i) → ⊥
-    before_or_after (inl less) = omega (arith, same, there i a, there j b, AllPairs-from_increasing (map (λ (o : Named). o.name) objects) h i j 0 less (omega (arith, b, length-map objects (λ (o : Named). o.name))))
-    before_or_after (inr more) =
-        let less : j < i = (let differ : i ≢ j = apart in le_and_differ i j more differ) in
-        omega (arith, same, there i a, there j b, AllPairs-from_increasing (map (λ (o : Named). o.name) objects) h j i 0 less (omega (arith, a, length-map objects (λ (o : Named). o.name))))
-      where
-        le_and_differ : (i j : ℕ) → j ≤ i → i ≢ j → j < i
-        le_and_differ i j h k = cases (cases_lt j i)
-          where
-            cases : (j < i) ⊎ (i ≤ j) → j < i
-            cases (inl less) = less
-            cases (inr more) = absurd (k (omega (arith, h, more)))
-
-abbrev Lacks : ℕ → List Named → Type 0
-Lacks name objects = (k : ℕ) → k < length objects → (entry_at objects k).name ≢ name
-
-with_object-lacking : (objects : List Named) (name : ℕ) (object : ObjectValue) → Lacks name objects → with_object objects name object ≡ objects
-with_object-lacking [] name object h = refl
-with_object-lacking (o ∷ objects) name object h =
-    ap (λ b. cond b (record { name = o.name; object = object }) o ∷ with_object objects name object) (ne_eqb o.name name (h zero (omega arith)))
-    ∙ ap (λ l. o ∷ l) (with_object-lacking objects name object (λ k below. h (suc k) (omega (arith, below))))
-
-with_object-at : (objects : List Named) (place : ℕ) (object : ObjectValue) → AreDistinct objects → place < length objects
-    → with_object objects (entry_at objects place).name object ≡ replaced objects place object
-with_object-at [] place object h within = absurd (omega (arith, within))
-with_object-at (o ∷ objects) zero object h within =
-    ap (λ b. cond b (record { name = o.name; object = object }) o ∷ with_object objects o.name object) (eq-eqb o.name o.name refl)
-    ∙ ap (λ l. record { name = o.name; object = object } ∷ l) (with_object-lacking objects o.name object (λ k below. h (suc k) zero (omega (arith, below)) (omega arith) (λ e. omega (arith, e))))
-with_object-at (o ∷ objects) (suc place) object h within =
-    let name = (entry_at objects place).name in
-    ap (λ b. cond b (record { name = o.name; object = object }) o ∷ with_object objects name object)
-    (ne_eqb o.name name (h zero (suc place) (omega arith) within (λ e. omega (arith, e))))
-    ∙ ap (λ l. o ∷ l) (with_object-at objects place object (λ i j a b apart. h (suc i) (suc j) (omega (arith, a)) (omega (arith, b)) (λ e. apart (omega (arith, e)))) (omega (arith, within)))
-
--- the object under a name is the one at the name's place
-pub replaced_is_named : (objects : List Named) (place : ℕ) (object : ObjectValue) → IsStrictlyIncreasing (map (λ o. o.name) objects) → place < length objects
-    → with_object objects (entry_at objects place).name object ≡ replaced objects place object
-replaced_is_named objects place object names within = with_object-at objects place object (distinct objects names) within
+use Rattle.object_table.proofs.NamesLemmas.{changed_at}
+use Rattle.object_table.proofs.SlotLemmas.{IsObject-with_slot}
+use Rattle.client_contexts.specs.Places.{entry_at, object_at, object_if_at, cell_at, IsPlace, HasImageAt, IsInContext}
 
 -- ---- a table's objects, by name
 
+-- the object that a cell holds is changed in a table as it is in a context
+changed_there : (objects : List (Entry ObjectValue)) (cell : Cell) (object : ObjectValue) → map named (changed cell.name (λ e. record e { object = with_slot cell.slot object e.object }) objects) ≡ with_object (map named objects) cell object
+changed_there [] cell object = refl
+changed_there (e ∷ objects) cell object = either (e.name == cell.name) (changed_there objects cell object)
+  where
+    after : List (Entry ObjectValue)
+    after = changed cell.name (λ e. record e { object = with_slot cell.slot object e.object }) objects
+
+    either : (b : Bool) → map named after ≡ with_object (map named objects) cell object
+        → named (cond b (record e { object = with_slot cell.slot object e.object }) e) ∷ map named after ≡ cond b (record { name = e.name; object = with_slot cell.slot object e.object }) (named e) ∷ with_object (map named objects) cell object
+    either true others = ap (λ l. record { name = e.name; object = with_slot cell.slot object e.object } ∷ l) others
+    either false others = ap (λ l. named e ∷ l) others
+
 module _ (objects : List (Entry ObjectValue)) where
-  entry_there : (place : ℕ) → entry_at (map named objects) place ≡ named (table.entry_at objects place)
-  entry_there place = get_or-map_default named objects place table.no_object
+  pub entry_there : (index : ℕ) → entry_at (map named objects) index ≡ named (table.entry_at objects index)
+  entry_there index = get_or-map_default named objects index table.no_object
 
-  pub object_there : (place : ℕ) → object_at (map named objects) place ≡ table.object_at objects place
-  object_there place = ap (λ (o : Named). o.object) (entry_there place)
+  pub object_there : (place : Place) → object_at (map named objects) place ≡ table.object_at objects place
+  object_there place = ap (λ (o : Named). object_in place.slot o.object) (entry_there place.index)
 
-  pub object_if_there : (place : Option ℕ) → object_if_at (map named objects) place ≡ option_map (table.object_at objects) place
+  pub object_if_there : (place : Option Place) → object_if_at (map named objects) place ≡ option_map (table.object_at objects) place
   object_if_there None = refl
   object_if_there (Some place) = ap Some (object_there place)
 
-  pub within_there : (place : ℕ) → place < length (map named objects) → place < length objects
-  within_there place within = omega (arith, within, length-map objects named)
+  pub within_there : (index : ℕ) → index < length (map named objects) → index < length objects
+  within_there index within = omega (arith, within, length-map objects named)
 
-  pub replaced_there : (place : ℕ) (object : ObjectValue) → map named (table.replaced objects place object) ≡ replaced (map named objects) place object
-  replaced_there place object =
-      map-set named objects place (record (table.entry_at objects place) { object = object })
-      ∙ ap (λ (o : Named). set (map named objects) place (record { name = o.name; object = object })) (sym (entry_there place))
+  pub place_there : (place : Place) → IsPlace (map named objects) place → table.IsPlace objects place
+  place_there place h =
+      record { within = within_there place.index h.within; there = subst (λ (o : Named). IsTrue (is_some (in_slot place.slot o.object))) (entry_there place.index) h.there }
 
-  -- names in order increase
-  pub increasing_there : (next : ℕ) → IsNames next objects → IsStrictlyIncreasing (map (λ o. o.name) (map named objects))
-  increasing_there next h k within =
-      let name : Named → ℕ = λ o. o.name in
-      let few : k + 1 < length objects = omega (arith, within, length-map (map named objects) name, length-map objects named) in
-      let first : get_or (map name (map named objects)) k 0 ≡ (table.entry_at objects k).name =
-      get_or-map_default name (map named objects) k no_object ∙ ap name (entry_there k) in
-      let second : get_or (map name (map named objects)) (k + 1) 0 ≡ (table.entry_at objects (k + 1)).name =
-      get_or-map_default name (map named objects) (k + 1) no_object ∙ ap name (entry_there (k + 1)) in
-      omega (arith, first, second, h.named.names k (k + 1) table.no_object (omega arith) few)
+  pub image_there : (place : Place) → HasImageAt (map named objects) place → table.HasImageAt objects place
+  image_there place h =
+      record { within = within_there place.index h.within; image = subst (λ (o : Named). HasImage place.slot o.object) (entry_there place.index) h.image }
 
-  -- an object that is replaced is that of its name
-  pub named_is : (next place : ℕ) (object : ObjectValue) → IsNames next objects → place < length objects → map named (table.replaced objects place object) ≡ with_object (map named objects) (entry_at (map named objects) place).name object
+  -- an object that is replaced is that of its cell
+  pub named_is : (next : ℕ) (place : Place) (object : ObjectValue) → IsNames next objects → place.index < length objects → map named (table.replaced objects place object) ≡ with_object (map named objects) (cell_at (map named objects) place) object
   named_is next place object h within =
-      replaced_there place object ∙ sym (replaced_is_named (map named objects) place object (increasing_there next h) (omega (arith, within, length-map objects named)))
+      sym (ap (map named) (changed_at objects place.index table.no_object (λ e. record e { object = with_slot place.slot object e.object }) h.named.names within))
+      ∙ changed_there objects (record { name = (table.entry_at objects place.index).name; slot = place.slot }) object
+      ∙ ap (λ (o : Named). with_object (map named objects) (record { name = o.name; slot = place.slot }) object) (sym (entry_there place.index))
 
 pub charge_there : (objects : List (Entry ObjectValue)) → charge_of (map named objects) ≡ table.charge_of objects
 charge_there [] = refl
@@ -174,10 +127,17 @@ released_there objects name h = ap (map named) (released_is objects name h) ∙ 
 pub All-released : (objects : List (Entry ObjectValue)) (name : ℕ) → All IsInContext objects → All IsInContext (released name objects)
 All-released objects name h = subst (All IsInContext) (sym (released_is objects name h)) (All-filter (λ e. not (e.name == name)) IsInContext objects h)
 
-pub All-replaced : (objects : List (Entry ObjectValue)) (place : ℕ) (object : ObjectValue) → All IsInContext objects → place < length objects → IsObject object → All IsInContext (table.replaced objects place object)
+pub All-replaced : (objects : List (Entry ObjectValue)) (place : Place) (object : ObjectValue) → All IsInContext objects → place.index < length objects → IsObject (with_slot place.slot object (table.entry_at objects place.index).object) → All IsInContext (table.replaced objects place object)
 All-replaced objects place object h within is =
-    let here = h place table.no_object within in
-    All-set IsInContext objects place (record (table.entry_at objects place) { object = object }) (record { live = here.live; unused = here.unused; object = is }) h
+    let e = table.entry_at objects place.index in
+    let here = h place.index table.no_object within in
+    All-set IsInContext objects place.index (record e { object = with_slot place.slot object e.object }) (record { live = here.live; unused = here.unused; object = is }) h
+
+-- an image that is replaced by one of its description
+pub All-written_image : (objects : List (Entry ObjectValue)) (place : Place) (image : ImageValue) → All IsInContext objects → place.index < length objects → IsImage image → description_of image ≡ description_of (table.image_at objects place) → All IsInContext (table.replaced objects place (ImageObject image))
+All-written_image objects place image h within is same =
+    let e = table.entry_at objects place.index in
+    All-replaced objects place (ImageObject image) h within (IsObject-with_slot place.slot image e.object is same (h place.index table.no_object within).object)
 
 -- ---- a name that is released or isn't live
 

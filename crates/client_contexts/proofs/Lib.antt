@@ -1,3 +1,4 @@
+mod PlaceLemmas
 mod ContextLemmas
 mod LookupLemmas
 mod StoredLemmas
@@ -5,9 +6,12 @@ mod OutputLemmas
 mod RunLemmas
 pub mod RefusalLaws
 pub mod NamedLaws
+pub mod OutlineLaws
 pub mod StateLaws
 pub mod OutcomeLaws
 pub mod ImageStepLaws
+pub mod DelayStepLaws
+mod DelayLemmas
 pub mod VerdictLaws
 pub mod NodeStepLaws
 pub mod StepLaws

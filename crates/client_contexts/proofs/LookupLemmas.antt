@@ -1,9 +1,8 @@
--- The first object that has a name, and its place.
-use Rattle.std.proofs.Common.{◌≡◌, ℕ, ◌+◌, ◌<◌, Bool, true, false, cond, List, [], ◌∷◌, ◌++◌, Option, Some, None, length, get_or, zero, suc, refl, sym, ap, ◌∙◌, arith}
-use Rattle.std.specs.Prelude.{◌==◌, ◌||◌, ◌&&◌, not, position, find, option_map, is_none, unwrap_or, Ok, Err, Result, if◌then◌else◌}
-use Rattle.std.specs.List.{position_from, list_any}
-use Rattle.std.specs.Option.{option_and_then}
-use Rattle.std.proofs.lemmas.Iterator.Adapters.{position_from-zero}
+-- The first object that has a name, its index, and what stands in its slots.
+use Rattle.std.proofs.Common.{◌≡◌, ℕ, ◌<◌, Bool, true, false, IsTrue, List, [], ◌∷◌, ◌++◌, Option, Some, None, length, refl, sym, ap, ◌∙◌}
+use Rattle.std.specs.Prelude.{◌==◌, ◌||◌, not, position, slice_get, is_none, is_some, unwrap_or, Ok, Err, Result, if◌then◌else◌}
+use Rattle.std.specs.List.{list_any}
+use Rattle.std.specs.Option.{option_map, option_and_then}
 use Rattle.std.proofs.lemmas.List.Quantifiers.{position-Some}
 use Rattle.std.proofs.lemmas.Bool.{eqb-true}
 use Rattle.vx_base.specs.declared.kind.Kind.{Kind}
@@ -14,106 +13,108 @@ use Rattle.vx_base.specs.Cell.{Cell}
 use Rattle.vx_base.specs.Function.{parameters}
 use Rattle.vx_base.specs.Node.{operands, with_kind}
 use Rattle.vx_base.specs.Image.{ImageValue}
-use Rattle.vx_base.specs.Object.{ObjectValue, ImageObject, LutObject, ThresholdObject, object_kind, same_kind}
-use Rattle.client_contexts.specs.declared.refusal.Refusal.{Refusal}
-use Rattle.client_contexts.specs.declared.refusal.Refusal.TheVariants.{InvalidReference, InvalidType}
-use Rattle.client_contexts.specs.declared.reply.Reply.TheVariants.{Empty}
-use Rattle.client_contexts.specs.Context.{Named, Context, object_named, without, with_objects}
-use Rattle.client_contexts.specs.Refusal.{Outcome}
-use Rattle.client_contexts.specs.Objects.{release}
-use Rattle.client_contexts.specs.Operands.{is_unknown, in_slot, held, is_of_kind, is_of_other_kind, as_image, image_of}
+use Rattle.vx_base.specs.Object.{ObjectValue, ImageObject, DelayObject, object_kind, same_kind}
+use Rattle.vx_base.proofs.NodeLaws.{same_kind_equal}
+use Rattle.object_table.specs.declared.place.Place.{Place}
+use Rattle.object_table.specs.Delay.{in_slot, object_in, slot_kind}
 use Rattle.object_table.specs.Object.{image_value}
+use Rattle.object_table.proofs.SearchLemmas.{fails_all, find_first, find_none}
+use Rattle.object_table.proofs.SlotLemmas.{there_is, slot_has_image, image_there}
+use Rattle.client_contexts.specs.declared.refusal.Refusal.{Refusal}
+use Rattle.client_contexts.specs.declared.refusal.Refusal.TheVariants.{InvalidReference, InvalidType, InvalidValue}
+use Rattle.client_contexts.specs.Context.{Named, object_named}
+use Rattle.client_contexts.specs.Operands.{is_unknown, held, is_empty, kind_of, is_kind, is_of_other_kind, operands_refusal, as_image, image_of}
 use Rattle.client_contexts.specs.Places.{no_object, entry_at, object_at, image_at, StandsAt}
-use Rattle.client_contexts.specs.Steps.{operands_refusal, first_class}
+use Rattle.client_contexts.specs.Steps.{slot_refusal, first_class}
 
-find_none_from : {X : Type 0} (p : X → Bool) (xs : List X) (k : ℕ) → position_from p k xs ≡ None → find p xs ≡ None
-find_none_from p [] k e = refl
-find_none_from {X = X} p (x ∷ xs) k e = cases (p x) (find_none_from p xs (k + 1)) e
-  where
-    cases : (b : Bool) → (position_from p (k + 1) xs ≡ None → find p xs ≡ None) → cond b (Some k) (position_from p (k + 1) xs) ≡ None → cond b (Some x) (find p xs) ≡ None
-    cases true others e = cc
-    cases false others e = others e
+same_as_itself : (k : Kind) → same_kind k k ≡ true
+same_as_itself kind.Image = refl
+same_as_itself other = refl
 
-find_at : {X : Type 0} (p : X → Bool) (xs : List X) (i : ℕ) (d : X) → i < length xs → p (get_or xs i d) ≡ true → ((k : ℕ) → k < i → p (get_or xs k d) ≡ false) → find p xs ≡ Some (get_or xs i d)
-find_at p [] i d within at before = absurd (omega arith)
-find_at p (x ∷ xs) zero d within at before = ap (λ b. cond b (Some x) (find p xs)) at
-find_at p (x ∷ xs) (suc i) d within at before =
-    ap (λ b. cond b (Some x) (find p xs)) (before 0 (omega arith))
-    ∙ find_at p xs i d (omega arith) at (λ k h. before (suc k) (omega arith))
-
-same_kinds : (k l : Kind) → same_kind k l ≡ true → l ≡ k
-same_kinds kind.Image kind.Image e = refl
-same_kinds kind.Lut kind.Lut e = refl
-same_kinds kind.Threshold kind.Threshold e = refl
-same_kinds kind.Image kind.Lut e = cc
-same_kinds kind.Image kind.Threshold e = cc
-same_kinds kind.Lut kind.Image e = cc
-same_kinds kind.Lut kind.Threshold e = cc
-same_kinds kind.Threshold kind.Image e = cc
-same_kinds kind.Threshold kind.Lut e = cc
+or_false : (b : Bool) → (b || false) ≡ b
+or_false true = refl
+or_false false = refl
 
 -- a name that no object has
 pub nothing_named : (objects : List Named) (name : ℕ) → position (λ o. o.name == name) objects ≡ None → object_named objects name ≡ None
-nothing_named objects name e = ap (option_map (λ o. o.object)) (find_none_from (λ o. o.name == name) objects 0 (sym (position_from-zero (λ o. o.name == name) objects) ∙ e))
+nothing_named objects name e = ap (option_map (λ o. o.object)) (find_none (λ o. o.name == name) objects (fails_all (λ o. o.name == name) objects e))
 
--- the object of a name stands at the name's place
-pub named_there : (objects : List Named) (name place : ℕ) → position (λ o. o.name == name) objects ≡ Some place
-    → (place < length objects) × ((entry_at objects place).name ≡ name) × (object_named objects name ≡ Some (object_at objects place))
-named_there objects name place e =
-    let p = position-Some (λ o. o.name == name) objects place no_object e in
-    (p.0, eqb-true (entry_at objects place).name name p.1, ap (option_map (λ o. o.object)) (find_at (λ o. o.name == name) objects place no_object p.0 p.1 p.2))
+-- the object of a name stands at the name's index
+pub named_there : (objects : List Named) (name index : ℕ) → position (λ o. o.name == name) objects ≡ Some index
+    → (index < length objects) × ((entry_at objects index).name ≡ name) × (object_named objects name ≡ Some (entry_at objects index).object)
+named_there objects name index e =
+    let p = position-Some (λ o. o.name == name) objects index no_object e in
+    (p.0, eqb-true (entry_at objects index).name name p.1, ap (option_map (λ o. o.object)) (find_first (λ o. o.name == name) objects index no_object p.0 p.1 p.2))
+
+-- what is in a slot without a refusal
+accepted : (wanted : Kind) (slot : Option ℕ) (object : ObjectValue) → slot_refusal wanted slot object ≡ None → (is_kind wanted (slot_kind slot object) ≡ true) × IsTrue (is_some (in_slot slot object))
+accepted wanted slot object h = passes (is_kind wanted (slot_kind slot object)) (in_slot slot object) h
+  where
+    passes : (b : Bool) (o : Option ObjectValue) → (if not b then Some InvalidType else (if is_none o then Some InvalidValue else None)) ≡ None → (b ≡ true) × IsTrue (is_some o)
+    passes true (Some x) h = (refl, refl)
+    passes true None h = cc
+    passes false o h = cc
+
+-- what is there is of the kind that its slot is for
+kind_there : (wanted : Kind) (slot : Option ℕ) (object : ObjectValue) → is_kind wanted (slot_kind slot object) ≡ true → IsTrue (is_some (in_slot slot object)) → object_kind (object_in slot object) ≡ wanted
+kind_there wanted None object h there = sym (same_kind_equal wanted (object_kind object) h)
+kind_there wanted (Some k) (DelayObject images) h there =
+    ap object_kind (image_there (Some k) (DelayObject images) (slot_has_image k (DelayObject images) there)).1 ∙ sym (same_kind_equal wanted kind.Image h)
+kind_there wanted (Some k) other h there = cc
 
 -- an operand whose name no object has
 module _ (objects : List Named) (cell : Cell) (wanted : Kind) where
+  abbrev refusal_of : Option ObjectValue → Option Refusal
+  refusal_of found =
+      if (is_none found || false) then Some InvalidReference
+      else (if (not (is_kind wanted (option_and_then (slot_kind cell.slot) found)) || false) then Some InvalidType
+      else (if (is_none (option_and_then (in_slot cell.slot) found) || false) then Some InvalidValue else None))
+
   pub refused_unknown : position (λ o. o.name == cell.name) objects ≡ None → operands_refusal objects ((cell, wanted) ∷ []) ≡ Some InvalidReference
-  refused_unknown e =
-      ap (λ o. if (is_none o || false) then Some InvalidReference else (if list_any (is_of_other_kind objects) ((cell, wanted) ∷ []) then Some InvalidType else None)) (nothing_named objects cell.name e)
+  refused_unknown e = ap refusal_of (nothing_named objects cell.name e)
 
-  -- and one whose name has a place
-  module _ (place : ℕ) (e : position (λ o. o.name == cell.name) objects ≡ Some place) where
-    placed : (place < length objects) × ((entry_at objects place).name ≡ cell.name) × (object_named objects cell.name ≡ Some (object_at objects place))
-    placed = named_there objects cell.name place e
+  -- and one whose name has an index
+  module _ (index : ℕ) (e : position (λ o. o.name == cell.name) objects ≡ Some index) where
+    placed : (index < length objects) × ((entry_at objects index).name ≡ cell.name) × (object_named objects cell.name ≡ Some (entry_at objects index).object)
+    placed = named_there objects cell.name index e
 
-    held_there : (slot : Option ℕ) (object : ObjectValue) → (is_none slot && same_kind wanted (object_kind object)) ≡ true → (in_slot slot object ≡ Some object) × (object_kind object ≡ wanted)
-    held_there None object h = (refl, same_kinds wanted (object_kind object) h)
-    held_there (Some k) object h = cc
-
-    kind_there : (slot : Option ℕ) (object : ObjectValue) → is_of_kind wanted (in_slot slot object) ≡ (is_none slot && same_kind wanted (object_kind object))
-    kind_there None object = refl
-    kind_there (Some k) object = refl
-
-    held_is : held objects cell ≡ in_slot cell.slot (object_at objects place)
-    held_is = ap (option_and_then (in_slot cell.slot)) placed.2
-
-    refusal_is : operands_refusal objects ((cell, wanted) ∷ []) ≡ (if ((not (is_none cell.slot && same_kind wanted (object_kind (object_at objects place)))) || false) then Some InvalidType else None)
+    pub refusal_is : operands_refusal objects ((cell, wanted) ∷ []) ≡ slot_refusal wanted cell.slot (entry_at objects index).object
     refusal_is =
-        ap (λ o. if (is_none o || false) then Some InvalidReference else (if list_any (is_of_other_kind objects) ((cell, wanted) ∷ []) then Some InvalidType else None)) placed.2
-        ∙ ap (λ b. if (not b || false) then Some InvalidType else None) (ap (is_of_kind wanted) held_is ∙ kind_there cell.slot (object_at objects place))
+        let object = (entry_at objects index).object in
+        let other = not (is_kind wanted (slot_kind cell.slot object)) in
+        ap refusal_of placed.2
+        ∙ ap (λ b. if b then Some InvalidType else (if (is_none (in_slot cell.slot object) || false) then Some InvalidValue else None)) (or_false other)
+        ∙ ap (λ b. if other then Some InvalidType else (if b then Some InvalidValue else None)) (or_false (is_none (in_slot cell.slot object)))
 
-    pub stands_there : (is_none cell.slot && same_kind wanted (object_kind (object_at objects place))) ≡ true → StandsAt objects cell wanted place
+    pub stands_there : slot_refusal wanted cell.slot (entry_at objects index).object ≡ None → StandsAt objects cell wanted (record { index = index; slot = cell.slot })
     stands_there h =
-        let there = held_there cell.slot (object_at objects place) h in
-        record { within = placed.0; name = placed.1; object = held_is ∙ there.0; kind = there.1 }
+        let object = (entry_at objects index).object in
+        let there = accepted wanted cell.slot object h in
+        record {
+          stands = record { within = placed.0; there = there.1 };
+          named = ap (λ n. let c : Cell = record { name = n; slot = cell.slot } in c) placed.1;
+          object = ap (option_and_then (in_slot cell.slot)) placed.2 ∙ there_is cell.slot object there.1;
+          kind = kind_there wanted cell.slot object there.0 there.1;
+        }
 
-    pub refused_none : (is_none cell.slot && same_kind wanted (object_kind (object_at objects place))) ≡ true → operands_refusal objects ((cell, wanted) ∷ []) ≡ None
-    refused_none h = refusal_is ∙ ap (λ b. if (not b || false) then Some InvalidType else None) h
+-- the refusal of operands is that of its parts, names before kinds and these before slots
+abbrev classed : Bool → Bool → Bool → Option Refusal
+classed unknown other empty = if unknown then Some InvalidReference else (if other then Some InvalidType else (if empty then Some InvalidValue else None))
 
-    pub refused_kind : (is_none cell.slot && same_kind wanted (object_kind (object_at objects place))) ≡ false → operands_refusal objects ((cell, wanted) ∷ []) ≡ Some InvalidType
-    refused_kind h = refusal_is ∙ ap (λ b. if (not b || false) then Some InvalidType else None) h
-
--- the refusal of operands is that of its parts, names before kinds
-abbrev classed : Bool → Bool → Option Refusal
-classed unknown other = if unknown then Some InvalidReference else (if other then Some InvalidType else None)
-
-classes : (a b c d : Bool) → first_class (classed a b) (classed c d) ≡ classed (a || c) (b || d)
-classes true b c d = refl
-classes false true true d = refl
-classes false true false d = more d
-  where
-    more : (d : Bool) → first_class (classed false true) (classed false d) ≡ classed false true
-    more true = refl
-    more false = refl
-classes false false c d = refl
+classes : (a b c d e f : Bool) → first_class (classed a b c) (classed d e f) ≡ classed (a || d) (b || e) (c || f)
+classes true b c true e f = refl
+classes true b c false true f = refl
+classes true b c false false true = refl
+classes true b c false false false = refl
+classes false true c true e f = refl
+classes false true c false true f = refl
+classes false true c false false true = refl
+classes false true c false false false = refl
+classes false false true true e f = refl
+classes false false true false true f = refl
+classes false false true false false true = refl
+classes false false true false false false = refl
+classes false false false d e f = refl
 
 any-append : {X : Type 0} (p : X → Bool) (xs ys : List X) → list_any p (xs ++ ys) ≡ (list_any p xs || list_any p ys)
 any-append p [] ys = refl
@@ -127,48 +128,48 @@ pub refusal-append : (objects : List Named) (xs ys : List (Cell × Kind)) → fi
 refusal-append objects xs ys =
     let p : Cell × Kind → Bool = λ operand. is_unknown objects operand.0 in
     let q : Cell × Kind → Bool = is_of_other_kind objects in
-    classes (list_any p xs) (list_any q xs) (list_any p ys) (list_any q ys)
-    ∙ ap (λ b. classed b (list_any q xs || list_any q ys)) (sym (any-append p xs ys))
-    ∙ ap (classed (list_any p (xs ++ ys))) (sym (any-append q xs ys))
+    let r : Cell × Kind → Bool = λ operand. is_empty objects operand.0 in
+    classes (list_any p xs) (list_any q xs) (list_any r xs) (list_any p ys) (list_any q ys) (list_any r ys)
+    ∙ ap (λ b. classed b (list_any q xs || list_any q ys) (list_any r xs || list_any r ys)) (sym (any-append p xs ys))
+    ∙ ap (λ b. classed (list_any p (xs ++ ys)) b (list_any r xs || list_any r ys)) (sym (any-append q xs ys))
+    ∙ ap (classed (list_any p (xs ++ ys)) (list_any q (xs ++ ys))) (sym (any-append r xs ys))
 
 -- ---- images
 
-image_there : (object : ObjectValue) → object_kind object ≡ kind.Image → as_image (Some object) ≡ Ok (image_value object)
-image_there (ImageObject image) h = refl
-image_there (LutObject lut) h = cc
-image_there (ThresholdObject threshold) h = cc
+as_image-there : (object : ObjectValue) → object_kind object ≡ kind.Image → as_image (Some object) ≡ Ok (image_value object)
+as_image-there (ImageObject image) h = refl
+as_image-there other h = cc
 
-known : (slot : Option ℕ) (named : Option ObjectValue) (object : ObjectValue) → option_and_then (in_slot slot) named ≡ Some object → is_none named ≡ false
+-- what a cell holds has a name, and is of the kind that the cell is for
+known : (slot : Option ℕ) (named : Option ObjectValue) (object : ObjectValue) → option_and_then (in_slot slot) named ≡ Some object
+    → (is_none named ≡ false) × (is_kind (object_kind object) (option_and_then (slot_kind slot) named) ≡ true)
 known slot None object e = cc
-known slot (Some named) object e = refl
+known None (Some named) object e =
+    let same : named ≡ object = cc in (refl, ap (λ o. same_kind (object_kind object) (object_kind o)) same ∙ same_as_itself (object_kind object))
+known (Some k) (Some (DelayObject images)) object e = (refl, of_image (slice_get images k) e)
+  where
+    of_image : (found : Option ImageValue) → option_map ImageObject found ≡ Some object → same_kind (object_kind object) kind.Image ≡ true
+    of_image None e = cc
+    of_image (Some image) e = let same : ImageObject image ≡ object = cc in ap (λ o. same_kind (object_kind o) kind.Image) (sym same)
+known (Some k) (Some other) object e = cc
 
-pub image_of-there : (objects : List Named) (cell : Cell) (place : ℕ) → StandsAt objects cell kind.Image place → image_of objects cell ≡ Ok (image_at objects place)
+pub image_of-there : (objects : List Named) (cell : Cell) (place : Place) → StandsAt objects cell kind.Image place → image_of objects cell ≡ Ok (image_at objects place)
 image_of-there objects cell place h =
-    ap (λ b. let r : Result ImageValue Refusal = if b then Err InvalidReference else as_image (held objects cell) in r) (known cell.slot (object_named objects cell.name) (object_at objects place) h.object)
-    ∙ ap as_image h.object ∙ image_there (object_at objects place) h.kind
+    let is = known cell.slot (object_named objects cell.name) (object_at objects place) h.object in
+    let kind_is : is_kind kind.Image (kind_of objects cell) ≡ true = ap (λ k. is_kind k (kind_of objects cell)) (sym h.kind) ∙ is.1 in
+    ap (λ b. let r : Result ImageValue Refusal = if b then Err InvalidReference else (if is_of_other_kind objects (cell, kind.Image) then Err InvalidType else as_image (held objects cell)) in r) is.0
+    ∙ ap (λ b. let r : Result ImageValue Refusal = if not b then Err InvalidType else as_image (held objects cell) in r) kind_is
+    ∙ ap as_image h.object ∙ as_image-there (object_at objects place) h.kind
 
 pub image_of-refused : (objects : List Named) (cell : Cell) (refusal : Refusal) → Some refusal ≡ operands_refusal objects ((cell, kind.Image) ∷ []) → image_of objects cell ≡ Err refusal
-image_of-refused objects cell refusal e = refused (is_unknown objects cell) (held objects cell) e
+image_of-refused objects cell refusal e = refused (is_unknown objects cell) (is_of_other_kind objects (cell, kind.Image)) (held objects cell) e
   where
-    refused : (unknown : Bool) (object : Option ObjectValue) → Some refusal ≡ classed (unknown || false) (not (is_of_kind kind.Image object) || false)
-        → ◌≡◌ {A = Result ImageValue Refusal} (if unknown then Err InvalidReference else as_image object) (Err refusal)
-    refused true object h = let same : refusal ≡ InvalidReference = cc in ap (λ r. let e : Result ImageValue Refusal = Err r in e) (sym same)
-    refused false None h = let same : refusal ≡ InvalidType = cc in ap (λ r. let e : Result ImageValue Refusal = Err r in e) (sym same)
-    refused false (Some (ImageObject image)) h = cc
-    refused false (Some (LutObject lut)) h = let same : refusal ≡ InvalidType = cc in ap (λ r. let e : Result ImageValue Refusal = Err r in e) (sym same)
-    refused false (Some (ThresholdObject threshold)) h = let same : refusal ≡ InvalidType = cc in ap (λ r. let e : Result ImageValue Refusal = Err r in e) (sym same)
-
--- ---- objects that are released
-
-pub release-refused : (c : Context) (name : ℕ) → position (λ o. o.name == name) c.objects ≡ None → release c name ≡ Err InvalidReference
-release-refused c name e =
-    ap (λ o. let r : Outcome = if is_none o then Err InvalidReference else Ok (Empty, Some (with_objects c (without c.objects name))) in r) (nothing_named c.objects name e)
-
-pub release-done : (c : Context) (name place : ℕ) → position (λ o. o.name == name) c.objects ≡ Some place → release c name ≡ Ok (Empty, Some (with_objects c (without c.objects (entry_at c.objects place).name)))
-release-done c name place e =
-    let there = named_there c.objects name place e in
-    ap (λ o. let r : Outcome = if is_none o then Err InvalidReference else Ok (Empty, Some (with_objects c (without c.objects name))) in r) there.2
-    ∙ ap (λ n. let r : Outcome = Ok (Empty, Some (with_objects c (without c.objects n))) in r) (sym there.1)
+    refused : (unknown other : Bool) (object : Option ObjectValue) → Some refusal ≡ classed (unknown || false) (other || false) (is_none object || false)
+        → ◌≡◌ {A = Result ImageValue Refusal} (if unknown then Err InvalidReference else (if other then Err InvalidType else as_image object)) (Err refusal)
+    refused true other object h = let same : refusal ≡ InvalidReference = cc in ap (λ r. let e : Result ImageValue Refusal = Err r in e) (sym same)
+    refused false true object h = let same : refusal ≡ InvalidType = cc in ap (λ r. let e : Result ImageValue Refusal = Err r in e) (sym same)
+    refused false false None h = let same : refusal ≡ InvalidValue = cc in ap (λ r. let e : Result ImageValue Refusal = Err r in e) (sym same)
+    refused false false (Some object) h = cc
 
 -- ---- the operands of a node
 

@@ -1,19 +1,24 @@
 -- Objects under their names, when one is added or released, or others are written.
 use Rattle.std.proofs.Common.{◌≡◌, ℕ, ◌+◌, ◌<◌, Bool, true, false, cond, List, [], ◌∷◌, ◌++◌, length, map, zero, suc, refl, sym, ap, ◌∙◌, arith, Option, Some, None, IfSome}
-use Rattle.std.specs.Prelude.{All, ◌==◌, not, if◌then◌else◌, find, filter}
+use Rattle.std.specs.Prelude.{All, ◌==◌, not, if◌then◌else◌, find, filter, slice_get}
 use Rattle.std.specs.List.Sorted.{IsStrictlyIncreasing}
 use Rattle.std.specs.List.{AllPairs}
 use Rattle.std.proofs.lemmas.Bool.{cond_both, eqb-true, eqb-false}
 use Rattle.std.proofs.lemmas.List.Kept.{AllPairs-from_increasing, IsStrictlyIncreasing-filter}
 use Rattle.std.proofs.lemmas.List.Quantifiers.{all_pairs_push}
 use Rattle.std.proofs.lemmas.List.Elements.{All-nil, All-cons, All-head, All-tail, All-weaker}
-use Rattle.std.proofs.lemmas.Option.{IfSome_then}
+use Rattle.std.proofs.lemmas.Option.{IfSome_then, get_or_from_slice_get, slice_get_within}
+use Rattle.std.proofs.lemmas.List.{get_or-map, length-map}
 use Rattle.std.specs.Option.{option_map, option_and_then}
 use Rattle.std.proofs.lemmas.List.Sums.{sum_by-cons}
 use Rattle.vx_base.specs.Cell.{Cell}
-use Rattle.vx_base.specs.Object.{ObjectValue, object_bytes}
+use Rattle.vx_base.specs.declared.kind.Kind.TheVariants as kind
+use Rattle.vx_base.specs.Image.{ImageValue, description_of}
+use Rattle.vx_base.specs.Object.{ObjectValue, ImageObject, DelayObject, IsObject, IsDelay, object_bytes, object_kind}
+use Rattle.object_table.specs.Delay.{in_slot, with_slot, slot_kind}
 use Rattle.client_contexts.specs.Context.{Named, object_named, with_object, without, charge_of}
-use Rattle.client_contexts.specs.Operands.{held, in_slot}
+use Rattle.client_contexts.specs.Operands.{held, kind_of}
+use Rattle.client_contexts.proofs.OutlineLaws.{Outline, outline, same_outline_bytes, equal_to_one, MaySlot, outline-with_slot}
 
 -- ---- names that increase
 
@@ -84,93 +89,134 @@ object_named_has P (o ∷ objects) name h =
     (λ e. All-head (λ p. P p.object) o objects h)
     (λ e. object_named_has P objects name (All-tail (λ p. P p.object) o objects h))
 
--- what holds of each object holds of the one that a cell holds
-pub held_has : (P : ObjectValue → Type 0) (objects : List Named) (cell : Cell) → All (λ o. P o.object) objects → IfSome (held objects cell) P
-held_has P objects cell h = in_its_slot cell.slot (object_named objects cell.name) (object_named_has P objects cell.name h)
-  where
-    in_its_slot : (slot : Option ℕ) (object : Option ObjectValue) → IfSome object P → IfSome (option_and_then (in_slot slot) object) P
-    in_its_slot slot None h = tt
-    in_its_slot None (Some object) h = h
-    in_its_slot (Some k) (Some object) h = tt
-
--- each object of this name is charged so many bytes
-abbrev pub IsCharged : ℕ → ℕ → Named → Type 0
-IsCharged name bytes o = o.name ≡ name → object_bytes o.object ≡ bytes
+-- each object of this name has this outline
+abbrev pub HasOutline : ℕ → Outline → Named → Type 0
+HasOutline name is o = o.name ≡ name → outline o.object ≡ is
 
 -- where names increase, the object of a name is the only one
-pub object_named_charged : (objects : List Named) (name : ℕ) → IsStrictlyIncreasing (names_of objects) → IfSome (object_named objects name) (λ object. All (IsCharged name (object_bytes object)) objects)
-object_named_charged [] name h = tt
-object_named_charged (o ∷ objects) name h =
-    let IsOnly : List Named → ObjectValue → Type 0 = λ all object. All (IsCharged name (object_bytes object)) all in
+pub object_named_outline : (objects : List Named) (name : ℕ) → IsStrictlyIncreasing (names_of objects) → IfSome (object_named objects name) (λ object. All (HasOutline name (outline object)) objects)
+object_named_outline [] name h = tt
+object_named_outline (o ∷ objects) name h =
+    let IsOnly : List Named → ObjectValue → Type 0 = λ all object. All (HasOutline name (outline object)) all in
     let Is : Option Named → Type 0 = λ found. IfSome (option_map (λ p. p.object) found) (IsOnly (o ∷ objects)) in
     let above : All (λ p. o.name < p.name) objects = All-from_names (λ other. o.name < other) objects (increasing_head o.name (names_of objects) h) in
-    let rest : IfSome (object_named objects name) (IsOnly objects) = object_named_charged objects name (increasing_tail o.name (names_of objects) h) in
+    let rest : IfSome (object_named objects name) (IsOnly objects) = object_named_outline objects name (increasing_tail o.name (names_of objects) h) in
     cond_both (o.name == name) (Some o) (find (λ p. p.name == name) objects) Is
     (λ t. let same = eqb-true o.name name t in
-    All-cons (IsCharged name (object_bytes o.object)) o objects (λ e. refl)
-    (All-weaker (λ p. o.name < p.name) (IsCharged name (object_bytes o.object)) (λ p less e. absurd (omega arith)) objects above))
+    All-cons (HasOutline name (outline o.object)) o objects (λ e. refl)
+    (All-weaker (λ p. o.name < p.name) (HasOutline name (outline o.object)) (λ p less e. absurd (omega arith)) objects above))
     (λ t. IfSome_then (object_named objects name) rest
-    (λ object others. All-cons (IsCharged name (object_bytes object)) o objects (λ e. absurd (eqb-false o.name name t e)) others))
+    (λ object others. All-cons (HasOutline name (outline object)) o objects (λ e. absurd (eqb-false o.name name t e)) others))
 
--- where names increase, the object that a cell holds is the only one of its name
-pub held_charged : (objects : List Named) (cell : Cell) → IsStrictlyIncreasing (names_of objects) → IfSome (held objects cell) (λ object. All (IsCharged cell.name (object_bytes object)) objects)
-held_charged objects cell h = held_from cell.slot (object_named objects cell.name) (object_named_charged objects cell.name h)
+-- ---- what a cell holds
+
+-- what holds of each image that stands in a slot holds of what stands there
+slot_has : (P : ObjectValue → Type 0) (images : List ImageValue) (k : ℕ) → ((image : ImageValue) → slice_get images k ≡ Some image → P (ImageObject image)) → IfSome (in_slot (Some k) (DelayObject images)) P
+slot_has P images k h = if_there (slice_get images k) h
   where
-    held_from : (slot : Option ℕ) (object : Option ObjectValue) → IfSome object (λ x. All (IsCharged cell.name (object_bytes x)) objects) → IfSome (option_and_then (in_slot slot) object) (λ x. All (IsCharged cell.name (object_bytes x)) objects)
-    held_from slot None h = tt
-    held_from None (Some object) h = h
-    held_from (Some k) (Some object) h = tt
+    if_there : (found : Option ImageValue) → ((image : ImageValue) → found ≡ Some image → P (ImageObject image)) → IfSome (option_map ImageObject found) P
+    if_there None h = tt
+    if_there (Some image) h = h image refl
+
+-- what a cell holds is an object
+pub held_is : (objects : List Named) (cell : Cell) → All (λ o. IsObject o.object) objects → IfSome (held objects cell) IsObject
+held_is objects cell h = in_its_slot cell.slot (object_named objects cell.name) (object_named_has IsObject objects cell.name h)
+  where
+    in_its_slot : (slot : Option ℕ) (object : Option ObjectValue) → IfSome object IsObject → IfSome (option_and_then (in_slot slot) object) IsObject
+    in_its_slot slot None is = tt
+    in_its_slot None (Some object) is = is
+    in_its_slot (Some k) (Some (DelayObject images)) is =
+        slot_has IsObject images k (λ image e. rw (get_or_from_slice_get images k image image e) at (is.each k image (slice_get_within images k image e)))
+    in_its_slot (Some k) (Some other) is = tt
+
+-- what a cell holds is of the kind that the cell is for
+pub held_kind : (objects : List Named) (cell : Cell) → IfSome (held objects cell) (λ object. kind_of objects cell ≡ Some (object_kind object))
+held_kind objects cell = in_its_slot cell.slot (object_named objects cell.name)
+  where
+    in_its_slot : (slot : Option ℕ) (object : Option ObjectValue) → IfSome (option_and_then (in_slot slot) object) (λ x. option_and_then (slot_kind slot) object ≡ Some (object_kind x))
+    in_its_slot slot None = tt
+    in_its_slot None (Some object) = refl
+    in_its_slot (Some k) (Some (DelayObject images)) = slot_has (λ x. Some kind.Image ≡ Some (object_kind x)) images k (λ image e. refl)
+    in_its_slot (Some k) (Some other) = tt
+
+-- an object of this outline may be written to the cell, as far as this object has the cell's name
+abbrev pub Fits : Cell → Outline → Named → Type 0
+Fits cell new o = o.name ≡ cell.name → MaySlot cell.slot new (outline o.object)
+
+-- what may be written to a slot of an object of one outline may be to those of the same
+fits_alike : (objects : List Named) (cell : Cell) (new old : Outline) → All (HasOutline cell.name old) objects → MaySlot cell.slot new old → All (Fits cell new) objects
+fits_alike objects cell new old same may = All-weaker (HasOutline cell.name old) (Fits cell new) (λ o is e. rw (is e) may) objects same
+
+-- an image of a delay may be written to each of its slots
+image_fits : (images : List ImageValue) (j k : ℕ) (image : ImageValue) → IsDelay images → slice_get images k ≡ Some image → MaySlot (Some j) (outline (ImageObject image)) (outline (DelayObject images))
+image_fits images j k image is e i default below =
+    let within : k < length images = slice_get_within images k image e in
+    let there = get_or-map description_of images k image default within in
+    let read = get_or_from_slice_get images k image image e in
+    let same = equal_to_one (map description_of images) k default is.alike (omega (arith, within, length-map images description_of)) i default below in
+    cc
+
+-- where names increase, what a cell holds may be written to it
+pub held_fits : (objects : List Named) (cell : Cell) → All (λ o. IsObject o.object) objects → IsStrictlyIncreasing (names_of objects) → IfSome (held objects cell) (λ object. All (Fits cell (outline object)) objects)
+held_fits objects cell is names = in_its_slot cell.slot (object_named objects cell.name) (object_named_has IsObject objects cell.name is) (object_named_outline objects cell.name names)
+  where
+    in_its_slot : (slot : Option ℕ) (object : Option ObjectValue) → IfSome object IsObject → IfSome object (λ x. All (HasOutline cell.name (outline x)) objects)
+        → IfSome (option_and_then (in_slot slot) object) (λ x. All (Fits (record { name = cell.name; slot = slot }) (outline x)) objects)
+    in_its_slot slot None one only = tt
+    in_its_slot None (Some object) one only = fits_alike objects (record { name = cell.name; slot = None }) (outline object) (outline object) only refl
+    in_its_slot (Some k) (Some (DelayObject images)) one only =
+        slot_has (λ x. All (Fits (record { name = cell.name; slot = Some k }) (outline x)) objects) images k
+        (λ image e. fits_alike objects (record { name = cell.name; slot = Some k }) (outline (ImageObject image)) (outline (DelayObject images)) only (image_fits images k k image one e))
+    in_its_slot (Some k) (Some other) one only = tt
 
 -- ---- one object is written
 
--- what stands where an object may have been written
-abbrev written : Named → ℕ → ObjectValue → Named
-written o name object = if o.name == name then record { name = o.name; object = object } else o
+-- an object once this one is written to the cell, if it has the cell's name
+abbrev written : Named → Cell → ObjectValue → Named
+written o cell object = if o.name == cell.name then record { name = o.name; object = with_slot cell.slot object o.object } else o
 
 -- what holds of both holds of it
-written_or_kept : (P : Named → Type 0) (o : Named) (name : ℕ) (object : ObjectValue) → (o.name ≡ name → P (record { name = o.name; object = object })) → P o → P (written o name object)
-written_or_kept P o name object named kept = cond_both (o.name == name) (record { name = o.name; object = object }) o P (λ e. named (eqb-true o.name name e)) (λ e. kept)
+written_or_kept : (P : Named → Type 0) (o : Named) (cell : Cell) (object : ObjectValue) → (o.name ≡ cell.name → P (record { name = o.name; object = with_slot cell.slot object o.object })) → P o → P (written o cell object)
+written_or_kept P o cell object named kept =
+    cond_both (o.name == cell.name) (record { name = o.name; object = with_slot cell.slot object o.object }) o P (λ e. named (eqb-true o.name cell.name e)) (λ e. kept)
 
 -- what holds of each object holds after a write that keeps it
-pub All-with_object : (P : Named → Type 0) (objects : List Named) (name : ℕ) (object : ObjectValue) → ((o : Named) → P o → o.name ≡ name → P (record { name = o.name; object = object })) → All P objects → All P (with_object objects name object)
-All-with_object P [] name object keeps h = All-nil P
-All-with_object P (o ∷ objects) name object keeps h =
+pub All-with_object : (P Q : Named → Type 0) (objects : List Named) (cell : Cell) (object : ObjectValue)
+    → ((o : Named) → Q o → P o → o.name ≡ cell.name → P (record { name = o.name; object = with_slot cell.slot object o.object })) → All Q objects → All P objects → All P (with_object objects cell object)
+All-with_object P Q [] cell object keeps also h = All-nil P
+All-with_object P Q (o ∷ objects) cell object keeps also h =
     let here : P o = All-head P o objects h in
-    All-cons P (written o name object) (with_object objects name object)
-    (written_or_kept P o name object (keeps o here) here)
-    (All-with_object P objects name object keeps (All-tail P o objects h))
+    All-cons P (written o cell object) (with_object objects cell object)
+    (written_or_kept P o cell object (keeps o (All-head Q o objects also) here) here)
+    (All-with_object P Q objects cell object keeps (All-tail Q o objects also) (All-tail P o objects h))
 
 -- a write keeps the names
-pub names-with_object : (objects : List Named) (name : ℕ) (object : ObjectValue) → names_of (with_object objects name object) ≡ names_of objects
-names-with_object [] name object = refl
-names-with_object (o ∷ objects) name object =
-    let first = written_or_kept (λ p. p.name ≡ o.name) o name object (λ e. refl) refl in
-    let rest = names-with_object objects name object in
+pub names-with_object : (objects : List Named) (cell : Cell) (object : ObjectValue) → names_of (with_object objects cell object) ≡ names_of objects
+names-with_object [] cell object = refl
+names-with_object (o ∷ objects) cell object =
+    let first = written_or_kept (λ p. p.name ≡ o.name) o cell object (λ e. refl) refl in
+    let rest = names-with_object objects cell object in
     cc
 
 -- a write keeps how many there are
-pub length-with_object : (objects : List Named) (name : ℕ) (object : ObjectValue) → length (with_object objects name object) ≡ length objects
-length-with_object [] name object = refl
-length-with_object (o ∷ objects) name object = ap suc (length-with_object objects name object)
+pub length-with_object : (objects : List Named) (cell : Cell) (object : ObjectValue) → length (with_object objects cell object) ≡ length objects
+length-with_object [] cell object = refl
+length-with_object (o ∷ objects) cell object = ap suc (length-with_object objects cell object)
 
--- a write keeps the charge, if the object is charged what the one of this name was
-pub charge-with_object : (objects : List Named) (name : ℕ) (object : ObjectValue) → All (IsCharged name (object_bytes object)) objects → charge_of (with_object objects name object) ≡ charge_of objects
-charge-with_object [] name object h = refl
-charge-with_object (o ∷ objects) name object h =
-    let first : object_bytes (written o name object).object ≡ object_bytes o.object =
-    written_or_kept (λ p. object_bytes p.object ≡ object_bytes o.object) o name object
-    (λ e. sym (All-head (IsCharged name (object_bytes object)) o objects h e)) refl in
-    let rest = charge-with_object objects name object (All-tail (IsCharged name (object_bytes object)) o objects h) in
-    sum_by-cons (λ p. object_bytes p.object) (written o name object) (with_object objects name object)
+-- a write of what may be written keeps the charge
+pub charge-with_object : (objects : List Named) (cell : Cell) (object : ObjectValue) → All (Fits cell (outline object)) objects → charge_of (with_object objects cell object) ≡ charge_of objects
+charge-with_object [] cell object h = refl
+charge-with_object (o ∷ objects) cell object h =
+    let first : object_bytes (written o cell object).object ≡ object_bytes o.object =
+    written_or_kept (λ p. object_bytes p.object ≡ object_bytes o.object) o cell object
+    (λ e. same_outline_bytes (with_slot cell.slot object o.object) o.object (outline-with_slot cell.slot object o.object (All-head (Fits cell (outline object)) o objects h e))) refl in
+    let rest = charge-with_object objects cell object (All-tail (Fits cell (outline object)) o objects h) in
+    sum_by-cons (λ p. object_bytes p.object) (written o cell object) (with_object objects cell object)
     ∙ omega (arith, first, rest)
     ∙ sym (sum_by-cons (λ p. object_bytes p.object) o objects)
 
--- and then each name is charged what it was
-pub charged-with_object : (other bytes : ℕ) (objects : List Named) (name : ℕ) (object : ObjectValue) → All (IsCharged name (object_bytes object)) objects → All (IsCharged other bytes) objects → All (IsCharged other bytes) (with_object objects name object)
-charged-with_object other bytes [] name object h also = All-nil (IsCharged other bytes)
-charged-with_object other bytes (o ∷ objects) name object h also =
-    let here : IsCharged name (object_bytes object) o = All-head (IsCharged name (object_bytes object)) o objects h in
-    let kept : IsCharged other bytes o = All-head (IsCharged other bytes) o objects also in
-    All-cons (IsCharged other bytes) (written o name object) (with_object objects name object)
-    (written_or_kept (IsCharged other bytes) o name object (λ e f. sym (here e) ∙ kept f) kept)
-    (charged-with_object other bytes objects name object (All-tail (IsCharged name (object_bytes object)) o objects h) (All-tail (IsCharged other bytes) o objects also))
+-- after a write of what may be written, what else may be still may
+pub fits-with_object : (other : Cell) (also : Outline) (objects : List Named) (cell : Cell) (object : ObjectValue) → All (Fits cell (outline object)) objects → All (Fits other also) objects → All (Fits other also) (with_object objects cell object)
+fits-with_object other also objects cell object =
+    All-with_object (Fits other also) (Fits cell (outline object)) objects cell object
+    (λ o fits may e f. rw (outline-with_slot cell.slot object o.object (fits e)) (may f))

@@ -2,7 +2,7 @@
 use Rattle.std.proofs.Common.{◌≡◌, Bool, true, false, cond, ℕ, Option, Some, None, Ok, Err, IfOk, IfSome, refl}
 use Rattle.std.specs.Prelude.{◌==◌, is_none}
 use Rattle.std.proofs.lemmas.Bool.{cond_both, and_parts, eqb-true}
-use Rattle.vx_base.specs.Description.{Description, same_size, byte_count}
+use Rattle.vx_base.specs.Description.{Description, same_size}
 use Rattle.vx_base.specs.Object.{ObjectValue, IsObject, object_bytes}
 use Rattle.client_contexts.specs.declared.refusal.Refusal.{Refusal}
 use Rattle.client_contexts.specs.declared.refusal.Refusal.TheVariants.{InvalidReference, NoResources}
@@ -51,10 +51,11 @@ pub met : {R : Type 0} (b : Bool) (refusal : R) → cond b None (Some refusal) �
 met true refusal h = refl
 met false refusal h = cc
 
--- images of one size and format are charged alike
-pub same_bytes : (a b : Description) → same_size a b ≡ true → a.format ≡ b.format → byte_count a ≡ byte_count b
-same_bytes a b size format =
+-- descriptions of one size and format are one
+pub same_description : (a b : Description) → same_size a b ≡ true → a.format ≡ b.format → a ≡ b
+same_description a b size format =
     let both = and_parts (a.width == b.width) (a.height == b.height) size in
     let w = eqb-true a.width b.width both.0 in
     let h = eqb-true a.height b.height both.1 in
-    cc
+    let e : record { width = a.width; height = a.height; format = a.format } ≡ record { width = b.width; height = b.height; format = b.format } = cc in
+    e

@@ -1,37 +1,39 @@
 -- An output whose samples are taken out, and put back once a node has written them.
-use Rattle.std.proofs.Common.{◌≡◌, ◌≢◌, ℕ, ℤ, List, [], Option, Some, None, length, set, refl, sym, ap, subst, ◌∙◌}
+use Rattle.std.proofs.Common.{◌≡◌, ◌≢◌, ℤ, List, [], Option, Some, None, length, refl, sym, ap, subst, ◌∙◌}
 use Rattle.std.specs.Prelude.{IfSome}
 use Rattle.std.specs.Option.{option_map}
-use Rattle.std.proofs.lemmas.List.{get_or-set_same, get_or-set_other, set-set}
 use Rattle.vx_base.specs.declared.format.Format.{Format}
+use Rattle.vx_base.specs.declared.kind.Kind.{Kind}
 use Rattle.vx_base.specs.declared.kind.Kind.TheVariants as kind
 use Rattle.vx_base.specs.declared.node.Node.{Node}
 use Rattle.vx_base.specs.Rectangle.{Rectangle, empty}
 use Rattle.vx_base.specs.Description.{Description, sample_count}
+use Rattle.vx_base.specs.Function.{parameters}
 use Rattle.vx_base.specs.Image.{ImageValue, IsImage, image_over, description_of}
-use Rattle.vx_base.specs.Object.{ObjectValue, ImageObject, LutObject, ThresholdObject, object_kind}
+use Rattle.vx_base.specs.Object.{ObjectValue, ImageObject, IsObject, object_kind}
 use Rattle.vx_base.specs.Outputs.{node_output}
 use Rattle.vx_base.specs.Pixelwise.{node_image}
+use Rattle.vx_base.proofs.NodeLaws.{takes_no_delay}
 use Rattle.client_contexts.specs.declared.places.Places.{Places}
 use Rattle.object_table.specs.declared.names.Entry.{Entry}
+use Rattle.object_table.specs.declared.place.Place.{Place}
 use Rattle.object_table.specs.Object.{image_value, with_samples}
-use Rattle.object_table.specs.Table.{TableValue, no_object, entry_at, object_at, image_at, replaced, with_objects}
-use Rattle.client_contexts.specs.Steps.{CanRun, RunsTo, written_at}
+use Rattle.object_table.specs.Table.{TableValue, object_at, image_at, replaced, with_objects, IsPlace, HasImageAt}
+use Rattle.client_contexts.specs.Steps.{CanRun, AreApart, RunsTo, written_at}
+use Rattle.client_contexts.proofs.PlaceLemmas.{object_beside, place_beside, image_beside, replaced_twice, object_after, image_after}
 use Rattle.client_contexts.proofs.StoredLemmas.{stored_is, image_of_object}
 
 -- what is written by a node of images
-of_images : (n : Node) (first : ObjectValue) (second : Option ObjectValue) (out : ObjectValue) → object_kind first ≡ kind.Image → object_kind out ≡ kind.Image
+pub of_images : (n : Node) (first : ObjectValue) (second : Option ObjectValue) (out : ObjectValue) → object_kind first ≡ kind.Image → object_kind out ≡ kind.Image
     → ImageObject (node_image n (image_value out).format (image_value first) second) ≡ node_output n first second out
 of_images n (ImageObject a) second (ImageObject b) h i = refl
-of_images n (ImageObject a) second (LutObject b) h i = cc
-of_images n (ImageObject a) second (ThresholdObject b) h i = cc
-of_images n (LutObject a) second b h i = cc
-of_images n (ThresholdObject a) second b h i = cc
+of_images n (ImageObject a) second other h i = cc
+of_images n other second b h i = cc
 
 -- a node's output at a place of a table
-module _ (objects : List (Entry ObjectValue)) (n : Node) (p : Places) (output : ℕ) (given : Option ℕ) (is_given : given ≡ Some output) (asked : IfSome given (RunsTo objects n p)) where
+module _ (objects : List (Entry ObjectValue)) (n : Node) (p : Places) (output : Place) (given : Option Place) (is_given : given ≡ Some output) (asked : IfSome given (RunsTo objects n p)) where
   h : RunsTo objects n p output
-  h = subst (λ (o : Option ℕ). IfSome o (RunsTo objects n p)) is_given asked
+  h = subst (λ (o : Option Place). IfSome o (RunsTo objects n p)) is_given asked
 
   abbrev pub first : ImageValue
   first = image_at objects p.in1
@@ -42,12 +44,16 @@ module _ (objects : List (Entry ObjectValue)) (n : Node) (p : Places) (output : 
   abbrev pub out : ImageValue
   out = image_at objects output
 
+  pub writes_image : HasImageAt objects output
+  writes_image = h.out
+
   -- what the node reads stands beside the output, whatever stands there
   module _ (after : TableValue) (left : ObjectValue) (before : TableValue) (taken : after ≡ with_objects before (replaced objects output left)) where
     first_there : image_at after.objects p.in1 ≡ first
-    first_there =
-        ap (λ (t : TableValue). image_at t.objects p.in1) taken
-        ∙ ap (λ (e : Entry ObjectValue). image_value e.object) (get_or-set_other objects output p.in1 (record (entry_at objects output) { object = left }) no_object h.in1_apart)
+    first_there = ap (λ (t : TableValue). image_at t.objects p.in1) taken ∙ ap image_value (object_beside objects output h.out.within p.in1 left h.in1_apart)
+
+    pub reads_image : HasImageAt after.objects p.in1
+    reads_image = subst (λ (t : TableValue). HasImageAt t.objects p.in1) (sym taken) (image_beside objects output h.out.within p.in1 left h.in1_apart h.in1)
 
     pub first_is_image : (image : ImageValue) → image ≡ image_at after.objects p.in1 → IsImage image
     first_is_image image is = subst IsImage (sym (is ∙ first_there)) (image_of_object (object_at objects p.in1) h.runs.first_kind h.runs.first_is)
@@ -55,9 +61,26 @@ module _ (objects : List (Entry ObjectValue)) (n : Node) (p : Places) (output : 
     second_there : option_map (object_at after.objects) p.in2 ≡ second
     second_there = ap (λ (t : TableValue). option_map (object_at t.objects) p.in2) taken ∙ there p.in2 h.in2_apart
       where
-        there : (place : Option ℕ) → IfSome place (λ k. k ≢ output) → option_map (object_at (replaced objects output left)) place ≡ option_map (object_at objects) place
+        there : (place : Option Place) → IfSome place (λ k. AreApart k output) → option_map (object_at (replaced objects output left)) place ≡ option_map (object_at objects) place
         there None apart = refl
-        there (Some k) apart = ap (λ (e : Entry ObjectValue). Some e.object) (get_or-set_other objects output k (record (entry_at objects output) { object = left }) no_object apart)
+        there (Some k) apart = ap Some (object_beside objects output h.out.within k left apart)
+
+    pub second_has_place : IfSome p.in2 (IsPlace after.objects)
+    second_has_place = subst (λ (t : TableValue). IfSome p.in2 (IsPlace t.objects)) (sym taken) (there p.in2 h.in2_apart h.in2)
+      where
+        there : (place : Option Place) → IfSome place (λ k. AreApart k output) → IfSome place (IsPlace objects) → IfSome place (IsPlace (replaced objects output left))
+        there None apart is = tt
+        there (Some k) apart is = place_beside objects output h.out.within k left apart is
+
+    pub second_is_object : IfSome (option_map (object_at after.objects) p.in2) IsObject
+    second_is_object = subst (λ (o : Option ObjectValue). IfSome o IsObject) (sym second_there) h.runs.second_is
+
+    pub second_is_no_delay : IfSome (option_map (object_at after.objects) p.in2) (λ object. object_kind object ≢ kind.Delay)
+    second_is_no_delay = subst (λ (o : Option ObjectValue). IfSome o (λ object. object_kind object ≢ kind.Delay)) (sym second_there) (no_delay second h.runs.can_run.kind)
+      where
+        no_delay : (o : Option ObjectValue) → IfSome o (λ object. (parameters n.function).second_input ≡ Some (object_kind object)) → IfSome o (λ object. object_kind object ≢ kind.Delay)
+        no_delay None is = tt
+        no_delay (Some object) is = λ delay. takes_no_delay n.function (is ∙ ap (λ (k : Kind). Some k) delay)
 
   module _ (d : Description) (image : ImageValue) (describes : d ≡ description_of image) (is_out : image ≡ out) where
     described : d ≡ description_of out
@@ -85,20 +108,28 @@ module _ (objects : List (Entry ObjectValue)) (n : Node) (p : Places) (output : 
           → back ≡ with_objects after (replaced after.objects output (with_samples (object_at after.objects output) area samples)) → d.format ≡ format → area ≡ (node_image n format a b).valid → samples ≡ (node_image n format a b).samples
           → back ≡ with_objects before (written_at objects n p given)
       put_back is_left back area samples format is of_format valid written =
-          let e : Entry ObjectValue = entry_at objects output in
-          let emptied : Entry ObjectValue = record e { object = left } in
           let same : node_image n format a b ≡ node_image n out.format first second =
           ap (λ f. node_image n f a b) (sym of_format ∙ ap (λ (k : Description). k.format) described)
           ∙ ap (λ v. node_image n out.format v b) (is_first ∙ first_there after left before taken)
           ∙ ap (λ s. node_image n out.format first s) (is_second ∙ second_there after left before taken) in
           let image_is : image_over (description_of out) area samples ≡ node_image n out.format first second =
           stored_is n first second (description_of out) out area samples refl h.runs.can_run (valid ∙ ap (λ (i : ImageValue). i.valid) same) (written ∙ ap (λ (i : ImageValue). i.samples) same) in
+          let emptied : ImageValue = image_over (description_of out) out.valid [] in
           is
           ∙ ap (λ (t : TableValue). with_objects t (replaced t.objects output (with_samples (object_at t.objects output) area samples))) taken
           ∙ ap (with_objects before)
-          (set-set objects output emptied _
-          ∙ ap (λ (k : Entry ObjectValue). set objects output (record k { object = with_samples k.object area samples })) (get_or-set_same objects output emptied no_object h.within)
-          ∙ ap (λ (o : ObjectValue). set objects output (record e { object = with_samples o area samples })) is_left
-          ∙ ap (λ i. set objects output (record e { object = ImageObject i })) image_is
-          ∙ ap (λ i. set objects output (record e { object = i })) (of_images n (object_at objects p.in1) second (object_at objects output) h.runs.first_kind h.runs.out_kind)
+          (ap (λ (o : ObjectValue). replaced (replaced objects output o) output (with_samples (object_at (replaced objects output o) output) area samples)) is_left
+          ∙ ap (λ (o : ObjectValue). replaced (replaced objects output (ImageObject emptied)) output (with_samples o area samples)) (object_after objects output h.out emptied)
+          ∙ replaced_twice objects output h.out.within (ImageObject emptied) (image_over (description_of out) area samples)
+          ∙ ap (λ i. replaced objects output (ImageObject i)) image_is
+          ∙ ap (λ o. replaced objects output o) (of_images n (object_at objects p.in1) second (object_at objects output) h.runs.first_kind h.runs.out_kind)
           ∙ ap (written_at objects n p) (sym is_given))
+
+  -- samples can be put back where they were taken out
+  pub takes_back : (after before : TableValue) → after ≡ with_objects before (replaced objects output (with_samples (object_at objects output) out.valid [])) → HasImageAt after.objects output
+  takes_back after before taken = subst (λ (t : TableValue). HasImageAt t.objects output) (sym taken) (image_after objects output h.out (image_over (description_of out) out.valid []))
+
+  pub left_format : (after before : TableValue) → after ≡ with_objects before (replaced objects output (with_samples (object_at objects output) out.valid [])) → (image_at after.objects output).format ≡ out.format
+  left_format after before taken =
+      ap (λ (t : TableValue). (image_at t.objects output).format) taken
+      ∙ ap (λ (o : ObjectValue). (image_value o).format) (object_after objects output h.out (image_over (description_of out) out.valid []))

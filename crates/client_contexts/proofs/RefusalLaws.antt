@@ -5,11 +5,12 @@ use Rattle.vx_base.specs.declared.code.Code.{Code}
 use Rattle.vx_base.specs.declared.code.Code.TheVariants.{Success, NoMemory}
 use Rattle.vx_base.specs.Cell.{Cell}
 use Rattle.vx_base.specs.Image.{ImageValue, description_of, new_image}
-use Rattle.vx_base.specs.Object.{ObjectValue, ImageObject, LutObject, ThresholdObject, object_bytes}
+use Rattle.vx_base.specs.Object.{ObjectValue, ImageObject, LutObject, ThresholdObject, DelayObject, object_bytes}
 use Rattle.vx_base.specs.Picture.{PictureValue}
+use Rattle.object_table.specs.Delay.{new_delay}
 use Rattle.graph_verify.specs.declared.verdict.Verdict.TheVariants.{MultipleWriters}
 use Rattle.client_contexts.specs.declared.request.Request.{Request}
-use Rattle.client_contexts.specs.declared.request.Request.TheVariants.{OpenContext, ReleaseContext, CreateImage, WriteImage, ReadImage, Release, CreateLut, CreateThreshold, Immediate}
+use Rattle.client_contexts.specs.declared.request.Request.TheVariants.{OpenContext, ReleaseContext, CreateImage, WriteImage, ReadImage, Release, CreateLut, CreateThreshold, Immediate, CreateDelay, AgeDelay}
 use Rattle.client_contexts.specs.declared.refusal.Refusal.{Refusal}
 use Rattle.client_contexts.specs.declared.refusal.Refusal.TheVariants.{InvalidReference, NoResources, Rejected}
 use Rattle.client_contexts.specs.declared.reply.Reply.{Reply}
@@ -21,6 +22,7 @@ use Rattle.client_contexts.specs.Operands.{image_of}
 use Rattle.client_contexts.specs.Images.{create, write_to, picture_refusal, read_from}
 use Rattle.client_contexts.specs.Objects.{release}
 use Rattle.client_contexts.specs.Immediate.{node_refusal}
+use Rattle.client_contexts.specs.Delays.{create_like, age_named}
 use Rattle.client_contexts.specs.Answer.{outcome_of, answered, answer_to}
 
 -- ---- what is done is no refusal
@@ -60,6 +62,17 @@ release_told c name = unless_unknown (is_none (object_named c.objects name))
     unless_unknown true = tt
     unless_unknown false = λ code e. cc
 
+-- a new delay tells its name
+create_like_told : (limits : Allowance) (c : Context) (image : Result ImageValue Refusal) (slots : ℕ) → IsTold (create_like limits c image slots)
+create_like_told limits c (Err refusal) slots = tt
+create_like_told limits c (Ok image) slots = create_told limits c (DelayObject (new_delay (description_of image) slots))
+
+-- a delay one step later tells nothing
+age_told : (c : Context) (name : ℕ) (object : Option ObjectValue) → IsTold (age_named c name object)
+age_told c name None = tt
+age_told c name (Some (DelayObject images)) = λ code e. cc
+age_told c name (Some other) = tt
+
 -- each request that is done is answered by no refusal
 pub outcome_told : (limits : Allowance) (c : Context) (request : Request) → IsTold (outcome_of limits c request)
 outcome_told limits c OpenContext = tt
@@ -71,6 +84,8 @@ outcome_told limits c (Release name) = release_told c name
 outcome_told limits c (CreateLut lut) = create_told limits c (LutObject lut)
 outcome_told limits c (CreateThreshold threshold) = create_told limits c (ThresholdObject threshold)
 outcome_told limits c (Immediate n) = unless_told (node_refusal c.objects n) Empty _ (λ code e. cc)
+outcome_told limits c (CreateDelay cell slots) = create_like_told limits c (image_of c.objects cell) slots
+outcome_told limits c (AgeDelay name) = age_told c name (object_named c.objects name)
 
 -- ---- what a refusal says
 

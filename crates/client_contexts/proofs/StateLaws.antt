@@ -11,7 +11,8 @@ use Rattle.vx_base.specs.Object.{ObjectValue, IsObject, object_bytes}
 use Rattle.client_contexts.specs.Allowance.{Allowance}
 use Rattle.client_contexts.specs.Context.{Named, Context, new_context, with_object, with_written, with_new, with_objects, without, has_room, charge_of}
 use Rattle.client_contexts.specs.States.{KeepsLimits}
-use Rattle.client_contexts.proofs.NamedLaws.{IsCharged, increasing_names_push, increasing_names_without, All-with_object, names-with_object, length-with_object, charge-with_object, charged-with_object}
+use Rattle.client_contexts.proofs.OutlineLaws.{outline, IsObject-with_slot}
+use Rattle.client_contexts.proofs.NamedLaws.{Fits, increasing_names_push, increasing_names_without, All-with_object, names-with_object, length-with_object, charge-with_object, fits-with_object}
 
 -- a new context keeps the limits
 pub new_context_keeps : (limits : Allowance) → KeepsLimits limits new_context
@@ -57,33 +58,33 @@ without_keeps limits c name h =
       quota = omega (arith, h.quota, sum_by-filter_both named other (λ o. refl) (λ (o : Named). object_bytes o.object) c.objects);
     }
 
--- a cell and an object that may be written there: it is charged what the objects of the cell's name are
+-- a cell and an object that may be written to it
 pub record IsReplacement (objects : List Named) (w : Cell × ObjectValue) : Type 0 where
   pub is_object : IsObject w.1
-  pub charged : All (IsCharged w.0.name (object_bytes w.1)) objects
+  pub fits : All (Fits w.0 (outline w.1)) objects
 
--- the limits are kept where an object is written under a name
-pub with_object_keeps : (limits : Allowance) (c : Context) (w : Cell × ObjectValue) → KeepsLimits limits c → IsReplacement c.objects w → KeepsLimits limits (with_objects c (with_object c.objects w.0.name w.1))
-with_object_keeps limits c w h fits =
+-- the limits are kept where an object is written to a cell
+pub with_object_keeps : (limits : Allowance) (c : Context) (w : Cell × ObjectValue) → KeepsLimits limits c → IsReplacement c.objects w → KeepsLimits limits (with_objects c (with_object c.objects w.0 w.1))
+with_object_keeps limits c w h may =
     record {
-      objects = All-with_object (λ o. IsObject o.object) c.objects w.0.name w.1 (λ o is e. fits.is_object) h.objects;
-      names = rw (names-with_object c.objects w.0.name w.1) h.names;
-      below = All-with_object (λ o. o.name < c.next) c.objects w.0.name w.1 (λ o less e. less) h.below;
-      count = omega (arith, h.count, length-with_object c.objects w.0.name w.1);
-      quota = omega (arith, h.quota, charge-with_object c.objects w.0.name w.1 fits.charged);
+      objects = All-with_object (λ o. IsObject o.object) (Fits w.0 (outline w.1)) c.objects w.0 w.1 (λ o fits is e. IsObject-with_slot w.0.slot w.1 o.object (fits e) may.is_object is) may.fits h.objects;
+      names = rw (names-with_object c.objects w.0 w.1) h.names;
+      below = All-with_object (λ o. o.name < c.next) (Fits w.0 (outline w.1)) c.objects w.0 w.1 (λ o fits less e. less) may.fits h.below;
+      count = omega (arith, h.count, length-with_object c.objects w.0 w.1);
+      quota = omega (arith, h.quota, charge-with_object c.objects w.0 w.1 may.fits);
     }
 
 -- after a write, what else may be written may still be
-replacement_after : (objects : List Named) (w other : Cell × ObjectValue) → IsReplacement objects w → IsReplacement objects other → IsReplacement (with_object objects w.0.name w.1) other
-replacement_after objects w other fits also =
-    record { is_object = also.is_object; charged = charged-with_object other.0.name (object_bytes other.1) objects w.0.name w.1 fits.charged also.charged }
+replacement_after : (objects : List Named) (w other : Cell × ObjectValue) → IsReplacement objects w → IsReplacement objects other → IsReplacement (with_object objects w.0 w.1) other
+replacement_after objects w other may also =
+    record { is_object = also.is_object; fits = fits-with_object other.0 (outline other.1) objects w.0 w.1 may.fits also.fits }
 
--- the limits are kept where objects are written under their names
+-- the limits are kept where objects are written to their cells
 pub with_written_keeps : (limits : Allowance) (c : Context) (written : List (Cell × ObjectValue)) → KeepsLimits limits c → All (IsReplacement c.objects) written → KeepsLimits limits (with_objects c (with_written c.objects written))
-with_written_keeps limits c [] h fit = h
-with_written_keeps limits c (w ∷ written) h fit =
-    let first : IsReplacement c.objects w = All-head (IsReplacement c.objects) w written fit in
-    let rest : All (IsReplacement c.objects) written = All-tail (IsReplacement c.objects) w written fit in
-    let after : List Named = with_object c.objects w.0.name w.1 in
+with_written_keeps limits c [] h may = h
+with_written_keeps limits c (w ∷ written) h may =
+    let first : IsReplacement c.objects w = All-head (IsReplacement c.objects) w written may in
+    let rest : All (IsReplacement c.objects) written = All-tail (IsReplacement c.objects) w written may in
+    let after : List Named = with_object c.objects w.0 w.1 in
     with_written_keeps limits (with_objects c after) written (with_object_keeps limits c w h first)
     (All-weaker (IsReplacement c.objects) (IsReplacement after) (λ other also. replacement_after c.objects w other first also) written rest)

@@ -6,7 +6,7 @@ use Rattle.vx_base.specs.Image.{new_image}
 use Rattle.vx_base.specs.Object.{ImageObject, LutObject, ThresholdObject}
 use Rattle.vx_base.proofs.ImageLaws.{new_image_is}
 use Rattle.client_contexts.specs.declared.request.Request.{Request}
-use Rattle.client_contexts.specs.declared.request.Request.TheVariants.{OpenContext, ReleaseContext, CreateImage, WriteImage, ReadImage, Release, CreateLut, CreateThreshold, Immediate}
+use Rattle.client_contexts.specs.declared.request.Request.TheVariants.{OpenContext, ReleaseContext, CreateImage, WriteImage, ReadImage, Release, CreateLut, CreateThreshold, Immediate, CreateDelay, AgeDelay}
 use Rattle.client_contexts.specs.Allowance.{Allowance}
 use Rattle.client_contexts.specs.Context.{Context, State}
 use Rattle.client_contexts.specs.Request.{IsRequest}
@@ -16,6 +16,7 @@ use Rattle.client_contexts.specs.States.{KeepsLimits, state_after}
 use Rattle.client_contexts.proofs.StateLaws.{new_context_keeps}
 use Rattle.client_contexts.proofs.OutcomeLaws.{StateKeeps, Keeps, create_keeps, release_keeps}
 use Rattle.client_contexts.proofs.ImageStepLaws.{write_image_keeps, read_image_keeps}
+use Rattle.client_contexts.proofs.DelayStepLaws.{create_delay_keeps, age_delay_keeps}
 use Rattle.client_contexts.proofs.NodeStepLaws.{immediate_keeps}
 
 -- each request keeps the limits of a context
@@ -29,6 +30,8 @@ outcome_keeps limits c (Release name) h is = release_keeps limits c name h
 outcome_keeps limits c (CreateLut lut) h is = create_keeps limits c (LutObject lut) h is
 outcome_keeps limits c (CreateThreshold threshold) h is = create_keeps limits c (ThresholdObject threshold) h is
 outcome_keeps limits c (Immediate n) h is = immediate_keeps limits c n h is
+outcome_keeps limits c (CreateDelay cell slots) h is = create_delay_keeps limits c cell slots h is.1
+outcome_keeps limits c (AgeDelay name) h is = age_delay_keeps limits c name h
 
 -- the state after an outcome keeps the limits
 answered_keeps : (limits : Allowance) (c : Context) (outcome : Outcome) → KeepsLimits limits c → Keeps limits outcome → StateKeeps limits (answered c outcome).1

@@ -1,13 +1,13 @@
 -- Images that a context holds, and what nodes write to them.
-use Rattle.std.proofs.Common.{◌≡◌, ℕ, ℤ, List, Option, Some, None, true, false, Bool, refl, ap, ◌∙◌, sym}
-use Rattle.std.specs.Prelude.{◌==◌, ◌&&◌}
-use Rattle.std.proofs.lemmas.Bool.{eqb-true}
+use Rattle.std.proofs.Common.{◌≡◌, ℕ, ℤ, List, Option, Some, None, refl, ap, ◌∙◌, sym}
+use Rattle.std.specs.Prelude.{◌==◌}
+use Rattle.std.proofs.lemmas.Bool.{eqb-true, and_parts}
 use Rattle.vx_base.specs.declared.node.Node.{Node}
 use Rattle.vx_base.specs.declared.format.Format.{Format}
 use Rattle.vx_base.specs.Rectangle.{Rectangle}
 use Rattle.vx_base.specs.Description.{Description}
 use Rattle.vx_base.specs.Image.{ImageValue, IsImage, image_over, description_of}
-use Rattle.vx_base.specs.Object.{ObjectValue, ImageObject, LutObject, ThresholdObject, IsObject, object_kind}
+use Rattle.vx_base.specs.Object.{ObjectValue, ImageObject, LutObject, ThresholdObject, DelayObject, IsObject, object_kind}
 use Rattle.vx_base.specs.Pixelwise.{node_image}
 use Rattle.vx_base.proofs.ImageLaws.{same_parts}
 use Rattle.image_core.specs.Fits.{HaveSameSize}
@@ -15,16 +15,11 @@ use Rattle.client_contexts.specs.Steps.{CanRun}
 use Rattle.object_table.specs.Object.{image_value}
 use Rattle.vx_base.specs.declared.kind.Kind.TheVariants as kind
 
-both : (a b : Bool) → (a && b) ≡ true → (a ≡ true) × (b ≡ true)
-both true true e = (refl, refl)
-both true false e = cc
-both false b e = cc
-
 widths : (a b : ImageValue) → HaveSameSize a b → a.width ≡ b.width
-widths a b h = eqb-true a.width b.width (both (a.width == b.width) (a.height == b.height) h).0
+widths a b h = eqb-true a.width b.width (and_parts (a.width == b.width) (a.height == b.height) h).0
 
 heights : (a b : ImageValue) → HaveSameSize a b → a.height ≡ b.height
-heights a b h = eqb-true a.height b.height (both (a.width == b.width) (a.height == b.height) h).1
+heights a b h = eqb-true a.height b.height (and_parts (a.width == b.width) (a.height == b.height) h).1
 
 described : (w h k l : ℕ) (format : Format) → w ≡ k → h ≡ l → ◌≡◌ {A = Description} (record { width = w; height = h; format = format }) (record { width = k; height = l; format = format })
 described w h k l format e f =
@@ -37,6 +32,7 @@ described_node n format a None = refl
 described_node n format a (Some (ImageObject b)) = refl
 described_node n format a (Some (LutObject lut)) = refl
 described_node n format a (Some (ThresholdObject threshold)) = refl
+described_node n format a (Some (DelayObject images)) = refl
 
 -- an output keeps its description
 pub description_kept : (n : Node) (a : ImageValue) (second : Option ObjectValue) (out : ImageValue) → HaveSameSize out a → description_of (node_image n out.format a second) ≡ description_of out
@@ -60,5 +56,4 @@ module _ (n : Node) (a : ImageValue) (second : Option ObjectValue) (d : Descript
 -- an object that is an image is one
 pub image_of_object : (object : ObjectValue) → object_kind object ≡ kind.Image → IsObject object → IsImage (image_value object)
 image_of_object (ImageObject image) e is = is
-image_of_object (LutObject lut) e is = cc
-image_of_object (ThresholdObject threshold) e is = cc
+image_of_object other e is = cc

@@ -3,7 +3,7 @@ use Rattle.std.specs.Prelude.{Some, None, Ok, Err}
 use Rattle.vx_base.specs.declared.code.Code.TheVariants as code
 use Rattle.vx_base.specs.Object.{LutObject, ThresholdObject}
 use Rattle.client_contexts.specs.declared.request.Request.{Request}
-use Rattle.client_contexts.specs.declared.request.Request.TheVariants.{OpenContext, ReleaseContext, CreateImage, WriteImage, ReadImage, Release, CreateLut, CreateThreshold, Immediate}
+use Rattle.client_contexts.specs.declared.request.Request.TheVariants.{OpenContext, ReleaseContext, CreateImage, WriteImage, ReadImage, Release, CreateLut, CreateThreshold, Immediate, CreateDelay, AgeDelay}
 use Rattle.client_contexts.specs.declared.refusal.Refusal.TheVariants.{InvalidValue}
 use Rattle.client_contexts.specs.declared.reply.Reply.{Reply}
 use Rattle.client_contexts.specs.declared.reply.Reply.TheVariants.{Refused, Empty}
@@ -13,6 +13,7 @@ use Rattle.client_contexts.specs.Refusal.{Outcome, refusal_code}
 use Rattle.client_contexts.specs.Images.{create, create_image, write_image, read_image}
 use Rattle.client_contexts.specs.Objects.{release}
 use Rattle.client_contexts.specs.Immediate.{immediate}
+use Rattle.client_contexts.specs.Delays.{create_delay, age_delay}
 
 -- what a request comes to in the client's context
 abbrev pub outcome_of : Allowance → Context → Request → Outcome
@@ -25,6 +26,8 @@ outcome_of limits c (Release name) = release c name
 outcome_of limits c (CreateLut lut) = create limits c (LutObject lut)
 outcome_of limits c (CreateThreshold threshold) = create limits c (ThresholdObject threshold)
 outcome_of limits c (Immediate n) = immediate c n
+outcome_of limits c (CreateDelay cell slots) = create_delay limits c cell slots
+outcome_of limits c (AgeDelay name) = age_delay c name
 
 -- the reply to a client with a context, and its new state, which a refusal leaves as it is
 abbrev pub answered : Context → Outcome → Reply × State

@@ -7,6 +7,7 @@ use Rattle.std.specs.BTreeMap.{is_at}
 use Rattle.vx_base.specs.Cell.{Cell}
 use Rattle.vx_base.specs.Object.{ObjectValue, object_bytes}
 use Rattle.object_table.specs.declared.names.Entry.{Entry}
+use Rattle.object_table.specs.Delay.{with_slot}
 use Rattle.object_table.specs.Table.{TableValue}
 use Rattle.client_contexts.specs.Allowance.{Allowance}
 
@@ -40,16 +41,16 @@ State = Option Context
 abbrev pub object_named : List Named → ℕ → Option ObjectValue
 object_named objects name = option_map (λ o. o.object) (find (λ o. o.name == name) objects)
 
--- the objects, with this one under this name
-abbrev pub with_object : List Named → ℕ → ObjectValue → List Named
-with_object [] name object = []
-with_object (o ∷ objects) name object =
-    (if o.name == name then record { name = o.name; object = object } else o) ∷ with_object objects name object
+-- the objects, where this cell holds this one
+abbrev pub with_object : List Named → Cell → ObjectValue → List Named
+with_object [] cell object = []
+with_object (o ∷ objects) cell object =
+    (if o.name == cell.name then record { name = o.name; object = with_slot cell.slot object o.object } else o) ∷ with_object objects cell object
 
 -- the objects, where these cells hold these
 abbrev pub with_written : List Named → List (Cell × ObjectValue) → List Named
 with_written objects [] = objects
-with_written objects (w ∷ written) = with_written (with_object objects w.0.name w.1) written
+with_written objects (w ∷ written) = with_written (with_object objects w.0 w.1) written
 
 -- the objects of other names
 abbrev pub without : List Named → ℕ → List Named

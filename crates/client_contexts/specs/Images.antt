@@ -32,7 +32,7 @@ picture_refusal image picture =
 abbrev pub write_to : Result ImageValue Refusal → Context → Cell → PictureValue → Outcome
 write_to (Err refusal) c cell p = Err refusal
 write_to (Ok image) c cell p =
-    unless (picture_refusal (description_of image) p.description) Empty (with_objects c (with_object c.objects cell.name (ImageObject (pictured p))))
+    unless (picture_refusal (description_of image) p.description) Empty (with_objects c (with_object c.objects cell (ImageObject (pictured p))))
 
 abbrev pub write_image : Context → Cell → PictureValue → Outcome
 write_image c cell p = write_to (image_of c.objects cell) c cell p

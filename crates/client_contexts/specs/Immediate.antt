@@ -1,7 +1,6 @@
 -- A node that runs by itself, at once. OpenVX 1.3, "Graphs", immediate mode.
-use Rattle.std.specs.Prelude.{List, Option, Some, if◌then◌else◌}
-use Rattle.std.specs.List.{list_any}
-use Rattle.std.specs.Option.{option_map, option_and_then}
+use Rattle.std.specs.Prelude.{List, Option}
+use Rattle.std.specs.Option.{option_map, option_and_then, option_or}
 use Rattle.vx_base.specs.declared.node.Node.{Node}
 use Rattle.vx_base.specs.Cell.{Cell}
 use Rattle.vx_base.specs.Node.{operands}
@@ -11,11 +10,11 @@ use Rattle.graph_verify.specs.declared.operand.Operands.{Operands}
 use Rattle.graph_verify.specs.Operand.{operand_of}
 use Rattle.graph_verify.specs.Verdict.{verdict_on}
 use Rattle.client_contexts.specs.declared.refusal.Refusal.{Refusal}
-use Rattle.client_contexts.specs.declared.refusal.Refusal.TheVariants.{InvalidReference, InvalidType, Rejected}
+use Rattle.client_contexts.specs.declared.refusal.Refusal.TheVariants.{Rejected}
 use Rattle.client_contexts.specs.declared.reply.Reply.TheVariants.{Empty}
 use Rattle.client_contexts.specs.Context.{Named, Context, with_written, with_objects}
 use Rattle.client_contexts.specs.Refusal.{Outcome, unless}
-use Rattle.client_contexts.specs.Operands.{held, is_unknown, is_of_other_kind}
+use Rattle.client_contexts.specs.Operands.{held, operands_refusal}
 
 -- what a cell of a node holds, as an operand
 abbrev pub operand_in : List Named → Cell → Option Operand
@@ -29,12 +28,9 @@ abbrev pub operands_in : List Named → Node → Option Operands
 operands_in objects n =
     option_map (λ in1. record { in1 = in1; in2 = operand_if objects n.in2; out1 = operand_if objects n.out1; out2 = operand_if objects n.out2 }) (operand_in objects n.in1)
 
--- the first refusal that applies: a name that no object has, an operand of another kind, the verdict on the graph of this node alone
+-- the first refusal of its operands, and then the verdict on the graph of this node alone
 abbrev pub node_refusal : List Named → Node → Option Refusal
-node_refusal objects n =
-    if list_any (λ operand. is_unknown objects operand.0) (operands n) then Some InvalidReference
-    else (if list_any (is_of_other_kind objects) (operands n) then Some InvalidType
-    else option_map Rejected (option_and_then (verdict_on n) (operands_in objects n)))
+node_refusal objects n = option_or (operands_refusal objects (operands n)) (option_map Rejected (option_and_then (verdict_on n) (operands_in objects n)))
 
 -- Immediate: each output becomes what the node gives
 abbrev pub immediate : Context → Node → Outcome

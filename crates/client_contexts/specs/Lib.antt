@@ -6,6 +6,7 @@ pub mod Operands
 pub mod Images
 pub mod Objects
 pub mod Immediate
+pub mod Delays
 pub mod Answer
 pub mod States
 pub mod Applies

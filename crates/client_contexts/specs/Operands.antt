@@ -1,39 +1,55 @@
 -- What references and the operands of nodes name.
-use Rattle.std.specs.Prelude.{ℕ, Bool, false, not, List, Option, Some, None, is_none, Result, Ok, Err, if◌then◌else◌}
+use Rattle.std.specs.Prelude.{Bool, false, not, List, Option, Some, None, is_none, Result, Ok, Err, if◌then◌else◌}
+use Rattle.std.specs.List.{list_any}
 use Rattle.std.specs.Option.{option_and_then}
 use Rattle.vx_base.specs.declared.kind.Kind.{Kind}
+use Rattle.vx_base.specs.declared.kind.Kind.TheVariants as kind
 use Rattle.vx_base.specs.Cell.{Cell}
 use Rattle.vx_base.specs.Image.{ImageValue}
-use Rattle.vx_base.specs.Object.{ObjectValue, ImageObject, object_kind, same_kind}
+use Rattle.vx_base.specs.Object.{ObjectValue, ImageObject, same_kind}
+use Rattle.object_table.specs.Delay.{in_slot, slot_kind}
 use Rattle.client_contexts.specs.declared.refusal.Refusal.{Refusal}
-use Rattle.client_contexts.specs.declared.refusal.Refusal.TheVariants.{InvalidReference, InvalidType}
+use Rattle.client_contexts.specs.declared.refusal.Refusal.TheVariants.{InvalidReference, InvalidType, InvalidValue}
 use Rattle.client_contexts.specs.Context.{Named, object_named}
 
 -- whether no object has the cell's name
 abbrev pub is_unknown : List Named → Cell → Bool
 is_unknown objects cell = is_none (object_named objects cell.name)
 
--- what stands in a slot of an object: no object here has slots
-abbrev pub in_slot : Option ℕ → ObjectValue → Option ObjectValue
-in_slot None object = Some object
-in_slot (Some k) object = None
+-- the kind of what a cell is for: an object's, or an image's where it is a slot of a delay
+abbrev pub kind_of : List Named → Cell → Option Kind
+kind_of objects cell = option_and_then (slot_kind cell.slot) (object_named objects cell.name)
+
+abbrev pub is_kind : Kind → Option Kind → Bool
+is_kind wanted None = false
+is_kind wanted (Some kind) = same_kind wanted kind
+
+-- whether a cell is for no object of the kind that is wanted there
+abbrev pub is_of_other_kind : List Named → Cell × Kind → Bool
+is_of_other_kind objects operand = not (is_kind operand.1 (kind_of objects operand.0))
 
 -- the object that a cell holds
 abbrev pub held : List Named → Cell → Option ObjectValue
 held objects cell = option_and_then (in_slot cell.slot) (object_named objects cell.name)
 
-abbrev pub is_of_kind : Kind → Option ObjectValue → Bool
-is_of_kind kind None = false
-is_of_kind kind (Some object) = same_kind kind (object_kind object)
+-- whether a cell holds nothing: its name is nobody's, or its slot isn't there
+abbrev pub is_empty : List Named → Cell → Bool
+is_empty objects cell = is_none (held objects cell)
 
--- whether a cell holds no object of the kind that is wanted there
-abbrev pub is_of_other_kind : List Named → Cell × Kind → Bool
-is_of_other_kind objects operand = not (is_of_kind operand.1 (held objects operand.0))
+-- the first refusal of cells, each with the kind that is wanted there: all names come before all kinds, and these before all slots
+abbrev pub operands_refusal : List Named → List (Cell × Kind) → Option Refusal
+operands_refusal objects operands =
+    if list_any (λ operand. is_unknown objects operand.0) operands then Some InvalidReference
+    else (if list_any (is_of_other_kind objects) operands then Some InvalidType
+    else (if list_any (λ operand. is_empty objects operand.0) operands then Some InvalidValue else None))
 
+-- an image, or the refusal of a slot that isn't there
 abbrev pub as_image : Option ObjectValue → Result ImageValue Refusal
 as_image (Some (ImageObject image)) = Ok image
-as_image other = Err InvalidType
+as_image other = Err InvalidValue
 
 -- the image that a reference names, or why it names none
 abbrev pub image_of : List Named → Cell → Result ImageValue Refusal
-image_of objects cell = if is_unknown objects cell then Err InvalidReference else as_image (held objects cell)
+image_of objects cell =
+    if is_unknown objects cell then Err InvalidReference
+    else (if is_of_other_kind objects (cell, kind.Image) then Err InvalidType else as_image (held objects cell))

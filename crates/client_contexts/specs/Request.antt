@@ -1,13 +1,14 @@
 -- What a client asks for.
-use Rattle.std.specs.Prelude.{⊤, ◌<◌, ◌^◌}
+use Rattle.std.specs.Prelude.{⊤, IsTrue, ◌<◌, ◌^◌}
 use Rattle.vx_base.specs.Cell.{IsCell}
 use Rattle.vx_base.specs.Description.{IsDescription}
 use Rattle.vx_base.specs.Node.{IsNode}
 use Rattle.vx_base.specs.Picture.{IsPicture}
 use Rattle.vx_base.specs.Lut.{IsLut}
 use Rattle.vx_base.specs.Threshold.{IsThreshold}
+use Rattle.vx_base.specs.Slots.{is_slot_count}
 use Rattle.client_contexts.specs.declared.request.Request.{Request}
-use Rattle.client_contexts.specs.declared.request.Request.TheVariants.{OpenContext, ReleaseContext, CreateImage, WriteImage, ReadImage, Release, CreateLut, CreateThreshold, Immediate}
+use Rattle.client_contexts.specs.declared.request.Request.TheVariants.{OpenContext, ReleaseContext, CreateImage, WriteImage, ReadImage, Release, CreateLut, CreateThreshold, Immediate, CreateDelay, AgeDelay}
 
 -- a request of values that their types allow
 abbrev pub IsRequest : Request → Type 0
@@ -20,6 +21,8 @@ IsRequest (Release name) = name < 2 ^ 32
 IsRequest (CreateLut lut) = IsLut lut
 IsRequest (CreateThreshold threshold) = IsThreshold threshold
 IsRequest (Immediate node) = IsNode node
+IsRequest (CreateDelay cell slots) = IsCell cell × IsTrue (is_slot_count slots)
+IsRequest (AgeDelay name) = name < 2 ^ 32
 
 -- the requests that may take memory, and may find none
 abbrev pub TakesMemory : Request → Type 0
@@ -32,3 +35,5 @@ TakesMemory (Release name) = ⊥
 TakesMemory (CreateLut lut) = ⊤
 TakesMemory (CreateThreshold threshold) = ⊤
 TakesMemory (Immediate node) = ⊤
+TakesMemory (CreateDelay cell slots) = ⊤
+TakesMemory (AgeDelay name) = ⊥

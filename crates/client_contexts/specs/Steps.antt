@@ -1,11 +1,9 @@
 -- What a request does in the context of its client, and where a node runs.
-use Rattle.std.specs.Prelude.{ℕ, ◌≡◌, ◌≢◌, ◌<◌, IsTrue, ⊤, if◌then◌else◌, List, length, Option, Some, None, Result, Ok, Err, IfOk, IfErr, OnErr, IfSome}
-use Rattle.std.specs.List.{list_any}
+use Rattle.std.specs.Prelude.{ℕ, ◌≡◌, ◌≢◌, not, is_none, IsTrue, ⊤, if◌then◌else◌, List, Option, Some, None, Result, Ok, Err, IfOk, IfErr, OnErr, IfSome}
 use Rattle.std.specs.Option.{option_map, option_and_then}
 use Rattle.vx_base.specs.declared.kind.Kind.{Kind}
 use Rattle.vx_base.specs.declared.kind.Kind.TheVariants as kind
 use Rattle.vx_base.specs.declared.node.Node.{Node}
-use Rattle.vx_base.specs.Cell.{Cell}
 use Rattle.vx_base.specs.Formats.{takes_formats}
 use Rattle.vx_base.specs.Image.{ImageValue}
 use Rattle.vx_base.specs.Function.{parameters}
@@ -20,15 +18,17 @@ use Rattle.client_contexts.specs.declared.fault.RequestFault.{RequestFault}
 use Rattle.client_contexts.specs.declared.fault.RequestFault.TheVariants.{Refused, NoMemory}
 use Rattle.client_contexts.specs.declared.places.Places.{Places}
 use Rattle.client_contexts.specs.declared.refusal.Refusal.{Refusal}
-use Rattle.client_contexts.specs.declared.refusal.Refusal.TheVariants.{InvalidReference, InvalidType}
+use Rattle.client_contexts.specs.declared.refusal.Refusal.TheVariants.{InvalidReference, InvalidType, InvalidValue}
 use Rattle.client_contexts.specs.declared.reply.Reply.{Reply}
 use Rattle.client_contexts.specs.Context.{Named, Context}
 use Rattle.client_contexts.specs.Refusal.{Outcome}
-use Rattle.client_contexts.specs.Operands.{is_unknown, is_of_other_kind}
 use Rattle.object_table.specs.declared.names.Entry.{Entry}
+use Rattle.object_table.specs.declared.place.Place.{Place}
+use Rattle.object_table.specs.Delay.{in_slot, slot_kind}
 use Rattle.object_table.specs.Object.{image_value}
 use Rattle.object_table.specs.Table as table
-use Rattle.client_contexts.specs.Places.{object_at, object_if_at, StandsAt, StandsIf}
+use Rattle.client_contexts.specs.Operands.{is_kind}
+use Rattle.client_contexts.specs.Places.{object_at, object_if_at, IsPlace, StandsAt, StandsIf}
 
 -- ---- results
 
@@ -55,23 +55,25 @@ WantsMemory NoMemory takes = takes
 
 -- ---- operands
 
--- the refusal of what cells hold, all names before any kind
-abbrev pub operands_refusal : List Named → List (Cell × Kind) → Option Refusal
-operands_refusal objects operands =
-    if list_any (λ operand. is_unknown objects operand.0) operands then Some InvalidReference
-    else (if list_any (is_of_other_kind objects) operands then Some InvalidType else None)
-
 -- why there is no result
 abbrev pub refusal_in : {A : Type 0} → Result A Refusal → Option Refusal
 refusal_in (Ok value) = None
 refusal_in (Err refusal) = Some refusal
 
--- of two refusals that of a name that no object has, or else the first
+-- why an object, or what stands in a slot of it, isn't what is wanted
+abbrev pub slot_refusal : Kind → Option ℕ → ObjectValue → Option Refusal
+slot_refusal wanted slot object =
+    if not (is_kind wanted (slot_kind slot object)) then Some InvalidType
+    else (if is_none (in_slot slot object) then Some InvalidValue else None)
+
+-- of two refusals of operands the one that comes first: that of a name, or that of a kind, or that of a slot
 abbrev pub first_class : Option Refusal → Option Refusal → Option Refusal
 first_class None other = other
-first_class (Some InvalidReference) other = Some InvalidReference
-first_class (Some refusal) (Some InvalidReference) = Some InvalidReference
-first_class (Some refusal) other = Some refusal
+first_class one None = one
+first_class (Some InvalidReference) (Some other) = Some InvalidReference
+first_class (Some one) (Some InvalidReference) = Some InvalidReference
+first_class (Some InvalidType) (Some other) = Some InvalidType
+first_class (Some one) (Some other) = Some other
 
 -- ---- nodes
 
@@ -82,11 +84,12 @@ pub record StandAt (objects : List Named) (n : Node) (p : Places) : Type 0 where
   pub out1 : StandsIf objects n.out1 (parameters n.function).output p.out1
   pub out2 : StandsIf objects n.out2 (parameters n.function).output p.out2
 
-pub record AreWithin (objects : List Named) (p : Places) : Type 0 where
-  pub in1 : p.in1 < length objects
-  pub in2 : IfSome p.in2 (λ place. place < length objects)
-  pub out1 : IfSome p.out1 (λ place. place < length objects)
-  pub out2 : IfSome p.out2 (λ place. place < length objects)
+-- places at which objects stand
+pub record ArePlaces (objects : List Named) (p : Places) : Type 0 where
+  pub in1 : IsPlace objects p.in1
+  pub in2 : IfSome p.in2 (IsPlace objects)
+  pub out1 : IfSome p.out1 (IsPlace objects)
+  pub out2 : IfSome p.out2 (IsPlace objects)
 
 -- what stands there, as operands
 abbrev pub operands_at : List Named → Places → Operands
@@ -121,20 +124,28 @@ pub record RunsOn (n : Node) (first : ObjectValue) (second : Option ObjectValue)
   pub out_is : IsObject out
   pub can_run : CanRun n (image_value first) second (image_value out)
 
+-- places of which one can be written without the other: of two objects, or two slots of one
+abbrev pub TwoSlots : Option ℕ → Option ℕ → Type 0
+TwoSlots (Some j) (Some k) = j ≢ k
+TwoSlots j k = ⊥
+
+abbrev pub AreApart : Place → Place → Type 0
+AreApart p q = p.index ≡ q.index → TwoSlots p.slot q.slot
+
 -- an output at a place of a table, apart from what the node reads
-pub record RunsTo (objects : List (Entry ObjectValue)) (n : Node) (p : Places) (output : ℕ) : Type 0 where
-  pub in1_within : p.in1 < length objects
-  pub in2_within : IfSome p.in2 (λ place. place < length objects)
-  pub within : output < length objects
-  pub in1_apart : p.in1 ≢ output
-  pub in2_apart : IfSome p.in2 (λ place. place ≢ output)
+pub record RunsTo (objects : List (Entry ObjectValue)) (n : Node) (p : Places) (output : Place) : Type 0 where
+  pub in1 : table.HasImageAt objects p.in1
+  pub in2 : IfSome p.in2 (table.IsPlace objects)
+  pub out : table.HasImageAt objects output
+  pub in1_apart : AreApart p.in1 output
+  pub in2_apart : IfSome p.in2 (λ place. AreApart place output)
   pub runs : RunsOn n (table.object_at objects p.in1) (option_map (table.object_at objects) p.in2) (table.object_at objects output)
 
 -- what the output becomes
-abbrev pub output_at : List (Entry ObjectValue) → Node → Places → ℕ → ObjectValue
+abbrev pub output_at : List (Entry ObjectValue) → Node → Places → Place → ObjectValue
 output_at objects n p output = node_output n (table.object_at objects p.in1) (option_map (table.object_at objects) p.in2) (table.object_at objects output)
 
 -- the objects once the output is written, if it is there
-abbrev pub written_at : List (Entry ObjectValue) → Node → Places → Option ℕ → List (Entry ObjectValue)
+abbrev pub written_at : List (Entry ObjectValue) → Node → Places → Option Place → List (Entry ObjectValue)
 written_at objects n p None = objects
 written_at objects n p (Some output) = table.replaced objects output (output_at objects n p output)

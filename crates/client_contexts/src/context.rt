@@ -1,14 +1,15 @@
 //! The context of a client: its objects, their names and their charge.
-ghost use Rattle.std.specs.Prelude.{◌≡◌, ◌*◌, ◌<◌, ◌≤◌, ◌==◌, is_none, if◌then◌else◌, Ok, Err, length, position, IfOk, OnOk, OnErr};
+ghost use Rattle.std.specs.Prelude.{◌≡◌, ◌*◌, ◌<◌, ◌≤◌, ◌==◌, is_none, if◌then◌else◌, None, Ok, Err, length, position, IfOk, OnOk, OnErr};
 ghost use Rattle.vx_base.specs.declared.kind.Kind.TheVariants as kind;
 ghost use Rattle.vx_base.specs.Image.{IsImage, description_of};
 ghost use Rattle.vx_base.specs.Object.{ImageObject, IsObject, object_kind};
 ghost use Rattle.vx_base.specs.Outputs.{written_by};
 ghost use Rattle.vx_base.specs.Picture.{pictured};
-ghost use Rattle.client_contexts.specs.declared.refusal.Refusal.TheVariants.{InvalidReference};
+ghost use Rattle.object_table.specs.Object.{aged_object};
+ghost use Rattle.client_contexts.specs.declared.refusal.Refusal.TheVariants.{InvalidReference, NoResources};
 ghost use Rattle.client_contexts.specs.Context.{new_context, has_room, object_named, with_object, with_objects, with_written, without, with_new};
 ghost use Rattle.client_contexts.specs.Operands.{held};
-ghost use Rattle.client_contexts.specs.Places.{entry_at, object_at, image_at};
+ghost use Rattle.client_contexts.specs.Places.{entry_at, image_at, cell_at, HasImageAt};
 ghost use Rattle.client_contexts.specs.Steps.{Runs};
 
 use crate::limits::Limits;
@@ -16,7 +17,7 @@ use crate::memory::NoMemory;
 use crate::places::Places;
 use crate::refusal::Refusal;
 use crate::run::run_at;
-use object_table::{Object, Stored, Table};
+use object_table::{Object, Place, Stored, Table};
 use std::alloc::Global;
 use std::marker::Model;
 use vx_base::{Node, Picture};
@@ -55,13 +56,19 @@ impl Context {
         self.table.allocator()
     }
 
-    /// Whether an object that is charged so many bytes, at most those of the largest image, can be
-    /// added: a name is left, fewer than 1,024 objects are held, and the quota allows it.
-    pub fn has_room(&self, limits: Limits, bytes: usize) -> bool
-        requires { bytes ≤ 4 * 4096 * 4096 }
-        ensures { result ≡ has_room limits self.now bytes }
+    /// Room for an object that is charged so many bytes, at most those of 16 of the largest images.
+    /// `NoResources` unless a name is left, fewer than 1,024 objects are held, and the quota allows
+    /// it.
+    pub fn look_for_room(&self, limits: Limits, bytes: usize) -> Result<(), Refusal>
+        requires { bytes ≤ 16 * 67108864 }
+        ensures { result ≡ (if has_room limits self.now bytes then Ok tt else Err NoResources) }
     {
-        self.table.has_place() && self.table.charged_bytes() + bytes as u64 <= limits.quota()
+        let charge = self.table.charged_bytes() + bytes as u64;
+        if self.table.can_insert() && charge <= limits.quota() {
+            Ok(())
+        } else {
+            Err(Refusal::NoResources)
+        }
     }
 
     /// Adds an object under the next name.
@@ -91,25 +98,24 @@ impl Context {
         }
     }
 
-    /// The place of the object with this name.
-    pub fn place_of(&self, name: u32) -> Option<usize>
+    /// The index of the object with this name.
+    pub fn index_of(&self, name: u32) -> Option<usize>
         ensures { result ≡ position (λ o. o.name == name) self.now.objects }
     {
-        self.table.place_of(name)
+        self.table.index_of(name)
     }
 
-    /// The object at a place.
-    pub fn object_at(&self, place: usize) -> &Object
-        requires { place < length self.now.objects }
-        ensures { result.now ≡ object_at self.now.objects place }
+    /// The object at an index.
+    pub fn object(&self, index: usize) -> &Object
+        requires { index < length self.now.objects }
+        ensures { result.now ≡ (entry_at self.now.objects index).object }
     {
-        self.table.object_at(place)
+        self.table.object(index)
     }
 
     /// The image at a place.
-    pub fn image_at(&self, place: usize) -> &Stored
-        requires within { place < length self.now.objects }
-        requires kind { object_kind (object_at self.now.objects place) ≡ kind.Image }
+    pub fn image_at(&self, place: Place) -> &Stored
+        requires { HasImageAt self.now.objects place }
         ensures value { result.now ≡ image_at self.now.objects place }
         ensures image { IsImage result.now }
     {
@@ -117,13 +123,21 @@ impl Context {
     }
 
     /// Writes a picture to the image at a place; both are of one description.
-    pub fn write(&mut self, place: usize, picture: &Picture)
-        requires within { place < length self.old.objects }
-        requires kind { object_kind (object_at self.old.objects place) ≡ kind.Image }
+    pub fn write(&mut self, place: Place, picture: &Picture)
+        requires there { HasImageAt self.old.objects place }
         requires same { description_of (image_at self.old.objects place) ≡ picture.now.description }
-        ensures { self.new ≡ with_objects self.old (with_object self.old.objects (entry_at self.old.objects place).name (ImageObject (pictured picture.now))) }
+        ensures { self.new ≡ with_objects self.old (with_object self.old.objects (cell_at self.old.objects place) (ImageObject (pictured picture.now))) }
     {
         self.table.write(place, picture);
+    }
+
+    /// Ages the delay at an index.
+    pub fn age(&mut self, index: usize)
+        requires within { index < length self.old.objects }
+        requires kind { object_kind (entry_at self.old.objects index).object ≡ kind.Delay }
+        ensures { self.new ≡ with_objects self.old (with_object self.old.objects (record { name = (entry_at self.old.objects index).name; slot = None }) (aged_object (entry_at self.old.objects index).object)) }
+    {
+        self.table.age(index);
     }
 
     /// Runs a node that nothing refuses, at the places of its operands. It takes no memory.

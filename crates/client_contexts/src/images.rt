@@ -21,9 +21,7 @@ pub fn create_image(
 ) -> Result<Reply, RequestFault>
     ensures { MayComeTo (create_image limits context.old desc) context.old context.new result }
 {
-    if !context.has_room(limits, desc.byte_count()) {
-        return Err(RequestFault::Refused(Refusal::NoResources));
-    }
+    context.look_for_room(limits, desc.byte_count())?;
     let image = Stored::new(context.allocator(), desc)?;
     Ok(Reply::Name(context.add(Object::new(Content::Image(image)))?))
 }

@@ -14,12 +14,14 @@
 //! - `places`, `lookup`, `run`: where the operands of a node stand, how they are found, and how the
 //!   node runs on them
 //! - the requests by family: `images` (to create, write and read them), `objects` (to release any),
-//!   `tables` (to create lookup tables and thresholds), `immediate` (nodes that run at once)
+//!   `tables` (to create lookup tables and thresholds), `immediate` (nodes that run at once),
+//!   `delays` (to create and age them)
 //! - `runtime`: all clients; contexts are opened and released there
 //! - `laws`: what the definitions mean: states keep the limits, refusals leave them
 #![tactic(auto)]
 
 mod context;
+mod delays;
 mod fault;
 mod images;
 mod immediate;

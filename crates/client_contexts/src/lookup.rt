@@ -1,36 +1,47 @@
 //! Where the objects stand that references and the operands of nodes name.
-ghost use Rattle.std.specs.Prelude.{◌≡◌, ◌<◌, ◌&&◌, ◌∷◌, [], is_none, length, IfOk, IfSome, Ok};
+ghost use Rattle.std.specs.Prelude.{◌≡◌, ◌∷◌, [], Some, IfOk, IfSome, Ok};
 ghost use Rattle.std.specs.Option.{option_map};
 ghost use Rattle.vx_base.specs.Node.{operands, with_kind};
-ghost use Rattle.vx_base.specs.Object.{object_kind, same_kind};
 ghost use Rattle.graph_verify.specs.Operand.{operand_of};
-ghost use Rattle.client_contexts.specs.Places.{object_at, object_if_at, StandsAt, StandsIf};
-ghost use Rattle.client_contexts.specs.Steps.{refusal_in, operands_refusal, first_class, StandAt, AreWithin, operands_at};
+ghost use Rattle.client_contexts.specs.Operands.{operands_refusal};
+ghost use Rattle.client_contexts.specs.Places.{object_at, object_if_at, IsPlace, StandsAt, StandsIf};
+ghost use Rattle.client_contexts.specs.Steps.{refusal_in, slot_refusal, first_class, StandAt, ArePlaces, operands_at};
 
 use crate::context::Context;
 use crate::places::Places;
 use crate::refusal::Refusal;
 use graph_verify::{Operand, Operands};
-use object_table::{Content, Object};
+use object_table::{Content, Object, Place};
 use vx_base::{Kind, Node, ObjRef};
 
-/// Whether an object is what a reference to its name wants: of this kind, and without slots, as
-/// all objects are today.
-fn is_wanted(object: &Object, reference: ObjRef, kind: Kind) -> bool
-    ensures { result ≡ (is_none reference.slot && same_kind kind (object_kind object.now)) }
+/// Why an object, or what stands in a slot of it, isn't what is wanted. `None` where it is.
+fn slot_refusal(object: &Object, slot: Option<u8>, kind: Kind) -> Option<Refusal>
+    ensures { result ≡ slot_refusal kind slot object.now }
 {
-    reference.slot().is_none() && object.kind() == kind
+    match object.slot_kind(slot) {
+        Some(found) if found == kind => {
+            if object.has_slot(slot) {
+                None
+            } else {
+                Some(Refusal::InvalidValue)
+            }
+        }
+        _ => Some(Refusal::InvalidType),
+    }
 }
 
 /// Where the object of this kind stands that a reference names, or why it names none.
-pub fn find(context: &Context, reference: ObjRef, kind: Kind) -> Result<usize, Refusal>
+pub fn find(context: &Context, reference: ObjRef, kind: Kind) -> Result<Place, Refusal>
     ensures ok { IfOk result (λ place. StandsAt context.now.objects reference kind place) }
     ensures err { refusal_in result ≡ operands_refusal context.now.objects ((reference, kind) ∷ []) }
 {
-    match context.place_of(reference.name()) {
-        None => Err(Refusal::InvalidReference),
-        Some(place) if is_wanted(context.object_at(place), reference, kind) => Ok(place),
-        Some(_) => Err(Refusal::InvalidType),
+    let Some(index) = context.index_of(reference.name()) else {
+        return Err(Refusal::InvalidReference);
+    };
+    let slot = reference.slot();
+    match slot_refusal(context.object(index), slot, kind) {
+        None => Ok(Place { index, slot }),
+        Some(refusal) => Err(refusal),
     }
 }
 
@@ -39,7 +50,7 @@ fn find_if_given(
     context: &Context,
     reference: Option<ObjRef>,
     kind: Kind,
-) -> Result<Option<usize>, Refusal>
+) -> Result<Option<Place>, Refusal>
     ensures ok { IfOk result (λ place. StandsIf context.now.objects reference kind place) }
     ensures err { refusal_in result ≡ operands_refusal context.now.objects (with_kind kind reference) }
 {
@@ -49,7 +60,21 @@ fn find_if_given(
     }
 }
 
-/// Both, or their refusal: all names are looked at before any kind is.
+/// Of two refusals the one that is told: all names are looked at before any kind is, and all kinds
+/// before any slot.
+fn first_class(one: Refusal, other: Refusal) -> Refusal
+    ensures { Some result ≡ first_class (Some one) (Some other) }
+{
+    match (one, other) {
+        (Refusal::InvalidReference, _) | (_, Refusal::InvalidReference) => {
+            Refusal::InvalidReference
+        }
+        (Refusal::InvalidType, _) => Refusal::InvalidType,
+        (_, other) => other,
+    }
+}
+
+/// Both, or the refusal that is told.
 fn both<A: Drop, B: Drop>(
     one: Result<A, Refusal>,
     other: Result<B, Refusal>,
@@ -59,10 +84,8 @@ fn both<A: Drop, B: Drop>(
 {
     match (one, other) {
         (Ok(one), Ok(other)) => Ok((one, other)),
-        (Err(Refusal::InvalidReference), _) | (_, Err(Refusal::InvalidReference)) => {
-            Err(Refusal::InvalidReference)
-        }
-        (Err(refusal), _) | (_, Err(refusal)) => Err(refusal),
+        (Ok(_), Err(refusal)) | (Err(refusal), Ok(_)) => Err(refusal),
+        (Err(one), Err(other)) => Err(first_class(one, other)),
     }
 }
 
@@ -86,21 +109,32 @@ pub fn find_operands(context: &Context, node: &Node) -> Result<Places, Refusal>
     })
 }
 
-/// What stands at a place, as an operand.
-fn operand_at(context: &Context, place: usize) -> Operand
-    requires { place < length context.now.objects }
-    ensures { result ≡ operand_of (object_at context.now.objects place) }
+/// An object, as an operand.
+fn operand_of(object: &Object) -> Operand
+    ensures { result ≡ operand_of object.now }
 {
-    match context.object_at(place).content() {
+    match object.content() {
         Content::Image(image) => Operand::Image(image.desc()),
         Content::Lut(lut) => Operand::Lut(lut.format()),
         Content::Threshold(threshold) => Operand::Threshold(threshold.format()),
+        Content::Delay(_) => Operand::Delay,
+    }
+}
+
+/// What stands at a place, as an operand.
+fn operand_at(context: &Context, place: Place) -> Operand
+    requires { IsPlace context.now.objects place }
+    ensures { result ≡ operand_of (object_at context.now.objects place) }
+{
+    match place.slot {
+        None => operand_of(context.object(place.index)),
+        Some(_) => Operand::Image(context.image_at(place).desc()),
     }
 }
 
 /// What stands at a place, if there is a place.
-fn operand_if_at(context: &Context, place: Option<usize>) -> Option<Operand>
-    requires { IfSome place (λ p. p < length context.now.objects) }
+fn operand_if_at(context: &Context, place: Option<Place>) -> Option<Operand>
+    requires { IfSome place (IsPlace context.now.objects) }
     ensures { result ≡ option_map operand_of (object_if_at context.now.objects place) }
 {
     match place {
@@ -111,7 +145,7 @@ fn operand_if_at(context: &Context, place: Option<usize>) -> Option<Operand>
 
 /// What stands at the places of a node's operands.
 pub fn operands_at(context: &Context, places: Places) -> Operands
-    requires { AreWithin context.now.objects places }
+    requires { ArePlaces context.now.objects places }
     ensures { result ≡ operands_at context.now.objects places }
 {
     Operands {

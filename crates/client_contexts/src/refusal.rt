@@ -9,9 +9,10 @@ use vx_base::Code;
 pub enum Refusal {
     /// No object has a name that is used.
     InvalidReference,
-    /// An object is not of the kind that is wanted there, or has no slots and is named with one.
+    /// An object is not of the kind that is wanted there; a delay's slots are images, and no other
+    /// object has slots.
     InvalidType,
-    /// The client has a context already.
+    /// The client has a context already, or a delay has no such slot.
     InvalidValue,
     /// A picture is of another format than the image.
     InvalidFormat,

@@ -1,5 +1,5 @@
 //! Requests of clients.
-use vx_base::{Desc, Lut, NodeSpec, ObjRef, Picture, ThresholdRule};
+use vx_base::{Desc, Lut, NodeSpec, ObjRef, Picture, SlotCount, ThresholdRule};
 
 /// What a client asks for.
 #[derive(Debug, Drop)]
@@ -22,4 +22,8 @@ pub enum Request {
     CreateThreshold(ThresholdRule),
     /// Runs one node at once.
     Immediate(NodeSpec),
+    /// Makes a delay of new images of the size and format of an image, so many.
+    CreateDelay(ObjRef, SlotCount),
+    /// Ages the delay with this name: each image comes to the next slot, the last to the first.
+    AgeDelay(u32),
 }

@@ -1,26 +1,27 @@
 //! Nodes that run on the objects of a context.
-ghost use Rattle.std.specs.Prelude.{◌≡◌, ◌<◌, [], length, map, pos, IfSome};
+ghost use Rattle.std.specs.Prelude.{◌≡◌, ◌≢◌, [], length, map, pos, Some, IfSome};
 ghost use Rattle.vx_base.specs.declared.format.Format.TheVariants.{U8, S16, U32};
 ghost use Rattle.vx_base.specs.Rectangle.{empty};
 ghost use Rattle.vx_base.specs.Image.{image_over};
-ghost use Rattle.vx_base.specs.Object.{IsObject};
+ghost use Rattle.vx_base.specs.declared.kind.Kind.TheVariants as kind;
+ghost use Rattle.vx_base.specs.Object.{IsObject, object_kind};
 ghost use Rattle.vx_base.specs.Description.{sample_count};
 ghost use Rattle.vx_base.specs.Pixelwise.{node_image};
 ghost use Rattle.image_core.specs.Second.{second_object};
 ghost use Rattle.std.specs.Option.{option_map};
 ghost use Rattle.object_table.specs.Names.{IsNames};
-ghost use Rattle.object_table.specs.Table.{object_at, with_objects};
+ghost use Rattle.object_table.specs.Table.{object_at, with_objects, IsPlace};
 ghost use Rattle.client_contexts.specs.Steps.{CanRun, RunsTo, written_at};
 
 use crate::places::Places;
 use graph_run::run_node;
 use image_core::{Image, ImageMut, Second};
-use object_table::{Content, Table};
+use object_table::{Content, Object, Place, Table};
 use vx_base::{Desc, Node, Rect, Samples};
 
 /// Runs a node on the objects at these places, to one of its outputs, if it has that. The inputs
 /// are none of the outputs, and are read where they stand. It takes no memory.
-pub fn run_at(table: &mut Table, node: &Node, places: Places, output: Option<usize>)
+pub fn run_at(table: &mut Table, node: &Node, places: Places, output: Option<Place>)
     requires { IfSome output (RunsTo table.old.objects node.now places) }
     ensures value { table.new ≡ with_objects table.old (written_at table.old.objects node.now places output) }
     ensures names { IfSome output (λ _. IsNames table.old.next table.old.objects) }
@@ -49,18 +50,30 @@ pub fn run_at(table: &mut Table, node: &Node, places: Places, output: Option<usi
 }
 
 /// What a node reads beside its first input, lent to its kernel.
-fn second_at(table: &Table, place: Option<usize>) -> Second<'_>
-    requires within { IfSome place (λ p. p < length table.now.objects) }
+fn second_at(table: &Table, place: Option<Place>) -> Second<'_>
+    requires place { IfSome place (IsPlace table.now.objects) }
     requires object { IfSome (option_map (object_at table.now.objects) place) IsObject }
+    requires kind { IfSome (option_map (object_at table.now.objects) place) (λ object. object_kind object ≢ kind.Delay) }
     ensures { second_object result ≡ option_map (object_at table.now.objects) place }
 {
     match place {
         None => Second::Nothing,
-        Some(place) => match table.object_at(place).content() {
-            Content::Image(stored) => Second::Image(stored.image()),
-            Content::Lut(lut) => Second::Lut(lut),
-            Content::Threshold(threshold) => Second::Threshold(*threshold),
-        },
+        Some(Place { index, slot: None }) => second_of(table.object(index)),
+        Some(place) => Second::Image(table.image_at(place).image()),
+    }
+}
+
+/// An object beside the first input, lent to a kernel.
+fn second_of(object: &Object) -> Second<'_>
+    requires object { IsObject object.now }
+    requires kind { object_kind object.now ≢ kind.Delay }
+    ensures { second_object result ≡ Some object.now }
+{
+    match object.content() {
+        Content::Image(stored) => Second::Image(stored.image()),
+        Content::Lut(lut) => Second::Lut(lut),
+        Content::Threshold(threshold) => Second::Threshold(*threshold),
+        Content::Delay(_) => unreachable!(),
     }
 }
 

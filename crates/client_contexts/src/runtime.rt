@@ -8,6 +8,7 @@ ghost use Rattle.client_contexts.specs.Applies.{Applies};
 ghost use Rattle.client_contexts.specs.Steps.{MayComeTo, WantsMemory};
 
 use crate::context::Context;
+use crate::delays::{age_delay, create_delay};
 use crate::fault::RequestFault;
 use crate::images::{create_image, read_image, write_image};
 use crate::immediate::run_at_once;
@@ -122,5 +123,7 @@ fn answer(
         Request::CreateLut(lut) => create_lut(context, limits, lut),
         Request::CreateThreshold(threshold) => create_threshold(context, limits, *threshold),
         Request::Immediate(node) => Ok(run_at_once(context, *node)?),
+        Request::CreateDelay(exemplar, slots) => create_delay(context, limits, *exemplar, *slots),
+        Request::AgeDelay(name) => Ok(age_delay(context, *name)?),
     }
 }

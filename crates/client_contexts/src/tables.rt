@@ -7,7 +7,6 @@ ghost use Rattle.client_contexts.specs.Steps.{MayComeTo};
 use crate::context::Context;
 use crate::fault::RequestFault;
 use crate::limits::Limits;
-use crate::refusal::Refusal;
 use crate::reply::Reply;
 use object_table::{Content, Object};
 use vx_base::{Lut, ThresholdRule};
@@ -16,9 +15,7 @@ use vx_base::{Lut, ThresholdRule};
 pub fn create_lut(context: &mut Context, limits: Limits, lut: &Lut) -> Result<Reply, RequestFault>
     ensures { MayComeTo (create limits context.old (LutObject lut.now)) context.old context.new result }
 {
-    if !context.has_room(limits, 0) {
-        return Err(RequestFault::Refused(Refusal::NoResources));
-    }
+    context.look_for_room(limits, 0)?;
     let copy = lut.copy(context.allocator())?;
     Ok(Reply::Name(context.add(Object::new(Content::Lut(copy)))?))
 }
@@ -31,9 +28,7 @@ pub fn create_threshold(
 ) -> Result<Reply, RequestFault>
     ensures { MayComeTo (create limits context.old (ThresholdObject threshold)) context.old context.new result }
 {
-    if !context.has_room(limits, 0) {
-        return Err(RequestFault::Refused(Refusal::NoResources));
-    }
+    context.look_for_room(limits, 0)?;
     let _format = threshold.format();
     Ok(Reply::Name(context.add(Object::new(Content::Threshold(threshold)))?))
 }

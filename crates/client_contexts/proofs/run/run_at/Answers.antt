@@ -6,8 +6,9 @@ use Rattle.vx_base.specs.declared.format.Format.TheVariants.{U8, S16, U32}
 use Rattle.vx_base.specs.declared.samples.Samples.{Samples}
 use Rattle.vx_base.specs.Rectangle.{Rectangle}
 use Rattle.vx_base.specs.Picture.{values, samples_format}
+use Rattle.object_table.specs.declared.place.Place.{Place}
 use Rattle.object_table.specs.Names.{IsNames}
-use Rattle.client_contexts.proofs.OutputLemmas.{first_is_image, taken_count, taken_format, runs_there, put_back}
+use Rattle.client_contexts.proofs.OutputLemmas.{second_has_place, second_is_object, second_is_no_delay, takes_back, left_format, first_is_image, taken_count, taken_format, runs_there, put_back}
 use Rattle.client_contexts.proofs.run.run_at.Goals as goal
 use Rattle.client_contexts.proofs.run.run_at.Goals.{in-U8, in-S16, in-U32}
 
@@ -54,4 +55,25 @@ returns-after-samples-clause-value c =
     ]
 
 pub returns-after-samples-clause-names : goal.returns-after-samples-clause-names
-returns-after-samples-clause-names c = subst (λ (o : Option ℕ). IfSome o (λ _. IsNames c.args.table.now.next c.args.table.now.objects)) (sym c.in-Some.is) c.take-samples.ensures.names
+returns-after-samples-clause-names c = subst (λ (o : Option Place). IfSome o (λ _. IsNames c.args.table.now.next c.args.table.now.objects)) (sym c.in-Some.is) c.take-samples.ensures.names
+
+pub second_at-second-requires-clause-place : goal.second_at-second-requires-clause-place
+second_at-second-requires-clause-place c = second_has_place _ _ _ _ _ c.in-Some.is c.requires _ _ c.args.table.now c.take-samples.ensures.left
+
+pub second_at-second-requires-clause-object : goal.second_at-second-requires-clause-object
+second_at-second-requires-clause-object c = second_is_object _ _ _ _ _ c.in-Some.is c.requires _ _ c.args.table.now c.take-samples.ensures.left
+
+pub second_at-second-requires-clause-kind : goal.second_at-second-requires-clause-kind
+second_at-second-requires-clause-kind c = second_is_no_delay _ _ _ _ _ c.in-Some.is c.requires _ _ c.args.table.now c.take-samples.ensures.left
+
+pub put-requires-clause-there : goal.put-requires-clause-there
+put-requires-clause-there c = takes_back _ _ _ _ _ c.in-Some.is c.requires _ c.args.table.now c.take-samples.ensures.left
+
+pub put-requires-clause-format : goal.put-requires-clause-format
+put-requires-clause-format c =
+    let left = sym (left_format _ _ _ _ _ c.in-Some.is c.requires _ c.args.table.now c.take-samples.ensures.left) in
+    elim c.match-samples.branch [
+      | in-U8 w ↦ ap (λ (made : Samples × Rectangle). samples_format made.0) w.samples-is ∙ ap samples_format (sym w.in-U8.is) ∙ c.take-samples.ensures.format ∙ left
+      | in-S16 w ↦ ap (λ (made : Samples × Rectangle). samples_format made.0) w.samples-is ∙ ap samples_format (sym w.in-S16.is) ∙ c.take-samples.ensures.format ∙ left
+      | in-U32 w ↦ ap (λ (made : Samples × Rectangle). samples_format made.0) w.samples-is ∙ ap samples_format (sym w.in-U32.is) ∙ c.take-samples.ensures.format ∙ left
+    ]
