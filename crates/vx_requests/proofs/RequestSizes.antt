@@ -1,7 +1,7 @@
 -- A request fits a frame.
 use Rattle.std.proofs.Common.{ℕ, ◌<◌, ◌^◌, arith}
 use Rattle.client_contexts.specs.declared.request.Request.{Request}
-use Rattle.client_contexts.specs.declared.request.Request.TheVariants.{OpenContext, ReleaseContext, CreateImage, WriteImage, ReadImage, Release, CreateLut, CreateThreshold, Immediate}
+use Rattle.client_contexts.specs.declared.request.Request.TheVariants.{OpenContext, ReleaseContext, CreateImage, WriteImage, ReadImage, Release, CreateLut, CreateThreshold, Immediate, CreateDelay, AgeDelay}
 use Rattle.client_contexts.specs.Request.{IsRequest}
 use Rattle.vx_wire.proofs.SpelledSizes.{spelled_most, entries_most, threshold_most, length-node_bytes}
 use Rattle.vx_requests.specs.Frame.Frames.{IsFrame, request_frame}
@@ -16,3 +16,5 @@ fits_a_frame client (Release name) below is = record { client = below; op = omeg
 fits_a_frame client (CreateLut lut) below is = record { client = below; op = omega arith; len = omega (arith, entries_most lut is) }
 fits_a_frame client (CreateThreshold threshold) below is = record { client = below; op = omega arith; len = omega (arith, threshold_most threshold) }
 fits_a_frame client (Immediate node) below is = record { client = below; op = omega arith; len = omega (arith, length-node_bytes node) }
+fits_a_frame client (CreateDelay cell slots) below is = record { client = below; op = omega arith; len = omega arith }
+fits_a_frame client (AgeDelay name) below is = record { client = below; op = omega arith; len = omega arith }

@@ -6,7 +6,7 @@ use std::fmt::Display;
 use std::test::Fail;
 use vx_base::{
     Border, Desc, Format, Function, Lut, Node, NodeSpec, ObjRef, Picture, Policy, Samples,
-    ThresholdKind, ThresholdRule,
+    SlotCount, ThresholdKind, ThresholdRule,
 };
 use vx_requests::{Failed, ParseFault, StreamFault, parse, write_request};
 
@@ -39,6 +39,8 @@ fn request(number: u8) -> Option<Request> {
         5 => Some(Request::Immediate(node()?)),
         6 => Some(Request::ReleaseContext),
         7 => Some(Request::Release(258)),
+        8 => Some(Request::CreateDelay(ObjRef::new(1, None), SlotCount::new(3)?)),
+        9 => Some(Request::AgeDelay(2)),
         _ => None,
     }
 }
@@ -56,7 +58,7 @@ fn node() -> Option<NodeSpec> {
     })
 }
 
-const FRAMES: [&[u8]; 8] = [
+const FRAMES: [&[u8]; 10] = [
     b"\0\0\0\x03\x01\x02\x01",
     b"\0\0\0\x08\x01\x02\x03\x03\x10\0\0\x02",
     b"\0\0\0\x08\x01\x02\x07\0\0\0\x07\xfe",
@@ -65,6 +67,8 @@ const FRAMES: [&[u8]; 8] = [
     b"\0\0\0\x1c\x01\x02\x18\x04\x01\x05\0\0\0\0\0\x01\x03\0\0\0\0\xff\0\x01\0\0\xff\0\0\0\0\xff",
     b"\0\0\0\x03\x01\x02\x02",
     b"\0\0\0\x07\x01\x02\x0a\0\0\x01\x02",
+    b"\0\0\0\x09\x01\x02\x19\0\0\0\x01\xff\x03",
+    b"\0\0\0\x07\x01\x02\x1a\0\0\0\x02",
 ];
 
 /// Whether a request is written to these bytes.

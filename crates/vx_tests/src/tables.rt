@@ -1,11 +1,11 @@
-//! Names, uses and the charge of a table.
+//! Names, uses and the charge of a table, and the slots of a delay.
 ghost use Rattle.std.specs.Prelude.{◌≡◌};
 ghost use Rattle.object_table.specs.Table.{new_table};
 
-use object_table::{Content, Object, Stored, Table, TableFault};
+use object_table::{Content, Delay, Object, Stored, Table, TableFault};
 use std::alloc::Global;
 use std::test::Fail;
-use vx_base::{Desc, Format, Kind};
+use vx_base::{Desc, Format, Kind, SlotCount};
 
 /// An image of 2 by 2 samples of U8.
 fn image(alloc: Global) -> Result<Object, Fail> {
@@ -31,8 +31,8 @@ fn names_follow_each_other(rt: HostRuntime) -> Result<(), Fail> {
     assert_eq!(rt; insert(alloc, &mut table)?, 5);
     assert_eq!(rt; table.held(), 4);
     assert_eq!(rt; table.charged_bytes(), 16);
-    assert_eq!(rt; table.place_of(5), Some(3));
-    assert_eq!(rt; table.place_of(4), None);
+    assert_eq!(rt; table.index_of(5), Some(3));
+    assert_eq!(rt; table.index_of(4), None);
     let found = table.get(3).map(|object| object.kind());
     assert_eq!(rt; found, Ok(Kind::Image));
     let lost = table.get(4).map(|object| object.kind());
@@ -72,12 +72,31 @@ fn at_most_1024_are_held(rt: HostRuntime) -> Result<(), Fail> {
     for _ in 0..1024 {
         insert(alloc, &mut table)?;
     }
-    assert!(rt; !table.has_place());
+    assert!(rt; !table.can_insert());
     let object = image(alloc)?;
     let refused = table.insert(object).err().ok_or("one too many")?;
     assert_eq!(rt; refused.fault, TableFault::NoResources);
     assert_eq!(rt; refused.object.bytes(), 4);
     assert_eq!(rt; table.release(1), Ok(()));
     assert_eq!(rt; insert(alloc, &mut table)?, 1025);
+    Ok(())
+}
+
+#[test]
+fn a_delay_has_its_slots(rt: HostRuntime) -> Result<(), Fail> {
+    let desc = Desc::new(3, 2, Format::S16).ok_or("within the limits")?;
+    let slots = SlotCount::new(3).ok_or("within the limits")?;
+    assert!(rt; SlotCount::new(17).is_none());
+    let mut delay = Delay::new(rt.alloc(), desc, slots)?;
+    delay.age();
+    for k in 0..3 {
+        let found = delay.slot(k).map(|image| image.desc());
+        assert_eq!(rt; found, Ok(desc));
+    }
+    let lost = delay.slot(3).map(|image| image.desc());
+    assert_eq!(rt; lost, Err(TableFault::InvalidValue));
+    let object = Object::new(Content::Delay(delay));
+    assert_eq!(rt; object.kind(), Kind::Delay);
+    assert_eq!(rt; object.bytes(), 36);
     Ok(())
 }

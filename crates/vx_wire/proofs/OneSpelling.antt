@@ -3,7 +3,7 @@ use Rattle.std.proofs.Common.{◌≡◌, ℕ, List, [], ◌∷◌, ◌++◌, Opt
 use Rattle.std.specs.Int.{w32, to_be_bytes}
 use Rattle.vx_base.specs.Cell.{Cell}
 use Rattle.client_contexts.specs.declared.request.Request.{Request}
-use Rattle.client_contexts.specs.declared.request.Request.TheVariants.{OpenContext, ReleaseContext, CreateImage, WriteImage, ReadImage, Release, CreateLut, CreateThreshold, Immediate}
+use Rattle.client_contexts.specs.declared.request.Request.TheVariants.{OpenContext, ReleaseContext, CreateImage, WriteImage, ReadImage, Release, CreateLut, CreateThreshold, Immediate, CreateDelay, AgeDelay}
 use Rattle.vx_wire.specs.declared.body_fault.BodyFault.{BodyFault}
 use Rattle.vx_wire.specs.declared.op.Op.{Op}
 use Rattle.vx_wire.specs.declared.op.Op.TheVariants as kinds
@@ -16,13 +16,15 @@ use Rattle.vx_wire.specs.Samples.{take_picture, picture_bytes}
 use Rattle.vx_wire.specs.Lut.{take_lut, lut_bytes}
 use Rattle.vx_wire.specs.Threshold.{take_threshold, threshold_bytes}
 use Rattle.vx_wire.specs.Node.{take_node}
+use Rattle.vx_wire.specs.Slots.{take_slots}
 use Rattle.vx_wire.specs.Contexts.{open_context_in, release_context_in}
 use Rattle.vx_wire.specs.Images.{create_image_in, write_image_in, read_image_in}
 use Rattle.vx_wire.specs.Objects.{release_in}
 use Rattle.vx_wire.specs.Tables.{create_lut_in, create_threshold_in}
 use Rattle.vx_wire.specs.Immediate.{immediate_in}
+use Rattle.vx_wire.specs.Delays.{create_delay_in, age_delay_in}
 use Rattle.vx_wire.proofs.Numbers.{number_is}
-use Rattle.vx_wire.proofs.ReadFields.{AllBytes, then_of, long_of, description_of, cell_of}
+use Rattle.vx_wire.proofs.ReadFields.{AllBytes, then_of, long_of, description_of, cell_of, slots_of}
 use Rattle.vx_wire.proofs.ReadSamples.{picture_of}
 use Rattle.vx_wire.proofs.ReadObjects.{lut_of, threshold_of}
 use Rattle.vx_wire.proofs.ReadNode.{node_of}
@@ -101,6 +103,23 @@ immediate_of body request is e =
     let (body_is, n_is) = node_of body n is (is_n ∙ ap (λ l. Ok (n, l)) empty) in
     subst (Spelled kinds.Immediate body) same (record { op_is = refl; body_is = body_is; within = n_is })
 
+create_delay_of : (body : List ℕ) (request : Request) → AllBytes body → create_delay_in body ≡ Ok request → Spelled kinds.CreateDelay body request
+create_delay_of body request is e =
+    let next : Cell → List ℕ → Result Request BodyFault = λ cell rest. and_then (take_slots rest) (λ n rest. at_end (CreateDelay cell n) rest) in
+    let (cell, rest, is_cell, e1) = then_of (take_reference body) next request e in
+    let (n, rest1, is_n, e2) = then_of (take_slots rest) (λ n rest. at_end (CreateDelay cell n) rest) request e1 in
+    let (same, empty) = end_of (CreateDelay cell n) request rest1 e2 in
+    let (body_is, cell_is, is1) = cell_of body cell rest is is_cell in
+    let (rest_is, n_is, is2) = slots_of rest n rest1 is1 is_n in
+    subst (Spelled kinds.CreateDelay body) same (record { op_is = refl; body_is = body_is ∙ ap (λ l. reference_bytes cell ++ l) (rest_is ∙ ap (λ l. n ∷ l) empty); within = (cell_is, n_is) })
+
+age_delay_of : (body : List ℕ) (request : Request) → AllBytes body → age_delay_in body ≡ Ok request → Spelled kinds.AgeDelay body request
+age_delay_of body request is e =
+    let (name, rest, is_name, e1) = then_of (take_long body) (λ name rest. at_end (AgeDelay name) rest) request e in
+    let (same, empty) = end_of (AgeDelay name) request rest e1 in
+    let (body_is, name_below, is1) = long_of body name rest is is_name in
+    subst (Spelled kinds.AgeDelay body) same (record { op_is = refl; body_is = body_is ∙ ap (λ l. to_be_bytes w32 name ++ l) empty; within = name_below })
+
 -- a body of each op
 with_op : (op : Op) (body : List ℕ) (request : Request) → AllBytes body → request_with op body ≡ Ok request → Spelled op body request
 with_op kinds.OpenContext body request is e = open_of body request e
@@ -112,6 +131,8 @@ with_op kinds.Release body request is e = release_of body request is e
 with_op kinds.CreateLut body request is e = create_lut_of body request is e
 with_op kinds.CreateThreshold body request is e = create_threshold_of body request is e
 with_op kinds.Immediate body request is e = immediate_of body request is e
+with_op kinds.CreateDelay body request is e = create_delay_of body request is e
+with_op kinds.AgeDelay body request is e = age_delay_of body request is e
 
 -- there is such an op
 known_op : (known : Option Op) (body : List ℕ) (request : Request) → request_with_known known body ≡ Ok request → (op : Op) × (known ≡ Some op) × (request_with op body ≡ Ok request)

@@ -1,7 +1,7 @@
 -- Each op has a number of its own.
 use Rattle.std.proofs.Common.{◌≡◌, Some, refl}
 use Rattle.vx_wire.specs.declared.op.Op.{Op}
-use Rattle.vx_wire.specs.declared.op.Op.TheVariants.{OpenContext, ReleaseContext, CreateImage, WriteImage, ReadImage, Release, CreateLut, CreateThreshold, Immediate}
+use Rattle.vx_wire.specs.declared.op.Op.TheVariants.{OpenContext, ReleaseContext, CreateImage, WriteImage, ReadImage, Release, CreateLut, CreateThreshold, Immediate, CreateDelay, AgeDelay}
 use Rattle.vx_wire.specs.Op.{op_number, op_numbered}
 
 -- the op with an op's number is that op
@@ -15,3 +15,5 @@ op_back Release = refl
 op_back CreateLut = refl
 op_back CreateThreshold = refl
 op_back Immediate = refl
+op_back CreateDelay = refl
+op_back AgeDelay = refl

@@ -8,12 +8,14 @@ use Rattle.vx_base.specs.declared.format.Format.{Format}
 use Rattle.vx_base.specs.declared.format.Format.TheVariants.{U8, S16, U32}
 use Rattle.vx_base.specs.Cell.{Cell, IsCell}
 use Rattle.vx_base.specs.Description.{Description, is_side, IsDescription}
+use Rattle.vx_base.specs.Slots.{is_slot_count, slot_count}
 use Rattle.vx_wire.specs.declared.body_fault.BodyFault.{BodyFault}
-use Rattle.vx_wire.specs.declared.body_fault.BodyFault.TheVariants.{InvalidParameters, InvalidFormat, InvalidDimension}
+use Rattle.vx_wire.specs.declared.body_fault.BodyFault.TheVariants.{InvalidParameters, InvalidFormat, InvalidDimension, InvalidValue}
 use Rattle.vx_wire.specs.Fields.{Taken, and_then, allowed, take_byte, take_short, take_long, take_bytes}
 use Rattle.vx_wire.specs.Format.{format_numbered, take_format, format_number}
 use Rattle.vx_wire.specs.Description.{take_side, take_description, description_bytes}
 use Rattle.vx_wire.specs.Reference.{slot_numbered, take_reference, reference_bytes}
+use Rattle.vx_wire.specs.Slots.{take_slots}
 use Rattle.vx_wire.proofs.Numbers.{number_is}
 
 abbrev pub AllBytes : List ℕ → Type 0
@@ -102,7 +104,7 @@ bytes_of n body bytes rest is e =
       subst AllBytes behind (All-drop (λ b. b < 256) n body is),
     )
 
--- ---- formats, sides, descriptions, references
+-- ---- formats, sides, descriptions, references, numbers of slots
 
 format_of : (body : List ℕ) (format : Format) (rest : List ℕ) → AllBytes body → take_format body ≡ Ok (format, rest)
     → (body ≡ format_number format ∷ rest) × AllBytes rest
@@ -164,3 +166,14 @@ cell_of body cell rest is e =
       subst IsCell same (record { name = name_below; slot = slot_within }),
       subst AllBytes behind is2,
     )
+
+pub slots_of : (body : List ℕ) (n : ℕ) (rest : List ℕ) → AllBytes body → take_slots body ≡ Ok (n, rest)
+    → (body ≡ n ∷ rest) × IsTrue (is_slot_count n) × AllBytes rest
+slots_of body n rest is e =
+    let (m, rest1, is_m, e1) = then_of (take_byte body) (λ m rest. allowed InvalidValue (slot_count m) rest) (n, rest) e in
+    let (same, behind) = allowed_of InvalidValue (slot_count m) n rest1 rest e1 in
+    let (body_is, below, is1) = byte_of body m rest1 is is_m in
+    elim (if_some (is_slot_count m) m None n same) [
+      | inl h ↦ (body_is ∙ ap (λ x. x ∷ rest1) h.1 ∙ ap (λ l. n ∷ l) behind, subst (λ x. IsTrue (is_slot_count x)) h.1 h.0, subst AllBytes behind is1)
+      | inr h ↦ cc
+    ]

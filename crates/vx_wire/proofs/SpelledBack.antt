@@ -1,9 +1,9 @@
 -- A request is read back from its op and body.
-use Rattle.std.proofs.Common.{◌≡◌, List, [], ◌++◌, ℕ, Result, Ok, refl, sym, ap, ◌∙◌, append-nil}
+use Rattle.std.proofs.Common.{◌≡◌, List, [], ◌∷◌, ◌++◌, ℕ, Result, Ok, refl, sym, ap, ◌∙◌, append-nil}
 use Rattle.std.specs.Int.{w32, to_be_bytes}
 use Rattle.vx_base.specs.Cell.{Cell}
 use Rattle.client_contexts.specs.declared.request.Request.{Request}
-use Rattle.client_contexts.specs.declared.request.Request.TheVariants.{OpenContext, ReleaseContext, CreateImage, WriteImage, ReadImage, Release, CreateLut, CreateThreshold, Immediate}
+use Rattle.client_contexts.specs.declared.request.Request.TheVariants.{OpenContext, ReleaseContext, CreateImage, WriteImage, ReadImage, Release, CreateLut, CreateThreshold, Immediate, CreateDelay, AgeDelay}
 use Rattle.vx_wire.specs.declared.body_fault.BodyFault.{BodyFault}
 use Rattle.vx_wire.specs.Op.{op_number, op_of}
 use Rattle.vx_wire.specs.Fields.{and_then, at_end, take_long}
@@ -14,7 +14,8 @@ use Rattle.vx_wire.specs.Samples.{take_picture, picture_bytes}
 use Rattle.vx_wire.specs.Lut.{take_lut, lut_bytes}
 use Rattle.vx_wire.specs.Threshold.{take_threshold, threshold_bytes}
 use Rattle.vx_wire.specs.Node.{take_node, node_bytes}
-use Rattle.vx_wire.proofs.SpelledFields.{then_ok, long_back, description_back, cell_back, picture_back}
+use Rattle.vx_wire.specs.Slots.{take_slots}
+use Rattle.vx_wire.proofs.SpelledFields.{then_ok, long_back, description_back, cell_back, slots_back, picture_back}
 use Rattle.vx_wire.proofs.SpelledObjects.{lut_back, threshold_back}
 use Rattle.vx_wire.proofs.SpelledNode.{node_back}
 use Rattle.client_contexts.specs.Request.{IsRequest}
@@ -35,3 +36,8 @@ read_back (CreateLut lut) is =
 read_back (CreateThreshold t) is =
     then_ok (take_threshold (threshold_bytes t)) t [] (λ t rest. at_end (CreateThreshold t) rest) (ap take_threshold (sym (append-nil (threshold_bytes t))) ∙ threshold_back t [] is)
 read_back (Immediate node) is = then_ok (take_node (node_bytes node)) node [] (λ node rest. at_end (Immediate node) rest) (node_back node is)
+read_back (CreateDelay cell n) is =
+    let last : Cell → List ℕ → Result Request BodyFault = λ cell rest. and_then (take_slots rest) (λ n rest. at_end (CreateDelay cell n) rest) in
+    then_ok (take_reference (reference_bytes cell ++ n ∷ [])) cell (n ∷ []) last (cell_back cell (n ∷ []) is.0)
+    ∙ then_ok (take_slots (n ∷ [])) n [] (λ n rest. at_end (CreateDelay cell n) rest) (slots_back n [] is.1)
+read_back (AgeDelay name) is = then_ok (take_long (to_be_bytes w32 name)) name [] (λ name rest. at_end (AgeDelay name) rest) (long_back name [] is)

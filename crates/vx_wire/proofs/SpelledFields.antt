@@ -5,7 +5,7 @@ use Rattle.std.specs.Int.{w16, w32, to_be_bytes}
 use Rattle.std.proofs.lemmas.Bool.{eqb-true, le-leb}
 use Rattle.std.proofs.lemmas.Bool.Decides.{nat_tests}
 use Rattle.vx_wire.specs.declared.body_fault.BodyFault.{BodyFault}
-use Rattle.vx_wire.specs.declared.body_fault.BodyFault.TheVariants.{InvalidParameters, InvalidDimension}
+use Rattle.vx_wire.specs.declared.body_fault.BodyFault.TheVariants.{InvalidParameters, InvalidDimension, InvalidValue}
 use Rattle.std.proofs.lemmas.Nat.{from_be_bytes-to_be_bytes_4}
 use Rattle.vx_base.specs.declared.format.Format.{Format}
 use Rattle.vx_base.specs.declared.format.Format.TheVariants.{U8, S16, U32}
@@ -13,11 +13,13 @@ use Rattle.vx_base.specs.Cell.{Cell, IsCell}
 use Rattle.vx_base.specs.Description.{Description, is_side, sample_count, IsDescription}
 use Rattle.vx_base.specs.Sample.{IsSample, sample_bytes}
 use Rattle.vx_base.specs.Picture.{PictureValue, IsPicture}
+use Rattle.vx_base.specs.Slots.{is_slot_count}
 use Rattle.vx_wire.specs.Fields.{Taken, and_then, allowed, take_byte, take_short, take_long, take_bytes}
 use Rattle.vx_wire.specs.Format.{take_format, format_number}
 use Rattle.vx_wire.specs.Description.{take_side, take_description, description_bytes}
 use Rattle.vx_wire.specs.Reference.{slot_numbered, take_reference, reference_bytes}
 use Rattle.vx_wire.specs.Samples.{decoded, encoded, take_samples, take_picture, picture_bytes}
+use Rattle.vx_wire.specs.Slots.{take_slots}
 use Rattle.vx_wire.proofs.SampleBytes.{length-encoded, decoded_back}
 
 -- a field that was read, and those behind it
@@ -67,6 +69,9 @@ cell_back cell rest is =
     let next : ℕ → List ℕ → Taken Cell = λ name rest. and_then (take_byte rest) (λ slot rest. Ok (record { name = name; slot = slot_numbered slot }, rest)) in
     then_ok (take_long (reference_bytes cell ++ rest)) cell.name (unwrap_or cell.slot 255 ∷ rest) next (long_back cell.name _ is.name)
     ∙ ap (λ slot. Ok (record { name = cell.name; slot = slot }, rest)) (slot_back cell.slot is.slot)
+
+pub slots_back : (n : ℕ) (rest : List ℕ) → IsTrue (is_slot_count n) → take_slots (n ∷ rest) ≡ Ok (n, rest)
+slots_back n rest is = ap (λ b. allowed InvalidValue (if b then Some n else None) rest) is
 
 -- so many bytes
 pub bytes_back : (n : ℕ) (bytes rest : List ℕ) → length bytes ≡ n → take_bytes n (bytes ++ rest) ≡ Ok (bytes, rest)

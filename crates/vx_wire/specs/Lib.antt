@@ -5,6 +5,7 @@ pub mod Format
 pub mod Description
 pub mod Reference
 pub mod Samples
+pub mod Slots
 pub mod Lut
 pub mod Threshold
 pub mod Operand
@@ -14,6 +15,7 @@ pub mod Images
 pub mod Objects
 pub mod Tables
 pub mod Immediate
+pub mod Delays
 pub mod Requests
 pub mod Faults
 pub mod Replies

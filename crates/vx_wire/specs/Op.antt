@@ -4,7 +4,7 @@ use Rattle.client_contexts.specs.declared.request.Request.{Request}
 use Rattle.client_contexts.specs.declared.request.Request.TheVariants as requests
 use Rattle.vx_wire.specs.Numbered.{numbered}
 use Rattle.vx_wire.specs.declared.op.Op.{Op}
-use Rattle.vx_wire.specs.declared.op.Op.TheVariants.{OpenContext, ReleaseContext, CreateImage, WriteImage, ReadImage, Release, CreateLut, CreateThreshold, Immediate}
+use Rattle.vx_wire.specs.declared.op.Op.TheVariants.{OpenContext, ReleaseContext, CreateImage, WriteImage, ReadImage, Release, CreateLut, CreateThreshold, Immediate, CreateDelay, AgeDelay}
 
 -- the number of this project's that stands for the op
 abbrev pub op_number : Op → ℕ
@@ -17,9 +17,11 @@ op_number Release = 10
 op_number CreateLut = 11
 op_number CreateThreshold = 12
 op_number Immediate = 24
+op_number CreateDelay = 25
+op_number AgeDelay = 26
 
 abbrev pub ops : List Op
-ops = OpenContext ∷ ReleaseContext ∷ CreateImage ∷ WriteImage ∷ ReadImage ∷ Release ∷ CreateLut ∷ CreateThreshold ∷ Immediate ∷ []
+ops = OpenContext ∷ ReleaseContext ∷ CreateImage ∷ WriteImage ∷ ReadImage ∷ Release ∷ CreateLut ∷ CreateThreshold ∷ Immediate ∷ CreateDelay ∷ AgeDelay ∷ []
 
 -- the op with this number
 abbrev pub op_numbered : ℕ → Option Op
@@ -36,3 +38,5 @@ op_of (requests.Release name) = Release
 op_of (requests.CreateLut lut) = CreateLut
 op_of (requests.CreateThreshold threshold) = CreateThreshold
 op_of (requests.Immediate node) = Immediate
+op_of (requests.CreateDelay exemplar slots) = CreateDelay
+op_of (requests.AgeDelay name) = AgeDelay

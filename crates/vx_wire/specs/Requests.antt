@@ -1,8 +1,8 @@
--- Requests and their bodies. Each table goes by families: contexts, images, objects of any kind, tables and thresholds, nodes that run at once.
-use Rattle.std.specs.Prelude.{ℕ, ⊤, List, [], ◌++◌, Option, Some, None, Result, Err}
+-- Requests and their bodies. Each table goes by families: contexts, images, objects of any kind, tables and thresholds, nodes that run at once, delays.
+use Rattle.std.specs.Prelude.{ℕ, ⊤, List, [], ◌∷◌, ◌++◌, Option, Some, None, Result, Err}
 use Rattle.std.specs.Int.{w32, to_be_bytes}
 use Rattle.client_contexts.specs.declared.request.Request.{Request}
-use Rattle.client_contexts.specs.declared.request.Request.TheVariants.{OpenContext, ReleaseContext, CreateImage, WriteImage, ReadImage, Release, CreateLut, CreateThreshold, Immediate}
+use Rattle.client_contexts.specs.declared.request.Request.TheVariants.{OpenContext, ReleaseContext, CreateImage, WriteImage, ReadImage, Release, CreateLut, CreateThreshold, Immediate, CreateDelay, AgeDelay}
 use Rattle.vx_wire.specs.declared.body_fault.BodyFault.{BodyFault}
 use Rattle.vx_wire.specs.declared.body_fault.BodyFault.TheVariants.{InvalidParameters}
 use Rattle.vx_wire.specs.declared.op.Op.{Op}
@@ -19,6 +19,7 @@ use Rattle.vx_wire.specs.Images.{create_image_in, write_image_in, read_image_in}
 use Rattle.vx_wire.specs.Objects.{release_in}
 use Rattle.vx_wire.specs.Tables.{create_lut_in, create_threshold_in}
 use Rattle.vx_wire.specs.Immediate.{immediate_in}
+use Rattle.vx_wire.specs.Delays.{create_delay_in, age_delay_in}
 
 -- the request that a body of this op spells
 abbrev pub request_with : Op → List ℕ → Result Request BodyFault
@@ -31,6 +32,8 @@ request_with ops.Release body = release_in body
 request_with ops.CreateLut body = create_lut_in body
 request_with ops.CreateThreshold body = create_threshold_in body
 request_with ops.Immediate body = immediate_in body
+request_with ops.CreateDelay body = create_delay_in body
+request_with ops.AgeDelay body = age_delay_in body
 
 -- without an op it spells none
 abbrev pub request_with_known : Option Op → List ℕ → Result Request BodyFault
@@ -52,6 +55,8 @@ body_of (Release name) = to_be_bytes w32 name
 body_of (CreateLut lut) = lut_bytes lut
 body_of (CreateThreshold threshold) = threshold_bytes threshold
 body_of (Immediate node) = node_bytes node
+body_of (CreateDelay exemplar slots) = reference_bytes exemplar ++ slots ∷ []
+body_of (AgeDelay name) = to_be_bytes w32 name
 
 -- a request whose body holds samples or entries, for which parsing takes memory
 abbrev pub HoldsSamples : Request → Type 0
@@ -64,3 +69,5 @@ HoldsSamples (Release name) = ⊥
 HoldsSamples (CreateLut lut) = ⊤
 HoldsSamples (CreateThreshold threshold) = ⊥
 HoldsSamples (Immediate node) = ⊥
+HoldsSamples (CreateDelay exemplar slots) = ⊥
+HoldsSamples (AgeDelay name) = ⊥

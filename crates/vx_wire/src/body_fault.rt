@@ -10,7 +10,7 @@ pub enum BodyFault {
     InvalidFormat,
     /// A width or a height isn't 1 to 4096.
     InvalidDimension,
-    /// An amount is beyond what the function takes, or the limit of a threshold isn't a sample of
-    /// its format or is below the lower limit.
+    /// An amount is beyond what the function takes, the limit of a threshold isn't a sample of its
+    /// format or is below the lower limit, or the slots of a delay aren't 1 to 16.
     InvalidValue,
 }

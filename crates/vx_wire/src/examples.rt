@@ -5,7 +5,7 @@ ghost use Rattle.vx_base.specs.declared.policy.Policy.TheVariants.{Wrap, Saturat
 ghost use Rattle.vx_base.specs.declared.border.Border.TheVariants.{Undefined, Constant};
 ghost use Rattle.vx_base.specs.declared.function.Function.TheVariants.{NotBits, Multiply};
 ghost use Rattle.vx_base.specs.declared.threshold.ThresholdKind.TheVariants.{Binary, Range};
-ghost use Rattle.client_contexts.specs.declared.request.Request.TheVariants.{OpenContext, ReleaseContext, CreateImage, WriteImage, ReadImage, Release, CreateThreshold, Immediate};
+ghost use Rattle.client_contexts.specs.declared.request.Request.TheVariants.{OpenContext, ReleaseContext, CreateImage, WriteImage, ReadImage, Release, CreateThreshold, Immediate, CreateDelay, AgeDelay};
 ghost use Rattle.vx_wire.specs.declared.body_fault.BodyFault.TheVariants.{InvalidParameters, InvalidFormat, InvalidDimension, InvalidValue};
 ghost use Rattle.vx_wire.specs.Requests.{request_of, body_of};
 
@@ -92,10 +92,31 @@ pub fn multiplied()
     ensures too_much_and_cut { request_of 24 (7 ∷ 0 ∷ 0 ∷ 0 ∷ 16 ∷ []) ≡ Err InvalidValue }
 {}
 
-/// The spellings of a picture and of a threshold.
+/// A delay of 3 images like image 1, of 1 and of 16, and of what no delay has.
+pub fn delays_made()
+    ensures made { request_of 25 (0 ∷ 0 ∷ 0 ∷ 1 ∷ 255 ∷ 3 ∷ []) ≡ Ok (CreateDelay (record { name = 1; slot = None }) 3) }
+    ensures fewest { request_of 25 (0 ∷ 0 ∷ 0 ∷ 1 ∷ 255 ∷ 1 ∷ []) ≡ Ok (CreateDelay (record { name = 1; slot = None }) 1) }
+    ensures most { request_of 25 (0 ∷ 0 ∷ 0 ∷ 1 ∷ 255 ∷ 16 ∷ []) ≡ Ok (CreateDelay (record { name = 1; slot = None }) 16) }
+    ensures of_a_slot { request_of 25 (0 ∷ 0 ∷ 1 ∷ 2 ∷ 5 ∷ 3 ∷ []) ≡ Ok (CreateDelay (record { name = 258; slot = Some 5 }) 3) }
+    ensures no_slots { request_of 25 (0 ∷ 0 ∷ 0 ∷ 1 ∷ 255 ∷ 0 ∷ []) ≡ Err InvalidValue }
+    ensures too_many { request_of 25 (0 ∷ 0 ∷ 0 ∷ 1 ∷ 255 ∷ 17 ∷ []) ≡ Err InvalidValue }
+    ensures too_many_and_more { request_of 25 (0 ∷ 0 ∷ 0 ∷ 1 ∷ 255 ∷ 17 ∷ 0 ∷ []) ≡ Err InvalidValue }
+    ensures cut { request_of 25 (0 ∷ 0 ∷ 0 ∷ 1 ∷ 255 ∷ []) ≡ Err InvalidParameters }
+    ensures more { request_of 25 (0 ∷ 0 ∷ 0 ∷ 1 ∷ 255 ∷ 3 ∷ 0 ∷ []) ≡ Err InvalidParameters }
+{}
+
+/// Delay 2 that is aged, and a name that is cut short or has a slot.
+pub fn delays_aged()
+    ensures aged { request_of 26 (0 ∷ 0 ∷ 0 ∷ 2 ∷ []) ≡ Ok (AgeDelay 2) }
+    ensures cut { request_of 26 (0 ∷ 0 ∷ 0 ∷ []) ≡ Err InvalidParameters }
+    ensures with_a_slot { request_of 26 (0 ∷ 0 ∷ 0 ∷ 2 ∷ 255 ∷ []) ≡ Err InvalidParameters }
+{}
+
+/// The spellings of a picture, of a threshold and of a delay.
 pub fn spelled()
     ensures picture { body_of (WriteImage (record { name = 7; slot = None }) (record { description = record { width = 2; height = 1; format = S16 }; samples = negsuc 1 ∷ pos 1 ∷ [] }))
         ≡ 0 ∷ 0 ∷ 0 ∷ 7 ∷ 255 ∷ 2 ∷ 0 ∷ 2 ∷ 0 ∷ 1 ∷ 255 ∷ 254 ∷ 0 ∷ 1 ∷ [] }
     ensures threshold { body_of (CreateThreshold (record { format = S16; kind = Range (negsuc 0) (pos 2); true_value = 255; false_value = 0 }))
         ≡ 1 ∷ 2 ∷ 255 ∷ 255 ∷ 0 ∷ 2 ∷ 255 ∷ 0 ∷ [] }
+    ensures delay { body_of (CreateDelay (record { name = 1; slot = None }) 3) ≡ 0 ∷ 0 ∷ 0 ∷ 1 ∷ 255 ∷ 3 ∷ [] }
 {}

@@ -9,6 +9,7 @@ pub mod node;
 pub mod operand;
 pub mod reference;
 pub mod samples;
+pub mod slots;
 pub mod threshold;
 
 use crate::body_fault::BodyFault;

@@ -8,9 +8,10 @@
 //! - `op`: what kind of request a frame holds, and its number
 //! - `body_fault`, `parse_fault`: why a body spells no request, and why none was read
 //! - `fields`: taking fields from the front of a body, and in its modules what each subject takes
-//!   and gives: `format`, `description`, `reference`, `samples`, `threshold`, `operand`, `node`
+//!   and gives: `format`, `description`, `reference`, `samples`, `threshold`, `operand`, `node`,
+//!   `slots` (of a delay)
 //! - `requests`: the bodies of requests, by families: `contexts`, `images`, `objects` (of any
-//!   kind), `tables` (and thresholds), `immediate`
+//!   kind), `tables` (and thresholds), `immediate`, `delays`
 //! - `parsing`: the body of any request
 //! - `laws`, `examples`: what the definitions mean
 #![tactic(auto)]

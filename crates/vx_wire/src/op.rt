@@ -17,6 +17,8 @@ pub enum Op {
     CreateLut,
     CreateThreshold,
     Immediate,
+    CreateDelay,
+    AgeDelay,
 }
 
 impl Op {
@@ -34,6 +36,8 @@ impl Op {
             Op::CreateLut => 11,
             Op::CreateThreshold => 12,
             Op::Immediate => 24,
+            Op::CreateDelay => 25,
+            Op::AgeDelay => 26,
         }
     }
 
@@ -52,6 +56,8 @@ impl Op {
             11 => Some(Op::CreateLut),
             12 => Some(Op::CreateThreshold),
             24 => Some(Op::Immediate),
+            25 => Some(Op::CreateDelay),
+            26 => Some(Op::AgeDelay),
             _ => None,
         }
     }
@@ -70,6 +76,8 @@ impl Op {
             Request::CreateLut(_) => Op::CreateLut,
             Request::CreateThreshold(_) => Op::CreateThreshold,
             Request::Immediate(_) => Op::Immediate,
+            Request::CreateDelay(_, _) => Op::CreateDelay,
+            Request::AgeDelay(_) => Op::AgeDelay,
         }
     }
 }

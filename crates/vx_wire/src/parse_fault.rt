@@ -22,8 +22,8 @@ pub enum ParseFault {
     /// A width or a height isn't 1 to 4096.
     #[error("invalid dimension")]
     InvalidDimension,
-    /// An amount is beyond what the function takes, or the limit of a threshold isn't a sample of
-    /// its format or is below the lower limit.
+    /// An amount is beyond what the function takes, the limit of a threshold isn't a sample of its
+    /// format or is below the lower limit, or the slots of a delay aren't 1 to 16.
     #[error("invalid value")]
     InvalidValue,
 }

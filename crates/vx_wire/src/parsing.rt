@@ -6,6 +6,7 @@ ghost use Rattle.vx_wire.specs.Requests.{request_of};
 use crate::op::Op;
 use crate::parse_fault::ParseFault;
 use crate::requests::contexts::{open_context, release_context};
+use crate::requests::delays::{age_delay, create_delay};
 use crate::requests::images::{create_image, read_image, write_image};
 use crate::requests::immediate::immediate;
 use crate::requests::objects::release;
@@ -34,5 +35,7 @@ pub fn parse(alloc: Global, op: u8, body: &[u8]) -> Result<Request, ParseFault>
         Some(Op::CreateLut) => create_lut(alloc, body),
         Some(Op::CreateThreshold) => Ok(create_threshold(body)?),
         Some(Op::Immediate) => Ok(immediate(body)?),
+        Some(Op::CreateDelay) => Ok(create_delay(body)?),
+        Some(Op::AgeDelay) => Ok(age_delay(body)?),
     }
 }

@@ -1,6 +1,7 @@
 //! The bodies of requests, by families.
 
 pub mod contexts;
+pub mod delays;
 pub mod images;
 pub mod immediate;
 pub mod objects;

@@ -28,5 +28,12 @@ pub fn is_request(request: &Request)
         Request::Immediate(node) => {
             let _fields = node.node();
         }
+        Request::CreateDelay(exemplar, slots) => {
+            exemplar.is_cell();
+            let _count = slots.get();
+        }
+        Request::AgeDelay(name) => {
+            let _name = *name;
+        }
     }
 }

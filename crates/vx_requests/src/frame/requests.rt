@@ -1,6 +1,6 @@
 //! Requests as frames.
 ghost use Rattle.std.specs.Prelude.{◌≡◌, ◌+◌, ◌*◌, ◌<◌, ◌≤◌, ◌^◌, [], ◌∷◌, ◌++◌, length, IsTrue};
-ghost use Rattle.client_contexts.specs.declared.request.Request.TheVariants.{WriteImage as WriteImageRequest, CreateLut as CreateLutRequest, CreateThreshold as CreateThresholdRequest};
+ghost use Rattle.client_contexts.specs.declared.request.Request.TheVariants.{WriteImage as WriteImageRequest, CreateLut as CreateLutRequest, CreateThreshold as CreateThresholdRequest, CreateDelay as CreateDelayRequest};
 ghost use Rattle.vx_base.specs.Description.{byte_count};
 ghost use Rattle.vx_base.specs.Lut.{is_full};
 ghost use Rattle.vx_wire.specs.declared.op.Op.TheVariants.{WriteImage as WriteImageOp, CreateLut as CreateLutOp};
@@ -17,7 +17,7 @@ use crate::frame::limits::is_request;
 use crate::frame::samples::write_samples;
 use crate::stream::{Sink, StreamFault, write_all};
 use client_contexts::Request;
-use vx_base::{Desc, Format, Lut, ObjRef, Picture, ThresholdKind, ThresholdRule};
+use vx_base::{Desc, Format, Lut, ObjRef, Picture, SlotCount, ThresholdKind, ThresholdRule};
 use vx_wire::{
     Op, binary_bytes, description_bytes, format_number, node_bytes, range_bytes, reference_bytes,
 };
@@ -57,6 +57,13 @@ pub fn write_request<K: Sink>(
         Request::Immediate(node) => {
             let body = node_bytes(*node);
             write_short(sink, client, Op::Immediate.number(), &body)
+        }
+        Request::CreateDelay(exemplar, slots) => {
+            write_create_delay(sink, client, *exemplar, *slots)
+        }
+        Request::AgeDelay(name) => {
+            let body = name.to_be_bytes();
+            write_short(sink, client, Op::AgeDelay.number(), &body)
         }
     }
 }
@@ -169,4 +176,20 @@ fn write_create_threshold<K: Sink>(
             write_short(sink, client, op, &body)
         }
     }
+}
+
+/// Writes the frame of a `CreateDelay`, at once.
+fn write_create_delay<K: Sink>(
+    sink: &mut K,
+    client: u16,
+    exemplar: ObjRef,
+    slots: SlotCount,
+) -> Result<(), StreamFault>
+    requires { K.failures sink.old < 2 ^ 62 }
+    ensures { Writes K.taken K.failures sink.old sink.new
+        (frame_bytes (request_frame client (CreateDelayRequest exemplar slots))) result }
+{
+    let [a, b, c, d, e] = reference_bytes(exemplar);
+    let body = [a, b, c, d, e, slots.get()];
+    write_short(sink, client, Op::CreateDelay.number(), &body)
 }

@@ -5,3 +5,6 @@ returns-in-WriteImage-clause-written g c = rw c.in-WriteImage.is c.write_write_i
 
 pub returns-in-Immediate-clause-written : goal.returns-in-Immediate-clause-written
 returns-in-Immediate-clause-written g c = rw c.in-Immediate.is (rw (c.number-in-Immediate.ensures, c.node_bytes-body.ensures) at c.write_short-in-Immediate.ensures)
+
+pub returns-in-CreateDelay-clause-written : goal.returns-in-CreateDelay-clause-written
+returns-in-CreateDelay-clause-written g c = rw c.in-CreateDelay.is c.write_create_delay.ensures

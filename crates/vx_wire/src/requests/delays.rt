@@ -1,0 +1,30 @@
+//! The bodies of requests about delays.
+ghost use Rattle.std.specs.Prelude.{◌≡◌};
+ghost use Rattle.vx_wire.specs.Delays.{create_delay_in, age_delay_in};
+
+use crate::body_fault::BodyFault;
+use crate::fields::Fields;
+use crate::fields::reference::take_reference;
+use crate::fields::slots::take_slots;
+use client_contexts::Request;
+
+/// A reference to the exemplar, and the number of slots.
+pub fn create_delay(body: &[u8]) -> Result<Request, BodyFault>
+    ensures { result ≡ create_delay_in body.now }
+{
+    let mut fields = Fields::new(body);
+    let exemplar = take_reference(&mut fields)?;
+    let slots = take_slots(&mut fields)?;
+    fields.end()?;
+    Ok(Request::CreateDelay(exemplar, slots))
+}
+
+/// A name.
+pub fn age_delay(body: &[u8]) -> Result<Request, BodyFault>
+    ensures { result ≡ age_delay_in body.now }
+{
+    let mut fields = Fields::new(body);
+    let name = fields.long()?;
+    fields.end()?;
+    Ok(Request::AgeDelay(name))
+}
