@@ -3,8 +3,8 @@
 import struct
 
 (OPEN_CONTEXT, RELEASE_CONTEXT, CREATE_IMAGE, WRITE_IMAGE, READ_IMAGE, RELEASE, CREATE_LUT, CREATE_THRESHOLD,
- IMMEDIATE) = 1, 2, 3, 5, 7, 10, 11, 12, 24
-CREATES = (CREATE_IMAGE, CREATE_LUT, CREATE_THRESHOLD)
+ IMMEDIATE, CREATE_DELAY, AGE_DELAY) = 1, 2, 3, 5, 7, 10, 11, 12, 24, 25, 26
+CREATES = (CREATE_IMAGE, CREATE_LUT, CREATE_THRESHOLD, CREATE_DELAY)
 U8, S16, U32 = 1, 2, 3
 SAMPLE_LETTERS = {U8: "B", S16: "h", U32: "I"}
 (AND_BITS, OR_BITS, XOR_BITS, NOT_BITS, ADD, SUBTRACT, MULTIPLY, ABSOLUTE_DIFFERENCE, MIN_PIXEL, MAX_PIXEL, THRESHOLD,
@@ -30,11 +30,12 @@ def reply_frame(client, op, code=0, body=b""):
 
 
 def reference(name, slot=255):
+    """An object, or what is in a slot of a delay: k for slot -k, so that 0 is the newest."""
     return struct.pack(">IB", name, slot)
 
 
 def operand(named):
-    """A node's operand: a name, the bytes of a reference, or None where it is absent."""
+    """A name, the bytes of a reference, or None where a node's operand is absent."""
     if named is None:
         return ABSENT
     return named if isinstance(named, bytes) else reference(named)
@@ -73,6 +74,14 @@ def create_threshold(client, fmt, limits, true_value=255, false_value=0):
     kind = RANGE if len(limits) == 2 else BINARY
     body = struct.pack(f">BB{len(limits)}hBB", kind, fmt, *limits, true_value, false_value)
     return frame(client, CREATE_THRESHOLD, body)
+
+
+def create_delay(client, exemplar, slots):
+    return frame(client, CREATE_DELAY, operand(exemplar) + bytes([slots]))
+
+
+def age_delay(client, name):
+    return frame(client, AGE_DELAY, struct.pack(">I", name))
 
 
 def node(function, in1, in2, out1, policy=WRAP, amount=0, border=UNDEFINED, constant=0, out2=None):

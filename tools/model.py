@@ -14,15 +14,15 @@ import frames
 from frames import S16, U8, U32
 
 # The ops that the program knows. Every other is answered INVALID_PARAMETERS, also where it has a row in REQUESTS.
-STANDING = {1, 2, 3, 5, 7, 10, 11, 12, 24}
+STANDING = {1, 2, 3, 5, 7, 10, 11, 12, 24, 25, 26}
 
 OPEN_CONTEXT, RELEASE_CONTEXT, CREATE_IMAGE, WRITE_IMAGE, READ_IMAGE = 1, 2, 3, 5, 7
-RELEASE, CREATE_LUT, CREATE_THRESHOLD, IMMEDIATE = 10, 11, 12, 24
+RELEASE, CREATE_LUT, CREATE_THRESHOLD, IMMEDIATE, CREATE_DELAY, AGE_DELAY = 10, 11, 12, 24, 25, 26
 
 (SUCCESS, NO_MEMORY, INVALID_PARAMETERS, INVALID_REFERENCE, INVALID_SCOPE, INVALID_FORMAT, INVALID_DIMENSION, INVALID_VALUE,
  INVALID_TYPE, INVALID_GRAPH, INVALID_LINK, MULTIPLE_WRITERS, OPTIMIZED_AWAY, NO_RESOURCES) = range(14)
 
-# What one client may hold: sample bytes of its images, objects, and the greatest name.
+# What one client may hold: sample bytes of its images and its delays, objects, and the greatest name.
 Limits = namedtuple("Limits", "quota objects names")
 LIMITS = Limits(268_435_456, 1024, 4_294_967_295)
 
@@ -104,6 +104,8 @@ Image = namedtuple("Image", "fmt width height valid samples")
 Lut = namedtuple("Lut", "fmt entries")
 # BINARY has one limit, RANGE the lower and the upper.
 Threshold = namedtuple("Threshold", "fmt limits true_value false_value")
+# The image in each slot, the newest first, so that the one in slot -k is number k.
+Delay = namedtuple("Delay", "images")
 
 
 def new_image(fmt, width, height):
@@ -120,12 +122,24 @@ def made(fmt, width, height, valid, sample):
     return Image(fmt, width, height, valid, samples)
 
 
+def new_delay(image, slots):
+    """So many new images of the size and the format of this one."""
+    return Delay((new_image(image.fmt, image.width, image.height),) * slots)
+
+
+def aged(delay):
+    """What was in slot 0 is in slot -1, and so on; what was in the last slot is in slot 0."""
+    return Delay(delay.images[-1:] + delay.images[:-1])
+
+
 def same_size(one, other):
     return (one.width, one.height) == (other.width, other.height)
 
 
 def object_bytes(thing):
     """What an object is charged."""
+    if isinstance(thing, Delay):
+        return sum(map(object_bytes, thing.images))
     return thing.width * thing.height * sample_bytes(thing.fmt) if isinstance(thing, Image) else 0
 
 
@@ -158,18 +172,31 @@ class State:
         self.context = None
 
 
+# What a cell holds where its delay has no such slot, and where it is a slot of an object that is no delay.
+NO_SUCH_SLOT, NO_DELAY = "a slot that isn't there", "a slot of no delay"
+
+
 def held(context, cell):
-    """The object that a cell holds; None where its name is no object's."""
-    return context.objects.get(cell.name)
+    """An object, the image in a slot of a delay, or one of the two above; None where the cell's name is no object's."""
+    thing = context.objects.get(cell.name)
+    if thing is None or cell.slot == NO_SLOT:
+        return thing
+    if not isinstance(thing, Delay):
+        return NO_DELAY
+    return thing.images[cell.slot] if cell.slot < len(thing.images) else NO_SUCH_SLOT
 
 
-def put(context, cell, thing):
-    context.objects[cell.name] = thing
+def put(context, cell, image):
+    """Puts an image in the place of the one that a cell holds."""
+    thing = context.objects[cell.name]
+    if isinstance(thing, Delay):
+        image = Delay(thing.images[: cell.slot] + (image,) + thing.images[cell.slot + 1 :])
+    context.objects[cell.name] = image
 
 
-def is_of_kind(cell, thing, kind):
-    # No object has slots, so that a cell with a slot is of no kind.
-    return cell.slot == NO_SLOT and isinstance(thing, kind)
+def is_of_kind(thing, kind):
+    """Whether what a cell holds is of a kind. A slot of a delay is an image, also one that isn't there."""
+    return isinstance(thing, kind) or (kind is Image and thing is NO_SUCH_SLOT)
 
 
 def charge(context):
@@ -237,6 +264,12 @@ def take_name(fields):
 
 def take_cell(fields):
     return Cell(take_name(fields), fields.byte())
+
+
+def take_slots(fields):
+    slots = fields.byte()
+    refuse_if(not 1 <= slots <= 16, INVALID_VALUE)
+    return slots
 
 
 def take_samples(fields, fmt, count):
@@ -317,7 +350,8 @@ def image_in(context, cell):
     """The image that a reference names."""
     thing = held(context, cell)
     refuse_if(thing is None, INVALID_REFERENCE)
-    refuse_if(not is_of_kind(cell, thing, Image), INVALID_TYPE)
+    refuse_if(not is_of_kind(thing, Image), INVALID_TYPE)
+    refuse_if(thing is NO_SUCH_SLOT, INVALID_VALUE)
     return thing
 
 
@@ -397,7 +431,11 @@ def names_nothing(node, things):
 
 
 def is_of_other_kind(node, things):
-    return any(thing is not None and not is_of_kind(cell, thing, kind) for cell, thing, kind in present(node, things))
+    return any(thing is not None and not is_of_kind(thing, kind) for _, thing, kind in present(node, things))
+
+
+def names_no_slot(node, things):
+    return any(thing is NO_SUCH_SLOT for _, thing, _ in present(node, things))
 
 
 def writes_twice(node, things):
@@ -423,6 +461,7 @@ def has_other_size(node, things):
 NODE_REFUSALS = (
     (names_nothing, INVALID_REFERENCE),
     (is_of_other_kind, INVALID_TYPE),
+    (names_no_slot, INVALID_VALUE),
     (writes_twice, MULTIPLE_WRITERS),
     (reads_own_output, INVALID_GRAPH),
     (has_other_formats, INVALID_FORMAT),
@@ -436,6 +475,21 @@ def immediate(_, state, node):
         refuse_if(applies(node, things), code)
     for k, thing in node.function.gives(node, things).items():
         put(state.context, node.cells[k], thing)
+    return b""
+
+
+# ---- delays
+
+
+def create_delay(limits, state, cell, slots):
+    return create(limits, state, new_delay(image_in(state.context, cell), slots))
+
+
+def age_delay(_, state, name):
+    delay = state.context.objects.get(name)
+    refuse_if(delay is None, INVALID_REFERENCE)
+    refuse_if(not isinstance(delay, Delay), INVALID_TYPE)
+    state.context.objects[name] = aged(delay)
     return b""
 
 
@@ -572,20 +626,23 @@ def each(*takes):
 
 
 CREATE_CODES = {SUCCESS, INVALID_PARAMETERS, INVALID_REFERENCE, INVALID_FORMAT, NO_RESOURCES}
-IMAGE_CODES = {SUCCESS, INVALID_PARAMETERS, INVALID_REFERENCE, INVALID_TYPE}
+NAME_CODES = {SUCCESS, INVALID_PARAMETERS, INVALID_REFERENCE}
+IMAGE_CODES = NAME_CODES | {INVALID_TYPE, INVALID_VALUE}
 PICTURE_CODES = IMAGE_CODES | {INVALID_FORMAT, INVALID_DIMENSION}
 
 REQUESTS = {
     OPEN_CONTEXT: Request(take_nothing, open_context, {SUCCESS, INVALID_PARAMETERS, INVALID_VALUE}),
-    RELEASE_CONTEXT: Request(take_nothing, release_context, {SUCCESS, INVALID_PARAMETERS, INVALID_REFERENCE}),
+    RELEASE_CONTEXT: Request(take_nothing, release_context, NAME_CODES),
     CREATE_IMAGE: Request(take_description, create_image, CREATE_CODES | {INVALID_DIMENSION}),
     WRITE_IMAGE: Request(each(take_cell, take_picture), write_image, PICTURE_CODES),
     READ_IMAGE: Request(each(take_cell), read_image, IMAGE_CODES),
-    RELEASE: Request(each(take_name), release, {SUCCESS, INVALID_PARAMETERS, INVALID_REFERENCE}),
+    RELEASE: Request(each(take_name), release, NAME_CODES),
     CREATE_LUT: Request(each(take_lut), create_lut, CREATE_CODES),
     CREATE_THRESHOLD: Request(each(take_threshold), create_threshold, CREATE_CODES | {INVALID_VALUE}),
     # Two outputs, and so MULTIPLE_WRITERS, are for functions that are planned.
-    IMMEDIATE: Request(each(take_node), immediate, PICTURE_CODES | {INVALID_VALUE, INVALID_GRAPH}),
+    IMMEDIATE: Request(each(take_node), immediate, PICTURE_CODES | {INVALID_GRAPH}),
+    CREATE_DELAY: Request(each(take_cell, take_slots), create_delay, IMAGE_CODES | {NO_RESOURCES}),
+    AGE_DELAY: Request(each(take_name), age_delay, NAME_CODES | {INVALID_TYPE}),
 }
 
 

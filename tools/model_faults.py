@@ -6,7 +6,7 @@ from types import SimpleNamespace
 
 import frames
 import model
-from frames import S16
+from frames import S16, U32
 
 # What is wrong; the op without which nobody can tell, or None; and what stands for which names of the model.
 Fault = namedtuple("Fault", "words needs changes")
@@ -84,10 +84,9 @@ def image_in_part(fmt, width, height):
     return right.new_image(fmt, width, height)._replace(valid=right.whole(width - 1, height) if width > 1 else right.EMPTY)
 
 
-def put_over(context, cell, thing):
-    old = context.objects[cell.name].samples
-    samples = [one or other for one, other in zip(thing.samples, old)]
-    right.put(context, cell, thing._replace(samples=samples))
+def put_over(context, cell, image):
+    samples = [one or other for one, other in zip(image.samples, right.held(context, cell).samples)]
+    right.put(context, cell, image._replace(samples=samples))
 
 
 def write_as_many_samples(limits, state, cell, picture):
@@ -106,7 +105,7 @@ def with_room_for(objects=0, quota=0):
 
 
 def bytes_of_four(thing):
-    return 4 * thing.width * thing.height if isinstance(thing, model.Image) else 0
+    return right.object_bytes(thing._replace(fmt=U32) if isinstance(thing, model.Image) else thing)
 
 
 def bytes_of_tables(thing):
@@ -179,6 +178,105 @@ OBJECT_FAULTS = (
     Fault("the name of an object that was released is given again", right.RELEASE,
           with_outcome(right.RELEASE, release_to_give_again)),
     Fault("an image that was released is still charged", right.RELEASE, still_charged()),
+)
+
+
+# ---- delays
+
+
+def aged_back(delay):
+    return delay._replace(images=delay.images[1:] + delay.images[:1])
+
+
+def aged_to_new(delay):
+    newest = right.new_delay(delay.images[0], 1)
+    return delay._replace(images=newest.images + delay.images[:-1])
+
+
+def with_cells_at(place):
+    """Cells that stand for other ones."""
+    def held(context, cell):
+        return right.held(context, place(context, cell))
+
+    def put(context, cell, image):
+        right.put(context, place(context, cell), image)
+
+    return {"held": held, "put": put}
+
+
+def from_the_oldest(context, cell):
+    delay = context.objects.get(cell.name)
+    count = len(delay.images) if isinstance(delay, model.Delay) else 0
+    return cell._replace(slot=count - 1 - cell.slot) if cell.slot < count else cell
+
+
+def newest_without_slot(context, cell):
+    is_delay = isinstance(context.objects.get(cell.name), model.Delay)
+    return cell._replace(slot=0) if is_delay and cell.slot == model.NO_SLOT else cell
+
+
+def object_without_delay(context, cell):
+    is_delay = isinstance(context.objects.get(cell.name), model.Delay)
+    return cell if is_delay else cell._replace(slot=model.NO_SLOT)
+
+
+def held_or_no_kind(context, cell):
+    thing = right.held(context, cell)
+    return model.NO_DELAY if thing is model.NO_SUCH_SLOT else thing
+
+
+def bytes_of_one_slot(thing):
+    return right.object_bytes(thing.images[0] if isinstance(thing, model.Delay) else thing)
+
+
+def delay_of_copies(image, slots):
+    return model.Delay((image,) * slots)
+
+
+def places_of(thing):
+    return len(thing.images) if isinstance(thing, model.Delay) else 1
+
+
+def has_room_for_slots(limits, context, thing):
+    more = sum(map(places_of, context.objects.values())) - len(context.objects) + places_of(thing) - 1
+    return right.has_room(limits._replace(objects=limits.objects - more), context, thing)
+
+
+def reads_own_delay(node, things):
+    operands = [right.present(node, things, among) for among in (model.INPUTS, model.OUTPUTS)]
+    read, written = ({cell.name for cell, _, _ in some} for some in operands)
+    return bool(read & written)
+
+
+def slots_to_17(fields):
+    slots = fields.byte()
+    model.refuse_if(not 1 <= slots <= 17, model.INVALID_VALUE)
+    return slots
+
+
+def delays_with(take):
+    row = right.REQUESTS[right.CREATE_DELAY]._replace(take=right.each(right.take_cell, take))
+    return {"REQUESTS": {**right.REQUESTS, right.CREATE_DELAY: row}}
+
+
+def node_refusal_at(k, applies):
+    rows = [*right.NODE_REFUSALS]
+    rows[k] = (applies, rows[k][1])
+    return {"NODE_REFUSALS": rows}
+
+
+DELAY_FAULTS = (
+    Fault("a delay ages the other way round", right.AGE_DELAY, {"aged": aged_back}),
+    Fault("ageing puts a new image into slot 0", right.AGE_DELAY, {"aged": aged_to_new}),
+    Fault("ageing changes nothing", right.AGE_DELAY, {"aged": lambda delay: delay}),
+    Fault("slots are counted from the oldest", right.AGE_DELAY, with_cells_at(from_the_oldest)),
+    Fault("a delay without a slot is its newest one", right.CREATE_DELAY, with_cells_at(newest_without_slot)),
+    Fault("a slot that isn't there is told as INVALID_TYPE", right.CREATE_DELAY, {"held": held_or_no_kind}),
+    Fault("a delay has copies of its exemplar", right.CREATE_DELAY, {"new_delay": delay_of_copies}),
+    Fault("a delay may have 17 slots", right.CREATE_DELAY, delays_with(slots_to_17)),
+    Fault("a delay is charged for one slot", right.CREATE_DELAY, {"object_bytes": bytes_of_one_slot}),
+    Fault("a delay is as many objects as it has slots", right.CREATE_DELAY, {"has_room": has_room_for_slots}),
+    Fault("two slots of a delay are one image", right.CREATE_DELAY, node_refusal_at(4, reads_own_delay)),
 )
 
 
@@ -312,8 +410,8 @@ def of_one(applies, k):
 
 def by_operands():
     """All that is wrong with one operand before the next."""
-    names, kinds, *others = right.NODE_REFUSALS
-    first = [(of_one(applies, k), code) for k in range(4) for applies, code in (names, kinds)]
+    names, kinds, slots, *others = right.NODE_REFUSALS
+    first = [(of_one(applies, k), code) for k in range(4) for applies, code in (names, kinds, slots)]
     return {"NODE_REFUSALS": [*first, *others]}
 
 
@@ -324,19 +422,22 @@ def write_image_by_size(limits, state, cell, picture):
 
 
 def image_by_kind(context, cell):
-    model.refuse_if(cell.slot != model.NO_SLOT, model.INVALID_TYPE)
+    model.refuse_if(cell.slot != model.NO_SLOT and cell.name not in context.objects, model.INVALID_TYPE)
     return right.image_in(context, cell)
 
 
 REFUSAL_FAULTS = (
-    Fault("a node's kinds are tried before its names", None, refusals_in(1, 0, 2, 3, 4, 5)),
-    Fault("a node's own output is tried before its kinds", None, refusals_in(0, 3, 1, 2, 4, 5)),
-    Fault("a node's formats are tried before its own output", None, refusals_in(0, 1, 2, 4, 3, 5)),
-    Fault("a node's sizes are tried before its formats", None, refusals_in(0, 1, 2, 3, 5, 4)),
+    Fault("a node's kinds are tried before its names", None, refusals_in(1, 0, 2, 3, 4, 5, 6)),
+    Fault("a node's slots are tried before its names", right.CREATE_DELAY, refusals_in(2, 0, 1, 3, 4, 5, 6)),
+    Fault("a node's slots are tried before its kinds", right.CREATE_DELAY, refusals_in(0, 2, 1, 3, 4, 5, 6)),
+    Fault("a node's own output is tried before its kinds", None, refusals_in(0, 4, 1, 2, 3, 5, 6)),
+    Fault("a node's own output is tried before its slots", right.CREATE_DELAY, refusals_in(0, 1, 4, 2, 3, 5, 6)),
+    Fault("a node's formats are tried before its own output", None, refusals_in(0, 1, 2, 3, 5, 4, 6)),
+    Fault("a node's sizes are tried before its formats", None, refusals_in(0, 1, 2, 3, 4, 6, 5)),
     Fault("a node's operands are tried one after another", None, by_operands()),
-    Fault("a slot is passed over", None, {"is_of_kind": lambda cell, thing, kind: isinstance(thing, kind)}),
+    Fault("a slot of an object that isn't a delay is passed over", None, with_cells_at(object_without_delay)),
     Fault("a slot is told before a name that is no object's", None, {"image_in": image_by_kind}),
     Fault("WriteImage tries sizes before formats", None, with_outcome(right.WRITE_IMAGE, write_image_by_size)),
 )
 
-FAULTS = FUNCTION_FAULTS + OBJECT_FAULTS + CLIENT_FAULTS + BODY_FAULTS + REFUSAL_FAULTS
+FAULTS = FUNCTION_FAULTS + OBJECT_FAULTS + DELAY_FAULTS + CLIENT_FAULTS + BODY_FAULTS + REFUSAL_FAULTS
