@@ -8,6 +8,7 @@ ghost use Rattle.vx_base.specs.Image.{made, at, image_over};
 use crate::formula::Formula;
 use crate::rows::clear_rows;
 use crate::sample::Sample;
+use crate::whole::Whole;
 use vx_base::{Desc, Format, Rect};
 
 /// The samples of an image, lent to who writes it. Of the slices the one of the format holds the
@@ -80,5 +81,17 @@ impl<'a> ImageMut<'a> {
     {
         self.valid = formula.area();
         T::write_samples(self, formula);
+    }
+
+    /// Writes all samples of a U32 image at once, and its rectangle.
+    pub fn write_whole<W: Whole>(&mut self, whole: &W)
+        requires target { IsTarget self.old }
+        requires format { (written self.old).format ≡ U32 }
+        requires width { (written self.old).width ≡ W.width whole.now }
+        requires height { (written self.old).height ≡ W.height whole.now }
+        ensures { Writes (made (W.width whole.now) (W.height whole.now) U32 (W.area whole.now) (W.at whole.now)) self.old self.new }
+    {
+        self.valid = whole.area();
+        whole.fill(self.words);
     }
 }

@@ -18,12 +18,15 @@ mod rows;
 mod sample;
 mod second;
 mod slice;
+mod whole;
 
 pub use formula::Formula;
 pub use image::Image;
 pub use image_mut::ImageMut;
 pub use number::Number;
 pub use overflow::{Overflow, Saturated, Wrapped};
+pub use rows::clear_rows;
 pub use sample::Sample;
 pub use second::Second;
 pub use slice::Slice;
+pub use whole::Whole;

@@ -9,7 +9,7 @@ use Rattle.vx_base.specs.declared.format.Format.{Format}
 use Rattle.vx_base.specs.Sample.{IsSample}
 use Rattle.vx_base.proofs.ResultLaws.{zero_sample}
 use Rattle.vx_base.specs.Rectangle.{Rectangle, inside, whole, IsOrdered, IsWithin}
-use Rattle.vx_base.specs.Image.{ImageValue, IsImage, run, table, within, at, made, new_image}
+use Rattle.vx_base.specs.Image.{ImageValue, IsImage, run, table, within, at, made, new_image, with_valid}
 use Rattle.vx_base.proofs.TableLaws.{table-more, length-table, get_or-run}
 
 -- a place of a row above the last
@@ -114,6 +114,11 @@ made_of_itself a h =
     cases : (x y : ℕ) → x < a.width → y < a.height → (inside a.valid x y ≡ true) ⊎ (inside a.valid x y ≡ false) → at (made a.width a.height a.format a.valid (at a)) x y ≡ at a x y
     cases x y i j (inl e) = at-made a.width a.height a.format a.valid (at a) x y i j e
     cases x y i j (inr e) = at-made_outside a.width a.height a.format a.valid (at a) x y i j e ∙ sym (h.outside x y i j e)
+
+-- an image with another valid rectangle is one
+pub with_valid_is : (a : ImageValue) (valid : Rectangle) → IsImage a → IsOrdered valid → IsWithin valid a.width a.height → IsImage (with_valid valid a)
+with_valid_is a valid h ordered room =
+    made_image a.width a.height a.format valid (at a) ordered room (λ x y e. h.sampled x y (column_inside valid a.width a.height x y room e) (row_inside valid a.width a.height x y room e))
 
 pub inside_whole : (width height x y : ℕ) → x < width → y < height → inside (whole width height) x y ≡ true
 inside_whole width height x y a b = grind (arith, nat_tests)

@@ -7,3 +7,4 @@ pub mod ZeroLaws
 pub mod ResultLaws
 pub mod NodeLaws
 pub mod PictureLaws
+pub mod WindowLaws

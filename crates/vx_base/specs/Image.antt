@@ -53,3 +53,7 @@ made width height format valid f =
 -- a new image: wholly valid and 0 everywhere
 abbrev pub new_image : ℕ → ℕ → Format → ImageValue
 new_image width height format = made width height format (whole width height) (λ _ _. pos 0)
+
+-- the image with another valid rectangle: every sample outside it is 0 from then on
+abbrev pub with_valid : Rectangle → ImageValue → ImageValue
+with_valid valid image = made image.width image.height image.format valid (at image)

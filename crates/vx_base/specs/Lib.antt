@@ -14,3 +14,5 @@ pub mod Slots
 pub mod Object
 pub mod Pixelwise
 pub mod Outputs
+pub mod Statistics
+pub mod Window

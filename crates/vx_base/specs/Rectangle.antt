@@ -1,5 +1,5 @@
 -- Rectangles as sets of places: a start that belongs to them and an end that does not.
-use Rattle.std.specs.Prelude.{ℕ, ◌≤◌, Bool, ◌&&◌, ◌||◌, ◌==◌, nat_le, nat_lt, min, max, ◌+◌, ◌-◌, if◌then◌else◌, Option, Some, None}
+use Rattle.std.specs.Prelude.{ℕ, ◌≤◌, ◌<◌, ◌^◌, IsTrue, Bool, ◌&&◌, ◌||◌, ◌==◌, nat_le, nat_lt, min, max, ◌+◌, ◌-◌, if◌then◌else◌, Option, Some, None}
 
 -- the columns from x0 to x1 - 1 of the rows from y0 to y1 - 1
 pub record Rectangle : Type 0 where
@@ -40,6 +40,12 @@ meet_of r s = bounded (max r.x0 s.x0) (max r.y0 s.y0) (min r.x1 s.x1) (min r.y1 
 -- the places whose window, rx columns to either side and ry rows above and below, lies wholly in the rectangle
 abbrev pub shrunk : Rectangle → ℕ → ℕ → Rectangle
 shrunk r rx ry = bounded (r.x0 + rx) (r.y0 + ry) (r.x1 - rx) (r.y1 - ry)
+
+-- what is written as a rectangle is, in numbers of 16 bits
+pub record IsRectangle (r : Rectangle) : Type 0 where
+  pub bounds : IsTrue (is_rectangle r.x0 r.y0 r.x1 r.y1)
+  pub columns : r.x1 < 2 ^ 16
+  pub rows : r.y1 < 2 ^ 16
 
 -- a rectangle's starts are not above its ends
 pub record IsOrdered (r : Rectangle) : Type 0 where

@@ -8,10 +8,12 @@
 //! `laws` states what these definitions mean, and `examples` works some of them out.
 #![tactic(auto)]
 
+mod bins;
 mod border;
 mod code;
 mod desc;
 pub mod examples;
+mod extremes;
 mod format;
 mod function;
 mod kind;
@@ -28,9 +30,11 @@ mod shape;
 mod slots;
 mod threshold;
 
+pub use bins::Bins;
 pub use border::Border;
 pub use code::Code;
 pub use desc::{Desc, GREATEST_SIDE};
+pub use extremes::Extremes;
 pub use format::Format;
 pub use function::{Function, Parameters};
 pub use kind::Kind;

@@ -1,6 +1,6 @@
 //! Rectangles of places.
 ghost use Rattle.std.specs.Prelude.{◌≡◌};
-ghost use Rattle.vx_base.specs.Rectangle.{rectangle, empty, meet_of, IsOrdered};
+ghost use Rattle.vx_base.specs.Rectangle.{rectangle, empty, meet_of, IsRectangle, IsOrdered};
 
 use std::marker::Model;
 
@@ -51,6 +51,13 @@ impl Rect {
             x1: 0,
             y1: 0,
         }
+    }
+
+    /// It is written as a rectangle is, which the prover knows where its bounds are read.
+    pub fn is_rectangle(self)
+        ensures { IsRectangle self }
+    {
+        let _bounds = (self.x0, self.y0, self.x1, self.y1);
     }
 
     /// The places that are in both.

@@ -1,0 +1,192 @@
+-- What windows see, and what comes of it.
+use Rattle.std.proofs.Common.{◌≡◌, ℕ, ℤ, pos, negsuc, ◌+◌, ◌-◌, ◌*◌, ◌/◌, ◌<◌, ◌≤◌, ◌+ℤ◌, ◌-ℤ◌, ◌≤ℤ◌, Bool, true, false, ◌&&◌, cond, List, [], ◌∷◌, ◌++◌, length, map, take, set, zero, suc, nat_lt, refl, ap, ◌∙◌, sym, subst, arith, rules, add-zero}
+use Rattle.std.specs.Prelude.{Some, unsigned_abs, unwrap_or}
+use Rattle.std.specs.Int.{int_div_euclid, int_min, int_max}
+use Rattle.std.specs.List.{find, fold}
+use Rattle.std.specs.Simd.Lanes.{Each1}
+use Rattle.std.proofs.lemmas.Int.{ints}
+use Rattle.std.proofs.lemmas.Bool.Decides.{nat_tests}
+use Rattle.std.proofs.lemmas.List.{take_more_set, map_push}
+use Rattle.vx_base.specs.declared.format.Format.{Format}
+use Rattle.vx_base.specs.declared.format.Format.TheVariants.{U8, S16}
+use Rattle.vx_base.specs.declared.border.Border.{Border}
+use Rattle.vx_base.specs.declared.border.Border.TheVariants.{Undefined, Constant, Replicate}
+use Rattle.vx_base.specs.Sample.{IsSample}
+use Rattle.vx_base.specs.Rectangle.{Rectangle, inside, empty, IsOrdered, IsWithin}
+use Rattle.vx_base.specs.Image.{ImageValue, IsImage, run, at}
+use Rattle.vx_base.specs.Node.{IsBorder}
+use Rattle.vx_base.specs.Window.{holds, nearest, beside, look, nine_around, total, weighted, box_mean, gaussian_weights, gaussian_mean, is_middle, median, least_of, greatest_of, gradient_x, gradient_y, window_valid, from_nine}
+use Rattle.vx_base.proofs.TableLaws.{run-more}
+use Rattle.vx_base.proofs.ResultLaws.{zero_sample}
+use Rattle.vx_base.proofs.ImageLaws.{made_image}
+
+-- ---- runs
+
+-- two functions that agree along two runs have the same run
+pub run_shifted : (f g : ℕ → ℤ) (x u n : ℕ) → ((k : ℕ) → k < n → f (x + k) ≡ g (u + k)) → run x n f ≡ run u n g
+run_shifted f g x u zero same = refl
+run_shifted f g x u (suc n) same =
+    let first : f x ≡ g u = ap f (sym (add-zero x)) ∙ same 0 (omega arith) ∙ ap g (add-zero u) in
+    let others : run (x + 1) n f ≡ run (u + 1) n g = run_shifted f g (x + 1) (u + 1) n (λ k h. ap f (omega arith) ∙ same (k + 1) (omega arith) ∙ ap g (omega arith)) in
+    cc
+
+-- one more item is written
+pub item_written : {T : Type 0} (value : T → ℤ) (f : ℕ → ℤ) (x k : ℕ) (out : List T) (z : T) → map value (take k out) ≡ run x k f → k < length out → value z ≡ f (x + k) → map value (take (k + 1) (set out k z)) ≡ run x (k + 1) f
+item_written value f x k out z before room is =
+    ap (map value) (take_more_set out k z room)
+    ∙ map_push value (take k out) z
+    ∙ ap (λ l. l ++ value z ∷ []) before
+    ∙ ap (λ w. run x k f ++ w ∷ []) is
+    ∙ sym (run-more f x k)
+
+-- ---- results
+
+-- what is seen of a U8 image is a U8 sample
+
+within_columns : (r : Rectangle) (x y : ℤ) → holds r x y ≡ true → (unsigned_abs x < r.x1) × (unsigned_abs y < r.y1)
+within_columns r x y h = (grind (arith, ints), grind (arith, ints))
+
+nearest_within : (low high : ℕ) (v : ℤ) → low < high → nearest low high v < high
+nearest_within low high v h = grind (arith, ints)
+
+at_sample : (image : ImageValue) (x y : ℕ) → IsImage image → image.format ≡ U8 → x < image.valid.x1 → y < image.valid.y1 → IsSample U8 (at image x y)
+at_sample image x y h is a b = subst (λ f. IsSample f (at image x y)) is (h.sampled x y (omega (arith, h.room.columns)) (omega (arith, h.room.rows)))
+
+beside_sample : (image : ImageValue) (border : Border) (x y : ℤ) → IsImage image → image.format ≡ U8 → image.valid.x0 < image.valid.x1 → image.valid.y0 < image.valid.y1 → IsBorder border → IsSample U8 (beside image border x y)
+beside_sample image Undefined x y h is a b k = zero_sample U8
+beside_sample image (Constant value) x y h is a b k = record { at_least = omega (arith, ints); at_most = omega (arith, ints) }
+beside_sample image Replicate x y h is a b k = at_sample image _ _ h is (nearest_within image.valid.x0 image.valid.x1 x a) (nearest_within image.valid.y0 image.valid.y1 y b)
+
+pub look_sample : (image : ImageValue) (border : Border) (x y : ℤ) → IsImage image → image.format ≡ U8 → image.valid.x0 < image.valid.x1 → image.valid.y0 < image.valid.y1 → IsBorder border → IsSample U8 (look image border x y)
+look_sample image border x y h is a b k = cases (holds image.valid x y) refl
+  where
+    cases : (t : Bool) → holds image.valid x y ≡ t → IsSample U8 (cond t (at image (unsigned_abs x) (unsigned_abs y)) (beside image border x y))
+    cases true e = let p = within_columns image.valid x y e in at_sample image (unsigned_abs x) (unsigned_abs y) h is p.0 p.1
+    cases false e = beside_sample image border x y h is a b k
+
+-- sums of samples
+
+total_least : (zs : List ℤ) → Each1 (IsSample U8) zs → pos 0 ≤ℤ total zs
+total_least [] s = omega (arith, ints)
+total_least (z ∷ zs) s = omega (arith, ints, s.0.at_least, total_least zs s.1)
+
+total_most : (zs : List ℤ) → Each1 (IsSample U8) zs → total zs ≤ℤ pos (255 * length zs)
+total_most [] s = omega (arith, ints)
+total_most (z ∷ zs) s = omega (arith, ints, s.0.at_most, total_most zs s.1)
+
+mean_sample : (v : ℤ) (d : ℕ) → 0 < d → pos 0 ≤ℤ v → v ≤ℤ pos (255 * d) → IsSample U8 (int_div_euclid v (pos d))
+mean_sample (negsuc n) d some a b = absurd (omega (arith, ints, a))
+mean_sample (pos n) d some a b = record { at_least = omega (arith, ints); at_most = at_most }
+  where
+    below : n / d ≤ 255
+    below = grind arith
+
+    at_most : pos (n / d) ≤ℤ pos 255
+    at_most = omega (arith, ints, below)
+
+pub box_sample : (zs : List ℤ) → length zs ≡ 9 → Each1 (IsSample U8) zs → IsSample U8 (box_mean zs)
+box_sample zs long s = mean_sample (total zs) 9 (omega arith) (total_least zs s) (omega (arith, ints, total_most zs s, long))
+
+-- sums with weights: those above 0, and those below it
+
+abbrev above_zero : List ℤ → ℕ
+above_zero [] = 0
+above_zero (pos w ∷ ws) = w + above_zero ws
+above_zero (negsuc w ∷ ws) = above_zero ws
+
+abbrev below_zero : List ℤ → ℕ
+below_zero [] = 0
+below_zero (pos w ∷ ws) = below_zero ws
+below_zero (negsuc w ∷ ws) = suc w + below_zero ws
+
+product_most : (w n : ℕ) → n ≤ 255 → w * n ≤ 255 * w
+product_most w n h = grind arith
+
+weighted_most : (ws zs : List ℤ) → Each1 (IsSample U8) zs → weighted ws zs ≤ℤ pos (255 * above_zero ws)
+weighted_most [] zs s = omega (arith, ints)
+weighted_most (pos w ∷ ws) [] s = omega (arith, ints)
+weighted_most (negsuc w ∷ ws) [] s = omega (arith, ints)
+weighted_most (w ∷ ws) (negsuc n ∷ zs) s = absurd (omega (arith, ints, s.0.at_least))
+weighted_most (pos w ∷ ws) (pos n ∷ zs) s = omega (arith, ints, product_most w n (omega (arith, ints, s.0.at_most)), weighted_most ws zs s.1)
+weighted_most (negsuc w ∷ ws) (pos n ∷ zs) s = omega (arith, ints, weighted_most ws zs s.1)
+
+weighted_least : (ws zs : List ℤ) → Each1 (IsSample U8) zs → pos 0 ≤ℤ (weighted ws zs +ℤ pos (255 * below_zero ws))
+weighted_least [] zs s = omega (arith, ints)
+weighted_least (pos w ∷ ws) [] s = omega (arith, ints)
+weighted_least (negsuc w ∷ ws) [] s = omega (arith, ints)
+weighted_least (w ∷ ws) (negsuc n ∷ zs) s = absurd (omega (arith, ints, s.0.at_least))
+weighted_least (pos w ∷ ws) (pos n ∷ zs) s = omega (arith, ints, weighted_least ws zs s.1)
+weighted_least (negsuc w ∷ ws) (pos n ∷ zs) s = omega (arith, ints, product_most (suc w) n (omega (arith, ints, s.0.at_most)), weighted_least ws zs s.1)
+
+pub gaussian_sample : (zs : List ℤ) → Each1 (IsSample U8) zs → IsSample U8 (gaussian_mean zs)
+gaussian_sample zs s = mean_sample (weighted gaussian_weights zs) 16 (omega arith) (omega (arith, ints, weighted_least gaussian_weights zs s)) (weighted_most gaussian_weights zs s)
+
+pub gradient_x_sample : (zs : List ℤ) → Each1 (IsSample U8) zs → IsSample S16 (gradient_x zs)
+gradient_x_sample zs s = record { at_least = omega (arith, ints, weighted_least (negsuc 0 ∷ pos 0 ∷ pos 1 ∷ negsuc 1 ∷ pos 0 ∷ pos 2 ∷ negsuc 0 ∷ pos 0 ∷ pos 1 ∷ []) zs s); at_most = omega (arith, ints, weighted_most (negsuc 0 ∷ pos 0 ∷ pos 1 ∷ negsuc 1 ∷ pos 0 ∷ pos 2 ∷ negsuc 0 ∷ pos 0 ∷ pos 1 ∷ []) zs s) }
+
+pub gradient_y_sample : (zs : List ℤ) → Each1 (IsSample U8) zs → IsSample S16 (gradient_y zs)
+gradient_y_sample zs s = record { at_least = omega (arith, ints, weighted_least (negsuc 0 ∷ negsuc 1 ∷ negsuc 0 ∷ pos 0 ∷ pos 0 ∷ pos 0 ∷ pos 1 ∷ pos 2 ∷ pos 1 ∷ []) zs s); at_most = omega (arith, ints, weighted_most (negsuc 0 ∷ negsuc 1 ∷ negsuc 0 ∷ pos 0 ∷ pos 0 ∷ pos 0 ∷ pos 1 ∷ pos 2 ∷ pos 1 ∷ []) zs s) }
+
+-- one of the samples
+
+found_sample : (p : ℤ → Bool) (zs : List ℤ) → Each1 (IsSample U8) zs → IsSample U8 (unwrap_or (find p zs) (pos 0))
+found_sample p [] s = zero_sample U8
+found_sample p (z ∷ zs) s = cases (p z) (found_sample p zs s.1)
+  where
+    cases : (t : Bool) → IsSample U8 (unwrap_or (find p zs) (pos 0)) → IsSample U8 (unwrap_or (cond t (Some z) (find p zs)) (pos 0))
+    cases true later = s.0
+    cases false later = later
+
+pub median_sample : (zs : List ℤ) → Each1 (IsSample U8) zs → IsSample U8 (median zs)
+median_sample zs s = found_sample (is_middle zs) zs s
+
+lesser_sample : (a b : ℤ) → IsSample U8 a → IsSample U8 b → IsSample U8 (int_min a b)
+lesser_sample a b p q = search rules
+
+greater_sample : (a b : ℤ) → IsSample U8 a → IsSample U8 b → IsSample U8 (int_max a b)
+greater_sample a b p q = search rules
+
+folded : (f : ℤ → ℤ → ℤ) → ((a b : ℤ) → IsSample U8 a → IsSample U8 b → IsSample U8 (f a b)) → (z : ℤ) (zs : List ℤ) → IsSample U8 z → Each1 (IsSample U8) zs → IsSample U8 (fold f z zs)
+folded f keeps z [] p s = p
+folded f keeps z (a ∷ zs) p s = folded f keeps (f z a) zs (keeps z a p s.0) s.1
+
+pub least_sample : (zs : List ℤ) → Each1 (IsSample U8) zs → IsSample U8 (least_of zs)
+least_sample [] s = zero_sample U8
+least_sample (z ∷ zs) s = folded int_min lesser_sample z zs s.0 s.1
+
+pub greatest_sample : (zs : List ℤ) → Each1 (IsSample U8) zs → IsSample U8 (greatest_of zs)
+greatest_sample [] s = zero_sample U8
+greatest_sample (z ∷ zs) s = folded int_max greater_sample z zs s.0 s.1
+
+-- images
+
+shrunk_some : (r : Rectangle) (rx ry x y : ℕ) (t : Bool) → t ≡ (nat_lt (r.x0 + rx) (r.x1 - rx) && nat_lt (r.y0 + ry) (r.y1 - ry)) → inside (cond t (record { x0 = r.x0 + rx; y0 = r.y0 + ry; x1 = r.x1 - rx; y1 = r.y1 - ry }) empty) x y ≡ true → (r.x0 < r.x1) × (r.y0 < r.y1)
+shrunk_some r rx ry x y true e h = (grind (arith, nat_tests), grind (arith, nat_tests))
+shrunk_some r rx ry x y false e h = absurd (grind (arith, nat_tests))
+
+area_some : (border : Border) (valid : Rectangle) (x y : ℕ) → inside (window_valid border 1 1 valid) x y ≡ true → (valid.x0 < valid.x1) × (valid.y0 < valid.y1)
+area_some Undefined valid x y h = shrunk_some valid 1 1 x y (nat_lt (valid.x0 + 1) (valid.x1 - 1) && nat_lt (valid.y0 + 1) (valid.y1 - 1)) refl h
+area_some (Constant value) valid x y h = (grind (arith, nat_tests), grind (arith, nat_tests))
+area_some Replicate valid x y h = (grind (arith, nat_tests), grind (arith, nat_tests))
+
+area_ordered : (border : Border) (valid : Rectangle) → IsOrdered valid → IsOrdered (window_valid border 1 1 valid)
+area_ordered Undefined valid h = record { columns = grind (arith, nat_tests); rows = grind (arith, nat_tests) }
+area_ordered (Constant value) valid h = h
+area_ordered Replicate valid h = h
+
+area_within : (border : Border) (valid : Rectangle) (w l : ℕ) → IsWithin valid w l → IsWithin (window_valid border 1 1 valid) w l
+area_within Undefined valid w l h = record { columns = grind (arith, nat_tests, h.columns); rows = grind (arith, nat_tests, h.rows) }
+area_within (Constant value) valid w l h = h
+area_within Replicate valid w l h = h
+
+-- an image of windows is an image, where the formula gives samples of U8 samples
+pub nine_image : (format : Format) (f : List ℤ → ℤ) (border : Border) (a : ImageValue) → ((zs : List ℤ) → length zs ≡ 9 → Each1 (IsSample U8) zs → IsSample format (f zs)) → IsImage a → a.format ≡ U8 → IsBorder border → IsImage (from_nine format f border a)
+nine_image format f border a gives h is k =
+    made_image a.width a.height format (window_valid border 1 1 a.valid) (λ x y. f (nine_around (look a border) (pos x) (pos y)))
+    (area_ordered border a.valid h.ordered) (area_within border a.valid a.width a.height h.room)
+    (λ x y e. gives (nine_around (look a border) (pos x) (pos y)) refl (nine (area_some border a.valid x y e) (pos x) (pos y)))
+  where
+    nine : (a.valid.x0 < a.valid.x1) × (a.valid.y0 < a.valid.y1) → (x y : ℤ) → Each1 (IsSample U8) (nine_around (look a border) x y)
+    nine some x y =
+        let s : (u v : ℤ) → IsSample U8 (look a border u v) = λ u v. look_sample a border u v h is some.0 some.1 k in
+        (s (x -ℤ pos 1) (y -ℤ pos 1), (s x (y -ℤ pos 1), (s (x +ℤ pos 1) (y -ℤ pos 1), (s (x -ℤ pos 1) y, (s x y, (s (x +ℤ pos 1) y, (s (x -ℤ pos 1) (y +ℤ pos 1), (s x (y +ℤ pos 1), (s (x +ℤ pos 1) (y +ℤ pos 1), tt)))))))))

@@ -1,0 +1,96 @@
+-- What the valid samples of an image come to. OpenVX 1.3, "Histogram", "Integral Image" and "Min, Max Location".
+use Rattle.std.specs.Prelude.{ℕ, ℤ, pos, ◌+◌, ◌-◌, ◌*◌, ◌/◌, ◌==◌, nat_le, nat_lt, Bool, false, ◌&&◌, unsigned_abs, if◌then◌else◌, List, [], ◌∷◌, map, Option, Some, None}
+use Rattle.std.specs.List.{range_with_len, flat_map, fold, sum_by, count_by, find}
+use Rattle.std.specs.Option.{unwrap_or}
+use Rattle.std.specs.Ordering.{int_eq}
+use Rattle.std.specs.Int.{int_min, int_max}
+use Rattle.vx_base.specs.declared.format.Format.TheVariants.{U32}
+use Rattle.vx_base.specs.declared.extremes.Extremes.{Extremes}
+use Rattle.vx_base.specs.Rectangle.{Rectangle, whole, meet_of}
+use Rattle.vx_base.specs.Image.{ImageValue, at, made}
+
+-- n places of row y, from column x on
+abbrev pub row_places : ℕ → ℕ → ℕ → List (ℕ × ℕ)
+row_places x n y = map (λ k. (k, y)) (range_with_len x n)
+
+-- the places of a rectangle, by rows from the top, then from the left
+abbrev pub places : Rectangle → List (ℕ × ℕ)
+places r = flat_map (row_places r.x0 (r.x1 - r.x0)) (range_with_len r.y0 (r.y1 - r.y0))
+
+-- the samples at the places of a rectangle, in this order
+abbrev pub samples_in : Rectangle → ImageValue → List ℤ
+samples_in r image = map (λ p. at image p.0 p.1) (places r)
+
+abbrev pub valid_samples : ImageValue → List ℤ
+valid_samples image = samples_in image.valid image
+
+-- ---- "Histogram", in this project's bins
+
+-- so many bins of one size, which begin at the offset and together are as long as the range
+pub record BinsValue : Type 0 where
+  pub bins : ℕ
+  pub offset : ℕ
+  pub range : ℕ
+
+-- whether these numbers are allowed; the offset and the range may pass 256 together
+abbrev pub are_bins : ℕ → ℕ → ℕ → Bool
+are_bins bins offset range = ((nat_le 1 bins && nat_le bins 256) && nat_lt offset 256) && (nat_le 1 range && nat_le range 256)
+
+-- the bins with these numbers, if they are allowed
+abbrev pub bins_of : ℕ → ℕ → ℕ → Option BinsValue
+bins_of bins offset range = if are_bins bins offset range then Some (record { bins = bins; offset = offset; range = range }) else None
+
+-- the bin into which a sample falls, if one does
+abbrev pub bin_of : BinsValue → ℕ → Option ℕ
+bin_of b p = if nat_le b.offset p && nat_lt p (b.offset + b.range) then Some ((p - b.offset) * b.bins / b.range) else None
+
+abbrev pub is_bin : ℕ → Option ℕ → Bool
+is_bin k None = false
+is_bin k (Some bin) = bin == k
+
+-- of these samples how many fall into each bin
+abbrev pub tallies : BinsValue → List ℤ → List ℕ
+tallies b samples = map (λ k. count_by (λ z. is_bin k (bin_of b (unsigned_abs z))) samples) (range_with_len 0 b.bins)
+
+-- the histogram of a U8 image: how many valid places have a sample that falls into each bin
+abbrev pub histogram : BinsValue → ImageValue → List ℕ
+histogram b image = tallies b (valid_samples image)
+
+-- ---- "Integral Image"
+
+-- the sum of the samples at the valid places that are neither right of column x nor below row y; the samples are U8
+abbrev pub sum_to : ImageValue → ℕ → ℕ → ℤ
+sum_to image x y = pos (sum_by unsigned_abs (samples_in (meet_of image.valid (whole (x + 1) (y + 1))) image))
+
+-- such sums at the valid places of a U8 image; what is not valid counts as 0, which is this project's choice
+abbrev pub integral : ImageValue → ImageValue
+integral image = made image.width image.height U32 image.valid (sum_to image)
+
+-- ---- "Min, Max Location"
+
+-- of these samples the one that is chosen from all of them, 0 where there are none
+abbrev pub chosen : (ℤ → ℤ → ℤ) → List ℤ → ℤ
+chosen choose [] = pos 0
+chosen choose (z ∷ zs) = fold choose z zs
+
+-- how many of these samples are z
+abbrev pub count_of : ℤ → List ℤ → ℕ
+count_of z samples = count_by (λ s. int_eq s z) samples
+
+-- the first of these places at which f is z, (0, 0) where there is none
+abbrev pub first_of : (ℕ → ℕ → ℤ) → ℤ → List (ℕ × ℕ) → ℕ × ℕ
+first_of f z ps = unwrap_or (find (λ p. int_eq (f p.0 p.1) z) ps) (0, 0)
+
+-- the least and the greatest valid sample of a U8 or S16 image, how many valid places hold each, and the first of them
+abbrev pub extremes : ImageValue → Extremes
+extremes image =
+    let least = chosen int_min (valid_samples image) in
+    let greatest = chosen int_max (valid_samples image) in
+    record {
+      min = least;
+      max = greatest;
+      min_count = count_of least (valid_samples image);
+      max_count = count_of greatest (valid_samples image);
+      min_at = first_of (at image) least (places image.valid);
+      max_at = first_of (at image) greatest (places image.valid);
+    }

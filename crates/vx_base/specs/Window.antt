@@ -1,0 +1,111 @@
+-- Functions that give each sample from the samples around its place. OpenVX 1.3, "Vision Functions" and `vx_border_e`; the
+-- words in quotation marks are the names of its sections.
+use Rattle.std.specs.Prelude.{ℕ, ℤ, pos, negsuc, ◌+ℤ◌, ◌-ℤ◌, ◌*ℤ◌, Bool, ◌&&◌, List, [], ◌∷◌, if◌then◌else◌, int_lt, int_le, nat_le, unsigned_abs, unwrap_or}
+use Rattle.std.specs.Int.{int_div_euclid, int_min, int_max}
+use Rattle.std.specs.List.{count_by, find, fold}
+use Rattle.vx_base.specs.declared.format.Format.{Format}
+use Rattle.vx_base.specs.declared.border.Border.{Border}
+use Rattle.vx_base.specs.declared.border.Border.TheVariants.{Undefined, Constant, Replicate}
+use Rattle.vx_base.specs.Rectangle.{Rectangle, shrunk}
+use Rattle.vx_base.specs.Image.{ImageValue, at, made}
+
+-- ---- what is seen at a place
+
+-- whether a place, which may lie beside the image, is in the rectangle
+abbrev pub holds : Rectangle → ℤ → ℤ → Bool
+holds r x y = (int_le (pos r.x0) x && int_lt x (pos r.x1)) && (int_le (pos r.y0) y && int_lt y (pos r.y1))
+
+-- of the numbers from low to high - 1 the one nearest to v
+abbrev pub nearest : ℕ → ℕ → ℤ → ℕ
+nearest low high v = unsigned_abs (int_max (pos low) (int_min v (pos high -ℤ pos 1)))
+
+-- what counts at a place that is not valid: nothing, which is 0 here; the given sample; the sample of the nearest valid place,
+-- each coordinate moved into the rectangle by itself
+abbrev pub beside : ImageValue → Border → ℤ → ℤ → ℤ
+beside image Undefined x y = pos 0
+beside image (Constant value) x y = pos value
+beside image Replicate x y = at image (nearest image.valid.x0 image.valid.x1 x) (nearest image.valid.y0 image.valid.y1 y)
+
+-- what a window sees at a place: the sample where the place is valid
+abbrev pub look : ImageValue → Border → ℤ → ℤ → ℤ
+look image border x y = if holds image.valid x y then at image (unsigned_abs x) (unsigned_abs y) else beside image border x y
+
+-- the nine samples around a place: rows from above to below, columns from left to right
+abbrev pub nine_around : (ℤ → ℤ → ℤ) → ℤ → ℤ → List ℤ
+nine_around f x y =
+    f (x -ℤ pos 1) (y -ℤ pos 1) ∷ f x (y -ℤ pos 1) ∷ f (x +ℤ pos 1) (y -ℤ pos 1)
+    ∷ f (x -ℤ pos 1) y ∷ f x y ∷ f (x +ℤ pos 1) y
+    ∷ f (x -ℤ pos 1) (y +ℤ pos 1) ∷ f x (y +ℤ pos 1) ∷ f (x +ℤ pos 1) (y +ℤ pos 1) ∷ []
+
+-- ---- the formulas, of the samples of a window
+
+-- their sum
+abbrev pub total : List ℤ → ℤ
+total [] = pos 0
+total (z ∷ zs) = z +ℤ total zs
+
+-- the sum of the samples, each times its weight
+abbrev pub weighted : List ℤ → List ℤ → ℤ
+weighted (w ∷ ws) (z ∷ zs) = w *ℤ z +ℤ weighted ws zs
+weighted ws zs = pos 0
+
+-- "Box Filter": the sum of the nine over 9, rounded down
+abbrev pub box_mean : List ℤ → ℤ
+box_mean zs = int_div_euclid (total zs) (pos 9)
+
+abbrev pub gaussian_weights : List ℤ
+gaussian_weights =
+    pos 1 ∷ pos 2 ∷ pos 1
+    ∷ pos 2 ∷ pos 4 ∷ pos 2
+    ∷ pos 1 ∷ pos 2 ∷ pos 1 ∷ []
+
+-- "Gaussian Filter": the sum over 16, rounded down
+abbrev pub gaussian_mean : List ℤ → ℤ
+gaussian_mean zs = int_div_euclid (weighted gaussian_weights zs) (pos 16)
+
+-- whether at most four of the samples are below v and at most four above it
+abbrev pub is_middle : List ℤ → ℤ → Bool
+is_middle zs v = nat_le (count_by (λ z. int_lt z v) zs) 4 && nat_le (count_by (λ z. int_lt v z) zs) 4
+
+-- "Median Filter": the one of the nine that is in their middle
+abbrev pub median : List ℤ → ℤ
+median zs = unwrap_or (find (is_middle zs) zs) (pos 0)
+
+-- "Erode Image": the least
+abbrev pub least_of : List ℤ → ℤ
+least_of [] = pos 0
+least_of (z ∷ zs) = fold int_min z zs
+
+-- "Dilate Image": the greatest
+abbrev pub greatest_of : List ℤ → ℤ
+greatest_of [] = pos 0
+greatest_of (z ∷ zs) = fold int_max z zs
+
+-- "Sobel 3x3": the change from left to right
+abbrev pub gradient_x : List ℤ → ℤ
+gradient_x =
+    weighted
+    (negsuc 0 ∷ pos 0 ∷ pos 1
+    ∷ negsuc 1 ∷ pos 0 ∷ pos 2
+    ∷ negsuc 0 ∷ pos 0 ∷ pos 1 ∷ [])
+
+-- "Sobel 3x3": the change from above to below
+abbrev pub gradient_y : List ℤ → ℤ
+gradient_y =
+    weighted
+    (negsuc 0 ∷ negsuc 1 ∷ negsuc 0
+    ∷ pos 0 ∷ pos 0 ∷ pos 0
+    ∷ pos 1 ∷ pos 2 ∷ pos 1 ∷ [])
+
+-- ---- images
+
+-- where the output is valid, for windows of these radii: under Undefined where the whole window is valid, else where the input is
+abbrev pub window_valid : Border → ℕ → ℕ → Rectangle → Rectangle
+window_valid Undefined rx ry valid = shrunk valid rx ry
+window_valid (Constant value) rx ry valid = valid
+window_valid Replicate rx ry valid = valid
+
+-- an image of one: a formula of the nine samples around each place
+abbrev pub from_nine : Format → (List ℤ → ℤ) → Border → ImageValue → ImageValue
+from_nine format f border a =
+    made a.width a.height format (window_valid border 1 1 a.valid) (λ x y. f (nine_around (look a border) (pos x) (pos y)))
