@@ -1,0 +1,57 @@
+-- What was read has the samples that its header tells.
+use Rattle.std.proofs.Common.{◌≡◌, ℕ, ℤ, pos, zero, suc, Bool, true, false, List, [], ◌∷◌, length, map, Option, Some, None, Result, Ok, Err, if◌then◌else◌, refl, ap, sym, ◌∙◌}
+use Rattle.std.specs.Option.{option_map}
+use Rattle.std.proofs.lemmas.List.{length-map}
+use Rattle.pgm_images.specs.declared.fault.PgmFault.{PgmFault}
+use Rattle.pgm_images.specs.declared.fault.PgmFault.TheVariants.{InvalidValue}
+use Rattle.pgm_images.specs.declared.header.Encoding.{Encoding}
+use Rattle.pgm_images.specs.declared.header.Encoding.TheVariants.{Plain, Raw}
+use Rattle.pgm_images.specs.Marks.{Taken, and_then, take_next, ends}
+use Rattle.pgm_images.specs.Raster.{so_many, take_raw, nothing_left, numbers_in, samples_up_to, all_up_to}
+
+-- ---- what stands before a step that was taken
+
+pub then_some : {A B : Type 0} (t : Taken A) (next : A → List ℕ → Option B) (r : B) → and_then t next ≡ Some r
+    → (x : A) × (rest : List ℕ) × (t ≡ Some (x, rest)) × (next x rest ≡ Some r)
+then_some None next r e = cc
+then_some (Some taken) next r e = (taken.0, taken.1, refl, e)
+
+pub map_some : {A B : Type 0} (f : A → B) (o : Option A) (y : B) → option_map f o ≡ Some y → (x : A) × (o ≡ Some x) × (f x ≡ y)
+map_some f None y e = cc
+map_some f (Some x) y e = (x, refl, cc)
+
+pub if_some : {A : Type 0} (b : Bool) (x y : A) → (if b then Some x else None) ≡ Some y → (b ≡ true) × (x ≡ y)
+if_some true x y e = (refl, cc)
+if_some false x y e = cc
+
+-- ---- sizes
+
+so_many-size : (take : List ℕ → Taken ℕ) (is_end : List ℕ → Bool) (count : ℕ) (text numbers : List ℕ) → so_many take is_end count text ≡ Some numbers → length numbers ≡ count
+so_many-size take is_end zero text numbers e = let (end, none) = if_some (is_end text) [] numbers e in ap length (sym none)
+so_many-size take is_end (suc count) text numbers e =
+    let (n, rest, first, e1) = then_some (take text) (λ number rest. option_map (λ numbers. number ∷ numbers) (so_many take is_end count rest)) numbers e in
+    let (others, more, same) = map_some (λ numbers. n ∷ numbers) (so_many take is_end count rest) numbers e1 in
+    ap length (sym same) ∙ ap suc (so_many-size take is_end count rest others more)
+
+pub numbers_size : (encoding : Encoding) (maxval count : ℕ) (text numbers : List ℕ) → numbers_in encoding maxval count text ≡ Some numbers → length numbers ≡ count
+numbers_size Plain maxval count text numbers e = so_many-size take_next ends count text numbers e
+numbers_size Raw maxval count text numbers e = so_many-size (take_raw maxval) nothing_left count text numbers e
+
+pub samples_of : (maxval : ℕ) (o : Option (List ℕ)) (samples : List ℤ) → samples_up_to maxval o ≡ Ok samples
+    → (numbers : List ℕ) × (o ≡ Some numbers) × (all_up_to maxval numbers ≡ true) × (samples ≡ map pos numbers)
+samples_of maxval None samples e = cc
+samples_of maxval (Some numbers) samples e = known (all_up_to maxval numbers) refl e
+  where
+    told : Result (List ℤ) PgmFault
+    told = Err InvalidValue
+
+    known : (b : Bool) → all_up_to maxval numbers ≡ b → (if b then Ok (map pos numbers) else told) ≡ Ok samples
+        → (others : List ℕ) × (Some numbers ≡ Some others) × (all_up_to maxval others ≡ true) × (samples ≡ map pos others)
+    known true is e = (numbers, refl, is, cc)
+    known false is e = cc
+
+pub samples_size : (encoding : Encoding) (maxval count : ℕ) (text : List ℕ) (samples : List ℤ) → samples_up_to maxval (numbers_in encoding maxval count text) ≡ Ok samples → length samples ≡ count
+samples_size encoding maxval count text samples e =
+    let (numbers, is, below, same) = samples_of maxval (numbers_in encoding maxval count text) samples e in
+    let long : length (map pos numbers) ≡ length numbers = simp length-map in
+    ap length same ∙ long ∙ numbers_size encoding maxval count text numbers is

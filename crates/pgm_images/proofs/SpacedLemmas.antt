@@ -1,0 +1,163 @@
+-- Numbers behind gaps: what the definition takes is what the grammar says.
+use Rattle.std.proofs.Common.{◌≡◌, ℕ, zero, suc, ◌+◌, ◌-◌, ◌*◌, ◌<◌, Bool, true, false, ◌&&◌, if◌then◌else◌, List, [], ◌∷◌, ◌++◌, length, Option, Some, None, refl, ap, sym, subst, ◌∙◌, arith, append_assoc, append-nil}
+use Rattle.std.specs.Char.{is_ascii_digit}
+use Rattle.std.specs.Option.{option_and_then, option_map}
+use Rattle.std.specs.Str.{all_ascii_digits}
+use Rattle.std.specs.Str.Parse.{digits_value}
+use Rattle.pgm_images.specs.Marks.{and_then, begins_gap, past_blanks, digits_after, take_number, take_next, ends}
+use Rattle.pgm_images.specs.Raster.{so_many}
+use Rattle.pgm_images.specs.Grammar.{IsBlanks, IsSpaced, AreSpaced}
+use Rattle.pgm_images.proofs.ReadingLemmas.{then_some, map_some, if_some}
+use Rattle.pgm_images.proofs.DigitLemmas.{value_after, value_more, digits_model, first_digit, digit_begins}
+use Rattle.pgm_images.proofs.GapLemmas.{begins_digit, gap_begins, no_digit, skip_blanks, blanks_of, blanks_no_digit, ends_of}
+
+-- ---- digits
+
+abbrev pub pair : ℕ → List ℕ → ℕ × List ℕ
+pair n rest = (n, rest)
+
+pair_same : (m n : ℕ) (r s : List ℕ) → pair m r ≡ pair n s → (m ≡ n) × (r ≡ s)
+pair_same m n r s e = (ap (λ (t : ℕ × List ℕ). t.0) e, ap (λ (t : ℕ × List ℕ). t.1) e)
+
+digits_then : (m : ℕ) (ds rest : List ℕ) → all_ascii_digits ds ≡ true → begins_digit rest ≡ false → digits_after m (ds ++ rest) ≡ pair (value_after m ds) rest
+digits_then m [] [] are none = refl
+digits_then m [] (b ∷ rest) are none = ap (λ is. if is then digits_after (m * 10 + (b - 48)) rest else (m, b ∷ rest)) none
+digits_then m (c ∷ cs) rest are none =
+    let (first, others) = first_digit c cs are in
+    let k = m * 10 + (c - 48) in
+    ap (λ is. if is then digits_after k (cs ++ rest) else (m, c ∷ (cs ++ rest))) first ∙ digits_then k cs rest others none ∙ ap (λ v. pair v rest) (sym (value_more m c cs first))
+
+abbrev pub Split : ℕ → List ℕ → Type 0
+Split m text = (digits rest : List ℕ) × (all_ascii_digits digits ≡ true) × (text ≡ digits ++ rest) × (digits_after m text ≡ pair (value_after m digits) rest) × (begins_digit rest ≡ false)
+
+split_more : (m c : ℕ) (text : List ℕ) → is_ascii_digit c ≡ true → Split (m * 10 + (c - 48)) text → Split m (c ∷ text)
+split_more m c text first (digits, rest, are, spelled, is, none) =
+    let k = m * 10 + (c - 48) in (
+      c ∷ digits,
+      rest,
+      ap (λ b. b && all_ascii_digits digits) first ∙ are,
+      ap (λ l. c ∷ l) spelled,
+      ap (λ b. if b then digits_after k text else (m, c ∷ text)) first ∙ is ∙ ap (λ v. pair v rest) (sym (value_more m c digits first)),
+      none,
+    )
+
+split_none : (m c : ℕ) (text : List ℕ) → is_ascii_digit c ≡ false → Split m (c ∷ text)
+split_none m c text other = ([], c ∷ text, refl, refl, ap (λ b. if b then digits_after (m * 10 + (c - 48)) text else (m, c ∷ text)) other, other)
+
+split_first : (m c : ℕ) (text : List ℕ) → ((k : ℕ) → Split k text) → Split m (c ∷ text)
+split_first m c text others = known (is_ascii_digit c) refl
+  where
+    known : (b : Bool) → is_ascii_digit c ≡ b → Split m (c ∷ text)
+    known true is = split_more m c text is (others (m * 10 + (c - 48)))
+    known false is = split_none m c text is
+
+split : (text : List ℕ) (m : ℕ) → Split m text
+split [] m = ([], [], refl, refl, refl, refl)
+split (c ∷ text) m = split_first m c text (λ k. split text k)
+
+value_is : (digits : List ℕ) → all_ascii_digits digits ≡ true → value_after 0 digits ≡ digits_value 10 digits
+value_is digits are = digits_model.same digits (digits_model.to digits are)
+
+-- ---- a number
+
+some_digits : (digits rest : List ℕ) (c : ℕ) (text : List ℕ) → c ∷ text ≡ digits ++ rest → is_ascii_digit c ≡ true → begins_digit rest ≡ false → 0 < length digits
+some_digits [] rest c text e is none =
+    let other : begins_digit rest ≡ is_ascii_digit c = ap begins_digit (sym e) in
+    cc
+some_digits (d ∷ digits) rest c text e is none = omega arith
+
+number_of : (text : List ℕ) (n : ℕ) (rest : List ℕ) → take_number text ≡ Some (n, rest)
+    → (digits : List ℕ) × (all_ascii_digits digits ≡ true) × (0 < length digits) × (digits_value 10 digits ≡ n) × (text ≡ digits ++ rest)
+number_of [] n rest e = cc
+number_of (c ∷ text) n rest e =
+    let (is, same) = if_some (is_ascii_digit c) (digits_after 0 (c ∷ text)) (pair n rest) e in
+    let (digits, others, are, spelled, value, none) = split (c ∷ text) 0 in
+    let (first, behind) = pair_same (value_after 0 digits) n others rest (sym value ∙ same) in
+    (digits, are, some_digits digits others c text spelled is none, sym (value_is digits are) ∙ first, spelled ∙ ap (λ l. digits ++ l) behind)
+
+number_then : (digits rest : List ℕ) → all_ascii_digits digits ≡ true → 0 < length digits → begins_digit rest ≡ false
+    → (take_number (digits ++ rest) ≡ Some (pair (digits_value 10 digits) rest)) × (begins_digit (digits ++ rest) ≡ true) × (past_blanks false (digits ++ rest) ≡ Some (digits ++ rest))
+number_then [] rest are some none = absurd (omega arith)
+number_then (c ∷ cs) rest are some none =
+    let (first, others) = first_digit c cs are in
+    let (no_comment, no_space) = digit_begins c first in (
+      ap (λ is. if is then Some (digits_after 0 (c ∷ (cs ++ rest))) else None) first ∙ ap Some (digits_then 0 (c ∷ cs) rest are none ∙ ap (λ v. pair v rest) (value_is (c ∷ cs) are)),
+      first,
+      rw (no_comment, no_space) refl,
+    )
+
+-- ---- a gap and a number
+
+if_taken : {A : Type 0} (b : Bool) (o : Option A) (y : A) → (if b then o else None) ≡ Some y → (b ≡ true) × (o ≡ Some y)
+if_taken true o y e = (refl, e)
+if_taken false o y e = cc
+
+some_gap : (gap middle digits rest text : List ℕ) → text ≡ gap ++ middle → middle ≡ digits ++ rest → all_ascii_digits digits ≡ true → 0 < length digits → begins_gap text ≡ true → 0 < length gap
+some_gap [] middle [] rest text e k are some begins = absurd (omega arith)
+some_gap [] middle (c ∷ cs) rest text e k are some begins =
+    let digit : begins_digit text ≡ is_ascii_digit c = ap begins_digit (e ∙ k) in
+    let other = no_digit text begins in
+    let first = (first_digit c cs are).0 in
+    cc
+some_gap (b ∷ gap) middle digits rest text e k are some begins = omega arith
+
+and_then_some : (o : Option (List ℕ)) (y : ℕ × List ℕ) → option_and_then take_number o ≡ Some y → (middle : List ℕ) × (o ≡ Some middle) × (take_number middle ≡ Some y)
+and_then_some None y e = cc
+and_then_some (Some middle) y e = (middle, refl, e)
+
+pub spaced_of : (text : List ℕ) (n : ℕ) (rest : List ℕ) → take_next text ≡ Some (n, rest) → (first : List ℕ) × IsSpaced first n × (text ≡ first ++ rest)
+spaced_of text n rest e =
+    let (begins, taken) = if_taken (begins_gap text) (option_and_then take_number (past_blanks false text)) (pair n rest) e in
+    let (middle, blanks, number) = and_then_some (past_blanks false text) (pair n rest) taken in
+    let (gap, are_blanks, spelled) = blanks_of text middle blanks in
+    let (digits, are, one, value, is) = number_of middle n rest number in
+    let some = some_gap gap middle digits rest text spelled is are one begins in (
+      gap ++ digits,
+      record { gap = gap; digits = digits; spelled = refl; blanks = are_blanks; some = some; decimal = are; one = one; value = value },
+      spelled ∙ ap (λ l. gap ++ l) is ∙ sym (append_assoc gap digits rest),
+    )
+
+pub spaced_next : (first rest : List ℕ) (n : ℕ) → IsSpaced first n → begins_digit rest ≡ false → take_next (first ++ rest) ≡ Some (n, rest)
+spaced_next first rest n is none =
+    let text = is.gap ++ (is.digits ++ rest) in
+    let spelled : first ++ rest ≡ text = ap (λ l. l ++ rest) is.spelled ∙ append_assoc is.gap is.digits rest in
+    let (number, digit, stops) = number_then is.digits rest is.decimal is.one none in
+    ap take_next spelled
+    ∙ ap (λ b. if b then option_and_then take_number (past_blanks false text) else None) (gap_begins is.gap (is.digits ++ rest) is.blanks is.some)
+    ∙ ap (option_and_then take_number) (skip_blanks is.gap (is.digits ++ rest) is.blanks ∙ stops)
+    ∙ number ∙ ap (λ v. Some (pair v rest)) is.value
+
+-- ---- numbers behind gaps
+
+pub spaced_no_digit : (numbers body rest : List ℕ) → AreSpaced body numbers → begins_digit rest ≡ false → begins_digit (body ++ rest) ≡ false
+spaced_no_digit [] body rest are none = ap (λ l. begins_digit (l ++ rest)) are ∙ none
+spaced_no_digit (n ∷ numbers) body rest (first, more, is, are, spelled) none =
+    let whole : body ++ rest ≡ is.gap ++ (is.digits ++ (more ++ rest)) =
+    ap (λ l. l ++ rest) (spelled ∙ ap (λ l. l ++ more) is.spelled) ∙ append_assoc (is.gap ++ is.digits) more rest ∙ append_assoc is.gap is.digits (more ++ rest) in
+    ap begins_digit whole ∙ no_digit (is.gap ++ (is.digits ++ (more ++ rest))) (gap_begins is.gap (is.digits ++ (more ++ rest)) is.blanks is.some)
+
+ends_blanks : (end : List ℕ) → IsBlanks end → ends end ≡ true
+ends_blanks end are =
+    let nothing : past_blanks false end ≡ Some [] = ap (past_blanks false) (sym (append-nil end)) ∙ skip_blanks end [] are in
+    rw nothing refl
+
+pub many_spaced : (numbers body end : List ℕ) → AreSpaced body numbers → IsBlanks end → so_many take_next ends (length numbers) (body ++ end) ≡ Some numbers
+many_spaced [] body end are blanks = ap (λ l. if ends (l ++ end) then Some [] else None) are ∙ ap (λ b. if b then Some [] else None) (ends_blanks end blanks)
+many_spaced (n ∷ numbers) body end (first, more, is, are, spelled) blanks =
+    let none : begins_digit (more ++ end) ≡ false =
+    spaced_no_digit numbers more end are (ap begins_digit (sym (append-nil end)) ∙ blanks_no_digit end [] blanks refl) in
+    let taken : take_next (body ++ end) ≡ Some (pair n (more ++ end)) =
+    ap (λ l. take_next (l ++ end)) spelled ∙ ap take_next (append_assoc first more end) ∙ spaced_next first (more ++ end) n is none in
+    ap (λ t. and_then t (λ number rest. option_map (λ others. number ∷ others) (so_many take_next ends (length numbers) rest))) taken
+    ∙ ap (option_map (λ others. n ∷ others)) (many_spaced numbers more end are blanks)
+
+pub spaced_many : (count : ℕ) (text numbers : List ℕ) → so_many take_next ends count text ≡ Some numbers → (body end : List ℕ) × AreSpaced body numbers × IsBlanks end × (text ≡ body ++ end)
+spaced_many zero text numbers e =
+    let (end, none) = if_some (ends text) [] numbers e in
+    ([], text, subst (AreSpaced []) none refl, ends_of text end, refl)
+spaced_many (suc count) text numbers e =
+    let (n, rest, taken, e1) = then_some (take_next text) (λ number rest. option_map (λ others. number ∷ others) (so_many take_next ends count rest)) numbers e in
+    let (others, many, same) = map_some (λ others. n ∷ others) (so_many take_next ends count rest) numbers e1 in
+    let (first, is, spelled) = spaced_of text n rest taken in
+    let (body, end, are, blanks, behind) = spaced_many count rest others many in
+    (first ++ body, end, subst (AreSpaced (first ++ body)) same (first, body, is, are, refl), blanks, spelled ∙ ap (λ l. first ++ l) behind ∙ sym {a = (first ++ body) ++ end} (append_assoc first body end))

@@ -1,0 +1,14 @@
+use Rattle.std.proofs.Common.{◌≡◌, ℕ, List}
+use Rattle.pgm_images.specs.Marks.{take_next, ends}
+use Rattle.pgm_images.specs.Raster.{Gathers, so_many}
+use Rattle.pgm_images.proofs.RasterLemmas.{after}
+use Rattle.pgm_images.proofs.raster.plain_samples.Given as goal
+
+abbrev pub invariant-loop-left : goal.invariant-loop-left
+invariant-loop-left l = record {
+  maxval : l.gathered.maxval ≡ l.maxval;
+  gathered : (done : List ℕ) × Gathers l.gathered done × (so_many take_next ends l.count l.text ≡ after done (so_many take_next ends l.left l.rest));
+}
+
+abbrev pub decreases-loop-left : goal.decreases-loop-left
+decreases-loop-left l = l.left

@@ -1,0 +1,67 @@
+-- The header of a PGM text: its encoding, width, height and maxval.
+use Rattle.std.specs.Prelude.{◌≡◌, ℕ, ◌==◌, ◌&&◌, Bool, if◌then◌else◌, min, nat_le, nat_lt, List, [], ◌∷◌, Option, Some, None, Result, Ok, Err}
+use Rattle.std.specs.Option.{option_map}
+use Rattle.vx_base.specs.declared.format.Format.{Format}
+use Rattle.vx_base.specs.declared.format.Format.TheVariants.{U8, S16}
+use Rattle.vx_base.specs.Description.{Description, is_side}
+use Rattle.pgm_images.specs.declared.fault.PgmFault.{PgmFault}
+use Rattle.pgm_images.specs.declared.fault.PgmFault.TheVariants.{InvalidFormat, InvalidDimension}
+use Rattle.pgm_images.specs.declared.header.Encoding.{Encoding}
+use Rattle.pgm_images.specs.declared.header.Encoding.TheVariants.{Plain, Raw}
+use Rattle.pgm_images.specs.declared.header.Header.{Header}
+use Rattle.pgm_images.specs.Marks.{Taken, and_then, is_space, take_next}
+
+-- the numbers as the text has them, of any size
+pub record HeaderValue : Type 0 where
+  pub encoding : Encoding
+  pub width : ℕ
+  pub height : ℕ
+  pub maxval : ℕ
+
+-- `P2` or `P5`
+abbrev pub take_magic : List ℕ → Taken Encoding
+take_magic [] = None
+take_magic (a ∷ []) = None
+take_magic (a ∷ b ∷ text) =
+    if (a == 80) && (b == 50) then Some (Plain, text) else if (a == 80) && (b == 53) then Some (Raw, text) else None
+
+-- The text after the header, once its maxval was taken: one whitespace byte ends a header of P5,
+-- and no comment may stand before it.
+abbrev pub past_header : Encoding → List ℕ → Option (List ℕ)
+past_header Plain text = Some text
+past_header Raw [] = None
+past_header Raw (b ∷ text) = if is_space b then Some text else None
+
+-- the width, the height and the maxval, each behind a gap
+abbrev pub take_numbers : Encoding → List ℕ → Taken HeaderValue
+take_numbers encoding text =
+    and_then (take_next text) (λ width rest. and_then (take_next rest) (λ height rest. and_then (take_next rest) (λ maxval rest.
+    option_map (λ rest. (record { encoding = encoding; width = width; height = height; maxval = maxval }, rest)) (past_header encoding rest))))
+
+abbrev pub take_header : List ℕ → Taken HeaderValue
+take_header text = and_then (take_magic text) take_numbers
+
+-- whether a PGM text of this project may have this maxval
+abbrev pub is_maxval : ℕ → Bool
+is_maxval n = nat_le 1 n && nat_le n 32767
+
+-- the format of pictures whose samples are up to this
+abbrev pub format_up_to : ℕ → Format
+format_up_to maxval = if nat_lt maxval 256 then U8 else S16
+
+-- the description of the pictures with such a header, or the header's fault
+abbrev pub described : (width height maxval : ℕ) → Result Description PgmFault
+described width height maxval =
+    if is_side width && is_side height
+    then (if is_maxval maxval then Ok (record { width = width; height = height; format = format_up_to maxval }) else Err InvalidFormat)
+    else Err InvalidDimension
+
+-- The code took such a header from the front, and rest is what follows it. It keeps 16 bits of each
+-- number, as Kept says.
+pub record KeptHeader (taken : Taken HeaderValue) (header : Header) (rest : List ℕ) : Type 0 where
+  pub value : HeaderValue
+  pub is : taken ≡ Some (value, rest)
+  pub encoding : header.encoding ≡ value.encoding
+  pub width : header.width ≡ min value.width 65535
+  pub height : header.height ≡ min value.height 65535
+  pub maxval : header.maxval ≡ min value.maxval 65535

@@ -1,0 +1,69 @@
+-- The marks of a PGM text from the front: whitespace, comments and numbers (Netpbm, pgm(5)).
+use Rattle.std.specs.Prelude.{◌≡◌, ℕ, ◌+◌, ◌-◌, ◌*◌, ◌==◌, ◌||◌, Bool, true, false, not, if◌then◌else◌, min, List, [], ◌∷◌, Option, Some, None}
+use Rattle.std.specs.Option.{option_and_then}
+use Rattle.std.specs.Char.{is_ascii_digit}
+
+-- a mark's value and the text after it, or none where the text doesn't begin with such a mark
+abbrev pub Taken : Type 0 → Type 0
+Taken A = Option (A × List ℕ)
+
+-- one mark after the other
+abbrev pub and_then : {A B : Type 0} → Taken A → (A → List ℕ → Option B) → Option B
+and_then None next = None
+and_then (Some taken) next = next taken.0 taken.1
+
+-- CR or LF, which end a comment
+abbrev pub ends_line : ℕ → Bool
+ends_line b = (b == 13) || (b == 10)
+
+-- blank, TAB, CR or LF
+abbrev pub is_space : ℕ → Bool
+is_space b = (b == 32) || (b == 9) || ends_line b
+
+-- `#`, which begins a comment
+abbrev pub begins_comment : ℕ → Bool
+begins_comment b = b == 35
+
+-- The text after all whitespace and comments at its front, or none where a comment doesn't end;
+-- within says whether the front is within a comment.
+abbrev pub past_blanks : (within : Bool) → List ℕ → Option (List ℕ)
+past_blanks true [] = None
+past_blanks true (b ∷ text) = past_blanks (not (ends_line b)) text
+past_blanks false [] = Some []
+past_blanks false (b ∷ text) =
+    if begins_comment b then past_blanks true text else if is_space b then past_blanks false text else Some (b ∷ text)
+
+-- the number that these digits are when they follow those of n, and the text after them
+abbrev pub digits_after : ℕ → List ℕ → ℕ × List ℕ
+digits_after n [] = (n, [])
+digits_after n (b ∷ text) = if is_ascii_digit b then digits_after (n * 10 + (b - 48)) text else (n, b ∷ text)
+
+-- a number: one digit or more, up to a byte that is none or the end
+abbrev pub take_number : List ℕ → Taken ℕ
+take_number [] = None
+take_number (b ∷ text) = if is_ascii_digit b then Some (digits_after 0 (b ∷ text)) else None
+
+-- whether whitespace or a comment stands at the front
+abbrev pub begins_gap : List ℕ → Bool
+begins_gap [] = false
+begins_gap (b ∷ text) = begins_comment b || is_space b
+
+-- a gap, which is whitespace bytes and comments, one of them at least; and a number
+abbrev pub take_next : List ℕ → Taken ℕ
+take_next text = if begins_gap text then option_and_then take_number (past_blanks false text) else None
+
+-- whether nothing but whitespace and comments is left
+abbrev pub ends : List ℕ → Bool
+ends text = nothing (past_blanks false text)
+  where
+    nothing : Option (List ℕ) → Bool
+    nothing None = false
+    nothing (Some []) = true
+    nothing (Some (b ∷ text)) = false
+
+-- The code took a number from the front, and rest is what follows it. It keeps 16 bits: a number
+-- above 65535 as 65535, which is above all limits of a PGM text too.
+pub record Kept (taken : Taken ℕ) (kept : ℕ) (rest : List ℕ) : Type 0 where
+  pub number : ℕ
+  pub is : taken ≡ Some (number, rest)
+  pub least : kept ≡ min number 65535

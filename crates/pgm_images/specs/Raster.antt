@@ -1,0 +1,61 @@
+-- The samples of a PGM text, as numbers.
+use Rattle.std.specs.Prelude.{◌≡◌, ℕ, zero, suc, ◌+◌, ◌*◌, not, ◌⊎◌, Bool, true, false, if◌then◌else◌, nat_le, nat_lt, List, [], ◌∷◌, map, ℤ, pos, Option, Some, None, Result, Ok, Err, IfOk, IfErr, IsTrue}
+use Rattle.std.specs.List.{list_all}
+use Rattle.std.specs.Option.{option_map}
+use Rattle.vx_base.specs.declared.samples.Samples.{Samples}
+use Rattle.vx_base.specs.Picture.{values, samples_format}
+use Rattle.pgm_images.specs.declared.fault.PgmFault.{PgmFault}
+use Rattle.pgm_images.specs.declared.fault.PgmFault.TheVariants.{NoMemory, InvalidFormat, InvalidValue}
+use Rattle.pgm_images.specs.declared.header.Encoding.{Encoding}
+use Rattle.pgm_images.specs.declared.header.Encoding.TheVariants.{Plain, Raw}
+use Rattle.pgm_images.specs.declared.gathered.Gathered.{Gathered}
+use Rattle.pgm_images.specs.Marks.{Taken, and_then, take_next, ends}
+use Rattle.pgm_images.specs.Header.{format_up_to, is_maxval}
+
+-- a sample of a raw text: a byte where none is above 255, else two, the most significant first
+abbrev pub take_byte : List ℕ → Taken ℕ
+take_byte [] = None
+take_byte (a ∷ text) = Some (a, text)
+
+abbrev pub take_pair : List ℕ → Taken ℕ
+take_pair text = and_then (take_byte text) (λ a rest. and_then (take_byte rest) (λ b rest. Some (256 * a + b, rest)))
+
+abbrev pub take_raw : (maxval : ℕ) → List ℕ → Taken ℕ
+take_raw maxval text = if nat_lt maxval 256 then take_byte text else take_pair text
+
+abbrev pub nothing_left : List ℕ → Bool
+nothing_left [] = true
+nothing_left (b ∷ text) = false
+
+-- so many numbers, each as take takes it, and then what is_end allows at the end of a text
+abbrev pub so_many : (take : List ℕ → Taken ℕ) (is_end : List ℕ → Bool) → ℕ → List ℕ → Option (List ℕ)
+so_many take is_end zero text = if is_end text then Some [] else None
+so_many take is_end (suc count) text = and_then (take text) (λ number rest. option_map (λ numbers. number ∷ numbers) (so_many take is_end count rest))
+
+-- The samples that the text after a header has, or none where it has not so many samples and
+-- nothing else. Each of a plain text stands behind a gap, and whitespace and comments may follow
+-- the last.
+abbrev pub numbers_in : Encoding → (maxval count : ℕ) → List ℕ → Option (List ℕ)
+numbers_in Plain maxval count text = so_many take_next ends count text
+numbers_in Raw maxval count text = so_many (take_raw maxval) nothing_left count text
+
+abbrev pub all_up_to : ℕ → List ℕ → Bool
+all_up_to maxval numbers = list_all (λ n. nat_le n maxval) numbers
+
+-- they are samples where none is above the maxval, which is told of a whole text alone
+abbrev pub samples_up_to : ℕ → Option (List ℕ) → Result (List ℤ) PgmFault
+samples_up_to maxval None = Err InvalidFormat
+samples_up_to maxval (Some numbers) = if all_up_to maxval numbers then Ok (map pos numbers) else Err InvalidValue
+
+-- The code read these samples, up to a maxval, or had no memory for them.
+pub record Reads (maxval : ℕ) (told : Result (List ℤ) PgmFault) (result : Result Samples PgmFault) : Type 0 where
+  pub ok : IfOk result (λ samples. told ≡ Ok (values samples))
+  pub format : IfOk result (λ samples. samples_format samples ≡ format_up_to maxval)
+  pub err : IfErr result (λ e. (e ≡ NoMemory) ⊎ (told ≡ Err e))
+
+-- the code has gathered these numbers of a text
+pub record Gathers (gathered : Gathered) (numbers : List ℕ) : Type 0 where
+  pub limit : IsTrue (is_maxval gathered.maxval)
+  pub above : gathered.above ≡ not (all_up_to gathered.maxval numbers)
+  pub format : samples_format gathered.samples ≡ format_up_to gathered.maxval
+  pub samples : gathered.above ≡ false → values gathered.samples ≡ map pos numbers

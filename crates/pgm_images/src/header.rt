@@ -1,0 +1,89 @@
+//! The header of a text: its encoding, width, height and maxval.
+ghost use Rattle.std.specs.Prelude.{◌≡◌, IfSome, IfNone, None, Some, Ok, Err, IfOk, IfErr, IsTrue};
+ghost use Rattle.pgm_images.specs.Header.{take_magic, past_header, take_header, is_maxval, format_up_to, described, KeptHeader};
+
+use crate::fault::PgmFault;
+use crate::marks::{is_space, take_next};
+use vx_base::{Desc, Format};
+
+/// How the samples of a text are encoded.
+#[derive(Clone, Copy, Debug, PartialEq, Eq)]
+pub enum Encoding {
+    /// P2: decimal numbers.
+    Plain,
+    /// P5: one or two bytes each.
+    Raw,
+}
+
+/// What a header tells. A number above 65535 is kept as 65535, which is above all limits too.
+#[derive(Clone, Copy, Debug)]
+pub struct Header {
+    pub encoding: Encoding,
+    pub width: u16,
+    pub height: u16,
+    pub maxval: u16,
+}
+
+/// `P2` or `P5`, and the text after it.
+fn take_magic(text: &[u8]) -> Option<(Encoding, &[u8])>
+    ensures some { IfSome result (λ taken. take_magic text.now ≡ Some (taken.0, taken.1.now)) }
+    ensures none { IfNone result (take_magic text.now ≡ None) }
+{
+    match text {
+        [b'P', b'2', rest @ ..] => Some((Encoding::Plain, rest)),
+        [b'P', b'5', rest @ ..] => Some((Encoding::Raw, rest)),
+        _ => None,
+    }
+}
+
+/// The text after the header, of which the maxval was taken: one whitespace byte ends a header of
+/// P5, and no comment may stand there.
+fn past_header(encoding: Encoding, text: &[u8]) -> Option<&[u8]>
+    ensures some { IfSome result (λ rest. past_header encoding text.now ≡ Some rest.now) }
+    ensures none { IfNone result (past_header encoding text.now ≡ None) }
+{
+    match (encoding, text.split_first()) {
+        (Encoding::Plain, _) => Some(text),
+        (Encoding::Raw, Some((byte, rest))) if is_space(*byte) => Some(rest),
+        (Encoding::Raw, _) => None,
+    }
+}
+
+/// A header, and the text after it.
+pub fn take_header(text: &[u8]) -> Option<(Header, &[u8])>
+    ensures some { IfSome result (λ taken. KeptHeader (take_header text.now) taken.0 taken.1.now) }
+    ensures none { IfNone result (take_header text.now ≡ None) }
+{
+    let (encoding, rest) = take_magic(text)?;
+    let (width, rest) = take_next(rest)?;
+    let (height, rest) = take_next(rest)?;
+    let (maxval, rest) = take_next(rest)?;
+    let rest = past_header(encoding, rest)?;
+    let header = Header {
+        encoding,
+        width,
+        height,
+        maxval,
+    };
+    Some((header, rest))
+}
+
+impl Header {
+    /// The description of the pictures with such a header.
+    pub fn described(self) -> Result<Desc, PgmFault>
+        ensures value { result ≡ described self.width self.height self.maxval }
+        ensures allowed { IfOk result (λ d. IsTrue (is_maxval self.maxval)) }
+        ensures format { IfOk result (λ d. d.format ≡ format_up_to self.maxval) }
+    {
+        let format = if self.maxval < 256 {
+            Format::U8
+        } else {
+            Format::S16
+        };
+        match Desc::new(self.width, self.height, format) {
+            None => Err(PgmFault::InvalidDimension),
+            Some(desc) if 1 <= self.maxval && self.maxval <= 32767 => Ok(desc),
+            Some(_) => Err(PgmFault::InvalidFormat),
+        }
+    }
+}

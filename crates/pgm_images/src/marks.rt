@@ -1,0 +1,99 @@
+//! The marks of a text, from its front: whitespace, comments and numbers.
+ghost use Rattle.std.specs.Prelude.{◌≡◌, ◌∷◌, IfSome, IfNone, None, Some, false, true, min, length, ◌<◌};
+ghost use Rattle.std.specs.Char.{is_ascii_digit};
+ghost use Rattle.pgm_images.specs.Marks.{ends_line, is_space, begins_gap, past_blanks, digits_after, take_number, take_next, ends, Kept};
+
+/// CR or LF.
+fn ends_line(byte: u8) -> bool
+    ensures { result ≡ ends_line byte }
+{
+    byte == b'\r' || byte == b'\n'
+}
+
+/// Blank, TAB, CR or LF.
+pub fn is_space(byte: u8) -> bool
+    ensures { result ≡ is_space byte }
+{
+    byte == b' ' || byte == b'\t' || ends_line(byte)
+}
+
+/// The text after all whitespace and comments at its front. `None` where a comment doesn't end.
+fn past_blanks(text: &[u8]) -> Option<&[u8]>
+    ensures some { IfSome result (λ rest. past_blanks false text.now ≡ Some rest.now) }
+    ensures none { IfNone result (past_blanks false text.now ≡ None) }
+{
+    let mut rest = text;
+    let mut within = false;
+    while let Some((byte, others)) = rest.split_first() {
+        if within {
+            within = !ends_line(*byte);
+        } else if *byte == b'#' {
+            within = true;
+        } else if !is_space(*byte) {
+            return Some(rest);
+        }
+        rest = others;
+    }
+    if within { None } else { Some(rest) }
+}
+
+/// The number that the digits at the front are, and the text after them.
+fn digits(text: &[u8]) -> (u16, &[u8])
+    ensures { Kept (Some (digits_after 0 text.now)) result.0 result.1.now }
+{
+    let mut rest = text;
+    let mut number = 0u16;
+    while let Some((byte, others)) = rest.split_first() {
+        if !byte.is_ascii_digit() {
+            break;
+        }
+        number = number
+            .saturating_mul(10)
+            .saturating_add(u16::from(*byte - b'0'));
+        rest = others;
+    }
+    (number, rest)
+}
+
+/// A number, and the text after it.
+fn take_number(text: &[u8]) -> Option<(u16, &[u8])>
+    ensures some { IfSome result (λ taken. Kept (take_number text.now) taken.0 taken.1.now) }
+    ensures none { IfNone result (take_number text.now ≡ None) }
+{
+    match text.split_first() {
+        Some((byte, _)) if byte.is_ascii_digit() => Some(digits(text)),
+        _ => None,
+    }
+}
+
+/// Whether whitespace or a comment stands at the front.
+fn begins_gap(text: &[u8]) -> bool
+    ensures { result ≡ begins_gap text.now }
+{
+    match text.split_first() {
+        Some((byte, _)) => *byte == b'#' || is_space(*byte),
+        None => false,
+    }
+}
+
+/// A gap and a number, and the text after them.
+pub fn take_next(text: &[u8]) -> Option<(u16, &[u8])>
+    ensures some { IfSome result (λ taken. Kept (take_next text.now) taken.0 taken.1.now) }
+    ensures none { IfNone result (take_next text.now ≡ None) }
+{
+    if begins_gap(text) {
+        take_number(past_blanks(text)?)
+    } else {
+        None
+    }
+}
+
+/// Whether nothing but whitespace and comments is left.
+pub fn ends(text: &[u8]) -> bool
+    ensures { result ≡ ends text.now }
+{
+    match past_blanks(text) {
+        Some(rest) => rest.is_empty(),
+        None => false,
+    }
+}
