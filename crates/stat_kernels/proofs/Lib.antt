@@ -1,0 +1,5 @@
+mod PlaceLaws
+mod TallyLaws
+mod LocatedLaws
+mod SumLaws
+mod ExtremeLaws

@@ -1,0 +1,12 @@
+use Rattle.std.proofs.Common.{◌≡◌, ◌+◌, ◌<◌, ◌≤◌, ℕ, take, get_or}
+use Rattle.std.specs.List.{sum}
+use Rattle.stat_kernels.proofs.sums.add_row.Given as goal
+
+abbrev pub invariant-loop-k : goal.invariant-loop-k
+invariant-loop-k l =
+    record {
+      total : l.total ≡ sum (take l.k l.row);
+      before : (j : ℕ) → j < l.k → get_or l.sums j 0 ≡ get_or l.fn.sums j 0 + sum (take (j + 1) l.row);
+      after : (j : ℕ) → l.k ≤ j → get_or l.sums j 0 ≡ get_or l.fn.sums j 0;
+      written : take l.k l.out ≡ take l.k l.sums;
+    }

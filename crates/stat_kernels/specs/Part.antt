@@ -1,0 +1,17 @@
+-- The valid part of an image.
+use Rattle.std.specs.Prelude.{◌≡◌, ◌+◌, ◌-◌, ◌<◌, ◌≤◌, ◌^◌}
+use Rattle.vx_base.specs.Image.{ImageValue}
+use Rattle.stat_kernels.specs.declared.part.Part.{Part}
+
+-- the columns and rows of the valid rectangle
+pub record IsValidPart (image : ImageValue) (part : Part) : Type 0 where
+  pub x : part.x ≡ image.valid.x0
+  pub count : part.count ≡ image.valid.x1 - image.valid.x0
+  pub top : part.top ≡ image.valid.y0
+  pub bottom : part.bottom ≡ image.valid.y1
+  pub columns : image.valid.x0 ≤ image.valid.x1
+  pub ordered : part.top ≤ part.bottom
+  pub in_columns : part.x + part.count ≤ image.width
+  pub in_rows : part.bottom ≤ image.height
+  pub columns_fit : part.x + part.count < 2 ^ 16
+  pub rows_fit : part.bottom < 2 ^ 16

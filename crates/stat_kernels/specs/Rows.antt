@@ -1,0 +1,7 @@
+-- Rectangles row by row.
+use Rattle.std.specs.Prelude.{ℕ}
+use Rattle.vx_base.specs.Rectangle.{Rectangle}
+
+-- the rows of a rectangle that are above row y
+abbrev pub above : Rectangle → ℕ → Rectangle
+above r y = record { x0 = r.x0; y0 = r.y0; x1 = r.x1; y1 = y }
