@@ -1,0 +1,187 @@
+-- What is seen along rows.
+use Rattle.std.proofs.Common.{◌≡◌, ℕ, ℤ, pos, ◌+◌, ◌-◌, ◌<◌, ◌≤◌, ◌-ℤ◌, ◌<ℤ◌, ◌≤ℤ◌, ◌&&◌, Bool, true, false, cond, List, ◌++◌, length, map, replicate, min, max, get_or, refl, ap, ◌∙◌, sym, arith, zero-add}
+use Rattle.std.specs.Prelude.{Some, None, int_lt, int_le, unsigned_abs}
+use Rattle.std.proofs.lemmas.Int.{ints, by_lt_z}
+use Rattle.std.proofs.lemmas.List.{map-append}
+use Rattle.std.proofs.Math.ListN.{get_or-map}
+use Rattle.vx_base.specs.declared.border.Border.{Border}
+use Rattle.vx_base.specs.declared.border.Border.TheVariants.{Undefined, Constant, Replicate}
+use Rattle.vx_base.specs.Rectangle.{Rectangle}
+use Rattle.vx_base.specs.Image.{ImageValue, run, at}
+use Rattle.vx_base.specs.Window.{nearest, beside, look}
+use Rattle.vx_base.proofs.TableLaws.{run-append, run-same, run-constant, get_or-run}
+use Rattle.vx_base.proofs.WindowLaws.{run_shifted}
+use Rattle.vx_base.proofs.ZeroLaws.{map-replicate}
+use Rattle.border_rows.specs.Seen.{value_beside, row_beside, row_seen, seen_along}
+
+-- ---- tests
+
+below : (a b : ℤ) → a <ℤ b → int_lt a b ≡ true
+below a b h = grind (arith, ints)
+
+not_below : (a b : ℤ) → b ≤ℤ a → int_lt a b ≡ false
+not_below a b h = grind (arith, ints)
+
+at_most : (a b : ℤ) → a ≤ℤ b → int_le a b ≡ true
+at_most a b h = grind (arith, ints)
+
+not_at_most : (a b : ℤ) → b <ℤ a → int_le a b ≡ false
+not_at_most a b h = grind (arith, ints)
+
+-- ---- the nearest
+
+nearest_below : (low high : ℕ) (v : ℤ) → low < high → v <ℤ pos low → nearest low high v ≡ low
+nearest_below low high v some h = grind (arith, ints)
+
+nearest_inside : (low high : ℕ) (v : ℤ) → pos low ≤ℤ v → v <ℤ pos high → nearest low high v ≡ unsigned_abs v
+nearest_inside low high v a b = grind (arith, ints)
+
+nearest_above : (low high : ℕ) (v : ℤ) → low < high → pos high ≤ℤ v → nearest low high v ≡ high - 1
+nearest_above low high v some h = grind (arith, ints)
+
+-- ---- runs
+
+-- a run that is constant before its middle and after it
+run_in_three : (g : ℕ → ℤ) (start b m r : ℕ) (left right : ℤ) (middle : List ℤ)
+    → ((c : ℕ) → c < start + b → start ≤ c → g c ≡ left) → run (start + b) m g ≡ middle → ((c : ℕ) → start + b + m ≤ c → c < start + b + m + r → g c ≡ right)
+    → run start (b + (m + r)) g ≡ replicate b left ++ (middle ++ replicate r right)
+run_in_three g start b m r left right middle before between after =
+    run-append g start b (m + r)
+    ∙ ap (λ l. l ++ run (start + b) (m + r) g) (run-same g (λ _. left) start b (λ c x y. before c y x) ∙ run-constant left start b)
+    ∙ ap (λ l. replicate b left ++ l) (run-append g (start + b) m r)
+    ∙ ap (λ l. replicate b left ++ (l ++ run (start + b + m) r g)) between
+    ∙ ap (λ l. replicate b left ++ (middle ++ l)) (run-same g (λ _. right) (start + b + m) r after ∙ run-constant right (start + b + m) r)
+
+-- ---- along a valid row
+
+seen_left : (image : ImageValue) (border : Border) (x : ℤ) (line : ℕ) → x <ℤ pos image.valid.x0 → seen_along image border line x ≡ value_beside border (at image image.valid.x0 line)
+seen_left image border x line h =
+    ap (λ b. cond b (value_beside border (at image image.valid.x0 line)) (cond (int_lt x (pos image.valid.x1)) (at image (unsigned_abs x) line) (value_beside border (at image (image.valid.x1 - 1) line)))) (below x (pos image.valid.x0) h)
+
+seen_inside : (image : ImageValue) (border : Border) (x : ℤ) (line : ℕ) → pos image.valid.x0 ≤ℤ x → x <ℤ pos image.valid.x1 → seen_along image border line x ≡ at image (unsigned_abs x) line
+seen_inside image border x line a b =
+    ap (λ t. cond t (value_beside border (at image image.valid.x0 line)) (cond (int_lt x (pos image.valid.x1)) (at image (unsigned_abs x) line) (value_beside border (at image (image.valid.x1 - 1) line)))) (not_below x (pos image.valid.x0) a)
+    ∙ ap (λ t. cond t (at image (unsigned_abs x) line) (value_beside border (at image (image.valid.x1 - 1) line))) (below x (pos image.valid.x1) b)
+
+seen_right : (image : ImageValue) (border : Border) (x : ℤ) (line : ℕ) → pos image.valid.x0 ≤ℤ x → pos image.valid.x1 ≤ℤ x → seen_along image border line x ≡ value_beside border (at image (image.valid.x1 - 1) line)
+seen_right image border x line a b =
+    ap (λ t. cond t (value_beside border (at image image.valid.x0 line)) (cond (int_lt x (pos image.valid.x1)) (at image (unsigned_abs x) line) (value_beside border (at image (image.valid.x1 - 1) line)))) (not_below x (pos image.valid.x0) a)
+    ∙ ap (λ t. cond t (at image (unsigned_abs x) line) (value_beside border (at image (image.valid.x1 - 1) line))) (not_below x (pos image.valid.x1) b)
+
+-- ---- rows
+
+-- a row that is seen in row y under Replicate is the nearest
+line_near : (valid : Rectangle) (y : ℤ) (line : ℕ) → row_seen valid Replicate y ≡ Some line → nearest valid.y0 valid.y1 y ≡ line
+line_near valid y line e = by_lt_z y (pos valid.y0) above (λ a. by_lt_z y (pos valid.y1) (λ b. inner a b) (λ b. under a b))
+  where
+    above : y <ℤ pos valid.y0 → nearest valid.y0 valid.y1 y ≡ line
+    above h = let t = not_at_most (pos valid.y0) y h in let s : row_seen valid Replicate y ≡ Some (nearest valid.y0 valid.y1 y) = ap (λ b. cond (b && int_lt y (pos valid.y1)) (Some (unsigned_abs y)) (Some (nearest valid.y0 valid.y1 y))) t in cc
+
+    inner : pos valid.y0 ≤ℤ y → y <ℤ pos valid.y1 → nearest valid.y0 valid.y1 y ≡ line
+    inner a b =
+        let t = at_most (pos valid.y0) y a in
+        let u = below y (pos valid.y1) b in
+        let s : row_seen valid Replicate y ≡ Some (unsigned_abs y) = ap (λ p. cond (p && int_lt y (pos valid.y1)) (Some (unsigned_abs y)) (Some (nearest valid.y0 valid.y1 y))) t ∙ ap (λ p. cond p (Some (unsigned_abs y)) (Some (nearest valid.y0 valid.y1 y))) u in
+        let n = nearest_inside valid.y0 valid.y1 y a b in
+        cc
+
+    under : pos valid.y0 ≤ℤ y → pos valid.y1 ≤ℤ y → nearest valid.y0 valid.y1 y ≡ line
+    under a b =
+        let t = at_most (pos valid.y0) y a in
+        let u = not_below y (pos valid.y1) b in
+        let s : row_seen valid Replicate y ≡ Some (nearest valid.y0 valid.y1 y) = ap (λ p. cond (p && int_lt y (pos valid.y1)) (Some (unsigned_abs y)) (Some (nearest valid.y0 valid.y1 y))) t ∙ ap (λ p. cond p (Some (unsigned_abs y)) (Some (nearest valid.y0 valid.y1 y))) u in
+        cc
+
+-- what counts beside the columns of a row that is seen
+beside_line : (image : ImageValue) (border : Border) (x y : ℤ) (line edge : ℕ) → row_seen image.valid border y ≡ Some line → nearest image.valid.x0 image.valid.x1 x ≡ edge → beside image border x y ≡ value_beside border (at image edge line)
+beside_line image Undefined x y line edge e near = refl
+beside_line image (Constant value) x y line edge e near = refl
+beside_line image Replicate x y line edge e near = ap (λ n. at image n (nearest image.valid.y0 image.valid.y1 y)) near ∙ ap (at image edge) (line_near image.valid y line e)
+
+-- beside the columns
+look_beside : (image : ImageValue) (border : Border) (x y : ℤ) (line edge : ℕ) → row_seen image.valid border y ≡ Some line → nearest image.valid.x0 image.valid.x1 x ≡ edge → (int_le (pos image.valid.x0) x && int_lt x (pos image.valid.x1)) ≡ false → look image border x y ≡ value_beside border (at image edge line)
+look_beside image border x y line edge e near out =
+    ap (λ b. cond (b && (int_le (pos image.valid.y0) y && int_lt y (pos image.valid.y1))) (at image (unsigned_abs x) (unsigned_abs y)) (beside image border x y)) out
+    ∙ beside_line image border x y line edge e near
+
+-- in the columns
+inner_row : (image : ImageValue) (border : Border) (x y : ℤ) (line : ℕ) (b : Bool) → cond b (Some (unsigned_abs y)) (row_beside image.valid border y) ≡ Some line → row_seen image.valid border y ≡ Some line → nearest image.valid.x0 image.valid.x1 x ≡ unsigned_abs x → cond b (at image (unsigned_abs x) (unsigned_abs y)) (beside image border x y) ≡ at image (unsigned_abs x) line
+inner_row image border x y line true e seen near = let same : unsigned_abs y ≡ line = cc in ap (at image (unsigned_abs x)) same
+inner_row image Undefined x y line false e seen near = cc
+inner_row image (Constant value) x y line false e seen near = cc
+inner_row image Replicate x y line false e seen near = beside_line image Replicate x y line (unsigned_abs x) seen near
+
+look_inside : (image : ImageValue) (border : Border) (x y : ℤ) (line : ℕ) → row_seen image.valid border y ≡ Some line → pos image.valid.x0 ≤ℤ x → x <ℤ pos image.valid.x1 → look image border x y ≡ at image (unsigned_abs x) line
+look_inside image border x y line e a b =
+    let columns : (int_le (pos image.valid.x0) x && int_lt x (pos image.valid.x1)) ≡ true = cc (at_most (pos image.valid.x0) x a, below x (pos image.valid.x1) b) in
+    ap (λ p. cond (p && (int_le (pos image.valid.y0) y && int_lt y (pos image.valid.y1))) (at image (unsigned_abs x) (unsigned_abs y)) (beside image border x y)) columns
+    ∙ inner_row image border x y line (int_le (pos image.valid.y0) y && int_lt y (pos image.valid.y1)) e e (nearest_inside image.valid.x0 image.valid.x1 x a b)
+
+-- what is seen in a row is what is seen along the valid row that counts for it
+pub look_along : (image : ImageValue) (border : Border) (x y : ℤ) (line : ℕ) → image.valid.x0 < image.valid.x1 → row_seen image.valid border y ≡ Some line → look image border x y ≡ seen_along image border line x
+look_along image border x y line some e = by_lt_z x (pos image.valid.x0) left (λ a. by_lt_z x (pos image.valid.x1) (λ b. between a b) (λ b. right a b))
+  where
+    left : x <ℤ pos image.valid.x0 → look image border x y ≡ seen_along image border line x
+    left h =
+        look_beside image border x y line image.valid.x0 e (nearest_below image.valid.x0 image.valid.x1 x some h) (cc (not_at_most (pos image.valid.x0) x h))
+        ∙ sym (seen_left image border x line h)
+
+    between : pos image.valid.x0 ≤ℤ x → x <ℤ pos image.valid.x1 → look image border x y ≡ seen_along image border line x
+    between a b = look_inside image border x y line e a b ∙ sym (seen_inside image border x line a b)
+
+    right : pos image.valid.x0 ≤ℤ x → pos image.valid.x1 ≤ℤ x → look image border x y ≡ seen_along image border line x
+    right a b =
+        look_beside image border x y line (image.valid.x1 - 1) e (nearest_above image.valid.x0 image.valid.x1 x some b) (cc (at_most (pos image.valid.x0) x a, not_below x (pos image.valid.x1) b))
+        ∙ sym (seen_right image border x line a b)
+
+-- where no row counts
+off_row : (image : ImageValue) (border : Border) (x y : ℤ) (b c : Bool) → cond b (Some (unsigned_abs y)) (row_beside image.valid border y) ≡ None → cond (c && b) (at image (unsigned_abs x) (unsigned_abs y)) (beside image border x y) ≡ value_beside border (pos 0)
+off_row image border x y true c e = cc
+off_row image Undefined x y false true e = refl
+off_row image Undefined x y false false e = refl
+off_row image (Constant value) x y false true e = refl
+off_row image (Constant value) x y false false e = refl
+off_row image Replicate x y false c e = cc
+
+pub look_off : (image : ImageValue) (border : Border) (x y : ℤ) → row_seen image.valid border y ≡ None → look image border x y ≡ value_beside border (pos 0)
+look_off image border x y e = off_row image border x y (int_le (pos image.valid.y0) y && int_lt y (pos image.valid.y1)) (int_le (pos image.valid.x0) x && int_lt x (pos image.valid.x1)) e
+
+-- ---- a part of a row
+
+-- what is seen so many places from column start - radius on, in three parts
+pub seen_in_three : (image : ImageValue) (border : Border) (line start radius n b m first left right : ℕ) (samples : List ℕ)
+    → image.valid.x0 < image.valid.x1 → length samples ≡ m
+    → b ≡ min (image.valid.x0 + radius - start) n → m ≡ min (image.valid.x1 + radius - start) n - b → first ≡ min (max (start - radius) image.valid.x0) image.valid.x1
+    → pos left ≡ value_beside border (at image image.valid.x0 line) → pos right ≡ value_beside border (at image (image.valid.x1 - 1) line) → map pos samples ≡ run first m (λ k. at image k line)
+    → map pos (replicate b left ++ (samples ++ replicate (n - (b + length samples)) right)) ≡ run start n (λ c. seen_along image border line (pos c -ℤ pos radius))
+seen_in_three image border line start radius n b m first left right samples some long at_before at_middle at_first is_left is_right is_middle =
+    map-append pos (replicate b left) (samples ++ replicate (n - (b + length samples)) right)
+    ∙ ap (λ l. map pos (replicate b left) ++ l) (map-append pos samples (replicate (n - (b + length samples)) right))
+    ∙ ap (λ l. l ++ (map pos samples ++ map pos (replicate (n - (b + length samples)) right))) (map-replicate pos b left)
+    ∙ ap (λ l. replicate b (pos left) ++ (map pos samples ++ l)) (map-replicate pos (n - (b + length samples)) right)
+    ∙ ap (λ k. replicate b (pos left) ++ (map pos samples ++ replicate k (pos right))) rest
+    ∙ sym (run_in_three g start b m (n - (b + m)) (pos left) (pos right) (map pos samples) before (sym (is_middle ∙ sym between)) after)
+    ∙ ap (λ k. run start k g) (omega arith)
+  where
+    g : ℕ → ℤ
+    g = λ c. seen_along image border line (pos c -ℤ pos radius)
+
+    rest : n - (b + length samples) ≡ n - (b + m)
+    rest = ap (λ k. n - (b + k)) long
+
+    before : (c : ℕ) → c < start + b → start ≤ c → g c ≡ pos left
+    before c h k = seen_left image border (pos c -ℤ pos radius) line (omega (arith, ints)) ∙ sym is_left
+
+    between : run (start + b) m g ≡ run first m (λ k. at image k line)
+    between = run_shifted g (λ k. at image k line) (start + b) first m place
+      where
+        place : (k : ℕ) → k < m → g (start + b + k) ≡ at image (first + k) line
+        place k h = seen_inside image border (pos (start + b + k) -ℤ pos radius) line (omega (arith, ints)) (omega (arith, ints)) ∙ ap (λ j. at image j line) (omega (arith, ints))
+
+    after : (c : ℕ) → start + b + m ≤ c → c < start + b + m + (n - (b + m)) → g c ≡ pos right
+    after c h k = seen_right image border (pos c -ℤ pos radius) line (omega (arith, ints)) (omega (arith, ints)) ∙ sym is_right
+
+-- a sample of a row
+pub item_of_row : (row : List ℕ) (g : ℕ → ℤ) (w i : ℕ) → map pos row ≡ run 0 w g → length row ≡ w → i < w → pos (get_or row i 0) ≡ g i
+item_of_row row g w i same long below =
+    sym (get_or-map pos row i 0) ∙ ap (λ l. get_or l i (pos 0)) same ∙ get_or-run g 0 w i (pos 0) below ∙ ap g (zero-add i)

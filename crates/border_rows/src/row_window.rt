@@ -1,0 +1,67 @@
+//! Rows of whole images, with what stands beside them.
+ghost use Rattle.std.specs.Prelude.{◌≡◌, ◌+◌, ◌*◌, ◌<◌, pos, ◌-ℤ◌, IfOk, length, map};
+ghost use Rattle.vx_base.specs.declared.format.Format.TheVariants.{U8};
+ghost use Rattle.vx_base.specs.Image.{run};
+ghost use Rattle.vx_base.specs.Window.{look};
+
+use crate::seen::load_row;
+use image_core::Image;
+use std::alloc::{AllocError, Global};
+use std::marker::Model;
+use vx_base::Border;
+
+/// A row of a U8 image with so many samples to either side as a window of this radius sees.
+#[derive(Drop)]
+pub struct RowWindow {
+    width: u16,
+    radius: u16,
+    samples: Vec<u8>,
+}
+
+impl Model for RowWindow {
+    ghost use Rattle.std.specs.Prelude.{◌≡◌, ◌+◌, ◌*◌, pos, map, length};
+    ghost use Rattle.border_rows.specs.RowWindow.{RowWindowValue};
+
+    ghost Value = { RowWindowValue };
+
+    ghost view = { λ w. record { width = w.width; radius = w.radius; samples = map pos w.samples.items } };
+
+    ghost invariant = { λ w. length w.samples.items ≡ w.width + 2 * w.radius };
+}
+
+impl RowWindow {
+    /// A window on rows of images of this width, none of which is loaded yet.
+    pub fn new(alloc: Global, width: u16, radius: u16) -> Result<RowWindow, AllocError>
+        ensures width { IfOk result (λ made. made.width ≡ width) }
+        ensures radius { IfOk result (λ made. made.radius ≡ radius) }
+    {
+        let count = usize::from(width) + 2 * usize::from(radius);
+        Ok(RowWindow {
+            width,
+            radius,
+            samples: vec![in alloc; 0; count]?,
+        })
+    }
+
+    /// Makes this row y of a U8 image that is as wide, and has a valid place. It takes no memory.
+    pub fn load(&mut self, image: &Image<'_>, y: i32, border: Border)
+        requires format { image.now.format ≡ U8 }
+        requires width { self.old.width ≡ image.now.width }
+        requires columns { image.now.valid.x0 < image.now.valid.x1 }
+        requires rows { image.now.valid.y0 < image.now.valid.y1 }
+        ensures width { self.new.width ≡ self.old.width }
+        ensures radius { self.new.radius ≡ self.old.radius }
+        ensures samples { self.new.samples ≡ run 0 (self.old.width + 2 * self.old.radius) (λ i. look image.now border (pos i -ℤ pos self.old.radius) y) }
+    {
+        let samples = self.samples.as_mut_slice();
+        load_row(image, 0, self.radius, y, border, samples);
+    }
+
+    /// The samples, from the place `radius` columns to the left of the image on.
+    pub fn row(&self) -> &[u8]
+        ensures value { map pos result.now ≡ self.now.samples }
+        ensures len { length result.now ≡ self.now.width + 2 * self.now.radius }
+    {
+        &self.samples
+    }
+}

@@ -1,0 +1,93 @@
+//! Rows with what counts beside them.
+ghost use Rattle.std.specs.Prelude.{◌≡◌, ◌+◌, ◌-◌, ◌<◌, ◌≤◌, ◌++◌, pos, ◌-ℤ◌, IfSome, length, map, replicate};
+ghost use Rattle.vx_base.specs.declared.format.Format.TheVariants.{U8};
+ghost use Rattle.vx_base.specs.Image.{run, at};
+ghost use Rattle.vx_base.specs.Window.{look};
+ghost use Rattle.border_rows.specs.Seen.{value_beside, row_seen, seen_along};
+
+use image_core::Image;
+use vx_base::{Border, Rect};
+
+/// The sample that counts beside the valid places, where the nearest of them has this one.
+fn value_beside(border: Border, edge: u8) -> u8
+    ensures { pos result ≡ value_beside border (pos edge) }
+{
+    match border {
+        Border::Undefined => 0,
+        Border::Constant(value) => value,
+        Border::Replicate => edge,
+    }
+}
+
+/// The valid row whose samples are seen in row y. `None` where none is.
+fn row_seen(valid: Rect, border: Border, y: i32) -> Option<u16>
+    requires { valid.y0 < valid.y1 }
+    ensures value { result ≡ row_seen valid border y }
+    ensures valid { IfSome result (λ line. line < valid.y1) }
+{
+    let (first, end) = (valid.y0(), valid.y1());
+    if i32::from(first) <= y && y < i32::from(end) {
+        return Some(y as u16);
+    }
+    match border {
+        Border::Replicate if y < i32::from(first) => Some(first),
+        Border::Replicate => Some(end - 1),
+        _ => None,
+    }
+}
+
+fn set_all(out: &mut [u8], sample: u8)
+    ensures { out.new ≡ replicate (length out.old) sample }
+{
+    for item in out.iter_mut() {
+        *item = sample;
+    }
+}
+
+/// Writes a row's samples, after so many times one sample and before another.
+fn write_between(left: u8, before: usize, samples: &[u8], right: u8, out: &mut [u8])
+    requires { before + length samples.now ≤ length out.old }
+    ensures { out.new ≡ replicate before left ++ (samples.now ++ replicate (length out.old - (before + length samples.now)) right) }
+{
+    let (front, others) = out.split_at_mut(before);
+    let (middle, back) = others.split_at_mut(samples.len());
+    set_all(front, left);
+    middle.copy_from_slice(samples);
+    set_all(back, right);
+}
+
+/// Writes what is seen along a valid row, as `load_row` does.
+fn load_line(image: &Image<'_>, start: u16, radius: u16, line: u16, border: Border, out: &mut [u8])
+    requires format { image.now.format ≡ U8 }
+    requires columns { image.now.valid.x0 < image.now.valid.x1 }
+    requires line { line < image.now.valid.y1 }
+    ensures { map pos out.new ≡ run start (length out.old) (λ c. seen_along image.now border line (pos c -ℤ pos radius)) }
+{
+    let valid = image.valid();
+    let row = image.row::<u8>(line);
+    let left = value_beside(border, row[usize::from(valid.x0())]);
+    let right = value_beside(border, row[usize::from(valid.x1()) - 1]);
+    let (shift, begin) = (usize::from(radius), usize::from(start));
+    let before = (usize::from(valid.x0()) + shift)
+        .saturating_sub(begin)
+        .min(out.len());
+    let end = (usize::from(valid.x1()) + shift)
+        .saturating_sub(begin)
+        .min(out.len());
+    let first = start.saturating_sub(radius).max(valid.x0()).min(valid.x1());
+    let samples = image.part_of_row::<u8>(first, line, end - before);
+    write_between(left, before, samples, right, out);
+}
+
+/// Writes what a window sees in row y of a U8 image, from column `start - radius` on.
+pub fn load_row(image: &Image<'_>, start: u16, radius: u16, y: i32, border: Border, out: &mut [u8])
+    requires format { image.now.format ≡ U8 }
+    requires columns { image.now.valid.x0 < image.now.valid.x1 }
+    requires rows { image.now.valid.y0 < image.now.valid.y1 }
+    ensures { map pos out.new ≡ run start (length out.old) (λ c. look image.now border (pos c -ℤ pos radius) y) }
+{
+    match row_seen(image.valid(), border, y) {
+        Some(line) => load_line(image, start, radius, line, border, out),
+        None => set_all(out, value_beside(border, 0)),
+    }
+}

@@ -1,0 +1,5 @@
+mod NineLaws
+mod WriteLaws
+mod GradientLaws
+mod ExtremeLaws
+mod MedianLaws

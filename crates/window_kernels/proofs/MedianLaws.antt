@@ -1,0 +1,257 @@
+-- The median of nine.
+use Rattle.std.proofs.Common.{◌≡◌, ℕ, ℤ, pos, ◌+◌, ◌<◌, ◌≤◌, ◌<ℤ◌, Bool, true, false, ◌&&◌, ◌||◌, List, [], ◌∷◌, length, nat_le, min, max, refl, ap, ◌∙◌, sym, arith, cond, zero, suc, subst}
+use Rattle.std.specs.Prelude.{int_lt, int_le, unwrap_or, Option, Some, None, Contains}
+use Rattle.std.specs.Int.{int_min, int_max}
+use Rattle.std.specs.List.{count_by, find}
+use Rattle.std.proofs.lemmas.Bool.Decides.{nat_tests}
+use Rattle.std.proofs.lemmas.Int.{ints, by_lt_z}
+use Rattle.std.proofs.lemmas.List.Sums.{sum_by-cons}
+use Rattle.vx_base.specs.Window.{is_middle, median}
+
+abbrev least_of_three : {A : Type 0} → (A → A → A) → A → A → A → A
+least_of_three lo x y z = lo (lo x y) z
+
+-- the middle one of three, by the lesser and the greater of two
+abbrev middle_of_three : {A : Type 0} → (A → A → A) → (A → A → A) → A → A → A → A
+middle_of_three lo hi x y z = hi (lo x y) (lo (hi x y) z)
+
+-- the middle one of nine: of the greatest least, the least greatest and the middle middle of three threes
+abbrev pub middle_of_nine : {A : Type 0} → (A → A → A) → (A → A → A) → A → A → A → A → A → A → A → A → A → A
+middle_of_nine lo hi a b c d e f g h i =
+    middle_of_three lo hi
+    (least_of_three hi (least_of_three lo a b c) (least_of_three lo d e f) (least_of_three lo g h i))
+    (least_of_three lo (least_of_three hi a b c) (least_of_three hi d e f) (least_of_three hi g h i))
+    (middle_of_three lo hi (middle_of_three lo hi a b c) (middle_of_three lo hi d e f) (middle_of_three lo hi g h i))
+
+-- a function that looks through the lesser and the greater of two
+record Splits {A B : Type 0} (t : A → B) (lo hi : A → A → A) (low high : B → B → B) : Type 0 where
+  pub lesser : (x y : A) → t (lo x y) ≡ low (t x) (t y)
+  pub greater : (x y : A) → t (hi x y) ≡ high (t x) (t y)
+
+through : {A B : Type 0} (t : A → B) (lo hi : A → A → A) (low high : B → B → B) → Splits t lo hi low high → (a b c d e f g h i : A)
+    → t (middle_of_nine lo hi a b c d e f g h i) ≡ middle_of_nine low high (t a) (t b) (t c) (t d) (t e) (t f) (t g) (t h) (t i)
+through t lo hi low high s a b c d e f g h i = simp (s.lesser, s.greater)
+
+at_least : (v : ℤ) → Splits (int_le v) int_min int_max ◌&&◌ ◌||◌
+at_least v = record { lesser = λ x y. lesser x y; greater = λ x y. greater x y }
+  where
+    lesser : (x y : ℤ) → int_le v (int_min x y) ≡ (int_le v x && int_le v y)
+    lesser x y = grind (arith, ints)
+
+    greater : (x y : ℤ) → int_le v (int_max x y) ≡ (int_le v x || int_le v y)
+    greater x y = grind (arith, ints)
+
+above : (v : ℤ) → Splits (int_lt v) int_min int_max ◌&&◌ ◌||◌
+above v = record { lesser = λ x y. lesser x y; greater = λ x y. greater x y }
+  where
+    lesser : (x y : ℤ) → int_lt v (int_min x y) ≡ (int_lt v x && int_lt v y)
+    lesser x y = grind (arith, ints)
+
+    greater : (x y : ℤ) → int_lt v (int_max x y) ≡ (int_lt v x || int_lt v y)
+    greater x y = grind (arith, ints)
+
+as_numbers : Splits pos min max int_min int_max
+as_numbers = record { lesser = λ x y. lesser x y; greater = λ x y. greater x y }
+  where
+    lesser : (x y : ℕ) → pos (min x y) ≡ int_min (pos x) (pos y)
+    lesser x y = grind arith
+
+    greater : (x y : ℕ) → pos (max x y) ≡ int_max (pos x) (pos y)
+    greater x y = grind arith
+
+-- ---- five of nine
+
+-- how many are true
+abbrev one : Bool → ℕ
+one b = cond b 1 0
+
+abbrev ones : Bool → Bool → Bool → Bool → Bool → Bool → Bool → Bool → Bool → ℕ
+ones a b c d e f g h i = one a + one b + one c + one d + one e + one f + one g + one h + one i
+
+-- a true middle has five true ones, and a false one at most four
+abbrev agrees : Bool → Bool → Bool → Bool → Bool → Bool → Bool → Bool → Bool → Bool
+agrees a b c d e f g h i = cond (middle_of_nine ◌&&◌ ◌||◌ a b c d e f g h i) (nat_le 5 (ones a b c d e f g h i)) (nat_le (ones a b c d e f g h i) 4)
+
+abbrev both : (Bool → Bool) → Bool
+both q = q true && q false
+
+from_both : (q : Bool → Bool) → both q ≡ true → (b : Bool) → q b ≡ true
+from_both q h true = grind arith
+from_both q h false = grind arith
+
+abbrev six : Bool → Bool → Bool → Bool
+six a b c = both (λ d. both (λ e. both (λ f. both (λ g. both (λ h. both (λ i. agrees a b c d e f g h i))))))
+
+checked : both (λ a. both (λ b. both (λ c. six a b c))) ≡ true
+checked = refl
+
+agree : (a b c d e f g h i : Bool) → agrees a b c d e f g h i ≡ true
+agree a b c d e f g h i =
+    let s = from_both (λ c. six a b c) (from_both (λ b. both (λ c. six a b c)) (from_both (λ a. both (λ b. both (λ c. six a b c))) checked a) b) c in
+    from_both (λ i. agrees a b c d e f g h i)
+    (from_both (λ h. both (λ i. agrees a b c d e f g h i))
+    (from_both (λ g. both (λ h. both (λ i. agrees a b c d e f g h i)))
+    (from_both (λ f. both (λ g. both (λ h. both (λ i. agrees a b c d e f g h i))))
+    (from_both (λ e. both (λ f. both (λ g. both (λ h. both (λ i. agrees a b c d e f g h i)))))
+    (from_both (λ d. both (λ e. both (λ f. both (λ g. both (λ h. both (λ i. agrees a b c d e f g h i)))))) s d) e) f) g) h) i
+
+true_has_five : (m : Bool) (p q : Bool) → cond m p q ≡ true → m ≡ true → p ≡ true
+true_has_five true p q h e = h
+true_has_five false p q h e = cc
+
+false_has_four : (m : Bool) (p q : Bool) → cond m p q ≡ true → m ≡ false → q ≡ true
+false_has_four true p q h e = cc
+false_has_four false p q h e = h
+
+le_from_test : (m n : ℕ) → nat_le m n ≡ true → m ≤ n
+le_from_test m n h = grind (arith, nat_tests)
+
+test_from_le : (m n : ℕ) → m ≤ n → nat_le m n ≡ true
+test_from_le m n h = grind (arith, nat_tests)
+
+reaches_itself : (v : ℤ) → int_le v v ≡ true
+reaches_itself v = grind (arith, ints)
+
+not_above_itself : (v : ℤ) → int_lt v v ≡ false
+not_above_itself v = grind (arith, ints)
+
+one_or_other : (x v : ℤ) → one (int_lt x v) + one (int_le v x) ≡ 1
+one_or_other x v = grind (arith, ints)
+
+-- ---- a number in the middle
+
+-- at most four of the numbers are smaller, and at most four are greater
+pub record IsMiddle (zs : List ℤ) (v : ℤ) : Type 0 where
+  pub fewer : count_by (λ z. int_lt z v) zs ≤ 4
+  pub more : count_by (λ z. int_lt v z) zs ≤ 4
+
+from_bits : (v a b c d e f g h i : ℤ)
+    → 5 ≤ ones (int_le v a) (int_le v b) (int_le v c) (int_le v d) (int_le v e) (int_le v f) (int_le v g) (int_le v h) (int_le v i)
+    → ones (int_lt v a) (int_lt v b) (int_lt v c) (int_lt v d) (int_lt v e) (int_lt v f) (int_lt v g) (int_lt v h) (int_lt v i) ≤ 4
+    → IsMiddle (a ∷ b ∷ c ∷ d ∷ e ∷ f ∷ g ∷ h ∷ i ∷ []) v
+from_bits v a b c d e f g h i low high =
+    let a1 : one (int_lt a v) + one (int_le v a) ≡ 1 = one_or_other a v in
+    let b1 : one (int_lt b v) + one (int_le v b) ≡ 1 = one_or_other b v in
+    let c1 : one (int_lt c v) + one (int_le v c) ≡ 1 = one_or_other c v in
+    let d1 : one (int_lt d v) + one (int_le v d) ≡ 1 = one_or_other d v in
+    let e1 : one (int_lt e v) + one (int_le v e) ≡ 1 = one_or_other e v in
+    let f1 : one (int_lt f v) + one (int_le v f) ≡ 1 = one_or_other f v in
+    let g1 : one (int_lt g v) + one (int_le v g) ≡ 1 = one_or_other g v in
+    let h1 : one (int_lt h v) + one (int_le v h) ≡ 1 = one_or_other h v in
+    let i1 : one (int_lt i v) + one (int_le v i) ≡ 1 = one_or_other i v in
+    record { fewer = omega arith; more = omega arith }
+
+-- what the minima and maxima leave in the middle is in the middle
+middle_is_middle : (a b c d e f g h i : ℤ) → IsMiddle (a ∷ b ∷ c ∷ d ∷ e ∷ f ∷ g ∷ h ∷ i ∷ []) (middle_of_nine int_min int_max a b c d e f g h i)
+middle_is_middle a b c d e f g h i = known (middle_of_nine int_min int_max a b c d e f g h i) refl
+  where
+    known : (v : ℤ) → middle_of_nine int_min int_max a b c d e f g h i ≡ v → IsMiddle (a ∷ b ∷ c ∷ d ∷ e ∷ f ∷ g ∷ h ∷ i ∷ []) v
+    known v is =
+        let low : middle_of_nine ◌&&◌ ◌||◌ (int_le v a) (int_le v b) (int_le v c) (int_le v d) (int_le v e) (int_le v f) (int_le v g) (int_le v h) (int_le v i) ≡ true
+        = sym (through (int_le v) int_min int_max ◌&&◌ ◌||◌ (at_least v) a b c d e f g h i) ∙ ap (int_le v) is ∙ reaches_itself v in
+        let high : middle_of_nine ◌&&◌ ◌||◌ (int_lt v a) (int_lt v b) (int_lt v c) (int_lt v d) (int_lt v e) (int_lt v f) (int_lt v g) (int_lt v h) (int_lt v i) ≡ false
+        = sym (through (int_lt v) int_min int_max ◌&&◌ ◌||◌ (above v) a b c d e f g h i) ∙ ap (int_lt v) is ∙ not_above_itself v in
+        from_bits v a b c d e f g h i
+        (le_from_test 5 _ (true_has_five _ _ _ (agree (int_le v a) (int_le v b) (int_le v c) (int_le v d) (int_le v e) (int_le v f) (int_le v g) (int_le v h) (int_le v i)) low))
+        (le_from_test _ 4 (false_has_four _ _ _ (agree (int_lt v a) (int_lt v b) (int_lt v c) (int_lt v d) (int_lt v e) (int_lt v f) (int_lt v g) (int_lt v h) (int_lt v i)) high))
+
+-- ---- there is one
+
+counted : (p : ℤ → Bool) (z : ℤ) (zs : List ℤ) → count_by p (z ∷ zs) ≡ one (p z) + count_by p zs
+counted p z zs = sum_by-cons (λ x. cond (p x) 1 0) z zs
+
+-- of two numbers the smaller is below, or the greater above, each of the numbers
+apart : (v w z : ℤ) → v <ℤ w → 1 ≤ one (int_lt z w) + one (int_lt v z)
+apart v w z h = grind (arith, ints)
+
+all_counted : (v w : ℤ) (zs : List ℤ) → v <ℤ w → length zs ≤ count_by (λ z. int_lt z w) zs + count_by (λ z. int_lt v z) zs
+all_counted v w [] h = omega arith
+all_counted v w (z ∷ zs) h =
+    omega (arith, counted (λ z. int_lt z w) z zs, counted (λ z. int_lt v z) z zs, apart v w z h, all_counted v w zs h)
+
+same_middle : (zs : List ℤ) (v w : ℤ) → 9 ≤ length zs → IsMiddle zs v → IsMiddle zs w → v ≡ w
+same_middle zs v w long a b =
+    by_lt_z v w
+    (λ h. absurd (omega (arith, all_counted v w zs h, a.more, b.fewer)))
+    (λ h. by_lt_z w v (λ k. absurd (omega (arith, all_counted w v zs k, b.more, a.fewer))) (λ k. omega (arith, ints)))
+
+is_middle_test : (zs : List ℤ) (v : ℤ) → IsMiddle zs v → is_middle zs v ≡ true
+is_middle_test zs v h = let a = test_from_le (count_by (λ z. int_lt z v) zs) 4 h.fewer in let b = test_from_le (count_by (λ z. int_lt v z) zs) 4 h.more in cc
+
+both_true : (p q : Bool) → (p && q) ≡ true → (p ≡ true) × (q ≡ true)
+both_true true q h = (refl, h)
+both_true false q h = (cc, cc)
+
+from_middle_test : (zs : List ℤ) (v : ℤ) → is_middle zs v ≡ true → IsMiddle zs v
+from_middle_test zs v h =
+    let p = both_true (nat_le (count_by (λ z. int_lt z v) zs) 4) (nat_le (count_by (λ z. int_lt v z) zs) 4) h in
+    record { fewer = le_from_test _ 4 p.0; more = le_from_test _ 4 p.1 }
+
+-- a number that is neither below nor above
+equal_or_counted : (z v : ℤ) → one (int_lt z v) + one (int_lt v z) ≡ 0 → z ≡ v
+equal_or_counted z v h = by_lt_z z v (λ a. absurd (below a)) (λ a. by_lt_z v z (λ b. absurd (over b)) (λ b. omega (arith, ints)))
+  where
+    below : z <ℤ v → ⊥
+    below a = grind (arith, ints)
+
+    over : v <ℤ z → ⊥
+    over b = grind (arith, ints)
+
+-- another number is below or above
+other_counted : (z v : ℤ) → (z ≡ v → ⊥) → (n : ℕ) → one (int_lt z v) + one (int_lt v z) ≡ n → 1 ≤ n
+other_counted z v other zero h = absurd (other (equal_or_counted z v h))
+other_counted z v other (suc n) h = omega arith
+
+not_true : (b : Bool) → b ≡ false → b ≡ true → ⊥
+not_true b h k = cc
+
+found_here : (p : ℤ → Bool) (v z : ℤ) (zs : List ℤ) (b : Bool) → p z ≡ b → p v ≡ true → ((z : ℤ) → p z ≡ true → z ≡ v)
+    → (count_by (λ z. int_lt z v) zs + count_by (λ z. int_lt v z) zs < length zs → find p zs ≡ Some v)
+    → count_by (λ z. int_lt z v) (z ∷ zs) + count_by (λ z. int_lt v z) (z ∷ zs) < length (z ∷ zs) → cond b (Some z) (find p zs) ≡ Some v
+found_here p v z zs true e is unique later room = ap Some (unique z e)
+found_here p v z zs false e is unique later room =
+    let other : 1 ≤ one (int_lt z v) + one (int_lt v z) = other_counted z v (λ same. not_true (p z) e (ap p same ∙ is)) (one (int_lt z v) + one (int_lt v z)) refl in
+    later (omega (arith, counted (λ z. int_lt z v) z zs, counted (λ z. int_lt v z) z zs, other, room))
+
+-- the first of the numbers that is in the middle is the one that is
+found : (p : ℤ → Bool) (v : ℤ) (zs : List ℤ) → p v ≡ true → ((z : ℤ) → p z ≡ true → z ≡ v) → count_by (λ z. int_lt z v) zs + count_by (λ z. int_lt v z) zs < length zs → find p zs ≡ Some v
+found p v [] is unique room = absurd (omega arith)
+found p v (z ∷ zs) is unique room = found_here p v z zs (p z) refl is unique (λ h. found p v zs is unique h) room
+
+-- of nine numbers the one in the middle is the median
+pub median_is : (zs : List ℤ) (v : ℤ) → length zs ≡ 9 → IsMiddle zs v → median zs ≡ v
+median_is zs v long h =
+    ap (λ o. unwrap_or o (pos 0))
+    (found (is_middle zs) v zs (is_middle_test zs v h) (λ z e. same_middle zs z v (omega arith) (from_middle_test zs z e) h) (omega (arith, h.fewer, h.more)))
+
+-- a number that is found is among those that were looked through
+among_here : (v z : ℤ) (zs : List ℤ) (o : Option ℤ) (b : Bool) → (o ≡ Some v → Contains zs v) → cond b (Some z) o ≡ Some v → Contains (z ∷ zs) v
+among_here v z zs o true later e = let same : z ≡ v = cc in (0, omega arith, same)
+among_here v z zs o false later e = let k = later e in (suc k.0, omega (arith, k.1), k.2)
+
+not_found : (v : ℤ) (o : Option ℤ) → o ≡ None → o ≡ Some v → ⊥
+not_found v o e h = cc
+
+among : (p : ℤ → Bool) (v : ℤ) (zs : List ℤ) → find p zs ≡ Some v → Contains zs v
+among p v [] e = absurd (not_found v (find p []) refl e)
+among p v (z ∷ zs) e = among_here v z zs (find p zs) (p z) (λ h. among p v zs h) e
+
+pub median_of_nine : (a b c d e f g h i : ℤ) → median (a ∷ b ∷ c ∷ d ∷ e ∷ f ∷ g ∷ h ∷ i ∷ []) ≡ middle_of_nine int_min int_max a b c d e f g h i
+median_of_nine a b c d e f g h i = median_is (a ∷ b ∷ c ∷ d ∷ e ∷ f ∷ g ∷ h ∷ i ∷ []) (middle_of_nine int_min int_max a b c d e f g h i) refl (middle_is_middle a b c d e f g h i)
+
+pub median_is_middle : (a b c d e f g h i : ℤ) → IsMiddle (a ∷ b ∷ c ∷ d ∷ e ∷ f ∷ g ∷ h ∷ i ∷ []) (median (a ∷ b ∷ c ∷ d ∷ e ∷ f ∷ g ∷ h ∷ i ∷ []))
+median_is_middle a b c d e f g h i =
+    subst (IsMiddle (a ∷ b ∷ c ∷ d ∷ e ∷ f ∷ g ∷ h ∷ i ∷ [])) (sym (median_of_nine a b c d e f g h i)) (middle_is_middle a b c d e f g h i)
+
+pub median_is_among : (a b c d e f g h i : ℤ) → Contains (a ∷ b ∷ c ∷ d ∷ e ∷ f ∷ g ∷ h ∷ i ∷ []) (median (a ∷ b ∷ c ∷ d ∷ e ∷ f ∷ g ∷ h ∷ i ∷ []))
+median_is_among a b c d e f g h i =
+    let zs = a ∷ b ∷ c ∷ d ∷ e ∷ f ∷ g ∷ h ∷ i ∷ [] in
+    let v = median zs in
+    let h = median_is_middle a b c d e f g h i in
+    among (is_middle zs) v zs (found (is_middle zs) v zs (is_middle_test zs v h) (λ z e. same_middle zs z v (omega arith) (from_middle_test zs z e) h) (omega (arith, h.fewer, h.more)))
+
+-- of numbers from 0 on
+pub middle_byte : (a b c d e f g h i : ℕ) → pos (middle_of_nine min max a b c d e f g h i) ≡ median (pos a ∷ pos b ∷ pos c ∷ pos d ∷ pos e ∷ pos f ∷ pos g ∷ pos h ∷ pos i ∷ [])
+middle_byte a b c d e f g h i =
+    through pos min max int_min int_max as_numbers a b c d e f g h i
+    ∙ sym (median_of_nine (pos a) (pos b) (pos c) (pos d) (pos e) (pos f) (pos g) (pos h) (pos i))

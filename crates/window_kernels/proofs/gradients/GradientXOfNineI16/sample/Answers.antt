@@ -1,0 +1,11 @@
+use Rattle.std.proofs.Common.{◌∙◌}
+use Rattle.window_kernels.proofs.GradientLaws.{difference_x, as_short}
+use Rattle.window_kernels.proofs.gradients.GradientXOfNineI16.sample.Goals as goal
+
+pub returns : goal.returns
+returns c =
+    let above = c.args.above in
+    let here = c.args.here in
+    let below = c.args.below in
+    as_short c.weighted_sum_of-right.result c.weighted_sum_of-left.result c.weighted_sum_of-right.ensures.limit c.weighted_sum_of-left.ensures.limit
+    ∙ difference_x above.0 above.1 above.2 here.0 here.1 here.2 below.0 below.1 below.2 c.weighted_sum_of-right.result c.weighted_sum_of-left.result c.weighted_sum_of-right.ensures.value c.weighted_sum_of-left.ensures.value

@@ -1,0 +1,2 @@
+pub mod Nine
+pub mod Fits
