@@ -16,12 +16,13 @@ use Rattle.object_table.specs.declared.names.Entry.{Entry}
 use Rattle.object_table.specs.Names.{changed, is_live_as, is_held, object_named as table_named, released, IsNames}
 use Rattle.object_table.specs.declared.place.Place.{Place}
 use Rattle.object_table.specs.Delay.{in_slot, object_in, with_slot, HasImage}
+use Rattle.object_table.specs.Object.{image_value}
 use Rattle.object_table.specs.Table as table
 use Rattle.client_contexts.specs.declared.refusal.Refusal.{Refusal}
 use Rattle.client_contexts.specs.declared.refusal.Refusal.TheVariants.{InvalidReference}
 use Rattle.client_contexts.specs.Context.{Named, named, object_named, with_object, without, charge_of}
 use Rattle.object_table.proofs.NamesLemmas.{changed_at}
-use Rattle.object_table.proofs.SlotLemmas.{IsObject-with_slot}
+use Rattle.object_table.proofs.SlotLemmas.{IsObject-with_slot, IsObject-object_in, image_there as slot_image_there}
 use Rattle.client_contexts.specs.Places.{entry_at, object_at, object_if_at, cell_at, IsPlace, HasImageAt, IsInContext}
 
 -- ---- a table's objects, by name
@@ -132,6 +133,13 @@ All-replaced objects place object h within is =
     let e = table.entry_at objects place.index in
     let here = h place.index table.no_object within in
     All-set IsInContext objects place.index (record e { object = with_slot place.slot object e.object }) (record { live = here.live; unused = here.unused; object = is }) h
+
+-- an image at a place is one
+pub table_image_is : (objects : List (Entry ObjectValue)) (place : Place) → All IsInContext objects → table.HasImageAt objects place → IsImage (table.image_at objects place)
+table_image_is objects place h there =
+    let object = (table.entry_at objects place.index).object in
+    let found = slot_image_there place.slot object there.image in
+    subst (λ (o : ObjectValue). IsObject o → IsImage (image_value o)) (sym found.1) (λ is. is) (IsObject-object_in place.slot object (h place.index table.no_object there.within).object found.0)
 
 -- an image that is replaced by one of its description
 pub All-written_image : (objects : List (Entry ObjectValue)) (place : Place) (image : ImageValue) → All IsInContext objects → place.index < length objects → IsImage image → description_of image ≡ description_of (table.image_at objects place) → All IsInContext (table.replaced objects place (ImageObject image))

@@ -1,27 +1,30 @@
 -- Writes and reads of images keep the limits.
 use Rattle.std.proofs.Common.{◌≡◌, true, if◌then◌else◌, List, [], ◌∷◌, Option, Some, None, IfSome, Result, Ok, Err, IfOk, refl, ap, subst}
-use Rattle.std.specs.Prelude.{All, not}
-use Rattle.std.proofs.lemmas.Bool.{cond_both, not-false}
+use Rattle.std.specs.Prelude.{All, not, nat_le, ◌&&◌, IsTrue}
+use Rattle.std.proofs.lemmas.Bool.{cond_both, not-false, and_parts, leb-true}
 use Rattle.vx_base.specs.declared.format.Format.{Format}
 use Rattle.vx_base.specs.declared.format.Format.TheVariants.{U8, S16, U32}
 use Rattle.vx_base.specs.declared.kind.Kind.TheVariants as kind
 use Rattle.vx_base.specs.Cell.{Cell}
 use Rattle.vx_base.specs.Sample.{same_format}
 use Rattle.vx_base.specs.Description.{Description, same_size}
-use Rattle.vx_base.specs.Image.{ImageValue, description_of}
+use Rattle.vx_base.specs.Rectangle.{Rectangle, is_rectangle, IsOrdered, IsWithin}
+use Rattle.vx_base.specs.Image.{ImageValue, IsImage, description_of, with_valid}
 use Rattle.vx_base.specs.Picture.{PictureValue, IsPicture, pictured}
-use Rattle.vx_base.specs.Object.{ObjectValue, ImageObject}
+use Rattle.vx_base.specs.Object.{ObjectValue, ImageObject, IsObject}
+use Rattle.vx_base.proofs.ImageLaws.{with_valid_is}
 use Rattle.vx_base.proofs.PictureLaws.{pictured_image}
+use Rattle.vx_base.proofs.RectangleLaws.{rectangle_ordered}
 use Rattle.client_contexts.specs.declared.refusal.Refusal.{Refusal}
-use Rattle.client_contexts.specs.declared.refusal.Refusal.TheVariants.{InvalidReference, InvalidType, InvalidFormat, InvalidDimension}
+use Rattle.client_contexts.specs.declared.refusal.Refusal.TheVariants.{InvalidReference, InvalidType, InvalidValue, InvalidFormat, InvalidDimension}
 use Rattle.client_contexts.specs.declared.reply.Reply.TheVariants.{Empty}
 use Rattle.client_contexts.specs.Allowance.{Allowance}
 use Rattle.client_contexts.specs.Context.{Named, Context, with_object, with_objects}
 use Rattle.client_contexts.specs.Operands.{is_unknown, is_of_other_kind, held, as_image, image_of}
-use Rattle.client_contexts.specs.Images.{picture_refusal, write_to, write_image, read_from, read_image}
+use Rattle.client_contexts.specs.Images.{query_of, query_image, picture_refusal, write_to, write_image, read_from, read_image, valid_refusal, set_valid_of, set_valid}
 use Rattle.client_contexts.specs.States.{KeepsLimits}
 use Rattle.client_contexts.proofs.OutlineLaws.{Outline, outline}
-use Rattle.client_contexts.proofs.NamedLaws.{Fits, held_fits}
+use Rattle.client_contexts.proofs.NamedLaws.{Fits, held_fits, held_is}
 use Rattle.client_contexts.proofs.StateLaws.{with_object_keeps}
 use Rattle.client_contexts.proofs.OutcomeLaws.{Keeps, unless_keeps, passed, met, same_description}
 
@@ -79,3 +82,42 @@ write_image_keeps limits c cell p h is = write_to_keeps limits (image_of c.objec
 -- a read of an image keeps the limits
 pub read_image_keeps : (limits : Allowance) (c : Context) (cell : Cell) → KeepsLimits limits c → Keeps limits (read_image c cell)
 read_image_keeps limits c cell h = read_from_keeps limits (image_of c.objects cell) c h
+
+-- a query leaves the context
+query_of_keeps : (limits : Allowance) (image : Result ImageValue Refusal) (c : Context) → KeepsLimits limits c → Keeps limits (query_of image c)
+query_of_keeps limits (Err refusal) c h = tt
+query_of_keeps limits (Ok image) c h = h
+
+-- a query of an image keeps the limits
+pub query_image_keeps : (limits : Allowance) (c : Context) (cell : Cell) → KeepsLimits limits c → Keeps limits (query_image c cell)
+query_image_keeps limits c cell h = query_of_keeps limits (image_of c.objects cell) c h
+
+-- the image that a cell names is one
+image_of_is : (limits : Allowance) (c : Context) (cell : Cell) → KeepsLimits limits c → IfOk (image_of c.objects cell) IsImage
+image_of_is limits c cell h =
+    cond_both (is_unknown c.objects cell) (Err InvalidReference) (if is_of_other_kind c.objects (cell, kind.Image) then Err InvalidType else as_image (held c.objects cell)) (λ image. IfOk image IsImage)
+    (λ unknown. tt)
+    (λ known. cond_both (is_of_other_kind c.objects (cell, kind.Image)) (Err InvalidType) (as_image (held c.objects cell)) (λ image. IfOk image IsImage)
+    (λ other. tt) (λ of_kind. if_image (held c.objects cell) (held_is c.objects cell h.objects)))
+  where
+    if_image : (object : Option ObjectValue) → IfSome object IsObject → IfOk (as_image object) IsImage
+    if_image (Some (ImageObject image)) is = is
+    if_image other is = tt
+
+-- a rectangle that isn't refused is within the image
+within_image : (image : Description) (valid : Rectangle) → valid_refusal image valid ≡ None → IsWithin valid image.width image.height
+within_image image valid h =
+    let both = and_parts (nat_le valid.x1 image.width) (nat_le valid.y1 image.height) (met (nat_le valid.x1 image.width && nat_le valid.y1 image.height) InvalidValue h) in
+    record { columns = leb-true valid.x1 image.width both.0; rows = leb-true valid.y1 image.height both.1 }
+
+-- a rectangle is set where an image was
+set_valid_of_keeps : (limits : Allowance) (image : Result ImageValue Refusal) (c : Context) (cell : Cell) (valid : Rectangle) → KeepsLimits limits c → IsOrdered valid → IfOk image IsImage → IfOk image (ImageFits c.objects cell) → Keeps limits (set_valid_of image c cell valid)
+set_valid_of_keeps limits (Err refusal) c cell valid h ordered is fits = tt
+set_valid_of_keeps limits (Ok image) c cell valid h ordered is fits =
+    unless_keeps limits (valid_refusal (description_of image) valid) Empty (with_objects c (with_object c.objects cell (ImageObject (with_valid valid image))))
+    (λ allowed. with_object_keeps limits c (cell, ImageObject (with_valid valid image)) h
+    (record { is_object = with_valid_is image valid is ordered (within_image (description_of image) valid allowed); fits = fits }))
+
+-- a rectangle that is set keeps the limits
+pub set_valid_keeps : (limits : Allowance) (c : Context) (cell : Cell) (valid : Rectangle) → KeepsLimits limits c → IsTrue (is_rectangle valid.x0 valid.y0 valid.x1 valid.y1) → Keeps limits (set_valid c cell valid)
+set_valid_keeps limits c cell valid h is = set_valid_of_keeps limits (image_of c.objects cell) c cell valid h (rectangle_ordered valid is) (image_of_is limits c cell h) (image_of_fits limits c cell h)

@@ -10,7 +10,7 @@ use Rattle.vx_base.specs.Picture.{PictureValue}
 use Rattle.object_table.specs.Delay.{new_delay}
 use Rattle.graph_verify.specs.declared.verdict.Verdict.TheVariants.{MultipleWriters}
 use Rattle.client_contexts.specs.declared.request.Request.{Request}
-use Rattle.client_contexts.specs.declared.request.Request.TheVariants.{OpenContext, ReleaseContext, CreateImage, WriteImage, ReadImage, Release, CreateLut, CreateThreshold, Immediate, CreateDelay, AgeDelay}
+use Rattle.client_contexts.specs.declared.request.Request.TheVariants.{OpenContext, ReleaseContext, CreateImage, QueryImage, WriteImage, ReadImage, SetValid, Release, CreateLut, CreateThreshold, Immediate, CreateDelay, AgeDelay}
 use Rattle.client_contexts.specs.declared.refusal.Refusal.{Refusal}
 use Rattle.client_contexts.specs.declared.refusal.Refusal.TheVariants.{InvalidReference, NoResources, Rejected}
 use Rattle.client_contexts.specs.declared.reply.Reply.{Reply}
@@ -19,7 +19,8 @@ use Rattle.client_contexts.specs.Allowance.{Allowance}
 use Rattle.client_contexts.specs.Context.{Context, State, object_named, without, with_objects, with_new, has_room}
 use Rattle.client_contexts.specs.Refusal.{Outcome, refusal_code, unless}
 use Rattle.client_contexts.specs.Operands.{image_of}
-use Rattle.client_contexts.specs.Images.{create, write_to, picture_refusal, read_from}
+use Rattle.client_contexts.specs.Images.{create, write_to, picture_refusal, read_from, query_of, valid_refusal, set_valid_of}
+use Rattle.vx_base.specs.Rectangle.{Rectangle}
 use Rattle.client_contexts.specs.Objects.{release}
 use Rattle.client_contexts.specs.Immediate.{node_refusal}
 use Rattle.client_contexts.specs.Delays.{create_like, age_named}
@@ -43,6 +44,16 @@ create_told limits c object = with_room (has_room limits c (object_bytes object)
     with_room : (room : Bool) → IsTold (if room then Ok (Name c.next, Some (with_new c object)) else Err NoResources)
     with_room true = λ code e. cc
     with_room false = tt
+
+-- a query tells what the image is like
+query_told : (image : Result ImageValue Refusal) (c : Context) → IsTold (query_of image c)
+query_told (Err refusal) c = tt
+query_told (Ok image) c = λ code e. cc
+
+-- a rectangle that is set tells nothing
+set_valid_told : (image : Result ImageValue Refusal) (c : Context) (cell : Cell) (valid : Rectangle) → IsTold (set_valid_of image c cell valid)
+set_valid_told (Err refusal) c cell valid = tt
+set_valid_told (Ok image) c cell valid = unless_told (valid_refusal (description_of image) valid) Empty _ (λ code e. cc)
 
 -- a write tells nothing
 write_told : (image : Result ImageValue Refusal) (c : Context) (cell : Cell) (p : PictureValue) → IsTold (write_to image c cell p)
@@ -78,8 +89,10 @@ pub outcome_told : (limits : Allowance) (c : Context) (request : Request) → Is
 outcome_told limits c OpenContext = tt
 outcome_told limits c ReleaseContext = λ code e. cc
 outcome_told limits c (CreateImage d) = create_told limits c (ImageObject (new_image d.width d.height d.format))
+outcome_told limits c (QueryImage cell) = query_told (image_of c.objects cell) c
 outcome_told limits c (WriteImage cell p) = write_told (image_of c.objects cell) c cell p
 outcome_told limits c (ReadImage cell) = read_told (image_of c.objects cell) c
+outcome_told limits c (SetValid cell valid) = set_valid_told (image_of c.objects cell) c cell valid
 outcome_told limits c (Release name) = release_told c name
 outcome_told limits c (CreateLut lut) = create_told limits c (LutObject lut)
 outcome_told limits c (CreateThreshold threshold) = create_told limits c (ThresholdObject threshold)

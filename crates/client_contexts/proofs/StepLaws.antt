@@ -6,7 +6,7 @@ use Rattle.vx_base.specs.Image.{new_image}
 use Rattle.vx_base.specs.Object.{ImageObject, LutObject, ThresholdObject}
 use Rattle.vx_base.proofs.ImageLaws.{new_image_is}
 use Rattle.client_contexts.specs.declared.request.Request.{Request}
-use Rattle.client_contexts.specs.declared.request.Request.TheVariants.{OpenContext, ReleaseContext, CreateImage, WriteImage, ReadImage, Release, CreateLut, CreateThreshold, Immediate, CreateDelay, AgeDelay}
+use Rattle.client_contexts.specs.declared.request.Request.TheVariants.{OpenContext, ReleaseContext, CreateImage, QueryImage, WriteImage, ReadImage, SetValid, Release, CreateLut, CreateThreshold, Immediate, CreateDelay, AgeDelay}
 use Rattle.client_contexts.specs.Allowance.{Allowance}
 use Rattle.client_contexts.specs.Context.{Context, State}
 use Rattle.client_contexts.specs.Request.{IsRequest}
@@ -15,7 +15,7 @@ use Rattle.client_contexts.specs.Answer.{outcome_of, answered, answer_to}
 use Rattle.client_contexts.specs.States.{KeepsLimits, state_after}
 use Rattle.client_contexts.proofs.StateLaws.{new_context_keeps}
 use Rattle.client_contexts.proofs.OutcomeLaws.{StateKeeps, Keeps, create_keeps, release_keeps}
-use Rattle.client_contexts.proofs.ImageStepLaws.{write_image_keeps, read_image_keeps}
+use Rattle.client_contexts.proofs.ImageStepLaws.{query_image_keeps, write_image_keeps, read_image_keeps, set_valid_keeps}
 use Rattle.client_contexts.proofs.DelayStepLaws.{create_delay_keeps, age_delay_keeps}
 use Rattle.client_contexts.proofs.NodeStepLaws.{immediate_keeps}
 
@@ -24,8 +24,10 @@ pub outcome_keeps : (limits : Allowance) (c : Context) (request : Request) → K
 outcome_keeps limits c OpenContext h is = tt
 outcome_keeps limits c ReleaseContext h is = tt
 outcome_keeps limits c (CreateImage d) h is = create_keeps limits c (ImageObject (new_image d.width d.height d.format)) h (new_image_is d.width d.height d.format)
+outcome_keeps limits c (QueryImage cell) h is = query_image_keeps limits c cell h
 outcome_keeps limits c (WriteImage cell p) h is = write_image_keeps limits c cell p h is.1
 outcome_keeps limits c (ReadImage cell) h is = read_image_keeps limits c cell h
+outcome_keeps limits c (SetValid cell valid) h is = set_valid_keeps limits c cell valid h is.1.bounds
 outcome_keeps limits c (Release name) h is = release_keeps limits c name h
 outcome_keeps limits c (CreateLut lut) h is = create_keeps limits c (LutObject lut) h is
 outcome_keeps limits c (CreateThreshold threshold) h is = create_keeps limits c (ThresholdObject threshold) h is

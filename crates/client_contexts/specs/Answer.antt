@@ -3,14 +3,14 @@ use Rattle.std.specs.Prelude.{Some, None, Ok, Err}
 use Rattle.vx_base.specs.declared.code.Code.TheVariants as code
 use Rattle.vx_base.specs.Object.{LutObject, ThresholdObject}
 use Rattle.client_contexts.specs.declared.request.Request.{Request}
-use Rattle.client_contexts.specs.declared.request.Request.TheVariants.{OpenContext, ReleaseContext, CreateImage, WriteImage, ReadImage, Release, CreateLut, CreateThreshold, Immediate, CreateDelay, AgeDelay}
+use Rattle.client_contexts.specs.declared.request.Request.TheVariants.{OpenContext, ReleaseContext, CreateImage, QueryImage, WriteImage, ReadImage, SetValid, Release, CreateLut, CreateThreshold, Immediate, CreateDelay, AgeDelay}
 use Rattle.client_contexts.specs.declared.refusal.Refusal.TheVariants.{InvalidValue}
 use Rattle.client_contexts.specs.declared.reply.Reply.{Reply}
 use Rattle.client_contexts.specs.declared.reply.Reply.TheVariants.{Refused, Empty}
 use Rattle.client_contexts.specs.Allowance.{Allowance}
 use Rattle.client_contexts.specs.Context.{Context, State, new_context}
 use Rattle.client_contexts.specs.Refusal.{Outcome, refusal_code}
-use Rattle.client_contexts.specs.Images.{create, create_image, write_image, read_image}
+use Rattle.client_contexts.specs.Images.{create, create_image, query_image, write_image, read_image, set_valid}
 use Rattle.client_contexts.specs.Objects.{release}
 use Rattle.client_contexts.specs.Immediate.{immediate}
 use Rattle.client_contexts.specs.Delays.{create_delay, age_delay}
@@ -20,8 +20,10 @@ abbrev pub outcome_of : Allowance → Context → Request → Outcome
 outcome_of limits c OpenContext = Err InvalidValue
 outcome_of limits c ReleaseContext = Ok (Empty, None)
 outcome_of limits c (CreateImage d) = create_image limits c d
+outcome_of limits c (QueryImage cell) = query_image c cell
 outcome_of limits c (WriteImage cell p) = write_image c cell p
 outcome_of limits c (ReadImage cell) = read_image c cell
+outcome_of limits c (SetValid cell valid) = set_valid c cell valid
 outcome_of limits c (Release name) = release c name
 outcome_of limits c (CreateLut lut) = create limits c (LutObject lut)
 outcome_of limits c (CreateThreshold threshold) = create limits c (ThresholdObject threshold)

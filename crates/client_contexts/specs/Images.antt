@@ -1,13 +1,16 @@
 -- Requests that make objects, and those on the samples of images.
-use Rattle.std.specs.Prelude.{not, Option, Some, None, Result, Ok, Err, if◌then◌else◌}
+use Rattle.std.specs.Prelude.{not, nat_le, ◌&&◌, Option, Some, None, Result, Ok, Err, if◌then◌else◌}
 use Rattle.vx_base.specs.Cell.{Cell}
 use Rattle.vx_base.specs.Sample.{same_format}
 use Rattle.vx_base.specs.Description.{Description, same_size}
-use Rattle.vx_base.specs.Image.{ImageValue, new_image, description_of}
+use Rattle.vx_base.specs.Rectangle.{Rectangle}
+use Rattle.vx_base.specs.Image.{ImageValue, new_image, description_of, with_valid}
 use Rattle.vx_base.specs.Picture.{PictureValue, picture_of, pictured}
 use Rattle.vx_base.specs.Object.{ObjectValue, ImageObject, object_bytes}
 use Rattle.client_contexts.specs.declared.refusal.Refusal.{Refusal}
-use Rattle.client_contexts.specs.declared.refusal.Refusal.TheVariants.{InvalidFormat, InvalidDimension, NoResources}
+use Rattle.client_contexts.specs.declared.refusal.Refusal.TheVariants.{InvalidFormat, InvalidDimension, InvalidValue, NoResources}
+use Rattle.client_contexts.specs.declared.reply.Described.{Described}
+use Rattle.client_contexts.specs.declared.reply.Reply.TheVariants as reply
 use Rattle.client_contexts.specs.declared.reply.Reply.TheVariants.{Empty, Name, Picture}
 use Rattle.client_contexts.specs.Allowance.{Allowance}
 use Rattle.client_contexts.specs.Context.{Context, with_object, with_new, with_objects, has_room}
@@ -21,6 +24,17 @@ create limits c object = if has_room limits c (object_bytes object) then Ok (Nam
 -- CreateImage: an image that is 0 everywhere
 abbrev pub create_image : Allowance → Context → Description → Outcome
 create_image limits c d = create limits c (ImageObject (new_image d.width d.height d.format))
+
+-- QueryImage: the format, the size and the valid rectangle
+abbrev pub described : ImageValue → Described
+described image = record { format = Some image.format; width = image.width; height = image.height; valid = image.valid }
+
+abbrev pub query_of : Result ImageValue Refusal → Context → Outcome
+query_of (Err refusal) c = Err refusal
+query_of (Ok image) c = Ok (reply.Described (described image), Some c)
+
+abbrev pub query_image : Context → Cell → Outcome
+query_image c cell = query_of (image_of c.objects cell) c
 
 -- why a picture can't be written to an image: another format, or another size
 abbrev pub picture_refusal : Description → Description → Option Refusal
@@ -44,3 +58,16 @@ read_from (Ok image) c = Ok (Picture (picture_of image), Some c)
 
 abbrev pub read_image : Context → Cell → Outcome
 read_image c cell = read_from (image_of c.objects cell) c
+
+-- why a rectangle can't be an image's valid one: it has places beyond the image
+abbrev pub valid_refusal : Description → Rectangle → Option Refusal
+valid_refusal image valid = if nat_le valid.x1 image.width && nat_le valid.y1 image.height then None else Some InvalidValue
+
+-- SetValid: the image with this valid rectangle, 0 outside it
+abbrev pub set_valid_of : Result ImageValue Refusal → Context → Cell → Rectangle → Outcome
+set_valid_of (Err refusal) c cell valid = Err refusal
+set_valid_of (Ok image) c cell valid =
+    unless (valid_refusal (description_of image) valid) Empty (with_objects c (with_object c.objects cell (ImageObject (with_valid valid image))))
+
+abbrev pub set_valid : Context → Cell → Rectangle → Outcome
+set_valid c cell valid = set_valid_of (image_of c.objects cell) c cell valid

@@ -1,7 +1,8 @@
 //! The context of a client: its objects, their names and their charge.
 ghost use Rattle.std.specs.Prelude.{◌≡◌, ◌*◌, ◌<◌, ◌≤◌, ◌==◌, is_none, if◌then◌else◌, None, Ok, Err, length, position, IfOk, OnOk, OnErr};
 ghost use Rattle.vx_base.specs.declared.kind.Kind.TheVariants as kind;
-ghost use Rattle.vx_base.specs.Image.{IsImage, description_of};
+ghost use Rattle.vx_base.specs.Rectangle.{IsWithin};
+ghost use Rattle.vx_base.specs.Image.{IsImage, description_of, with_valid};
 ghost use Rattle.vx_base.specs.Object.{ImageObject, IsObject, object_kind};
 ghost use Rattle.vx_base.specs.Outputs.{written_by};
 ghost use Rattle.vx_base.specs.Picture.{pictured};
@@ -20,7 +21,7 @@ use crate::run::run_at;
 use object_table::{Object, Place, Stored, Table};
 use std::alloc::Global;
 use std::marker::Model;
-use vx_base::{Node, Picture};
+use vx_base::{Node, Picture, Rect};
 
 /// The objects of a client in the order of their names, and the name that comes next. Each of their
 /// names is live, and each image has all its samples.
@@ -129,6 +130,16 @@ impl Context {
         ensures { self.new ≡ with_objects self.old (with_object self.old.objects (cell_at self.old.objects place) (ImageObject (pictured picture.now))) }
     {
         self.table.write(place, picture);
+    }
+
+    /// Makes these places of the image at a place the valid ones, and each sample outside them 0.
+    pub fn set_valid(&mut self, place: Place, valid: Rect)
+        requires there { HasImageAt self.old.objects place }
+        requires room { IsWithin valid (image_at self.old.objects place).width (image_at self.old.objects place).height }
+        ensures { self.new ≡ with_objects self.old (with_object self.old.objects (cell_at self.old.objects place) (ImageObject (with_valid valid (image_at self.old.objects place)))) }
+    {
+        valid.is_rectangle();
+        self.table.set_valid(place, valid);
     }
 
     /// Ages the delay at an index.

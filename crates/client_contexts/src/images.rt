@@ -1,6 +1,7 @@
-//! Requests on images: creating, writing and reading them.
+//! Requests on images: creating and querying them, writing and reading their samples, and making
+//! a part of them valid.
 ghost use Rattle.std.specs.Prelude.{◌≡◌};
-ghost use Rattle.client_contexts.specs.Images.{create_image, write_image, read_image, picture_refusal};
+ghost use Rattle.client_contexts.specs.Images.{create_image, query_image, write_image, read_image, set_valid, picture_refusal, valid_refusal};
 ghost use Rattle.client_contexts.specs.Steps.{ComesTo, MayComeTo};
 
 use crate::context::Context;
@@ -8,10 +9,10 @@ use crate::fault::RequestFault;
 use crate::limits::Limits;
 use crate::lookup::find;
 use crate::refusal::Refusal;
-use crate::reply::Reply;
+use crate::reply::{Described, Reply};
 use object_table::{Content, Object, Stored};
 use std::alloc::Global;
-use vx_base::{Desc, Kind, ObjRef, Picture};
+use vx_base::{Desc, Kind, ObjRef, Picture, Rect};
 
 /// Creates an image that is 0 everywhere and wholly valid.
 pub fn create_image(
@@ -24,6 +25,21 @@ pub fn create_image(
     context.look_for_room(limits, desc.byte_count())?;
     let image = Stored::new(context.allocator(), desc)?;
     Ok(Reply::Name(context.add(Object::new(Content::Image(image)))?))
+}
+
+/// The format, the size and the valid rectangle of an image.
+pub fn query_image(context: &Context, reference: ObjRef) -> Result<Reply, Refusal>
+    ensures { ComesTo (query_image context.now reference) context.now context.now result }
+{
+    let place = find(context, reference, Kind::Image)?;
+    let image = context.image_at(place);
+    let desc = image.desc();
+    Ok(Reply::Described(Described {
+        format: Some(desc.format()),
+        width: desc.width(),
+        height: desc.height(),
+        valid: image.valid(),
+    }))
 }
 
 /// Why a picture can't be written to an image of this description. `None` where it can.
@@ -67,4 +83,28 @@ pub fn read_image(
     let place = find(context, reference, Kind::Image)?;
     let image = context.image_at(place);
     Ok(Reply::Picture(image.picture(alloc)?))
+}
+
+/// Why a rectangle can't be the valid one of an image of this description. `None` where it can.
+fn valid_refusal(image: Desc, valid: Rect) -> Option<Refusal>
+    ensures { result ≡ valid_refusal image valid }
+{
+    if valid.x1() <= image.width() && valid.y1() <= image.height() {
+        None
+    } else {
+        Some(Refusal::InvalidValue)
+    }
+}
+
+/// Makes this the valid rectangle of an image, and each sample outside it 0.
+pub fn set_valid(context: &mut Context, reference: ObjRef, valid: Rect) -> Result<Reply, Refusal>
+    ensures { ComesTo (set_valid context.old reference valid) context.old context.new result }
+{
+    let place = find(context, reference, Kind::Image)?;
+    let desc = context.image_at(place).desc();
+    if let Some(refusal) = valid_refusal(desc, valid) {
+        return Err(refusal);
+    }
+    context.set_valid(place, valid);
+    Ok(Reply::Empty)
 }

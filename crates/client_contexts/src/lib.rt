@@ -13,7 +13,8 @@
 //! - `context`: the objects of a client, with the names and the charge
 //! - `places`, `lookup`, `run`: where the operands of a node stand, how they are found, and how the
 //!   node runs on them
-//! - the requests by family: `images` (to create, write and read them), `objects` (to release any),
+//! - the requests by family: `images` (to create, query, write and
+//!   read them, and to make a part valid), `objects` (to release any),
 //!   `tables` (to create lookup tables and thresholds), `immediate` (nodes that run at once),
 //!   `delays` (to create and age them)
 //! - `runtime`: all clients; contexts are opened and released there
@@ -40,6 +41,6 @@ mod tables;
 
 pub use limits::Limits;
 pub use memory::NoMemory;
-pub use reply::Reply;
+pub use reply::{Described, Reply};
 pub use request::Request;
 pub use runtime::Runtime;

@@ -1,5 +1,15 @@
 //! Replies to clients.
-use vx_base::{Code, Picture};
+use vx_base::{Code, Format, Picture, Rect};
+
+/// What is told of an image: its format, its width and height, and its valid rectangle.
+#[derive(Clone, Copy, PartialEq, Eq, Debug)]
+pub struct Described {
+    /// `None` where it is open; of every image of today it is known.
+    pub format: Option<Format>,
+    pub width: u16,
+    pub height: u16,
+    pub valid: Rect,
+}
 
 /// What a client is answered.
 #[derive(Debug, Drop)]
@@ -10,6 +20,8 @@ pub enum Reply {
     Empty,
     /// The name of what was made.
     Name(u32),
+    /// What an image is like.
+    Described(Described),
     /// The samples of an image.
     Picture(Picture),
 }

@@ -1,5 +1,5 @@
 //! Requests of clients.
-use vx_base::{Desc, Lut, NodeSpec, ObjRef, Picture, SlotCount, ThresholdRule};
+use vx_base::{Desc, Lut, NodeSpec, ObjRef, Picture, Rect, SlotCount, ThresholdRule};
 
 /// What a client asks for.
 #[derive(Debug, Drop)]
@@ -10,10 +10,14 @@ pub enum Request {
     ReleaseContext,
     /// Makes an image that is 0 everywhere and wholly valid.
     CreateImage(Desc),
+    /// Asks for the size, the format and the valid rectangle of an image.
+    QueryImage(ObjRef),
     /// Writes all samples of an image, which becomes wholly valid.
     WriteImage(ObjRef, Picture),
     /// Asks for all samples of an image.
     ReadImage(ObjRef),
+    /// Makes this the valid rectangle of an image, whose samples outside it become 0.
+    SetValid(ObjRef, Rect),
     /// Drops the object with this name.
     Release(u32),
     /// Makes a lookup table.

@@ -10,7 +10,7 @@ ghost use Rattle.client_contexts.specs.Steps.{MayComeTo, WantsMemory};
 use crate::context::Context;
 use crate::delays::{age_delay, create_delay};
 use crate::fault::RequestFault;
-use crate::images::{create_image, read_image, write_image};
+use crate::images::{create_image, query_image, read_image, set_valid, write_image};
 use crate::immediate::run_at_once;
 use crate::limits::Limits;
 use crate::memory::NoMemory;
@@ -117,8 +117,10 @@ fn answer(
         Request::OpenContext => Err(RequestFault::Refused(Refusal::InvalidValue)),
         Request::ReleaseContext => unreachable!(),
         Request::CreateImage(desc) => create_image(context, limits, *desc),
+        Request::QueryImage(reference) => Ok(query_image(context, *reference)?),
         Request::WriteImage(reference, picture) => Ok(write_image(context, *reference, picture)?),
         Request::ReadImage(reference) => read_image(context, alloc, *reference),
+        Request::SetValid(reference, valid) => Ok(set_valid(context, *reference, *valid)?),
         Request::Release(name) => Ok(release(context, *name)?),
         Request::CreateLut(lut) => create_lut(context, limits, lut),
         Request::CreateThreshold(threshold) => create_threshold(context, limits, *threshold),

@@ -1,10 +1,11 @@
 -- Images that are stored.
-use Rattle.std.proofs.Common.{◌≡◌, ℕ, pos, replicate, ap, ◌∙◌, sym}
+use Rattle.std.proofs.Common.{◌≡◌, ℕ, ℤ, List, pos, replicate, ap, ◌∙◌, sym}
 use Rattle.vx_base.specs.declared.samples.Samples.{Samples}
 use Rattle.vx_base.specs.Rectangle.{Rectangle, whole}
 use Rattle.vx_base.specs.Description.{Description, sample_count}
-use Rattle.vx_base.specs.Image.{new_image, image_over}
+use Rattle.vx_base.specs.Image.{new_image, image_over, table, within, with_valid}
 use Rattle.vx_base.specs.Picture.{values}
+use Rattle.image_core.specs.Rows.{sample_at}
 use Rattle.vx_base.proofs.ZeroLaws.{samples-new_image}
 
 -- samples that are all 0 make a new image
@@ -13,3 +14,9 @@ pub zeros_are_new : (d : Description) (area : Rectangle) (samples : Samples) (co
 zeros_are_new d area samples count all long zero =
     ap (λ r. image_over d r (values samples)) all
     ∙ ap (image_over d (whole d.width d.height)) (zero ∙ ap (λ n. replicate n (pos 0)) long ∙ sym (samples-new_image d.width d.height d.format))
+
+-- samples that are cleared outside a rectangle make the image with that valid rectangle
+pub cleared_is : (d : Description) (valid old : Rectangle) (samples out : List ℤ) (width height : ℕ) → width ≡ d.width → height ≡ d.height → out ≡ table width height (within valid (sample_at width samples)) → image_over d valid out ≡ with_valid valid (image_over d old samples)
+cleared_is d valid old samples out width height wide high is =
+    ap (image_over d valid)
+    (is ∙ ap (λ n. table n height (within valid (sample_at n samples))) wide ∙ ap (λ n. table d.width n (within valid (sample_at d.width samples))) high)

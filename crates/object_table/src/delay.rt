@@ -1,7 +1,8 @@
 //! Delays: images in slots.
 ghost use Rattle.std.specs.Prelude.{◌≡◌, ◌<◌, ◌≤◌, ◌*◌, [], length, slice_get, slice_index_or, slice_set, sum_by, Some, None, IfOk, IfErr};
 ghost use Rattle.vx_base.specs.declared.format.Format.TheVariants.{U8};
-ghost use Rattle.vx_base.specs.Image.{ImageValue, IsImage, new_image, image_over, description_of};
+ghost use Rattle.vx_base.specs.Rectangle.{IsWithin};
+ghost use Rattle.vx_base.specs.Image.{ImageValue, IsImage, new_image, image_over, description_of, with_valid};
 ghost use Rattle.vx_base.specs.Object.{IsDelay, image_bytes};
 ghost use Rattle.vx_base.specs.Picture.{values, samples_format, pictured};
 ghost use Rattle.object_table.specs.declared.fault.TableFault.TheVariants.{InvalidValue};
@@ -81,6 +82,18 @@ impl Delay {
     {
         let image = &mut self.images[usize::from(k)];
         image.write(picture);
+    }
+
+    /// Makes these places of the image in a slot the valid ones, and each sample outside them 0.
+    pub fn set_valid(&mut self, k: u8, valid: Rect)
+        requires within { k < length self.old }
+        requires image { IsImage (image_in self.old k) }
+        requires room { IsWithin valid (image_in self.old k).width (image_in self.old k).height }
+        ensures value { self.new ≡ slice_set self.old k (with_valid valid (image_in self.old k)) }
+        ensures bytes { sum_by image_bytes self.new ≡ sum_by image_bytes self.old }
+    {
+        let image = &mut self.images[usize::from(k)];
+        image.set_valid(valid);
     }
 
     /// Takes out the samples of the image in a slot; `put` brings them back.

@@ -1,7 +1,8 @@
 //! Objects that a client holds.
 ghost use Rattle.std.specs.Prelude.{◌≡◌, ◌≤◌, ◌*◌, [], is_some};
 ghost use Rattle.vx_base.specs.declared.kind.Kind.TheVariants as kind;
-ghost use Rattle.vx_base.specs.Image.{IsImage, description_of};
+ghost use Rattle.vx_base.specs.Rectangle.{IsWithin};
+ghost use Rattle.vx_base.specs.Image.{IsImage, description_of, with_valid};
 ghost use Rattle.vx_base.specs.Object.{ImageObject, DelayObject, IsObject, object_bytes, object_kind};
 ghost use Rattle.vx_base.specs.Picture.{values, samples_format, pictured};
 ghost use Rattle.object_table.specs.Delay.{in_slot, object_in, slot_kind, with_slot, HasImage};
@@ -119,6 +120,21 @@ impl Object {
         match (slot, &mut self.content) {
             (None, Content::Image(image)) => image.write(picture),
             (Some(k), Content::Delay(delay)) => delay.write(k, picture),
+            _ => unreachable!(),
+        }
+    }
+
+    /// Makes these places of the image there the valid ones, and each sample outside them 0.
+    pub fn set_valid(&mut self, slot: Option<u8>, valid: Rect)
+        requires there { HasImage slot self.old }
+        requires object { IsObject self.old }
+        requires room { IsWithin valid (image_value (object_in slot self.old)).width (image_value (object_in slot self.old)).height }
+        ensures value { self.new ≡ with_slot slot (ImageObject (with_valid valid (image_value (object_in slot self.old)))) self.old }
+        ensures bytes { object_bytes self.new ≡ object_bytes self.old }
+    {
+        match (slot, &mut self.content) {
+            (None, Content::Image(image)) => image.set_valid(valid),
+            (Some(k), Content::Delay(delay)) => delay.set_valid(k, valid),
             _ => unreachable!(),
         }
     }

@@ -1,9 +1,10 @@
 //! Images that a context holds.
 ghost use Rattle.std.specs.Prelude.{◌≡◌, [], IfOk};
-ghost use Rattle.vx_base.specs.Image.{IsImage, new_image, image_over, description_of};
+ghost use Rattle.vx_base.specs.Rectangle.{IsWithin};
+ghost use Rattle.vx_base.specs.Image.{IsImage, new_image, image_over, description_of, with_valid};
 ghost use Rattle.vx_base.specs.Picture.{values, samples_format, picture_of, pictured};
 
-use image_core::Image;
+use image_core::{Image, clear_rows};
 use std::alloc::{AllocError, Global};
 use std::marker::Model;
 use vx_base::{Desc, Picture, Rect, Samples};
@@ -49,6 +50,13 @@ impl Stored {
         self.desc
     }
 
+    /// The places that are valid.
+    pub fn valid(&self) -> Rect
+        ensures { result ≡ self.now.valid }
+    {
+        self.valid
+    }
+
     /// The samples of all places.
     pub fn picture(&self, alloc: Global) -> Result<Picture, AllocError>
         requires { IsImage self.now }
@@ -78,6 +86,21 @@ impl Stored {
     {
         self.valid = self.desc.whole();
         self.samples.copy_from(picture.samples());
+    }
+
+    /// Makes these places the valid ones, and each sample outside them 0.
+    pub fn set_valid(&mut self, valid: Rect)
+        requires image { IsImage self.old }
+        requires room { IsWithin valid self.old.width self.old.height }
+        ensures { self.new ≡ with_valid valid self.old }
+    {
+        let (width, height) = (self.desc.width(), self.desc.height());
+        match &mut self.samples {
+            Samples::U8(samples) => clear_rows(valid, width, height, samples),
+            Samples::S16(samples) => clear_rows(valid, width, height, samples),
+            Samples::U32(samples) => clear_rows(valid, width, height, samples),
+        }
+        self.valid = valid;
     }
 
     /// Takes the samples out, so that they can be written while other images are read; `put` brings

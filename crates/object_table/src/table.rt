@@ -2,7 +2,8 @@
 ghost use Rattle.std.specs.Prelude.{◌≡◌, ◌+◌, ◌*◌, ◌<◌, ◌≤◌, IsTrue, unwrap_or, is_none, Some, None, [], if◌then◌else◌, length, position, Any, All, IfOk, IfErr, OnOk, OnErr, Ok, Err};
 ghost use Rattle.std.specs.Option.{option_map};
 ghost use Rattle.vx_base.specs.declared.kind.Kind.TheVariants as kind;
-ghost use Rattle.vx_base.specs.Image.{IsImage, description_of};
+ghost use Rattle.vx_base.specs.Rectangle.{IsWithin};
+ghost use Rattle.vx_base.specs.Image.{IsImage, description_of, with_valid};
 ghost use Rattle.vx_base.specs.Object.{ImageObject, IsObject, object_bytes, object_kind};
 ghost use Rattle.vx_base.specs.Picture.{values, samples_format, pictured};
 ghost use Rattle.object_table.specs.declared.fault.TableFault.TheVariants.{InvalidReference, NoMemory, NoResources};
@@ -187,6 +188,18 @@ impl Table {
     {
         let entry = &mut self.names.entries[place.index];
         entry.object.write(place.slot, picture);
+    }
+
+    /// Makes these places of the image at a place the valid ones, and each sample outside them 0.
+    pub fn set_valid(&mut self, place: Place, valid: Rect)
+        requires there { HasImageAt self.old.objects place }
+        requires object { IsObject (entry_at self.old.objects place.index).object }
+        requires room { IsWithin valid (image_at self.old.objects place).width (image_at self.old.objects place).height }
+        ensures value { self.new ≡ with_objects self.old (replaced self.old.objects place (ImageObject (with_valid valid (image_at self.old.objects place)))) }
+        ensures names { IsNames self.old.next self.old.objects }
+    {
+        let entry = &mut self.names.entries[place.index];
+        entry.object.set_valid(place.slot, valid);
     }
 
     /// Takes out the samples of the image at a place, so that they can be written while other
