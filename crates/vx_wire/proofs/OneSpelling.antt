@@ -3,7 +3,7 @@ use Rattle.std.proofs.Common.{◌≡◌, ℕ, List, [], ◌∷◌, ◌++◌, Opt
 use Rattle.std.specs.Int.{w32, to_be_bytes}
 use Rattle.vx_base.specs.Cell.{Cell}
 use Rattle.client_contexts.specs.declared.request.Request.{Request}
-use Rattle.client_contexts.specs.declared.request.Request.TheVariants.{OpenContext, ReleaseContext, CreateImage, WriteImage, ReadImage, Release, CreateLut, CreateThreshold, Immediate, CreateDelay, AgeDelay}
+use Rattle.client_contexts.specs.declared.request.Request.TheVariants.{OpenContext, ReleaseContext, CreateImage, QueryImage, WriteImage, ReadImage, SetValid, Release, CreateLut, CreateThreshold, Immediate, CreateDelay, AgeDelay}
 use Rattle.vx_wire.specs.declared.body_fault.BodyFault.{BodyFault}
 use Rattle.vx_wire.specs.declared.op.Op.{Op}
 use Rattle.vx_wire.specs.declared.op.Op.TheVariants as kinds
@@ -17,14 +17,15 @@ use Rattle.vx_wire.specs.Lut.{take_lut, lut_bytes}
 use Rattle.vx_wire.specs.Threshold.{take_threshold, threshold_bytes}
 use Rattle.vx_wire.specs.Node.{take_node}
 use Rattle.vx_wire.specs.Slots.{take_slots}
+use Rattle.vx_wire.specs.Rectangle.{take_rectangle, rectangle_bytes}
 use Rattle.vx_wire.specs.Contexts.{open_context_in, release_context_in}
-use Rattle.vx_wire.specs.Images.{create_image_in, write_image_in, read_image_in}
+use Rattle.vx_wire.specs.Images.{create_image_in, query_image_in, write_image_in, read_image_in, set_valid_in}
 use Rattle.vx_wire.specs.Objects.{release_in}
 use Rattle.vx_wire.specs.Tables.{create_lut_in, create_threshold_in}
 use Rattle.vx_wire.specs.Immediate.{immediate_in}
 use Rattle.vx_wire.specs.Delays.{create_delay_in, age_delay_in}
 use Rattle.vx_wire.proofs.Numbers.{number_is}
-use Rattle.vx_wire.proofs.ReadFields.{AllBytes, then_of, long_of, description_of, cell_of, slots_of}
+use Rattle.vx_wire.proofs.ReadFields.{AllBytes, then_of, long_of, description_of, cell_of, rectangle_of, slots_of}
 use Rattle.vx_wire.proofs.ReadSamples.{picture_of}
 use Rattle.vx_wire.proofs.ReadObjects.{lut_of, threshold_of}
 use Rattle.vx_wire.proofs.ReadNode.{node_of}
@@ -57,6 +58,13 @@ create_of body request is e =
     let (body_is, d_is, is1) = description_of body d rest is is_d in
     subst (Spelled kinds.CreateImage body) same (record { op_is = refl; body_is = body_is ∙ ap (λ l. description_bytes d ++ l) empty; within = d_is })
 
+query_of : (body : List ℕ) (request : Request) → AllBytes body → query_image_in body ≡ Ok request → Spelled kinds.QueryImage body request
+query_of body request is e =
+    let (cell, rest, is_cell, e1) = then_of (take_reference body) (λ cell rest. at_end (QueryImage cell) rest) request e in
+    let (same, empty) = end_of (QueryImage cell) request rest e1 in
+    let (body_is, cell_is, is1) = cell_of body cell rest is is_cell in
+    subst (Spelled kinds.QueryImage body) same (record { op_is = refl; body_is = body_is ∙ ap (λ l. reference_bytes cell ++ l) empty; within = cell_is })
+
 write_of : (body : List ℕ) (request : Request) → AllBytes body → write_image_in body ≡ Ok request → Spelled kinds.WriteImage body request
 write_of body request is e =
     let next : Cell → List ℕ → Result Request BodyFault = λ cell rest. and_then (take_picture rest) (λ p rest. at_end (WriteImage cell p) rest) in
@@ -74,6 +82,17 @@ read_of body request is e =
     let (same, empty) = end_of (ReadImage cell) request rest e1 in
     let (body_is, cell_is, is1) = cell_of body cell rest is is_cell in
     subst (Spelled kinds.ReadImage body) same (record { op_is = refl; body_is = body_is ∙ ap (λ l. reference_bytes cell ++ l) empty; within = cell_is })
+
+set_valid_of : (body : List ℕ) (request : Request) → AllBytes body → set_valid_in body ≡ Ok request → Spelled kinds.SetValid body request
+set_valid_of body request is e =
+    let next : Cell → List ℕ → Result Request BodyFault = λ cell rest. and_then (take_rectangle rest) (λ r rest. at_end (SetValid cell r) rest) in
+    let (cell, rest, is_cell, e1) = then_of (take_reference body) next request e in
+    let (r, rest1, is_r, e2) = then_of (take_rectangle rest) (λ r rest. at_end (SetValid cell r) rest) request e1 in
+    let (same, empty) = end_of (SetValid cell r) request rest1 e2 in
+    let (body_is, cell_is, is1) = cell_of body cell rest is is_cell in
+    let (rest_is, fits, is2) = rectangle_of rest r rest1 is1 is_r in
+    let no_more : rectangle_bytes r ++ rest1 ≡ rectangle_bytes r = ap (λ l. rectangle_bytes r ++ l) empty in
+    subst (Spelled kinds.SetValid body) same (record { op_is = refl; body_is = body_is ∙ ap (λ l. reference_bytes cell ++ l) (rest_is ∙ no_more); within = (cell_is, fits) })
 
 release_of : (body : List ℕ) (request : Request) → AllBytes body → release_in body ≡ Ok request → Spelled kinds.Release body request
 release_of body request is e =
@@ -125,8 +144,10 @@ with_op : (op : Op) (body : List ℕ) (request : Request) → AllBytes body → 
 with_op kinds.OpenContext body request is e = open_of body request e
 with_op kinds.ReleaseContext body request is e = release_context_of body request e
 with_op kinds.CreateImage body request is e = create_of body request is e
+with_op kinds.QueryImage body request is e = query_of body request is e
 with_op kinds.WriteImage body request is e = write_of body request is e
 with_op kinds.ReadImage body request is e = read_of body request is e
+with_op kinds.SetValid body request is e = set_valid_of body request is e
 with_op kinds.Release body request is e = release_of body request is e
 with_op kinds.CreateLut body request is e = create_lut_of body request is e
 with_op kinds.CreateThreshold body request is e = create_threshold_of body request is e

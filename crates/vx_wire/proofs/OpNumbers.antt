@@ -1,7 +1,7 @@
 -- Each op has a number of its own.
 use Rattle.std.proofs.Common.{◌≡◌, Some, refl}
 use Rattle.vx_wire.specs.declared.op.Op.{Op}
-use Rattle.vx_wire.specs.declared.op.Op.TheVariants.{OpenContext, ReleaseContext, CreateImage, WriteImage, ReadImage, Release, CreateLut, CreateThreshold, Immediate, CreateDelay, AgeDelay}
+use Rattle.vx_wire.specs.declared.op.Op.TheVariants.{OpenContext, ReleaseContext, CreateImage, QueryImage, WriteImage, ReadImage, SetValid, Release, CreateLut, CreateThreshold, Immediate, CreateDelay, AgeDelay}
 use Rattle.vx_wire.specs.Op.{op_number, op_numbered}
 
 -- the op with an op's number is that op
@@ -9,8 +9,10 @@ pub op_back : (op : Op) → op_numbered (op_number op) ≡ Some op
 op_back OpenContext = refl
 op_back ReleaseContext = refl
 op_back CreateImage = refl
+op_back QueryImage = refl
 op_back WriteImage = refl
 op_back ReadImage = refl
+op_back SetValid = refl
 op_back Release = refl
 op_back CreateLut = refl
 op_back CreateThreshold = refl

@@ -9,6 +9,7 @@ use Rattle.vx_base.specs.declared.format.Format.TheVariants.{U8, S16, U32}
 use Rattle.vx_base.specs.Cell.{Cell, IsCell}
 use Rattle.vx_base.specs.Description.{Description, is_side, IsDescription}
 use Rattle.vx_base.specs.Slots.{is_slot_count, slot_count}
+use Rattle.vx_base.specs.Rectangle.{Rectangle, is_rectangle, rectangle, IsRectangle}
 use Rattle.vx_wire.specs.declared.body_fault.BodyFault.{BodyFault}
 use Rattle.vx_wire.specs.declared.body_fault.BodyFault.TheVariants.{InvalidParameters, InvalidFormat, InvalidDimension, InvalidValue}
 use Rattle.vx_wire.specs.Fields.{Taken, and_then, allowed, take_byte, take_short, take_long, take_bytes}
@@ -16,6 +17,7 @@ use Rattle.vx_wire.specs.Format.{format_numbered, take_format, format_number}
 use Rattle.vx_wire.specs.Description.{take_side, take_description, description_bytes}
 use Rattle.vx_wire.specs.Reference.{slot_numbered, take_reference, reference_bytes}
 use Rattle.vx_wire.specs.Slots.{take_slots}
+use Rattle.vx_wire.specs.Rectangle.{take_rectangle, rectangle_bytes}
 use Rattle.vx_wire.proofs.Numbers.{number_is}
 
 abbrev pub AllBytes : List ℕ → Type 0
@@ -104,7 +106,7 @@ bytes_of n body bytes rest is e =
       subst AllBytes behind (All-drop (λ b. b < 256) n body is),
     )
 
--- ---- formats, sides, descriptions, references, numbers of slots
+-- ---- formats, sides, descriptions, references, rectangles, numbers of slots
 
 format_of : (body : List ℕ) (format : Format) (rest : List ℕ) → AllBytes body → take_format body ≡ Ok (format, rest)
     → (body ≡ format_number format ∷ rest) × AllBytes rest
@@ -166,6 +168,34 @@ cell_of body cell rest is e =
       subst IsCell same (record { name = name_below; slot = slot_within }),
       subst AllBytes behind is2,
     )
+
+pub rectangle_of : (body : List ℕ) (r : Rectangle) (rest : List ℕ) → AllBytes body → take_rectangle body ≡ Ok (r, rest)
+    → (body ≡ rectangle_bytes r ++ rest) × IsRectangle r × AllBytes rest
+rectangle_of body r rest is e =
+    let made : ℕ → ℕ → ℕ → ℕ → Rectangle = λ x0 y0 x1 y1. record { x0 = x0; y0 = y0; x1 = x1; y1 = y1 } in
+    let last : ℕ → ℕ → ℕ → ℕ → List ℕ → Taken Rectangle = λ x0 y0 x1 y1 rest. allowed InvalidValue (rectangle x0 y0 x1 y1) rest in
+    let fourth : ℕ → ℕ → ℕ → List ℕ → Taken Rectangle = λ x0 y0 x1 rest. and_then (take_short rest) (last x0 y0 x1) in
+    let third : ℕ → ℕ → List ℕ → Taken Rectangle = λ x0 y0 rest. and_then (take_short rest) (fourth x0 y0) in
+    let second : ℕ → List ℕ → Taken Rectangle = λ x0 rest. and_then (take_short rest) (third x0) in
+    let (x0, rest1, is_x0, e1) = then_of (take_short body) second (r, rest) e in
+    let (y0, rest2, is_y0, e2) = then_of (take_short rest1) (third x0) (r, rest) e1 in
+    let (x1, rest3, is_x1, e3) = then_of (take_short rest2) (fourth x0 y0) (r, rest) e2 in
+    let (y1, rest4, is_y1, e4) = then_of (take_short rest3) (last x0 y0 x1) (r, rest) e3 in
+    let (same, behind) = allowed_of InvalidValue (rectangle x0 y0 x1 y1) r rest4 rest e4 in
+    let (body_is, x0_below, is1) = short_of body x0 rest1 is is_x0 in
+    let (rest1_is, y0_below, is2) = short_of rest1 y0 rest2 is1 is_y0 in
+    let (rest2_is, x1_below, is3) = short_of rest2 x1 rest3 is2 is_x1 in
+    let (rest3_is, y1_below, is4) = short_of rest3 y1 rest4 is3 is_y1 in
+    let front : List ℕ → List ℕ = λ l. to_be_bytes w16 x0 ++ (to_be_bytes w16 y0 ++ l) in
+    elim (if_some (is_rectangle x0 y0 x1 y1) (made x0 y0 x1 y1) None r same) [
+      | inl h ↦ (
+        body_is ∙ ap (λ l. to_be_bytes w16 x0 ++ l) rest1_is ∙ ap front rest2_is ∙ ap (λ l. front (to_be_bytes w16 x1 ++ l)) rest3_is
+            ∙ ap (λ r. rectangle_bytes r ++ rest4) h.1 ∙ ap (λ l. rectangle_bytes r ++ l) behind,
+        subst IsRectangle h.1 (record { bounds = h.0; columns = x1_below; rows = y1_below }),
+        subst AllBytes behind is4,
+      )
+      | inr h ↦ cc
+    ]
 
 pub slots_of : (body : List ℕ) (n : ℕ) (rest : List ℕ) → AllBytes body → take_slots body ≡ Ok (n, rest)
     → (body ≡ n ∷ rest) × IsTrue (is_slot_count n) × AllBytes rest

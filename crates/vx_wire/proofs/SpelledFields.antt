@@ -14,12 +14,15 @@ use Rattle.vx_base.specs.Description.{Description, is_side, sample_count, IsDesc
 use Rattle.vx_base.specs.Sample.{IsSample, sample_bytes}
 use Rattle.vx_base.specs.Picture.{PictureValue, IsPicture}
 use Rattle.vx_base.specs.Slots.{is_slot_count}
+use Rattle.vx_base.specs.Rectangle.{Rectangle, rectangle, IsRectangle}
+use Rattle.vx_base.proofs.RectangleLaws.{rectangle_ordered}
 use Rattle.vx_wire.specs.Fields.{Taken, and_then, allowed, take_byte, take_short, take_long, take_bytes}
 use Rattle.vx_wire.specs.Format.{take_format, format_number}
 use Rattle.vx_wire.specs.Description.{take_side, take_description, description_bytes}
 use Rattle.vx_wire.specs.Reference.{slot_numbered, take_reference, reference_bytes}
 use Rattle.vx_wire.specs.Samples.{decoded, encoded, take_samples, take_picture, picture_bytes}
 use Rattle.vx_wire.specs.Slots.{take_slots}
+use Rattle.vx_wire.specs.Rectangle.{take_rectangle, rectangle_bytes}
 use Rattle.vx_wire.proofs.SampleBytes.{length-encoded, decoded_back}
 
 -- a field that was read, and those behind it
@@ -69,6 +72,26 @@ cell_back cell rest is =
     let next : ℕ → List ℕ → Taken Cell = λ name rest. and_then (take_byte rest) (λ slot rest. Ok (record { name = name; slot = slot_numbered slot }, rest)) in
     then_ok (take_long (reference_bytes cell ++ rest)) cell.name (unwrap_or cell.slot 255 ∷ rest) next (long_back cell.name _ is.name)
     ∙ ap (λ slot. Ok (record { name = cell.name; slot = slot }, rest)) (slot_back cell.slot is.slot)
+
+starts_below : (r : Rectangle) → IsRectangle r → (r.x0 < 2 ^ 16) × (r.y0 < 2 ^ 16)
+starts_below r h =
+    let ordered = rectangle_ordered r h.bounds in
+    (omega (arith, ordered.columns, h.columns), omega (arith, ordered.rows, h.rows))
+
+pub rectangle_back : (r : Rectangle) (rest : List ℕ) → IsRectangle r → take_rectangle (rectangle_bytes r ++ rest) ≡ Ok (r, rest)
+rectangle_back r rest h =
+    let (first_column, first_row) = starts_below r h in
+    let fourth : ℕ → ℕ → ℕ → List ℕ → Taken Rectangle = λ x0 y0 x1 rest. and_then (take_short rest) (λ y1 rest. allowed InvalidValue (rectangle x0 y0 x1 y1) rest) in
+    let third : ℕ → ℕ → List ℕ → Taken Rectangle = λ x0 y0 rest. and_then (take_short rest) (fourth x0 y0) in
+    let second : ℕ → List ℕ → Taken Rectangle = λ x0 rest. and_then (take_short rest) (third x0) in
+    let after_third = to_be_bytes w16 r.y1 ++ rest in
+    let after_second = to_be_bytes w16 r.x1 ++ after_third in
+    let after_first = to_be_bytes w16 r.y0 ++ after_second in
+    then_ok (take_short (to_be_bytes w16 r.x0 ++ after_first)) r.x0 after_first second (short_back r.x0 after_first first_column)
+    ∙ then_ok (take_short after_first) r.y0 after_second (third r.x0) (short_back r.y0 after_second first_row)
+    ∙ then_ok (take_short after_second) r.x1 after_third (fourth r.x0 r.y0) (short_back r.x1 after_third h.columns)
+    ∙ then_ok (take_short after_third) r.y1 rest (λ y1 rest. allowed InvalidValue (rectangle r.x0 r.y0 r.x1 y1) rest) (short_back r.y1 rest h.rows)
+    ∙ ap (λ b. allowed InvalidValue (if b then Some r else None) rest) h.bounds
 
 pub slots_back : (n : ℕ) (rest : List ℕ) → IsTrue (is_slot_count n) → take_slots (n ∷ rest) ≡ Ok (n, rest)
 slots_back n rest is = ap (λ b. allowed InvalidValue (if b then Some n else None) rest) is

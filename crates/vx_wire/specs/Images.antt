@@ -1,15 +1,19 @@
 -- The bodies of requests about images.
 use Rattle.std.specs.Prelude.{ℕ, List, Result}
 use Rattle.client_contexts.specs.declared.request.Request.{Request}
-use Rattle.client_contexts.specs.declared.request.Request.TheVariants.{CreateImage, WriteImage, ReadImage}
+use Rattle.client_contexts.specs.declared.request.Request.TheVariants.{CreateImage, QueryImage, WriteImage, ReadImage, SetValid}
 use Rattle.vx_wire.specs.declared.body_fault.BodyFault.{BodyFault}
 use Rattle.vx_wire.specs.Fields.{and_then, at_end}
 use Rattle.vx_wire.specs.Description.{take_description}
 use Rattle.vx_wire.specs.Reference.{take_reference}
+use Rattle.vx_wire.specs.Rectangle.{take_rectangle}
 use Rattle.vx_wire.specs.Samples.{take_picture}
 
 abbrev pub create_image_in : List ℕ → Result Request BodyFault
 create_image_in body = and_then (take_description body) (λ d rest. at_end (CreateImage d) rest)
+
+abbrev pub query_image_in : List ℕ → Result Request BodyFault
+query_image_in body = and_then (take_reference body) (λ image rest. at_end (QueryImage image) rest)
 
 abbrev pub write_image_in : List ℕ → Result Request BodyFault
 write_image_in body =
@@ -17,3 +21,7 @@ write_image_in body =
 
 abbrev pub read_image_in : List ℕ → Result Request BodyFault
 read_image_in body = and_then (take_reference body) (λ image rest. at_end (ReadImage image) rest)
+
+abbrev pub set_valid_in : List ℕ → Result Request BodyFault
+set_valid_in body =
+    and_then (take_reference body) (λ image rest. and_then (take_rectangle rest) (λ valid rest. at_end (SetValid image valid) rest))

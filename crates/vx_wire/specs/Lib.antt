@@ -4,6 +4,8 @@ pub mod Fields
 pub mod Format
 pub mod Description
 pub mod Reference
+pub mod Rectangle
+pub mod Described
 pub mod Samples
 pub mod Slots
 pub mod Lut

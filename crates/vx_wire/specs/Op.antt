@@ -4,15 +4,17 @@ use Rattle.client_contexts.specs.declared.request.Request.{Request}
 use Rattle.client_contexts.specs.declared.request.Request.TheVariants as requests
 use Rattle.vx_wire.specs.Numbered.{numbered}
 use Rattle.vx_wire.specs.declared.op.Op.{Op}
-use Rattle.vx_wire.specs.declared.op.Op.TheVariants.{OpenContext, ReleaseContext, CreateImage, WriteImage, ReadImage, Release, CreateLut, CreateThreshold, Immediate, CreateDelay, AgeDelay}
+use Rattle.vx_wire.specs.declared.op.Op.TheVariants.{OpenContext, ReleaseContext, CreateImage, QueryImage, WriteImage, ReadImage, SetValid, Release, CreateLut, CreateThreshold, Immediate, CreateDelay, AgeDelay}
 
 -- the number of this project's that stands for the op
 abbrev pub op_number : Op → ℕ
 op_number OpenContext = 1
 op_number ReleaseContext = 2
 op_number CreateImage = 3
+op_number QueryImage = 4
 op_number WriteImage = 5
 op_number ReadImage = 7
+op_number SetValid = 9
 op_number Release = 10
 op_number CreateLut = 11
 op_number CreateThreshold = 12
@@ -21,7 +23,7 @@ op_number CreateDelay = 25
 op_number AgeDelay = 26
 
 abbrev pub ops : List Op
-ops = OpenContext ∷ ReleaseContext ∷ CreateImage ∷ WriteImage ∷ ReadImage ∷ Release ∷ CreateLut ∷ CreateThreshold ∷ Immediate ∷ CreateDelay ∷ AgeDelay ∷ []
+ops = OpenContext ∷ ReleaseContext ∷ CreateImage ∷ QueryImage ∷ WriteImage ∷ ReadImage ∷ SetValid ∷ Release ∷ CreateLut ∷ CreateThreshold ∷ Immediate ∷ CreateDelay ∷ AgeDelay ∷ []
 
 -- the op with this number
 abbrev pub op_numbered : ℕ → Option Op
@@ -32,8 +34,10 @@ abbrev pub op_of : Request → Op
 op_of requests.OpenContext = OpenContext
 op_of requests.ReleaseContext = ReleaseContext
 op_of (requests.CreateImage d) = CreateImage
+op_of (requests.QueryImage cell) = QueryImage
 op_of (requests.WriteImage cell picture) = WriteImage
 op_of (requests.ReadImage cell) = ReadImage
+op_of (requests.SetValid cell rectangle) = SetValid
 op_of (requests.Release name) = Release
 op_of (requests.CreateLut lut) = CreateLut
 op_of (requests.CreateThreshold threshold) = CreateThreshold

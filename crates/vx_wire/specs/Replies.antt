@@ -4,7 +4,8 @@ use Rattle.std.specs.Int.{w32, to_be_bytes}
 use Rattle.vx_base.specs.declared.code.Code.{Code}
 use Rattle.vx_base.specs.Code.{code_number}
 use Rattle.client_contexts.specs.declared.reply.Reply.{Reply}
-use Rattle.client_contexts.specs.declared.reply.Reply.TheVariants.{Refused, Empty, Name, Picture}
+use Rattle.client_contexts.specs.declared.reply.Reply.TheVariants.{Refused, Empty, Name, Described, Picture}
+use Rattle.vx_wire.specs.Described.{described_bytes}
 use Rattle.vx_wire.specs.Samples.{picture_bytes}
 
 -- a reply's code and body
@@ -19,4 +20,5 @@ abbrev pub said_of : Reply → Said
 said_of (Refused code) = refusal code
 said_of Empty = record { code = 0; body = [] }
 said_of (Name n) = record { code = 0; body = to_be_bytes w32 n }
+said_of (Described d) = record { code = 0; body = described_bytes d }
 said_of (Picture p) = record { code = 0; body = picture_bytes p }

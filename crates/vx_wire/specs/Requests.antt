@@ -2,7 +2,7 @@
 use Rattle.std.specs.Prelude.{ℕ, ⊤, List, [], ◌∷◌, ◌++◌, Option, Some, None, Result, Err}
 use Rattle.std.specs.Int.{w32, to_be_bytes}
 use Rattle.client_contexts.specs.declared.request.Request.{Request}
-use Rattle.client_contexts.specs.declared.request.Request.TheVariants.{OpenContext, ReleaseContext, CreateImage, WriteImage, ReadImage, Release, CreateLut, CreateThreshold, Immediate, CreateDelay, AgeDelay}
+use Rattle.client_contexts.specs.declared.request.Request.TheVariants.{OpenContext, ReleaseContext, CreateImage, QueryImage, WriteImage, ReadImage, SetValid, Release, CreateLut, CreateThreshold, Immediate, CreateDelay, AgeDelay}
 use Rattle.vx_wire.specs.declared.body_fault.BodyFault.{BodyFault}
 use Rattle.vx_wire.specs.declared.body_fault.BodyFault.TheVariants.{InvalidParameters}
 use Rattle.vx_wire.specs.declared.op.Op.{Op}
@@ -10,12 +10,13 @@ use Rattle.vx_wire.specs.declared.op.Op.TheVariants as ops
 use Rattle.vx_wire.specs.Op.{op_numbered}
 use Rattle.vx_wire.specs.Description.{description_bytes}
 use Rattle.vx_wire.specs.Reference.{reference_bytes}
+use Rattle.vx_wire.specs.Rectangle.{rectangle_bytes}
 use Rattle.vx_wire.specs.Samples.{picture_bytes}
 use Rattle.vx_wire.specs.Lut.{lut_bytes}
 use Rattle.vx_wire.specs.Threshold.{threshold_bytes}
 use Rattle.vx_wire.specs.Node.{node_bytes}
 use Rattle.vx_wire.specs.Contexts.{open_context_in, release_context_in}
-use Rattle.vx_wire.specs.Images.{create_image_in, write_image_in, read_image_in}
+use Rattle.vx_wire.specs.Images.{create_image_in, query_image_in, write_image_in, read_image_in, set_valid_in}
 use Rattle.vx_wire.specs.Objects.{release_in}
 use Rattle.vx_wire.specs.Tables.{create_lut_in, create_threshold_in}
 use Rattle.vx_wire.specs.Immediate.{immediate_in}
@@ -26,8 +27,10 @@ abbrev pub request_with : Op → List ℕ → Result Request BodyFault
 request_with ops.OpenContext body = open_context_in body
 request_with ops.ReleaseContext body = release_context_in body
 request_with ops.CreateImage body = create_image_in body
+request_with ops.QueryImage body = query_image_in body
 request_with ops.WriteImage body = write_image_in body
 request_with ops.ReadImage body = read_image_in body
+request_with ops.SetValid body = set_valid_in body
 request_with ops.Release body = release_in body
 request_with ops.CreateLut body = create_lut_in body
 request_with ops.CreateThreshold body = create_threshold_in body
@@ -49,8 +52,10 @@ abbrev pub body_of : Request → List ℕ
 body_of OpenContext = []
 body_of ReleaseContext = []
 body_of (CreateImage d) = description_bytes d
+body_of (QueryImage image) = reference_bytes image
 body_of (WriteImage image picture) = reference_bytes image ++ picture_bytes picture
 body_of (ReadImage image) = reference_bytes image
+body_of (SetValid image rectangle) = reference_bytes image ++ rectangle_bytes rectangle
 body_of (Release name) = to_be_bytes w32 name
 body_of (CreateLut lut) = lut_bytes lut
 body_of (CreateThreshold threshold) = threshold_bytes threshold
@@ -63,8 +68,10 @@ abbrev pub HoldsSamples : Request → Type 0
 HoldsSamples OpenContext = ⊥
 HoldsSamples ReleaseContext = ⊥
 HoldsSamples (CreateImage d) = ⊥
+HoldsSamples (QueryImage image) = ⊥
 HoldsSamples (WriteImage image picture) = ⊤
 HoldsSamples (ReadImage image) = ⊥
+HoldsSamples (SetValid image rectangle) = ⊥
 HoldsSamples (Release name) = ⊥
 HoldsSamples (CreateLut lut) = ⊤
 HoldsSamples (CreateThreshold threshold) = ⊥

@@ -11,6 +11,7 @@ pub enum BodyFault {
     /// A width or a height isn't 1 to 4096.
     InvalidDimension,
     /// An amount is beyond what the function takes, the limit of a threshold isn't a sample of its
-    /// format or is below the lower limit, or the slots of a delay aren't 1 to 16.
+    /// format or is below the lower limit, the bounds of a rectangle aren't those of one, or the
+    /// slots of a delay aren't 1 to 16.
     InvalidValue,
 }

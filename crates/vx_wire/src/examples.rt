@@ -5,9 +5,10 @@ ghost use Rattle.vx_base.specs.declared.policy.Policy.TheVariants.{Wrap, Saturat
 ghost use Rattle.vx_base.specs.declared.border.Border.TheVariants.{Undefined, Constant};
 ghost use Rattle.vx_base.specs.declared.function.Function.TheVariants.{NotBits, Multiply};
 ghost use Rattle.vx_base.specs.declared.threshold.ThresholdKind.TheVariants.{Binary, Range};
-ghost use Rattle.client_contexts.specs.declared.request.Request.TheVariants.{OpenContext, ReleaseContext, CreateImage, WriteImage, ReadImage, Release, CreateThreshold, Immediate, CreateDelay, AgeDelay};
+ghost use Rattle.client_contexts.specs.declared.request.Request.TheVariants.{OpenContext, ReleaseContext, CreateImage, QueryImage, WriteImage, ReadImage, SetValid, Release, CreateThreshold, Immediate, CreateDelay, AgeDelay};
 ghost use Rattle.vx_wire.specs.declared.body_fault.BodyFault.TheVariants.{InvalidParameters, InvalidFormat, InvalidDimension, InvalidValue};
 ghost use Rattle.vx_wire.specs.Requests.{request_of, body_of};
+ghost use Rattle.vx_wire.specs.Described.{described_bytes};
 
 /// Contexts are opened and released by an empty body, and no request has another op than those of
 /// the table.
@@ -39,6 +40,38 @@ pub fn images_written_and_read()
     ensures a_byte_short { request_of 5 (0 ∷ 0 ∷ 0 ∷ 7 ∷ 255 ∷ 2 ∷ 0 ∷ 2 ∷ 0 ∷ 1 ∷ 255 ∷ 254 ∷ 0 ∷ []) ≡ Err InvalidParameters }
     ensures a_byte_more { request_of 5 (0 ∷ 0 ∷ 0 ∷ 7 ∷ 255 ∷ 1 ∷ 0 ∷ 1 ∷ 0 ∷ 1 ∷ 9 ∷ 9 ∷ []) ≡ Err InvalidParameters }
     ensures read { request_of 7 (0 ∷ 0 ∷ 1 ∷ 2 ∷ 3 ∷ []) ≡ Ok (ReadImage (record { name = 258; slot = Some 3 })) }
+{}
+
+/// Image 1 that is asked about, and references that are cut short or have more behind them.
+pub fn images_queried()
+    ensures queried { request_of 4 (0 ∷ 0 ∷ 0 ∷ 1 ∷ 255 ∷ []) ≡ Ok (QueryImage (record { name = 1; slot = None })) }
+    ensures of_a_slot { request_of 4 (0 ∷ 0 ∷ 1 ∷ 2 ∷ 3 ∷ []) ≡ Ok (QueryImage (record { name = 258; slot = Some 3 })) }
+    ensures cut { request_of 4 (0 ∷ 0 ∷ 0 ∷ 1 ∷ []) ≡ Err InvalidParameters }
+    ensures more { request_of 4 (0 ∷ 0 ∷ 0 ∷ 1 ∷ 255 ∷ 0 ∷ []) ≡ Err InvalidParameters }
+{}
+
+/// What is told of a U8 image of 4 by 1 samples whose second and third are valid, and of one of
+/// 258 by 1 samples of an open format of which none is.
+pub fn images_described()
+    ensures known { described_bytes (record { format = Some U8; width = 4; height = 1; valid = record { x0 = 1; y0 = 0; x1 = 3; y1 = 1 } })
+        ≡ 1 ∷ 0 ∷ 4 ∷ 0 ∷ 1 ∷ 0 ∷ 1 ∷ 0 ∷ 0 ∷ 0 ∷ 3 ∷ 0 ∷ 1 ∷ [] }
+    ensures open { described_bytes (record { format = None; width = 258; height = 1; valid = record { x0 = 0; y0 = 0; x1 = 0; y1 = 0 } })
+        ≡ 0 ∷ 1 ∷ 2 ∷ 0 ∷ 1 ∷ 0 ∷ 0 ∷ 0 ∷ 0 ∷ 0 ∷ 0 ∷ 0 ∷ 0 ∷ [] }
+{}
+
+/// Columns 1 and 2 of row 0 of image 1 that become valid, no place of it, and bounds that no
+/// rectangle has. Bounds are looked at once all four are there.
+pub fn valid_rectangles_set()
+    ensures set { request_of 9 (0 ∷ 0 ∷ 0 ∷ 1 ∷ 255 ∷ 0 ∷ 1 ∷ 0 ∷ 0 ∷ 0 ∷ 3 ∷ 0 ∷ 1 ∷ []) ≡ Ok (SetValid (record { name = 1; slot = None }) (record { x0 = 1; y0 = 0; x1 = 3; y1 = 1 })) }
+    ensures of_a_slot { request_of 9 (0 ∷ 0 ∷ 1 ∷ 2 ∷ 5 ∷ 0 ∷ 0 ∷ 0 ∷ 0 ∷ 1 ∷ 2 ∷ 16 ∷ 0 ∷ []) ≡ Ok (SetValid (record { name = 258; slot = Some 5 }) (record { x0 = 0; y0 = 0; x1 = 258; y1 = 4096 })) }
+    ensures none { request_of 9 (0 ∷ 0 ∷ 0 ∷ 1 ∷ 255 ∷ 0 ∷ 0 ∷ 0 ∷ 0 ∷ 0 ∷ 0 ∷ 0 ∷ 0 ∷ []) ≡ Ok (SetValid (record { name = 1; slot = None }) (record { x0 = 0; y0 = 0; x1 = 0; y1 = 0 })) }
+    ensures turned { request_of 9 (0 ∷ 0 ∷ 0 ∷ 1 ∷ 255 ∷ 0 ∷ 3 ∷ 0 ∷ 0 ∷ 0 ∷ 1 ∷ 0 ∷ 1 ∷ []) ≡ Err InvalidValue }
+    ensures turned_rows { request_of 9 (0 ∷ 0 ∷ 0 ∷ 1 ∷ 255 ∷ 0 ∷ 1 ∷ 0 ∷ 1 ∷ 0 ∷ 3 ∷ 0 ∷ 0 ∷ []) ≡ Err InvalidValue }
+    ensures no_columns { request_of 9 (0 ∷ 0 ∷ 0 ∷ 1 ∷ 255 ∷ 0 ∷ 1 ∷ 0 ∷ 0 ∷ 0 ∷ 1 ∷ 0 ∷ 1 ∷ []) ≡ Err InvalidValue }
+    ensures turned_and_more { request_of 9 (0 ∷ 0 ∷ 0 ∷ 1 ∷ 255 ∷ 0 ∷ 3 ∷ 0 ∷ 0 ∷ 0 ∷ 1 ∷ 0 ∷ 1 ∷ 0 ∷ []) ≡ Err InvalidValue }
+    ensures turned_and_cut { request_of 9 (0 ∷ 0 ∷ 0 ∷ 1 ∷ 255 ∷ 0 ∷ 3 ∷ 0 ∷ 0 ∷ 0 ∷ 1 ∷ 0 ∷ []) ≡ Err InvalidParameters }
+    ensures cut { request_of 9 (0 ∷ 0 ∷ 0 ∷ 1 ∷ 255 ∷ []) ≡ Err InvalidParameters }
+    ensures more { request_of 9 (0 ∷ 0 ∷ 0 ∷ 1 ∷ 255 ∷ 0 ∷ 1 ∷ 0 ∷ 0 ∷ 0 ∷ 3 ∷ 0 ∷ 1 ∷ 0 ∷ []) ≡ Err InvalidParameters }
 {}
 
 /// Object 258 that is released, and a name that is cut short or has a slot.
@@ -112,10 +145,12 @@ pub fn delays_aged()
     ensures with_a_slot { request_of 26 (0 ∷ 0 ∷ 0 ∷ 2 ∷ 255 ∷ []) ≡ Err InvalidParameters }
 {}
 
-/// The spellings of a picture, of a threshold and of a delay.
+/// The spellings of a picture, of a rectangle, of a threshold and of a delay.
 pub fn spelled()
     ensures picture { body_of (WriteImage (record { name = 7; slot = None }) (record { description = record { width = 2; height = 1; format = S16 }; samples = negsuc 1 ∷ pos 1 ∷ [] }))
         ≡ 0 ∷ 0 ∷ 0 ∷ 7 ∷ 255 ∷ 2 ∷ 0 ∷ 2 ∷ 0 ∷ 1 ∷ 255 ∷ 254 ∷ 0 ∷ 1 ∷ [] }
+    ensures rectangle { body_of (SetValid (record { name = 1; slot = None }) (record { x0 = 1; y0 = 0; x1 = 3; y1 = 1 }))
+        ≡ 0 ∷ 0 ∷ 0 ∷ 1 ∷ 255 ∷ 0 ∷ 1 ∷ 0 ∷ 0 ∷ 0 ∷ 3 ∷ 0 ∷ 1 ∷ [] }
     ensures threshold { body_of (CreateThreshold (record { format = S16; kind = Range (negsuc 0) (pos 2); true_value = 255; false_value = 0 }))
         ≡ 1 ∷ 2 ∷ 255 ∷ 255 ∷ 0 ∷ 2 ∷ 255 ∷ 0 ∷ [] }
     ensures delay { body_of (CreateDelay (record { name = 1; slot = None }) 3) ≡ 0 ∷ 0 ∷ 0 ∷ 1 ∷ 255 ∷ 3 ∷ [] }

@@ -3,10 +3,12 @@ ghost use Rattle.std.specs.Prelude.{◌≡◌, length, Ok, Err, IfOk, IfErr, OnO
 ghost use Rattle.client_contexts.specs.declared.request.Request.{Request as RequestValue};
 ghost use Rattle.vx_wire.specs.Fields.{Takes, take_byte, take_short, take_long, take_bytes, at_end};
 
+pub mod described;
 pub mod description;
 pub mod format;
 pub mod node;
 pub mod operand;
+pub mod rectangle;
 pub mod reference;
 pub mod samples;
 pub mod slots;

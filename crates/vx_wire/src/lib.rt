@@ -8,8 +8,8 @@
 //! - `op`: what kind of request a frame holds, and its number
 //! - `body_fault`, `parse_fault`: why a body spells no request, and why none was read
 //! - `fields`: taking fields from the front of a body, and in its modules what each subject takes
-//!   and gives: `format`, `description`, `reference`, `samples`, `threshold`, `operand`, `node`,
-//!   `slots` (of a delay)
+//!   and gives: `format`, `description`, `reference`, `rectangle`, `samples`, `threshold`,
+//!   `operand`, `node`, `slots` (of a delay), `described` (what is told of an image)
 //! - `requests`: the bodies of requests, by families: `contexts`, `images`, `objects` (of any
 //!   kind), `tables` (and thresholds), `immediate`, `delays`
 //! - `parsing`: the body of any request
@@ -26,9 +26,11 @@ mod parsing;
 mod requests;
 
 pub use body_fault::BodyFault;
+pub use fields::described::described_bytes;
 pub use fields::description::description_bytes;
 pub use fields::format::format_number;
 pub use fields::node::node_bytes;
+pub use fields::rectangle::rectangle_bytes;
 pub use fields::reference::reference_bytes;
 pub use fields::samples::{WideSample, encode};
 pub use fields::threshold::{binary_bytes, range_bytes};

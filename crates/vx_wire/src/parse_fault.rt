@@ -23,7 +23,8 @@ pub enum ParseFault {
     #[error("invalid dimension")]
     InvalidDimension,
     /// An amount is beyond what the function takes, the limit of a threshold isn't a sample of its
-    /// format or is below the lower limit, or the slots of a delay aren't 1 to 16.
+    /// format or is below the lower limit, the bounds of a rectangle aren't those of one, or the
+    /// slots of a delay aren't 1 to 16.
     #[error("invalid value")]
     InvalidValue,
 }

@@ -7,7 +7,7 @@ use crate::op::Op;
 use crate::parse_fault::ParseFault;
 use crate::requests::contexts::{open_context, release_context};
 use crate::requests::delays::{age_delay, create_delay};
-use crate::requests::images::{create_image, read_image, write_image};
+use crate::requests::images::{create_image, query_image, read_image, set_valid, write_image};
 use crate::requests::immediate::immediate;
 use crate::requests::objects::release;
 use crate::requests::tables::{create_lut, create_threshold};
@@ -29,8 +29,10 @@ pub fn parse(alloc: Global, op: u8, body: &[u8]) -> Result<Request, ParseFault>
         Some(Op::OpenContext) => Ok(open_context(body)?),
         Some(Op::ReleaseContext) => Ok(release_context(body)?),
         Some(Op::CreateImage) => Ok(create_image(body)?),
+        Some(Op::QueryImage) => Ok(query_image(body)?),
         Some(Op::WriteImage) => write_image(alloc, body),
         Some(Op::ReadImage) => Ok(read_image(body)?),
+        Some(Op::SetValid) => Ok(set_valid(body)?),
         Some(Op::Release) => Ok(release(body)?),
         Some(Op::CreateLut) => create_lut(alloc, body),
         Some(Op::CreateThreshold) => Ok(create_threshold(body)?),

@@ -15,7 +15,11 @@ pub fn is_request(request: &Request)
             image.is_cell();
             let _samples = picture.samples();
         }
-        Request::ReadImage(image) => image.is_cell(),
+        Request::QueryImage(image) | Request::ReadImage(image) => image.is_cell(),
+        Request::SetValid(image, valid) => {
+            image.is_cell();
+            valid.is_rectangle();
+        }
         Request::Release(name) => {
             let _name = *name;
         }

@@ -7,15 +7,16 @@ ghost use Rattle.vx_requests.specs.Stream.Calls.{failed_calls};
 ghost use Rattle.vx_requests.specs.Stream.Transfer.{Sends};
 ghost use Rattle.vx_requests.specs.Frame.Frames.{reply_bytes, reply_head};
 ghost use Rattle.vx_requests.specs.Serving.Clients.{spelled};
+ghost use Rattle.vx_wire.specs.Described.{described_bytes};
 ghost use Rattle.vx_wire.specs.Description.{description_bytes};
 ghost use Rattle.vx_wire.specs.Samples.{picture_bytes};
 ghost use Rattle.vx_wire.specs.Replies.{said_of};
 
 use crate::frame::samples::write_samples;
 use crate::stream::{Failed, Sink, StreamFault, write_all};
-use client_contexts::Reply;
+use client_contexts::{Described, Reply};
 use vx_base::{Desc, Picture};
-use vx_wire::description_bytes;
+use vx_wire::{described_bytes, description_bytes};
 
 /// Writes the frame of a reply and flushes the sink.
 ///
@@ -36,6 +37,9 @@ pub fn write_reply<K: Sink>(
         Reply::Refused(code) => write_small(sink, &head(4, client, op, code.number())),
         Reply::Empty => write_small(sink, &head(4, client, op, 0)),
         Reply::Name(name) => write_small(sink, &head_and_name(client, op, *name)),
+        Reply::Described(described) => {
+            write_small(sink, &head_and_described(client, op, *described))
+        }
         Reply::Picture(picture) => write_picture(sink, client, op, picture),
     }
 }
@@ -46,7 +50,7 @@ pub fn code_of(reply: &Reply) -> u8
 {
     match reply {
         Reply::Refused(code) => code.number(),
-        Reply::Empty | Reply::Name(_) | Reply::Picture(_) => 0,
+        Reply::Empty | Reply::Name(_) | Reply::Described(_) | Reply::Picture(_) => 0,
     }
 }
 
@@ -105,6 +109,16 @@ fn head_and_name(client: u16, op: u8, name: u32) -> [u8; 12]
     let [a, b, c, d, e, f, g, h] = head(8, client, op, 0);
     let [i, j, k, l] = name.to_be_bytes();
     [a, b, c, d, e, f, g, h, i, j, k, l]
+}
+
+/// The frame of a reply that tells what an image is like.
+fn head_and_described(client: u16, op: u8, described: Described) -> [u8; 21]
+    ensures { result ≡ reply_head 17 client op 0 ++ described_bytes described }
+{
+    let mut bytes = [0; 21];
+    bytes[..8].copy_from_slice(&head(17, client, op, 0));
+    bytes[8..].copy_from_slice(&described_bytes(described));
+    bytes
 }
 
 /// The frame of a reply that is a picture, up to its samples.

@@ -1,6 +1,6 @@
 //! Requests as frames.
 ghost use Rattle.std.specs.Prelude.{◌≡◌, ◌+◌, ◌*◌, ◌<◌, ◌≤◌, ◌^◌, [], ◌∷◌, ◌++◌, length, IsTrue};
-ghost use Rattle.client_contexts.specs.declared.request.Request.TheVariants.{WriteImage as WriteImageRequest, CreateLut as CreateLutRequest, CreateThreshold as CreateThresholdRequest, CreateDelay as CreateDelayRequest};
+ghost use Rattle.client_contexts.specs.declared.request.Request.TheVariants.{WriteImage as WriteImageRequest, SetValid as SetValidRequest, CreateLut as CreateLutRequest, CreateThreshold as CreateThresholdRequest, CreateDelay as CreateDelayRequest};
 ghost use Rattle.vx_base.specs.Description.{byte_count};
 ghost use Rattle.vx_base.specs.Lut.{is_full};
 ghost use Rattle.vx_wire.specs.declared.op.Op.TheVariants.{WriteImage as WriteImageOp, CreateLut as CreateLutOp};
@@ -17,9 +17,10 @@ use crate::frame::limits::is_request;
 use crate::frame::samples::write_samples;
 use crate::stream::{Sink, StreamFault, write_all};
 use client_contexts::Request;
-use vx_base::{Desc, Format, Lut, ObjRef, Picture, SlotCount, ThresholdKind, ThresholdRule};
+use vx_base::{Desc, Format, Lut, ObjRef, Picture, Rect, SlotCount, ThresholdKind, ThresholdRule};
 use vx_wire::{
-    Op, binary_bytes, description_bytes, format_number, node_bytes, range_bytes, reference_bytes,
+    Op, binary_bytes, description_bytes, format_number, node_bytes, range_bytes, rectangle_bytes,
+    reference_bytes,
 };
 
 /// Writes the frame in which a client sends the request, and flushes nothing. `WriteFailed` comes
@@ -43,11 +44,10 @@ pub fn write_request<K: Sink>(
             let body = description_bytes(*desc);
             write_short(sink, client, Op::CreateImage.number(), &body)
         }
+        Request::QueryImage(image) => write_reference(sink, client, Op::QueryImage, *image),
         Request::WriteImage(image, picture) => write_write_image(sink, client, *image, picture),
-        Request::ReadImage(image) => {
-            let body = reference_bytes(*image);
-            write_short(sink, client, Op::ReadImage.number(), &body)
-        }
+        Request::ReadImage(image) => write_reference(sink, client, Op::ReadImage, *image),
+        Request::SetValid(image, valid) => write_set_valid(sink, client, *image, *valid),
         Request::Release(name) => {
             let body = name.to_be_bytes();
             write_short(sink, client, Op::Release.number(), &body)
@@ -66,6 +66,20 @@ pub fn write_request<K: Sink>(
             write_short(sink, client, Op::AgeDelay.number(), &body)
         }
     }
+}
+
+/// Writes a frame whose body is a reference, at once.
+fn write_reference<K: Sink>(
+    sink: &mut K,
+    client: u16,
+    op: Op,
+    reference: ObjRef,
+) -> Result<(), StreamFault>
+    requires { K.failures sink.old < 2 ^ 62 }
+    ensures { Writes K.taken K.failures sink.old sink.new
+        (frame_bytes (record { client = client; op = op_number op; body = reference_bytes reference })) result }
+{
+    write_short(sink, client, op.number(), &reference_bytes(reference))
 }
 
 /// Writes a frame whose body has at most 25 bytes, at once.
@@ -127,6 +141,23 @@ fn write_image_head(client: u16, image: ObjRef, desc: Desc) -> [u8; 17]
     bytes[7..12].copy_from_slice(&reference_bytes(image));
     bytes[12..].copy_from_slice(&description_bytes(desc));
     bytes
+}
+
+/// Writes the frame of a `SetValid`, at once.
+fn write_set_valid<K: Sink>(
+    sink: &mut K,
+    client: u16,
+    image: ObjRef,
+    valid: Rect,
+) -> Result<(), StreamFault>
+    requires { K.failures sink.old < 2 ^ 62 }
+    ensures { Writes K.taken K.failures sink.old sink.new
+        (frame_bytes (request_frame client (SetValidRequest image valid))) result }
+{
+    let [a, b, c, d, e] = reference_bytes(image);
+    let [f, g, h, i, j, k, l, m] = rectangle_bytes(valid);
+    let body = [a, b, c, d, e, f, g, h, i, j, k, l, m];
+    write_short(sink, client, Op::SetValid.number(), &body)
 }
 
 /// Writes the frame of a `CreateLut`: all before the entries at once, and then the entries.

@@ -1,11 +1,12 @@
 //! The bodies of requests about images.
 ghost use Rattle.std.specs.Prelude.{◌≡◌, Ok, IfOk, IfErr};
 ghost use Rattle.vx_wire.specs.Faults.{FailsFor};
-ghost use Rattle.vx_wire.specs.Images.{create_image_in, write_image_in, read_image_in};
+ghost use Rattle.vx_wire.specs.Images.{create_image_in, query_image_in, write_image_in, read_image_in, set_valid_in};
 
 use crate::body_fault::BodyFault;
 use crate::fields::Fields;
 use crate::fields::description::take_description;
+use crate::fields::rectangle::take_rectangle;
 use crate::fields::reference::take_reference;
 use crate::fields::samples::{decode, take_samples};
 use crate::parse_fault::ParseFault;
@@ -21,6 +22,16 @@ pub fn create_image(body: &[u8]) -> Result<Request, BodyFault>
     let desc = take_description(&mut fields)?;
     fields.end()?;
     Ok(Request::CreateImage(desc))
+}
+
+/// A reference.
+pub fn query_image(body: &[u8]) -> Result<Request, BodyFault>
+    ensures { result ≡ query_image_in body.now }
+{
+    let mut fields = Fields::new(body);
+    let image = take_reference(&mut fields)?;
+    fields.end()?;
+    Ok(Request::QueryImage(image))
 }
 
 /// A reference and a picture.
@@ -46,4 +57,15 @@ pub fn read_image(body: &[u8]) -> Result<Request, BodyFault>
     let image = take_reference(&mut fields)?;
     fields.end()?;
     Ok(Request::ReadImage(image))
+}
+
+/// A reference and a rectangle.
+pub fn set_valid(body: &[u8]) -> Result<Request, BodyFault>
+    ensures { result ≡ set_valid_in body.now }
+{
+    let mut fields = Fields::new(body);
+    let image = take_reference(&mut fields)?;
+    let valid = take_rectangle(&mut fields)?;
+    fields.end()?;
+    Ok(Request::SetValid(image, valid))
 }

@@ -8,3 +8,6 @@ returns-in-Immediate-clause-written g c = rw c.in-Immediate.is (rw (c.number-in-
 
 pub returns-in-CreateDelay-clause-written : goal.returns-in-CreateDelay-clause-written
 returns-in-CreateDelay-clause-written g c = rw c.in-CreateDelay.is c.write_create_delay.ensures
+
+pub returns-in-SetValid-clause-written : goal.returns-in-SetValid-clause-written
+returns-in-SetValid-clause-written g c = rw c.in-SetValid.is c.write_set_valid.ensures
