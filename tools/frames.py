@@ -2,11 +2,12 @@
 
 import struct
 
-(OPEN_CONTEXT, RELEASE_CONTEXT, CREATE_IMAGE, WRITE_IMAGE, READ_IMAGE, RELEASE, CREATE_LUT, CREATE_THRESHOLD,
- IMMEDIATE, CREATE_DELAY, AGE_DELAY) = 1, 2, 3, 5, 7, 10, 11, 12, 24, 25, 26
+(OPEN_CONTEXT, RELEASE_CONTEXT, CREATE_IMAGE, QUERY_IMAGE, WRITE_IMAGE, READ_IMAGE, SET_VALID, RELEASE, CREATE_LUT,
+ CREATE_THRESHOLD, IMMEDIATE, CREATE_DELAY, AGE_DELAY) = 1, 2, 3, 4, 5, 7, 9, 10, 11, 12, 24, 25, 26
 CREATES = (CREATE_IMAGE, CREATE_LUT, CREATE_THRESHOLD, CREATE_DELAY)
 U8, S16, U32 = 1, 2, 3
 SAMPLE_LETTERS = {U8: "B", S16: "h", U32: "I"}
+FORMAT_NAMES = {U8: "U8", S16: "S16", U32: "U32"}
 (AND_BITS, OR_BITS, XOR_BITS, NOT_BITS, ADD, SUBTRACT, MULTIPLY, ABSOLUTE_DIFFERENCE, MIN_PIXEL, MAX_PIXEL, THRESHOLD,
  TABLE_LOOKUP, CONVERT_DEPTH) = range(1, 14)
 WRAP, SATURATE = 0, 1
@@ -53,12 +54,21 @@ def create_image(client, fmt, width, height):
     return frame(client, CREATE_IMAGE, struct.pack(">BHH", fmt, width, height))
 
 
+def query_image(client, named):
+    return frame(client, QUERY_IMAGE, operand(named))
+
+
 def write_image(client, named, fmt, width, height, samples):
     return frame(client, WRITE_IMAGE, operand(named) + struct.pack(">BHH", fmt, width, height) + samples)
 
 
 def read_image(client, named):
     return frame(client, READ_IMAGE, operand(named))
+
+
+def set_valid(client, named, rectangle):
+    """The rectangle is x0, y0, x1, y1: a start that belongs to it, an end that doesn't; four zeros where it is empty."""
+    return frame(client, SET_VALID, operand(named) + struct.pack(">4H", *rectangle))
 
 
 def release(client, name):
@@ -125,6 +135,12 @@ def rows_of(reply):
     return [samples[y * width : (y + 1) * width] for y in range(height)]
 
 
+def description_of(reply):
+    """Of an image that was asked for: its format, its width and its height, and its valid rectangle as x0, y0, x1, y1."""
+    fmt, width, height, *valid = struct.unpack(">BHH4H", reply[8:])
+    return fmt, width, height, tuple(valid)
+
+
 def say(reply):
     """A reply in a line of words."""
     client, op, code = struct.unpack_from(">HBB", reply, 4)
@@ -132,6 +148,9 @@ def say(reply):
     line = f"client {client}, op {op}: {CODES[code]}"
     if code == 0 and op in CREATES:
         line += f", name {struct.unpack('>I', body)[0]}"
+    if code == 0 and op == QUERY_IMAGE:
+        fmt, width, height, valid = description_of(reply)
+        line += f", {FORMAT_NAMES[fmt]}, {width} by {height}, valid {','.join(map(str, valid))}"
     if code == 0 and op == READ_IMAGE:
         rows = rows_of(reply)
         line += f", {len(rows[0])} by {len(rows)}: " + " / ".join(" ".join(map(str, row)) for row in rows)

@@ -14,9 +14,9 @@ import frames
 from frames import S16, U8, U32
 
 # The ops that the program knows. Every other is answered INVALID_PARAMETERS, also where it has a row in REQUESTS.
-STANDING = {1, 2, 3, 5, 7, 10, 11, 12, 24, 25, 26}
+STANDING = {1, 2, 3, 4, 5, 7, 9, 10, 11, 12, 24, 25, 26}
 
-OPEN_CONTEXT, RELEASE_CONTEXT, CREATE_IMAGE, WRITE_IMAGE, READ_IMAGE = 1, 2, 3, 5, 7
+OPEN_CONTEXT, RELEASE_CONTEXT, CREATE_IMAGE, QUERY_IMAGE, WRITE_IMAGE, READ_IMAGE, SET_VALID = 1, 2, 3, 4, 5, 7, 9
 RELEASE, CREATE_LUT, CREATE_THRESHOLD, IMMEDIATE, CREATE_DELAY, AGE_DELAY = 10, 11, 12, 24, 25, 26
 
 (SUCCESS, NO_MEMORY, INVALID_PARAMETERS, INVALID_REFERENCE, INVALID_SCOPE, INVALID_FORMAT, INVALID_DIMENSION, INVALID_VALUE,
@@ -86,6 +86,15 @@ def whole(width, height):
     return Rectangle(0, 0, width, height)
 
 
+def is_rectangle(rectangle):
+    """Whether each start is below its end; the empty one is four zeros and nothing else."""
+    return rectangle == EMPTY or (rectangle.left < rectangle.right and rectangle.top < rectangle.bottom)
+
+
+def is_within(rectangle, width, height):
+    return rectangle.right <= width and rectangle.bottom <= height
+
+
 def meet(one, other):
     """The places that are in both."""
     left, top = max(one.left, other.left), max(one.top, other.top)
@@ -120,6 +129,11 @@ def made(fmt, width, height, valid, sample):
         for place in range(y * width + valid.left, y * width + valid.right):
             samples[place] = sample(place)
     return Image(fmt, width, height, valid, samples)
+
+
+def confined(image, valid):
+    """The image with another valid rectangle. What isn't in both this and the old one is 0."""
+    return made(image.fmt, image.width, image.height, valid, lambda place: image.samples[place])
 
 
 def new_delay(image, slots):
@@ -272,6 +286,12 @@ def take_slots(fields):
     return slots
 
 
+def take_rectangle(fields):
+    rectangle = Rectangle(*struct.unpack(">4H", fields.bytes(8)))
+    refuse_if(not is_rectangle(rectangle), INVALID_VALUE)
+    return rectangle
+
+
 def take_samples(fields, fmt, count):
     return struct.unpack(f">{count}{frames.SAMPLE_LETTERS[fmt]}", fields.bytes(count * sample_bytes(fmt)))
 
@@ -305,6 +325,10 @@ def take_threshold(fields):
 
 def description_bytes(image):
     return struct.pack(">BHH", image.fmt, image.width, image.height)
+
+
+def rectangle_bytes(rectangle):
+    return struct.pack(">4H", *rectangle)
 
 
 def encoded_samples(image):
@@ -355,6 +379,11 @@ def image_in(context, cell):
     return thing
 
 
+def query_image(_, state, cell):
+    image = image_in(state.context, cell)
+    return description_bytes(image) + rectangle_bytes(image.valid)
+
+
 def write_image(_, state, cell, picture):
     image = image_in(state.context, cell)
     refuse_if(picture.fmt != image.fmt, INVALID_FORMAT)
@@ -366,6 +395,13 @@ def write_image(_, state, cell, picture):
 def read_image(_, state, cell):
     image = image_in(state.context, cell)
     return description_bytes(image) + encoded_samples(image)
+
+
+def set_valid(_, state, cell, rectangle):
+    image = image_in(state.context, cell)
+    refuse_if(not is_within(rectangle, image.width, image.height), INVALID_VALUE)
+    put(state.context, cell, confined(image, rectangle))
+    return b""
 
 
 def release(_, state, name):
@@ -634,8 +670,10 @@ REQUESTS = {
     OPEN_CONTEXT: Request(take_nothing, open_context, {SUCCESS, INVALID_PARAMETERS, INVALID_VALUE}),
     RELEASE_CONTEXT: Request(take_nothing, release_context, NAME_CODES),
     CREATE_IMAGE: Request(take_description, create_image, CREATE_CODES | {INVALID_DIMENSION}),
+    QUERY_IMAGE: Request(each(take_cell), query_image, IMAGE_CODES),
     WRITE_IMAGE: Request(each(take_cell, take_picture), write_image, PICTURE_CODES),
     READ_IMAGE: Request(each(take_cell), read_image, IMAGE_CODES),
+    SET_VALID: Request(each(take_cell, take_rectangle), set_valid, IMAGE_CODES),
     RELEASE: Request(each(take_name), release, NAME_CODES),
     CREATE_LUT: Request(each(take_lut), create_lut, CREATE_CODES),
     CREATE_THRESHOLD: Request(each(take_threshold), create_threshold, CREATE_CODES | {INVALID_VALUE}),

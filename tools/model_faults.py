@@ -160,6 +160,11 @@ def with_outcome(op, outcome):
     return {"REQUESTS": {**right.REQUESTS, op: right.REQUESTS[op]._replace(outcome=outcome)}}
 
 
+def with_fields(op, *takes):
+    """A request whose body has other fields."""
+    return {"REQUESTS": {**right.REQUESTS, op: right.REQUESTS[op]._replace(take=right.each(*takes))}}
+
+
 OBJECT_FAULTS = (
     Fault("a new image isn't 0", None, {"new_image": image_of_ones}),
     Fault("a new image isn't valid in its last column", None, {"new_image": image_in_part}),
@@ -178,6 +183,268 @@ OBJECT_FAULTS = (
     Fault("the name of an object that was released is given again", right.RELEASE,
           with_outcome(right.RELEASE, release_to_give_again)),
     Fault("an image that was released is still charged", right.RELEASE, still_charged()),
+)
+
+
+# ---- valid rectangles: without these two requests all of them are whole, and nobody is told of one
+
+QUERY_IMAGE, SET_VALID = right.QUERY_IMAGE, right.SET_VALID
+
+
+def whole_of(image):
+    return right.whole(image.width, image.height)
+
+
+def uncleared(image, valid):
+    return image._replace(valid=valid)
+
+
+def hidden_samples(image):
+    """The bytes of samples that are 0 only for now where they aren't valid."""
+    return right.encoded_samples(right.confined(image, image.valid))
+
+
+def cleared_by_rows(image, valid):
+    rows = valid._replace(left=0, right=image.width)
+    return right.confined(image, rows if valid != right.EMPTY else valid)._replace(valid=valid)
+
+
+def cleared(image, valid):
+    return right.made(image.fmt, image.width, image.height, valid, lambda _: 0)
+
+
+def confined_further(image, valid):
+    return right.confined(image, right.meet(image.valid, valid))
+
+
+def is_within_if(applies):
+    """What is beyond an image and isn't refused is cut off."""
+    def confined(image, valid):
+        return right.confined(image, right.meet(valid, whole_of(image)))
+
+    return {"is_within": applies, "confined": confined}
+
+
+def set_valid_before_refusal(limits, state, cell, rectangle):
+    image = right.image_in(state.context, cell)
+    right.set_valid(limits, state, cell, right.meet(rectangle, whole_of(image)))
+    return right.set_valid(limits, state, cell, rectangle)
+
+
+def set_valid_in_all_slots(limits, state, cell, rectangle):
+    right.set_valid(limits, state, cell, rectangle)
+    thing = state.context.objects[cell.name]
+    for slot in range(len(thing.images) if isinstance(thing, model.Delay) else 0):
+        right.set_valid(limits, state, cell._replace(slot=slot), rectangle)
+    return b""
+
+
+def any_rectangle(fields):
+    return model.Rectangle(*(fields.short() for _ in range(4)))
+
+
+def refused_unless(is_rectangle, code=model.INVALID_VALUE):
+    def take(fields):
+        rectangle = any_rectangle(fields)
+        model.refuse_if(not is_rectangle(rectangle), code)
+        return right.meet(rectangle, rectangle)
+
+    return with_fields(SET_VALID, right.take_cell, take)
+
+
+def is_ordered(rectangle):
+    return rectangle.left <= rectangle.right and rectangle.top <= rectangle.bottom
+
+
+def is_rectangle_of_places(rectangle):
+    return right.is_rectangle(rectangle) and rectangle != right.EMPTY
+
+
+def rectangle_turned_back(fields):
+    one, other, three, four = any_rectangle(fields)
+    return model.Rectangle(min(one, three), min(other, four), max(one, three), max(other, four))
+
+
+def rectangle_with_last(fields):
+    rectangle = right.take_rectangle(fields)
+    return rectangle._replace(right=rectangle.right + 1, bottom=rectangle.bottom + 1)
+
+
+def rectangle_by_axes(fields):
+    left, end, top, bottom = any_rectangle(fields)
+    model.refuse_if(not right.is_rectangle(model.Rectangle(left, top, end, bottom)), model.INVALID_VALUE)
+    return model.Rectangle(left, top, end, bottom)
+
+
+def rectangle_by_numbers(fields):
+    """It is refused as soon as its first three numbers are there."""
+    left, _, end = (fields.short() for _ in range(3))
+    model.refuse_if(left > end, model.INVALID_VALUE)
+    fields.at -= 6
+    return right.take_rectangle(fields)
+
+
+def rectangle_after_image():
+    """A rectangle that is turned is refused where one beyond the image is."""
+    def set_valid(limits, state, cell, rectangle):
+        right.image_in(state.context, cell)
+        model.refuse_if(not right.is_rectangle(rectangle), model.INVALID_VALUE)
+        return right.set_valid(limits, state, cell, rectangle)
+
+    row = right.REQUESTS[SET_VALID]._replace(take=right.each(right.take_cell, any_rectangle), outcome=set_valid)
+    return {"REQUESTS": {**right.REQUESTS, SET_VALID: row}}
+
+
+def query_of_whole(_, state, cell):
+    image = right.image_in(state.context, cell)
+    return right.description_bytes(image) + right.rectangle_bytes(whole_of(image))
+
+
+def query_of_samples(_, state, cell):
+    """The least rectangle with all samples that aren't 0."""
+    image = right.image_in(state.context, cell)
+    places = [divmod(place, image.width) for place, sample in enumerate(image.samples) if sample != 0]
+    rows, columns = [y for y, _ in places], [x for _, x in places]
+    valid = (min(columns), min(rows), max(columns) + 1, max(rows) + 1) if places else right.EMPTY
+    return right.description_bytes(image) + right.rectangle_bytes(valid)
+
+
+def told_as(order):
+    """Rectangles whose numbers are told otherwise."""
+    return {"rectangle_bytes": lambda rectangle: right.rectangle_bytes(order(*rectangle))}
+
+
+def write_valid_samples(limits, state, cell, picture):
+    valid = right.image_in(state.context, cell).valid
+    right.write_image(limits, state, cell, picture)
+    right.put(state.context, cell, right.confined(picture, valid))
+    return b""
+
+
+def write_samples_alone(limits, state, cell, picture):
+    valid = right.image_in(state.context, cell).valid
+    right.write_image(limits, state, cell, picture)
+    right.put(state.context, cell, picture._replace(valid=valid))
+    return b""
+
+
+def aged_without_rectangles(delay):
+    pairs = zip(right.aged(delay).images, delay.images)
+    return model.Delay(tuple(image._replace(valid=there.valid) for image, there in pairs))
+
+
+def aged_to_whole(delay):
+    return model.Delay(tuple(image._replace(valid=whole_of(image)) for image in right.aged(delay).images))
+
+
+def delay_with_rectangle(image, slots):
+    return model.Delay(tuple(new._replace(valid=image.valid) for new in right.new_delay(image, slots).images))
+
+
+def joined(one, other):
+    """The least rectangle that has both in it."""
+    if right.EMPTY in (one, other):
+        return other if one == right.EMPTY else one
+    return model.Rectangle(*map(min, one[:2], other[:2]), *map(max, one[2:], other[2:]))
+
+
+def meet_in_any_spelling(one, other):
+    left, top = max(one.left, other.left), max(one.top, other.top)
+    return model.Rectangle(left, top, max(left, min(one.right, other.right)), max(top, min(one.bottom, other.bottom)))
+
+
+def with_output(change, numbers=right.FUNCTIONS):
+    """Functions whose output is changed, of what the operands were."""
+    def changed(function):
+        def gives(node, things):
+            return {k: change(image, things) for k, image in function.gives(node, things).items()}
+
+        return function._replace(gives=gives)
+
+    return {"FUNCTIONS": {**right.FUNCTIONS, **{number: changed(right.FUNCTIONS[number]) for number in numbers}}}
+
+
+def valid_as(k):
+    """An output with the rectangle that an operand had."""
+    return lambda image, things: image._replace(valid=things[k].valid)
+
+
+def wholly_valid(image, _):
+    return image._replace(valid=whole_of(image))
+
+
+def valid_in_both(image, things):
+    return right.confined(image, right.meet(image.valid, things[model.OUT1].valid))
+
+
+def over_the_old(image, things):
+    inside = right.made(image.fmt, image.width, image.height, image.valid, lambda _: True).samples
+    samples = [new if is_inside else old for new, old, is_inside in zip(image.samples, things[model.OUT1].samples, inside)]
+    return image._replace(samples=samples)
+
+
+def rectangles_of(number):
+    """Wrong rectangles of what one function gives."""
+    yield Fault(f"function {number} gives an image that is wholly valid", SET_VALID, with_output(wholly_valid, [number]))
+    if right.FUNCTIONS[number].kinds == right.TWO_IMAGES:
+        for k, words in ((model.IN1, "first"), (model.IN2, "second")):
+            yield Fault(f"function {number} gives an image that is valid where the {words} input is", SET_VALID,
+                        with_output(valid_as(k), [number]))
+
+
+RECTANGLE_FAULTS = (
+    Fault("SetValid leaves the samples outside", SET_VALID, {"confined": uncleared}),
+    Fault("samples come back where they become valid again", SET_VALID,
+          {"confined": uncleared, "encoded_samples": hidden_samples}),
+    Fault("SetValid leaves the samples beside the rectangle", SET_VALID, {"confined": cleared_by_rows}),
+    Fault("SetValid makes all samples 0", SET_VALID, {"confined": cleared}),
+    Fault("a valid rectangle can't become greater", SET_VALID, {"confined": confined_further}),
+    Fault("SetValid in a slot is for all slots of the delay", SET_VALID, with_outcome(SET_VALID, set_valid_in_all_slots)),
+    Fault("a rectangle is cut off at the image's ends", SET_VALID, is_within_if(lambda *_: True)),
+    Fault("a rectangle may end one place beyond the image", SET_VALID,
+          is_within_if(lambda rectangle, width, height: right.is_within(rectangle, width + 1, height + 1))),
+    Fault("a rectangle ends before the image's last place", SET_VALID,
+          is_within_if(lambda rectangle, width, height: right.is_within(rectangle, width - 1, height - 1))),
+    Fault("a rectangle may end below the image", SET_VALID,
+          is_within_if(lambda rectangle, width, _: rectangle.right <= width)),
+    Fault("a rectangle may end beside the image", SET_VALID,
+          is_within_if(lambda rectangle, _, height: rectangle.bottom <= height)),
+    Fault("width and height are exchanged for a rectangle", SET_VALID,
+          is_within_if(lambda rectangle, width, height: right.is_within(rectangle, height, width))),
+    Fault("a SetValid that is refused changes the image", SET_VALID, with_outcome(SET_VALID, set_valid_before_refusal)),
+    Fault("the empty rectangle has many spellings", SET_VALID, refused_unless(is_ordered)),
+    Fault("the empty rectangle can't be set", SET_VALID, refused_unless(is_rectangle_of_places)),
+    Fault("a rectangle that is turned answers INVALID_PARAMETERS", SET_VALID,
+          refused_unless(right.is_rectangle, model.INVALID_PARAMETERS)),
+    Fault("a rectangle that is turned is turned back", SET_VALID,
+          with_fields(SET_VALID, right.take_cell, rectangle_turned_back)),
+    Fault("a rectangle's last column and row belong to it", SET_VALID,
+          with_fields(SET_VALID, right.take_cell, rectangle_with_last)),
+    Fault("SetValid has the columns before the rows", SET_VALID,
+          with_fields(SET_VALID, right.take_cell, rectangle_by_axes)),
+    Fault("a rectangle that is cut short is looked at", SET_VALID,
+          with_fields(SET_VALID, right.take_cell, rectangle_by_numbers)),
+    Fault("a rectangle that is turned is told after what is wrong with its image", SET_VALID, rectangle_after_image()),
+    Fault("QueryImage tells the whole image as valid", SET_VALID, with_outcome(QUERY_IMAGE, query_of_whole)),
+    Fault("QueryImage tells where samples aren't 0", QUERY_IMAGE, with_outcome(QUERY_IMAGE, query_of_samples)),
+    Fault("QueryImage tells a rectangle's size", SET_VALID,
+          told_as(lambda left, top, end, bottom: (left, top, end - left, bottom - top))),
+    Fault("QueryImage tells a rectangle's last column and row", QUERY_IMAGE,
+          told_as(lambda left, top, end, bottom: (left, top, max(end, 1) - 1, max(bottom, 1) - 1))),
+    Fault("QueryImage tells the columns before the rows", QUERY_IMAGE,
+          told_as(lambda left, top, end, bottom: (left, end, top, bottom))),
+    Fault("WriteImage writes where the image is valid", SET_VALID, with_outcome(right.WRITE_IMAGE, write_valid_samples)),
+    Fault("WriteImage leaves the valid rectangle", SET_VALID, with_outcome(right.WRITE_IMAGE, write_samples_alone)),
+    Fault("ageing leaves the rectangles where they were", SET_VALID, {"aged": aged_without_rectangles}),
+    Fault("ageing makes the images wholly valid", SET_VALID, {"aged": aged_to_whole}),
+    Fault("the slots of a new delay are valid where its exemplar is", SET_VALID, {"new_delay": delay_with_rectangle}),
+    Fault("an output is valid where one of its inputs is", SET_VALID, {"meet": joined}),
+    Fault("an output that is valid nowhere has an empty rectangle in another spelling", SET_VALID,
+          {"meet": meet_in_any_spelling}),
+    Fault("an output keeps its rectangle", SET_VALID, with_output(valid_as(model.OUT1))),
+    Fault("an output is valid only where it was before", SET_VALID, with_output(valid_in_both)),
+    Fault("an output keeps its samples outside the rectangle", SET_VALID, with_output(over_the_old)),
+    *(fault for number in right.FUNCTIONS for fault in rectangles_of(number)),
 )
 
 
@@ -254,11 +521,6 @@ def slots_to_17(fields):
     return slots
 
 
-def delays_with(take):
-    row = right.REQUESTS[right.CREATE_DELAY]._replace(take=right.each(right.take_cell, take))
-    return {"REQUESTS": {**right.REQUESTS, right.CREATE_DELAY: row}}
-
-
 def node_refusal_at(k, applies):
     rows = [*right.NODE_REFUSALS]
     rows[k] = (applies, rows[k][1])
@@ -273,7 +535,8 @@ DELAY_FAULTS = (
     Fault("a delay without a slot is its newest one", right.CREATE_DELAY, with_cells_at(newest_without_slot)),
     Fault("a slot that isn't there is told as INVALID_TYPE", right.CREATE_DELAY, {"held": held_or_no_kind}),
     Fault("a delay has copies of its exemplar", right.CREATE_DELAY, {"new_delay": delay_of_copies}),
-    Fault("a delay may have 17 slots", right.CREATE_DELAY, delays_with(slots_to_17)),
+    Fault("a delay may have 17 slots", right.CREATE_DELAY,
+          with_fields(right.CREATE_DELAY, right.take_cell, slots_to_17)),
     Fault("a delay is charged for one slot", right.CREATE_DELAY, {"object_bytes": bytes_of_one_slot}),
     Fault("a delay is as many objects as it has slots", right.CREATE_DELAY, {"has_room": has_room_for_slots}),
     Fault("two slots of a delay are one image", right.CREATE_DELAY, node_refusal_at(4, reads_own_delay)),
@@ -440,4 +703,4 @@ REFUSAL_FAULTS = (
     Fault("WriteImage tries sizes before formats", None, with_outcome(right.WRITE_IMAGE, write_image_by_size)),
 )
 
-FAULTS = FUNCTION_FAULTS + OBJECT_FAULTS + DELAY_FAULTS + CLIENT_FAULTS + BODY_FAULTS + REFUSAL_FAULTS
+FAULTS = FUNCTION_FAULTS + OBJECT_FAULTS + RECTANGLE_FAULTS + DELAY_FAULTS + CLIENT_FAULTS + BODY_FAULTS + REFUSAL_FAULTS

@@ -28,7 +28,7 @@ fn are_bytes(samples: &[u8])
 {}
 
 /// The image of these samples, which are 0 outside the rectangle from here on.
-fn lend(desc: Desc, valid: Rect, samples: &mut [u8]) -> Image<'_>
+pub fn lend(desc: Desc, valid: Rect, samples: &mut [u8]) -> Image<'_>
     requires format { desc.format ≡ U8 }
     requires size { length samples.old ≡ sample_count desc }
     requires room { IsWithin valid desc.width desc.height }

@@ -12,6 +12,7 @@
 //! - `tables`: names, uses and the charge of a table
 //! - `values`: rectangles, codes and tables
 //! - `images`: images that are valid in a part
+//! - `kernels`, `texts`: windows, statistics and PGM texts, which no request asks for yet
 #![tactic(auto)]
 
 #[cfg(test)]
@@ -23,11 +24,15 @@ mod devices;
 #[cfg(test)]
 mod images;
 #[cfg(test)]
+mod kernels;
+#[cfg(test)]
 mod requests;
 #[cfg(test)]
 mod streams;
 #[cfg(test)]
 mod tables;
+#[cfg(test)]
+mod texts;
 #[cfg(test)]
 mod turns;
 #[cfg(test)]

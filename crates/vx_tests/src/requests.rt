@@ -5,7 +5,7 @@ use std::alloc::Global;
 use std::fmt::Display;
 use std::test::Fail;
 use vx_base::{
-    Border, Desc, Format, Function, Lut, Node, NodeSpec, ObjRef, Picture, Policy, Samples,
+    Border, Desc, Format, Function, Lut, Node, NodeSpec, ObjRef, Picture, Policy, Rect, Samples,
     SlotCount, ThresholdKind, ThresholdRule,
 };
 use vx_requests::{Failed, ParseFault, StreamFault, parse, write_request};
@@ -41,6 +41,11 @@ fn request(number: u8) -> Option<Request> {
         7 => Some(Request::Release(258)),
         8 => Some(Request::CreateDelay(ObjRef::new(1, None), SlotCount::new(3)?)),
         9 => Some(Request::AgeDelay(2)),
+        10 => Some(Request::QueryImage(ObjRef::new(1, None))),
+        11 => {
+            let valid = Rect::new(1, 0, 258, 4096)?;
+            Some(Request::SetValid(ObjRef::new(258, Some(3)), valid))
+        }
         _ => None,
     }
 }
@@ -58,7 +63,7 @@ fn node() -> Option<NodeSpec> {
     })
 }
 
-const FRAMES: [&[u8]; 10] = [
+const FRAMES: [&[u8]; 12] = [
     b"\0\0\0\x03\x01\x02\x01",
     b"\0\0\0\x08\x01\x02\x03\x03\x10\0\0\x02",
     b"\0\0\0\x08\x01\x02\x07\0\0\0\x07\xfe",
@@ -69,6 +74,8 @@ const FRAMES: [&[u8]; 10] = [
     b"\0\0\0\x07\x01\x02\x0a\0\0\x01\x02",
     b"\0\0\0\x09\x01\x02\x19\0\0\0\x01\xff\x03",
     b"\0\0\0\x07\x01\x02\x1a\0\0\0\x02",
+    b"\0\0\0\x08\x01\x02\x04\0\0\0\x01\xff",
+    b"\0\0\0\x10\x01\x02\x09\0\0\x01\x02\x03\0\x01\0\0\x01\x02\x10\0",
 ];
 
 /// Whether a request is written to these bytes.

@@ -1,0 +1,67 @@
+//! PGM texts: pictures, and texts that stand for none.
+use pgm_images::{PgmFault, read};
+use std::test::Fail;
+use vx_base::{Desc, Format, Samples};
+
+#[test]
+fn pictures(rt: HostRuntime) -> Result<(), Fail> {
+    let raw = read(rt.alloc(), b"P5\n2 1\n255\n\x0A\x14")?;
+    assert_eq!(rt; Some(raw.desc()), Desc::new(2, 1, Format::U8));
+    assert!(rt;
+        matches!(raw.samples(), Samples::U8(samples) if samples.as_slice() == [10, 20].as_slice())
+    );
+    let plain = read(rt.alloc(), b"P2#one\n1 01 300 5 # five\n")?;
+    assert_eq!(rt; Some(plain.desc()), Desc::new(1, 1, Format::S16));
+    assert!(rt;
+        matches!(plain.samples(), Samples::S16(samples) if samples.as_slice() == [5].as_slice())
+    );
+    Ok(())
+}
+
+/// Why a text stands for no picture.
+fn fault(rt: HostRuntime, text: &[u8]) -> Option<PgmFault> {
+    read(rt.alloc(), text).err()
+}
+
+#[test]
+fn no_pictures(rt: HostRuntime) {
+    let texts: [(&[u8], PgmFault); 16] = [
+        (b"", PgmFault::InvalidFormat),
+        (b"P6 1 1 255 0", PgmFault::InvalidFormat),
+        (b"P5 1 1 255", PgmFault::InvalidFormat),
+        (b"P5 0 1 255x", PgmFault::InvalidFormat),
+        (b"P5 1 1 255#c\n \0", PgmFault::InvalidFormat),
+        (b"P2 1 1 255 #", PgmFault::InvalidFormat),
+        (b"P2\x0B1 1 255 0", PgmFault::InvalidFormat),
+        (b"P2 0 1 255x", PgmFault::InvalidDimension),
+        (b"P5 0 1 255 ", PgmFault::InvalidDimension),
+        (
+            b"P5 1 99999999999999999999999999 0 ",
+            PgmFault::InvalidDimension,
+        ),
+        (b"P5 65537 1 255 \0", PgmFault::InvalidDimension),
+        (b"P2 1 1 0 0", PgmFault::InvalidFormat),
+        (b"P2 1 1 32768 0", PgmFault::InvalidFormat),
+        (b"P5 1 1 255 \0\0", PgmFault::InvalidFormat),
+        (b"P2 1 1 9 10 x", PgmFault::InvalidFormat),
+        (b"P2 1 1 9 10", PgmFault::InvalidValue),
+    ];
+    for (text, why) in texts {
+        assert_eq!(rt; fault(rt, text), Some(why));
+    }
+}
+
+#[test]
+fn what_is_cut_short_is_none(rt: HostRuntime) {
+    for text in [
+        b"P5 2 1 255 \x0A\x14".as_slice(),
+        b"P5#c\n2\t1\r255\n\x0A\x14",
+        b"P5 1 1 300 \x01\x00",
+        b"P2 2 1 255 1 2",
+    ] {
+        for end in 0..text.len() {
+            assert!(rt; fault(rt, &text[..end]).is_some());
+        }
+        assert_eq!(rt; fault(rt, text), None);
+    }
+}
