@@ -1,5 +1,5 @@
 //! Objects under their names, with their charge.
-ghost use Rattle.std.specs.Prelude.{◌≡◌, ◌+◌, ◌*◌, ◌<◌, ◌≤◌, IsTrue, unwrap_or, is_none, Some, None, [], if◌then◌else◌, length, position, Any, All, IfOk, IfErr, OnOk, OnErr, Ok, Err};
+ghost use Rattle.std.specs.Prelude.{◌≡◌, ◌+◌, ◌*◌, ◌<◌, ◌≤◌, ◌==◌, IsTrue, unwrap_or, is_none, Some, None, [], if◌then◌else◌, length, position, Any, All, IfOk, IfErr, OnOk, OnErr, Ok, Err};
 ghost use Rattle.std.specs.Option.{option_map};
 ghost use Rattle.vx_base.specs.declared.kind.Kind.TheVariants as kind;
 ghost use Rattle.vx_base.specs.Rectangle.{IsWithin};
@@ -111,6 +111,14 @@ impl Table {
         ensures names { IsNames self.now.next self.now.objects }
     {
         self.names.index_of(name)
+    }
+
+    /// The index of the object that is held under this name, which may be released.
+    pub fn index_of_held(&self, name: u32) -> Option<usize>
+        ensures index { result ≡ position (λ e. e.name == name) self.now.objects }
+        ensures names { IsNames self.now.next self.now.objects }
+    {
+        self.names.search(name)
     }
 
     /// The object at an index.

@@ -52,6 +52,9 @@ fn held_by_a_use(table: &mut Table, object: Object) -> Result<[(usize, u64); 2],
     let Ok(()) = table.release(1) else {
         return Err("its name is live".into());
     };
+    if table.index_of(1).is_some() || table.index_of_held(1) != Some(0) {
+        return Err("held, and not live".into());
+    }
     let used = (table.held(), table.charged_bytes());
     table.unuse(1);
     Ok([used, (table.held(), table.charged_bytes())])
