@@ -1,5 +1,5 @@
 -- Images as functions of places.
-use Rattle.std.proofs.Common.{◌≡◌, ℕ, ℤ, pos, ◌+◌, ◌*◌, ◌/◌, ◌%◌, ◌<◌, ◌⊎◌, inl, inr, List, ◌++◌, length, get_or, ap, ◌∙◌, sym, arith, true, false, Bool, zero, suc, add-one, cond, refl, subst}
+use Rattle.std.proofs.Common.{◌≡◌, ℕ, ℤ, pos, ◌+◌, ◌*◌, ◌/◌, ◌%◌, ◌<◌, ◌≤◌, ◌⊎◌, inl, inr, List, ◌++◌, length, get_or, ap, ◌∙◌, sym, arith, true, false, Bool, zero, suc, add-one, cond, refl, subst}
 use Rattle.std.proofs.lemmas.Bool.Decides.{nat_tests}
 use Rattle.std.proofs.lemmas.List.{ext_get_or, get_or-append_right}
 use Rattle.std.proofs.Math.ListN.{get_or-append}
@@ -65,9 +65,9 @@ module _ (width height : ℕ) (format : Format) (valid : Rectangle) (f : ℕ →
       cases (inl e) = let Q : ℤ → Type 0 = λ z. IsSample format z in subst Q (sym (at-made x y a b e)) (sampled x y e)
       cases (inr e) = let Q : ℤ → Type 0 = λ z. IsSample format z in subst Q (sym (at-made_outside x y a b e)) (zero_sample format)
 
-  pub made_image : IsOrdered valid → IsWithin valid width height → ((x y : ℕ) → inside valid x y ≡ true → IsSample format (f x y)) → IsImage (made width height format valid f)
-  made_image ordered room sampled =
-      record { size = length-table width height (within valid f); ordered = ordered; room = room; sampled = made_sampled sampled; outside = at-made_outside }
+  pub made_image : width ≤ 4096 → height ≤ 4096 → IsOrdered valid → IsWithin valid width height → ((x y : ℕ) → inside valid x y ≡ true → IsSample format (f x y)) → IsImage (made width height format valid f)
+  made_image wide high ordered room sampled =
+      record { sides = (wide, high); size = length-table width height (within valid f); ordered = ordered; room = room; sampled = made_sampled sampled; outside = at-made_outside }
 
 -- every index is the one of a place
 pub index_of_place : (width height k : ℕ) → k < height * width → (x : ℕ) × (y : ℕ) × (x < width) × (y < height) × (y * width + x ≡ k)
@@ -108,7 +108,7 @@ valid_sampled a x y h e = h.sampled x y (column_inside a.valid a.width a.height 
 
 pub made_of_itself : (a : ImageValue) → IsImage a → made a.width a.height a.format a.valid (at a) ≡ a
 made_of_itself a h =
-    places_decide (made a.width a.height a.format a.valid (at a)) a (made_image a.width a.height a.format a.valid (at a) h.ordered h.room (λ x y e. valid_sampled a x y h e)) h refl refl refl refl
+    places_decide (made a.width a.height a.format a.valid (at a)) a (made_image a.width a.height a.format a.valid (at a) h.sides.0 h.sides.1 h.ordered h.room (λ x y e. valid_sampled a x y h e)) h refl refl refl refl
     (λ x y i j. cases x y i j (true_or_false (inside a.valid x y)))
   where
     cases : (x y : ℕ) → x < a.width → y < a.height → (inside a.valid x y ≡ true) ⊎ (inside a.valid x y ≡ false) → at (made a.width a.height a.format a.valid (at a)) x y ≡ at a x y
@@ -118,14 +118,14 @@ made_of_itself a h =
 -- an image with another valid rectangle is one
 pub with_valid_is : (a : ImageValue) (valid : Rectangle) → IsImage a → IsOrdered valid → IsWithin valid a.width a.height → IsImage (with_valid valid a)
 with_valid_is a valid h ordered room =
-    made_image a.width a.height a.format valid (at a) ordered room (λ x y e. h.sampled x y (column_inside valid a.width a.height x y room e) (row_inside valid a.width a.height x y room e))
+    made_image a.width a.height a.format valid (at a) h.sides.0 h.sides.1 ordered room (λ x y e. h.sampled x y (column_inside valid a.width a.height x y room e) (row_inside valid a.width a.height x y room e))
 
 pub inside_whole : (width height x y : ℕ) → x < width → y < height → inside (whole width height) x y ≡ true
 inside_whole width height x y a b = grind (arith, nat_tests)
 
-pub new_image_is : (width height : ℕ) (format : Format) → IsImage (new_image width height format)
-new_image_is width height format =
-    made_image width height format (whole width height) (λ _ _. pos 0)
+pub new_image_is : (width height : ℕ) (format : Format) → width ≤ 4096 → height ≤ 4096 → IsImage (new_image width height format)
+new_image_is width height format wide high =
+    made_image width height format (whole width height) (λ _ _. pos 0) wide high
     (record { columns = omega arith; rows = omega arith }) (record { columns = omega arith; rows = omega arith })
     (λ x y e. zero_sample format)
 

@@ -5,6 +5,7 @@ pub mod ImageLaws
 pub mod PixelLaws
 pub mod ZeroLaws
 pub mod ResultLaws
-pub mod NodeLaws
 pub mod PictureLaws
 pub mod WindowLaws
+pub mod SumLaws
+pub mod NodeLaws

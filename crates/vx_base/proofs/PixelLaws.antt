@@ -11,7 +11,7 @@ use Rattle.vx_base.proofs.ImageLaws.{made_image, at-made, column_inside, row_ins
 
 pub from_one_is : (format : Format) (f : ℤ → ℤ) (a : ImageValue) → IsImage a → ((z : ℤ) → IsSample a.format z → IsSample format (f z)) → IsImage (from_one format f a)
 from_one_is format f a h gives =
-    made_image a.width a.height format a.valid (λ x y. f (at a x y)) h.ordered h.room (λ x y e. gives (at a x y) (valid_sampled a x y h e))
+    made_image a.width a.height format a.valid (λ x y. f (at a x y)) h.sides.0 h.sides.1 h.ordered h.room (λ x y e. gives (at a x y) (valid_sampled a x y h e))
 
 pub at-from_one : (format : Format) (f : ℤ → ℤ) (a : ImageValue) (x y : ℕ) → IsImage a → inside a.valid x y ≡ true → at (from_one format f a) x y ≡ f (at a x y)
 at-from_one format f a x y h e =
@@ -20,7 +20,7 @@ at-from_one format f a x y h e =
 
 pub from_two_is : (format : Format) (f : ℤ → ℤ → ℤ) (a b : ImageValue) → IsImage a → IsImage b → ((y z : ℤ) → IsSample a.format y → IsSample b.format z → IsSample format (f y z)) → IsImage (from_two format f a b)
 from_two_is format f a b h k gives =
-    made_image a.width a.height format (meet_of a.valid b.valid) (λ x y. f (at a x y) (at b x y)) ordered room
+    made_image a.width a.height format (meet_of a.valid b.valid) (λ x y. f (at a x y) (at b x y)) h.sides.0 h.sides.1 ordered room
     (λ x y e. let p = both_inside a.valid b.valid x y e in gives (at a x y) (at b x y) (valid_sampled a x y h p.0) (valid_sampled b x y k p.1))
   where
     ordered : IsOrdered (meet_of a.valid b.valid)

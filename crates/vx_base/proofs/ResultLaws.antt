@@ -10,7 +10,7 @@ use Rattle.vx_base.specs.declared.format.Format.TheVariants.{U8, S16}
 use Rattle.vx_base.specs.declared.policy.Policy.{Policy}
 use Rattle.vx_base.specs.declared.policy.Policy.TheVariants.{Wrap, Saturate}
 use Rattle.vx_base.specs.declared.function.Function.{Function}
-use Rattle.vx_base.specs.declared.function.Function.TheVariants.{AndBits, OrBits, XorBits, NotBits, Add, Subtract, Multiply, AbsoluteDifference, MinPixel, MaxPixel, Threshold, TableLookup, ConvertDepth}
+use Rattle.vx_base.specs.declared.function.Function.TheVariants.{AndBits, OrBits, XorBits, NotBits, Add, Subtract, Multiply, AbsoluteDifference, MinPixel, MaxPixel, Threshold, TableLookup, ConvertDepth, Box, Gaussian, Median, Erode, Dilate, Sobel, Convolve, Histogram, Integral, MinMaxLoc}
 use Rattle.vx_base.specs.Sample.{IsSample, wrap, clamp, narrow, distance}
 use Rattle.vx_base.specs.Function.{parameters}
 use Rattle.vx_base.specs.Formats.{takes_formats}
@@ -37,7 +37,7 @@ xor_sample a (negsuc b) p q = absurd (omega (arith, ints, q.at_least))
 wrap_sample : (format : Format) (v : ℤ) → IsSample format (wrap format v)
 wrap_sample format v = search rules
 
-clamp_sample : (format : Format) (v : ℤ) → IsSample format (clamp format v)
+pub clamp_sample : (format : Format) (v : ℤ) → IsSample format (clamp format v)
 clamp_sample format v = search rules
 
 narrow_sample : (format : Format) (policy : Policy) (v : ℤ) → IsSample format (narrow format policy v)
@@ -71,6 +71,17 @@ of_one NotBits U8 U8 policy n a t h s = search rules
 of_one ConvertDepth U8 S16 policy n a t h s = widened_sample n a (grind arith) s
 of_one ConvertDepth S16 U8 policy n a t h s = narrow_sample U8 policy (int_div_euclid a (pos (2 ^ n)))
 of_one Threshold U8 output policy n a t h s = not_so t
+of_one Box first output policy n a t h s = zero_sample output
+of_one Gaussian first output policy n a t h s = zero_sample output
+of_one Median first output policy n a t h s = zero_sample output
+of_one Erode first output policy n a t h s = zero_sample output
+of_one Dilate first output policy n a t h s = zero_sample output
+of_one Sobel first output policy n a t h s = zero_sample output
+of_one Convolve first output policy n a t h s = zero_sample output
+of_one Integral first output policy n a t h s = zero_sample output
+of_one Histogram U8 output policy n a t h s = not_so t
+of_one MinMaxLoc U8 output policy n a t h s = not_so t
+of_one MinMaxLoc S16 output policy n a t h s = not_so t
 of_one function first output policy n a t h s = not_so t
 
 pub of_two : (function : Function) (first second output : Format) (policy : Policy) (n : ℕ) (a b : ℤ) → IsTrue (takes_formats function first (Some second) (Some output)) → IsSample first a → IsSample second b → IsSample output (formula_of_two function output policy n a b)
@@ -89,4 +100,14 @@ of_two NotBits first second output policy n a b t p q = zero_sample output
 of_two Threshold first second output policy n a b t p q = zero_sample output
 of_two TableLookup first second output policy n a b t p q = zero_sample output
 of_two ConvertDepth first second output policy n a b t p q = zero_sample output
+of_two Box first second output policy n a b t p q = zero_sample output
+of_two Gaussian first second output policy n a b t p q = zero_sample output
+of_two Median first second output policy n a b t p q = zero_sample output
+of_two Erode first second output policy n a b t p q = zero_sample output
+of_two Dilate first second output policy n a b t p q = zero_sample output
+of_two Sobel first second output policy n a b t p q = zero_sample output
+of_two Convolve first second output policy n a b t p q = zero_sample output
+of_two Histogram first second output policy n a b t p q = zero_sample output
+of_two Integral first second output policy n a b t p q = zero_sample output
+of_two MinMaxLoc first second output policy n a b t p q = zero_sample output
 of_two function first second output policy n a b t p q = not_so t

@@ -1,6 +1,6 @@
 -- What windows see, and what comes of it.
 use Rattle.std.proofs.Common.{◌≡◌, ℕ, ℤ, pos, negsuc, ◌+◌, ◌-◌, ◌*◌, ◌/◌, ◌<◌, ◌≤◌, ◌+ℤ◌, ◌-ℤ◌, ◌≤ℤ◌, Bool, true, false, ◌&&◌, cond, List, [], ◌∷◌, ◌++◌, length, map, take, set, zero, suc, nat_lt, refl, ap, ◌∙◌, sym, subst, arith, rules, add-zero}
-use Rattle.std.specs.Prelude.{Some, unsigned_abs, unwrap_or}
+use Rattle.std.specs.Prelude.{Some, unsigned_abs, unwrap_or, int_div, ◌^◌}
 use Rattle.std.specs.Int.{int_div_euclid, int_min, int_max}
 use Rattle.std.specs.List.{find, fold}
 use Rattle.std.specs.Simd.Lanes.{Each1}
@@ -13,11 +13,12 @@ use Rattle.vx_base.specs.declared.border.Border.{Border}
 use Rattle.vx_base.specs.declared.border.Border.TheVariants.{Undefined, Constant, Replicate}
 use Rattle.vx_base.specs.Sample.{IsSample}
 use Rattle.vx_base.specs.Rectangle.{Rectangle, inside, empty, IsOrdered, IsWithin}
-use Rattle.vx_base.specs.Image.{ImageValue, IsImage, run, at}
+use Rattle.vx_base.specs.Convolution.{ConvolutionValue}
+use Rattle.vx_base.specs.Image.{ImageValue, IsImage, run, at, made}
 use Rattle.vx_base.specs.Node.{IsBorder}
-use Rattle.vx_base.specs.Window.{holds, nearest, beside, look, nine_around, total, weighted, box_mean, gaussian_weights, gaussian_mean, is_middle, median, least_of, greatest_of, gradient_x, gradient_y, window_valid, from_nine}
+use Rattle.vx_base.specs.Window.{holds, nearest, beside, look, nine_around, total, weighted, box_mean, gaussian_weights, gaussian_mean, is_middle, median, least_of, greatest_of, gradient_x, gradient_y, window_valid, from_nine, matrix_product, convolved, from_matrix}
 use Rattle.vx_base.proofs.TableLaws.{run-more}
-use Rattle.vx_base.proofs.ResultLaws.{zero_sample}
+use Rattle.vx_base.proofs.ResultLaws.{zero_sample, clamp_sample}
 use Rattle.vx_base.proofs.ImageLaws.{made_image}
 
 -- ---- runs
@@ -164,29 +165,42 @@ shrunk_some : (r : Rectangle) (rx ry x y : ℕ) (t : Bool) → t ≡ (nat_lt (r.
 shrunk_some r rx ry x y true e h = (grind (arith, nat_tests), grind (arith, nat_tests))
 shrunk_some r rx ry x y false e h = absurd (grind (arith, nat_tests))
 
-area_some : (border : Border) (valid : Rectangle) (x y : ℕ) → inside (window_valid border 1 1 valid) x y ≡ true → (valid.x0 < valid.x1) × (valid.y0 < valid.y1)
-area_some Undefined valid x y h = shrunk_some valid 1 1 x y (nat_lt (valid.x0 + 1) (valid.x1 - 1) && nat_lt (valid.y0 + 1) (valid.y1 - 1)) refl h
-area_some (Constant value) valid x y h = (grind (arith, nat_tests), grind (arith, nat_tests))
-area_some Replicate valid x y h = (grind (arith, nat_tests), grind (arith, nat_tests))
+area_some : (border : Border) (rx ry : ℕ) (valid : Rectangle) (x y : ℕ) → inside (window_valid border rx ry valid) x y ≡ true → (valid.x0 < valid.x1) × (valid.y0 < valid.y1)
+area_some Undefined rx ry valid x y h = shrunk_some valid rx ry x y (nat_lt (valid.x0 + rx) (valid.x1 - rx) && nat_lt (valid.y0 + ry) (valid.y1 - ry)) refl h
+area_some (Constant value) rx ry valid x y h = (grind (arith, nat_tests), grind (arith, nat_tests))
+area_some Replicate rx ry valid x y h = (grind (arith, nat_tests), grind (arith, nat_tests))
 
-area_ordered : (border : Border) (valid : Rectangle) → IsOrdered valid → IsOrdered (window_valid border 1 1 valid)
-area_ordered Undefined valid h = record { columns = grind (arith, nat_tests); rows = grind (arith, nat_tests) }
-area_ordered (Constant value) valid h = h
-area_ordered Replicate valid h = h
+area_ordered : (border : Border) (rx ry : ℕ) (valid : Rectangle) → IsOrdered valid → IsOrdered (window_valid border rx ry valid)
+area_ordered Undefined rx ry valid h = record { columns = grind (arith, nat_tests); rows = grind (arith, nat_tests) }
+area_ordered (Constant value) rx ry valid h = h
+area_ordered Replicate rx ry valid h = h
 
-area_within : (border : Border) (valid : Rectangle) (w l : ℕ) → IsWithin valid w l → IsWithin (window_valid border 1 1 valid) w l
-area_within Undefined valid w l h = record { columns = grind (arith, nat_tests, h.columns); rows = grind (arith, nat_tests, h.rows) }
-area_within (Constant value) valid w l h = h
-area_within Replicate valid w l h = h
+area_within : (border : Border) (rx ry : ℕ) (valid : Rectangle) (w l : ℕ) → IsWithin valid w l → IsWithin (window_valid border rx ry valid) w l
+area_within Undefined rx ry valid w l h = record { columns = grind (arith, nat_tests, h.columns); rows = grind (arith, nat_tests, h.rows) }
+area_within (Constant value) rx ry valid w l h = h
+area_within Replicate rx ry valid w l h = h
 
--- an image of windows is an image, where the formula gives samples of U8 samples
+-- an image of windows is an image, where what is given at each of its places is a sample
+windows_image : (format : Format) (border : Border) (rx ry : ℕ) (f : ℕ → ℕ → ℤ) (a : ImageValue) → IsImage a → ((x y : ℕ) → a.valid.x0 < a.valid.x1 → a.valid.y0 < a.valid.y1 → IsSample format (f x y))
+    → IsImage (made a.width a.height format (window_valid border rx ry a.valid) f)
+windows_image format border rx ry f a h gives =
+    made_image a.width a.height format (window_valid border rx ry a.valid) f h.sides.0 h.sides.1
+    (area_ordered border rx ry a.valid h.ordered) (area_within border rx ry a.valid a.width a.height h.room)
+    (λ x y e. let some = area_some border rx ry a.valid x y e in gives x y some.0 some.1)
+
+-- where the formula of the nine gives samples of U8 samples
 pub nine_image : (format : Format) (f : List ℤ → ℤ) (border : Border) (a : ImageValue) → ((zs : List ℤ) → length zs ≡ 9 → Each1 (IsSample U8) zs → IsSample format (f zs)) → IsImage a → a.format ≡ U8 → IsBorder border → IsImage (from_nine format f border a)
 nine_image format f border a gives h is k =
-    made_image a.width a.height format (window_valid border 1 1 a.valid) (λ x y. f (nine_around (look a border) (pos x) (pos y)))
-    (area_ordered border a.valid h.ordered) (area_within border a.valid a.width a.height h.room)
-    (λ x y e. gives (nine_around (look a border) (pos x) (pos y)) refl (nine (area_some border a.valid x y e) (pos x) (pos y)))
+    windows_image format border 1 1 (λ x y. f (nine_around (look a border) (pos x) (pos y))) a h
+    (λ x y columns rows. gives (nine_around (look a border) (pos x) (pos y)) refl (nine columns rows (pos x) (pos y)))
   where
-    nine : (a.valid.x0 < a.valid.x1) × (a.valid.y0 < a.valid.y1) → (x y : ℤ) → Each1 (IsSample U8) (nine_around (look a border) x y)
-    nine some x y =
-        let s : (u v : ℤ) → IsSample U8 (look a border u v) = λ u v. look_sample a border u v h is some.0 some.1 k in
+    nine : a.valid.x0 < a.valid.x1 → a.valid.y0 < a.valid.y1 → (x y : ℤ) → Each1 (IsSample U8) (nine_around (look a border) x y)
+    nine columns rows x y =
+        let s : (u v : ℤ) → IsSample U8 (look a border u v) = λ u v. look_sample a border u v h is columns rows k in
         (s (x -ℤ pos 1) (y -ℤ pos 1), (s x (y -ℤ pos 1), (s (x +ℤ pos 1) (y -ℤ pos 1), (s (x -ℤ pos 1) y, (s x y, (s (x +ℤ pos 1) y, (s (x -ℤ pos 1) (y +ℤ pos 1), (s x (y +ℤ pos 1), (s (x +ℤ pos 1) (y +ℤ pos 1), tt)))))))))
+
+-- whatever the matrix
+pub matrix_image : (format : Format) (c : ConvolutionValue) (border : Border) (a : ImageValue) → IsImage a → IsImage (from_matrix format c border a)
+matrix_image format c border a h =
+    windows_image format border (c.columns / 2) (c.rows / 2) (λ x y. convolved c format (look a border) (pos x) (pos y)) a h
+    (λ x y columns rows. clamp_sample format (int_div (matrix_product c (look a border) (pos x) (pos y)) (pos (2 ^ c.exponent))))

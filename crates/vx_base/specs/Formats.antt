@@ -1,9 +1,9 @@
 -- The formats that a node of each function may have. Which of the standard's are taken is this project's profile.
 use Rattle.std.specs.Prelude.{Bool, true, false, Option, Some, None}
 use Rattle.vx_base.specs.declared.format.Format.{Format}
-use Rattle.vx_base.specs.declared.format.Format.TheVariants.{U8, S16}
+use Rattle.vx_base.specs.declared.format.Format.TheVariants.{U8, S16, U32}
 use Rattle.vx_base.specs.declared.function.Function.{Function}
-use Rattle.vx_base.specs.declared.function.Function.TheVariants.{AndBits, OrBits, XorBits, NotBits, Add, Subtract, Multiply, AbsoluteDifference, MinPixel, MaxPixel, Threshold, TableLookup, ConvertDepth}
+use Rattle.vx_base.specs.declared.function.Function.TheVariants.{AndBits, OrBits, XorBits, NotBits, Add, Subtract, Multiply, AbsoluteDifference, MinPixel, MaxPixel, Threshold, TableLookup, ConvertDepth, Box, Gaussian, Median, Erode, Dilate, Sobel, Convolve, Histogram, Integral, MinMaxLoc}
 
 -- U8 and U8 to U8
 abbrev pub are_bytes : Format → Format → Format → Bool
@@ -26,7 +26,7 @@ are_arithmetic S16 S16 S16 = true
 are_arithmetic a b g = false
 
 -- whether a function takes these formats: of its first input, of its second and of its output. A second input's is that of
--- an image, of a table's entries or of what a threshold tests; none stands for no second input, or for one without a format.
+-- an image, of a table's entries or of what a threshold tests; none stands for no such operand, or for one without a format.
 abbrev pub takes_formats : Function → Format → Option Format → Option Format → Bool
 takes_formats AndBits a (Some b) (Some g) = are_bytes a b g
 takes_formats OrBits a (Some b) (Some g) = are_bytes a b g
@@ -43,4 +43,16 @@ takes_formats Threshold S16 (Some S16) (Some U8) = true
 takes_formats TableLookup a (Some b) (Some g) = are_equal a b g
 takes_formats ConvertDepth U8 None (Some S16) = true
 takes_formats ConvertDepth S16 None (Some U8) = true
+takes_formats Box U8 None (Some U8) = true
+takes_formats Gaussian U8 None (Some U8) = true
+takes_formats Median U8 None (Some U8) = true
+takes_formats Erode U8 None (Some U8) = true
+takes_formats Dilate U8 None (Some U8) = true
+takes_formats Sobel U8 None (Some S16) = true
+takes_formats Convolve U8 None (Some U8) = true
+takes_formats Convolve U8 None (Some S16) = true
+takes_formats Histogram U8 None None = true
+takes_formats Integral U8 None (Some U32) = true
+takes_formats MinMaxLoc U8 None None = true
+takes_formats MinMaxLoc S16 None None = true
 takes_formats function a second output = false

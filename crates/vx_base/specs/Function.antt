@@ -1,7 +1,7 @@
 -- The vision functions: their numbers, and what a node of each has. OpenVX 1.3, "Vision Functions".
 use Rattle.std.specs.Prelude.{ℕ, ◌==◌, true, false, List, [], ◌∷◌, find, Option, Some, None}
 use Rattle.vx_base.specs.declared.function.Function.{Function}
-use Rattle.vx_base.specs.declared.function.Function.TheVariants.{AndBits, OrBits, XorBits, NotBits, Add, Subtract, Multiply, AbsoluteDifference, MinPixel, MaxPixel, Threshold, TableLookup, ConvertDepth}
+use Rattle.vx_base.specs.declared.function.Function.TheVariants.{AndBits, OrBits, XorBits, NotBits, Add, Subtract, Multiply, AbsoluteDifference, MinPixel, MaxPixel, Threshold, TableLookup, ConvertDepth, Box, Gaussian, Median, Erode, Dilate, Sobel, Convolve, Histogram, Integral, MinMaxLoc}
 use Rattle.vx_base.specs.declared.function.Parameters.{Parameters}
 use Rattle.vx_base.specs.declared.kind.Kind.{Kind}
 use Rattle.vx_base.specs.declared.kind.Kind.TheVariants as kind
@@ -21,9 +21,21 @@ function_number MaxPixel = 10
 function_number Threshold = 11
 function_number TableLookup = 12
 function_number ConvertDepth = 13
+function_number Box = 14
+function_number Gaussian = 15
+function_number Median = 16
+function_number Erode = 17
+function_number Dilate = 18
+function_number Sobel = 19
+function_number Convolve = 20
+function_number Histogram = 21
+function_number Integral = 22
+function_number MinMaxLoc = 23
 
 abbrev pub functions : List Function
-functions = AndBits ∷ OrBits ∷ XorBits ∷ NotBits ∷ Add ∷ Subtract ∷ Multiply ∷ AbsoluteDifference ∷ MinPixel ∷ MaxPixel ∷ Threshold ∷ TableLookup ∷ ConvertDepth ∷ []
+functions =
+    AndBits ∷ OrBits ∷ XorBits ∷ NotBits ∷ Add ∷ Subtract ∷ Multiply ∷ AbsoluteDifference ∷ MinPixel ∷ MaxPixel ∷ Threshold ∷ TableLookup ∷ ConvertDepth
+    ∷ Box ∷ Gaussian ∷ Median ∷ Erode ∷ Dilate ∷ Sobel ∷ Convolve ∷ Histogram ∷ Integral ∷ MinMaxLoc ∷ []
 
 -- the function with this number
 abbrev pub function_numbered : ℕ → Option Function
@@ -57,3 +69,13 @@ parameters MaxPixel = beside kind.Image
 parameters Threshold = beside kind.Threshold
 parameters TableLookup = beside kind.Lut
 parameters ConvertDepth = record of_one_image { policy = true; greatest_amount = Some 7 }
+parameters Box = of_one_image
+parameters Gaussian = of_one_image
+parameters Median = of_one_image
+parameters Erode = of_one_image
+parameters Dilate = of_one_image
+parameters Sobel = record of_one_image { output_pair = true }
+parameters Convolve = beside kind.Convolution
+parameters Histogram = record of_one_image { output = kind.Distribution }
+parameters Integral = of_one_image
+parameters MinMaxLoc = record of_one_image { output = kind.Extremes }

@@ -1,5 +1,5 @@
 -- An image value: a size, a format, a valid rectangle, and a sample at each place.
-use Rattle.std.specs.Prelude.{ℕ, ℤ, pos, ◌+◌, ◌*◌, ◌<◌, ◌≡◌, false, List, map, length, slice_index_or, if◌then◌else◌}
+use Rattle.std.specs.Prelude.{ℕ, ℤ, pos, ◌+◌, ◌*◌, ◌<◌, ◌≤◌, ◌≡◌, false, List, map, length, slice_index_or, if◌then◌else◌}
 use Rattle.std.specs.List.{range_with_len, flat_map}
 use Rattle.vx_base.specs.declared.format.Format.{Format}
 use Rattle.vx_base.specs.Sample.{IsSample}
@@ -39,6 +39,7 @@ at image x y = slice_index_or image.samples (y * image.width + x) (pos 0)
 
 -- at each place a sample of the format, which is 0 where the place is not valid
 pub record IsImage (image : ImageValue) : Type 0 where
+  pub sides : (image.width ≤ 4096) × (image.height ≤ 4096)
   pub size : length image.samples ≡ image.height * image.width
   pub ordered : IsOrdered image.valid
   pub room : IsWithin image.valid image.width image.height

@@ -10,9 +10,10 @@ pub mod Node
 pub mod Picture
 pub mod Lut
 pub mod Threshold
+pub mod Convolution
 pub mod Slots
+pub mod Statistics
 pub mod Object
 pub mod Pixelwise
-pub mod Outputs
-pub mod Statistics
 pub mod Window
+pub mod Outputs

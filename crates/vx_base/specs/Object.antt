@@ -1,13 +1,22 @@
--- Objects that a client names and nodes use. OpenVX 1.3, "Object: Image", "Object: LUT", "Object: Threshold", "Object: Delay".
-use Rattle.std.specs.Prelude.{ℕ, ◌≡◌, ◌≤◌, Bool, true, false, Option, Some, None, List, length, map, sum_by, All}
+-- Objects that a client names and nodes use. OpenVX 1.3, "Object: Image", "Object: LUT", "Object: Threshold", "Object: Delay",
+-- "Object: Convolution", "Object: Distribution".
+use Rattle.std.specs.Prelude.{ℕ, ◌≡◌, ◌≤◌, Bool, true, false, IsTrue, ⊤, Option, Some, None, List, length, map, sum_by, All, replicate, pos}
 use Rattle.std.specs.List.{AllPairs}
 use Rattle.vx_base.specs.declared.format.Format.{Format}
+use Rattle.vx_base.specs.declared.extremes.Extremes.{Extremes}
 use Rattle.vx_base.specs.declared.kind.Kind.{Kind}
 use Rattle.vx_base.specs.declared.kind.Kind.TheVariants as kind
 use Rattle.vx_base.specs.Description.{byte_count}
 use Rattle.vx_base.specs.Image.{ImageValue, IsImage, description_of}
 use Rattle.vx_base.specs.Lut.{LutValue, IsLut}
 use Rattle.vx_base.specs.Threshold.{ThresholdValue, IsThreshold}
+use Rattle.vx_base.specs.Convolution.{ConvolutionValue, IsConvolution}
+use Rattle.vx_base.specs.Statistics.{BinsValue, are_bins}
+
+-- the bins of a distribution, and how many samples fell into each
+pub record DistributionValue : Type 0 where
+  pub bins : BinsValue
+  pub counts : List ℕ
 
 -- a delay is its images, the newest first
 pub data ObjectValue : Type 0 where
@@ -15,12 +24,18 @@ pub data ObjectValue : Type 0 where
   LutObject : LutValue → ObjectValue
   ThresholdObject : ThresholdValue → ObjectValue
   DelayObject : List ImageValue → ObjectValue
+  ConvolutionObject : ConvolutionValue → ObjectValue
+  DistributionObject : DistributionValue → ObjectValue
+  ExtremesObject : Extremes → ObjectValue
 
 abbrev pub same_kind : Kind → Kind → Bool
 same_kind kind.Image kind.Image = true
 same_kind kind.Lut kind.Lut = true
 same_kind kind.Threshold kind.Threshold = true
 same_kind kind.Delay kind.Delay = true
+same_kind kind.Convolution kind.Convolution = true
+same_kind kind.Distribution kind.Distribution = true
+same_kind kind.Extremes kind.Extremes = true
 same_kind a b = false
 
 abbrev pub object_kind : ObjectValue → Kind
@@ -28,13 +43,16 @@ object_kind (ImageObject image) = kind.Image
 object_kind (LutObject lut) = kind.Lut
 object_kind (ThresholdObject threshold) = kind.Threshold
 object_kind (DelayObject images) = kind.Delay
+object_kind (ConvolutionObject convolution) = kind.Convolution
+object_kind (DistributionObject distribution) = kind.Distribution
+object_kind (ExtremesObject extremes) = kind.Extremes
 
 -- the format of an image's samples, of a table's entries, or of the samples that a threshold tests; an object may have none
 abbrev pub object_format : ObjectValue → Option Format
 object_format (ImageObject image) = Some image.format
 object_format (LutObject lut) = Some lut.format
 object_format (ThresholdObject threshold) = Some threshold.format
-object_format (DelayObject images) = None
+object_format other = None
 
 -- the sample bytes of an image
 abbrev pub image_bytes : ImageValue → ℕ
@@ -46,6 +64,18 @@ object_bytes (ImageObject image) = image_bytes image
 object_bytes (DelayObject images) = sum_by image_bytes images
 object_bytes other = 0
 
+-- ---- new objects
+
+-- a distribution that has counted nothing
+abbrev pub new_distribution : BinsValue → DistributionValue
+new_distribution bins = record { bins = bins; counts = replicate bins.bins 0 }
+
+-- extremes that were found nowhere
+abbrev pub no_extremes : Extremes
+no_extremes = record { min = pos 0; max = pos 0; min_count = 0; max_count = 0; min_at = (0, 0); max_at = (0, 0) }
+
+-- ---- what objects are
+
 -- 1 to 16 images of one description
 pub record IsDelay (images : List ImageValue) : Type 0 where
   pub least : 1 ≤ length images
@@ -53,8 +83,16 @@ pub record IsDelay (images : List ImageValue) : Type 0 where
   pub each : All IsImage images
   pub alike : AllPairs (λ d e. d ≡ e) (map description_of images)
 
+-- a count for each bin
+pub record IsDistribution (d : DistributionValue) : Type 0 where
+  pub bins : IsTrue (are_bins d.bins.bins d.bins.offset d.bins.range)
+  pub size : length d.counts ≡ d.bins.bins
+
 abbrev pub IsObject : ObjectValue → Type 0
 IsObject (ImageObject image) = IsImage image
 IsObject (LutObject lut) = IsLut lut
 IsObject (ThresholdObject threshold) = IsThreshold threshold
 IsObject (DelayObject images) = IsDelay images
+IsObject (ConvolutionObject convolution) = IsConvolution convolution
+IsObject (DistributionObject distribution) = IsDistribution distribution
+IsObject (ExtremesObject extremes) = ⊤

@@ -1,19 +1,17 @@
 -- Functions that give each sample from the samples at the same place. OpenVX 1.3, "Vision Functions"; the words in quotation
 -- marks are the names of its sections. a and b are the samples of the two inputs at the place.
-use Rattle.std.specs.Prelude.{ℕ, ◌^◌, ℤ, pos, ◌+ℤ◌, ◌-ℤ◌, ◌*ℤ◌, bit_and, bit_or, bit_xor, unsigned_abs, int_div, if◌then◌else◌, Option, Some, None}
+use Rattle.std.specs.Prelude.{ℕ, ◌^◌, ℤ, pos, ◌+ℤ◌, ◌-ℤ◌, ◌*ℤ◌, bit_and, bit_or, bit_xor, unsigned_abs, int_div, if◌then◌else◌}
 use Rattle.std.specs.Int.{int_div_euclid, int_min, int_max}
 use Rattle.vx_base.specs.declared.format.Format.{Format}
 use Rattle.vx_base.specs.declared.format.Format.TheVariants.{U8, S16, U32}
 use Rattle.vx_base.specs.declared.policy.Policy.{Policy}
 use Rattle.vx_base.specs.declared.function.Function.{Function}
 use Rattle.vx_base.specs.declared.function.Function.TheVariants.{AndBits, OrBits, XorBits, NotBits, Add, Subtract, Multiply, AbsoluteDifference, MinPixel, MaxPixel, ConvertDepth}
-use Rattle.vx_base.specs.declared.node.Node.{Node}
 use Rattle.vx_base.specs.Sample.{clamp, narrow, distance}
 use Rattle.vx_base.specs.Rectangle.{meet_of}
 use Rattle.vx_base.specs.Image.{ImageValue, at, made}
 use Rattle.vx_base.specs.Lut.{LutValue, entry_for}
 use Rattle.vx_base.specs.Threshold.{ThresholdValue, passes}
-use Rattle.vx_base.specs.Object.{ObjectValue, ImageObject, LutObject, ThresholdObject, DelayObject}
 
 -- ---- the formulas
 
@@ -98,11 +96,3 @@ formula_of_two AbsoluteDifference format policy n a b = absolute_difference form
 formula_of_two MinPixel format policy n a b = smaller a b
 formula_of_two MaxPixel format policy n a b = greater a b
 formula_of_two other format policy n a b = pos 0
-
--- what a node writes to an output of this format: from its first input, and its second where it has one
-abbrev pub node_image : Node → Format → ImageValue → Option ObjectValue → ImageValue
-node_image n format a None = from_one format (formula_of_one n.function format n.policy n.amount) a
-node_image n format a (Some (ImageObject b)) = from_two format (formula_of_two n.function format n.policy n.amount) a b
-node_image n format a (Some (LutObject lut)) = from_one format (looked_up lut) a
-node_image n format a (Some (ThresholdObject threshold)) = from_one format (thresholded threshold) a
-node_image n format a (Some (DelayObject images)) = from_one format (λ _. pos 0) a

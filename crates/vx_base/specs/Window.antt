@@ -1,11 +1,17 @@
 -- Functions that give each sample from the samples around its place. OpenVX 1.3, "Vision Functions" and `vx_border_e`; the
 -- words in quotation marks are the names of its sections.
-use Rattle.std.specs.Prelude.{ℕ, ℤ, pos, negsuc, ◌+ℤ◌, ◌-ℤ◌, ◌*ℤ◌, Bool, ◌&&◌, List, [], ◌∷◌, if◌then◌else◌, int_lt, int_le, nat_le, unsigned_abs, unwrap_or}
+use Rattle.std.specs.Prelude.{ℕ, ℤ, pos, negsuc, ◌+ℤ◌, ◌-ℤ◌, ◌*ℤ◌, Bool, ◌&&◌, List, [], ◌∷◌, if◌then◌else◌, int_lt, int_le, nat_le, unsigned_abs, unwrap_or, ◌/◌, ◌^◌, int_div, map}
 use Rattle.std.specs.Int.{int_div_euclid, int_min, int_max}
-use Rattle.std.specs.List.{count_by, find, fold}
+use Rattle.std.specs.List.{count_by, find, fold, range_with_len}
 use Rattle.vx_base.specs.declared.format.Format.{Format}
 use Rattle.vx_base.specs.declared.border.Border.{Border}
 use Rattle.vx_base.specs.declared.border.Border.TheVariants.{Undefined, Constant, Replicate}
+use Rattle.vx_base.specs.declared.function.Function.{Function}
+use Rattle.vx_base.specs.declared.function.Function.TheVariants.{Box, Gaussian, Median, Erode, Dilate, Sobel}
+use Rattle.vx_base.specs.declared.output.Output.{Output}
+use Rattle.vx_base.specs.declared.output.Output.TheVariants.{First, Second}
+use Rattle.vx_base.specs.Convolution.{ConvolutionValue, coefficient}
+use Rattle.vx_base.specs.Sample.{clamp}
 use Rattle.vx_base.specs.Rectangle.{Rectangle, shrunk}
 use Rattle.vx_base.specs.Image.{ImageValue, at, made}
 
@@ -97,6 +103,31 @@ gradient_y =
     ∷ pos 0 ∷ pos 0 ∷ pos 0
     ∷ pos 1 ∷ pos 2 ∷ pos 1 ∷ [])
 
+-- the formula of the nine samples by which a function gives an output
+abbrev pub formula_of_nine : Function → Output → List ℤ → ℤ
+formula_of_nine Box output = box_mean
+formula_of_nine Gaussian output = gaussian_mean
+formula_of_nine Median output = median
+formula_of_nine Erode output = least_of
+formula_of_nine Dilate output = greatest_of
+formula_of_nine Sobel First = gradient_x
+formula_of_nine Sobel Second = gradient_y
+formula_of_nine other output = λ _. pos 0
+
+-- ---- "Custom Convolution"
+
+-- the sum of a row of samples around column x, each times the coefficient at the opposite place of a row of the matrix
+abbrev pub row_product : ConvolutionValue → (ℤ → ℤ) → ℤ → ℕ → ℤ
+row_product c f x l = total (map (λ k. f (x +ℤ pos (c.columns / 2) -ℤ pos k) *ℤ coefficient c l k) (range_with_len 0 c.columns))
+
+-- the sum of the samples around a place, each times the coefficient at the opposite place: the matrix is turned by half
+abbrev pub matrix_product : ConvolutionValue → (ℤ → ℤ → ℤ) → ℤ → ℤ → ℤ
+matrix_product c f x y = total (map (λ l. row_product c (λ u. f u (y +ℤ pos (c.rows / 2) -ℤ pos l)) x l) (range_with_len 0 c.rows))
+
+-- the sum over 2^exponent, rounded to zero and clamped
+abbrev pub convolved : ConvolutionValue → Format → (ℤ → ℤ → ℤ) → ℤ → ℤ → ℤ
+convolved c format f x y = clamp format (int_div (matrix_product c f x y) (pos (2 ^ c.exponent)))
+
 -- ---- images
 
 -- where the output is valid, for windows of these radii: under Undefined where the whole window is valid, else where the input is
@@ -109,3 +140,8 @@ window_valid Replicate rx ry valid = valid
 abbrev pub from_nine : Format → (List ℤ → ℤ) → Border → ImageValue → ImageValue
 from_nine format f border a =
     made a.width a.height format (window_valid border 1 1 a.valid) (λ x y. f (nine_around (look a border) (pos x) (pos y)))
+
+-- an image of one: the convolution around each place
+abbrev pub from_matrix : Format → ConvolutionValue → Border → ImageValue → ImageValue
+from_matrix format c border a =
+    made a.width a.height format (window_valid border (c.columns / 2) (c.rows / 2) a.valid) (λ x y. convolved c format (look a border) (pos x) (pos y))

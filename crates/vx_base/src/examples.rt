@@ -15,7 +15,9 @@ ghost use Rattle.vx_base.specs.Object.{ImageObject, LutObject, object_kind};
 ghost use Rattle.vx_base.specs.Formats.{takes_formats};
 ghost use Rattle.vx_base.specs.Function.{parameters};
 ghost use Rattle.vx_base.specs.declared.kind.Kind.TheVariants.{Image};
-ghost use Rattle.vx_base.specs.Pixelwise.{and_bits, or_bits, xor_bits, not_bits, sum, difference, product, absolute_difference, thresholded, converted, from_one, node_image};
+ghost use Rattle.vx_base.specs.Pixelwise.{and_bits, or_bits, xor_bits, not_bits, sum, difference, product, absolute_difference, thresholded, converted, from_one};
+ghost use Rattle.vx_base.specs.declared.output.Output.TheVariants.{First};
+ghost use Rattle.vx_base.specs.Outputs.{node_image};
 ghost use Rattle.vx_base.specs.Code.{code_number, code_name};
 ghost use Rattle.vx_base.specs.Node.{is_node};
 
@@ -135,7 +137,7 @@ pub fn formats()
 
 /// And of a row that is valid in its left half and one that is valid in its right.
 pub fn and_of_halves()
-    ensures { node_image (record { function = AndBits; border = Undefined; policy = Wrap; amount = 0; in1 = record { name = 1; slot = None }; in2 = Some (record { name = 2; slot = None }); out1 = Some (record { name = 3; slot = None }); out2 = None }) U8
+    ensures { node_image (record { function = AndBits; border = Undefined; policy = Wrap; amount = 0; in1 = record { name = 1; slot = None }; in2 = Some (record { name = 2; slot = None }); out1 = Some (record { name = 3; slot = None }); out2 = None }) First U8
         (record { width = 4; height = 1; format = U8; valid = record { x0 = 0; y0 = 0; x1 = 2; y1 = 1 }; samples = pos 10 ∷ pos 20 ∷ pos 0 ∷ pos 0 ∷ [] })
         (Some (ImageObject (record { width = 4; height = 1; format = U8; valid = record { x0 = 2; y0 = 0; x1 = 4; y1 = 1 }; samples = pos 0 ∷ pos 0 ∷ pos 30 ∷ pos 40 ∷ [] })))
         ≡ record { width = 4; height = 1; format = U8; valid = empty; samples = pos 0 ∷ pos 0 ∷ pos 0 ∷ pos 0 ∷ [] } }

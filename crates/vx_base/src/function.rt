@@ -36,6 +36,26 @@ pub enum Function {
     TableLookup,
     /// "Convert Bit Depth", shifted by the node's amount.
     ConvertDepth,
+    /// "Box Filter", 3x3.
+    Box,
+    /// "Gaussian Filter", 3x3.
+    Gaussian,
+    /// "Median Filter", 3x3.
+    Median,
+    /// "Erode Image", 3x3.
+    Erode,
+    /// "Dilate Image", 3x3.
+    Dilate,
+    /// "Sobel 3x3": its outputs are the changes from left to right and from above to below.
+    Sobel,
+    /// "Custom Convolution".
+    Convolve,
+    /// "Histogram".
+    Histogram,
+    /// "Integral Image".
+    Integral,
+    /// "Min, Max Location".
+    MinMaxLoc,
 }
 
 /// What a node of a function has, beside its first input, which is an image, and its border.
@@ -72,6 +92,16 @@ impl Function {
             Function::Threshold => 11,
             Function::TableLookup => 12,
             Function::ConvertDepth => 13,
+            Function::Box => 14,
+            Function::Gaussian => 15,
+            Function::Median => 16,
+            Function::Erode => 17,
+            Function::Dilate => 18,
+            Function::Sobel => 19,
+            Function::Convolve => 20,
+            Function::Histogram => 21,
+            Function::Integral => 22,
+            Function::MinMaxLoc => 23,
         }
     }
 
@@ -94,6 +124,16 @@ impl Function {
             11 => Some(Function::Threshold),
             12 => Some(Function::TableLookup),
             13 => Some(Function::ConvertDepth),
+            14 => Some(Function::Box),
+            15 => Some(Function::Gaussian),
+            16 => Some(Function::Median),
+            17 => Some(Function::Erode),
+            18 => Some(Function::Dilate),
+            19 => Some(Function::Sobel),
+            20 => Some(Function::Convolve),
+            21 => Some(Function::Histogram),
+            22 => Some(Function::Integral),
+            23 => Some(Function::MinMaxLoc),
             _ => None,
         }
     }
@@ -102,26 +142,56 @@ impl Function {
     pub fn parameters(self) -> Parameters
         ensures { result ≡ parameters self }
     {
-        let (second_input, policy, greatest_amount) = match self {
-            Function::NotBits => (None, false, None),
-            Function::Add | Function::Subtract => (Some(Kind::Image), true, None),
-            Function::Multiply => (Some(Kind::Image), true, Some(15)),
-            Function::Threshold => (Some(Kind::Threshold), false, None),
-            Function::TableLookup => (Some(Kind::Lut), false, None),
-            Function::ConvertDepth => (None, true, Some(7)),
-            _ => (Some(Kind::Image), false, None),
+        let (policy, greatest_amount) = match self {
+            Function::Add | Function::Subtract => (true, None),
+            Function::Multiply => (true, Some(15)),
+            Function::ConvertDepth => (true, Some(7)),
+            _ => (false, None),
         };
         Parameters {
-            second_input,
+            second_input: self.second_input(),
             policy,
             greatest_amount,
-            output: Kind::Image,
-            output_pair: false,
+            output: self.output(),
+            output_pair: self == Function::Sobel,
         }
     }
 
-    /// Whether the function takes these formats: of its first input, of its second, which is that
-    /// of an image, of a table's entries or of what a threshold tests, and of its output.
+    /// The kind of object that the function reads beside its first input, if it does.
+    fn second_input(self) -> Option<Kind>
+        ensures { result ≡ (parameters self).second_input }
+    {
+        match self {
+            Function::Threshold => Some(Kind::Threshold),
+            Function::TableLookup => Some(Kind::Lut),
+            Function::Convolve => Some(Kind::Convolution),
+            Function::AndBits
+            | Function::OrBits
+            | Function::XorBits
+            | Function::Add
+            | Function::Subtract
+            | Function::Multiply
+            | Function::AbsoluteDifference
+            | Function::MinPixel
+            | Function::MaxPixel => Some(Kind::Image),
+            _ => None,
+        }
+    }
+
+    /// The kind of object that the function writes.
+    fn output(self) -> Kind
+        ensures { result ≡ (parameters self).output }
+    {
+        match self {
+            Function::Histogram => Kind::Distribution,
+            Function::MinMaxLoc => Kind::Extremes,
+            _ => Kind::Image,
+        }
+    }
+
+    /// Whether the function takes these formats: of its first input; of its second, which is that
+    /// of an image, of a table's entries or of what a threshold tests; and of its output. `None`:
+    /// there is no such operand, or it has no format.
     pub fn takes_formats(
         self,
         first: Format,
@@ -130,33 +200,68 @@ impl Function {
     ) -> bool
         ensures { result ≡ takes_formats self first second output }
     {
-        match output {
-            None => false,
-            Some(output) => self.gives_format(first, second, output),
+        match (second, output) {
+            (None, None) => self.measures(first),
+            (None, Some(output)) => self.makes(first, output),
+            (Some(second), Some(output)) => self.joins(first, second, output),
+            (Some(_), None) => false,
         }
     }
 
-    /// Whether the function takes these formats, where its output is an image.
-    fn gives_format(self, first: Format, second: Option<Format>, output: Format) -> bool
-        ensures { result ≡ takes_formats self first second (Some output) }
+    /// Whether the function takes an image of this format, where it writes no image.
+    fn measures(self, first: Format) -> bool
+        ensures { result ≡ takes_formats self first None None }
     {
-        match (self, second) {
-            (Function::NotBits, None) => (first, output) == (Format::U8, Format::U8),
-            (Function::ConvertDepth, None) => {
+        match self {
+            Function::Histogram => first == Format::U8,
+            Function::MinMaxLoc => first != Format::U32,
+            _ => false,
+        }
+    }
+
+    /// Whether the function makes an image of one format of an image of another, where nothing
+    /// beside that has a format.
+    fn makes(self, first: Format, output: Format) -> bool
+        ensures { result ≡ takes_formats self first None (Some output) }
+    {
+        match self {
+            Function::ConvertDepth => {
                 (first, output) == (Format::U8, Format::S16)
                     || (first, output) == (Format::S16, Format::U8)
             }
-            (Function::NotBits | Function::ConvertDepth, Some(_)) | (_, None) => false,
-            (Function::AndBits | Function::OrBits | Function::XorBits, Some(second)) => {
+            Function::NotBits
+            | Function::Box
+            | Function::Gaussian
+            | Function::Median
+            | Function::Erode
+            | Function::Dilate => (first, output) == (Format::U8, Format::U8),
+            Function::Sobel => (first, output) == (Format::U8, Format::S16),
+            Function::Convolve => first == Format::U8 && output != Format::U32,
+            Function::Integral => (first, output) == (Format::U8, Format::U32),
+            _ => false,
+        }
+    }
+
+    /// Whether the function makes an image of one format of an image and what has a format beside
+    /// it.
+    fn joins(self, first: Format, second: Format, output: Format) -> bool
+        ensures { result ≡ takes_formats self first (Some second) (Some output) }
+    {
+        match self {
+            Function::AndBits | Function::OrBits | Function::XorBits => {
                 are_bytes(first, second, output)
             }
-            (Function::Add | Function::Subtract | Function::Multiply, Some(second)) => {
+            Function::Add | Function::Subtract | Function::Multiply => {
                 are_arithmetic(first, second, output)
             }
-            (Function::Threshold, Some(second)) => {
+            Function::Threshold => {
                 first == second && first != Format::U32 && output == Format::U8
             }
-            (_, Some(second)) => are_equal(first, second, output),
+            Function::AbsoluteDifference
+            | Function::MinPixel
+            | Function::MaxPixel
+            | Function::TableLookup => are_equal(first, second, output),
+            _ => false,
         }
     }
 }

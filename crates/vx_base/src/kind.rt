@@ -11,4 +11,10 @@ pub enum Kind {
     Threshold,
     /// A delay as a whole, `VX_TYPE_DELAY`, which no function takes: each of its slots is an image.
     Delay,
+    /// A convolution, `VX_TYPE_CONVOLUTION`.
+    Convolution,
+    /// A distribution, `VX_TYPE_DISTRIBUTION`.
+    Distribution,
+    /// The extremes of an image, which the standard has in scalars and arrays.
+    Extremes,
 }

@@ -121,7 +121,7 @@ fn are_words(samples: &[u32])
     ensures { All (IsSample U32) (map pos samples.now) }
 {}
 
-fn are_shorts(samples: &[i16])
+pub(crate) fn are_shorts(samples: &[i16])
     ensures { All (IsSample S16) samples.now }
 {
     for sample in samples {

@@ -1,5 +1,5 @@
 //! Laws of image values.
-ghost use Rattle.std.specs.Prelude.{◌≡◌, ◌<◌, ◌*◌, ℕ, ℤ, pos, true, false, length};
+ghost use Rattle.std.specs.Prelude.{◌≡◌, ◌<◌, ◌≤◌, ◌*◌, ℕ, ℤ, pos, true, false, length};
 ghost use Rattle.vx_base.specs.Sample.{IsSample};
 ghost use Rattle.vx_base.specs.declared.format.Format.{Format};
 ghost use Rattle.vx_base.specs.Rectangle.{Rectangle, inside, IsOrdered, IsWithin};
@@ -13,10 +13,10 @@ pub fn table_size()
 {}
 
 /// An image made of a function is that function at the valid places, and 0 elsewhere; where the
-/// function gives samples of the format it is an image.
+/// sides are allowed and the function gives samples of the format it is an image.
 pub fn made_samples()
     ensures image { (width height : ℕ) (format : Format) (valid : Rectangle) (f : ℕ → ℕ → ℤ) →
-        IsOrdered valid → IsWithin valid width height →
+        width ≤ 4096 → height ≤ 4096 → IsOrdered valid → IsWithin valid width height →
         ((x y : ℕ) → inside valid x y ≡ true → IsSample format (f x y)) → IsImage (made width height format valid f) }
     ensures valid { (width height : ℕ) (format : Format) (valid : Rectangle) (f : ℕ → ℕ → ℤ) (x y : ℕ) →
         x < width → y < height → inside valid x y ≡ true → at (made width height format valid f) x y ≡ f x y }
@@ -44,6 +44,6 @@ pub fn made_of_itself()
 
 /// A new image is an image, and 0 at each place.
 pub fn new_is_zero()
-    ensures image { (width height : ℕ) (format : Format) → IsImage (new_image width height format) }
+    ensures image { (width height : ℕ) (format : Format) → width ≤ 4096 → height ≤ 4096 → IsImage (new_image width height format) }
     ensures zero { (width height : ℕ) (format : Format) (x y : ℕ) → x < width → y < height → at (new_image width height format) x y ≡ pos 0 }
 {}

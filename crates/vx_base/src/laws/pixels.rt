@@ -10,13 +10,15 @@ ghost use Rattle.vx_base.specs.Sample.{IsSample, distance};
 ghost use Rattle.vx_base.specs.Rectangle.{inside};
 ghost use Rattle.vx_base.specs.Function.{parameters};
 ghost use Rattle.vx_base.specs.Formats.{takes_formats};
-ghost use Rattle.vx_base.specs.Node.{has_amount, is_node};
+ghost use Rattle.vx_base.specs.Node.{has_amount, IsNode};
 ghost use Rattle.vx_base.specs.Image.{ImageValue, IsImage, at};
 ghost use Rattle.vx_base.specs.Lut.{LutValue};
 ghost use Rattle.vx_base.specs.Threshold.{ThresholdValue};
 ghost use Rattle.vx_base.specs.declared.node.Node.{Node};
+ghost use Rattle.vx_base.specs.declared.output.Output.{Output};
+ghost use Rattle.vx_base.specs.Outputs.{node_image};
 ghost use Rattle.vx_base.specs.Object.{ObjectValue, IsObject, object_kind, object_format};
-ghost use Rattle.vx_base.specs.Pixelwise.{node_image, and_bits, or_bits, xor_bits, not_bits, absolute_difference, thresholded, looked_up, formula_of_one, formula_of_two, from_one, from_two};
+ghost use Rattle.vx_base.specs.Pixelwise.{and_bits, or_bits, xor_bits, not_bits, absolute_difference, thresholded, looked_up, formula_of_one, formula_of_two, from_one, from_two};
 
 /// Bitwise Not turns each of the eight bits of a U8 sample over.
 pub fn not_turns_bits()
@@ -85,11 +87,11 @@ pub fn from_two_samples()
         inside a.valid x y ≡ true → inside b.valid x y ≡ true → at (from_two format f a b) x y ≡ f (at a x y) (at b x y) }
 {}
 
-/// What a node gives of images, tables and thresholds of the formats and kinds that it takes is an
-/// image of the output's format.
+/// What a node gives to an image, of operands of the formats and kinds that it takes, is an image of
+/// the output's format.
 pub fn results_are_images()
-    ensures { (n : Node) (format : Format) (a : ImageValue) (second : Option ObjectValue) → IsTrue (is_node n) →
+    ensures { (n : Node) (output : Output) (format : Format) (a : ImageValue) (second : Option ObjectValue) → IsNode n →
         IsImage a → IfSome second IsObject → IfSome second (λ object. (parameters n.function).second_input ≡ Some (object_kind object)) →
         IsTrue (takes_formats n.function a.format (option_and_then object_format second) (Some format)) →
-        IsImage (node_image n format a second) }
+        IsImage (node_image n output format a second) }
 {}
