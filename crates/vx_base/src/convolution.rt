@@ -11,7 +11,7 @@ pub const GREATEST_COEFFICIENTS: usize = 81;
 /// A matrix by which a U8 image is convolved (OpenVX 1.3, `vx_convolution`): 3, 5, 7 or 9 columns
 /// and rows of S16 coefficients, and the exponent of the power of two, 0 to 31, by which sums are
 /// divided.
-#[derive(Debug)]
+#[derive(Debug, Drop)]
 pub struct Convolution {
     columns: u8,
     rows: u8,
