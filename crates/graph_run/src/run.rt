@@ -1,6 +1,8 @@
 //! The kernel of each function.
 ghost use Rattle.std.specs.Prelude.{◌≡◌};
-ghost use Rattle.vx_base.specs.Pixelwise.{node_image};
+ghost use Rattle.std.specs.Prelude.{None, Some};
+ghost use Rattle.vx_base.specs.Object.{ImageObject};
+ghost use Rattle.vx_base.specs.Outputs.{node_image};
 ghost use Rattle.image_core.specs.Second.{second_object};
 ghost use Rattle.image_core.specs.Target.{written, Writes};
 ghost use Rattle.graph_run.specs.Run.{CanRun};
@@ -10,32 +12,78 @@ use pixel_kernels::{
     absolute_difference, add, bit_and, bit_not, bit_or, bit_xor, convert_depth, lookup, maximum,
     minimum, multiply, subtract, threshold,
 };
-use vx_base::{Function, Node};
+use stat_kernels::integral;
+use vx_base::{Function, Node, Output};
+use window_kernels::{
+    box3, dilate3, erode3, gaussian3, median3, sobel_x3, sobel_y3,
+};
 
-/// Writes what the node's function gives to its output: each sample, and the rectangle.
-pub fn run_node(node: &Node, first: &Image<'_>, second: &Second<'_>, output: &mut ImageMut<'_>)
+/// Writes what the node's function gives to one of its outputs, an image: each sample, and the
+/// rectangle.
+pub fn run_node(
+    node: &Node,
+    which: Output,
+    first: &Image<'_>,
+    second: &Second<'_>,
+    output: &mut ImageMut<'_>,
+)
     requires { CanRun node.now first.now (second_object second.now) output.old }
-    ensures { Writes (node_image node.now (written output.old).format first.now (second_object second.now)) output.old output.new }
+    ensures { Writes (node_image node.now which (written output.old).format first.now (second_object second.now)) output.old output.new }
 {
-    let (policy, amount) = (node.policy, node.amount);
     match (node.function, second) {
-        (Function::AndBits, Second::Image(second)) => bit_and(first, second, output),
-        (Function::OrBits, Second::Image(second)) => bit_or(first, second, output),
-        (Function::XorBits, Second::Image(second)) => bit_xor(first, second, output),
-        (Function::NotBits, Second::Nothing) => bit_not(first, output),
-        (Function::Add, Second::Image(second)) => add(first, second, output, policy),
-        (Function::Subtract, Second::Image(second)) => subtract(first, second, output, policy),
-        (Function::Multiply, Second::Image(second)) => multiply(
-            first, second, output, policy, amount,
-        ),
-        (Function::AbsoluteDifference, Second::Image(second)) => absolute_difference(
-            first, second, output,
-        ),
-        (Function::MinPixel, Second::Image(second)) => minimum(first, second, output),
-        (Function::MaxPixel, Second::Image(second)) => maximum(first, second, output),
+        (_, Second::Nothing) => run_on_one(node, which, first, output),
+        (_, Second::Image(second)) => run_on_two(node, which, first, second, output),
         (Function::Threshold, Second::Threshold(rule)) => threshold(first, output, *rule),
         (Function::TableLookup, Second::Lut(lut)) => lookup(first, output, lut),
-        (Function::ConvertDepth, Second::Nothing) => convert_depth(first, output, policy, amount),
+        _ => unreachable!(),
+    }
+}
+
+/// Writes what a function of one image gives.
+fn run_on_one(node: &Node, which: Output, first: &Image<'_>, output: &mut ImageMut<'_>)
+    requires { CanRun node.now first.now None output.old }
+    ensures { Writes (node_image node.now which (written output.old).format first.now None) output.old output.new }
+{
+    let border = node.border;
+    match node.function {
+        Function::NotBits => bit_not(first, output),
+        Function::ConvertDepth => convert_depth(first, output, node.policy, node.amount),
+        Function::Box => box3(first, output, border),
+        Function::Gaussian => gaussian3(first, output, border),
+        Function::Median => median3(first, output, border),
+        Function::Erode => erode3(first, output, border),
+        Function::Dilate => dilate3(first, output, border),
+        Function::Sobel => match which {
+            Output::First => sobel_x3(first, output, border),
+            Output::Second => sobel_y3(first, output, border),
+        },
+        Function::Integral => integral(first, output),
+        _ => unreachable!(),
+    }
+}
+
+/// Writes what a function of two images gives.
+fn run_on_two(
+    node: &Node,
+    which: Output,
+    first: &Image<'_>,
+    second: &Image<'_>,
+    output: &mut ImageMut<'_>,
+)
+    requires { CanRun node.now first.now (Some (ImageObject second.now)) output.old }
+    ensures { Writes (node_image node.now which (written output.old).format first.now (Some (ImageObject second.now))) output.old output.new }
+{
+    let (policy, amount) = (node.policy, node.amount);
+    match node.function {
+        Function::AndBits => bit_and(first, second, output),
+        Function::OrBits => bit_or(first, second, output),
+        Function::XorBits => bit_xor(first, second, output),
+        Function::Add => add(first, second, output, policy),
+        Function::Subtract => subtract(first, second, output, policy),
+        Function::Multiply => multiply(first, second, output, policy, amount),
+        Function::AbsoluteDifference => absolute_difference(first, second, output),
+        Function::MinPixel => minimum(first, second, output),
+        Function::MaxPixel => maximum(first, second, output),
         _ => unreachable!(),
     }
 }

@@ -5,9 +5,9 @@ use Rattle.vx_base.specs.declared.kind.Kind.{Kind}
 use Rattle.vx_base.specs.declared.kind.Kind.TheVariants as kind
 use Rattle.vx_base.specs.Description.{same_size}
 use Rattle.vx_base.specs.Image.{description_of}
-use Rattle.vx_base.specs.Object.{ObjectValue, ImageObject, LutObject, ThresholdObject, DelayObject}
+use Rattle.vx_base.specs.Object.{ObjectValue, ImageObject, LutObject, ThresholdObject, DelayObject, ConvolutionObject, DistributionObject, ExtremesObject}
 use Rattle.graph_verify.specs.declared.operand.Operand.{Operand}
-use Rattle.graph_verify.specs.declared.operand.Operand.TheVariants.{Image, Lut, Threshold, Delay}
+use Rattle.graph_verify.specs.declared.operand.Operand.TheVariants.{Image, Lut, Threshold, Delay, Convolution, Distribution, Extremes}
 use Rattle.graph_verify.specs.declared.operand.Operands.{Operands}
 
 -- what an object is as an operand
@@ -16,19 +16,25 @@ operand_of (ImageObject image) = Image (description_of image)
 operand_of (LutObject lut) = Lut lut.format
 operand_of (ThresholdObject threshold) = Threshold threshold.format
 operand_of (DelayObject images) = Delay
+operand_of (ConvolutionObject convolution) = Convolution
+operand_of (DistributionObject distribution) = Distribution
+operand_of (ExtremesObject extremes) = Extremes
 
 abbrev pub operand_kind : Operand → Kind
 operand_kind (Image d) = kind.Image
 operand_kind (Lut format) = kind.Lut
 operand_kind (Threshold format) = kind.Threshold
 operand_kind Delay = kind.Delay
+operand_kind Convolution = kind.Convolution
+operand_kind Distribution = kind.Distribution
+operand_kind Extremes = kind.Extremes
 
 -- the format of an image's samples, of a table's entries, or of the samples that a threshold tests; an operand may have none
 abbrev pub operand_format : Operand → Option Format
 operand_format (Image d) = Some d.format
 operand_format (Lut format) = Some format
 operand_format (Threshold format) = Some format
-operand_format Delay = None
+operand_format other = None
 
 -- whether two operands are of one size, as far as both are images
 abbrev pub are_of_one_size : Operand → Operand → Bool

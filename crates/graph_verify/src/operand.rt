@@ -14,6 +14,12 @@ pub enum Operand {
     Threshold(Format),
     /// A delay as a whole, which no function takes; a slot of it is an image.
     Delay,
+    /// A convolution.
+    Convolution,
+    /// A distribution.
+    Distribution,
+    /// The extremes of an image.
+    Extremes,
 }
 
 /// The operands of a node, as far as it has them.
@@ -36,6 +42,9 @@ impl Operand {
             Operand::Lut(_) => Kind::Lut,
             Operand::Threshold(_) => Kind::Threshold,
             Operand::Delay => Kind::Delay,
+            Operand::Convolution => Kind::Convolution,
+            Operand::Distribution => Kind::Distribution,
+            Operand::Extremes => Kind::Extremes,
         }
     }
 
@@ -47,7 +56,7 @@ impl Operand {
         match self {
             Operand::Image(desc) => Some(desc.format()),
             Operand::Lut(format) | Operand::Threshold(format) => Some(format),
-            Operand::Delay => None,
+            _ => None,
         }
     }
 }

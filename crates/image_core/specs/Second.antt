@@ -1,8 +1,8 @@
 -- What a node reads beside its first input.
 use Rattle.std.specs.Prelude.{Option, Some, None}
-use Rattle.vx_base.specs.Object.{ObjectValue, ImageObject, LutObject, ThresholdObject}
+use Rattle.vx_base.specs.Object.{ObjectValue, ImageObject, LutObject, ThresholdObject, ConvolutionObject}
 use Rattle.image_core.specs.declared.second.Second.{Second}
-use Rattle.image_core.specs.declared.second.Second.TheVariants.{Nothing, Image, Lut, Threshold}
+use Rattle.image_core.specs.declared.second.Second.TheVariants.{Nothing, Image, Lut, Threshold, Convolution}
 
 -- the object that stands beside the first input
 abbrev pub second_object : Second → Option ObjectValue
@@ -10,3 +10,4 @@ second_object Nothing = None
 second_object (Image image) = Some (ImageObject image)
 second_object (Lut lut) = Some (LutObject lut.now)
 second_object (Threshold threshold) = Some (ThresholdObject threshold)
+second_object (Convolution convolution) = Some (ConvolutionObject convolution.now)

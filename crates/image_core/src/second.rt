@@ -1,6 +1,6 @@
 //! What stands beside a node's first input.
 use crate::image::Image;
-use vx_base::{Lut, ThresholdRule};
+use vx_base::{Convolution, Lut, ThresholdRule};
 
 /// What a node reads beside its first input.
 #[derive(Drop)]
@@ -13,4 +13,6 @@ pub enum Second<'a> {
     Lut(&'a Lut),
     /// A threshold, with which samples are compared.
     Threshold(ThresholdRule),
+    /// A matrix, by which the image is convolved.
+    Convolution(&'a Convolution),
 }
