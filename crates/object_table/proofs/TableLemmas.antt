@@ -1,13 +1,16 @@
 -- What a table keeps when an object is replaced, and when one is handed back.
-use Rattle.std.proofs.Common.{◌≡◌, ℕ, ◌+◌, ◌<◌, ◌≤◌, ◌*◌, List, Option, length, set, IsTrue, ap, ◌∙◌, arith}
+use Rattle.std.proofs.Common.{◌≡◌, ℕ, ◌+◌, ◌<◌, ◌≤◌, ◌*◌, List, Option, length, set, get_or, IsTrue, refl, ap, ◌∙◌, arith}
 use Rattle.std.specs.Prelude.{All, unwrap_or}
 use Rattle.std.specs.Option.{option_map}
+use Rattle.std.proofs.lemmas.List.{get_or_read}
 use Rattle.std.proofs.lemmas.List.Elements.{All-set}
 use Rattle.std.proofs.lemmas.List.Sums.{sum_by-set, sum_by-le}
 use Rattle.vx_base.specs.Object.{ObjectValue, object_bytes}
 use Rattle.object_table.specs.declared.names.Entry.{Entry}
+use Rattle.object_table.specs.declared.place.Place.{Place}
+use Rattle.object_table.specs.Delay.{with_slot}
 use Rattle.object_table.specs.Names.{is_held, IsNames, HandsBack}
-use Rattle.object_table.specs.Table.{no_object, entry_at, charge_of, IsTable}
+use Rattle.object_table.specs.Table.{TableValue, no_object, entry_at, charge_of, with_objects, replaced, IsTable}
 use Rattle.object_table.proofs.NamesLemmas.{AreNamed-set}
 
 -- as many objects as are held at most are charged no more than as many of the largest images
@@ -29,6 +32,24 @@ IsTable-set next charge objects index e o h within read name held bytes =
       charged = omega (arith, h.charged, same, sum_by-set (λ (k : Entry ObjectValue). object_bytes k.object) objects index o no_object within);
       each = All-set (λ (k : Entry ObjectValue). object_bytes k.object ≤ 16 * 67108864) objects index o (omega (arith, same, h.each index no_object within)) h.each;
     }
+
+-- another object at an index, in place of one that is charged as much, leaves a table
+pub object_kept : {next charge : ℕ} {objects : List (Entry ObjectValue)} {t : TableValue} {index : ℕ} {e : Entry ObjectValue} (new : ObjectValue) → IsTable next charge objects
+    → ◌≡◌ {A = TableValue} (record { next = next; objects = objects }) t → index < length t.objects → e ≡ get_or objects index e → object_bytes new ≡ object_bytes e.object → IsTable next charge (set objects index (record e { object = new }))
+object_kept {next} {charge} {objects} {t} {index} {e} new h view within read bytes =
+    let inside : index < length objects = omega (arith, within, ap (λ (v : TableValue). length v.objects) view) in
+    IsTable-set next charge objects index e (record e { object = new }) h inside (get_or_read objects index e inside read no_object) refl refl bytes
+
+-- and it is the table with what is made of the old object, at its place
+pub object_put : {next : ℕ} {objects : List (Entry ObjectValue)} {t : TableValue} {e : Entry ObjectValue} {new : ObjectValue} (place : Place) (made : ObjectValue → ObjectValue)
+    → ◌≡◌ {A = TableValue} (record { next = next; objects = objects }) t → place.index < length t.objects → e ≡ get_or objects place.index e → new ≡ with_slot place.slot (made e.object) e.object
+    → ◌≡◌ {A = TableValue} (record { next = next; objects = set objects place.index (record e { object = new }) }) (with_objects t (replaced t.objects place (made (entry_at t.objects place.index).object)))
+object_put {next} {objects} {t} {e} {new} place made view within read is =
+    let there : place.index < length objects = omega (arith, within, ap (λ (v : TableValue). length v.objects) view) in
+    let with_entry : Entry ObjectValue → TableValue = λ o. record { next = next; objects = set objects place.index o } in
+    ap (λ (o : ObjectValue). with_entry (record e { object = o })) is
+    ∙ ap (λ (o : Entry ObjectValue). with_entry (record o { object = with_slot place.slot (made o.object) o.object })) (get_or_read objects place.index e there read no_object)
+    ∙ ap (λ (v : TableValue). with_objects v (replaced v.objects place (made (entry_at v.objects place.index).object))) view
 
 -- an object is handed back, if it is no longer held
 pub IsTable-back : (next charge left : ℕ) (old new : List (Entry ObjectValue)) (handed : Option ObjectValue) → charge ≡ charge_of old → IsNames next new → HandsBack handed old new → left + unwrap_or (option_map object_bytes handed) 0 ≡ charge
