@@ -42,12 +42,12 @@ pub count_is : (n : ℕ) → IsTrue (is_slot_count n) → (1 ≤ n) × (n ≤ 16
 count_is n h = let both = and_parts (nat_le 1 n) (nat_le n 16) h in (leb-true 1 n both.0, leb-true n 16 both.1)
 
 -- a new delay is one
-pub new_delay_is : (d : Description) (slots : ℕ) → 1 ≤ slots → slots ≤ 16 → IsDelay (new_delay d slots)
-new_delay_is d slots least greatest =
+pub new_delay_is : (d : Description) (slots : ℕ) → d.width ≤ 4096 → d.height ≤ 4096 → 1 ≤ slots → slots ≤ 16 → IsDelay (new_delay d slots)
+new_delay_is d slots wide high least greatest =
     let new = new_image d.width d.height d.format in
     record {
       least = omega (arith, least, length-replicate slots new);
       greatest = omega (arith, greatest, length-replicate slots new);
-      each = All-replicate IsImage slots new (new_image_is d.width d.height d.format);
+      each = All-replicate IsImage slots new (new_image_is d.width d.height d.format wide high);
       alike = alike d (new_delay d slots) (All-replicate (λ image. description_of image ≡ d) slots new refl);
     }

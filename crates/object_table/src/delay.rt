@@ -39,6 +39,7 @@ impl Delay {
         ensures value { IfOk result (λ delay. delay ≡ new_delay desc slots) }
         ensures delay { IfOk result IsDelay }
     {
+        desc.has_sides();
         let count = usize::from(slots.get());
         let images = new_images(alloc, desc, count)?;
         Ok(Delay { desc, images })

@@ -35,6 +35,7 @@ impl Stored {
         ensures value { IfOk result (λ image. image ≡ new_image desc.width desc.height desc.format) }
         ensures image { IfOk result IsImage }
     {
+        desc.has_sides();
         let samples = Samples::zeros(alloc, desc.format(), desc.sample_count())?;
         Ok(Stored {
             desc,

@@ -1,10 +1,12 @@
 use Rattle.std.proofs.Common.{arith, subst, sym}
 use Rattle.vx_base.specs.Object.{IsDelay}
+use Rattle.vx_base.proofs.PictureLaws.{side}
 use Rattle.object_table.proofs.DelayLemmas.{new_delay_is}
 use Rattle.object_table.proofs.delay.Delay.new.Goals as goal
 
 pub returns-clause-delay : goal.returns-clause-delay
 returns-clause-delay c =
+    let d = c.args.desc in
     let n = c.from-count.result in
     subst IsDelay (sym c.in_ok-images.ensures)
-    (new_delay_is c.args.desc n (omega (arith, c.from-count.ensures, c.get.ensures.limits.0)) (omega (arith, c.from-count.ensures, c.get.ensures.limits.1)))
+    (new_delay_is d n (side d.width c.has_sides.ensures.width) (side d.height c.has_sides.ensures.height) (omega (arith, c.from-count.ensures, c.get.ensures.limits.0)) (omega (arith, c.from-count.ensures, c.get.ensures.limits.1)))

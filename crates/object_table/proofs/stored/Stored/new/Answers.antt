@@ -1,6 +1,7 @@
 use Rattle.std.proofs.Common.{subst, sym}
 use Rattle.vx_base.specs.Image.{IsImage}
 use Rattle.vx_base.proofs.ImageLaws.{new_image_is}
+use Rattle.vx_base.proofs.PictureLaws.{side}
 use Rattle.object_table.proofs.StoredLemmas.{zeros_are_new}
 use Rattle.object_table.proofs.stored.Stored.new.Goals as goal
 
@@ -8,4 +9,4 @@ pub returns : goal.returns
 returns c =
     let d = c.args.desc in
     let new = zeros_are_new d c.whole.result c.in_ok-samples.samples c.sample_count.result c.whole.ensures c.sample_count.ensures.value c.in_ok-samples.ensures.zero in
-    record { value = new; image = subst IsImage (sym new) (new_image_is d.width d.height d.format) }
+    record { value = new; image = subst IsImage (sym new) (new_image_is d.width d.height d.format (side d.width c.has_sides.ensures.width) (side d.height c.has_sides.ensures.height)) }

@@ -1,14 +1,5 @@
-use Rattle.std.proofs.Common.{◌<◌, length, refl, ap, arith}
-use Rattle.std.proofs.lemmas.List.{get_or_read}
-use Rattle.object_table.specs.Table.{TableValue, no_object}
-use Rattle.object_table.proofs.TableLemmas.{IsTable-set}
+use Rattle.object_table.proofs.TableLemmas.{object_kept}
 use Rattle.object_table.proofs.table.Table.age.Goals as goal
 
 pub invariant_of-self : goal.invariant_of-self
-invariant_of-self c =
-    let s = c.self.inside in
-    let l = s.names.entries.items in
-    let e = c.index_mut-entry.result.now in
-    let within : c.args.index < length l = omega (arith, ap (λ (t : TableValue). length t.objects) c.self.view_is, c.requires.within) in
-    IsTable-set s.names.next s.charge l c.args.index e (record e { object = c.age.new.self }) c.self.invariant within
-    (get_or_read l c.args.index _ within c.index_mut-entry.ensures.value no_object) refl refl c.age.ensures.bytes
+invariant_of-self c = object_kept c.age.new.self c.self.invariant c.self.view_is c.requires.within c.index_mut-entry.ensures.value c.age.ensures.bytes
