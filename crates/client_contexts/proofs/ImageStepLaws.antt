@@ -10,18 +10,22 @@ use Rattle.vx_base.specs.Sample.{same_format}
 use Rattle.vx_base.specs.Description.{Description, same_size}
 use Rattle.vx_base.specs.Rectangle.{Rectangle, is_rectangle, IsOrdered, IsWithin}
 use Rattle.vx_base.specs.Image.{ImageValue, IsImage, description_of, with_valid}
-use Rattle.vx_base.specs.Picture.{PictureValue, IsPicture, pictured}
+use Rattle.vx_base.specs.Picture.{PictureValue, IsPicture, picture_of, pictured}
 use Rattle.vx_base.specs.Object.{ObjectValue, ImageObject, IsObject}
 use Rattle.vx_base.proofs.ImageLaws.{with_valid_is}
 use Rattle.vx_base.proofs.PictureLaws.{pictured_image}
 use Rattle.vx_base.proofs.RectangleLaws.{rectangle_ordered}
 use Rattle.client_contexts.specs.declared.refusal.Refusal.{Refusal}
 use Rattle.client_contexts.specs.declared.refusal.Refusal.TheVariants.{InvalidReference, InvalidType, InvalidValue, InvalidFormat, InvalidDimension}
-use Rattle.client_contexts.specs.declared.reply.Reply.TheVariants.{Empty}
+use Rattle.client_contexts.specs.declared.reply.Reply.TheVariants.{Empty, Text}
 use Rattle.client_contexts.specs.Allowance.{Allowance}
 use Rattle.client_contexts.specs.Context.{Named, Context, with_object, with_objects}
 use Rattle.client_contexts.specs.Operands.{is_unknown, is_of_other_kind, held, as_image, image_of}
-use Rattle.client_contexts.specs.Images.{query_of, query_image, picture_refusal, write_to, write_image, read_from, read_image, valid_refusal, set_valid_of, set_valid}
+use Rattle.pgm_images.specs.declared.fault.PgmFault.{PgmFault}
+use Rattle.pgm_images.specs.Reading.{reading}
+use Rattle.pgm_images.specs.Writing.{written}
+use Rattle.pgm_images.proofs.PictureLaws.{read_picture}
+use Rattle.client_contexts.specs.Images.{query_of, query_image, picture_refusal, write_to, write_image, write_text_to, write_text, read_from, read_image, read_text_from, read_text, valid_refusal, set_valid_of, set_valid}
 use Rattle.client_contexts.specs.States.{KeepsLimits}
 use Rattle.client_contexts.proofs.OutlineLaws.{Outline, outline}
 use Rattle.client_contexts.proofs.NamedLaws.{Fits, held_fits, held_is}
@@ -70,10 +74,33 @@ write_to_keeps limits (Ok image) c cell p h is fits =
     with_object_keeps limits c (cell, ImageObject (pictured p)) h
     (record { is_object = pictured_image p is; fits = subst May e fits }))
 
+-- so is that of a text
+write_text_to_keeps : (limits : Allowance) (image : Result ImageValue Refusal) (c : Context) (cell : Cell) (picture : Result PictureValue PgmFault) → KeepsLimits limits c → IfOk picture IsPicture → IfOk image (ImageFits c.objects cell) → Keeps limits (write_text_to image c cell picture)
+write_text_to_keeps limits (Err refusal) c cell picture h is fits = tt
+write_text_to_keeps limits (Ok image) c cell (Err fault) h is fits = tt
+write_text_to_keeps limits (Ok image) c cell (Ok p) h is fits = write_to_keeps limits (Ok image) c cell p h is fits
+
 -- a read leaves the context
 read_from_keeps : (limits : Allowance) (image : Result ImageValue Refusal) (c : Context) → KeepsLimits limits c → Keeps limits (read_from image c)
 read_from_keeps limits (Err refusal) c h = tt
 read_from_keeps limits (Ok image) c h = h
+
+read_text_from_keeps : (limits : Allowance) (image : Result ImageValue Refusal) (c : Context) → KeepsLimits limits c → Keeps limits (read_text_from image c)
+read_text_from_keeps limits (Err refusal) c h = tt
+read_text_from_keeps limits (Ok image) c h = unless_keeps limits (if same_format image.format U8 then None else Some InvalidFormat) (Text (written (picture_of image))) c (λ allowed. h)
+
+-- what a text stands for is a picture
+reading_is : (r : Result PictureValue PgmFault) → ((p : PictureValue) → r ≡ Ok p → IsPicture p) → IfOk r IsPicture
+reading_is (Err fault) is = tt
+reading_is (Ok p) is = is p refl
+
+-- a write of the picture of a text keeps the limits
+pub write_text_keeps : (limits : Allowance) (c : Context) (cell : Cell) (text : List ℕ) → KeepsLimits limits c → Keeps limits (write_text c cell text)
+write_text_keeps limits c cell text h = write_text_to_keeps limits (image_of c.objects cell) c cell (reading text) h (reading_is (reading text) (λ p e. read_picture text p e)) (image_of_fits limits c cell h)
+
+-- a read of an image as a text keeps the limits
+pub read_text_keeps : (limits : Allowance) (c : Context) (cell : Cell) → KeepsLimits limits c → Keeps limits (read_text c cell)
+read_text_keeps limits c cell h = read_text_from_keeps limits (image_of c.objects cell) c h
 
 -- a write of a picture keeps the limits
 pub write_image_keeps : (limits : Allowance) (c : Context) (cell : Cell) (p : PictureValue) → KeepsLimits limits c → IsPicture p → Keeps limits (write_image c cell p)

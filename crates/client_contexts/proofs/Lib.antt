@@ -10,6 +10,7 @@ pub mod OutlineLaws
 pub mod StateLaws
 pub mod OutcomeLaws
 pub mod ImageStepLaws
+pub mod StatisticStepLaws
 pub mod DelayStepLaws
 mod DelayLemmas
 pub mod VerdictLaws

@@ -1,12 +1,11 @@
 -- A node that runs at once keeps the limits: each output becomes an image that is described as the output was.
 use Rattle.std.proofs.Common.{◌≡◌, true, false, IsTrue, List, [], ◌∷◌, ◌++◌, Option, Some, None, IfSome, if◌then◌else◌, refl, sym, ap, subst, ◌∙◌}
 use Rattle.std.specs.Prelude.{All, ◌&&◌, is_some, is_none, unwrap_or}
-use Rattle.std.specs.List.{list_any, flat_map}
+use Rattle.std.specs.List.{list_any}
 use Rattle.std.specs.List.Sorted.{IsStrictlyIncreasing}
 use Rattle.std.specs.Option.{option_map, option_and_then, option_or}
 use Rattle.std.proofs.lemmas.Bool.{and_parts, or_parts, not-false}
 use Rattle.std.proofs.lemmas.Option.{IfSome_then}
-use Rattle.std.proofs.lemmas.Grind.{flat_map-append}
 use Rattle.std.proofs.lemmas.List.Folds.{list_any-append}
 use Rattle.std.proofs.lemmas.List.Elements.{All-nil, All-cons, All-append, All-same}
 use Rattle.vx_base.specs.declared.format.Format.{Format}
@@ -18,9 +17,10 @@ use Rattle.vx_base.specs.Description.{Description}
 use Rattle.vx_base.specs.Function.{parameters}
 use Rattle.vx_base.specs.Image.{ImageValue, description_of}
 use Rattle.vx_base.specs.Node.{IsNode, is_node, has_amount, has_operands, all_named, given, outputs, operands, with_kind, second_kind}
-use Rattle.vx_base.specs.Object.{ObjectValue, ImageObject, LutObject, ThresholdObject, DelayObject, IsObject, object_kind, object_format}
-use Rattle.vx_base.specs.Outputs.{node_output, written_to, written_by}
-use Rattle.vx_base.specs.Pixelwise.{node_image}
+use Rattle.vx_base.specs.Object.{ObjectValue, ImageObject, LutObject, ThresholdObject, DistributionObject, ExtremesObject, IsObject, object_kind, object_format}
+use Rattle.vx_base.specs.declared.output.Output.{Output}
+use Rattle.vx_base.specs.declared.output.Output.TheVariants.{First, Second}
+use Rattle.vx_base.specs.Outputs.{node_image, node_output, written_to, written_in, written_by}
 use Rattle.vx_base.proofs.NodeLaws.{node_image_is, same_kind_equal}
 use Rattle.graph_verify.specs.declared.verdict.Verdict.{Verdict}
 use Rattle.graph_verify.specs.Operand.{operand_of, operand_format}
@@ -36,6 +36,7 @@ use Rattle.client_contexts.proofs.OutlineLaws.{outline}
 use Rattle.client_contexts.proofs.NamedLaws.{names_of, Fits, held_is, held_kind, held_fits}
 use Rattle.client_contexts.proofs.StateLaws.{IsReplacement, with_written_keeps}
 use Rattle.client_contexts.proofs.VerdictLaws.{Suits, verdict_suits}
+use Rattle.client_contexts.proofs.StoredLemmas.{described_node, length-histogram}
 use Rattle.client_contexts.proofs.OutcomeLaws.{Keeps, unless_keeps, passed, same_description}
 
 -- ---- a node that nothing refuses
@@ -108,64 +109,54 @@ second_format look (Some x) = as_operand (look x)
     as_operand (Some (ImageObject image)) = refl
     as_operand (Some (LutObject lut)) = refl
     as_operand (Some (ThresholdObject threshold)) = refl
-    as_operand (Some (DelayObject images)) = refl
+    as_operand (Some other) = refl
 
 -- ---- what the node writes
 
--- what a node gives is of the size of its first input
-node_image_description : (n : Node) (format : Format) (a : ImageValue) (second : Option ObjectValue) → description_of (node_image n format a second) ≡ record { width = a.width; height = a.height; format = format }
-node_image_description n format a None = refl
-node_image_description n format a (Some (ImageObject b)) = refl
-node_image_description n format a (Some (LutObject lut)) = refl
-node_image_description n format a (Some (ThresholdObject threshold)) = refl
-node_image_description n format a (Some (DelayObject images)) = refl
-
-module _ (objects : List Named) (n : Node) (shape : IsTrue (is_node n)) (second : Option ObjectValue) (is : IfSome second IsObject) (right : IfSome second (λ object. (parameters n.function).second_input ≡ Some (object_kind object))) where
+module _ (objects : List Named) (n : Node) (node : IsNode n) (second : Option ObjectValue) (is : IfSome second IsObject) (right : IfSome second (λ object. (parameters n.function).second_input ≡ Some (object_kind object))) where
   -- an output that suits becomes an object of its outline
-  output_fits : (cell : Cell) (first out : ObjectValue) → IsObject first → IsObject out → All (Fits cell (outline out)) objects → Suits n.function (operand_of first) (option_and_then object_format second) (operand_of out)
-      → IsReplacement objects (cell, node_output n first second out)
-  output_fits cell (ImageObject a) (ImageObject out) is_first is_out fits suits =
-      let e : description_of (node_image n out.format a second) ≡ description_of out =
-      node_image_description n out.format a second ∙ same_description (record { width = a.width; height = a.height; format = out.format }) (description_of out) suits.size refl in
+  output_fits : (output : Output) (cell : Cell) (first out : ObjectValue) → IsObject first → IsObject out → All (Fits cell (outline out)) objects → Suits n.function (operand_of first) (option_and_then object_format second) (operand_of out)
+      → IsReplacement objects (cell, node_output n output first second out)
+  output_fits output cell (ImageObject a) (ImageObject out) is_first is_out fits suits =
+      let e : description_of (node_image n output out.format a second) ≡ description_of out =
+      described_node n output out.format a second ∙ same_description (record { width = a.width; height = a.height; format = out.format }) (description_of out) suits.size refl in
       let May : Description → Type 0 = λ d. All (Fits cell (kind.Image, d ∷ [])) objects in
-      record { is_object = node_image_is n out.format a shape is_first second is right suits.formats; fits = subst May (sym e) fits }
-  output_fits cell first out is_first is_out fits suits = record { is_object = is_out; fits = fits }
+      record { is_object = node_image_is n out.format a node is_first output second is right suits.formats; fits = subst May (sym e) fits }
+  output_fits output cell (ImageObject a) (DistributionObject d) is_first is_out fits suits = record { is_object = record { bins = is_out.bins; size = length-histogram d.bins a }; fits = fits }
+  output_fits output cell (ImageObject a) (ExtremesObject e) is_first is_out fits suits = record { is_object = tt; fits = fits }
+  output_fits output cell first out is_first is_out fits suits = record { is_object = is_out; fits = fits }
 
   -- so does what a cell holds, if it holds something
-  written_to_fits : (cell : Cell) (first out : Option ObjectValue) → IfSome first IsObject → IfSome out IsObject → IfSome out (λ x. All (Fits cell (outline x)) objects)
-      → IfSome first (λ x. IfSome (option_map operand_of out) (Suits n.function (operand_of x) (option_and_then object_format second))) → All (IsReplacement objects) (written_to n cell first second out)
-  written_to_fits cell (Some first) (Some out) is_first is_out fits suits =
-      All-cons (IsReplacement objects) (cell, node_output n first second out) [] (output_fits cell first out is_first is_out fits suits) (All-nil (IsReplacement objects))
-  written_to_fits cell first out is_first is_out fits suits = All-nil (IsReplacement objects)
+  written_to_fits : (output : Output) (cell : Cell) (first out : Option ObjectValue) → IfSome first IsObject → IfSome out IsObject → IfSome out (λ x. All (Fits cell (outline x)) objects)
+      → IfSome first (λ x. IfSome (option_map operand_of out) (Suits n.function (operand_of x) (option_and_then object_format second))) → All (IsReplacement objects) (written_to n output cell first second out)
+  written_to_fits output cell (Some first) (Some out) is_first is_out fits suits =
+      All-cons (IsReplacement objects) (cell, node_output n output first second out) [] (output_fits output cell first out is_first is_out fits suits) (All-nil (IsReplacement objects))
+  written_to_fits output cell first out is_first is_out fits suits = All-nil (IsReplacement objects)
 
   -- so does an output, if it is given
-  given_fits : IsStrictlyIncreasing (names_of objects) → All (λ o. IsObject o.object) objects → (first : Option ObjectValue) (out : Option Cell) → IfSome first IsObject
-      → IfSome first (λ x. IfSome (operand_if objects out) (Suits n.function (operand_of x) (option_and_then object_format second))) → All (IsReplacement objects) (flat_map (λ cell. written_to n cell first second (held objects cell)) (given out))
-  given_fits names all first None is_first suits = All-nil (IsReplacement objects)
-  given_fits names all first (Some cell) is_first suits =
-      All-append (IsReplacement objects) (written_to n cell first second (held objects cell)) []
-      (written_to_fits cell first (held objects cell) is_first (held_is objects cell all) (held_fits objects cell all names) suits)
-      (All-nil (IsReplacement objects))
+  given_fits : IsStrictlyIncreasing (names_of objects) → All (λ o. IsObject o.object) objects → (output : Output) (first : Option ObjectValue) (out : Option Cell) → IfSome first IsObject
+      → IfSome first (λ x. IfSome (operand_if objects out) (Suits n.function (operand_of x) (option_and_then object_format second))) → held objects n.in1 ≡ first → option_and_then (held objects) n.in2 ≡ second → All (IsReplacement objects) (written_in n output out (held objects))
+  given_fits names all output first None is_first suits e f = All-nil (IsReplacement objects)
+  given_fits names all output first (Some cell) is_first suits e f =
+      rw (e, f) (written_to_fits output cell first (held objects cell) is_first (held_is objects cell all) (held_fits objects cell all names) suits)
 
 -- what a node that isn't refused writes may be written
-written_by_fits : (limits : Allowance) (c : Context) (n : Node) → KeepsLimits limits c → IsTrue (is_node n) → node_refusal c.objects n ≡ None → All (IsReplacement c.objects) (written_by n (held c.objects))
-written_by_fits limits c n h shape allowed =
+written_by_fits : (limits : Allowance) (c : Context) (n : Node) → KeepsLimits limits c → IsNode n → node_refusal c.objects n ≡ None → All (IsReplacement c.objects) (written_by n (held c.objects))
+written_by_fits limits c n h node allowed =
     let objects : List Named = c.objects in
     let first : Option ObjectValue = held objects n.in1 in
     let second : Option ObjectValue = option_and_then (held objects) n.in2 in
     let passes = not_refused objects n allowed in
-    let right = second_is objects (parameters n.function).second_input n.in2 (second_there n shape) (second_of_kind objects n passes.0) in
+    let right = second_is objects (parameters n.function).second_input n.in2 (second_there n node.shape) (second_of_kind objects n passes.0) in
     let is = second_object objects n.in2 h.objects in
     let is_first = held_is objects n.in1 h.objects in
     let suit = verdict_suits n first (operand_if objects n.in2) (operand_if objects n.out1) (operand_if objects n.out2) (option_and_then object_format second) (second_format (held objects) n.in2) passes.1 in
-    let becomes : Cell → List (Cell × ObjectValue) = λ cell. written_to n cell first second (held objects cell) in
-    All-same (IsReplacement objects) (flat_map becomes (outputs n)) (flat_map becomes (given n.out1) ++ flat_map becomes (given n.out2)) (flat_map-append becomes (given n.out1) (given n.out2))
-    (All-append (IsReplacement objects) (flat_map becomes (given n.out1)) (flat_map becomes (given n.out2))
-    (given_fits objects n shape second is right h.names h.objects first n.out1 is_first (IfSome_then first suit (λ x both. both.0)))
-    (given_fits objects n shape second is right h.names h.objects first n.out2 is_first (IfSome_then first suit (λ x both. both.1))))
+    All-append (IsReplacement objects) (written_in n First n.out1 (held objects)) (written_in n Second n.out2 (held objects))
+    (given_fits objects n node second is right h.names h.objects First first n.out1 is_first (IfSome_then first suit (λ x both. both.0)) refl refl)
+    (given_fits objects n node second is right h.names h.objects Second first n.out2 is_first (IfSome_then first suit (λ x both. both.1)) refl refl)
 
 -- a node that runs at once keeps the limits
 pub immediate_keeps : (limits : Allowance) (c : Context) (n : Node) → KeepsLimits limits c → IsNode n → Keeps limits (immediate c n)
 immediate_keeps limits c n h is =
     unless_keeps limits (node_refusal c.objects n) Empty (with_objects c (with_written c.objects (written_by n (held c.objects))))
-    (λ allowed. with_written_keeps limits c (written_by n (held c.objects)) h (written_by_fits limits c n h is.shape allowed))
+    (λ allowed. with_written_keeps limits c (written_by n (held c.objects)) h (written_by_fits limits c n h is allowed))

@@ -11,30 +11,44 @@ use Rattle.vx_base.specs.Description.{Description, sample_count}
 use Rattle.vx_base.specs.Function.{parameters}
 use Rattle.vx_base.specs.Image.{ImageValue, IsImage, image_over, description_of}
 use Rattle.vx_base.specs.Object.{ObjectValue, ImageObject, IsObject, object_kind}
-use Rattle.vx_base.specs.Outputs.{node_output}
-use Rattle.vx_base.specs.Pixelwise.{node_image}
-use Rattle.vx_base.proofs.NodeLaws.{takes_no_delay}
+use Rattle.vx_base.specs.declared.function.Function.{Function}
+use Rattle.vx_base.specs.declared.output.Output.{Output}
+use Rattle.vx_base.specs.Outputs.{node_image, node_output}
+use Rattle.vx_base.proofs.NodeLaws.{takes_no_delay, takes_no_distribution, takes_no_extremes}
 use Rattle.client_contexts.specs.declared.places.Places.{Places}
 use Rattle.object_table.specs.declared.names.Entry.{Entry}
 use Rattle.object_table.specs.declared.place.Place.{Place}
 use Rattle.object_table.specs.Object.{image_value, with_samples}
-use Rattle.object_table.specs.Table.{TableValue, object_at, image_at, replaced, with_objects, IsPlace, HasImageAt}
-use Rattle.client_contexts.specs.Steps.{CanRun, AreApart, RunsTo, written_at}
-use Rattle.client_contexts.proofs.PlaceLemmas.{object_beside, place_beside, image_beside, replaced_twice, object_after, image_after}
+use Rattle.object_table.proofs.SlotLemmas.{has_image}
+use Rattle.object_table.specs.Table.{TableValue, entry_at, object_at, image_at, replaced, with_objects, IsPlace, HasImageAt}
+use Rattle.client_contexts.specs.Steps.{CanRun, AreApart, IsRead, RunsOn, RunsTo, output_at}
+use Rattle.client_contexts.proofs.PlaceLemmas.{object_beside, object_if_beside, place_if_beside, image_beside, replaced_twice, object_after, image_after}
 use Rattle.client_contexts.proofs.StoredLemmas.{stored_is, image_of_object}
 
--- what is written by a node of images
-pub of_images : (n : Node) (first : ObjectValue) (second : Option ObjectValue) (out : ObjectValue) → object_kind first ≡ kind.Image → object_kind out ≡ kind.Image
-    → ImageObject (node_image n (image_value out).format (image_value first) second) ≡ node_output n first second out
-of_images n (ImageObject a) second (ImageObject b) h i = refl
-of_images n (ImageObject a) second other h i = cc
-of_images n other second b h i = cc
+-- what is written by a node to an image
+pub of_images : (n : Node) (output : Output) (first : ObjectValue) (second : Option ObjectValue) (out : ObjectValue) → object_kind first ≡ kind.Image → object_kind out ≡ kind.Image
+    → ImageObject (node_image n output (image_value out).format (image_value first) second) ≡ node_output n output first second out
+of_images n output (ImageObject a) second (ImageObject b) h i = refl
+of_images n output (ImageObject a) second other h i = cc
+of_images n output other second b h i = cc
 
--- a node's output at a place of a table
-module _ (objects : List (Entry ObjectValue)) (n : Node) (p : Places) (output : Place) (given : Option Place) (is_given : given ≡ Some output) (asked : IfSome given (RunsTo objects n p)) where
-  h : RunsTo objects n p output
-  h = subst (λ (o : Option Place). IfSome o (RunsTo objects n p)) is_given asked
+-- a kernel can run where an output is an image
+pub can_run : (n : Node) (first : ObjectValue) (second : Option ObjectValue) (out : ObjectValue) → RunsOn n first second out → object_kind out ≡ kind.Image → CanRun n (image_value first) second (image_value out)
+can_run n first second (ImageObject b) runs e = record { node = runs.node; kind = runs.second_kind; formats = runs.formats; size = runs.out_size; second_size = runs.second_size }
+can_run n first second other runs e = cc
 
+-- what a function reads beside its first input can be lent to a kernel
+is_read : (function : Function) (k : Kind) → (parameters function).second_input ≡ Some k → IsRead k
+is_read function kind.Image e = tt
+is_read function kind.Lut e = tt
+is_read function kind.Threshold e = tt
+is_read function kind.Convolution e = tt
+is_read function kind.Delay e = absurd (takes_no_delay function e)
+is_read function kind.Distribution e = absurd (takes_no_distribution function e)
+is_read function kind.Extremes e = absurd (takes_no_extremes function e)
+
+-- a node's output that is an image, at a place of a table
+module _ (objects : List (Entry ObjectValue)) (n : Node) (which : Output) (p : Places) (output : Place) (h : RunsTo objects n p output) (is_image : (parameters n.function).output ≡ kind.Image) where
   abbrev pub first : ImageValue
   first = image_at objects p.in1
 
@@ -44,8 +58,14 @@ module _ (objects : List (Entry ObjectValue)) (n : Node) (p : Places) (output : 
   abbrev pub out : ImageValue
   out = image_at objects output
 
+  out_kind : object_kind (object_at objects output) ≡ kind.Image
+  out_kind = h.runs.out_kind ∙ is_image
+
   pub writes_image : HasImageAt objects output
-  writes_image = h.out
+  writes_image = record { within = h.out.within; image = has_image output.slot (entry_at objects output.index).object h.out.there out_kind }
+
+  can : CanRun n first second out
+  can = can_run n (object_at objects p.in1) second (object_at objects output) h.runs out_kind
 
   -- what the node reads stands beside the output, whatever stands there
   module _ (after : TableValue) (left : ObjectValue) (before : TableValue) (taken : after ≡ with_objects before (replaced objects output left)) where
@@ -59,28 +79,20 @@ module _ (objects : List (Entry ObjectValue)) (n : Node) (p : Places) (output : 
     first_is_image image is = subst IsImage (sym (is ∙ first_there)) (image_of_object (object_at objects p.in1) h.runs.first_kind h.runs.first_is)
 
     second_there : option_map (object_at after.objects) p.in2 ≡ second
-    second_there = ap (λ (t : TableValue). option_map (object_at t.objects) p.in2) taken ∙ there p.in2 h.in2_apart
-      where
-        there : (place : Option Place) → IfSome place (λ k. AreApart k output) → option_map (object_at (replaced objects output left)) place ≡ option_map (object_at objects) place
-        there None apart = refl
-        there (Some k) apart = ap Some (object_beside objects output h.out.within k left apart)
+    second_there = ap (λ (t : TableValue). option_map (object_at t.objects) p.in2) taken ∙ object_if_beside objects output h.out.within p.in2 left h.in2_apart
 
     pub second_has_place : IfSome p.in2 (IsPlace after.objects)
-    second_has_place = subst (λ (t : TableValue). IfSome p.in2 (IsPlace t.objects)) (sym taken) (there p.in2 h.in2_apart h.in2)
-      where
-        there : (place : Option Place) → IfSome place (λ k. AreApart k output) → IfSome place (IsPlace objects) → IfSome place (IsPlace (replaced objects output left))
-        there None apart is = tt
-        there (Some k) apart is = place_beside objects output h.out.within k left apart is
+    second_has_place = subst (λ (t : TableValue). IfSome p.in2 (IsPlace t.objects)) (sym taken) (place_if_beside objects output h.out.within p.in2 left h.in2_apart h.in2)
 
     pub second_is_object : IfSome (option_map (object_at after.objects) p.in2) IsObject
     second_is_object = subst (λ (o : Option ObjectValue). IfSome o IsObject) (sym second_there) h.runs.second_is
 
-    pub second_is_no_delay : IfSome (option_map (object_at after.objects) p.in2) (λ object. object_kind object ≢ kind.Delay)
-    second_is_no_delay = subst (λ (o : Option ObjectValue). IfSome o (λ object. object_kind object ≢ kind.Delay)) (sym second_there) (no_delay second h.runs.can_run.kind)
+    pub second_is_read : IfSome (option_map (object_at after.objects) p.in2) (λ object. IsRead (object_kind object))
+    second_is_read = subst (λ (o : Option ObjectValue). IfSome o (λ object. IsRead (object_kind object))) (sym second_there) (read second h.runs.second_kind)
       where
-        no_delay : (o : Option ObjectValue) → IfSome o (λ object. (parameters n.function).second_input ≡ Some (object_kind object)) → IfSome o (λ object. object_kind object ≢ kind.Delay)
-        no_delay None is = tt
-        no_delay (Some object) is = λ delay. takes_no_delay n.function (is ∙ ap (λ (k : Kind). Some k) delay)
+        read : (o : Option ObjectValue) → IfSome o (λ object. (parameters n.function).second_input ≡ Some (object_kind object)) → IfSome o (λ object. IsRead (object_kind object))
+        read None is = tt
+        read (Some object) is = is_read n.function (object_kind object) is
 
   module _ (d : Description) (image : ImageValue) (describes : d ≡ description_of image) (is_out : image ≡ out) where
     described : d ≡ description_of out
@@ -88,7 +100,7 @@ module _ (objects : List (Entry ObjectValue)) (n : Node) (p : Places) (output : 
 
     -- as many samples are taken out as the image has
     pub taken_count : (samples : List ℤ) → samples ≡ out.samples → length samples ≡ sample_count d
-    taken_count samples is = ap length is ∙ (image_of_object (object_at objects output) h.runs.out_kind h.runs.out_is).size ∙ ap sample_count (sym described)
+    taken_count samples is = ap length is ∙ (image_of_object (object_at objects output) out_kind h.runs.out_is).size ∙ ap sample_count (sym described)
 
     pub taken_format : (format : Format) → format ≡ out.format → d.format ≡ format
     taken_format format is = ap (λ (e : Description). e.format) described ∙ sym is
@@ -101,35 +113,34 @@ module _ (objects : List (Entry ObjectValue)) (n : Node) (p : Places) (output : 
           subst (λ (e : Description). CanRun n a b (image_over e empty [])) (sym described)
           (subst (λ (v : ImageValue). CanRun n v b (image_over (description_of out) empty [])) (sym (is_first ∙ first_there after left before taken))
           (subst (λ (s : Option ObjectValue). CanRun n first s (image_over (description_of out) empty [])) (sym (is_second ∙ second_there after left before taken))
-          (record { shape = h.runs.can_run.shape; kind = h.runs.can_run.kind; formats = h.runs.can_run.formats; size = h.runs.can_run.size; second_size = h.runs.can_run.second_size })))
+          (record { node = can.node; kind = can.kind; formats = can.formats; size = can.size; second_size = can.second_size })))
 
       -- the output is what the node gives
       pub put_back : left ≡ with_samples (object_at objects output) out.valid [] → (back : TableValue) (area : Rectangle) (samples : List ℤ) (format : Format)
-          → back ≡ with_objects after (replaced after.objects output (with_samples (object_at after.objects output) area samples)) → d.format ≡ format → area ≡ (node_image n format a b).valid → samples ≡ (node_image n format a b).samples
-          → back ≡ with_objects before (written_at objects n p given)
+          → back ≡ with_objects after (replaced after.objects output (with_samples (object_at after.objects output) area samples)) → d.format ≡ format → area ≡ (node_image n which format a b).valid → samples ≡ (node_image n which format a b).samples
+          → back ≡ with_objects before (replaced objects output (output_at objects n which p output))
       put_back is_left back area samples format is of_format valid written =
-          let same : node_image n format a b ≡ node_image n out.format first second =
-          ap (λ f. node_image n f a b) (sym of_format ∙ ap (λ (k : Description). k.format) described)
-          ∙ ap (λ v. node_image n out.format v b) (is_first ∙ first_there after left before taken)
-          ∙ ap (λ s. node_image n out.format first s) (is_second ∙ second_there after left before taken) in
-          let image_is : image_over (description_of out) area samples ≡ node_image n out.format first second =
-          stored_is n first second (description_of out) out area samples refl h.runs.can_run (valid ∙ ap (λ (i : ImageValue). i.valid) same) (written ∙ ap (λ (i : ImageValue). i.samples) same) in
+          let same : node_image n which format a b ≡ node_image n which out.format first second =
+          ap (λ f. node_image n which f a b) (sym of_format ∙ ap (λ (k : Description). k.format) described)
+          ∙ ap (λ v. node_image n which out.format v b) (is_first ∙ first_there after left before taken)
+          ∙ ap (λ s. node_image n which out.format first s) (is_second ∙ second_there after left before taken) in
+          let image_is : image_over (description_of out) area samples ≡ node_image n which out.format first second =
+          stored_is n which first second (description_of out) out area samples refl can (valid ∙ ap (λ (i : ImageValue). i.valid) same) (written ∙ ap (λ (i : ImageValue). i.samples) same) in
           let emptied : ImageValue = image_over (description_of out) out.valid [] in
           is
           ∙ ap (λ (t : TableValue). with_objects t (replaced t.objects output (with_samples (object_at t.objects output) area samples))) taken
           ∙ ap (with_objects before)
           (ap (λ (o : ObjectValue). replaced (replaced objects output o) output (with_samples (object_at (replaced objects output o) output) area samples)) is_left
-          ∙ ap (λ (o : ObjectValue). replaced (replaced objects output (ImageObject emptied)) output (with_samples o area samples)) (object_after objects output h.out emptied)
+          ∙ ap (λ (o : ObjectValue). replaced (replaced objects output (ImageObject emptied)) output (with_samples o area samples)) (object_after objects output writes_image emptied)
           ∙ replaced_twice objects output h.out.within (ImageObject emptied) (image_over (description_of out) area samples)
           ∙ ap (λ i. replaced objects output (ImageObject i)) image_is
-          ∙ ap (λ o. replaced objects output o) (of_images n (object_at objects p.in1) second (object_at objects output) h.runs.first_kind h.runs.out_kind)
-          ∙ ap (written_at objects n p) (sym is_given))
+          ∙ ap (λ o. replaced objects output o) (of_images n which (object_at objects p.in1) second (object_at objects output) h.runs.first_kind out_kind))
 
   -- samples can be put back where they were taken out
   pub takes_back : (after before : TableValue) → after ≡ with_objects before (replaced objects output (with_samples (object_at objects output) out.valid [])) → HasImageAt after.objects output
-  takes_back after before taken = subst (λ (t : TableValue). HasImageAt t.objects output) (sym taken) (image_after objects output h.out (image_over (description_of out) out.valid []))
+  takes_back after before taken = subst (λ (t : TableValue). HasImageAt t.objects output) (sym taken) (image_after objects output writes_image (image_over (description_of out) out.valid []))
 
   pub left_format : (after before : TableValue) → after ≡ with_objects before (replaced objects output (with_samples (object_at objects output) out.valid [])) → (image_at after.objects output).format ≡ out.format
   left_format after before taken =
       ap (λ (t : TableValue). (image_at t.objects output).format) taken
-      ∙ ap (λ (o : ObjectValue). (image_value o).format) (object_after objects output h.out (image_over (description_of out) out.valid []))
+      ∙ ap (λ (o : ObjectValue). (image_value o).format) (object_after objects output writes_image (image_over (description_of out) out.valid []))

@@ -1,7 +1,8 @@
 -- What stands at the places of a table when one of them is written.
 use Rattle.std.proofs.Common.{◌≡◌, ◌≢◌, ℕ, ◌<◌, ◌≤◌, ◌⊎◌, inl, inr, List, Option, Some, None, length, set, refl, sym, ap, ◌∙◌, arith}
-use Rattle.std.specs.Prelude.{unwrap_or}
-use Rattle.std.proofs.lemmas.Bool.{cases_lt}
+use Rattle.std.specs.Prelude.{unwrap_or, IfSome}
+use Rattle.std.specs.Option.{option_map}
+use Rattle.std.proofs.lemmas.Bool.{cases_lt, cases_eq}
 use Rattle.std.proofs.lemmas.List.{get_or-set_same, get_or-set_other, length-set, set-set}
 use Rattle.vx_base.specs.declared.format.Format.TheVariants.{U8}
 use Rattle.vx_base.specs.Image.{ImageValue, new_image}
@@ -56,6 +57,27 @@ module _ (objects : List (Entry ObjectValue)) (q : Place) (within : q.index < le
   pub image_beside : (p : Place) (new : ObjectValue) → AreApart p q → HasImageAt objects p → HasImageAt (replaced objects q new) p
   image_beside p new apart h =
       record { within = omega (arith, h.within, length_after new); image = rw (beside p new apart) h.image }
+
+  -- the same of what may not be there
+  pub object_if_beside : (p : Option Place) (new : ObjectValue) → IfSome p (λ k. AreApart k q) → option_map (object_at (replaced objects q new)) p ≡ option_map (object_at objects) p
+  object_if_beside None new apart = refl
+  object_if_beside (Some p) new apart = ap Some (object_beside p new apart)
+
+  pub place_if_beside : (p : Option Place) (new : ObjectValue) → IfSome p (λ k. AreApart k q) → IfSome p (IsPlace objects) → IfSome p (IsPlace (replaced objects q new))
+  place_if_beside None new apart h = tt
+  place_if_beside (Some p) new apart h = place_beside p new apart h
+
+  -- each keeps its name
+  pub name_after : (i : ℕ) (new : ObjectValue) → (entry_at (replaced objects q new) i).name ≡ (entry_at objects i).name
+  name_after i new = either (cases_eq i q.index)
+    where
+      either : (i ≡ q.index) ⊎ (i ≢ q.index) → (entry_at (replaced objects q new) i).name ≡ (entry_at objects i).name
+      either (inl same) =
+          ap (λ k. (entry_at (replaced objects q new) k).name) same ∙ ap (λ (e : Entry ObjectValue). e.name) (entry_after new) ∙ ap (λ k. (entry_at objects k).name) (sym same)
+      either (inr differ) = ap (λ (e : Entry ObjectValue). e.name) (get_or-set_other objects q.index i (after new) no_object differ)
+
+  pub within_after : (i : ℕ) (new : ObjectValue) → i < length objects → i < length (replaced objects q new)
+  within_after i new h = omega (arith, h, length_after new)
 
   -- an image over another
   pub replaced_twice : (left : ObjectValue) (image : ImageValue) → replaced (replaced objects q left) q (ImageObject image) ≡ replaced objects q (ImageObject image)

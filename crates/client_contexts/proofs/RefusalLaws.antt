@@ -5,12 +5,12 @@ use Rattle.vx_base.specs.declared.code.Code.{Code}
 use Rattle.vx_base.specs.declared.code.Code.TheVariants.{Success, NoMemory}
 use Rattle.vx_base.specs.Cell.{Cell}
 use Rattle.vx_base.specs.Image.{ImageValue, description_of, new_image}
-use Rattle.vx_base.specs.Object.{ObjectValue, ImageObject, LutObject, ThresholdObject, DelayObject, object_bytes}
+use Rattle.vx_base.specs.Object.{ObjectValue, ImageObject, LutObject, ThresholdObject, DelayObject, ConvolutionObject, DistributionObject, ExtremesObject, new_distribution, no_extremes, object_bytes}
 use Rattle.vx_base.specs.Picture.{PictureValue}
 use Rattle.object_table.specs.Delay.{new_delay}
 use Rattle.graph_verify.specs.declared.verdict.Verdict.TheVariants.{MultipleWriters}
 use Rattle.client_contexts.specs.declared.request.Request.{Request}
-use Rattle.client_contexts.specs.declared.request.Request.TheVariants.{OpenContext, ReleaseContext, CreateImage, QueryImage, WriteImage, ReadImage, SetValid, Release, CreateLut, CreateThreshold, Immediate, CreateDelay, AgeDelay}
+use Rattle.client_contexts.specs.declared.request.Request.TheVariants.{OpenContext, ReleaseContext, CreateImage, QueryImage, WriteImage, WriteImagePgm, ReadImage, ReadImagePgm, SetValid, Release, CreateLut, CreateThreshold, CreateConvolution, CreateDistribution, ReadDistribution, CreateMinMax, ReadMinMax, Immediate, CreateDelay, AgeDelay}
 use Rattle.client_contexts.specs.declared.refusal.Refusal.{Refusal}
 use Rattle.client_contexts.specs.declared.refusal.Refusal.TheVariants.{InvalidReference, NoResources, Rejected}
 use Rattle.client_contexts.specs.declared.reply.Reply.{Reply}
@@ -19,9 +19,12 @@ use Rattle.client_contexts.specs.Allowance.{Allowance}
 use Rattle.client_contexts.specs.Context.{Context, State, object_named, without, with_objects, with_new, has_room}
 use Rattle.client_contexts.specs.Refusal.{Outcome, refusal_code, unless}
 use Rattle.client_contexts.specs.Operands.{image_of}
-use Rattle.client_contexts.specs.Images.{create, write_to, picture_refusal, read_from, query_of, valid_refusal, set_valid_of}
+use Rattle.client_contexts.specs.Images.{create, write_to, picture_refusal, write_text_to, read_from, read_text_from, query_of, valid_refusal, set_valid_of}
 use Rattle.vx_base.specs.Rectangle.{Rectangle}
 use Rattle.client_contexts.specs.Objects.{release}
+use Rattle.pgm_images.specs.declared.fault.PgmFault.{PgmFault}
+use Rattle.pgm_images.specs.Reading.{reading}
+use Rattle.client_contexts.specs.Statistics.{counts_of, extremes_of}
 use Rattle.client_contexts.specs.Immediate.{node_refusal}
 use Rattle.client_contexts.specs.Delays.{create_like, age_named}
 use Rattle.client_contexts.specs.Answer.{outcome_of, answered, answer_to}
@@ -60,10 +63,31 @@ write_told : (image : Result ImageValue Refusal) (c : Context) (cell : Cell) (p 
 write_told (Err refusal) c cell p = tt
 write_told (Ok image) c cell p = unless_told (picture_refusal (description_of image) p.description) Empty _ (λ code e. cc)
 
+-- so does that of the picture of a text
+write_text_told : (image : Result ImageValue Refusal) (c : Context) (cell : Cell) (picture : Result PictureValue PgmFault) → IsTold (write_text_to image c cell picture)
+write_text_told (Err refusal) c cell picture = tt
+write_text_told (Ok image) c cell (Err fault) = tt
+write_text_told (Ok image) c cell (Ok p) = write_told (Ok image) c cell p
+
 -- a read tells the picture
 read_told : (image : Result ImageValue Refusal) (c : Context) → IsTold (read_from image c)
 read_told (Err refusal) c = tt
 read_told (Ok image) c = λ code e. cc
+
+read_text_told : (image : Result ImageValue Refusal) (c : Context) → IsTold (read_text_from image c)
+read_text_told (Err refusal) c = tt
+read_text_told (Ok image) c = unless_told _ _ c (λ code e. cc)
+
+-- counts are told, and extremes
+counts_told : (c : Context) (object : Option ObjectValue) → IsTold (counts_of c object)
+counts_told c None = tt
+counts_told c (Some (DistributionObject distribution)) = λ code e. cc
+counts_told c (Some other) = tt
+
+extremes_told : (c : Context) (object : Option ObjectValue) → IsTold (extremes_of c object)
+extremes_told c None = tt
+extremes_told c (Some (ExtremesObject extremes)) = λ code e. cc
+extremes_told c (Some other) = tt
 
 -- a release tells nothing
 release_told : (c : Context) (name : ℕ) → IsTold (release c name)
@@ -91,11 +115,18 @@ outcome_told limits c ReleaseContext = λ code e. cc
 outcome_told limits c (CreateImage d) = create_told limits c (ImageObject (new_image d.width d.height d.format))
 outcome_told limits c (QueryImage cell) = query_told (image_of c.objects cell) c
 outcome_told limits c (WriteImage cell p) = write_told (image_of c.objects cell) c cell p
+outcome_told limits c (WriteImagePgm cell text) = write_text_told (image_of c.objects cell) c cell (reading text)
 outcome_told limits c (ReadImage cell) = read_told (image_of c.objects cell) c
+outcome_told limits c (ReadImagePgm cell) = read_text_told (image_of c.objects cell) c
 outcome_told limits c (SetValid cell valid) = set_valid_told (image_of c.objects cell) c cell valid
 outcome_told limits c (Release name) = release_told c name
 outcome_told limits c (CreateLut lut) = create_told limits c (LutObject lut)
 outcome_told limits c (CreateThreshold threshold) = create_told limits c (ThresholdObject threshold)
+outcome_told limits c (CreateConvolution convolution) = create_told limits c (ConvolutionObject convolution)
+outcome_told limits c (CreateDistribution bins) = create_told limits c (DistributionObject (new_distribution bins))
+outcome_told limits c (ReadDistribution name) = counts_told c (object_named c.objects name)
+outcome_told limits c CreateMinMax = create_told limits c (ExtremesObject no_extremes)
+outcome_told limits c (ReadMinMax name) = extremes_told c (object_named c.objects name)
 outcome_told limits c (Immediate n) = unless_told (node_refusal c.objects n) Empty _ (λ code e. cc)
 outcome_told limits c (CreateDelay cell slots) = create_like_told limits c (image_of c.objects cell) slots
 outcome_told limits c (AgeDelay name) = age_told c name (object_named c.objects name)

@@ -3,10 +3,11 @@ use Rattle.std.proofs.Common.{List, [], ◌∷◌, Some, None, Ok, Err}
 use Rattle.std.specs.Prelude.{All}
 use Rattle.std.proofs.lemmas.List.Elements.{All-head, All-tail}
 use Rattle.vx_base.specs.Image.{new_image}
-use Rattle.vx_base.specs.Object.{ImageObject, LutObject, ThresholdObject}
+use Rattle.vx_base.specs.Object.{ImageObject, LutObject, ThresholdObject, ConvolutionObject, DistributionObject, ExtremesObject, new_distribution, no_extremes}
 use Rattle.vx_base.proofs.ImageLaws.{new_image_is}
+use Rattle.vx_base.proofs.PictureLaws.{side}
 use Rattle.client_contexts.specs.declared.request.Request.{Request}
-use Rattle.client_contexts.specs.declared.request.Request.TheVariants.{OpenContext, ReleaseContext, CreateImage, QueryImage, WriteImage, ReadImage, SetValid, Release, CreateLut, CreateThreshold, Immediate, CreateDelay, AgeDelay}
+use Rattle.client_contexts.specs.declared.request.Request.TheVariants.{OpenContext, ReleaseContext, CreateImage, QueryImage, WriteImage, WriteImagePgm, ReadImage, ReadImagePgm, SetValid, Release, CreateLut, CreateThreshold, CreateConvolution, CreateDistribution, ReadDistribution, CreateMinMax, ReadMinMax, Immediate, CreateDelay, AgeDelay}
 use Rattle.client_contexts.specs.Allowance.{Allowance}
 use Rattle.client_contexts.specs.Context.{Context, State}
 use Rattle.client_contexts.specs.Request.{IsRequest}
@@ -15,7 +16,8 @@ use Rattle.client_contexts.specs.Answer.{outcome_of, answered, answer_to}
 use Rattle.client_contexts.specs.States.{KeepsLimits, state_after}
 use Rattle.client_contexts.proofs.StateLaws.{new_context_keeps}
 use Rattle.client_contexts.proofs.OutcomeLaws.{StateKeeps, Keeps, create_keeps, release_keeps}
-use Rattle.client_contexts.proofs.ImageStepLaws.{query_image_keeps, write_image_keeps, read_image_keeps, set_valid_keeps}
+use Rattle.client_contexts.proofs.ImageStepLaws.{query_image_keeps, write_image_keeps, write_text_keeps, read_image_keeps, read_text_keeps, set_valid_keeps}
+use Rattle.client_contexts.proofs.StatisticStepLaws.{new_distribution_is, read_distribution_keeps, read_min_max_keeps}
 use Rattle.client_contexts.proofs.DelayStepLaws.{create_delay_keeps, age_delay_keeps}
 use Rattle.client_contexts.proofs.NodeStepLaws.{immediate_keeps}
 
@@ -23,14 +25,21 @@ use Rattle.client_contexts.proofs.NodeStepLaws.{immediate_keeps}
 pub outcome_keeps : (limits : Allowance) (c : Context) (request : Request) → KeepsLimits limits c → IsRequest request → Keeps limits (outcome_of limits c request)
 outcome_keeps limits c OpenContext h is = tt
 outcome_keeps limits c ReleaseContext h is = tt
-outcome_keeps limits c (CreateImage d) h is = create_keeps limits c (ImageObject (new_image d.width d.height d.format)) h (new_image_is d.width d.height d.format)
+outcome_keeps limits c (CreateImage d) h is = create_keeps limits c (ImageObject (new_image d.width d.height d.format)) h (new_image_is d.width d.height d.format (side d.width is.width) (side d.height is.height))
 outcome_keeps limits c (QueryImage cell) h is = query_image_keeps limits c cell h
 outcome_keeps limits c (WriteImage cell p) h is = write_image_keeps limits c cell p h is.1
+outcome_keeps limits c (WriteImagePgm cell text) h is = write_text_keeps limits c cell text h
 outcome_keeps limits c (ReadImage cell) h is = read_image_keeps limits c cell h
+outcome_keeps limits c (ReadImagePgm cell) h is = read_text_keeps limits c cell h
 outcome_keeps limits c (SetValid cell valid) h is = set_valid_keeps limits c cell valid h is.1.bounds
 outcome_keeps limits c (Release name) h is = release_keeps limits c name h
 outcome_keeps limits c (CreateLut lut) h is = create_keeps limits c (LutObject lut) h is
 outcome_keeps limits c (CreateThreshold threshold) h is = create_keeps limits c (ThresholdObject threshold) h is
+outcome_keeps limits c (CreateConvolution convolution) h is = create_keeps limits c (ConvolutionObject convolution) h is
+outcome_keeps limits c (CreateDistribution bins) h is = create_keeps limits c (DistributionObject (new_distribution bins)) h (new_distribution_is bins is)
+outcome_keeps limits c (ReadDistribution name) h is = read_distribution_keeps limits c name h
+outcome_keeps limits c CreateMinMax h is = create_keeps limits c (ExtremesObject no_extremes) h tt
+outcome_keeps limits c (ReadMinMax name) h is = read_min_max_keeps limits c name h
 outcome_keeps limits c (Immediate n) h is = immediate_keeps limits c n h is
 outcome_keeps limits c (CreateDelay cell slots) h is = create_delay_keeps limits c cell slots h is.1
 outcome_keeps limits c (AgeDelay name) h is = age_delay_keeps limits c name h

@@ -1,14 +1,20 @@
 -- Images that a context holds, and what nodes write to them.
-use Rattle.std.proofs.Common.{◌≡◌, ℕ, ℤ, List, Option, Some, None, refl, ap, ◌∙◌, sym}
-use Rattle.std.specs.Prelude.{◌==◌}
+use Rattle.std.proofs.Common.{◌≡◌, ℕ, ℤ, List, length, Option, Some, None, refl, ap, ◌∙◌, sym}
+use Rattle.std.specs.Prelude.{◌==◌, unsigned_abs}
+use Rattle.std.specs.List.{count_by}
+use Rattle.std.proofs.lemmas.List.FromFn.{length-map-range_with_len}
 use Rattle.std.proofs.lemmas.Bool.{eqb-true, and_parts}
 use Rattle.vx_base.specs.declared.node.Node.{Node}
 use Rattle.vx_base.specs.declared.format.Format.{Format}
 use Rattle.vx_base.specs.Rectangle.{Rectangle}
 use Rattle.vx_base.specs.Description.{Description}
 use Rattle.vx_base.specs.Image.{ImageValue, IsImage, image_over, description_of}
-use Rattle.vx_base.specs.Object.{ObjectValue, ImageObject, LutObject, ThresholdObject, DelayObject, IsObject, object_kind}
-use Rattle.vx_base.specs.Pixelwise.{node_image}
+use Rattle.vx_base.specs.Object.{ObjectValue, ImageObject, IsObject, object_kind}
+use Rattle.vx_base.specs.declared.function.Function.{Function}
+use Rattle.vx_base.specs.declared.function.Function.TheVariants.{NotBits}
+use Rattle.vx_base.specs.declared.output.Output.{Output}
+use Rattle.vx_base.specs.Outputs.{node_image, image_of_one}
+use Rattle.vx_base.specs.Statistics.{BinsValue, bin_of, is_bin, histogram, valid_samples}
 use Rattle.vx_base.proofs.ImageLaws.{same_parts}
 use Rattle.image_core.specs.Fits.{HaveSameSize}
 use Rattle.client_contexts.specs.Steps.{CanRun}
@@ -27,31 +33,37 @@ described w h k l format e f =
     ∙ ap (λ n. let d : Description = record { width = k; height = n; format = format } in d) f
 
 -- what a node gives is of its first input's size, and of the format that is asked for
-described_node : (n : Node) (format : Format) (a : ImageValue) (second : Option ObjectValue) → description_of (node_image n format a second) ≡ record { width = a.width; height = a.height; format = format }
-described_node n format a None = refl
-described_node n format a (Some (ImageObject b)) = refl
-described_node n format a (Some (LutObject lut)) = refl
-described_node n format a (Some (ThresholdObject threshold)) = refl
-described_node n format a (Some (DelayObject images)) = refl
+described_one : (function : Function) (n : Node) (output : Output) (format : Format) (a : ImageValue) → description_of (image_of_one function n output format a) ≡ record { width = a.width; height = a.height; format = format }
+described_one NotBits n output format a = refl
+described_one other n output format a = refl
+
+pub described_node : (n : Node) (output : Output) (format : Format) (a : ImageValue) (second : Option ObjectValue) → description_of (node_image n output format a second) ≡ record { width = a.width; height = a.height; format = format }
+described_node n output format a None = described_one n.function n output format a
+described_node n output format a (Some (ImageObject b)) = refl
+described_node n output format a (Some other) = refl
 
 -- an output keeps its description
-pub description_kept : (n : Node) (a : ImageValue) (second : Option ObjectValue) (out : ImageValue) → HaveSameSize out a → description_of (node_image n out.format a second) ≡ description_of out
-description_kept n a second out h = described_node n out.format a second ∙ sym (described out.width out.height a.width a.height out.format (widths out a h) (heights out a h))
+pub description_kept : (n : Node) (output : Output) (a : ImageValue) (second : Option ObjectValue) (out : ImageValue) → HaveSameSize out a → description_of (node_image n output out.format a second) ≡ description_of out
+description_kept n output a second out h = described_node n output out.format a second ∙ sym (described out.width out.height a.width a.height out.format (widths out a h) (heights out a h))
 
 -- samples that a node has written, with the rectangle beside them
-module _ (n : Node) (a : ImageValue) (second : Option ObjectValue) (d : Description) (old : ImageValue) (area : Rectangle) (samples : List ℤ)
+module _ (n : Node) (output : Output) (a : ImageValue) (second : Option ObjectValue) (d : Description) (old : ImageValue) (area : Rectangle) (samples : List ℤ)
     (is : description_of old ≡ d) (h : CanRun n a second old)
-    (valid : area ≡ (node_image n d.format a second).valid) (written : samples ≡ (node_image n d.format a second).samples) where
+    (valid : area ≡ (node_image n output d.format a second).valid) (written : samples ≡ (node_image n output d.format a second).samples) where
   format_is : old.format ≡ d.format
   format_is = ap (λ (e : Description). e.format) is
 
-  same_size : description_of (node_image n d.format a second) ≡ d
-  same_size = ap (λ f. description_of (node_image n f a second)) (sym format_is) ∙ description_kept n a second old h.size ∙ is
+  same_size : description_of (node_image n output d.format a second) ≡ d
+  same_size = ap (λ f. description_of (node_image n output f a second)) (sym format_is) ∙ description_kept n output a second old h.size ∙ is
 
-  pub stored_is : image_over d area (samples) ≡ node_image n d.format a second
+  pub stored_is : image_over d area (samples) ≡ node_image n output d.format a second
   stored_is =
-      same_parts (image_over d area (samples)) (node_image n d.format a second)
+      same_parts (image_over d area (samples)) (node_image n output d.format a second)
       (sym (ap (λ (e : Description). e.width) same_size)) (sym (ap (λ (e : Description). e.height) same_size)) (sym (ap (λ (e : Description). e.format) same_size)) valid written
+
+-- there is a count for each bin
+pub length-histogram : (bins : BinsValue) (a : ImageValue) → length (histogram bins a) ≡ bins.bins
+length-histogram bins a = length-map-range_with_len (λ k. count_by (λ z. is_bin k (bin_of bins (unsigned_abs z))) (valid_samples a)) 0 bins.bins
 
 -- an object that is an image is one
 pub image_of_object : (object : ObjectValue) → object_kind object ≡ kind.Image → IsObject object → IsImage (image_value object)

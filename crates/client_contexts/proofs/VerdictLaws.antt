@@ -50,7 +50,7 @@ suits_if function first second None formats size = tt
 suits_if function first second (Some out) formats size = record { formats = formats; size = size }
 
 -- where the operands of a node have no fault, each output suits
-no_fault_suits : (function : Function) (o : Operands) → node_fault function o ≡ None
+pub no_fault_suits : (function : Function) (o : Operands) → node_fault function o ≡ None
     → IfSome o.out1 (Suits function o.in1 (option_and_then operand_format o.in2)) × IfSome o.out2 (Suits function o.in1 (option_and_then operand_format o.in2))
 no_fault_suits function o h =
     let taken = passed (not (takes_operands function o)) InvalidFormat _ h in

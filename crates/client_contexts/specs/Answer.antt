@@ -1,17 +1,18 @@
 -- What one client is answered, and its new state: the whole meaning of the requests.
 use Rattle.std.specs.Prelude.{Some, None, Ok, Err}
 use Rattle.vx_base.specs.declared.code.Code.TheVariants as code
-use Rattle.vx_base.specs.Object.{LutObject, ThresholdObject}
+use Rattle.vx_base.specs.Object.{LutObject, ThresholdObject, ConvolutionObject, DistributionObject, ExtremesObject, new_distribution, no_extremes}
 use Rattle.client_contexts.specs.declared.request.Request.{Request}
-use Rattle.client_contexts.specs.declared.request.Request.TheVariants.{OpenContext, ReleaseContext, CreateImage, QueryImage, WriteImage, ReadImage, SetValid, Release, CreateLut, CreateThreshold, Immediate, CreateDelay, AgeDelay}
+use Rattle.client_contexts.specs.declared.request.Request.TheVariants.{OpenContext, ReleaseContext, CreateImage, QueryImage, WriteImage, WriteImagePgm, ReadImage, ReadImagePgm, SetValid, Release, CreateLut, CreateThreshold, CreateConvolution, CreateDistribution, ReadDistribution, CreateMinMax, ReadMinMax, Immediate, CreateDelay, AgeDelay}
 use Rattle.client_contexts.specs.declared.refusal.Refusal.TheVariants.{InvalidValue}
 use Rattle.client_contexts.specs.declared.reply.Reply.{Reply}
 use Rattle.client_contexts.specs.declared.reply.Reply.TheVariants.{Refused, Empty}
 use Rattle.client_contexts.specs.Allowance.{Allowance}
 use Rattle.client_contexts.specs.Context.{Context, State, new_context}
 use Rattle.client_contexts.specs.Refusal.{Outcome, refusal_code}
-use Rattle.client_contexts.specs.Images.{create, create_image, query_image, write_image, read_image, set_valid}
+use Rattle.client_contexts.specs.Images.{create, create_image, query_image, write_image, write_text, read_image, read_text, set_valid}
 use Rattle.client_contexts.specs.Objects.{release}
+use Rattle.client_contexts.specs.Statistics.{read_distribution, read_min_max}
 use Rattle.client_contexts.specs.Immediate.{immediate}
 use Rattle.client_contexts.specs.Delays.{create_delay, age_delay}
 
@@ -22,11 +23,18 @@ outcome_of limits c ReleaseContext = Ok (Empty, None)
 outcome_of limits c (CreateImage d) = create_image limits c d
 outcome_of limits c (QueryImage cell) = query_image c cell
 outcome_of limits c (WriteImage cell p) = write_image c cell p
+outcome_of limits c (WriteImagePgm cell text) = write_text c cell text
 outcome_of limits c (ReadImage cell) = read_image c cell
+outcome_of limits c (ReadImagePgm cell) = read_text c cell
 outcome_of limits c (SetValid cell valid) = set_valid c cell valid
 outcome_of limits c (Release name) = release c name
 outcome_of limits c (CreateLut lut) = create limits c (LutObject lut)
 outcome_of limits c (CreateThreshold threshold) = create limits c (ThresholdObject threshold)
+outcome_of limits c (CreateConvolution convolution) = create limits c (ConvolutionObject convolution)
+outcome_of limits c (CreateDistribution bins) = create limits c (DistributionObject (new_distribution bins))
+outcome_of limits c (ReadDistribution name) = read_distribution c name
+outcome_of limits c CreateMinMax = create limits c (ExtremesObject no_extremes)
+outcome_of limits c (ReadMinMax name) = read_min_max c name
 outcome_of limits c (Immediate n) = immediate c n
 outcome_of limits c (CreateDelay cell slots) = create_delay limits c cell slots
 outcome_of limits c (AgeDelay name) = age_delay c name

@@ -1,5 +1,6 @@
 -- Requests that make objects, and those on the samples of images.
-use Rattle.std.specs.Prelude.{not, nat_le, ◌&&◌, Option, Some, None, Result, Ok, Err, if◌then◌else◌}
+use Rattle.std.specs.Prelude.{ℕ, List, not, nat_le, ◌&&◌, Option, Some, None, Result, Ok, Err, if◌then◌else◌}
+use Rattle.vx_base.specs.declared.format.Format.TheVariants.{U8}
 use Rattle.vx_base.specs.Cell.{Cell}
 use Rattle.vx_base.specs.Sample.{same_format}
 use Rattle.vx_base.specs.Description.{Description, same_size}
@@ -7,11 +8,15 @@ use Rattle.vx_base.specs.Rectangle.{Rectangle}
 use Rattle.vx_base.specs.Image.{ImageValue, new_image, description_of, with_valid}
 use Rattle.vx_base.specs.Picture.{PictureValue, picture_of, pictured}
 use Rattle.vx_base.specs.Object.{ObjectValue, ImageObject, object_bytes}
+use Rattle.pgm_images.specs.declared.fault.PgmFault.{PgmFault}
+use Rattle.pgm_images.specs.declared.fault.PgmFault.TheVariants as fault
+use Rattle.pgm_images.specs.Reading.{reading}
+use Rattle.pgm_images.specs.Writing.{written}
 use Rattle.client_contexts.specs.declared.refusal.Refusal.{Refusal}
 use Rattle.client_contexts.specs.declared.refusal.Refusal.TheVariants.{InvalidFormat, InvalidDimension, InvalidValue, NoResources}
 use Rattle.client_contexts.specs.declared.reply.Described.{Described}
 use Rattle.client_contexts.specs.declared.reply.Reply.TheVariants as reply
-use Rattle.client_contexts.specs.declared.reply.Reply.TheVariants.{Empty, Name, Picture}
+use Rattle.client_contexts.specs.declared.reply.Reply.TheVariants.{Empty, Name, Picture, Text}
 use Rattle.client_contexts.specs.Allowance.{Allowance}
 use Rattle.client_contexts.specs.Context.{Context, with_object, with_new, with_objects, has_room}
 use Rattle.client_contexts.specs.Refusal.{Outcome, unless}
@@ -51,6 +56,20 @@ write_to (Ok image) c cell p =
 abbrev pub write_image : Context → Cell → PictureValue → Outcome
 write_image c cell p = write_to (image_of c.objects cell) c cell p
 
+-- WriteImagePgm: the picture for which a text stands
+abbrev pub fault_refusal : PgmFault → Refusal
+fault_refusal fault.InvalidDimension = InvalidDimension
+fault_refusal fault.InvalidValue = InvalidValue
+fault_refusal other = InvalidFormat
+
+abbrev pub write_text_to : Result ImageValue Refusal → Context → Cell → Result PictureValue PgmFault → Outcome
+write_text_to (Err refusal) c cell picture = Err refusal
+write_text_to (Ok image) c cell (Err fault) = Err (fault_refusal fault)
+write_text_to (Ok image) c cell (Ok p) = write_to (Ok image) c cell p
+
+abbrev pub write_text : Context → Cell → List ℕ → Outcome
+write_text c cell text = write_text_to (image_of c.objects cell) c cell (reading text)
+
 -- ReadImage: the samples of all places
 abbrev pub read_from : Result ImageValue Refusal → Context → Outcome
 read_from (Err refusal) c = Err refusal
@@ -58,6 +77,14 @@ read_from (Ok image) c = Ok (Picture (picture_of image), Some c)
 
 abbrev pub read_image : Context → Cell → Outcome
 read_image c cell = read_from (image_of c.objects cell) c
+
+-- ReadImagePgm: the same of a U8 image as a PGM text
+abbrev pub read_text_from : Result ImageValue Refusal → Context → Outcome
+read_text_from (Err refusal) c = Err refusal
+read_text_from (Ok image) c = unless (if same_format image.format U8 then None else Some InvalidFormat) (Text (written (picture_of image))) c
+
+abbrev pub read_text : Context → Cell → Outcome
+read_text c cell = read_text_from (image_of c.objects cell) c
 
 -- why a rectangle can't be an image's valid one: it has places beyond the image
 abbrev pub valid_refusal : Description → Rectangle → Option Refusal

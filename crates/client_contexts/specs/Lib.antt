@@ -5,6 +5,7 @@ pub mod Refusal
 pub mod Operands
 pub mod Images
 pub mod Objects
+pub mod Statistics
 pub mod Immediate
 pub mod Delays
 pub mod Answer

@@ -7,13 +7,18 @@ use Rattle.vx_base.specs.declared.node.Node.{Node}
 use Rattle.vx_base.specs.Formats.{takes_formats}
 use Rattle.vx_base.specs.Image.{ImageValue}
 use Rattle.vx_base.specs.Function.{parameters}
-use Rattle.vx_base.specs.Node.{is_node, second_kind}
-use Rattle.vx_base.specs.Object.{ObjectValue, IsObject, object_kind, object_format}
+use Rattle.vx_base.specs.declared.output.Output.{Output}
+use Rattle.vx_base.specs.Node.{IsNode, second_kind}
+use Rattle.vx_base.specs.Object.{ObjectValue, DistributionObject, IsObject, object_kind, object_format}
+use Rattle.vx_base.specs.Statistics.{histogram}
 use Rattle.vx_base.specs.Outputs.{node_output}
 use Rattle.image_core.specs.Fits.{HaveSameSize, SecondHasSize}
 use Rattle.graph_verify.specs.declared.operand.Operands.{Operands}
 use Rattle.graph_verify.specs.Operand.{operand_of}
 use Rattle.graph_verify.specs.Verdict.{verdict_on}
+use Rattle.pgm_images.specs.declared.fault.PgmFault.{PgmFault}
+use Rattle.pgm_images.specs.declared.fault.PgmFault.TheVariants as fault
+use Rattle.client_contexts.specs.Images.{fault_refusal}
 use Rattle.client_contexts.specs.declared.fault.RequestFault.{RequestFault}
 use Rattle.client_contexts.specs.declared.fault.RequestFault.TheVariants.{Refused, NoMemory}
 use Rattle.client_contexts.specs.declared.places.Places.{Places}
@@ -52,6 +57,11 @@ pub record MayComeTo (outcome : Outcome) (old new : Context) (result : Result Re
 abbrev pub WantsMemory : RequestFault → Type 0 → Type 0
 WantsMemory (Refused refusal) takes = ⊤
 WantsMemory NoMemory takes = takes
+
+-- a text that can't be written: it stands for no picture, or there is no memory for that
+abbrev pub text_fault : PgmFault → RequestFault
+text_fault fault.NoMemory = NoMemory
+text_fault other = Refused (fault_refusal other)
 
 -- ---- operands
 
@@ -103,26 +113,43 @@ operands_at objects p =
 
 -- a node whose operands stand at these places, and that can run
 pub record Runs (objects : List Named) (n : Node) (p : Places) : Type 0 where
-  pub shape : IsTrue (is_node n)
+  pub node : IsNode n
   pub places : StandAt objects n p
   pub verdict : verdict_on n (operands_at objects p) ≡ None
 
 -- a node and an image that it can read, with what stands beside that, and an image that it can write
 pub record CanRun (n : Node) (a : ImageValue) (second : Option ObjectValue) (out : ImageValue) : Type 0 where
-  pub shape : IsTrue (is_node n)
+  pub node : IsNode n
   pub kind : IfSome second (λ object. (parameters n.function).second_input ≡ Some (object_kind object))
   pub formats : IsTrue (takes_formats n.function a.format (option_and_then object_format second) (Some out.format))
   pub size : HaveSameSize out a
   pub second_size : SecondHasSize a second
 
--- objects that are such images, and one beside them
+-- a node and what it reads and writes: objects of the kinds that its function has, of formats and sizes that it takes
 pub record RunsOn (n : Node) (first : ObjectValue) (second : Option ObjectValue) (out : ObjectValue) : Type 0 where
+  pub node : IsNode n
   pub first_kind : object_kind first ≡ kind.Image
-  pub out_kind : object_kind out ≡ kind.Image
+  pub second_kind : IfSome second (λ object. (parameters n.function).second_input ≡ Some (object_kind object))
+  pub out_kind : object_kind out ≡ (parameters n.function).output
   pub first_is : IsObject first
   pub second_is : IfSome second IsObject
   pub out_is : IsObject out
-  pub can_run : CanRun n (image_value first) second (image_value out)
+  pub formats : IsTrue (takes_formats n.function (image_value first).format (option_and_then object_format second) (object_format out))
+  pub second_size : SecondHasSize (image_value first) second
+  pub out_size : SecondHasSize (image_value first) (Some out)
+
+-- the kinds of what can stand beside a node's first input
+abbrev pub IsRead : Kind → Type 0
+IsRead kind.Image = ⊤
+IsRead kind.Lut = ⊤
+IsRead kind.Threshold = ⊤
+IsRead kind.Convolution = ⊤
+IsRead other = ⊥
+
+-- the distribution that has counted the valid samples of an image
+abbrev pub counted_in : ImageValue → ObjectValue → ObjectValue
+counted_in a (DistributionObject d) = DistributionObject (record { bins = d.bins; counts = histogram d.bins a })
+counted_in a other = other
 
 -- places of which one can be written without the other: of two objects, or two slots of one
 abbrev pub TwoSlots : Option ℕ → Option ℕ → Type 0
@@ -136,16 +163,16 @@ AreApart p q = p.index ≡ q.index → TwoSlots p.slot q.slot
 pub record RunsTo (objects : List (Entry ObjectValue)) (n : Node) (p : Places) (output : Place) : Type 0 where
   pub in1 : table.HasImageAt objects p.in1
   pub in2 : IfSome p.in2 (table.IsPlace objects)
-  pub out : table.HasImageAt objects output
+  pub out : table.IsPlace objects output
   pub in1_apart : AreApart p.in1 output
   pub in2_apart : IfSome p.in2 (λ place. AreApart place output)
   pub runs : RunsOn n (table.object_at objects p.in1) (option_map (table.object_at objects) p.in2) (table.object_at objects output)
 
--- what the output becomes
-abbrev pub output_at : List (Entry ObjectValue) → Node → Places → Place → ObjectValue
-output_at objects n p output = node_output n (table.object_at objects p.in1) (option_map (table.object_at objects) p.in2) (table.object_at objects output)
+-- what one of the outputs becomes, which stands at a place
+abbrev pub output_at : List (Entry ObjectValue) → Node → Output → Places → Place → ObjectValue
+output_at objects n which p output = node_output n which (table.object_at objects p.in1) (option_map (table.object_at objects) p.in2) (table.object_at objects output)
 
 -- the objects once the output is written, if it is there
-abbrev pub written_at : List (Entry ObjectValue) → Node → Places → Option Place → List (Entry ObjectValue)
-written_at objects n p None = objects
-written_at objects n p (Some output) = table.replaced objects output (output_at objects n p output)
+abbrev pub written_at : List (Entry ObjectValue) → Node → Output → Places → Option Place → List (Entry ObjectValue)
+written_at objects n which p None = objects
+written_at objects n which p (Some output) = table.replaced objects output (output_at objects n which p output)

@@ -21,7 +21,7 @@ use crate::run::run_at;
 use object_table::{Object, Place, Stored, Table};
 use std::alloc::Global;
 use std::marker::Model;
-use vx_base::{Node, Picture, Rect};
+use vx_base::{Node, Output, Picture, Rect};
 
 /// The objects of a client in the order of their names, and the name that comes next. Each of their
 /// names is live, and each image has all its samples.
@@ -156,7 +156,7 @@ impl Context {
         requires { Runs self.old.objects node.now places }
         ensures { self.new ≡ with_objects self.old (with_written self.old.objects (written_by node.now (held self.old.objects))) }
     {
-        run_at(&mut self.table, node, places, places.out1);
-        run_at(&mut self.table, node, places, places.out2);
+        run_at(&mut self.table, node, Output::First, places, places.out1);
+        run_at(&mut self.table, node, Output::Second, places, places.out2);
     }
 }

@@ -1,6 +1,7 @@
 //! Why a request isn't done.
 use crate::memory::NoMemory;
 use crate::refusal::Refusal;
+use pgm_images::PgmFault;
 use std::alloc::AllocError;
 
 /// Why a request that may take memory isn't done. It has changed nothing then.
@@ -42,5 +43,21 @@ impl From<AllocError> for RequestFault {
 
     fn from(_error: AllocError) -> RequestFault {
         RequestFault::NoMemory
+    }
+}
+
+impl From<PgmFault> for RequestFault {
+    ghost use Rattle.std.specs.Prelude.{◌≡◌};
+    ghost use Rattle.client_contexts.specs.Steps.{text_fault};
+
+    ghost from_gives = { λ fault f. f ≡ text_fault fault };
+
+    fn from(fault: PgmFault) -> RequestFault {
+        match fault {
+            PgmFault::NoMemory => RequestFault::NoMemory,
+            PgmFault::InvalidFormat => RequestFault::Refused(Refusal::InvalidFormat),
+            PgmFault::InvalidDimension => RequestFault::Refused(Refusal::InvalidDimension),
+            PgmFault::InvalidValue => RequestFault::Refused(Refusal::InvalidValue),
+        }
     }
 }

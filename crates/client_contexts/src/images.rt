@@ -1,7 +1,7 @@
-//! Requests on images: creating and querying them, writing and reading their samples, and making
-//! a part of them valid.
+//! Requests on images: creating and querying them, writing and reading their samples, also as PGM
+//! texts, and making a part of them valid.
 ghost use Rattle.std.specs.Prelude.{◌≡◌};
-ghost use Rattle.client_contexts.specs.Images.{create_image, query_image, write_image, read_image, set_valid, picture_refusal, valid_refusal};
+ghost use Rattle.client_contexts.specs.Images.{create_image, query_image, write_image, write_text, read_image, read_text, set_valid, picture_refusal, valid_refusal};
 ghost use Rattle.client_contexts.specs.Steps.{ComesTo, MayComeTo};
 
 use crate::context::Context;
@@ -10,9 +10,10 @@ use crate::limits::Limits;
 use crate::lookup::find;
 use crate::refusal::Refusal;
 use crate::reply::{Described, Reply};
+use crate::text::Text;
 use object_table::{Content, Object, Stored};
 use std::alloc::Global;
-use vx_base::{Desc, Kind, ObjRef, Picture, Rect};
+use vx_base::{Desc, Format, Kind, ObjRef, Picture, Rect};
 
 /// Creates an image that is 0 everywhere and wholly valid.
 pub fn create_image(
@@ -72,6 +73,21 @@ pub fn write_image(
     Ok(Reply::Empty)
 }
 
+/// Writes the picture for which a PGM text stands to an image. The samples are read into memory of
+/// the allocator first.
+pub fn write_text(
+    context: &mut Context,
+    alloc: Global,
+    reference: ObjRef,
+    text: &Text,
+) -> Result<Reply, RequestFault>
+    ensures { MayComeTo (write_text context.old reference text.now) context.old context.new result }
+{
+    find(context, reference, Kind::Image)?;
+    let picture = pgm_images::read(alloc, text.bytes())?;
+    Ok(write_image(context, reference, &picture)?)
+}
+
 /// The samples of an image, in memory of the allocator.
 pub fn read_image(
     context: &Context,
@@ -83,6 +99,22 @@ pub fn read_image(
     let place = find(context, reference, Kind::Image)?;
     let image = context.image_at(place);
     Ok(Reply::Picture(image.picture(alloc)?))
+}
+
+/// The samples of a U8 image as a PGM text, in memory of the allocator.
+pub fn read_text(
+    context: &Context,
+    alloc: Global,
+    reference: ObjRef,
+) -> Result<Reply, RequestFault>
+    ensures { MayComeTo (read_text context.now reference) context.now context.now result }
+{
+    let place = find(context, reference, Kind::Image)?;
+    let image = context.image_at(place);
+    if image.desc().format() != Format::U8 {
+        return Err(RequestFault::Refused(Refusal::InvalidFormat));
+    }
+    Ok(Reply::Text(Text::new(pgm_images::write(alloc, &image.image())?)))
 }
 
 /// Why a rectangle can't be the valid one of an image of this description. `None` where it can.

@@ -118,6 +118,9 @@ fn operand_of(object: &Object) -> Operand
         Content::Lut(lut) => Operand::Lut(lut.format()),
         Content::Threshold(threshold) => Operand::Threshold(threshold.format()),
         Content::Delay(_) => Operand::Delay,
+        Content::Convolution(_) => Operand::Convolution,
+        Content::Distribution(_) => Operand::Distribution,
+        Content::Extremes(_) => Operand::Extremes,
     }
 }
 

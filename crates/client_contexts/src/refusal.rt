@@ -12,11 +12,12 @@ pub enum Refusal {
     /// An object is not of the kind that is wanted there; a delay's slots are images, and no other
     /// object has slots.
     InvalidType,
-    /// The client has a context already, or a delay has no such slot.
+    /// The client has a context already, a delay has no such slot, a rectangle goes beyond an image,
+    /// or a text has a sample above its maxval.
     InvalidValue,
-    /// A picture is of another format than the image.
+    /// A picture is of another format than the image, an image isn't U8, or a text is no PGM text.
     InvalidFormat,
-    /// A picture is of another size than the image.
+    /// A picture is of another size than the image, or a text's sides aren't allowed.
     InvalidDimension,
     /// The names are used up, 1,024 objects are held, or the quota doesn't allow another.
     NoResources,

@@ -1,5 +1,7 @@
 //! Replies to clients.
-use vx_base::{Code, Format, Picture, Rect};
+use crate::counts::Counts;
+use crate::text::Text;
+use vx_base::{Code, Extremes, Format, Picture, Rect};
 
 /// What is told of an image: its format, its width and height, and its valid rectangle.
 #[derive(Clone, Copy, PartialEq, Eq, Debug)]
@@ -24,4 +26,10 @@ pub enum Reply {
     Described(Described),
     /// The samples of an image.
     Picture(Picture),
+    /// The samples of an image, as a PGM text.
+    Text(Text),
+    /// How many samples fell into each bin of a distribution.
+    Counts(Counts),
+    /// The least and the greatest sample of an image.
+    Extremes(Extremes),
 }

@@ -1,5 +1,8 @@
 //! Requests of clients.
-use vx_base::{Desc, Lut, NodeSpec, ObjRef, Picture, Rect, SlotCount, ThresholdRule};
+use crate::text::Text;
+use vx_base::{
+    Bins, Convolution, Desc, Lut, NodeSpec, ObjRef, Picture, Rect, SlotCount, ThresholdRule,
+};
 
 /// What a client asks for.
 #[derive(Debug, Drop)]
@@ -14,8 +17,12 @@ pub enum Request {
     QueryImage(ObjRef),
     /// Writes all samples of an image, which becomes wholly valid.
     WriteImage(ObjRef, Picture),
+    /// Writes the picture for which a PGM text stands, which is carried unread.
+    WriteImagePgm(ObjRef, Text),
     /// Asks for all samples of an image.
     ReadImage(ObjRef),
+    /// Asks for all samples of a U8 image, as a PGM text.
+    ReadImagePgm(ObjRef),
     /// Makes this the valid rectangle of an image, whose samples outside it become 0.
     SetValid(ObjRef, Rect),
     /// Drops the object with this name.
@@ -24,6 +31,16 @@ pub enum Request {
     CreateLut(Lut),
     /// Makes a threshold.
     CreateThreshold(ThresholdRule),
+    /// Makes a matrix by which images are convolved.
+    CreateConvolution(Convolution),
+    /// Makes a distribution of these bins, which has counted nothing.
+    CreateDistribution(Bins),
+    /// Asks for the counts of the distribution with this name.
+    ReadDistribution(u32),
+    /// Makes extremes that were found nowhere.
+    CreateMinMax,
+    /// Asks for the extremes with this name.
+    ReadMinMax(u32),
     /// Runs one node at once.
     Immediate(NodeSpec),
     /// Makes a delay of new images of the size and format of an image, so many.

@@ -10,7 +10,9 @@ ghost use Rattle.client_contexts.specs.Steps.{MayComeTo, WantsMemory};
 use crate::context::Context;
 use crate::delays::{age_delay, create_delay};
 use crate::fault::RequestFault;
-use crate::images::{create_image, query_image, read_image, set_valid, write_image};
+use crate::images::{
+    create_image, query_image, read_image, read_text, set_valid, write_image, write_text,
+};
 use crate::immediate::run_at_once;
 use crate::limits::Limits;
 use crate::memory::NoMemory;
@@ -18,7 +20,10 @@ use crate::objects::release;
 use crate::refusal::Refusal;
 use crate::reply::Reply;
 use crate::request::Request;
-use crate::tables::{create_lut, create_threshold};
+use crate::statistics::{
+    create_distribution, create_min_max, read_distribution, read_min_max,
+};
+use crate::tables::{create_convolution, create_lut, create_threshold};
 use std::alloc::Global;
 use std::collections::BTreeMap;
 use std::marker::Model;
@@ -119,11 +124,18 @@ fn answer(
         Request::CreateImage(desc) => create_image(context, limits, *desc),
         Request::QueryImage(reference) => Ok(query_image(context, *reference)?),
         Request::WriteImage(reference, picture) => Ok(write_image(context, *reference, picture)?),
+        Request::WriteImagePgm(reference, text) => write_text(context, alloc, *reference, text),
         Request::ReadImage(reference) => read_image(context, alloc, *reference),
+        Request::ReadImagePgm(reference) => read_text(context, alloc, *reference),
         Request::SetValid(reference, valid) => Ok(set_valid(context, *reference, *valid)?),
         Request::Release(name) => Ok(release(context, *name)?),
         Request::CreateLut(lut) => create_lut(context, limits, lut),
         Request::CreateThreshold(threshold) => create_threshold(context, limits, *threshold),
+        Request::CreateConvolution(convolution) => create_convolution(context, limits, convolution),
+        Request::CreateDistribution(bins) => create_distribution(context, limits, *bins),
+        Request::ReadDistribution(name) => read_distribution(context, alloc, *name),
+        Request::CreateMinMax => create_min_max(context, limits),
+        Request::ReadMinMax(name) => Ok(read_min_max(context, *name)?),
         Request::Immediate(node) => Ok(run_at_once(context, *node)?),
         Request::CreateDelay(exemplar, slots) => create_delay(context, limits, *exemplar, *slots),
         Request::AgeDelay(name) => Ok(age_delay(context, *name)?),

@@ -6,3 +6,4 @@ pub mod WrittenBack
 pub mod GapLemmas
 pub mod SpacedLemmas
 pub mod StandsLemmas
+pub mod PictureLaws

@@ -315,7 +315,7 @@ after_faults : (t : Taken HeaderValue) → picture_after t ≢ Err NoMemory
 after_faults None = λ e. cc
 after_faults (Some taken) = picture_faults taken.0 (described taken.0.width taken.0.height taken.0.maxval) taken.1 (described_faults taken.0.width taken.0.height taken.0.maxval)
 
-fault_is : (r : Result PictureValue PgmFault) (e : PgmFault) → fault_of r ≡ Some e → r ≡ Err e
+pub fault_is : (r : Result PictureValue PgmFault) (e : PgmFault) → fault_of r ≡ Some e → r ≡ Err e
 fault_is (Ok p) e is = cc
 fault_is (Err fault) e is = let same : fault ≡ e = cc in ap Err same
 

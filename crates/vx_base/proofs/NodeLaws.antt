@@ -28,7 +28,7 @@ use Rattle.vx_base.specs.Outputs.{node_image, image_of_one}
 use Rattle.vx_base.specs.Pixelwise.{from_one, looked_up, thresholded, formula_of_one, formula_of_two}
 use Rattle.vx_base.proofs.ResultLaws.{of_one, of_two, not_so, zero_sample}
 use Rattle.vx_base.proofs.PixelLaws.{from_one_is, from_two_is}
-use Rattle.vx_base.proofs.SumLaws.{integral_image}
+use Rattle.vx_base.proofs.SumLaws.{sums_image}
 use Rattle.vx_base.proofs.WindowLaws.{box_sample, gaussian_sample, median_sample, least_sample, greatest_sample, gradient_x_sample, gradient_y_sample, nine_image, matrix_image}
 
 amount_of : (n : Node) → IsTrue (is_node n) → IsTrue (has_amount (parameters n.function) n.policy n.amount)
@@ -134,8 +134,8 @@ makes_no_image MinMaxLoc U8 format t = not_so t
 makes_no_image MinMaxLoc S16 format t = not_so t
 makes_no_image function first format t = not_so t
 
-integral_of : (first format : Format) → IsTrue (takes_formats Integral first None (Some format)) → first ≡ U8
-integral_of U8 U32 t = refl
+integral_of : (first format : Format) → IsTrue (takes_formats Integral first None (Some format)) → (first ≡ U8) × (U32 ≡ format)
+integral_of U8 U32 t = (refl, refl)
 integral_of first format t = not_so t
 
 -- no function reads counts or extremes
@@ -167,7 +167,7 @@ module _ (n : Node) (format : Format) (a : ImageValue) (is : IsNode n) (image : 
   of_one_image : (function : Function) (output : Output) → IsTrue (has_amount (parameters function) n.policy n.amount) → IsTrue (takes_formats function a.format None (Some format)) → IsImage (image_of_one function n output format a)
   of_one_image NotBits output h t = from_one_is format (formula_of_one NotBits format n.policy n.amount) a image (λ z s. of_one NotBits a.format format n.policy n.amount z t h s)
   of_one_image ConvertDepth output h t = from_one_is format (formula_of_one ConvertDepth format n.policy n.amount) a image (λ z s. of_one ConvertDepth a.format format n.policy n.amount z t h s)
-  of_one_image Integral output h t = integral_image a image (integral_of a.format format t)
+  of_one_image Integral output h t = let e = integral_of a.format format t in sums_image a image e.0 format e.1
   of_one_image Box output h t = of_nine Box output t
   of_one_image Gaussian output h t = of_nine Gaussian output t
   of_one_image Median output h t = of_nine Median output t

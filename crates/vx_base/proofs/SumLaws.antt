@@ -6,11 +6,12 @@ use Rattle.std.proofs.lemmas.Int.{ints}
 use Rattle.std.proofs.lemmas.Bool.Decides.{nat_tests}
 use Rattle.std.proofs.lemmas.List.{map-append}
 use Rattle.std.proofs.lemmas.List.Sums.{sum_by-append, sum_by-cons}
+use Rattle.vx_base.specs.declared.format.Format.{Format}
 use Rattle.vx_base.specs.declared.format.Format.TheVariants.{U8, U32}
 use Rattle.vx_base.specs.Sample.{IsSample}
 use Rattle.vx_base.specs.Rectangle.{whole, meet_of}
 use Rattle.vx_base.specs.Image.{ImageValue, IsImage, at}
-use Rattle.vx_base.specs.Statistics.{row_places, samples_in, sum_to, integral}
+use Rattle.vx_base.specs.Statistics.{row_places, samples_in, sum_to, sums_in}
 use Rattle.vx_base.proofs.ImageLaws.{made_image}
 
 -- the samples of a row
@@ -62,5 +63,5 @@ module _ (a : ImageValue) (h : IsImage a) (is : a.format ≡ U8) where
       meet_high : ℕ → ℕ → ℕ → ℕ → (meet_of a.valid (whole (x + 1) (y + 1))).y1 ≤ a.height
       meet_high b c d e = grind (arith, nat_tests, h.room.rows)
 
-  pub integral_image : IsImage (integral a)
-  integral_image = made_image a.width a.height U32 a.valid (sum_to a) h.sides.0 h.sides.1 h.ordered h.room (λ x y e. sum_sample x y)
+  pub sums_image : (format : Format) → U32 ≡ format → IsImage (sums_in format a)
+  sums_image format e = rw (← e) (made_image a.width a.height U32 a.valid (sum_to a) h.sides.0 h.sides.1 h.ordered h.room (λ x y e. sum_sample x y))

@@ -12,13 +12,13 @@ use Rattle.vx_base.specs.Image.{ImageValue}
 use Rattle.vx_base.specs.Object.{ObjectValue, ImageObject, LutObject, ThresholdObject, ConvolutionObject, DistributionObject, ExtremesObject}
 use Rattle.vx_base.specs.Pixelwise.{from_one, from_two, formula_of_one, formula_of_two, looked_up, thresholded}
 use Rattle.vx_base.specs.Window.{from_nine, from_matrix, formula_of_nine}
-use Rattle.vx_base.specs.Statistics.{histogram, integral, extremes}
+use Rattle.vx_base.specs.Statistics.{histogram, sums_in, extremes}
 
 -- what a function of one image gives: of each sample, of the samples above and to the left, or of the nine around it
 abbrev pub image_of_one : Function → Node → Output → Format → ImageValue → ImageValue
 image_of_one NotBits n output format a = from_one format (formula_of_one NotBits format n.policy n.amount) a
 image_of_one ConvertDepth n output format a = from_one format (formula_of_one ConvertDepth format n.policy n.amount) a
-image_of_one Integral n output format a = integral a
+image_of_one Integral n output format a = sums_in format a
 image_of_one function n output format a = from_nine format (formula_of_nine function output) n.border a
 
 -- what a node gives to an output that is an image of this format: from its first input, and its second where it has one

@@ -4,6 +4,7 @@ use Rattle.std.specs.List.{range_with_len, flat_map, fold, sum_by, count_by, fin
 use Rattle.std.specs.Option.{unwrap_or}
 use Rattle.std.specs.Ordering.{int_eq}
 use Rattle.std.specs.Int.{int_min, int_max}
+use Rattle.vx_base.specs.declared.format.Format.{Format}
 use Rattle.vx_base.specs.declared.format.Format.TheVariants.{U32}
 use Rattle.vx_base.specs.declared.extremes.Extremes.{Extremes}
 use Rattle.vx_base.specs.Rectangle.{Rectangle, whole, meet_of}
@@ -63,8 +64,11 @@ abbrev pub sum_to : ImageValue → ℕ → ℕ → ℤ
 sum_to image x y = pos (sum_by unsigned_abs (samples_in (meet_of image.valid (whole (x + 1) (y + 1))) image))
 
 -- such sums at the valid places of a U8 image; what is not valid counts as 0, which is this project's choice
+abbrev pub sums_in : Format → ImageValue → ImageValue
+sums_in format image = made image.width image.height format image.valid (sum_to image)
+
 abbrev pub integral : ImageValue → ImageValue
-integral image = made image.width image.height U32 image.valid (sum_to image)
+integral image = sums_in U32 image
 
 -- ---- "Min, Max Location"
 

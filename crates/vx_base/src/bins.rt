@@ -4,6 +4,9 @@ ghost use Rattle.vx_base.specs.Statistics.{bins_of, bin_of};
 
 use std::marker::Model;
 
+/// The most bins that a histogram has.
+pub const GREATEST_BINS: usize = 256;
+
 /// The bins of a histogram of U8 samples (OpenVX 1.3, `vx_distribution`): 1 to 256 of one size,
 /// which begin at the offset, 0 to 255, and together are as long as the range, 1 to 256.
 #[derive(Clone, Copy, PartialEq, Eq, Debug)]

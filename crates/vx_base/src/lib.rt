@@ -32,7 +32,7 @@ mod shape;
 mod slots;
 mod threshold;
 
-pub use bins::Bins;
+pub use bins::{Bins, GREATEST_BINS};
 pub use border::Border;
 pub use code::Code;
 pub use convolution::{Convolution, GREATEST_COEFFICIENTS};
