@@ -1,12 +1,12 @@
 -- Objects as values.
-use Rattle.std.specs.Prelude.{ℤ, List}
+use Rattle.std.specs.Prelude.{ℕ, ℤ, List}
 use Rattle.vx_base.specs.declared.format.Format.TheVariants.{U8}
 use Rattle.vx_base.specs.Image.{ImageValue, new_image, image_over, description_of}
-use Rattle.vx_base.specs.Object.{ObjectValue, ImageObject, LutObject, ThresholdObject, DelayObject}
+use Rattle.vx_base.specs.Object.{ObjectValue, DistributionValue, ImageObject, LutObject, ThresholdObject, DelayObject, ConvolutionObject, DistributionObject, ExtremesObject, new_distribution}
 use Rattle.vx_base.specs.Rectangle.{Rectangle}
 use Rattle.object_table.specs.declared.object.Content.{Content}
 use Rattle.object_table.specs.Delay.{aged}
-use Rattle.object_table.specs.declared.object.Content.TheVariants.{Image, Lut, Threshold, Delay}
+use Rattle.object_table.specs.declared.object.Content.TheVariants.{Image, Lut, Threshold, Delay, Convolution, Distribution, Extremes}
 
 -- the object as a value
 abbrev pub value_of : Content → ObjectValue
@@ -14,11 +14,19 @@ value_of (Image image) = ImageObject image
 value_of (Lut lut) = LutObject lut
 value_of (Threshold threshold) = ThresholdObject threshold
 value_of (Delay images) = DelayObject images
+value_of (Convolution convolution) = ConvolutionObject convolution
+value_of (Distribution distribution) = DistributionObject distribution
+value_of (Extremes extremes) = ExtremesObject extremes
 
 -- an object that is an image, as one
 abbrev pub image_value : ObjectValue → ImageValue
 image_value (ImageObject image) = image
 image_value other = new_image 0 0 U8
+
+-- an object that is a distribution, as one
+abbrev pub distribution_value : ObjectValue → DistributionValue
+distribution_value (DistributionObject distribution) = distribution
+distribution_value other = new_distribution (record { bins = 0; offset = 0; range = 0 })
 
 -- a delay whose images are one step later; other objects have no age
 abbrev pub aged_object : ObjectValue → ObjectValue
@@ -28,3 +36,7 @@ aged_object other = other
 -- an image of the same description, with these samples
 abbrev pub with_samples : ObjectValue → Rectangle → List ℤ → ObjectValue
 with_samples object valid samples = ImageObject (image_over (description_of (image_value object)) valid samples)
+
+-- a distribution of the same bins, with these counts
+abbrev pub with_counts : ObjectValue → List ℕ → ObjectValue
+with_counts object counts = DistributionObject (record { bins = (distribution_value object).bins; counts = counts })

@@ -6,7 +6,9 @@
 //! takes memory.
 //!
 //! - `stored`, `delay`: an image with samples of its own, and such images in slots
-//! - `object`: an image, a lookup table, a threshold or a delay
+//! - `distribution`: bins, and the counts of a histogram
+//! - `object`: an image, a lookup table, a threshold, a delay, a convolution, a distribution or
+//!   extremes
 //! - `names`: what is held under names, of whatever type: names and uses
 //! - `table`, `place`: objects under their names, with their charge; where an object stands, and
 //!   images that are written there
@@ -14,6 +16,7 @@
 #![tactic(auto)]
 
 mod delay;
+mod distribution;
 mod fault;
 mod names;
 mod object;
@@ -22,6 +25,7 @@ mod stored;
 mod table;
 
 pub use delay::Delay;
+pub use distribution::Distribution;
 pub use fault::{InsertFault, TableFault};
 pub use object::{Content, Object};
 pub use place::Place;

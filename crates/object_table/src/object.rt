@@ -1,17 +1,18 @@
 //! Objects that a client holds.
-ghost use Rattle.std.specs.Prelude.{◌≡◌, ◌≤◌, ◌*◌, [], is_some};
+ghost use Rattle.std.specs.Prelude.{◌≡◌, ◌≤◌, ◌*◌, [], is_some, length};
 ghost use Rattle.vx_base.specs.declared.kind.Kind.TheVariants as kind;
 ghost use Rattle.vx_base.specs.Rectangle.{IsWithin};
 ghost use Rattle.vx_base.specs.Image.{IsImage, description_of, with_valid};
-ghost use Rattle.vx_base.specs.Object.{ImageObject, DelayObject, IsObject, object_bytes, object_kind};
+ghost use Rattle.vx_base.specs.Object.{ImageObject, DelayObject, ExtremesObject, IsObject, object_bytes, object_kind};
 ghost use Rattle.vx_base.specs.Picture.{values, samples_format, pictured};
 ghost use Rattle.object_table.specs.Delay.{in_slot, object_in, slot_kind, with_slot, HasImage};
-ghost use Rattle.object_table.specs.Object.{value_of, image_value, aged_object, with_samples};
+ghost use Rattle.object_table.specs.Object.{value_of, image_value, distribution_value, aged_object, with_samples, with_counts};
 
 use crate::delay::Delay;
+use crate::distribution::Distribution;
 use crate::stored::Stored;
 use std::marker::Model;
-use vx_base::{Kind, Lut, Picture, Rect, Samples, ThresholdRule};
+use vx_base::{Convolution, Extremes, Kind, Lut, Picture, Rect, Samples, ThresholdRule};
 
 /// What a client's name stands for.
 #[derive(Drop)]
@@ -26,6 +27,9 @@ pub enum Content {
     Lut(Lut),
     Threshold(ThresholdRule),
     Delay(Delay),
+    Convolution(Convolution),
+    Distribution(Distribution),
+    Extremes(Extremes),
 }
 
 impl Model for Object {
@@ -58,6 +62,9 @@ impl Object {
             Content::Lut(_) => Kind::Lut,
             Content::Threshold(_) => Kind::Threshold,
             Content::Delay(_) => Kind::Delay,
+            Content::Convolution(_) => Kind::Convolution,
+            Content::Distribution(_) => Kind::Distribution,
+            Content::Extremes(_) => Kind::Extremes,
         }
     }
 
@@ -176,6 +183,32 @@ impl Object {
     {
         match &mut self.content {
             Content::Delay(delay) => delay.age(),
+            _ => unreachable!(),
+        }
+    }
+
+    /// Gives the distribution that the object is these counts, one for each bin. It takes no
+    /// memory.
+    pub fn set_counts(&mut self, counts: &[u32])
+        requires kind { object_kind self.old ≡ kind.Distribution }
+        requires size { length counts.now ≡ (distribution_value self.old).bins.bins }
+        ensures value { self.new ≡ with_counts self.old counts.now }
+        ensures bytes { object_bytes self.new ≡ object_bytes self.old }
+    {
+        match &mut self.content {
+            Content::Distribution(distribution) => distribution.set_counts(counts),
+            _ => unreachable!(),
+        }
+    }
+
+    /// Makes these the extremes that the object is.
+    pub fn set_extremes(&mut self, extremes: Extremes)
+        requires { object_kind self.old ≡ kind.Extremes }
+        ensures value { self.new ≡ ExtremesObject extremes }
+        ensures bytes { object_bytes self.new ≡ object_bytes self.old }
+    {
+        match &mut self.content {
+            Content::Extremes(held) => *held = extremes,
             _ => unreachable!(),
         }
     }

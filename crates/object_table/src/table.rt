@@ -4,11 +4,11 @@ ghost use Rattle.std.specs.Option.{option_map};
 ghost use Rattle.vx_base.specs.declared.kind.Kind.TheVariants as kind;
 ghost use Rattle.vx_base.specs.Rectangle.{IsWithin};
 ghost use Rattle.vx_base.specs.Image.{IsImage, description_of, with_valid};
-ghost use Rattle.vx_base.specs.Object.{ImageObject, IsObject, object_bytes, object_kind};
+ghost use Rattle.vx_base.specs.Object.{ImageObject, ExtremesObject, IsObject, object_bytes, object_kind};
 ghost use Rattle.vx_base.specs.Picture.{values, samples_format, pictured};
 ghost use Rattle.object_table.specs.declared.fault.TableFault.TheVariants.{InvalidReference, NoMemory, NoResources};
 ghost use Rattle.object_table.specs.Names.{is_live_as, object_named, can_insert, released, used, unused, IsNames};
-ghost use Rattle.object_table.specs.Object.{aged_object, with_samples};
+ghost use Rattle.object_table.specs.Object.{distribution_value, aged_object, with_samples, with_counts};
 ghost use Rattle.object_table.specs.Table.{new_table, charge_of, with_new, with_objects, entry_at, object_at, image_at, replaced, HasImageAt};
 
 use crate::fault::{InsertFault, TableFault};
@@ -18,7 +18,7 @@ use crate::place::Place;
 use crate::stored::Stored;
 use std::alloc::Global;
 use std::marker::Model;
-use vx_base::{Picture, Rect, Samples};
+use vx_base::{Extremes, Picture, Rect, Samples};
 
 /// The objects that a client holds, in the order of their names, and the name that comes next.
 #[derive(Drop)]
@@ -242,6 +242,29 @@ impl Table {
     {
         let entry = &mut self.names.entries[index];
         entry.object.age();
+    }
+
+    /// Gives the distribution at an index these counts, one for each bin. It takes no memory.
+    pub fn set_counts(&mut self, index: usize, counts: &[u32])
+        requires within { index < length self.old.objects }
+        requires kind { object_kind (entry_at self.old.objects index).object ≡ kind.Distribution }
+        requires size { length counts.now ≡ (distribution_value (entry_at self.old.objects index).object).bins.bins }
+        ensures value { self.new ≡ with_objects self.old (replaced self.old.objects (record { index = index; slot = None }) (with_counts (entry_at self.old.objects index).object counts.now)) }
+        ensures names { IsNames self.old.next self.old.objects }
+    {
+        let entry = &mut self.names.entries[index];
+        entry.object.set_counts(counts);
+    }
+
+    /// Makes these the extremes at an index.
+    pub fn set_extremes(&mut self, index: usize, extremes: Extremes)
+        requires within { index < length self.old.objects }
+        requires kind { object_kind (entry_at self.old.objects index).object ≡ kind.Extremes }
+        ensures value { self.new ≡ with_objects self.old (replaced self.old.objects (record { index = index; slot = None }) (ExtremesObject extremes)) }
+        ensures names { IsNames self.old.next self.old.objects }
+    {
+        let entry = &mut self.names.entries[index];
+        entry.object.set_extremes(extremes);
     }
 }
 

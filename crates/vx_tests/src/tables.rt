@@ -1,11 +1,11 @@
-//! Names, uses and the charge of a table, and the slots of a delay.
+//! Names, uses and the charge of a table, the slots of a delay, and objects that are set.
 ghost use Rattle.std.specs.Prelude.{◌≡◌};
 ghost use Rattle.object_table.specs.Table.{new_table};
 
-use object_table::{Content, Delay, Object, Stored, Table, TableFault};
+use object_table::{Content, Delay, Distribution, Object, Stored, Table, TableFault};
 use std::alloc::Global;
 use std::test::Fail;
-use vx_base::{Desc, Format, Kind, SlotCount};
+use vx_base::{Bins, Convolution, Desc, Extremes, Format, Kind, SlotCount};
 
 /// An image of 2 by 2 samples of U8.
 fn image(alloc: Global) -> Result<Object, Fail> {
@@ -101,5 +101,128 @@ fn a_delay_has_its_slots(rt: HostRuntime) -> Result<(), Fail> {
     let object = Object::new(Content::Delay(delay));
     assert_eq!(rt; object.kind(), Kind::Delay);
     assert_eq!(rt; object.bytes(), 36);
+    Ok(())
+}
+
+/// Holds these contents, under this name.
+fn hold(table: &mut Table, content: Content) -> Result<u32, Fail> {
+    let object = Object::new(content);
+    Ok(table.insert(object).ok().ok_or("no memory")?)
+}
+
+/// The kind of the object of this name, and what it is charged.
+fn kind_of(table: &Table, name: u32) -> Option<(Kind, usize)> {
+    let object = table.get(name).ok()?;
+    Some((object.kind(), object.bytes()))
+}
+
+#[test]
+fn a_convolution_is_held(rt: HostRuntime) -> Result<(), Fail> {
+    let coefficients = [1, -2, 3, -4, 5, -6, 7, -8, 9, -32768, 32767, 0, 0, 0, 1];
+    let convolution = Convolution::new(3, 5, 31, &coefficients).ok_or("allowed")?;
+    let mut table = Table::new(rt.alloc());
+    let name = hold(&mut table, Content::Convolution(convolution))?;
+    assert_eq!(rt; kind_of(&table, name), Some((Kind::Convolution, 0)));
+    let Ok(object) = table.get(name) else {
+        return Err("its name is live".into());
+    };
+    let Content::Convolution(held) = object.content() else {
+        return Err("a convolution".into());
+    };
+    assert_eq!(rt; (held.columns(), held.rows(), held.exponent()), (3, 5, 31));
+    assert!(rt; held.coefficients() == &coefficients[..]);
+    Ok(())
+}
+
+/// The counts of the distribution of this name.
+fn counts_of(table: &Table, name: u32) -> Option<&[u32]> {
+    match table.get(name).ok()?.content() {
+        Content::Distribution(distribution) => Some(distribution.counts()),
+        _ => None,
+    }
+}
+
+/// Gives the distribution at an index these counts, if one of so many bins is there.
+fn set_counts(table: &mut Table, index: usize, counts: &[u32]) -> bool {
+    if index >= table.held() {
+        return false;
+    }
+    match table.object(index).content() {
+        Content::Distribution(held) if held.counts().len() == counts.len() => {}
+        _ => return false,
+    }
+    table.set_counts(index, counts);
+    true
+}
+
+#[test]
+fn a_distribution_has_the_last_counts(rt: HostRuntime) -> Result<(), Fail> {
+    let alloc = rt.alloc();
+    let bins = Bins::new(4, 10, 100).ok_or("within the limits")?;
+    let mut table = Table::new(alloc);
+    insert(alloc, &mut table)?;
+    let name = hold(
+        &mut table,
+        Content::Distribution(Distribution::new(alloc, bins)?),
+    )?;
+    assert_eq!(rt; kind_of(&table, name), Some((Kind::Distribution, 0)));
+    assert!(rt; counts_of(&table, name) == Some(&[0, 0, 0, 0]));
+    for counts in [[1, 2, 3, 4], [4294967295, 0, 0, 7], [0, 1, 0, 0]] {
+        assert!(rt; set_counts(&mut table, 1, &counts));
+        assert!(rt; counts_of(&table, name) == Some(&counts));
+    }
+    assert!(rt; !set_counts(&mut table, 1, &[1, 2, 3]));
+    assert!(rt; !set_counts(&mut table, 0, &[1, 2, 3, 4]));
+    assert_eq!(rt; table.charged_bytes(), 4);
+    Ok(())
+}
+
+/// The extremes of this name.
+fn extremes_of(table: &Table, name: u32) -> Option<Extremes> {
+    match table.get(name).ok()?.content() {
+        Content::Extremes(extremes) => Some(*extremes),
+        _ => None,
+    }
+}
+
+/// Makes these the extremes at an index, if there are some.
+fn set_extremes(table: &mut Table, index: usize, extremes: Extremes) -> bool {
+    if index >= table.held() || table.object(index).kind() != Kind::Extremes {
+        return false;
+    }
+    table.set_extremes(index, extremes);
+    true
+}
+
+#[test]
+fn extremes_are_the_last(rt: HostRuntime) -> Result<(), Fail> {
+    let alloc = rt.alloc();
+    let nowhere = Extremes {
+        min: 0,
+        max: 0,
+        min_count: 0,
+        max_count: 0,
+        min_at: (0, 0),
+        max_at: (0, 0),
+    };
+    let found = Extremes {
+        min: -32768,
+        max: 7,
+        min_count: 1,
+        max_count: 16777215,
+        min_at: (4095, 0),
+        max_at: (1, 4094),
+    };
+    let mut table = Table::new(alloc);
+    insert(alloc, &mut table)?;
+    let name = hold(&mut table, Content::Extremes(nowhere))?;
+    assert_eq!(rt; kind_of(&table, name), Some((Kind::Extremes, 0)));
+    assert_eq!(rt; extremes_of(&table, name), Some(nowhere));
+    for extremes in [found, nowhere] {
+        assert!(rt; set_extremes(&mut table, 1, extremes));
+        assert_eq!(rt; extremes_of(&table, name), Some(extremes));
+    }
+    assert!(rt; !set_extremes(&mut table, 0, found));
+    assert_eq!(rt; kind_of(&table, 1), Some((Kind::Image, 4)));
     Ok(())
 }
