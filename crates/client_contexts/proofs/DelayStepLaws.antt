@@ -1,5 +1,5 @@
 -- A new delay, and one whose images come one step later, keep the limits.
-use Rattle.std.proofs.Common.{◌≡◌, ℕ, IsTrue, List, [], ◌∷◌, length, map, get_or, take, drop, refl, sym, ap, ◌∙◌, arith, Option, Some, None, IfSome, Result, Ok, Err}
+use Rattle.std.proofs.Common.{◌≡◌, ℕ, IfOk, IsTrue, List, [], ◌∷◌, length, map, get_or, take, drop, refl, sym, ap, ◌∙◌, arith, Option, Some, None, IfSome, Result, Ok, Err}
 use Rattle.std.specs.Prelude.{All, ◌-◌}
 use Rattle.std.specs.Option.{option_and_then}
 use Rattle.std.proofs.lemmas.List.{length-map, length-take, length-drop, length-append, get_or-map}
@@ -23,19 +23,20 @@ use Rattle.client_contexts.proofs.OutlineLaws.{outline, equal_to_one}
 use Rattle.client_contexts.proofs.NamedLaws.{Fits, object_named_has, held_fits}
 use Rattle.client_contexts.proofs.StateLaws.{with_object_keeps}
 use Rattle.client_contexts.proofs.OutcomeLaws.{Keeps, create_keeps}
+use Rattle.client_contexts.proofs.ImageStepLaws.{image_of_is}
 
 -- ---- a new delay
 
 -- a new delay like an image keeps the limits
-create_like_keeps : (limits : Allowance) (c : Context) (image : Result ImageValue Refusal) (slots : ℕ) → KeepsLimits limits c → IsTrue (is_slot_count slots) → Keeps limits (create_like limits c image slots)
-create_like_keeps limits c (Err refusal) slots h is = tt
-create_like_keeps limits c (Ok image) slots h is =
+create_like_keeps : (limits : Allowance) (c : Context) (image : Result ImageValue Refusal) (slots : ℕ) → KeepsLimits limits c → IsTrue (is_slot_count slots) → IfOk image IsImage → Keeps limits (create_like limits c image slots)
+create_like_keeps limits c (Err refusal) slots h is image_is = tt
+create_like_keeps limits c (Ok image) slots h is image_is =
     let count = count_is slots is in
-    create_keeps limits c (DelayObject (new_delay (description_of image) slots)) h (new_delay_is (description_of image) slots count.0 count.1)
+    create_keeps limits c (DelayObject (new_delay (description_of image) slots)) h (new_delay_is (description_of image) slots image_is.sides.0 image_is.sides.1 count.0 count.1)
 
 -- a new delay keeps the limits
 pub create_delay_keeps : (limits : Allowance) (c : Context) (cell : Cell) (slots : ℕ) → KeepsLimits limits c → IsTrue (is_slot_count slots) → Keeps limits (create_delay limits c cell slots)
-create_delay_keeps limits c cell slots h is = create_like_keeps limits c (image_of c.objects cell) slots h is
+create_delay_keeps limits c cell slots h is = create_like_keeps limits c (image_of c.objects cell) slots h is (image_of_is limits c cell h)
 
 -- ---- a delay one step later
 

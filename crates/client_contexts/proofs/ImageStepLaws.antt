@@ -1,5 +1,5 @@
 -- Writes and reads of images keep the limits.
-use Rattle.std.proofs.Common.{◌≡◌, true, if◌then◌else◌, List, [], ◌∷◌, Option, Some, None, IfSome, Result, Ok, Err, IfOk, refl, ap, subst}
+use Rattle.std.proofs.Common.{ℕ, ◌≡◌, true, if◌then◌else◌, List, [], ◌∷◌, Option, Some, None, IfSome, Result, Ok, Err, IfOk, refl, ap, subst}
 use Rattle.std.specs.Prelude.{All, not, nat_le, ◌&&◌, IsTrue}
 use Rattle.std.proofs.lemmas.Bool.{cond_both, not-false, and_parts, leb-true}
 use Rattle.vx_base.specs.declared.format.Format.{Format}
@@ -120,7 +120,7 @@ pub query_image_keeps : (limits : Allowance) (c : Context) (cell : Cell) → Kee
 query_image_keeps limits c cell h = query_of_keeps limits (image_of c.objects cell) c h
 
 -- the image that a cell names is one
-image_of_is : (limits : Allowance) (c : Context) (cell : Cell) → KeepsLimits limits c → IfOk (image_of c.objects cell) IsImage
+pub image_of_is : (limits : Allowance) (c : Context) (cell : Cell) → KeepsLimits limits c → IfOk (image_of c.objects cell) IsImage
 image_of_is limits c cell h =
     cond_both (is_unknown c.objects cell) (Err InvalidReference) (if is_of_other_kind c.objects (cell, kind.Image) then Err InvalidType else as_image (held c.objects cell)) (λ image. IfOk image IsImage)
     (λ unknown. tt)

@@ -4,6 +4,7 @@ mod LookupLemmas
 mod StoredLemmas
 mod OutputLemmas
 mod RunLemmas
+mod TextLemmas
 pub mod RefusalLaws
 pub mod NamedLaws
 pub mod OutlineLaws

@@ -1,5 +1,5 @@
 -- An output whose samples are taken out, and put back once a node has written them.
-use Rattle.std.proofs.Common.{◌≡◌, ◌≢◌, ℤ, List, [], Option, Some, None, length, refl, sym, ap, subst, ◌∙◌}
+use Rattle.std.proofs.Common.{◌≡◌, ℤ, List, [], Option, Some, None, length, refl, sym, ap, subst, ◌∙◌}
 use Rattle.std.specs.Prelude.{IfSome}
 use Rattle.std.specs.Option.{option_map}
 use Rattle.vx_base.specs.declared.format.Format.{Format}
@@ -21,7 +21,7 @@ use Rattle.object_table.specs.declared.place.Place.{Place}
 use Rattle.object_table.specs.Object.{image_value, with_samples}
 use Rattle.object_table.proofs.SlotLemmas.{has_image}
 use Rattle.object_table.specs.Table.{TableValue, entry_at, object_at, image_at, replaced, with_objects, IsPlace, HasImageAt}
-use Rattle.client_contexts.specs.Steps.{CanRun, AreApart, IsRead, RunsOn, RunsTo, output_at}
+use Rattle.client_contexts.specs.Steps.{CanRun, IsRead, RunsOn, RunsTo, output_at}
 use Rattle.client_contexts.proofs.PlaceLemmas.{object_beside, object_if_beside, place_if_beside, image_beside, replaced_twice, object_after, image_after}
 use Rattle.client_contexts.proofs.StoredLemmas.{stored_is, image_of_object}
 

@@ -17,12 +17,12 @@ use Rattle.vx_base.specs.Cell.{Cell, same_slot, same_cell}
 use Rattle.vx_base.specs.Description.{Description, same_size}
 use Rattle.vx_base.specs.Formats.{takes_formats}
 use Rattle.vx_base.specs.Function.{parameters}
-use Rattle.vx_base.specs.Image.{ImageValue, new_image, description_of}
+use Rattle.vx_base.specs.Image.{ImageValue, IsImage, new_image, description_of}
+use Rattle.vx_base.specs.Statistics.{extremes}
 use Rattle.vx_base.specs.Node.{IsNode, is_node, has_amount, has_operands, all_named, given, outputs, operands, second_kind}
 use Rattle.vx_base.specs.Object.{ObjectValue, ImageObject, DelayObject, DistributionObject, ExtremesObject, IsObject, object_kind, object_format}
 use Rattle.vx_base.specs.Outputs.{node_image, node_output, written_to, written_in, written_by}
 use Rattle.image_core.specs.Fits.{SecondHasSize}
-use Rattle.graph_verify.specs.declared.operand.Operand.{Operand}
 use Rattle.graph_verify.specs.declared.operand.Operands.{Operands}
 use Rattle.graph_verify.specs.declared.verdict.Verdict.{Verdict}
 use Rattle.graph_verify.specs.declared.verdict.Verdict.TheVariants.{MultipleWriters, InvalidGraph, InvalidFormat, InvalidDimension}
@@ -46,7 +46,7 @@ use Rattle.object_table.specs.Table as table
 use Rattle.client_contexts.specs.Places.{entry_at, object_at, object_if_at, cell_at, HasImageAt, StandsAt, StandsIf, IsInContext}
 use Rattle.client_contexts.proofs.VerdictLaws.{Suits, no_fault_suits}
 use Rattle.client_contexts.proofs.PlaceLemmas.{object_beside, object_if_beside, place_beside, place_if_beside, image_beside, name_after, within_after}
-use Rattle.client_contexts.specs.Steps.{TwoSlots, AreApart, RunsOn, RunsTo, StandAt, operands_at, output_at, written_at}
+use Rattle.client_contexts.specs.Steps.{TwoSlots, AreApart, RunsOn, RunsTo, StandAt, counted_in, operands_at, output_at, written_at}
 use Rattle.client_contexts.proofs.ContextLemmas.{entry_there, object_there, object_if_there, place_there, image_there, named_is, All-replaced, All-written_image}
 use Rattle.client_contexts.proofs.StoredLemmas.{image_of_object, description_kept, length-histogram}
 use Rattle.client_contexts.proofs.OutputLemmas.{of_images, can_run}
@@ -396,47 +396,71 @@ no_other_output MinMaxLoc k e image distribution extremes = extremes (sym e)
 no_other_output AndBits k e image distribution extremes = image (sym e)
 no_other_output other k e image distribution extremes = image (sym e)
 
+-- an output that isn't an image is an object as a whole
+whole_place : (l : List (Entry ObjectValue)) (output : Place) → table.IsPlace l output → object_kind (table.object_at l output) ≢ kind.Image → ◌≡◌ {A = Place} (record { index = output.index; slot = None }) output
+whole_place l output is other = ap (λ (slot : Option ℕ). let q : Place = record { index = output.index; slot = slot } in q) (sym (slot_none output.slot (table.entry_at l output.index).object is.there other))
+
+extremes_written : (n : Node) (which : Output) (first : ObjectValue) (second : Option ObjectValue) (out : ObjectValue) → object_kind first ≡ kind.Image → object_kind out ≡ kind.Extremes → ExtremesObject (extremes (image_value first)) ≡ node_output n which first second out
+extremes_written n which (ImageObject a) second (ExtremesObject x) e f = refl
+extremes_written n which (ImageObject a) second other e f = cc
+extremes_written n which first second out e f = cc
+
+counts_written : (n : Node) (which : Output) (first : ObjectValue) (second : Option ObjectValue) (out : ObjectValue) → object_kind first ≡ kind.Image → object_kind out ≡ kind.Distribution → counted_in (image_value first) out ≡ node_output n which first second out
+counts_written n which (ImageObject a) second (DistributionObject d) e f = refl
+counts_written n which (ImageObject a) second other e f = cc
+counts_written n which first second out e f = cc
+
+module _ (l : List (Entry ObjectValue)) (n : Node) (which : Output) (p : Places) (output : Place) (runs : RunsTo l n p output) where
+  -- extremes that were found
+  pub located_is : (parameters n.function).output ≡ kind.Extremes → table.replaced l (record { index = output.index; slot = None }) (ExtremesObject (extremes (table.image_at l p.in1))) ≡ table.replaced l output (output_at l n which p output)
+  located_is e =
+      ap (λ q. table.replaced l q (ExtremesObject (extremes (table.image_at l p.in1)))) (whole_place l output runs.out (λ image. let no : kind.Extremes ≡ kind.Image = sym (runs.runs.out_kind ∙ e) ∙ image in cc))
+      ∙ ap (table.replaced l output) (extremes_written n which (table.object_at l p.in1) (option_map (table.object_at l) p.in2) (table.object_at l output) runs.runs.first_kind (runs.runs.out_kind ∙ e))
+
+  -- counts that were made
+  pub counted_is : (parameters n.function).output ≡ kind.Distribution → table.replaced l (record { index = output.index; slot = None }) (counted_in (table.image_at l p.in1) (table.entry_at l output.index).object) ≡ table.replaced l output (output_at l n which p output)
+  counted_is e =
+      ap (λ (q : Place). table.replaced l q (counted_in (table.image_at l p.in1) (table.object_at l q))) (whole_place l output runs.out (λ image. let no : kind.Distribution ≡ kind.Image = sym (runs.runs.out_kind ∙ e) ∙ image in cc))
+      ∙ ap (table.replaced l output) (counts_written n which (table.object_at l p.in1) (option_map (table.object_at l) p.in2) (table.object_at l output) runs.runs.first_kind (runs.runs.out_kind ∙ e))
+
+  pub reads_an_image : IsImage (table.image_at l p.in1)
+  reads_an_image = image_of_object (table.object_at l p.in1) runs.runs.first_kind runs.runs.first_is
+
 -- an output becomes an object
 pub All-written : (l : List (Entry ObjectValue)) (n : Node) (which : Output) (p : Places) (output : Option Place) → All IsInContext l → IfSome output (RunsTo l n p) → All IsInContext (written_at l n which p output)
 All-written l n which p None h runs = h
 All-written l n which p (Some output) h runs = becomes (table.object_at l output) refl
   where
-    abbrev first : ObjectValue
-    first = table.object_at l p.in1
-
-    abbrev second : Option ObjectValue
-    second = option_map (table.object_at l) p.in2
-
     -- an object as a whole
-    whole : (object : ObjectValue) → table.object_at l output ≡ object → object_kind object ≢ kind.Image → IsObject (node_output n which first second object) → All IsInContext (table.replaced l output (node_output n which first second (table.object_at l output)))
+    whole : (object : ObjectValue) → table.object_at l output ≡ object → object_kind object ≢ kind.Image → IsObject (node_output n which (table.object_at l p.in1) (option_map (table.object_at l) p.in2) object) → All IsInContext (table.replaced l output (node_output n which (table.object_at l p.in1) (option_map (table.object_at l) p.in2) (table.object_at l output)))
     whole object e other is =
         let none = slot_none output.slot (table.entry_at l output.index).object runs.out.there (λ image. other (sym (ap object_kind e) ∙ image)) in
-        All-replaced l output (node_output n which first second (table.object_at l output)) h runs.out.within
-        (subst (λ (slot : Option ℕ). IsObject (with_slot slot (node_output n which first second (table.object_at l output)) (table.entry_at l output.index).object)) (sym none)
-        (subst (λ (o : ObjectValue). IsObject (node_output n which first second o)) (sym e) is))
+        All-replaced l output (node_output n which (table.object_at l p.in1) (option_map (table.object_at l) p.in2) (table.object_at l output)) h runs.out.within
+        (subst (λ (slot : Option ℕ). IsObject (with_slot slot (node_output n which (table.object_at l p.in1) (option_map (table.object_at l) p.in2) (table.object_at l output)) (table.entry_at l output.index).object)) (sym none)
+        (subst (λ (o : ObjectValue). IsObject (node_output n which (table.object_at l p.in1) (option_map (table.object_at l) p.in2) o)) (sym e) is))
 
-    measured : (a object : ObjectValue) → object_kind a ≡ kind.Image → IsObject object → object_kind object ≢ kind.Image → IsObject (node_output n which a second object)
+    measured : (a object : ObjectValue) → object_kind a ≡ kind.Image → IsObject object → object_kind object ≢ kind.Image → IsObject (node_output n which a (option_map (table.object_at l) p.in2) object)
     measured (ImageObject a) (ImageObject b) e is other = absurd (other refl)
     measured (ImageObject a) (DistributionObject d) e is other = record { bins = is.bins; size = length-histogram d.bins a }
     measured (ImageObject a) (ExtremesObject x) e is other = tt
     measured (ImageObject a) object e is other = is
     measured a object e is other = cc
 
-    becomes : (object : ObjectValue) → table.object_at l output ≡ object → All IsInContext (table.replaced l output (node_output n which first second (table.object_at l output)))
+    becomes : (object : ObjectValue) → table.object_at l output ≡ object → All IsInContext (table.replaced l output (node_output n which (table.object_at l p.in1) (option_map (table.object_at l) p.in2) (table.object_at l output)))
     becomes (ImageObject out) e =
         let image : object_kind (table.object_at l output) ≡ kind.Image = ap object_kind e in
-        let can = can_run n first second (table.object_at l output) runs.runs image in
-        let is_first = image_of_object first runs.runs.first_kind runs.runs.first_is in
+        let can = can_run n (table.object_at l p.in1) (option_map (table.object_at l) p.in2) (table.object_at l output) runs.runs image in
+        let is_first = image_of_object (table.object_at l p.in1) runs.runs.first_kind runs.runs.first_is in
         let old = table.image_at l output in
-        subst (λ (o : ObjectValue). All IsInContext (table.replaced l output o)) (of_images n which first second (table.object_at l output) runs.runs.first_kind image)
-        (All-written_image l output (node_image n which old.format (image_value first) second) h runs.out.within
-        (node_image_is n old.format (image_value first) runs.runs.node is_first which second runs.runs.second_is can.kind can.formats)
-        (description_kept n which (image_value first) second old can.size))
-    becomes (DistributionObject d) e = whole (DistributionObject d) e (λ k. cc) (measured first (DistributionObject d) runs.runs.first_kind (subst IsObject e runs.runs.out_is) (λ k. cc))
+        subst (λ (o : ObjectValue). All IsInContext (table.replaced l output o)) (of_images n which (table.object_at l p.in1) (option_map (table.object_at l) p.in2) (table.object_at l output) runs.runs.first_kind image)
+        (All-written_image l output (node_image n which old.format (image_value (table.object_at l p.in1)) (option_map (table.object_at l) p.in2)) h runs.out.within
+        (node_image_is n old.format (image_value (table.object_at l p.in1)) runs.runs.node is_first which (option_map (table.object_at l) p.in2) runs.runs.second_is can.kind can.formats)
+        (description_kept n which (image_value (table.object_at l p.in1)) (option_map (table.object_at l) p.in2) old can.size))
+    becomes (DistributionObject d) e = whole (DistributionObject d) e (λ k. cc) (measured (table.object_at l p.in1) (DistributionObject d) runs.runs.first_kind (subst IsObject e runs.runs.out_is) (λ k. cc))
     becomes (ExtremesObject x) e = whole (ExtremesObject x) e (λ k. cc) tt_extremes
       where
-        tt_extremes : IsObject (node_output n which first second (ExtremesObject x))
-        tt_extremes = measured first (ExtremesObject x) runs.runs.first_kind tt (λ k. cc)
+        tt_extremes : IsObject (node_output n which (table.object_at l p.in1) (option_map (table.object_at l) p.in2) (ExtremesObject x))
+        tt_extremes = measured (table.object_at l p.in1) (ExtremesObject x) runs.runs.first_kind tt (λ k. cc)
     becomes other e = absurd (no_other_output n.function (object_kind other) (sym runs.runs.out_kind ∙ ap object_kind e) (λ k. cc) (λ k. cc) (λ k. cc))
 
 -- ---- immediate mode

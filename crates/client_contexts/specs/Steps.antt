@@ -9,7 +9,7 @@ use Rattle.vx_base.specs.Image.{ImageValue}
 use Rattle.vx_base.specs.Function.{parameters}
 use Rattle.vx_base.specs.declared.output.Output.{Output}
 use Rattle.vx_base.specs.Node.{IsNode, second_kind}
-use Rattle.vx_base.specs.Object.{ObjectValue, DistributionObject, IsObject, object_kind, object_format}
+use Rattle.vx_base.specs.Object.{ObjectValue, IsObject, object_kind, object_format}
 use Rattle.vx_base.specs.Statistics.{histogram}
 use Rattle.vx_base.specs.Outputs.{node_output}
 use Rattle.image_core.specs.Fits.{HaveSameSize, SecondHasSize}
@@ -30,7 +30,7 @@ use Rattle.client_contexts.specs.Refusal.{Outcome}
 use Rattle.object_table.specs.declared.names.Entry.{Entry}
 use Rattle.object_table.specs.declared.place.Place.{Place}
 use Rattle.object_table.specs.Delay.{in_slot, slot_kind}
-use Rattle.object_table.specs.Object.{image_value}
+use Rattle.object_table.specs.Object.{image_value, distribution_value, with_counts}
 use Rattle.object_table.specs.Table as table
 use Rattle.client_contexts.specs.Operands.{is_kind}
 use Rattle.client_contexts.specs.Places.{object_at, object_if_at, IsPlace, StandsAt, StandsIf}
@@ -148,8 +148,7 @@ IsRead other = ⊥
 
 -- the distribution that has counted the valid samples of an image
 abbrev pub counted_in : ImageValue → ObjectValue → ObjectValue
-counted_in a (DistributionObject d) = DistributionObject (record { bins = d.bins; counts = histogram d.bins a })
-counted_in a other = other
+counted_in a object = with_counts object (histogram (distribution_value object).bins a)
 
 -- places of which one can be written without the other: of two objects, or two slots of one
 abbrev pub TwoSlots : Option ℕ → Option ℕ → Type 0

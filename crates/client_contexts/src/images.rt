@@ -102,11 +102,7 @@ pub fn read_image(
 }
 
 /// The samples of a U8 image as a PGM text, in memory of the allocator.
-pub fn read_text(
-    context: &Context,
-    alloc: Global,
-    reference: ObjRef,
-) -> Result<Reply, RequestFault>
+pub fn read_text(context: &Context, alloc: Global, reference: ObjRef) -> Result<Reply, RequestFault>
     ensures { MayComeTo (read_text context.now reference) context.now context.now result }
 {
     let place = find(context, reference, Kind::Image)?;

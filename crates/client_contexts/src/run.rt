@@ -24,13 +24,7 @@ use vx_base::{Desc, GREATEST_BINS, Kind, Node, Output, Rect, Samples};
 
 /// Runs a node on the objects at these places, to one of its outputs, if it has that. The inputs
 /// are none of the outputs, and are read where they stand. It takes no memory.
-pub fn run_at(
-    table: &mut Table,
-    node: &Node,
-    which: Output,
-    places: Places,
-    output: Option<Place>,
-)
+pub fn run_at(table: &mut Table, node: &Node, which: Output, places: Places, output: Option<Place>)
     requires { IfSome output (RunsTo table.old.objects node.now places) }
     ensures value { table.new ≡ with_objects table.old (written_at table.old.objects node.now which places output) }
     ensures names { IfSome output (λ _. IsNames table.old.next table.old.objects) }

@@ -20,9 +20,7 @@ use crate::objects::release;
 use crate::refusal::Refusal;
 use crate::reply::Reply;
 use crate::request::Request;
-use crate::statistics::{
-    create_distribution, create_min_max, read_distribution, read_min_max,
-};
+use crate::statistics::{create_distribution, create_min_max, read_distribution, read_min_max};
 use crate::tables::{create_convolution, create_lut, create_threshold};
 use std::alloc::Global;
 use std::collections::BTreeMap;

@@ -29,11 +29,7 @@ pub fn create_distribution(
 }
 
 /// The counts of a distribution, in memory of the allocator.
-pub fn read_distribution(
-    context: &Context,
-    alloc: Global,
-    name: u32,
-) -> Result<Reply, RequestFault>
+pub fn read_distribution(context: &Context, alloc: Global, name: u32) -> Result<Reply, RequestFault>
     ensures { MayComeTo (read_distribution context.now name) context.now context.now result }
 {
     let place = find(context, ObjRef::new(name, None), Kind::Distribution)?;

@@ -14,9 +14,7 @@ use pixel_kernels::{
 };
 use stat_kernels::integral;
 use vx_base::{Function, Node, Output};
-use window_kernels::{
-    box3, dilate3, erode3, gaussian3, median3, sobel_x3, sobel_y3,
-};
+use window_kernels::{box3, dilate3, erode3, gaussian3, median3, sobel_x3, sobel_y3};
 
 /// Writes what the node's function gives to one of its outputs, an image: each sample, and the
 /// rectangle.

@@ -1,5 +1,5 @@
 -- What a text stands for is a picture.
-use Rattle.std.proofs.Common.{◌≡◌, ℕ, ℤ, pos, ◌≤◌, ◌<◌, Bool, true, false, ◌&&◌, if◌then◌else◌, nat_lt, List, [], ◌∷◌, length, map, Ok, IsTrue, refl, sym, subst, ◌∙◌, arith}
+use Rattle.std.proofs.Common.{◌≡◌, ℕ, ℤ, pos, ◌≤◌, Bool, true, false, if◌then◌else◌, nat_lt, List, [], ◌∷◌, length, map, Ok, refl, sym, subst, ◌∙◌, arith}
 use Rattle.std.specs.Prelude.{All, nat_le}
 use Rattle.std.proofs.lemmas.Int.{ints}
 use Rattle.std.proofs.lemmas.Bool.{and_parts, leb-true, ltb-true}
@@ -10,7 +10,7 @@ use Rattle.vx_base.specs.declared.format.Format.TheVariants.{U8, S16}
 use Rattle.vx_base.specs.Sample.{IsSample}
 use Rattle.vx_base.specs.Description.{sample_count}
 use Rattle.vx_base.specs.Picture.{PictureValue, IsPicture}
-use Rattle.pgm_images.specs.Header.{is_maxval, format_up_to}
+use Rattle.pgm_images.specs.Header.{format_up_to}
 use Rattle.pgm_images.specs.Raster.{all_up_to}
 use Rattle.pgm_images.specs.Reading.{reading}
 use Rattle.pgm_images.specs.Grammar.{Stands}

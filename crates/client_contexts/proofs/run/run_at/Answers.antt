@@ -1,79 +1,27 @@
-use Rattle.std.proofs.Common.{◌∙◌, ℕ, List, Option, map, pos, length, refl, ap, sym, subst}
+use Rattle.std.proofs.Common.{◌∙◌, Option, ap, sym, subst}
 use Rattle.std.specs.Prelude.{IfSome}
-use Rattle.std.proofs.lemmas.List.{length-map, with_items_is}
-use Rattle.vx_base.specs.declared.format.Format.{Format}
-use Rattle.vx_base.specs.declared.format.Format.TheVariants.{U8, S16, U32}
-use Rattle.vx_base.specs.declared.samples.Samples.{Samples}
-use Rattle.vx_base.specs.Rectangle.{Rectangle}
-use Rattle.vx_base.specs.Picture.{values, samples_format}
 use Rattle.object_table.specs.declared.place.Place.{Place}
-use Rattle.object_table.specs.Names.{IsNames}
-use Rattle.client_contexts.proofs.OutputLemmas.{second_has_place, second_is_object, second_is_no_delay, takes_back, left_format, first_is_image, taken_count, taken_format, runs_there, put_back}
+use Rattle.object_table.specs.Table.{with_objects}
+use Rattle.vx_base.specs.declared.function.Parameters.{Parameters}
+use Rattle.client_contexts.specs.Steps.{RunsTo, written_at}
+use Rattle.client_contexts.proofs.RunLemmas.{located_is, reads_an_image}
 use Rattle.client_contexts.proofs.run.run_at.Goals as goal
-use Rattle.client_contexts.proofs.run.run_at.Goals.{in-U8, in-S16, in-U32}
 
-pub image-first-requires : goal.image-first-requires
-image-first-requires c = first_is_image _ _ _ _ _ c.in-Some.is c.requires _ _ c.args.table.now c.take-samples.ensures.left _ c.image_at-in-Some.ensures
+pub count_at-requires-clause-image : goal.count_at-requires-clause-image
+count_at-requires-clause-image c =
+    let runs = subst (λ (o : Option Place). IfSome o (RunsTo c.args.table.now.objects c.args.node.now c.args.places)) c.in-Some.is c.requires in
+    reads_an_image c.args.table.now.objects c.args.node.now c.args.which c.args.places c.in-Some.output runs
 
-pub run_u8-valid-requires-clause-size : goal.run_u8-valid-requires-clause-size
-run_u8-valid-requires-clause-size c =
-    ap length c.deref_mut.ensures.value
-    ∙ sym (length-map c.in-U8.samples.items pos)
-    ∙ taken_count _ _ _ _ _ c.in-Some.is c.requires _ _ c.desc-desc.ensures c.image_at.ensures (map pos c.in-U8.samples.items) (ap values (sym c.in-U8.is) ∙ c.take-samples.ensures.value)
+pub locate_at-requires-clause-image : goal.locate_at-requires-clause-image
+locate_at-requires-clause-image c =
+    let runs = subst (λ (o : Option Place). IfSome o (RunsTo c.args.table.now.objects c.args.node.now c.args.places)) c.in-Some.is c.requires in
+    reads_an_image c.args.table.now.objects c.args.node.now c.args.which c.args.places c.in-Some.output runs
 
-pub run_u8-valid-requires-clause-can_run : goal.run_u8-valid-requires-clause-can_run
-run_u8-valid-requires-clause-can_run c = runs_there _ _ _ _ _ c.in-Some.is c.requires _ _ c.desc-desc.ensures c.image_at.ensures _ _ c.args.table.now c.take-samples.ensures.left _ _ (c.image-first.ensures ∙ c.image_at-in-Some.ensures) c.second_at-second.ensures
-
-pub run_s16-valid-requires-clause-can_run : goal.run_s16-valid-requires-clause-can_run
-run_s16-valid-requires-clause-can_run c = runs_there _ _ _ _ _ c.in-Some.is c.requires _ _ c.desc-desc.ensures c.image_at.ensures _ _ c.args.table.now c.take-samples.ensures.left _ _ (c.image-first.ensures ∙ c.image_at-in-Some.ensures) c.second_at-second.ensures
-
-pub run_u32-valid-requires-clause-size : goal.run_u32-valid-requires-clause-size
-run_u32-valid-requires-clause-size c =
-    ap length c.deref_mut-in-U32.ensures.value
-    ∙ sym (length-map c.in-U32.samples.items pos)
-    ∙ taken_count _ _ _ _ _ c.in-Some.is c.requires _ _ c.desc-desc.ensures c.image_at.ensures (map pos c.in-U32.samples.items) (ap values (sym c.in-U32.is) ∙ c.take-samples.ensures.value)
-
-pub run_u32-valid-requires-clause-can_run : goal.run_u32-valid-requires-clause-can_run
-run_u32-valid-requires-clause-can_run c = runs_there _ _ _ _ _ c.in-Some.is c.requires _ _ c.desc-desc.ensures c.image_at.ensures _ _ c.args.table.now c.take-samples.ensures.left _ _ (c.image-first.ensures ∙ c.image_at-in-Some.ensures) c.second_at-second.ensures
-
-pub returns-after-samples-clause-value : goal.returns-after-samples-clause-value
-returns-after-samples-clause-value c =
-    let back = λ (format : Format). put_back _ _ _ _ _ c.in-Some.is c.requires _ _ c.desc-desc.ensures c.image_at.ensures _ _ c.args.table.now c.take-samples.ensures.left _ _ (c.image-first.ensures ∙ c.image_at-in-Some.ensures) c.second_at-second.ensures refl _ _ _ format c.put.ensures in
-    elim c.match-samples.branch [
-      | in-U8 w ↦
-          back U8 (taken_format _ _ _ _ _ c.in-Some.is c.requires _ _ c.desc-desc.ensures c.image_at.ensures U8 (ap samples_format (sym w.in-U8.is) ∙ c.take-samples.ensures.format))
-          (ap (λ (made : Samples × Rectangle). made.1) w.samples-is ∙ w.run_u8-valid.ensures.valid)
-          (ap (λ (made : Samples × Rectangle). values made.0) w.samples-is ∙ ap (λ (k : List ℕ). map pos k) (with_items_is w.in-U8.samples w.run_u8-valid.new.samples (w.run_u8-valid.auto.samples ∙ w.deref_mut.ensures.len)) ∙ w.run_u8-valid.ensures.samples)
-      | in-S16 w ↦
-          back S16 (taken_format _ _ _ _ _ c.in-Some.is c.requires _ _ c.desc-desc.ensures c.image_at.ensures S16 (ap samples_format (sym w.in-S16.is) ∙ c.take-samples.ensures.format))
-          (ap (λ (made : Samples × Rectangle). made.1) w.samples-is ∙ w.run_s16-valid.ensures.valid)
-          (ap (λ (made : Samples × Rectangle). values made.0) w.samples-is ∙ with_items_is w.in-S16.samples w.run_s16-valid.new.samples (w.run_s16-valid.auto.samples ∙ w.deref_mut-in-S16.ensures.len) ∙ w.run_s16-valid.ensures.samples)
-      | in-U32 w ↦
-          back U32 (taken_format _ _ _ _ _ c.in-Some.is c.requires _ _ c.desc-desc.ensures c.image_at.ensures U32 (ap samples_format (sym w.in-U32.is) ∙ c.take-samples.ensures.format))
-          (ap (λ (made : Samples × Rectangle). made.1) w.samples-is ∙ w.run_u32-valid.ensures.valid)
-          (ap (λ (made : Samples × Rectangle). values made.0) w.samples-is ∙ ap (λ (k : List ℕ). map pos k) (with_items_is w.in-U32.samples w.run_u32-valid.new.samples (w.run_u32-valid.auto.samples ∙ w.deref_mut-in-U32.ensures.len)) ∙ w.run_u32-valid.ensures.samples)
-    ]
-
-pub returns-after-samples-clause-names : goal.returns-after-samples-clause-names
-returns-after-samples-clause-names c = subst (λ (o : Option Place). IfSome o (λ _. IsNames c.args.table.now.next c.args.table.now.objects)) (sym c.in-Some.is) c.take-samples.ensures.names
-
-pub second_at-second-requires-clause-place : goal.second_at-second-requires-clause-place
-second_at-second-requires-clause-place c = second_has_place _ _ _ _ _ c.in-Some.is c.requires _ _ c.args.table.now c.take-samples.ensures.left
-
-pub second_at-second-requires-clause-object : goal.second_at-second-requires-clause-object
-second_at-second-requires-clause-object c = second_is_object _ _ _ _ _ c.in-Some.is c.requires _ _ c.args.table.now c.take-samples.ensures.left
-
-pub second_at-second-requires-clause-kind : goal.second_at-second-requires-clause-kind
-second_at-second-requires-clause-kind c = second_is_no_delay _ _ _ _ _ c.in-Some.is c.requires _ _ c.args.table.now c.take-samples.ensures.left
-
-pub put-requires-clause-there : goal.put-requires-clause-there
-put-requires-clause-there c = takes_back _ _ _ _ _ c.in-Some.is c.requires _ c.args.table.now c.take-samples.ensures.left
-
-pub put-requires-clause-format : goal.put-requires-clause-format
-put-requires-clause-format c =
-    let left = sym (left_format _ _ _ _ _ c.in-Some.is c.requires _ c.args.table.now c.take-samples.ensures.left) in
-    elim c.match-samples.branch [
-      | in-U8 w ↦ ap (λ (made : Samples × Rectangle). samples_format made.0) w.samples-is ∙ ap samples_format (sym w.in-U8.is) ∙ c.take-samples.ensures.format ∙ left
-      | in-S16 w ↦ ap (λ (made : Samples × Rectangle). samples_format made.0) w.samples-is ∙ ap samples_format (sym w.in-S16.is) ∙ c.take-samples.ensures.format ∙ left
-      | in-U32 w ↦ ap (λ (made : Samples × Rectangle). samples_format made.0) w.samples-is ∙ ap samples_format (sym w.in-U32.is) ∙ c.take-samples.ensures.format ∙ left
-    ]
+pub returns-in-Extremes-clause-value : goal.returns-in-Extremes-clause-value
+returns-in-Extremes-clause-value c =
+    let t = c.args.table.now in
+    let n = c.args.node.now in
+    let runs = subst (λ (o : Option Place). IfSome o (RunsTo t.objects n c.args.places)) c.in-Some.is c.requires in
+    let output = ap (λ (q : Parameters). q.output) (sym c.parameters.ensures) ∙ c.in-Extremes.is in
+    c.locate_at.ensures.value
+    ∙ ap (with_objects t) (located_is t.objects n c.args.which c.args.places c.in-Some.output runs output ∙ ap (written_at t.objects n c.args.which c.args.places) (sym c.in-Some.is))
