@@ -20,9 +20,9 @@ charge_limit next charge objects h =
     omega (arith, sum, h.charged, h.names.named.count)
 
 -- another object at an index, in place of one that is charged as much, leaves a table
-pub object_kept : {next charge : ℕ} {objects : List (Entry ObjectValue)} {t : TableValue} {index : ℕ} {e : Entry ObjectValue} (new : ObjectValue) → IsTable next charge objects
+pub IsTable-set : {next charge : ℕ} {objects : List (Entry ObjectValue)} {t : TableValue} {index : ℕ} {e : Entry ObjectValue} (new : ObjectValue) → IsTable next charge objects
     → ◌≡◌ {A = TableValue} (record { next = next; objects = objects }) t → index < length t.objects → e ≡ get_or objects index e → object_bytes new ≡ object_bytes e.object → IsTable next charge (set objects index (record e { object = new }))
-object_kept {next} {charge} {objects} {t} {index} {e} new h view within read bytes =
+IsTable-set {next} {charge} {objects} {t} {index} {e} new h view within read bytes =
     let there : index < length objects = omega (arith, within, ap (λ (v : TableValue). length v.objects) view) in
     let stood = get_or_read objects index e there read no_object in
     let o : Entry ObjectValue = record e { object = new } in
@@ -36,11 +36,11 @@ object_kept {next} {charge} {objects} {t} {index} {e} new h view within read byt
       each = All-set (λ (k : Entry ObjectValue). object_bytes k.object ≤ 16 * 67108864) objects index o (omega (arith, same, h.each index no_object there)) h.each;
     }
 
--- and it is the table with what is made of the old object, at its place
-pub object_put : {next : ℕ} {objects : List (Entry ObjectValue)} {t : TableValue} {e : Entry ObjectValue} {new : ObjectValue} (place : Place) (made : ObjectValue → ObjectValue)
+-- it then is the table with what is made of the old object at its place
+pub objects_replaced : {next : ℕ} {objects : List (Entry ObjectValue)} {t : TableValue} {e : Entry ObjectValue} {new : ObjectValue} (place : Place) (made : ObjectValue → ObjectValue)
     → ◌≡◌ {A = TableValue} (record { next = next; objects = objects }) t → place.index < length t.objects → e ≡ get_or objects place.index e → new ≡ with_slot place.slot (made e.object) e.object
     → ◌≡◌ {A = TableValue} (record { next = next; objects = set objects place.index (record e { object = new }) }) (with_objects t (replaced t.objects place (made (entry_at t.objects place.index).object)))
-object_put {next} {objects} {t} {e} {new} place made view within read is =
+objects_replaced {next} {objects} {t} {e} {new} place made view within read is =
     let there : place.index < length objects = omega (arith, within, ap (λ (v : TableValue). length v.objects) view) in
     let put : Entry ObjectValue → TableValue = λ o. record { next = next; objects = set objects place.index o } in
     ap (λ (o : ObjectValue). put (record e { object = o })) is

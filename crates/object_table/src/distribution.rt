@@ -29,6 +29,7 @@ impl Distribution {
         ensures value { IfOk result (λ distribution. distribution ≡ new_distribution bins) }
         ensures distribution { IfOk result IsDistribution }
     {
+        // What is read is known to be within its limits.
         let _limits = (bins.offset(), bins.range());
         let count = usize::from(bins.bins());
         let counts = vec![in alloc; 0; count]?;

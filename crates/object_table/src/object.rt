@@ -187,8 +187,8 @@ impl Object {
         }
     }
 
-    /// Gives the distribution that the object is these counts, one for each bin. It takes no
-    /// memory.
+    /// Replaces the counts of the distribution that the object is by these, one for each bin. It
+    /// takes no memory.
     pub fn set_counts(&mut self, counts: &[u32])
         requires kind { object_kind self.old ≡ kind.Distribution }
         requires size { length counts.now ≡ (distribution_value self.old).bins.bins }
@@ -201,7 +201,7 @@ impl Object {
         }
     }
 
-    /// Makes these the extremes that the object is.
+    /// Replaces the extremes that the object is by these.
     pub fn set_extremes(&mut self, extremes: Extremes)
         requires { object_kind self.old ≡ kind.Extremes }
         ensures value { self.new ≡ ExtremesObject extremes }

@@ -244,7 +244,8 @@ impl Table {
         entry.object.age();
     }
 
-    /// Gives the distribution at an index these counts, one for each bin. It takes no memory.
+    /// Replaces the counts of the distribution at an index by these, one for each bin. It takes no
+    /// memory.
     pub fn set_counts(&mut self, index: usize, counts: &[u32])
         requires within { index < length self.old.objects }
         requires kind { object_kind (entry_at self.old.objects index).object ≡ kind.Distribution }
@@ -256,7 +257,7 @@ impl Table {
         entry.object.set_counts(counts);
     }
 
-    /// Makes these the extremes at an index.
+    /// Replaces the extremes at an index by these.
     pub fn set_extremes(&mut self, index: usize, extremes: Extremes)
         requires within { index < length self.old.objects }
         requires kind { object_kind (entry_at self.old.objects index).object ≡ kind.Extremes }

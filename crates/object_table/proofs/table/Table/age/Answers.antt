@@ -1,5 +1,5 @@
-use Rattle.object_table.proofs.TableLemmas.{object_kept}
+use Rattle.object_table.proofs.TableLemmas.{IsTable-set}
 use Rattle.object_table.proofs.table.Table.age.Goals as goal
 
 pub invariant_of-self : goal.invariant_of-self
-invariant_of-self c = object_kept c.age.new.self c.self.invariant c.self.view_is c.requires.within c.index_mut-entry.ensures.value c.age.ensures.bytes
+invariant_of-self c = IsTable-set c.age.new.self c.self.invariant c.self.view_is c.requires.within c.index_mut-entry.ensures.value c.age.ensures.bytes
