@@ -3,7 +3,7 @@ use Rattle.std.proofs.Common.{◌≡◌, ℕ, List, [], ◌∷◌, ◌++◌, Opt
 use Rattle.std.specs.Int.{w32, to_be_bytes}
 use Rattle.vx_base.specs.Cell.{Cell}
 use Rattle.client_contexts.specs.declared.request.Request.{Request}
-use Rattle.client_contexts.specs.declared.request.Request.TheVariants.{OpenContext, ReleaseContext, CreateImage, QueryImage, WriteImage, ReadImage, SetValid, Release, CreateLut, CreateThreshold, Immediate, CreateDelay, AgeDelay}
+use Rattle.client_contexts.specs.declared.request.Request.TheVariants.{OpenContext, ReleaseContext, CreateImage, QueryImage, WriteImage, WriteImagePgm, ReadImage, ReadImagePgm, SetValid, Release, CreateLut, CreateThreshold, CreateConvolution, CreateDistribution, ReadDistribution, CreateMinMax, ReadMinMax, Immediate, CreateDelay, AgeDelay}
 use Rattle.vx_wire.specs.declared.body_fault.BodyFault.{BodyFault}
 use Rattle.vx_wire.specs.declared.op.Op.{Op}
 use Rattle.vx_wire.specs.declared.op.Op.TheVariants as kinds
@@ -15,19 +15,22 @@ use Rattle.vx_wire.specs.Reference.{take_reference, reference_bytes}
 use Rattle.vx_wire.specs.Samples.{take_picture, picture_bytes}
 use Rattle.vx_wire.specs.Lut.{take_lut, lut_bytes}
 use Rattle.vx_wire.specs.Threshold.{take_threshold, threshold_bytes}
+use Rattle.vx_wire.specs.Convolution.{take_convolution, convolution_bytes}
+use Rattle.vx_wire.specs.Bins.{take_bins, bins_bytes}
 use Rattle.vx_wire.specs.Node.{take_node}
 use Rattle.vx_wire.specs.Slots.{take_slots}
 use Rattle.vx_wire.specs.Rectangle.{take_rectangle, rectangle_bytes}
 use Rattle.vx_wire.specs.Contexts.{open_context_in, release_context_in}
-use Rattle.vx_wire.specs.Images.{create_image_in, query_image_in, write_image_in, read_image_in, set_valid_in}
+use Rattle.vx_wire.specs.Images.{create_image_in, query_image_in, write_image_in, write_image_pgm_in, read_image_in, read_image_pgm_in, set_valid_in}
 use Rattle.vx_wire.specs.Objects.{release_in}
-use Rattle.vx_wire.specs.Tables.{create_lut_in, create_threshold_in}
+use Rattle.vx_wire.specs.Tables.{create_lut_in, create_threshold_in, create_convolution_in}
+use Rattle.vx_wire.specs.Statistics.{create_distribution_in, read_distribution_in, create_min_max_in, read_min_max_in}
 use Rattle.vx_wire.specs.Immediate.{immediate_in}
 use Rattle.vx_wire.specs.Delays.{create_delay_in, age_delay_in}
 use Rattle.vx_wire.proofs.Numbers.{number_is}
-use Rattle.vx_wire.proofs.ReadFields.{AllBytes, then_of, long_of, description_of, cell_of, rectangle_of, slots_of}
+use Rattle.vx_wire.proofs.ReadFields.{AllBytes, then_of, long_of, description_of, cell_of, rectangle_of, slots_of, bins_of_body}
 use Rattle.vx_wire.proofs.ReadSamples.{picture_of}
-use Rattle.vx_wire.proofs.ReadObjects.{lut_of, threshold_of}
+use Rattle.vx_wire.proofs.ReadObjects.{lut_of, threshold_of, convolution_of}
 use Rattle.vx_wire.proofs.ReadNode.{node_of}
 use Rattle.client_contexts.specs.Request.{IsRequest}
 
@@ -76,12 +79,27 @@ write_of body request is e =
     let no_more : picture_bytes p ++ rest1 ≡ picture_bytes p = ap (λ l. picture_bytes p ++ l) empty ∙ append-nil (picture_bytes p) in
     subst (Spelled kinds.WriteImage body) same (record { op_is = refl; body_is = body_is ∙ ap (λ l. reference_bytes cell ++ l) (rest_is ∙ no_more); within = (cell_is, p_is) })
 
+write_pgm_of : (body : List ℕ) (request : Request) → AllBytes body → write_image_pgm_in body ≡ Ok request → Spelled kinds.WriteImagePgm body request
+write_pgm_of body request is e =
+    let next : Cell → List ℕ → Result Request BodyFault = λ cell text. Ok (WriteImagePgm cell text) in
+    let (cell, text, is_cell, e1) = then_of (take_reference body) next request e in
+    let same : WriteImagePgm cell text ≡ request = cc in
+    let (body_is, cell_is, is1) = cell_of body cell text is is_cell in
+    subst (Spelled kinds.WriteImagePgm body) same (record { op_is = refl; body_is = body_is; within = (cell_is, is1) })
+
 read_of : (body : List ℕ) (request : Request) → AllBytes body → read_image_in body ≡ Ok request → Spelled kinds.ReadImage body request
 read_of body request is e =
     let (cell, rest, is_cell, e1) = then_of (take_reference body) (λ cell rest. at_end (ReadImage cell) rest) request e in
     let (same, empty) = end_of (ReadImage cell) request rest e1 in
     let (body_is, cell_is, is1) = cell_of body cell rest is is_cell in
     subst (Spelled kinds.ReadImage body) same (record { op_is = refl; body_is = body_is ∙ ap (λ l. reference_bytes cell ++ l) empty; within = cell_is })
+
+read_pgm_of : (body : List ℕ) (request : Request) → AllBytes body → read_image_pgm_in body ≡ Ok request → Spelled kinds.ReadImagePgm body request
+read_pgm_of body request is e =
+    let (cell, rest, is_cell, e1) = then_of (take_reference body) (λ cell rest. at_end (ReadImagePgm cell) rest) request e in
+    let (same, empty) = end_of (ReadImagePgm cell) request rest e1 in
+    let (body_is, cell_is, is1) = cell_of body cell rest is is_cell in
+    subst (Spelled kinds.ReadImagePgm body) same (record { op_is = refl; body_is = body_is ∙ ap (λ l. reference_bytes cell ++ l) empty; within = cell_is })
 
 set_valid_of : (body : List ℕ) (request : Request) → AllBytes body → set_valid_in body ≡ Ok request → Spelled kinds.SetValid body request
 set_valid_of body request is e =
@@ -115,6 +133,39 @@ create_threshold_of body request is e =
     let (body_is, t_is, is1) = threshold_of body t rest is is_t in
     subst (Spelled kinds.CreateThreshold body) same (record { op_is = refl; body_is = body_is ∙ ap (λ l. threshold_bytes t ++ l) empty ∙ append-nil (threshold_bytes t); within = t_is })
 
+create_convolution_of : (body : List ℕ) (request : Request) → AllBytes body → create_convolution_in body ≡ Ok request → Spelled kinds.CreateConvolution body request
+create_convolution_of body request is e =
+    let (c, rest, is_c, e1) = then_of (take_convolution body) (λ c rest. at_end (CreateConvolution c) rest) request e in
+    let (same, empty) = end_of (CreateConvolution c) request rest e1 in
+    let (body_is, c_is, is1) = convolution_of body c rest is is_c in
+    subst (Spelled kinds.CreateConvolution body) same (record { op_is = refl; body_is = body_is ∙ ap (λ l. convolution_bytes c ++ l) empty ∙ append-nil (convolution_bytes c); within = c_is })
+
+create_distribution_of : (body : List ℕ) (request : Request) → AllBytes body → create_distribution_in body ≡ Ok request → Spelled kinds.CreateDistribution body request
+create_distribution_of body request is e =
+    let (bins, rest, are_bins, e1) = then_of (take_bins body) (λ bins rest. at_end (CreateDistribution bins) rest) request e in
+    let (same, empty) = end_of (CreateDistribution bins) request rest e1 in
+    let (body_is, within, is1) = bins_of_body body bins rest is are_bins in
+    subst (Spelled kinds.CreateDistribution body) same (record { op_is = refl; body_is = body_is ∙ ap (λ l. bins_bytes bins ++ l) empty; within = within })
+
+read_distribution_of : (body : List ℕ) (request : Request) → AllBytes body → read_distribution_in body ≡ Ok request → Spelled kinds.ReadDistribution body request
+read_distribution_of body request is e =
+    let (name, rest, is_name, e1) = then_of (take_long body) (λ name rest. at_end (ReadDistribution name) rest) request e in
+    let (same, empty) = end_of (ReadDistribution name) request rest e1 in
+    let (body_is, name_below, is1) = long_of body name rest is is_name in
+    subst (Spelled kinds.ReadDistribution body) same (record { op_is = refl; body_is = body_is ∙ ap (λ l. to_be_bytes w32 name ++ l) empty; within = name_below })
+
+create_min_max_of : (body : List ℕ) (request : Request) → create_min_max_in body ≡ Ok request → Spelled kinds.CreateMinMax body request
+create_min_max_of body request e =
+    let (same, empty) = end_of CreateMinMax request body e in
+    subst (Spelled kinds.CreateMinMax body) same (record { op_is = refl; body_is = empty; within = tt })
+
+read_min_max_of : (body : List ℕ) (request : Request) → AllBytes body → read_min_max_in body ≡ Ok request → Spelled kinds.ReadMinMax body request
+read_min_max_of body request is e =
+    let (name, rest, is_name, e1) = then_of (take_long body) (λ name rest. at_end (ReadMinMax name) rest) request e in
+    let (same, empty) = end_of (ReadMinMax name) request rest e1 in
+    let (body_is, name_below, is1) = long_of body name rest is is_name in
+    subst (Spelled kinds.ReadMinMax body) same (record { op_is = refl; body_is = body_is ∙ ap (λ l. to_be_bytes w32 name ++ l) empty; within = name_below })
+
 immediate_of : (body : List ℕ) (request : Request) → AllBytes body → immediate_in body ≡ Ok request → Spelled kinds.Immediate body request
 immediate_of body request is e =
     let (n, rest, is_n, e1) = then_of (take_node body) (λ n rest. at_end (Immediate n) rest) request e in
@@ -146,11 +197,18 @@ with_op kinds.ReleaseContext body request is e = release_context_of body request
 with_op kinds.CreateImage body request is e = create_of body request is e
 with_op kinds.QueryImage body request is e = query_of body request is e
 with_op kinds.WriteImage body request is e = write_of body request is e
+with_op kinds.WriteImagePgm body request is e = write_pgm_of body request is e
 with_op kinds.ReadImage body request is e = read_of body request is e
+with_op kinds.ReadImagePgm body request is e = read_pgm_of body request is e
 with_op kinds.SetValid body request is e = set_valid_of body request is e
 with_op kinds.Release body request is e = release_of body request is e
 with_op kinds.CreateLut body request is e = create_lut_of body request is e
 with_op kinds.CreateThreshold body request is e = create_threshold_of body request is e
+with_op kinds.CreateConvolution body request is e = create_convolution_of body request is e
+with_op kinds.CreateDistribution body request is e = create_distribution_of body request is e
+with_op kinds.ReadDistribution body request is e = read_distribution_of body request is e
+with_op kinds.CreateMinMax body request is e = create_min_max_of body request e
+with_op kinds.ReadMinMax body request is e = read_min_max_of body request is e
 with_op kinds.Immediate body request is e = immediate_of body request is e
 with_op kinds.CreateDelay body request is e = create_delay_of body request is e
 with_op kinds.AgeDelay body request is e = age_delay_of body request is e

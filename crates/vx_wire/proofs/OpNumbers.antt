@@ -1,7 +1,7 @@
 -- Each op has a number of its own.
 use Rattle.std.proofs.Common.{◌≡◌, Some, refl}
 use Rattle.vx_wire.specs.declared.op.Op.{Op}
-use Rattle.vx_wire.specs.declared.op.Op.TheVariants.{OpenContext, ReleaseContext, CreateImage, QueryImage, WriteImage, ReadImage, SetValid, Release, CreateLut, CreateThreshold, Immediate, CreateDelay, AgeDelay}
+use Rattle.vx_wire.specs.declared.op.Op.TheVariants.{OpenContext, ReleaseContext, CreateImage, QueryImage, WriteImage, WriteImagePgm, ReadImage, ReadImagePgm, SetValid, Release, CreateLut, CreateThreshold, CreateConvolution, CreateDistribution, ReadDistribution, CreateMinMax, ReadMinMax, Immediate, CreateDelay, AgeDelay}
 use Rattle.vx_wire.specs.Op.{op_number, op_numbered}
 
 -- the op with an op's number is that op
@@ -11,11 +11,18 @@ op_back ReleaseContext = refl
 op_back CreateImage = refl
 op_back QueryImage = refl
 op_back WriteImage = refl
+op_back WriteImagePgm = refl
 op_back ReadImage = refl
+op_back ReadImagePgm = refl
 op_back SetValid = refl
 op_back Release = refl
 op_back CreateLut = refl
 op_back CreateThreshold = refl
+op_back CreateConvolution = refl
+op_back CreateDistribution = refl
+op_back ReadDistribution = refl
+op_back CreateMinMax = refl
+op_back ReadMinMax = refl
 op_back Immediate = refl
 op_back CreateDelay = refl
 op_back AgeDelay = refl

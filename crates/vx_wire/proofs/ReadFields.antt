@@ -1,5 +1,5 @@
 -- What is read has one spelling: the bytes that it was read from.
-use Rattle.std.proofs.Common.{◌≡◌, ℕ, ◌+◌, ◌*◌, ◌<◌, ◌≤◌, nat_le, length, take, drop, sym, take-append-drop, length-take-le, ◌^◌, ◌%◌, ◌/◌, ◌==◌, List, [], ◌∷◌, ◌++◌, Option, Some, None, Result, Ok, Err, Bool, true, false, ◌⊎◌, inl, inr, IsTrue, if◌then◌else◌, unwrap_or, arith, refl, ap, subst, ◌∙◌}
+use Rattle.std.proofs.Common.{◌≡◌, ℕ, ◌+◌, ◌*◌, ◌<◌, ◌≤◌, nat_le, nat_lt, ◌&&◌, length, take, drop, sym, take-append-drop, length-take-le, ◌^◌, ◌%◌, ◌/◌, ◌==◌, List, [], ◌∷◌, ◌++◌, Option, Some, None, Result, Ok, Err, Bool, true, false, ◌⊎◌, inl, inr, IsTrue, if◌then◌else◌, unwrap_or, arith, refl, ap, subst, ◌∙◌}
 use Rattle.std.specs.Prelude.{All, IfSome}
 use Rattle.std.specs.Int.{w16, w32, to_be_bytes}
 use Rattle.std.proofs.lemmas.Bool.{eqb-true, eq-eqb, leb-true}
@@ -8,8 +8,9 @@ use Rattle.vx_base.specs.declared.format.Format.{Format}
 use Rattle.vx_base.specs.declared.format.Format.TheVariants.{U8, S16, U32}
 use Rattle.vx_base.specs.Cell.{Cell, IsCell}
 use Rattle.vx_base.specs.Description.{Description, is_side, IsDescription}
-use Rattle.vx_base.specs.Slots.{is_slot_count, slot_count}
+use Rattle.vx_base.specs.Slots.{is_slot_count}
 use Rattle.vx_base.specs.Rectangle.{Rectangle, is_rectangle, rectangle, IsRectangle}
+use Rattle.vx_base.specs.Statistics.{BinsValue, are_bins}
 use Rattle.vx_wire.specs.declared.body_fault.BodyFault.{BodyFault}
 use Rattle.vx_wire.specs.declared.body_fault.BodyFault.TheVariants.{InvalidParameters, InvalidFormat, InvalidDimension, InvalidValue}
 use Rattle.vx_wire.specs.Fields.{Taken, and_then, allowed, take_byte, take_short, take_long, take_bytes}
@@ -18,6 +19,8 @@ use Rattle.vx_wire.specs.Description.{take_side, take_description, description_b
 use Rattle.vx_wire.specs.Reference.{slot_numbered, take_reference, reference_bytes}
 use Rattle.vx_wire.specs.Slots.{take_slots}
 use Rattle.vx_wire.specs.Rectangle.{take_rectangle, rectangle_bytes}
+use Rattle.vx_wire.specs.Bins.{is_bin_size, take_bin_size, take_offset, take_bins, bins_bytes}
+use Rattle.vx_wire.proofs.NodeShape.{both}
 use Rattle.vx_wire.proofs.Numbers.{number_is}
 
 abbrev pub AllBytes : List ℕ → Type 0
@@ -90,6 +93,29 @@ long_of body n rest is e =
       subst AllBytes behind is2,
     )
 
+-- numbers that pass a test
+pub tested_byte_of : (fault : BodyFault) (test : ℕ → Bool) (body : List ℕ) (n : ℕ) (rest : List ℕ) → AllBytes body
+    → and_then (take_byte body) (λ m rest. allowed fault (if test m then Some m else None) rest) ≡ Ok (n, rest) → (body ≡ n ∷ rest) × IsTrue (test n) × AllBytes rest
+tested_byte_of fault test body n rest is e =
+    let (m, rest1, is_m, e1) = then_of (take_byte body) (λ m rest. allowed fault (if test m then Some m else None) rest) (n, rest) e in
+    let (same, behind) = allowed_of fault (if test m then Some m else None) n rest1 rest e1 in
+    let (body_is, below, is1) = byte_of body m rest1 is is_m in
+    elim (if_some (test m) m None n same) [
+      | inl h ↦ (body_is ∙ ap (λ x. x ∷ rest1) h.1 ∙ ap (λ l. n ∷ l) behind, subst (λ x. IsTrue (test x)) h.1 h.0, subst AllBytes behind is1)
+      | inr h ↦ cc
+    ]
+
+tested_short_of : (fault : BodyFault) (test : ℕ → Bool) (body : List ℕ) (n : ℕ) (rest : List ℕ) → AllBytes body
+    → and_then (take_short body) (λ m rest. allowed fault (if test m then Some m else None) rest) ≡ Ok (n, rest) → (body ≡ to_be_bytes w16 n ++ rest) × IsTrue (test n) × AllBytes rest
+tested_short_of fault test body n rest is e =
+    let (m, rest1, is_m, e1) = then_of (take_short body) (λ m rest. allowed fault (if test m then Some m else None) rest) (n, rest) e in
+    let (same, behind) = allowed_of fault (if test m then Some m else None) n rest1 rest e1 in
+    let (body_is, below, is1) = short_of body m rest1 is is_m in
+    elim (if_some (test m) m None n same) [
+      | inl h ↦ (body_is ∙ ap (λ x. to_be_bytes w16 x ++ rest1) h.1 ∙ ap (λ l. to_be_bytes w16 n ++ l) behind, subst (λ x. IsTrue (test x)) h.1 h.0, subst AllBytes behind is1)
+      | inr h ↦ cc
+    ]
+
 enough_of : (b : Bool) (x y rest others : List ℕ) → (if b then ok x rest else Err InvalidParameters) ≡ ok y others → (b ≡ true) × (x ≡ y) × (rest ≡ others)
 enough_of true x y rest others e = let p = taken_same x y rest others e in (refl, p.0, p.1)
 enough_of false x y rest others e = cc
@@ -106,7 +132,7 @@ bytes_of n body bytes rest is e =
       subst AllBytes behind (All-drop (λ b. b < 256) n body is),
     )
 
--- ---- formats, sides, descriptions, references, rectangles, numbers of slots
+-- ---- formats, sides, descriptions, references, rectangles, numbers of slots, bins
 
 format_of : (body : List ℕ) (format : Format) (rest : List ℕ) → AllBytes body → take_format body ≡ Ok (format, rest)
     → (body ≡ format_number format ∷ rest) × AllBytes rest
@@ -118,14 +144,7 @@ format_of body format rest is e =
 
 side_of : (body : List ℕ) (n : ℕ) (rest : List ℕ) → AllBytes body → take_side body ≡ Ok (n, rest)
     → (body ≡ to_be_bytes w16 n ++ rest) × IsTrue (is_side n) × AllBytes rest
-side_of body n rest is e =
-    let (m, rest1, is_m, e1) = then_of (take_short body) (λ m rest. allowed InvalidDimension (if is_side m then Some m else None) rest) (n, rest) e in
-    let (same, behind) = allowed_of InvalidDimension (if is_side m then Some m else None) n rest1 rest e1 in
-    let (body_is, below, is1) = short_of body m rest1 is is_m in
-    elim (if_some (is_side m) m None n same) [
-      | inl h ↦ (body_is ∙ ap (λ x. to_be_bytes w16 x ++ rest1) h.1 ∙ ap (λ l. to_be_bytes w16 n ++ l) behind, subst (λ x. IsTrue (is_side x)) h.1 h.0, subst AllBytes behind is1)
-      | inr h ↦ cc
-    ]
+side_of body n rest is e = tested_short_of InvalidDimension is_side body n rest is e
 
 pub description_of : (body : List ℕ) (d : Description) (rest : List ℕ) → AllBytes body → take_description body ≡ Ok (d, rest)
     → (body ≡ description_bytes d ++ rest) × IsDescription d × AllBytes rest
@@ -199,11 +218,25 @@ rectangle_of body r rest is e =
 
 pub slots_of : (body : List ℕ) (n : ℕ) (rest : List ℕ) → AllBytes body → take_slots body ≡ Ok (n, rest)
     → (body ≡ n ∷ rest) × IsTrue (is_slot_count n) × AllBytes rest
-slots_of body n rest is e =
-    let (m, rest1, is_m, e1) = then_of (take_byte body) (λ m rest. allowed InvalidValue (slot_count m) rest) (n, rest) e in
-    let (same, behind) = allowed_of InvalidValue (slot_count m) n rest1 rest e1 in
-    let (body_is, below, is1) = byte_of body m rest1 is is_m in
-    elim (if_some (is_slot_count m) m None n same) [
-      | inl h ↦ (body_is ∙ ap (λ x. x ∷ rest1) h.1 ∙ ap (λ l. n ∷ l) behind, subst (λ x. IsTrue (is_slot_count x)) h.1 h.0, subst AllBytes behind is1)
-      | inr h ↦ cc
-    ]
+slots_of body n rest is e = tested_byte_of InvalidValue is_slot_count body n rest is e
+
+pub bins_of_body : (body : List ℕ) (b : BinsValue) (rest : List ℕ) → AllBytes body → take_bins body ≡ Ok (b, rest)
+    → (body ≡ bins_bytes b ++ rest) × IsTrue (are_bins b.bins b.offset b.range) × AllBytes rest
+bins_of_body body b rest is e =
+    let made : ℕ → ℕ → ℕ → BinsValue = λ bins offset range. record { bins = bins; offset = offset; range = range } in
+    let last : ℕ → ℕ → ℕ → List ℕ → Taken BinsValue = λ bins offset range rest. ok (made bins offset range) rest in
+    let third : ℕ → ℕ → List ℕ → Taken BinsValue = λ bins offset rest. and_then (take_bin_size rest) (last bins offset) in
+    let second : ℕ → List ℕ → Taken BinsValue = λ bins rest. and_then (take_offset rest) (third bins) in
+    let (bins, rest1, is_bins, e1) = then_of (take_bin_size body) second (b, rest) e in
+    let (offset, rest2, is_offset, e2) = then_of (take_offset rest1) (third bins) (b, rest) e1 in
+    let (range, rest3, is_range, e3) = then_of (take_bin_size rest2) (last bins offset) (b, rest) e2 in
+    let (same, behind) = taken_same (made bins offset range) b rest3 rest e3 in
+    let (body_is, bins_are, is1) = tested_short_of InvalidValue is_bin_size body bins rest1 is is_bins in
+    let (rest1_is, offset_is, is2) = tested_short_of InvalidValue (λ n. nat_lt n 256) rest1 offset rest2 is1 is_offset in
+    let (rest2_is, range_is, is3) = tested_short_of InvalidValue is_bin_size rest2 range rest3 is2 is_range in
+    let front = both (is_bin_size bins) (nat_lt offset 256) bins_are offset_is in (
+      body_is ∙ ap (λ l. to_be_bytes w16 bins ++ l) rest1_is ∙ ap (λ l. to_be_bytes w16 bins ++ (to_be_bytes w16 offset ++ l)) rest2_is
+          ∙ ap (λ b. bins_bytes b ++ rest3) same ∙ ap (λ l. bins_bytes b ++ l) behind,
+      subst (λ b. IsTrue (are_bins b.bins b.offset b.range)) same (both (is_bin_size bins && nat_lt offset 256) (is_bin_size range) front range_is),
+      subst AllBytes behind is3,
+    )

@@ -1,5 +1,5 @@
--- A table or a threshold that is read has one spelling.
-use Rattle.std.proofs.Common.{◌≡◌, ◌≢◌, ℕ, ℤ, ◌==◌, List, [], ◌∷◌, ◌++◌, Some, None, Ok, Bool, true, false, inl, inr, IsTrue, int_le, if◌then◌else◌, sym, ap, subst, ◌∙◌, append_assoc}
+-- A table, a threshold or a convolution that is read has one spelling.
+use Rattle.std.proofs.Common.{◌≡◌, ◌≢◌, ℕ, ℤ, ◌*◌, ◌==◌, nat_le, length, List, [], ◌∷◌, ◌++◌, Some, None, Ok, Bool, true, false, inl, inr, IsTrue, int_le, if◌then◌else◌, sym, ap, subst, ◌∙◌, append_assoc}
 use Rattle.std.specs.Prelude.{All}
 use Rattle.std.proofs.lemmas.List.Elements.{All-nil, All-cons}
 use Rattle.vx_base.specs.declared.format.Format.{Format}
@@ -9,17 +9,19 @@ use Rattle.vx_base.specs.declared.threshold.ThresholdKind.TheVariants.{Binary, R
 use Rattle.vx_base.specs.Sample.{range_size}
 use Rattle.vx_base.specs.Lut.{LutValue, is_full, IsLut}
 use Rattle.vx_base.specs.Threshold.{ThresholdValue, is_sample, has_limits, IsThreshold}
-use Rattle.vx_wire.specs.declared.body_fault.BodyFault.TheVariants.{InvalidParameters, InvalidFormat, InvalidValue}
+use Rattle.vx_base.specs.Convolution.{ConvolutionValue, is_odd_side, IsConvolution}
+use Rattle.vx_wire.specs.declared.body_fault.BodyFault.TheVariants.{InvalidParameters, InvalidFormat, InvalidDimension, InvalidValue}
 use Rattle.vx_wire.specs.Fields.{Taken, and_then, allowed, take_byte, take_bytes}
 use Rattle.vx_wire.specs.Format.{input_format_numbered, take_input_format, format_number}
 use Rattle.vx_wire.specs.Samples.{decoded_sample, encoded_sample, take_samples}
 use Rattle.vx_wire.specs.Lut.{take_lut, lut_bytes}
 use Rattle.vx_wire.specs.Threshold.{is_range, range_number, range_numbered, take_is_range, take_signed, take_limit, take_upper, take_limits, take_threshold, limit_bytes, threshold_bytes}
-use Rattle.vx_wire.proofs.ReadFields.{AllBytes, ok, taken_same, then_of, allowed_of, if_some, byte_of, bytes_of}
+use Rattle.vx_wire.specs.Convolution.{take_odd_side, take_exponent, take_convolution, convolution_bytes}
+use Rattle.vx_wire.proofs.ReadFields.{AllBytes, ok, taken_same, then_of, allowed_of, if_some, byte_of, tested_byte_of, bytes_of}
 use Rattle.vx_wire.proofs.ReadSamples.{taken_of}
 use Rattle.vx_wire.proofs.Numbers.{number_is, found_each}
 use Rattle.vx_wire.proofs.SampleBytes.{sample_of_bytes}
-use Rattle.vx_wire.proofs.TableSizes.{full_of, has_binary, has_range}
+use Rattle.vx_wire.proofs.TableSizes.{full_of, has_binary, has_range, convolution_from_parts}
 
 number_of_format : (n : ℕ) (format : Format) → input_format_numbered n ≡ Some format → (n ≡ format_number format) × (format ≢ U32)
 number_of_format n format e =
@@ -166,4 +168,29 @@ threshold_of body t rest is e =
           ∙ ap (λ l. range_number (is_range t.kind) ∷ format_number t.format ∷ l) (sym (append_assoc (limit_bytes t.kind) (t.true_value ∷ t.false_value ∷ []) rest)),
       t_is,
       is4,
+    )
+
+-- ---- convolutions
+
+pub convolution_of : (body : List ℕ) (c : ConvolutionValue) (rest : List ℕ) → AllBytes body → take_convolution body ≡ Ok (c, rest)
+    → (body ≡ convolution_bytes c ++ rest) × IsConvolution c × AllBytes rest
+convolution_of body c rest is e =
+    let whole : ℕ → ℕ → ℕ → List ℤ → ConvolutionValue = λ columns rows exponent coefficients. record { columns = columns; rows = rows; exponent = exponent; coefficients = coefficients } in
+    let last : ℕ → ℕ → ℕ → List ℤ → List ℕ → Taken ConvolutionValue = λ columns rows exponent coefficients rest. ok (whole columns rows exponent coefficients) rest in
+    let fourth : ℕ → ℕ → ℕ → List ℕ → Taken ConvolutionValue = λ columns rows exponent rest. and_then (take_samples S16 (rows * columns) rest) (last columns rows exponent) in
+    let third : ℕ → ℕ → List ℕ → Taken ConvolutionValue = λ columns rows rest. and_then (take_exponent rest) (fourth columns rows) in
+    let second : ℕ → List ℕ → Taken ConvolutionValue = λ columns rest. and_then (take_odd_side rest) (third columns) in
+    let (columns, rest1, is_columns, e1) = then_of (take_odd_side body) second (c, rest) e in
+    let (rows, rest2, is_rows, e2) = then_of (take_odd_side rest1) (third columns) (c, rest) e1 in
+    let (exponent, rest3, is_exponent, e3) = then_of (take_exponent rest2) (fourth columns rows) (c, rest) e2 in
+    let (coefficients, rest4, are, e4) = then_of (take_samples S16 (rows * columns) rest3) (last columns rows exponent) (c, rest) e3 in
+    let (same, behind) = taken_same (whole columns rows exponent coefficients) c rest4 rest e4 in
+    let (body_is, across, is1) = tested_byte_of InvalidDimension is_odd_side body columns rest1 is is_columns in
+    let (rest1_is, down, is2) = tested_byte_of InvalidDimension is_odd_side rest1 rows rest2 is1 is_rows in
+    let (rest2_is, power, is3) = tested_byte_of InvalidValue (λ n. nat_le n 31) rest2 exponent rest3 is2 is_exponent in
+    let (rest3_is, size, each, is4) = taken_of S16 (rows * columns) rest3 coefficients rest4 is3 are in (
+      body_is ∙ ap (λ l. columns ∷ l) rest1_is ∙ ap (λ l. columns ∷ rows ∷ l) rest2_is ∙ ap (λ l. columns ∷ rows ∷ exponent ∷ l) rest3_is
+          ∙ ap (λ c. convolution_bytes c ++ rest4) same ∙ ap (λ l. convolution_bytes c ++ l) behind,
+      subst IsConvolution same (record { shape = convolution_from_parts columns rows exponent (length coefficients) across down power size; each = each }),
+      subst AllBytes behind is4,
     )

@@ -1,5 +1,5 @@
 -- Each field is read back from its bytes.
-use Rattle.std.proofs.Common.{◌≡◌, ℕ, ℤ, ◌+◌, ◌*◌, ◌<◌, ◌^◌, ◌%◌, ◌/◌, ◌==◌, List, ◌∷◌, ◌++◌, Option, Some, None, Result, Ok, Err, Bool, true, false, IsTrue, if◌then◌else◌, nat_le, unwrap_or, length, take, drop, arith, length-append, refl, sym, ap, ◌∙◌, take_at, drop_at}
+use Rattle.std.proofs.Common.{◌≡◌, ℕ, ℤ, ◌+◌, ◌*◌, ◌<◌, ◌^◌, ◌%◌, ◌/◌, ◌==◌, ◌&&◌, List, ◌∷◌, ◌++◌, Option, Some, None, Result, Ok, Err, Bool, true, false, IsTrue, if◌then◌else◌, nat_le, nat_lt, unwrap_or, length, take, drop, arith, length-append, refl, sym, ap, ◌∙◌, take_at, drop_at}
 use Rattle.std.specs.Prelude.{All, IfSome}
 use Rattle.std.specs.Int.{w16, w32, to_be_bytes}
 use Rattle.std.proofs.lemmas.Bool.{eqb-true, le-leb}
@@ -15,6 +15,7 @@ use Rattle.vx_base.specs.Sample.{IsSample, sample_bytes}
 use Rattle.vx_base.specs.Picture.{PictureValue, IsPicture}
 use Rattle.vx_base.specs.Slots.{is_slot_count}
 use Rattle.vx_base.specs.Rectangle.{Rectangle, rectangle, IsRectangle}
+use Rattle.vx_base.specs.Statistics.{BinsValue, are_bins}
 use Rattle.vx_base.proofs.RectangleLaws.{rectangle_ordered}
 use Rattle.vx_wire.specs.Fields.{Taken, and_then, allowed, take_byte, take_short, take_long, take_bytes}
 use Rattle.vx_wire.specs.Format.{take_format, format_number}
@@ -23,6 +24,8 @@ use Rattle.vx_wire.specs.Reference.{slot_numbered, take_reference, reference_byt
 use Rattle.vx_wire.specs.Samples.{decoded, encoded, take_samples, take_picture, picture_bytes}
 use Rattle.vx_wire.specs.Slots.{take_slots}
 use Rattle.vx_wire.specs.Rectangle.{take_rectangle, rectangle_bytes}
+use Rattle.vx_wire.specs.Bins.{is_bin_size, take_bin_size, take_offset, take_bins, bins_bytes}
+use Rattle.vx_wire.proofs.NodeShape.{both_of}
 use Rattle.vx_wire.proofs.SampleBytes.{length-encoded, decoded_back}
 
 -- a field that was read, and those behind it
@@ -37,6 +40,17 @@ long_back n rest below =
     let e : 65536 * (256 * (n / 16777216 % 256) + n / 65536 % 256) + (256 * (n / 256 % 256) + n % 256) ≡ n = omega (arith, from_be_bytes-to_be_bytes_4 n below) in
     ap (λ m. Ok (m, rest)) e
 
+-- numbers that pass a test
+pub tested_byte_back : (fault : BodyFault) (test : ℕ → Bool) (n : ℕ) (rest : List ℕ) → IsTrue (test n)
+    → and_then (take_byte (n ∷ rest)) (λ n rest. allowed fault (if test n then Some n else None) rest) ≡ Ok (n, rest)
+tested_byte_back fault test n rest is = ap (λ b. allowed fault (if b then Some n else None) rest) is
+
+tested_short_back : (fault : BodyFault) (test : ℕ → Bool) (n : ℕ) (rest : List ℕ) → n < 2 ^ 16 → IsTrue (test n)
+    → and_then (take_short (to_be_bytes w16 n ++ rest)) (λ n rest. allowed fault (if test n then Some n else None) rest) ≡ Ok (n, rest)
+tested_short_back fault test n rest below is =
+    then_ok (take_short (to_be_bytes w16 n ++ rest)) n rest (λ n rest. allowed fault (if test n then Some n else None) rest) (short_back n rest below)
+    ∙ ap (λ b. allowed fault (if b then Some n else None) rest) is
+
 format_back : (format : Format) (rest : List ℕ) → take_format (format_number format ∷ rest) ≡ Ok (format, rest)
 format_back U8 rest = refl
 format_back S16 rest = refl
@@ -46,9 +60,7 @@ side_below : (n : ℕ) → IsTrue (is_side n) → n < 2 ^ 16
 side_below n is = grind (arith, nat_tests)
 
 side_back : (n : ℕ) (rest : List ℕ) → IsTrue (is_side n) → take_side (to_be_bytes w16 n ++ rest) ≡ Ok (n, rest)
-side_back n rest is =
-    then_ok (take_short (to_be_bytes w16 n ++ rest)) n rest (λ n rest. allowed InvalidDimension (if is_side n then Some n else None) rest) (short_back n rest (side_below n is))
-    ∙ ap (λ b. allowed InvalidDimension (if b then Some n else None) rest) is
+side_back n rest is = tested_short_back InvalidDimension is_side n rest (side_below n is) is
 
 pub description_back : (d : Description) (rest : List ℕ) → IsDescription d → take_description (description_bytes d ++ rest) ≡ Ok (d, rest)
 description_back d rest is =
@@ -94,7 +106,31 @@ rectangle_back r rest h =
     ∙ ap (λ b. allowed InvalidValue (if b then Some r else None) rest) h.bounds
 
 pub slots_back : (n : ℕ) (rest : List ℕ) → IsTrue (is_slot_count n) → take_slots (n ∷ rest) ≡ Ok (n, rest)
-slots_back n rest is = ap (λ b. allowed InvalidValue (if b then Some n else None) rest) is
+slots_back n rest is = tested_byte_back InvalidValue is_slot_count n rest is
+
+bin_size_below : (n : ℕ) → IsTrue (is_bin_size n) → n < 2 ^ 16
+bin_size_below n is = grind (arith, nat_tests)
+
+bin_size_back : (n : ℕ) (rest : List ℕ) → IsTrue (is_bin_size n) → take_bin_size (to_be_bytes w16 n ++ rest) ≡ Ok (n, rest)
+bin_size_back n rest is = tested_short_back InvalidValue is_bin_size n rest (bin_size_below n is) is
+
+offset_below : (n : ℕ) → IsTrue (nat_lt n 256) → n < 2 ^ 16
+offset_below n is = grind (arith, nat_tests)
+
+offset_back : (n : ℕ) (rest : List ℕ) → IsTrue (nat_lt n 256) → take_offset (to_be_bytes w16 n ++ rest) ≡ Ok (n, rest)
+offset_back n rest is = tested_short_back InvalidValue (λ m. nat_lt m 256) n rest (offset_below n is) is
+
+pub bins_back : (b : BinsValue) (rest : List ℕ) → IsTrue (are_bins b.bins b.offset b.range) → take_bins (bins_bytes b ++ rest) ≡ Ok (b, rest)
+bins_back b rest is =
+    let (front, range) = both_of (is_bin_size b.bins && nat_lt b.offset 256) (is_bin_size b.range) is in
+    let (bins, offset) = both_of (is_bin_size b.bins) (nat_lt b.offset 256) front in
+    let third : ℕ → ℕ → List ℕ → Taken BinsValue = λ bins offset rest. and_then (take_bin_size rest) (λ range rest. Ok (record { bins = bins; offset = offset; range = range }, rest)) in
+    let second : ℕ → List ℕ → Taken BinsValue = λ bins rest. and_then (take_offset rest) (third bins) in
+    let after_offset = to_be_bytes w16 b.range ++ rest in
+    let after_bins = to_be_bytes w16 b.offset ++ after_offset in
+    then_ok (take_bin_size (to_be_bytes w16 b.bins ++ after_bins)) b.bins after_bins second (bin_size_back b.bins after_bins bins)
+    ∙ then_ok (take_offset after_bins) b.offset after_offset (third b.bins) (offset_back b.offset after_offset offset)
+    ∙ then_ok (take_bin_size after_offset) b.range rest (λ range rest. Ok (record { bins = b.bins; offset = b.offset; range = range }, rest)) (bin_size_back b.range rest range)
 
 -- so many bytes
 pub bytes_back : (n : ℕ) (bytes rest : List ℕ) → length bytes ≡ n → take_bytes n (bytes ++ rest) ≡ Ok (bytes, rest)

@@ -1,5 +1,5 @@
--- Tables and thresholds are read back from their bytes.
-use Rattle.std.proofs.Common.{◌≡◌, ◌≢◌, ℕ, ℤ, List, [], ◌∷◌, ◌++◌, Some, None, Ok, Bool, IsTrue, int_le, if◌then◌else◌, refl, ap, ◌∙◌, length, append_assoc}
+-- Tables, thresholds and convolutions are read back from their bytes.
+use Rattle.std.proofs.Common.{◌≡◌, ◌≢◌, ℕ, ℤ, ◌*◌, nat_le, List, [], ◌∷◌, ◌++◌, Some, None, Ok, Bool, IsTrue, int_le, if◌then◌else◌, refl, ap, ◌∙◌, length, append_assoc}
 use Rattle.vx_base.specs.declared.format.Format.{Format}
 use Rattle.vx_base.specs.declared.format.Format.TheVariants.{U8, S16, U32}
 use Rattle.vx_base.specs.declared.threshold.ThresholdKind.{ThresholdKind}
@@ -7,15 +7,17 @@ use Rattle.vx_base.specs.declared.threshold.ThresholdKind.TheVariants.{Binary, R
 use Rattle.vx_base.specs.Sample.{IsSample, range_size}
 use Rattle.vx_base.specs.Lut.{LutValue, IsLut}
 use Rattle.vx_base.specs.Threshold.{ThresholdValue, is_sample, has_limits, IsThreshold}
-use Rattle.vx_wire.specs.declared.body_fault.BodyFault.TheVariants.{InvalidValue}
+use Rattle.vx_base.specs.Convolution.{ConvolutionValue, is_odd_side, IsConvolution}
+use Rattle.vx_wire.specs.declared.body_fault.BodyFault.TheVariants.{InvalidDimension, InvalidValue}
 use Rattle.vx_wire.specs.Fields.{Taken, and_then, allowed, take_byte, take_bytes}
 use Rattle.vx_wire.specs.Format.{take_input_format, format_number}
 use Rattle.vx_wire.specs.Samples.{decoded_sample, encoded_sample, encoded, take_samples}
 use Rattle.vx_wire.specs.Lut.{take_lut, lut_bytes}
 use Rattle.vx_wire.specs.Threshold.{is_range, range_number, take_signed, take_is_range, take_limit, take_upper, take_limits, take_threshold, limit_bytes, threshold_bytes}
-use Rattle.vx_wire.proofs.SpelledFields.{then_ok, bytes_back, taken_back}
+use Rattle.vx_wire.specs.Convolution.{take_odd_side, take_exponent, take_convolution, convolution_bytes}
+use Rattle.vx_wire.proofs.SpelledFields.{then_ok, tested_byte_back, bytes_back, taken_back}
 use Rattle.vx_wire.proofs.SampleBytes.{length-encoded_sample, sample_back}
-use Rattle.vx_wire.proofs.TableSizes.{input_of, count_of, sample_of, binary_of, range_of}
+use Rattle.vx_wire.proofs.TableSizes.{input_of, count_of, sample_of, binary_of, range_of, ConvolutionParts, convolution_parts}
 
 format_back : (format : Format) (rest : List ℕ) → format ≢ U32 → take_input_format (format_number format ∷ rest) ≡ Ok (format, rest)
 format_back U8 rest input = refl
@@ -86,3 +88,20 @@ threshold_back t rest is =
     ∙ then_ok (take_is_range (range_number (is_range t.kind) ∷ format_number t.format ∷ behind)) (is_range t.kind) (format_number t.format ∷ behind) second (kind_back t.kind _)
     ∙ then_ok (take_input_format (format_number t.format ∷ behind)) t.format behind (third (is_range t.kind)) (format_back t.format behind (limits_input t.format t.kind is.limits))
     ∙ then_ok (take_limits (is_range t.kind) t.format behind) t.kind tail (values t.format) (limits_back t.format t.kind tail is.limits)
+
+-- ---- convolutions
+
+pub convolution_back : (c : ConvolutionValue) (rest : List ℕ) → IsConvolution c → take_convolution (convolution_bytes c ++ rest) ≡ Ok (c, rest)
+convolution_back c rest is =
+    let parts : ConvolutionParts c.columns c.rows c.exponent (length c.coefficients) = convolution_parts c.columns c.rows c.exponent (length c.coefficients) is.shape in
+    let made : ℕ → ℕ → ℕ → List ℤ → ConvolutionValue = λ columns rows exponent coefficients. record { columns = columns; rows = rows; exponent = exponent; coefficients = coefficients } in
+    let fourth : ℕ → ℕ → ℕ → List ℕ → Taken ConvolutionValue =
+    λ columns rows exponent rest. and_then (take_samples S16 (rows * columns) rest) (λ coefficients rest. Ok (made columns rows exponent coefficients, rest)) in
+    let third : ℕ → ℕ → List ℕ → Taken ConvolutionValue = λ columns rows rest. and_then (take_exponent rest) (fourth columns rows) in
+    let second : ℕ → List ℕ → Taken ConvolutionValue = λ columns rest. and_then (take_odd_side rest) (third columns) in
+    let bytes = encoded S16 c.coefficients ++ rest in
+    then_ok (take_odd_side (c.columns ∷ c.rows ∷ c.exponent ∷ bytes)) c.columns (c.rows ∷ c.exponent ∷ bytes) second (tested_byte_back InvalidDimension is_odd_side c.columns _ parts.across)
+    ∙ then_ok (take_odd_side (c.rows ∷ c.exponent ∷ bytes)) c.rows (c.exponent ∷ bytes) (third c.columns) (tested_byte_back InvalidDimension is_odd_side c.rows _ parts.down)
+    ∙ then_ok (take_exponent (c.exponent ∷ bytes)) c.exponent bytes (fourth c.columns c.rows) (tested_byte_back InvalidValue (λ n. nat_le n 31) c.exponent bytes parts.power)
+    ∙ then_ok (take_samples S16 (c.rows * c.columns) bytes) c.coefficients rest (λ coefficients rest. Ok (made c.columns c.rows c.exponent coefficients, rest))
+    (taken_back S16 (c.rows * c.columns) c.coefficients rest parts.many is.each)

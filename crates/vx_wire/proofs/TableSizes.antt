@@ -1,7 +1,7 @@
--- Tables and thresholds are of U8 or S16.
-use Rattle.std.proofs.Common.{◌≡◌, ◌≢◌, ℕ, ℤ, ◌≤◌, ◌*◌, ◌≤ℤ◌, ◌&&◌, int_le, T, IsTrue, arith, refl, sym, subst}
+-- Tables and thresholds are of U8 or S16; what the numbers of a convolution are.
+use Rattle.std.proofs.Common.{◌≡◌, ◌≢◌, ℕ, ℤ, ◌≤◌, ◌*◌, ◌==◌, ◌≤ℤ◌, ◌&&◌, nat_le, int_le, T, IsTrue, arith, refl, sym, subst}
 use Rattle.std.specs.Int.Signed.{le_z_yes}
-use Rattle.std.proofs.lemmas.Bool.{eqb-true}
+use Rattle.std.proofs.lemmas.Bool.{eqb-true, eq-eqb}
 use Rattle.std.proofs.lemmas.Int.{ints}
 use Rattle.vx_base.specs.declared.format.Format.{Format}
 use Rattle.vx_base.specs.declared.format.Format.TheVariants.{U8, S16, U32}
@@ -9,6 +9,7 @@ use Rattle.vx_base.specs.declared.threshold.ThresholdKind.TheVariants.{Binary, R
 use Rattle.vx_base.specs.Sample.{IsSample, least, greatest, range_size, sample_bytes}
 use Rattle.vx_base.specs.Lut.{is_full}
 use Rattle.vx_base.specs.Threshold.{is_sample, has_limits}
+use Rattle.vx_base.specs.Convolution.{is_odd_side, is_convolution}
 use Rattle.vx_wire.proofs.NodeShape.{both, both_of}
 
 -- ---- how many entries a table has
@@ -77,3 +78,24 @@ range_of S16 lower upper is =
     let (up, ordered) = both_of (is_sample S16 upper) (int_le lower upper) others in
     (λ e. cc, low, up, ordered)
 range_of U32 lower upper is = cc
+
+-- ---- the numbers of a convolution
+
+pub record ConvolutionParts (columns rows exponent count : ℕ) : Type 0 where
+  pub across : IsTrue (is_odd_side columns)
+  pub down : IsTrue (is_odd_side rows)
+  pub power : IsTrue (nat_le exponent 31)
+  pub many : count ≡ rows * columns
+
+pub convolution_parts : (columns rows exponent count : ℕ) → IsTrue (is_convolution columns rows exponent count) → ConvolutionParts columns rows exponent count
+convolution_parts columns rows exponent count is =
+    let (sides, others) = both_of (is_odd_side columns && is_odd_side rows) (nat_le exponent 31 && count == rows * columns) is in
+    let (across, down) = both_of (is_odd_side columns) (is_odd_side rows) sides in
+    let (power, many) = both_of (nat_le exponent 31) (count == rows * columns) others in
+    record { across = across; down = down; power = power; many = eqb-true count (rows * columns) many }
+
+pub convolution_from_parts : (columns rows exponent count : ℕ) → IsTrue (is_odd_side columns) → IsTrue (is_odd_side rows) → IsTrue (nat_le exponent 31) → count ≡ rows * columns
+    → IsTrue (is_convolution columns rows exponent count)
+convolution_from_parts columns rows exponent count across down power many =
+    both (is_odd_side columns && is_odd_side rows) (nat_le exponent 31 && count == rows * columns) (both (is_odd_side columns) (is_odd_side rows) across down)
+    (both (nat_le exponent 31) (count == rows * columns) power (eq-eqb count (rows * columns) many))

@@ -10,12 +10,17 @@ pub mod Samples
 pub mod Slots
 pub mod Lut
 pub mod Threshold
+pub mod Convolution
+pub mod Bins
+pub mod Counts
+pub mod Extremes
 pub mod Operand
 pub mod Node
 pub mod Contexts
 pub mod Images
 pub mod Objects
 pub mod Tables
+pub mod Statistics
 pub mod Immediate
 pub mod Delays
 pub mod Requests

@@ -4,7 +4,7 @@ use Rattle.client_contexts.specs.declared.request.Request.{Request}
 use Rattle.client_contexts.specs.declared.request.Request.TheVariants as requests
 use Rattle.vx_wire.specs.Numbered.{numbered}
 use Rattle.vx_wire.specs.declared.op.Op.{Op}
-use Rattle.vx_wire.specs.declared.op.Op.TheVariants.{OpenContext, ReleaseContext, CreateImage, QueryImage, WriteImage, ReadImage, SetValid, Release, CreateLut, CreateThreshold, Immediate, CreateDelay, AgeDelay}
+use Rattle.vx_wire.specs.declared.op.Op.TheVariants.{OpenContext, ReleaseContext, CreateImage, QueryImage, WriteImage, WriteImagePgm, ReadImage, ReadImagePgm, SetValid, Release, CreateLut, CreateThreshold, CreateConvolution, CreateDistribution, ReadDistribution, CreateMinMax, ReadMinMax, Immediate, CreateDelay, AgeDelay}
 
 -- the number of this project's that stands for the op
 abbrev pub op_number : Op → ℕ
@@ -13,17 +13,26 @@ op_number ReleaseContext = 2
 op_number CreateImage = 3
 op_number QueryImage = 4
 op_number WriteImage = 5
+op_number WriteImagePgm = 6
 op_number ReadImage = 7
+op_number ReadImagePgm = 8
 op_number SetValid = 9
 op_number Release = 10
 op_number CreateLut = 11
 op_number CreateThreshold = 12
+op_number CreateConvolution = 13
+op_number CreateDistribution = 14
+op_number ReadDistribution = 15
+op_number CreateMinMax = 16
+op_number ReadMinMax = 17
 op_number Immediate = 24
 op_number CreateDelay = 25
 op_number AgeDelay = 26
 
 abbrev pub ops : List Op
-ops = OpenContext ∷ ReleaseContext ∷ CreateImage ∷ QueryImage ∷ WriteImage ∷ ReadImage ∷ SetValid ∷ Release ∷ CreateLut ∷ CreateThreshold ∷ Immediate ∷ CreateDelay ∷ AgeDelay ∷ []
+ops =
+    OpenContext ∷ ReleaseContext ∷ CreateImage ∷ QueryImage ∷ WriteImage ∷ WriteImagePgm ∷ ReadImage ∷ ReadImagePgm ∷ SetValid ∷ Release ∷ CreateLut ∷ CreateThreshold
+    ∷ CreateConvolution ∷ CreateDistribution ∷ ReadDistribution ∷ CreateMinMax ∷ ReadMinMax ∷ Immediate ∷ CreateDelay ∷ AgeDelay ∷ []
 
 -- the op with this number
 abbrev pub op_numbered : ℕ → Option Op
@@ -36,11 +45,18 @@ op_of requests.ReleaseContext = ReleaseContext
 op_of (requests.CreateImage d) = CreateImage
 op_of (requests.QueryImage cell) = QueryImage
 op_of (requests.WriteImage cell picture) = WriteImage
+op_of (requests.WriteImagePgm cell text) = WriteImagePgm
 op_of (requests.ReadImage cell) = ReadImage
+op_of (requests.ReadImagePgm cell) = ReadImagePgm
 op_of (requests.SetValid cell rectangle) = SetValid
 op_of (requests.Release name) = Release
 op_of (requests.CreateLut lut) = CreateLut
 op_of (requests.CreateThreshold threshold) = CreateThreshold
+op_of (requests.CreateConvolution convolution) = CreateConvolution
+op_of (requests.CreateDistribution bins) = CreateDistribution
+op_of (requests.ReadDistribution name) = ReadDistribution
+op_of requests.CreateMinMax = CreateMinMax
+op_of (requests.ReadMinMax name) = ReadMinMax
 op_of (requests.Immediate node) = Immediate
 op_of (requests.CreateDelay exemplar slots) = CreateDelay
 op_of (requests.AgeDelay name) = AgeDelay

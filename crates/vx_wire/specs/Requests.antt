@@ -1,8 +1,9 @@
--- Requests and their bodies. Each table goes by families: contexts, images, objects of any kind, tables and thresholds, nodes that run at once, delays.
+-- Requests and their bodies. Each table goes by families: contexts, images, objects of any kind, tables (and thresholds and convolutions), statistics (distributions and extremes),
+-- nodes that run at once, delays.
 use Rattle.std.specs.Prelude.{ℕ, ⊤, List, [], ◌∷◌, ◌++◌, Option, Some, None, Result, Err}
 use Rattle.std.specs.Int.{w32, to_be_bytes}
 use Rattle.client_contexts.specs.declared.request.Request.{Request}
-use Rattle.client_contexts.specs.declared.request.Request.TheVariants.{OpenContext, ReleaseContext, CreateImage, QueryImage, WriteImage, ReadImage, SetValid, Release, CreateLut, CreateThreshold, Immediate, CreateDelay, AgeDelay}
+use Rattle.client_contexts.specs.declared.request.Request.TheVariants.{OpenContext, ReleaseContext, CreateImage, QueryImage, WriteImage, WriteImagePgm, ReadImage, ReadImagePgm, SetValid, Release, CreateLut, CreateThreshold, CreateConvolution, CreateDistribution, ReadDistribution, CreateMinMax, ReadMinMax, Immediate, CreateDelay, AgeDelay}
 use Rattle.vx_wire.specs.declared.body_fault.BodyFault.{BodyFault}
 use Rattle.vx_wire.specs.declared.body_fault.BodyFault.TheVariants.{InvalidParameters}
 use Rattle.vx_wire.specs.declared.op.Op.{Op}
@@ -14,11 +15,14 @@ use Rattle.vx_wire.specs.Rectangle.{rectangle_bytes}
 use Rattle.vx_wire.specs.Samples.{picture_bytes}
 use Rattle.vx_wire.specs.Lut.{lut_bytes}
 use Rattle.vx_wire.specs.Threshold.{threshold_bytes}
+use Rattle.vx_wire.specs.Convolution.{convolution_bytes}
+use Rattle.vx_wire.specs.Bins.{bins_bytes}
 use Rattle.vx_wire.specs.Node.{node_bytes}
 use Rattle.vx_wire.specs.Contexts.{open_context_in, release_context_in}
-use Rattle.vx_wire.specs.Images.{create_image_in, query_image_in, write_image_in, read_image_in, set_valid_in}
+use Rattle.vx_wire.specs.Images.{create_image_in, query_image_in, write_image_in, write_image_pgm_in, read_image_in, read_image_pgm_in, set_valid_in}
 use Rattle.vx_wire.specs.Objects.{release_in}
-use Rattle.vx_wire.specs.Tables.{create_lut_in, create_threshold_in}
+use Rattle.vx_wire.specs.Tables.{create_lut_in, create_threshold_in, create_convolution_in}
+use Rattle.vx_wire.specs.Statistics.{create_distribution_in, read_distribution_in, create_min_max_in, read_min_max_in}
 use Rattle.vx_wire.specs.Immediate.{immediate_in}
 use Rattle.vx_wire.specs.Delays.{create_delay_in, age_delay_in}
 
@@ -29,11 +33,18 @@ request_with ops.ReleaseContext body = release_context_in body
 request_with ops.CreateImage body = create_image_in body
 request_with ops.QueryImage body = query_image_in body
 request_with ops.WriteImage body = write_image_in body
+request_with ops.WriteImagePgm body = write_image_pgm_in body
 request_with ops.ReadImage body = read_image_in body
+request_with ops.ReadImagePgm body = read_image_pgm_in body
 request_with ops.SetValid body = set_valid_in body
 request_with ops.Release body = release_in body
 request_with ops.CreateLut body = create_lut_in body
 request_with ops.CreateThreshold body = create_threshold_in body
+request_with ops.CreateConvolution body = create_convolution_in body
+request_with ops.CreateDistribution body = create_distribution_in body
+request_with ops.ReadDistribution body = read_distribution_in body
+request_with ops.CreateMinMax body = create_min_max_in body
+request_with ops.ReadMinMax body = read_min_max_in body
 request_with ops.Immediate body = immediate_in body
 request_with ops.CreateDelay body = create_delay_in body
 request_with ops.AgeDelay body = age_delay_in body
@@ -54,27 +65,41 @@ body_of ReleaseContext = []
 body_of (CreateImage d) = description_bytes d
 body_of (QueryImage image) = reference_bytes image
 body_of (WriteImage image picture) = reference_bytes image ++ picture_bytes picture
+body_of (WriteImagePgm image text) = reference_bytes image ++ text
 body_of (ReadImage image) = reference_bytes image
+body_of (ReadImagePgm image) = reference_bytes image
 body_of (SetValid image rectangle) = reference_bytes image ++ rectangle_bytes rectangle
 body_of (Release name) = to_be_bytes w32 name
 body_of (CreateLut lut) = lut_bytes lut
 body_of (CreateThreshold threshold) = threshold_bytes threshold
+body_of (CreateConvolution convolution) = convolution_bytes convolution
+body_of (CreateDistribution bins) = bins_bytes bins
+body_of (ReadDistribution name) = to_be_bytes w32 name
+body_of CreateMinMax = []
+body_of (ReadMinMax name) = to_be_bytes w32 name
 body_of (Immediate node) = node_bytes node
 body_of (CreateDelay exemplar slots) = reference_bytes exemplar ++ slots ∷ []
 body_of (AgeDelay name) = to_be_bytes w32 name
 
--- a request whose body holds samples or entries, for which parsing takes memory
+-- a request whose body holds samples, entries or a text, for which parsing takes memory
 abbrev pub HoldsSamples : Request → Type 0
 HoldsSamples OpenContext = ⊥
 HoldsSamples ReleaseContext = ⊥
 HoldsSamples (CreateImage d) = ⊥
 HoldsSamples (QueryImage image) = ⊥
 HoldsSamples (WriteImage image picture) = ⊤
+HoldsSamples (WriteImagePgm image text) = ⊤
 HoldsSamples (ReadImage image) = ⊥
+HoldsSamples (ReadImagePgm image) = ⊥
 HoldsSamples (SetValid image rectangle) = ⊥
 HoldsSamples (Release name) = ⊥
 HoldsSamples (CreateLut lut) = ⊤
 HoldsSamples (CreateThreshold threshold) = ⊥
+HoldsSamples (CreateConvolution convolution) = ⊥
+HoldsSamples (CreateDistribution bins) = ⊥
+HoldsSamples (ReadDistribution name) = ⊥
+HoldsSamples CreateMinMax = ⊥
+HoldsSamples (ReadMinMax name) = ⊥
 HoldsSamples (Immediate node) = ⊥
 HoldsSamples (CreateDelay exemplar slots) = ⊥
 HoldsSamples (AgeDelay name) = ⊥

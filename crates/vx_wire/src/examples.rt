@@ -5,10 +5,12 @@ ghost use Rattle.vx_base.specs.declared.policy.Policy.TheVariants.{Wrap, Saturat
 ghost use Rattle.vx_base.specs.declared.border.Border.TheVariants.{Undefined, Constant};
 ghost use Rattle.vx_base.specs.declared.function.Function.TheVariants.{NotBits, Multiply};
 ghost use Rattle.vx_base.specs.declared.threshold.ThresholdKind.TheVariants.{Binary, Range};
-ghost use Rattle.client_contexts.specs.declared.request.Request.TheVariants.{OpenContext, ReleaseContext, CreateImage, QueryImage, WriteImage, ReadImage, SetValid, Release, CreateThreshold, Immediate, CreateDelay, AgeDelay};
+ghost use Rattle.client_contexts.specs.declared.request.Request.TheVariants.{OpenContext, ReleaseContext, CreateImage, QueryImage, WriteImage, WriteImagePgm, ReadImage, ReadImagePgm, SetValid, Release, CreateThreshold, CreateConvolution, CreateDistribution, ReadDistribution, CreateMinMax, ReadMinMax, Immediate, CreateDelay, AgeDelay};
 ghost use Rattle.vx_wire.specs.declared.body_fault.BodyFault.TheVariants.{InvalidParameters, InvalidFormat, InvalidDimension, InvalidValue};
 ghost use Rattle.vx_wire.specs.Requests.{request_of, body_of};
 ghost use Rattle.vx_wire.specs.Described.{described_bytes};
+ghost use Rattle.vx_wire.specs.Counts.{counts_bytes};
+ghost use Rattle.vx_wire.specs.Extremes.{extremes_bytes};
 
 /// Contexts are opened and released by an empty body, and no request has another op than those of
 /// the table.
@@ -40,6 +42,23 @@ pub fn images_written_and_read()
     ensures a_byte_short { request_of 5 (0 ∷ 0 ∷ 0 ∷ 7 ∷ 255 ∷ 2 ∷ 0 ∷ 2 ∷ 0 ∷ 1 ∷ 255 ∷ 254 ∷ 0 ∷ []) ≡ Err InvalidParameters }
     ensures a_byte_more { request_of 5 (0 ∷ 0 ∷ 0 ∷ 7 ∷ 255 ∷ 1 ∷ 0 ∷ 1 ∷ 0 ∷ 1 ∷ 9 ∷ 9 ∷ []) ≡ Err InvalidParameters }
     ensures read { request_of 7 (0 ∷ 0 ∷ 1 ∷ 2 ∷ 3 ∷ []) ≡ Ok (ReadImage (record { name = 258; slot = Some 3 })) }
+{}
+
+/// Texts that are written to image 7, also none: what they say is no matter here. A reference that
+/// is cut short has no text behind it.
+pub fn texts_written()
+    ensures written { request_of 6 (0 ∷ 0 ∷ 0 ∷ 7 ∷ 255 ∷ 80 ∷ 53 ∷ 10 ∷ []) ≡ Ok (WriteImagePgm (record { name = 7; slot = None }) (80 ∷ 53 ∷ 10 ∷ [])) }
+    ensures to_a_slot { request_of 6 (0 ∷ 0 ∷ 1 ∷ 2 ∷ 3 ∷ 255 ∷ []) ≡ Ok (WriteImagePgm (record { name = 258; slot = Some 3 }) (255 ∷ [])) }
+    ensures empty { request_of 6 (0 ∷ 0 ∷ 0 ∷ 7 ∷ 255 ∷ []) ≡ Ok (WriteImagePgm (record { name = 7; slot = None }) []) }
+    ensures cut { request_of 6 (0 ∷ 0 ∷ 0 ∷ 7 ∷ []) ≡ Err InvalidParameters }
+{}
+
+/// Image 7 that is read as a text, and references that are cut short or have more behind them.
+pub fn texts_read()
+    ensures read { request_of 8 (0 ∷ 0 ∷ 0 ∷ 7 ∷ 255 ∷ []) ≡ Ok (ReadImagePgm (record { name = 7; slot = None })) }
+    ensures of_a_slot { request_of 8 (0 ∷ 0 ∷ 1 ∷ 2 ∷ 3 ∷ []) ≡ Ok (ReadImagePgm (record { name = 258; slot = Some 3 })) }
+    ensures cut { request_of 8 (0 ∷ 0 ∷ 0 ∷ 7 ∷ []) ≡ Err InvalidParameters }
+    ensures more { request_of 8 (0 ∷ 0 ∷ 0 ∷ 7 ∷ 255 ∷ 0 ∷ []) ≡ Err InvalidParameters }
 {}
 
 /// Image 1 that is asked about, and references that are cut short or have more behind them.
@@ -104,6 +123,63 @@ pub fn thresholds()
     ensures more { request_of 12 (0 ∷ 1 ∷ 0 ∷ 10 ∷ 255 ∷ 0 ∷ 0 ∷ []) ≡ Err InvalidParameters }
 {}
 
+/// A convolution of 3 columns and 5 rows whose sums are divided by 2^31, and numbers that no
+/// convolution has. The first of them that is wrong decides, also where the coefficients are cut.
+pub fn convolutions()
+    ensures made { request_of 13 (3 ∷ 5 ∷ 31 ∷ 0 ∷ 1 ∷ 255 ∷ 254 ∷ 0 ∷ 3 ∷ 0 ∷ 4 ∷ 0 ∷ 5 ∷ 0 ∷ 6 ∷ 0 ∷ 7 ∷ 0 ∷ 8 ∷ 0 ∷ 9 ∷ 0 ∷ 10 ∷ 0 ∷ 11 ∷ 0 ∷ 12 ∷ 0 ∷ 13 ∷ 127 ∷ 255 ∷ 128 ∷ 0 ∷ [])
+        ≡ Ok (CreateConvolution (record { columns = 3; rows = 5; exponent = 31; coefficients = pos 1 ∷ negsuc 1 ∷ pos 3 ∷ pos 4 ∷ pos 5 ∷ pos 6 ∷ pos 7 ∷ pos 8 ∷ pos 9 ∷ pos 10 ∷ pos 11 ∷ pos 12 ∷ pos 13 ∷ pos 32767 ∷ negsuc 32767 ∷ [] })) }
+    ensures even_columns { request_of 13 (4 ∷ 5 ∷ 0 ∷ []) ≡ Err InvalidDimension }
+    ensures one_column { request_of 13 (1 ∷ []) ≡ Err InvalidDimension }
+    ensures too_many_rows { request_of 13 (3 ∷ 11 ∷ 32 ∷ []) ≡ Err InvalidDimension }
+    ensures too_high { request_of 13 (9 ∷ 9 ∷ 32 ∷ []) ≡ Err InvalidValue }
+    ensures cut { request_of 13 (3 ∷ 3 ∷ 0 ∷ 0 ∷ 1 ∷ 255 ∷ 254 ∷ 0 ∷ 3 ∷ 0 ∷ 4 ∷ 0 ∷ 5 ∷ 0 ∷ 6 ∷ 0 ∷ 7 ∷ 0 ∷ 8 ∷ 0 ∷ []) ≡ Err InvalidParameters }
+    ensures more { request_of 13 (3 ∷ 3 ∷ 0 ∷ 0 ∷ 1 ∷ 255 ∷ 254 ∷ 0 ∷ 3 ∷ 0 ∷ 4 ∷ 0 ∷ 5 ∷ 0 ∷ 6 ∷ 0 ∷ 7 ∷ 0 ∷ 8 ∷ 0 ∷ 9 ∷ 0 ∷ []) ≡ Err InvalidParameters }
+    ensures no_coefficients { request_of 13 (7 ∷ 7 ∷ 0 ∷ []) ≡ Err InvalidParameters }
+    ensures no_exponent { request_of 13 (5 ∷ 9 ∷ []) ≡ Err InvalidParameters }
+    ensures empty { request_of 13 [] ≡ Err InvalidParameters }
+{}
+
+/// Distributions of 3 bins from 0 to 255, and of 256 that end above 255; and numbers that no bins
+/// have. The first of them that is wrong decides, also where the next is cut.
+pub fn distributions_made()
+    ensures made { request_of 14 (0 ∷ 3 ∷ 0 ∷ 0 ∷ 1 ∷ 0 ∷ []) ≡ Ok (CreateDistribution (record { bins = 3; offset = 0; range = 256 })) }
+    ensures past_the_end { request_of 14 (1 ∷ 0 ∷ 0 ∷ 255 ∷ 1 ∷ 0 ∷ []) ≡ Ok (CreateDistribution (record { bins = 256; offset = 255; range = 256 })) }
+    ensures more_than_samples { request_of 14 (0 ∷ 2 ∷ 0 ∷ 7 ∷ 0 ∷ 1 ∷ []) ≡ Ok (CreateDistribution (record { bins = 2; offset = 7; range = 1 })) }
+    ensures no_bins { request_of 14 (0 ∷ 0 ∷ 0 ∷ 0 ∷ 1 ∷ 0 ∷ []) ≡ Err InvalidValue }
+    ensures too_many { request_of 14 (1 ∷ 1 ∷ 0 ∷ 0 ∷ 1 ∷ 0 ∷ []) ≡ Err InvalidValue }
+    ensures too_late { request_of 14 (0 ∷ 3 ∷ 1 ∷ 0 ∷ 1 ∷ 0 ∷ []) ≡ Err InvalidValue }
+    ensures no_range { request_of 14 (0 ∷ 3 ∷ 0 ∷ 0 ∷ 0 ∷ 0 ∷ []) ≡ Err InvalidValue }
+    ensures too_long { request_of 14 (0 ∷ 3 ∷ 0 ∷ 0 ∷ 1 ∷ 1 ∷ []) ≡ Err InvalidValue }
+    ensures no_bins_and_cut { request_of 14 (0 ∷ 0 ∷ 0 ∷ []) ≡ Err InvalidValue }
+    ensures too_long_and_more { request_of 14 (0 ∷ 3 ∷ 0 ∷ 0 ∷ 1 ∷ 1 ∷ 0 ∷ []) ≡ Err InvalidValue }
+    ensures cut { request_of 14 (0 ∷ 3 ∷ 0 ∷ 0 ∷ 1 ∷ []) ≡ Err InvalidParameters }
+    ensures more { request_of 14 (0 ∷ 3 ∷ 0 ∷ 0 ∷ 1 ∷ 0 ∷ 0 ∷ []) ≡ Err InvalidParameters }
+{}
+
+/// Distribution 258 that is read, and a name that is cut short or has a slot.
+pub fn distributions_read()
+    ensures read { request_of 15 (0 ∷ 0 ∷ 1 ∷ 2 ∷ []) ≡ Ok (ReadDistribution 258) }
+    ensures cut { request_of 15 (0 ∷ 0 ∷ 1 ∷ []) ≡ Err InvalidParameters }
+    ensures with_a_slot { request_of 15 (0 ∷ 0 ∷ 1 ∷ 2 ∷ 255 ∷ []) ≡ Err InvalidParameters }
+{}
+
+/// Extremes that are made by an empty body, and extremes 258 that are read.
+pub fn extremes_made_and_read()
+    ensures made { request_of 16 [] ≡ Ok CreateMinMax }
+    ensures made_with_more { request_of 16 (0 ∷ []) ≡ Err InvalidParameters }
+    ensures read { request_of 17 (0 ∷ 0 ∷ 1 ∷ 2 ∷ []) ≡ Ok (ReadMinMax 258) }
+    ensures cut { request_of 17 (0 ∷ 0 ∷ 1 ∷ []) ≡ Err InvalidParameters }
+    ensures with_a_slot { request_of 17 (0 ∷ 0 ∷ 1 ∷ 2 ∷ 255 ∷ []) ≡ Err InvalidParameters }
+{}
+
+/// What is told of a distribution of 3 bins, and of extremes -2 and 258, of which there are 1 and
+/// 65,536, the first in column 3 and row 4, and in column 5 and row 515.
+pub fn statistics_told()
+    ensures counts { counts_bytes (1 ∷ 0 ∷ 16777216 ∷ []) ≡ 0 ∷ 3 ∷ 0 ∷ 0 ∷ 0 ∷ 1 ∷ 0 ∷ 0 ∷ 0 ∷ 0 ∷ 1 ∷ 0 ∷ 0 ∷ 0 ∷ [] }
+    ensures extremes { extremes_bytes (record { min = negsuc 1; max = pos 258; min_count = 1; max_count = 65536; min_at = (3, 4); max_at = (5, 515) })
+        ≡ 255 ∷ 254 ∷ 1 ∷ 2 ∷ 0 ∷ 0 ∷ 0 ∷ 1 ∷ 0 ∷ 1 ∷ 0 ∷ 0 ∷ 0 ∷ 3 ∷ 0 ∷ 4 ∷ 0 ∷ 5 ∷ 2 ∷ 3 ∷ [] }
+{}
+
 /// Not of image 1 to image 2, and nodes of Not with what it lacks or without what it has.
 pub fn nodes()
     ensures whole { request_of 24 (4 ∷ 0 ∷ 0 ∷ 0 ∷ 0 ∷ 0 ∷ 0 ∷ 0 ∷ 1 ∷ 255 ∷ 0 ∷ 0 ∷ 0 ∷ 0 ∷ 255 ∷ 0 ∷ 0 ∷ 0 ∷ 2 ∷ 255 ∷ 0 ∷ 0 ∷ 0 ∷ 0 ∷ 255 ∷ [])
@@ -145,13 +221,18 @@ pub fn delays_aged()
     ensures with_a_slot { request_of 26 (0 ∷ 0 ∷ 0 ∷ 2 ∷ 255 ∷ []) ≡ Err InvalidParameters }
 {}
 
-/// The spellings of a picture, of a rectangle, of a threshold and of a delay.
+/// The spellings of a picture, of a text, of a rectangle, of a threshold, of a convolution, of bins
+/// and of a delay.
 pub fn spelled()
     ensures picture { body_of (WriteImage (record { name = 7; slot = None }) (record { description = record { width = 2; height = 1; format = S16 }; samples = negsuc 1 ∷ pos 1 ∷ [] }))
         ≡ 0 ∷ 0 ∷ 0 ∷ 7 ∷ 255 ∷ 2 ∷ 0 ∷ 2 ∷ 0 ∷ 1 ∷ 255 ∷ 254 ∷ 0 ∷ 1 ∷ [] }
+    ensures text { body_of (WriteImagePgm (record { name = 7; slot = None }) (80 ∷ 53 ∷ 10 ∷ [])) ≡ 0 ∷ 0 ∷ 0 ∷ 7 ∷ 255 ∷ 80 ∷ 53 ∷ 10 ∷ [] }
     ensures rectangle { body_of (SetValid (record { name = 1; slot = None }) (record { x0 = 1; y0 = 0; x1 = 3; y1 = 1 }))
         ≡ 0 ∷ 0 ∷ 0 ∷ 1 ∷ 255 ∷ 0 ∷ 1 ∷ 0 ∷ 0 ∷ 0 ∷ 3 ∷ 0 ∷ 1 ∷ [] }
     ensures threshold { body_of (CreateThreshold (record { format = S16; kind = Range (negsuc 0) (pos 2); true_value = 255; false_value = 0 }))
         ≡ 1 ∷ 2 ∷ 255 ∷ 255 ∷ 0 ∷ 2 ∷ 255 ∷ 0 ∷ [] }
+    ensures convolution { body_of (CreateConvolution (record { columns = 3; rows = 5; exponent = 31; coefficients = pos 1 ∷ negsuc 1 ∷ pos 3 ∷ pos 4 ∷ pos 5 ∷ pos 6 ∷ pos 7 ∷ pos 8 ∷ pos 9 ∷ pos 10 ∷ pos 11 ∷ pos 12 ∷ pos 13 ∷ pos 32767 ∷ negsuc 32767 ∷ [] }))
+        ≡ 3 ∷ 5 ∷ 31 ∷ 0 ∷ 1 ∷ 255 ∷ 254 ∷ 0 ∷ 3 ∷ 0 ∷ 4 ∷ 0 ∷ 5 ∷ 0 ∷ 6 ∷ 0 ∷ 7 ∷ 0 ∷ 8 ∷ 0 ∷ 9 ∷ 0 ∷ 10 ∷ 0 ∷ 11 ∷ 0 ∷ 12 ∷ 0 ∷ 13 ∷ 127 ∷ 255 ∷ 128 ∷ 0 ∷ [] }
+    ensures bins { body_of (CreateDistribution (record { bins = 3; offset = 0; range = 256 })) ≡ 0 ∷ 3 ∷ 0 ∷ 0 ∷ 1 ∷ 0 ∷ [] }
     ensures delay { body_of (CreateDelay (record { name = 1; slot = None }) 3) ≡ 0 ∷ 0 ∷ 0 ∷ 1 ∷ 255 ∷ 3 ∷ [] }
 {}

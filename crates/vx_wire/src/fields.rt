@@ -3,8 +3,11 @@ ghost use Rattle.std.specs.Prelude.{◌≡◌, length, Ok, Err, IfOk, IfErr, OnO
 ghost use Rattle.client_contexts.specs.declared.request.Request.{Request as RequestValue};
 ghost use Rattle.vx_wire.specs.Fields.{Takes, take_byte, take_short, take_long, take_bytes, at_end};
 
+pub mod bins;
+pub mod convolution;
 pub mod described;
 pub mod description;
+pub mod extremes;
 pub mod format;
 pub mod node;
 pub mod operand;
@@ -86,6 +89,13 @@ impl<'a> Fields<'a> {
             }
             None => Err(BodyFault::InvalidParameters),
         }
+    }
+
+    /// All bytes that are left, also none, which are one field.
+    pub fn rest(&self) -> &'a [u8]
+        ensures { result.now ≡ self.now }
+    {
+        self.rest
     }
 
     /// The end: nothing follows the last field.

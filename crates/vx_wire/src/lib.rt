@@ -9,9 +9,11 @@
 //! - `body_fault`, `parse_fault`: why a body spells no request, and why none was read
 //! - `fields`: taking fields from the front of a body, and in its modules what each subject takes
 //!   and gives: `format`, `description`, `reference`, `rectangle`, `samples`, `threshold`,
-//!   `operand`, `node`, `slots` (of a delay), `described` (what is told of an image)
+//!   `convolution`, `bins` (of a distribution), `operand`, `node`, `slots` (of a delay),
+//!   `described` (what is told of an image), `extremes`
 //! - `requests`: the bodies of requests, by families: `contexts`, `images`, `objects` (of any
-//!   kind), `tables` (and thresholds), `immediate`, `delays`
+//!   kind), `tables` (and thresholds and convolutions), `statistics` (distributions and extremes),
+//!   `immediate`, `delays`
 //! - `parsing`: the body of any request
 //! - `laws`, `examples`: what the definitions mean
 #![tactic(auto)]
@@ -26,8 +28,10 @@ mod parsing;
 mod requests;
 
 pub use body_fault::BodyFault;
+pub use fields::bins::bins_bytes;
 pub use fields::described::described_bytes;
 pub use fields::description::description_bytes;
+pub use fields::extremes::extremes_bytes;
 pub use fields::format::format_number;
 pub use fields::node::node_bytes;
 pub use fields::rectangle::rectangle_bytes;

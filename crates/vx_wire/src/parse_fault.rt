@@ -9,7 +9,7 @@ use vx_base::Code;
 /// Why no request was read from a body: it spells none, or there was no memory.
 #[derive(Clone, Copy, Debug, PartialEq, Eq, Error)]
 pub enum ParseFault {
-    /// There was no memory for the samples of a picture or the entries of a table.
+    /// There was no memory for the samples of a picture, the entries of a table or a text.
     #[error("no memory")]
     NoMemory,
     /// A field is cut short or has a value that isn't allowed, the op is none, or something
@@ -19,12 +19,14 @@ pub enum ParseFault {
     /// A number stands for no format, or for one that a table or a threshold doesn't take.
     #[error("invalid format")]
     InvalidFormat,
-    /// A width or a height isn't 1 to 4096.
+    /// A width or a height isn't 1 to 4096, or the columns or the rows of a convolution aren't 3, 5,
+    /// 7 or 9.
     #[error("invalid dimension")]
     InvalidDimension,
     /// An amount is beyond what the function takes, the limit of a threshold isn't a sample of its
-    /// format or is below the lower limit, the bounds of a rectangle aren't those of one, or the
-    /// slots of a delay aren't 1 to 16.
+    /// format or is below the lower limit, the bounds of a rectangle aren't those of one, the slots
+    /// of a delay aren't 1 to 16, the exponent of a convolution is above 31, or the number, the
+    /// offset or the range of bins isn't one that bins have.
     #[error("invalid value")]
     InvalidValue,
 }

@@ -7,10 +7,15 @@ use crate::op::Op;
 use crate::parse_fault::ParseFault;
 use crate::requests::contexts::{open_context, release_context};
 use crate::requests::delays::{age_delay, create_delay};
-use crate::requests::images::{create_image, query_image, read_image, set_valid, write_image};
+use crate::requests::images::{
+    create_image, query_image, read_image, read_image_pgm, set_valid, write_image, write_image_pgm,
+};
 use crate::requests::immediate::immediate;
 use crate::requests::objects::release;
-use crate::requests::tables::{create_lut, create_threshold};
+use crate::requests::statistics::{
+    create_distribution, create_min_max, read_distribution, read_min_max,
+};
+use crate::requests::tables::{create_convolution, create_lut, create_threshold};
 use client_contexts::Request;
 use std::alloc::Global;
 
@@ -18,8 +23,8 @@ use std::alloc::Global;
 ///
 /// The fault is that of the first field that is cut short or isn't allowed, and
 /// `InvalidParameters` where something follows the last field or no op has the number. Memory is
-/// taken for the samples of a picture or the entries of a table alone, and only once nothing else
-/// is wrong.
+/// taken for the samples of a picture, the entries of a table or a text alone, and only once nothing
+/// else is wrong.
 pub fn parse(alloc: Global, op: u8, body: &[u8]) -> Result<Request, ParseFault>
     ensures ok { IfOk result (λ request. request_of op body.now ≡ Ok request) }
     ensures err { IfErr result (FailsFor (request_of op body.now)) }
@@ -31,11 +36,18 @@ pub fn parse(alloc: Global, op: u8, body: &[u8]) -> Result<Request, ParseFault>
         Some(Op::CreateImage) => Ok(create_image(body)?),
         Some(Op::QueryImage) => Ok(query_image(body)?),
         Some(Op::WriteImage) => write_image(alloc, body),
+        Some(Op::WriteImagePgm) => write_image_pgm(alloc, body),
         Some(Op::ReadImage) => Ok(read_image(body)?),
+        Some(Op::ReadImagePgm) => Ok(read_image_pgm(body)?),
         Some(Op::SetValid) => Ok(set_valid(body)?),
         Some(Op::Release) => Ok(release(body)?),
         Some(Op::CreateLut) => create_lut(alloc, body),
         Some(Op::CreateThreshold) => Ok(create_threshold(body)?),
+        Some(Op::CreateConvolution) => Ok(create_convolution(body)?),
+        Some(Op::CreateDistribution) => Ok(create_distribution(body)?),
+        Some(Op::ReadDistribution) => Ok(read_distribution(body)?),
+        Some(Op::CreateMinMax) => Ok(create_min_max(body)?),
+        Some(Op::ReadMinMax) => Ok(read_min_max(body)?),
         Some(Op::Immediate) => Ok(immediate(body)?),
         Some(Op::CreateDelay) => Ok(create_delay(body)?),
         Some(Op::AgeDelay) => Ok(age_delay(body)?),

@@ -5,4 +5,5 @@ pub mod delays;
 pub mod images;
 pub mod immediate;
 pub mod objects;
+pub mod statistics;
 pub mod tables;

@@ -119,7 +119,7 @@ pub fn decode(
 }
 
 /// Decodes as many samples as there is room for.
-fn decode_wide<S: WideSample>(bytes: &[u8], samples: &mut [S])
+pub fn decode_wide<S: WideSample>(bytes: &[u8], samples: &mut [S])
     requires { length bytes.now ≡ length samples.old * sample_bytes S.format }
     ensures { map S.value samples.new ≡ decoded S.format (length samples.old) bytes.now }
 {

@@ -1,7 +1,7 @@
 //! The bodies of requests about images.
 ghost use Rattle.std.specs.Prelude.{◌≡◌, Ok, IfOk, IfErr};
 ghost use Rattle.vx_wire.specs.Faults.{FailsFor};
-ghost use Rattle.vx_wire.specs.Images.{create_image_in, query_image_in, write_image_in, read_image_in, set_valid_in};
+ghost use Rattle.vx_wire.specs.Images.{create_image_in, query_image_in, write_image_in, write_image_pgm_in, read_image_in, read_image_pgm_in, set_valid_in};
 
 use crate::body_fault::BodyFault;
 use crate::fields::Fields;
@@ -10,7 +10,7 @@ use crate::fields::rectangle::take_rectangle;
 use crate::fields::reference::take_reference;
 use crate::fields::samples::{decode, take_samples};
 use crate::parse_fault::ParseFault;
-use client_contexts::Request;
+use client_contexts::{Request, Text};
 use std::alloc::Global;
 use vx_base::Picture;
 
@@ -49,6 +49,17 @@ pub fn write_image(alloc: Global, body: &[u8]) -> Result<Request, ParseFault>
     Ok(Request::WriteImage(image, Picture::new(desc, samples)))
 }
 
+/// A reference and a text: all bytes that are left, which nothing reads here.
+pub fn write_image_pgm(alloc: Global, body: &[u8]) -> Result<Request, ParseFault>
+    ensures ok { IfOk result (λ request. write_image_pgm_in body.now ≡ Ok request) }
+    ensures err { IfErr result (FailsFor (write_image_pgm_in body.now)) }
+{
+    let mut fields = Fields::new(body);
+    let image = take_reference(&mut fields)?;
+    let text = fields.rest().to_vec(alloc)?;
+    Ok(Request::WriteImagePgm(image, Text::new(text)))
+}
+
 /// A reference.
 pub fn read_image(body: &[u8]) -> Result<Request, BodyFault>
     ensures { result ≡ read_image_in body.now }
@@ -57,6 +68,16 @@ pub fn read_image(body: &[u8]) -> Result<Request, BodyFault>
     let image = take_reference(&mut fields)?;
     fields.end()?;
     Ok(Request::ReadImage(image))
+}
+
+/// A reference.
+pub fn read_image_pgm(body: &[u8]) -> Result<Request, BodyFault>
+    ensures { result ≡ read_image_pgm_in body.now }
+{
+    let mut fields = Fields::new(body);
+    let image = take_reference(&mut fields)?;
+    fields.end()?;
+    Ok(Request::ReadImagePgm(image))
 }
 
 /// A reference and a rectangle.

@@ -1,10 +1,11 @@
-//! The bodies of requests about lookup tables and thresholds.
+//! The bodies of requests about lookup tables, thresholds and convolutions.
 ghost use Rattle.std.specs.Prelude.{◌≡◌, Ok, IfOk, IfErr};
 ghost use Rattle.vx_wire.specs.Faults.{FailsFor};
-ghost use Rattle.vx_wire.specs.Tables.{create_lut_in, create_threshold_in};
+ghost use Rattle.vx_wire.specs.Tables.{create_lut_in, create_threshold_in, create_convolution_in};
 
 use crate::body_fault::BodyFault;
 use crate::fields::Fields;
+use crate::fields::convolution::take_convolution;
 use crate::fields::format::take_input_format;
 use crate::fields::samples::{decode, take_samples};
 use crate::fields::threshold::take_threshold;
@@ -35,4 +36,14 @@ pub fn create_threshold(body: &[u8]) -> Result<Request, BodyFault>
     let threshold = take_threshold(&mut fields)?;
     fields.end()?;
     Ok(Request::CreateThreshold(threshold))
+}
+
+/// A convolution.
+pub fn create_convolution(body: &[u8]) -> Result<Request, BodyFault>
+    ensures { result ≡ create_convolution_in body.now }
+{
+    let mut fields = Fields::new(body);
+    let convolution = take_convolution(&mut fields)?;
+    fields.end()?;
+    Ok(Request::CreateConvolution(convolution))
 }

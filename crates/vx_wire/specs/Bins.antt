@@ -1,0 +1,24 @@
+-- The bins of a distribution: how many there are, the offset and the range.
+use Rattle.std.specs.Prelude.{ℕ, ◌&&◌, Bool, if◌then◌else◌, nat_le, nat_lt, List, ◌++◌, Some, None, Ok}
+use Rattle.std.specs.Int.{w16, to_be_bytes}
+use Rattle.vx_base.specs.Statistics.{BinsValue}
+use Rattle.vx_wire.specs.declared.body_fault.BodyFault.TheVariants.{InvalidValue}
+use Rattle.vx_wire.specs.Fields.{Taken, and_then, allowed, take_short}
+
+-- how many bins there may be, and how long they may be together
+abbrev pub is_bin_size : ℕ → Bool
+is_bin_size n = nat_le 1 n && nat_le n 256
+
+abbrev pub take_bin_size : List ℕ → Taken ℕ
+take_bin_size body = and_then (take_short body) (λ n rest. allowed InvalidValue (if is_bin_size n then Some n else None) rest)
+
+abbrev pub take_offset : List ℕ → Taken ℕ
+take_offset body = and_then (take_short body) (λ n rest. allowed InvalidValue (if nat_lt n 256 then Some n else None) rest)
+
+abbrev pub take_bins : List ℕ → Taken BinsValue
+take_bins body =
+    and_then (take_bin_size body) (λ bins rest. and_then (take_offset rest) (λ offset rest. and_then (take_bin_size rest) (λ range rest.
+    Ok (record { bins = bins; offset = offset; range = range }, rest))))
+
+abbrev pub bins_bytes : BinsValue → List ℕ
+bins_bytes b = to_be_bytes w16 b.bins ++ (to_be_bytes w16 b.offset ++ to_be_bytes w16 b.range)

@@ -1,0 +1,57 @@
+//! The bins of a distribution: how many there are, the offset and the range.
+ghost use Rattle.std.specs.Prelude.{◌≡◌, ◌<◌, IfOk, IsTrue};
+ghost use Rattle.vx_wire.specs.Fields.{Takes};
+ghost use Rattle.vx_wire.specs.Bins.{is_bin_size, take_bin_size, take_offset, take_bins, bins_bytes};
+
+use crate::body_fault::BodyFault;
+use crate::fields::Fields;
+use vx_base::Bins;
+
+/// How many bins there are, or the range over which they lie: 1 to 256.
+fn take_bin_size(fields: &mut Fields) -> Result<u16, BodyFault>
+    ensures taken { Takes take_bin_size fields.old fields.new result }
+    ensures allowed { IfOk result (λ n. IsTrue (is_bin_size n)) }
+{
+    let size = fields.short()?;
+    if (1..=256).contains(&size) {
+        Ok(size)
+    } else {
+        Err(BodyFault::InvalidValue)
+    }
+}
+
+/// The least sample that falls into a bin: 0 to 255.
+fn take_offset(fields: &mut Fields) -> Result<u16, BodyFault>
+    ensures taken { Takes take_offset fields.old fields.new result }
+    ensures limit { IfOk result (λ n. n < 256) }
+{
+    let offset = fields.short()?;
+    if offset < 256 {
+        Ok(offset)
+    } else {
+        Err(BodyFault::InvalidValue)
+    }
+}
+
+/// Bins. They may end above 255.
+pub fn take_bins(fields: &mut Fields) -> Result<Bins, BodyFault>
+    ensures { Takes take_bins fields.old fields.new result }
+{
+    let bins = take_bin_size(fields)?;
+    let offset = take_offset(fields)?;
+    let range = take_bin_size(fields)?;
+    match Bins::new(bins, offset, range) {
+        Some(bins) => Ok(bins),
+        None => unreachable!(),
+    }
+}
+
+/// The bytes of bins.
+pub fn bins_bytes(bins: Bins) -> [u8; 6]
+    ensures { result ≡ bins_bytes bins }
+{
+    let [a, b] = bins.bins().to_be_bytes();
+    let [c, d] = bins.offset().to_be_bytes();
+    let [e, f] = bins.range().to_be_bytes();
+    [a, b, c, d, e, f]
+}

@@ -1,0 +1,55 @@
+//! Convolutions: the columns, the rows, the exponent, and the coefficients by rows from the top.
+ghost use Rattle.std.specs.Prelude.{◌≤◌, IfOk, IsTrue};
+ghost use Rattle.vx_base.specs.Convolution.{is_odd_side};
+ghost use Rattle.vx_wire.specs.Fields.{Takes};
+ghost use Rattle.vx_wire.specs.Convolution.{take_odd_side, take_exponent, take_convolution};
+
+use crate::body_fault::BodyFault;
+use crate::fields::Fields;
+use crate::fields::samples::{decode_wide, take_samples};
+use vx_base::{Convolution, Format, GREATEST_COEFFICIENTS};
+
+/// How many columns or rows there are: 3, 5, 7 or 9.
+fn take_odd_side(fields: &mut Fields) -> Result<u8, BodyFault>
+    ensures taken { Takes take_odd_side fields.old fields.new result }
+    ensures allowed { IfOk result (λ n. IsTrue (is_odd_side n)) }
+    ensures limit { IfOk result (λ n. n ≤ 9) }
+{
+    let side = fields.byte()?;
+    if side == 3 || side == 5 || side == 7 || side == 9 {
+        Ok(side)
+    } else {
+        Err(BodyFault::InvalidDimension)
+    }
+}
+
+/// The exponent of the power of two by which sums are divided: 0 to 31.
+fn take_exponent(fields: &mut Fields) -> Result<u8, BodyFault>
+    ensures taken { Takes take_exponent fields.old fields.new result }
+    ensures limit { IfOk result (λ n. n ≤ 31) }
+{
+    let exponent = fields.byte()?;
+    if exponent <= 31 {
+        Ok(exponent)
+    } else {
+        Err(BodyFault::InvalidValue)
+    }
+}
+
+/// A convolution. No memory is taken: there are 81 coefficients at most.
+pub fn take_convolution(fields: &mut Fields) -> Result<Convolution, BodyFault>
+    ensures { Takes take_convolution fields.old fields.new result }
+{
+    let columns = take_odd_side(fields)?;
+    let rows = take_odd_side(fields)?;
+    let exponent = take_exponent(fields)?;
+    let count = usize::from(rows) * usize::from(columns);
+    let bytes = take_samples(fields, Format::S16, count)?;
+    let mut room = [0i16; GREATEST_COEFFICIENTS];
+    let coefficients = &mut room[..count];
+    decode_wide(bytes, coefficients);
+    match Convolution::new(columns, rows, exponent, coefficients) {
+        Some(convolution) => Ok(convolution),
+        None => unreachable!(),
+    }
+}

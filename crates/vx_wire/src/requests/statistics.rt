@@ -1,0 +1,46 @@
+//! The bodies of requests about distributions and extremes.
+ghost use Rattle.std.specs.Prelude.{◌≡◌};
+ghost use Rattle.vx_wire.specs.Statistics.{create_distribution_in, read_distribution_in, create_min_max_in, read_min_max_in};
+
+use crate::body_fault::BodyFault;
+use crate::fields::Fields;
+use crate::fields::bins::take_bins;
+use client_contexts::Request;
+
+/// Bins.
+pub fn create_distribution(body: &[u8]) -> Result<Request, BodyFault>
+    ensures { result ≡ create_distribution_in body.now }
+{
+    let mut fields = Fields::new(body);
+    let bins = take_bins(&mut fields)?;
+    fields.end()?;
+    Ok(Request::CreateDistribution(bins))
+}
+
+/// A name.
+pub fn read_distribution(body: &[u8]) -> Result<Request, BodyFault>
+    ensures { result ≡ read_distribution_in body.now }
+{
+    let mut fields = Fields::new(body);
+    let name = fields.long()?;
+    fields.end()?;
+    Ok(Request::ReadDistribution(name))
+}
+
+/// An empty body.
+pub fn create_min_max(body: &[u8]) -> Result<Request, BodyFault>
+    ensures { result ≡ create_min_max_in body.now }
+{
+    Fields::new(body).end()?;
+    Ok(Request::CreateMinMax)
+}
+
+/// A name.
+pub fn read_min_max(body: &[u8]) -> Result<Request, BodyFault>
+    ensures { result ≡ read_min_max_in body.now }
+{
+    let mut fields = Fields::new(body);
+    let name = fields.long()?;
+    fields.end()?;
+    Ok(Request::ReadMinMax(name))
+}
