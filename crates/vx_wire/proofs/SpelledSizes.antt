@@ -15,12 +15,14 @@ use Rattle.vx_base.specs.Lut.{LutValue, IsLut}
 use Rattle.vx_base.specs.declared.threshold.ThresholdKind.{ThresholdKind}
 use Rattle.vx_base.specs.declared.threshold.ThresholdKind.TheVariants.{Binary, Range}
 use Rattle.vx_base.specs.Threshold.{ThresholdValue}
+use Rattle.vx_base.specs.Convolution.{ConvolutionValue, is_odd_side, IsConvolution}
 use Rattle.vx_wire.specs.Samples.{encoded}
 use Rattle.vx_wire.specs.Threshold.{limit_bytes, threshold_bytes}
+use Rattle.vx_wire.specs.Convolution.{convolution_bytes}
 use Rattle.vx_wire.specs.Operand.{operand_bytes}
 use Rattle.vx_wire.specs.Node.{border_bytes, node_bytes}
 use Rattle.vx_wire.proofs.SampleBytes.{length-encoded}
-use Rattle.vx_wire.proofs.TableSizes.{bytes_most}
+use Rattle.vx_wire.proofs.TableSizes.{bytes_most, ConvolutionParts, convolution_parts}
 
 side_most : (n : ℕ) → IsTrue (is_side n) → n ≤ 4096
 side_most n is = grind (arith, nat_tests)
@@ -46,6 +48,15 @@ limits_most (Range lower upper) = omega arith
 
 pub threshold_most : (t : ThresholdValue) → length (threshold_bytes t) ≤ 8
 threshold_most t = omega (arith, limits_most t.kind, length-append (limit_bytes t.kind) (t.true_value ∷ t.false_value ∷ []))
+
+odd_side_most : (n : ℕ) → IsTrue (is_odd_side n) → n ≤ 9
+odd_side_most n is = grind (arith, nat_tests)
+
+pub convolution_most : (c : ConvolutionValue) → IsConvolution c → length (convolution_bytes c) ≤ 165
+convolution_most c is =
+    let parts : ConvolutionParts c.columns c.rows c.exponent (length c.coefficients) = convolution_parts c.columns c.rows c.exponent (length c.coefficients) is.shape in
+    let most : c.rows * c.columns ≤ 9 * 9 = mul-le-mul (odd_side_most c.rows parts.down) (odd_side_most c.columns parts.across) in
+    omega (arith, length-encoded S16 c.coefficients, parts.many)
 
 length-border_bytes : (border : Border) → length (border_bytes border) ≡ 2
 length-border_bytes Undefined = refl

@@ -23,8 +23,8 @@ use std::alloc::Global;
 ///
 /// The fault is that of the first field that is cut short or isn't allowed, and
 /// `InvalidParameters` where something follows the last field or no op has the number. Memory is
-/// taken for the samples of a picture, the entries of a table or a text alone, and only once nothing
-/// else is wrong.
+/// taken for the samples of a picture, the entries of a table or a text alone, and only once
+/// nothing else is wrong.
 pub fn parse(alloc: Global, op: u8, body: &[u8]) -> Result<Request, ParseFault>
     ensures ok { IfOk result (λ request. request_of op body.now ≡ Ok request) }
     ensures err { IfErr result (FailsFor (request_of op body.now)) }
