@@ -6,7 +6,7 @@ use Rattle.vx_base.specs.declared.code.Code.TheVariants.{NoMemory}
 use Rattle.vx_base.specs.Code.{code_number}
 use Rattle.client_contexts.specs.declared.request.Request.{Request}
 use Rattle.client_contexts.specs.declared.reply.Reply.{Reply}
-use Rattle.client_contexts.specs.declared.reply.Reply.TheVariants.{Refused, Empty, Name, Described, Picture}
+use Rattle.client_contexts.specs.declared.reply.Reply.TheVariants.{Refused, Empty, Name, Described, Picture, Text, Counts, Extremes}
 use Rattle.client_contexts.specs.Allowance.{Allowance}
 use Rattle.client_contexts.specs.Context.{State}
 use Rattle.client_contexts.specs.Answer.{answer_to}
@@ -29,6 +29,9 @@ said-other Empty other = refl
 said-other (Name n) other = refl
 said-other (Described d) other = refl
 said-other (Picture p) other = refl
+said-other (Text text) other = refl
+said-other (Counts counts) other = refl
+said-other (Extremes e) other = refl
 
 spelled-other : (limits : Allowance) (state : State) (spelled : Result Request BodyFault) → ((answer_spelled limits state spelled).0.code == 1) ≡ false
 spelled-other limits state (Ok request) = said-other (answer_to limits state request).0 (never_no_memory limits state request)

@@ -3,6 +3,7 @@ pub mod Pieces
 pub mod ReadCounts
 pub mod WrittenPieces
 pub mod PictureFrames
+pub mod TextFrames
 pub mod FrameReplies
 pub mod Turns
 pub mod Alone

@@ -1,5 +1,5 @@
--- The frames of requests that hold samples: a head, and then the samples.
-use Rattle.std.proofs.Common.{◌≡◌, ℕ, ◌+◌, ◌*◌, List, [], ◌∷◌, ◌++◌, length, arith, refl, ap, ◌∙◌}
+-- The frames of requests that hold samples, a text or coefficients: a head, and then these.
+use Rattle.std.proofs.Common.{◌≡◌, ℕ, ℤ, ◌+◌, ◌*◌, List, [], ◌∷◌, ◌++◌, length, arith, refl, ap, ◌∙◌}
 use Rattle.std.specs.List.{flat_map}
 use Rattle.std.specs.Int.{w16, w32, to_be_bytes}
 use Rattle.vx_base.specs.declared.format.Format.{Format}
@@ -9,7 +9,9 @@ use Rattle.vx_base.specs.Cell.{Cell}
 use Rattle.vx_base.specs.Description.{Description, sample_count, byte_count}
 use Rattle.vx_base.specs.Picture.{PictureValue, Describes, values, samples_format}
 use Rattle.vx_base.specs.Lut.{LutValue}
-use Rattle.client_contexts.specs.declared.request.Request.TheVariants.{WriteImage, CreateLut}
+use Rattle.vx_base.specs.declared.format.Format.TheVariants.{S16}
+use Rattle.vx_base.specs.Convolution.{ConvolutionValue}
+use Rattle.client_contexts.specs.declared.request.Request.TheVariants.{WriteImage, WriteImagePgm, CreateLut, CreateConvolution}
 use Rattle.vx_requests.specs.Frame.Frames.{frame_head, frame_bytes, request_frame}
 use Rattle.vx_wire.specs.Samples.{encoded_sample}
 use Rattle.vx_wire.specs.Format.{format_number}
@@ -50,3 +52,24 @@ create_lut_frame client lut entries format count head are same_format is_format 
     ∙ ap (λ n. to_be_bytes w32 n ++ (to_be_bytes w16 client ++ 11 ∷ body)) long
     ∙ ap (λ f. frame_bytes (record { client = client; op = 11; body = format_number f ∷ spelled entries })) same_format
     ∙ ap (λ l. frame_bytes (record { client = client; op = 11; body = format_number lut.format ∷ l })) same
+
+pub write_image_pgm_frame : (client : ℕ) (cell : Cell) (text bytes head : List ℕ) → bytes ≡ text → head ≡ frame_head (8 + length bytes) client 6 ++ reference_bytes cell
+    → head ++ bytes ≡ frame_bytes (request_frame client (WriteImagePgm cell text))
+write_image_pgm_frame client cell text bytes head are made =
+    let body : List ℕ = reference_bytes cell ++ bytes in
+    let long : 8 + length bytes ≡ length body + 3 = omega arith in
+    ap (λ l. l ++ bytes) made
+    ∙ ap (λ n. to_be_bytes w32 n ++ (to_be_bytes w16 client ++ 6 ∷ body)) long
+    ∙ ap (λ l. frame_bytes (record { client = client; op = 6; body = reference_bytes cell ++ l })) are
+
+pub create_convolution_frame : (client : ℕ) (c : ConvolutionValue) (coefficients : List ℤ) (head : List ℕ) → coefficients ≡ c.coefficients → length coefficients ≡ c.rows * c.columns
+    → head ≡ frame_head (6 + c.rows * c.columns * 2) client 13 ++ c.columns ∷ c.rows ∷ c.exponent ∷ []
+    → head ++ flat_map (encoded_sample S16) coefficients ≡ frame_bytes (request_frame client (CreateConvolution c))
+create_convolution_frame client c coefficients head are size made =
+    let spelling : List ℕ = flat_map (encoded_sample S16) coefficients in
+    let body : List ℕ = c.columns ∷ c.rows ∷ c.exponent ∷ spelling in
+    let bytes : length spelling ≡ c.rows * c.columns * 2 = length-encoded S16 coefficients ∙ ap (λ n. n * 2) size in
+    let long : 6 + c.rows * c.columns * 2 ≡ length body + 3 = omega (arith, bytes) in
+    ap (λ l. l ++ spelling) made
+    ∙ ap (λ n. to_be_bytes w32 n ++ (to_be_bytes w16 client ++ 13 ∷ body)) long
+    ∙ ap (λ l. frame_bytes (record { client = client; op = 13; body = c.columns ∷ c.rows ∷ c.exponent ∷ flat_map (encoded_sample S16) l })) are

@@ -1,22 +1,38 @@
--- A request fits a frame.
-use Rattle.std.proofs.Common.{ℕ, ◌<◌, ◌^◌, arith}
+-- A request fits a frame, but for a text that is too long.
+use Rattle.std.proofs.Common.{ℕ, ◌<◌, ◌≤◌, ◌^◌, length, IsTrue, arith, refl}
+use Rattle.std.proofs.lemmas.Bool.{leb-true, le-leb}
 use Rattle.client_contexts.specs.declared.request.Request.{Request}
-use Rattle.client_contexts.specs.declared.request.Request.TheVariants.{OpenContext, ReleaseContext, CreateImage, QueryImage, WriteImage, ReadImage, SetValid, Release, CreateLut, CreateThreshold, Immediate, CreateDelay, AgeDelay}
+use Rattle.client_contexts.specs.declared.request.Request.TheVariants.{OpenContext, ReleaseContext, CreateImage, QueryImage, WriteImage, WriteImagePgm, ReadImage, ReadImagePgm, SetValid, Release, CreateLut, CreateThreshold, CreateConvolution, CreateDistribution, ReadDistribution, CreateMinMax, ReadMinMax, Immediate, CreateDelay, AgeDelay}
 use Rattle.client_contexts.specs.Request.{IsRequest}
-use Rattle.vx_wire.proofs.SpelledSizes.{spelled_most, entries_most, threshold_most, length-node_bytes}
-use Rattle.vx_requests.specs.Frame.Frames.{IsFrame, request_frame}
+use Rattle.vx_wire.proofs.SpelledSizes.{spelled_most, entries_most, threshold_most, convolution_most, length-node_bytes}
+use Rattle.vx_requests.specs.Frame.Frames.{IsFrame, request_frame, fits_a_frame}
 
-pub fits_a_frame : (client : ℕ) (request : Request) → client < 2 ^ 16 → IsRequest request → IsFrame (request_frame client request)
-fits_a_frame client OpenContext below is = record { client = below; op = omega arith; len = omega arith }
-fits_a_frame client ReleaseContext below is = record { client = below; op = omega arith; len = omega arith }
-fits_a_frame client (CreateImage d) below is = record { client = below; op = omega arith; len = omega arith }
-fits_a_frame client (QueryImage cell) below is = record { client = below; op = omega arith; len = omega arith }
-fits_a_frame client (WriteImage cell picture) below is = record { client = below; op = omega arith; len = omega (arith, spelled_most picture is.1) }
-fits_a_frame client (ReadImage cell) below is = record { client = below; op = omega arith; len = omega arith }
-fits_a_frame client (SetValid cell rectangle) below is = record { client = below; op = omega arith; len = omega arith }
-fits_a_frame client (Release name) below is = record { client = below; op = omega arith; len = omega arith }
-fits_a_frame client (CreateLut lut) below is = record { client = below; op = omega arith; len = omega (arith, entries_most lut is) }
-fits_a_frame client (CreateThreshold threshold) below is = record { client = below; op = omega arith; len = omega (arith, threshold_most threshold) }
-fits_a_frame client (Immediate node) below is = record { client = below; op = omega arith; len = omega (arith, length-node_bytes node) }
-fits_a_frame client (CreateDelay cell slots) below is = record { client = below; op = omega arith; len = omega arith }
-fits_a_frame client (AgeDelay name) below is = record { client = below; op = omega arith; len = omega arith }
+pub fits : (client : ℕ) (request : Request) → client < 2 ^ 16 → IsRequest request → IsTrue (fits_a_frame request) → IsFrame (request_frame client request)
+fits client OpenContext below is fit = record { client = below; op = omega arith; len = omega arith }
+fits client ReleaseContext below is fit = record { client = below; op = omega arith; len = omega arith }
+fits client (CreateImage d) below is fit = record { client = below; op = omega arith; len = omega arith }
+fits client (QueryImage cell) below is fit = record { client = below; op = omega arith; len = omega arith }
+fits client (WriteImage cell picture) below is fit = record { client = below; op = omega arith; len = omega (arith, spelled_most picture is.1) }
+fits client (WriteImagePgm cell text) below is fit = record { client = below; op = omega arith; len = omega (arith, leb-true (length text) 134217720 fit) }
+fits client (ReadImage cell) below is fit = record { client = below; op = omega arith; len = omega arith }
+fits client (ReadImagePgm cell) below is fit = record { client = below; op = omega arith; len = omega arith }
+fits client (SetValid cell rectangle) below is fit = record { client = below; op = omega arith; len = omega arith }
+fits client (Release name) below is fit = record { client = below; op = omega arith; len = omega arith }
+fits client (CreateLut lut) below is fit = record { client = below; op = omega arith; len = omega (arith, entries_most lut is) }
+fits client (CreateThreshold threshold) below is fit = record { client = below; op = omega arith; len = omega (arith, threshold_most threshold) }
+fits client (CreateConvolution convolution) below is fit = record { client = below; op = omega arith; len = omega (arith, convolution_most convolution is) }
+fits client (CreateDistribution bins) below is fit = record { client = below; op = omega arith; len = omega arith }
+fits client (ReadDistribution name) below is fit = record { client = below; op = omega arith; len = omega arith }
+fits client CreateMinMax below is fit = record { client = below; op = omega arith; len = omega arith }
+fits client (ReadMinMax name) below is fit = record { client = below; op = omega arith; len = omega arith }
+fits client (Immediate node) below is fit = record { client = below; op = omega arith; len = omega (arith, length-node_bytes node) }
+fits client (CreateDelay cell slots) below is fit = record { client = below; op = omega arith; len = omega arith }
+fits client (AgeDelay name) below is fit = record { client = below; op = omega arith; len = omega arith }
+
+-- what has room in a frame fits one
+pub no_other : (client : ℕ) (request : Request) → IsFrame (request_frame client request) → IsTrue (fits_a_frame request)
+no_other client (WriteImagePgm cell text) is =
+    let room = is.len in
+    let most : length text ≤ 134217720 = omega arith in
+    le-leb (length text) 134217720 most
+no_other client request is = refl

@@ -1,8 +1,9 @@
 -- Request frames, reply frames, and how a stream splits into whole frames and a rest.
-use Rattle.std.specs.Prelude.{◌≡◌, ℕ, ◌+◌, ◌<◌, ◌≤◌, ◌^◌, List, [], ◌∷◌, ◌++◌, length, take, All, ◌⊎◌}
+use Rattle.std.specs.Prelude.{◌≡◌, ℕ, ◌+◌, ◌<◌, ◌≤◌, ◌^◌, nat_le, Bool, true, List, [], ◌∷◌, ◌++◌, length, take, All, ◌⊎◌}
 use Rattle.std.specs.List.{flat_map}
 use Rattle.std.specs.Int.{w16, w32, to_be_bytes, from_be_bytes}
 use Rattle.client_contexts.specs.declared.request.Request.{Request}
+use Rattle.client_contexts.specs.declared.request.Request.TheVariants.{WriteImagePgm}
 use Rattle.vx_wire.specs.Op.{op_number, op_of}
 use Rattle.vx_wire.specs.Requests.{body_of}
 
@@ -88,3 +89,8 @@ pub record Splits (stream : List ℕ) (frames : List Frame) (rest : List ℕ) : 
 -- the frame in which a client sends the request
 abbrev pub request_frame : ℕ → Request → Frame
 request_frame client request = record { client = client; op = op_number (op_of request); body = body_of request }
+
+-- whether the request fits a frame: all do but a text that is too long
+abbrev pub fits_a_frame : Request → Bool
+fits_a_frame (WriteImagePgm image text) = nat_le (length text) 134217720
+fits_a_frame request = true

@@ -1,7 +1,12 @@
-//! Requests are within the limits of their types.
+//! Requests are within the limits of their types, and most of them within those of a frame.
+ghost use Rattle.std.specs.Prelude.{◌≡◌, ◌<◌, ◌^◌, All};
 ghost use Rattle.client_contexts.specs.Request.{IsRequest};
+ghost use Rattle.vx_requests.specs.Frame.Frames.{fits_a_frame};
 
 use client_contexts::Request;
+
+/// The greatest number of bytes that a text has in a frame: 8 less than 2^27.
+const GREATEST_TEXT: usize = 134_217_720;
 
 /// The request is one that the laws of requests speak of. Nothing is done when this runs: the
 /// prover learns what a type keeps where a part is read.
@@ -9,18 +14,24 @@ pub fn is_request(request: &Request)
     ensures { IsRequest request.now }
 {
     match request {
-        Request::OpenContext | Request::ReleaseContext => {}
+        Request::OpenContext | Request::ReleaseContext | Request::CreateMinMax => {}
         Request::CreateImage(desc) => desc.has_sides(),
         Request::WriteImage(image, picture) => {
             image.is_cell();
             let _samples = picture.samples();
         }
-        Request::QueryImage(image) | Request::ReadImage(image) => image.is_cell(),
+        Request::WriteImagePgm(image, text) => {
+            image.is_cell();
+            are_bytes(text.bytes());
+        }
+        Request::QueryImage(image) | Request::ReadImage(image) | Request::ReadImagePgm(image) => {
+            image.is_cell()
+        }
         Request::SetValid(image, valid) => {
             image.is_cell();
             valid.is_rectangle();
         }
-        Request::Release(name) => {
+        Request::Release(name) | Request::ReadDistribution(name) | Request::ReadMinMax(name) => {
             let _name = *name;
         }
         Request::CreateLut(lut) => {
@@ -28,6 +39,10 @@ pub fn is_request(request: &Request)
         }
         Request::CreateThreshold(threshold) => {
             let _format = threshold.format();
+        }
+        Request::CreateConvolution(convolution) => convolution.is_convolution(),
+        Request::CreateDistribution(bins) => {
+            let _numbers = (bins.bins(), bins.offset(), bins.range());
         }
         Request::Immediate(node) => {
             let _fields = node.node();
@@ -39,5 +54,19 @@ pub fn is_request(request: &Request)
         Request::AgeDelay(name) => {
             let _name = *name;
         }
+    }
+}
+
+fn are_bytes(bytes: &[u8])
+    ensures { All (λ byte. byte < 2 ^ 8) bytes.now }
+{}
+
+/// Whether a request fits a frame: all do but a text that is too long.
+pub fn fits_a_frame(request: &Request) -> bool
+    ensures { result ≡ fits_a_frame request.now }
+{
+    match request {
+        Request::WriteImagePgm(_, text) => text.bytes().len() <= GREATEST_TEXT,
+        _ => true,
     }
 }

@@ -1,28 +1,30 @@
 //! Replies as bytes.
-ghost use Rattle.std.specs.Prelude.{◌≡◌, ◌+◌, ◌<◌, ◌^◌, ◌++◌, IfErr};
-ghost use Rattle.std.specs.Int.{w32, to_be_bytes};
+ghost use Rattle.std.specs.Prelude.{◌≡◌, ◌+◌, ◌*◌, ◌<◌, ◌^◌, ◌++◌, IfErr};
+ghost use Rattle.std.specs.Int.{w16, w32, to_be_bytes};
 ghost use Rattle.std.specs.Io.KnownBytes.{Keeps};
 ghost use Rattle.vx_base.specs.Description.{byte_count};
 ghost use Rattle.vx_requests.specs.Stream.Calls.{failed_calls};
 ghost use Rattle.vx_requests.specs.Stream.Transfer.{Sends};
 ghost use Rattle.vx_requests.specs.Frame.Frames.{reply_bytes, reply_head};
 ghost use Rattle.vx_requests.specs.Serving.Clients.{spelled};
+ghost use Rattle.vx_wire.specs.Counts.{counts_bytes};
 ghost use Rattle.vx_wire.specs.Described.{described_bytes};
 ghost use Rattle.vx_wire.specs.Description.{description_bytes};
+ghost use Rattle.vx_wire.specs.Extremes.{extremes_bytes};
 ghost use Rattle.vx_wire.specs.Samples.{picture_bytes};
 ghost use Rattle.vx_wire.specs.Replies.{said_of};
 
-use crate::frame::samples::write_samples;
+use crate::frame::samples::{write_samples, write_wide};
 use crate::stream::{Failed, Sink, StreamFault, write_all};
-use client_contexts::{Described, Reply};
-use vx_base::{Desc, Picture};
-use vx_wire::{described_bytes, description_bytes};
+use client_contexts::{Counts, Described, Reply, Text};
+use vx_base::{Desc, Extremes, Picture};
+use vx_wire::{described_bytes, description_bytes, extremes_bytes};
 
 /// Writes the frame of a reply and flushes the sink.
 ///
-/// `client` and `op` are those of the request. All but the samples of a picture is written at once.
-/// `WriteFailed`, the one fault, comes where a write or the flush failed, and a front of the frame
-/// was taken then, perhaps all of it.
+/// `client` and `op` are those of the request. All but the samples of a picture, a text and counts
+/// is written at once. `WriteFailed`, the one fault, comes where a write or the flush failed, and a
+/// front of the frame was taken then, perhaps all of it.
 pub fn write_reply<K: Sink>(
     sink: &mut K,
     client: u16,
@@ -41,6 +43,9 @@ pub fn write_reply<K: Sink>(
             write_small(sink, &head_and_described(client, op, *described))
         }
         Reply::Picture(picture) => write_picture(sink, client, op, picture),
+        Reply::Text(text) => write_text(sink, client, op, text),
+        Reply::Counts(counts) => write_counts(sink, client, op, counts),
+        Reply::Extremes(extremes) => write_small(sink, &head_and_extremes(client, op, *extremes)),
     }
 }
 
@@ -50,7 +55,7 @@ pub fn code_of(reply: &Reply) -> u8
 {
     match reply {
         Reply::Refused(code) => code.number(),
-        Reply::Empty | Reply::Name(_) | Reply::Described(_) | Reply::Picture(_) => 0,
+        _ => 0,
     }
 }
 
@@ -69,6 +74,36 @@ fn write_picture<K: Sink>(
     let samples = picture.samples();
     write_all(sink, &head_and_description(client, op, picture.desc()))?;
     write_samples(sink, samples)?;
+    flush(sink)
+}
+
+/// Writes a text's frame and flushes the sink.
+fn write_text<K: Sink>(sink: &mut K, client: u16, op: u8, text: &Text) -> Result<(), StreamFault>
+    requires { K.failures sink.old < 2 ^ 62 }
+    ensures { Sends K.taken K.failures sink.old sink.new
+        (reply_bytes (spelled client op (record { code = 0; body = text.now }))) result }
+{
+    let bytes = text.bytes();
+    write_all(sink, &head_before(bytes.len(), client, op))?;
+    write_all(sink, bytes)?;
+    flush(sink)
+}
+
+/// Writes the frame of counts and flushes the sink.
+fn write_counts<K: Sink>(
+    sink: &mut K,
+    client: u16,
+    op: u8,
+    counts: &Counts,
+) -> Result<(), StreamFault>
+    requires { K.failures sink.old < 2 ^ 62 }
+    ensures { Sends K.taken K.failures sink.old sink.new
+        (reply_bytes (spelled client op
+        (record { code = 0; body = counts_bytes counts.now }))) result }
+{
+    let counts = counts.counts();
+    write_all(sink, &head_and_number(client, op, counts.len()))?;
+    write_wide(sink, counts)?;
     flush(sink)
 }
 
@@ -129,4 +164,35 @@ fn head_and_description(client: u16, op: u8, desc: Desc) -> [u8; 13]
     let [a, b, c, d, e, f, g, h] = head(length, client, op, 0);
     let [i, j, k, l, m] = description_bytes(desc);
     [a, b, c, d, e, f, g, h, i, j, k, l, m]
+}
+
+/// What stands before a body of so many bytes, where nothing is refused. Of a length that has no
+/// room in four bytes the last four are written; no text or counts of an object are that long.
+fn head_before(count: usize, client: u16, op: u8) -> [u8; 8]
+    requires { count + 4 < 2 ^ 64 }
+    ensures { result ≡ reply_head (count + 4) client op 0 }
+{
+    let [_, _, _, _, a, b, c, d] = (count + 4).to_be_bytes();
+    let [e, f] = client.to_be_bytes();
+    [a, b, c, d, e, f, op, 0]
+}
+
+/// The frame of a reply that is counts, up to the first of them.
+fn head_and_number(client: u16, op: u8, count: usize) -> [u8; 10]
+    requires { 4 * count + 6 < 2 ^ 64 }
+    ensures { result ≡ reply_head (4 * count + 6) client op 0 ++ to_be_bytes w16 count }
+{
+    let [a, b, c, d, e, f, g, h] = head_before(4 * count + 2, client, op);
+    let [_, _, _, _, _, _, i, j] = count.to_be_bytes();
+    [a, b, c, d, e, f, g, h, i, j]
+}
+
+/// The frame of a reply that tells extremes.
+fn head_and_extremes(client: u16, op: u8, extremes: Extremes) -> [u8; 28]
+    ensures { result ≡ reply_head 24 client op 0 ++ extremes_bytes extremes }
+{
+    let mut bytes = [0; 28];
+    bytes[..8].copy_from_slice(&head(24, client, op, 0));
+    bytes[8..].copy_from_slice(&extremes_bytes(extremes));
+    bytes
 }

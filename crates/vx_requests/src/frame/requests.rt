@@ -1,42 +1,64 @@
 //! Requests as frames.
-ghost use Rattle.std.specs.Prelude.{◌≡◌, ◌+◌, ◌*◌, ◌<◌, ◌≤◌, ◌^◌, [], ◌∷◌, ◌++◌, length, IsTrue};
-ghost use Rattle.client_contexts.specs.declared.request.Request.TheVariants.{WriteImage as WriteImageRequest, SetValid as SetValidRequest, CreateLut as CreateLutRequest, CreateThreshold as CreateThresholdRequest, CreateDelay as CreateDelayRequest};
+ghost use Rattle.std.specs.Prelude.{◌≡◌, ◌+◌, ◌*◌, ◌<◌, ◌≤◌, ◌^◌, false, [], ◌∷◌, ◌++◌, length, IsTrue};
+ghost use Rattle.std.specs.Int.{w32, to_be_bytes};
+ghost use Rattle.client_contexts.specs.declared.request.Request.TheVariants.{WriteImage as WriteImageRequest, WriteImagePgm as WriteImagePgmRequest, SetValid as SetValidRequest, CreateLut as CreateLutRequest, CreateThreshold as CreateThresholdRequest, CreateConvolution as CreateConvolutionRequest, CreateDelay as CreateDelayRequest};
 ghost use Rattle.vx_base.specs.Description.{byte_count};
 ghost use Rattle.vx_base.specs.Lut.{is_full};
-ghost use Rattle.vx_wire.specs.declared.op.Op.TheVariants.{WriteImage as WriteImageOp, CreateLut as CreateLutOp};
+ghost use Rattle.vx_wire.specs.declared.op.Op.TheVariants.{WriteImage as WriteImageOp, WriteImagePgm as WriteImagePgmOp, CreateLut as CreateLutOp, CreateConvolution as CreateConvolutionOp};
 ghost use Rattle.vx_wire.specs.Op.{op_number};
 ghost use Rattle.vx_base.specs.Sample.{sample_bytes};
 ghost use Rattle.vx_requests.specs.Stream.Transfer.{Writes};
-ghost use Rattle.vx_requests.specs.Frame.Frames.{frame_head, frame_bytes, request_frame};
+ghost use Rattle.vx_requests.specs.Frame.Frames.{frame_head, frame_bytes, request_frame, fits_a_frame};
 ghost use Rattle.client_contexts.specs.Request.{IsRequest};
 ghost use Rattle.vx_wire.specs.Reference.{reference_bytes};
 ghost use Rattle.vx_wire.specs.Description.{description_bytes};
 ghost use Rattle.vx_wire.specs.Format.{format_number};
 
-use crate::frame::limits::is_request;
-use crate::frame::samples::write_samples;
+use crate::frame::limits::{fits_a_frame, is_request};
+use crate::frame::samples::{write_samples, write_wide};
 use crate::stream::{Sink, StreamFault, write_all};
-use client_contexts::Request;
-use vx_base::{Desc, Format, Lut, ObjRef, Picture, Rect, SlotCount, ThresholdKind, ThresholdRule};
+use client_contexts::{Request, Text};
+use vx_base::{
+    Convolution, Desc, Format, Lut, ObjRef, Picture, Rect, SlotCount, ThresholdKind, ThresholdRule,
+};
 use vx_wire::{
-    Op, binary_bytes, description_bytes, format_number, node_bytes, range_bytes, rectangle_bytes,
-    reference_bytes,
+    Op, binary_bytes, bins_bytes, description_bytes, format_number, node_bytes, range_bytes,
+    rectangle_bytes, reference_bytes,
 };
 
 /// Writes the frame in which a client sends the request, and flushes nothing. `WriteFailed` comes
-/// where a write fails, and a front of the frame was taken then. No memory is taken. The request is
-/// one that the laws of requests speak of, so that what was written is read back as this request.
+/// where a write fails, and a front of the frame was taken then; `BadLength` where the request has
+/// a text of more than 134,217,720 bytes, and nothing is written then. No memory is taken. The
+/// request is one that the laws of requests speak of, so that what was written is read back as this
+/// request.
 pub fn write_request<K: Sink>(
     sink: &mut K,
     client: u16,
     request: &Request,
 ) -> Result<(), StreamFault>
     requires { K.failures sink.old < 2 ^ 62 }
-    ensures written { Writes K.taken K.failures sink.old sink.new
+    ensures written { IsTrue (fits_a_frame request.now) →
+        Writes K.taken K.failures sink.old sink.new
         (frame_bytes (request_frame client request.now)) result }
+    ensures too_long { fits_a_frame request.now ≡ false →
+        (result ≡ Err StreamFault.BadLength) × (sink.new ≡ sink.old) }
     ensures request { IsRequest request.now }
 {
     is_request(request);
+    if fits_a_frame(request) {
+        write_frame(sink, client, request)
+    } else {
+        Err(StreamFault::BadLength)
+    }
+}
+
+/// Writes the frame of a request that fits one.
+fn write_frame<K: Sink>(sink: &mut K, client: u16, request: &Request) -> Result<(), StreamFault>
+    requires failures_fit { K.failures sink.old < 2 ^ 62 }
+    requires fits { IsTrue (fits_a_frame request.now) }
+    ensures { Writes K.taken K.failures sink.old sink.new
+        (frame_bytes (request_frame client request.now)) result }
+{
     match request {
         Request::OpenContext => write_short(sink, client, Op::OpenContext.number(), &[]),
         Request::ReleaseContext => write_short(sink, client, Op::ReleaseContext.number(), &[]),
@@ -46,14 +68,23 @@ pub fn write_request<K: Sink>(
         }
         Request::QueryImage(image) => write_reference(sink, client, Op::QueryImage, *image),
         Request::WriteImage(image, picture) => write_write_image(sink, client, *image, picture),
+        Request::WriteImagePgm(image, text) => write_write_image_pgm(sink, client, *image, text),
         Request::ReadImage(image) => write_reference(sink, client, Op::ReadImage, *image),
+        Request::ReadImagePgm(image) => write_reference(sink, client, Op::ReadImagePgm, *image),
         Request::SetValid(image, valid) => write_set_valid(sink, client, *image, *valid),
-        Request::Release(name) => {
-            let body = name.to_be_bytes();
-            write_short(sink, client, Op::Release.number(), &body)
-        }
+        Request::Release(name) => write_name(sink, client, Op::Release, *name),
         Request::CreateLut(lut) => write_create_lut(sink, client, lut),
         Request::CreateThreshold(threshold) => write_create_threshold(sink, client, *threshold),
+        Request::CreateConvolution(convolution) => {
+            write_create_convolution(sink, client, convolution)
+        }
+        Request::CreateDistribution(bins) => {
+            let body = bins_bytes(*bins);
+            write_short(sink, client, Op::CreateDistribution.number(), &body)
+        }
+        Request::ReadDistribution(name) => write_name(sink, client, Op::ReadDistribution, *name),
+        Request::CreateMinMax => write_short(sink, client, Op::CreateMinMax.number(), &[]),
+        Request::ReadMinMax(name) => write_name(sink, client, Op::ReadMinMax, *name),
         Request::Immediate(node) => {
             let body = node_bytes(*node);
             write_short(sink, client, Op::Immediate.number(), &body)
@@ -61,11 +92,17 @@ pub fn write_request<K: Sink>(
         Request::CreateDelay(exemplar, slots) => {
             write_create_delay(sink, client, *exemplar, *slots)
         }
-        Request::AgeDelay(name) => {
-            let body = name.to_be_bytes();
-            write_short(sink, client, Op::AgeDelay.number(), &body)
-        }
+        Request::AgeDelay(name) => write_name(sink, client, Op::AgeDelay, *name),
     }
+}
+
+/// Writes a frame whose body is a name, at once.
+fn write_name<K: Sink>(sink: &mut K, client: u16, op: Op, name: u32) -> Result<(), StreamFault>
+    requires { K.failures sink.old < 2 ^ 62 }
+    ensures { Writes K.taken K.failures sink.old sink.new
+        (frame_bytes (record { client = client; op = op_number op; body = to_be_bytes w32 name })) result }
+{
+    write_short(sink, client, op.number(), &name.to_be_bytes())
 }
 
 /// Writes a frame whose body is a reference, at once.
@@ -143,6 +180,35 @@ fn write_image_head(client: u16, image: ObjRef, desc: Desc) -> [u8; 17]
     bytes
 }
 
+/// Writes the frame of a `WriteImagePgm`: all before the text at once, and then the text.
+fn write_write_image_pgm<K: Sink>(
+    sink: &mut K,
+    client: u16,
+    image: ObjRef,
+    text: &Text,
+) -> Result<(), StreamFault>
+    requires failures_fit { K.failures sink.old < 2 ^ 62 }
+    requires fits { length text.now ≤ 134217720 }
+    ensures { Writes K.taken K.failures sink.old sink.new
+        (frame_bytes (request_frame client (WriteImagePgmRequest image text.now))) result }
+{
+    let bytes = text.bytes();
+    write_all(sink, &write_image_pgm_head(client, image, bytes.len()))?;
+    write_all(sink, bytes)
+}
+
+/// What stands before the text in the frame of a `WriteImagePgm`.
+fn write_image_pgm_head(client: u16, image: ObjRef, count: usize) -> [u8; 12]
+    requires { count ≤ 134217720 }
+    ensures { result ≡ frame_head (8 + count) client (op_number WriteImagePgmOp) ++ reference_bytes image }
+{
+    let len = 8 + count as u32;
+    let mut bytes = [0; 12];
+    bytes[..7].copy_from_slice(&frame_head(len, client, Op::WriteImagePgm.number()));
+    bytes[7..].copy_from_slice(&reference_bytes(image));
+    bytes
+}
+
 /// Writes the frame of a `SetValid`, at once.
 fn write_set_valid<K: Sink>(
     sink: &mut K,
@@ -207,6 +273,33 @@ fn write_create_threshold<K: Sink>(
             write_short(sink, client, op, &body)
         }
     }
+}
+
+/// Writes the frame of a `CreateConvolution`: all before the coefficients at once, and then the
+/// coefficients.
+fn write_create_convolution<K: Sink>(
+    sink: &mut K,
+    client: u16,
+    convolution: &Convolution,
+) -> Result<(), StreamFault>
+    requires { K.failures sink.old < 2 ^ 62 }
+    ensures { Writes K.taken K.failures sink.old sink.new
+        (frame_bytes (request_frame client (CreateConvolutionRequest convolution.now))) result }
+{
+    let coefficients = convolution.coefficients();
+    write_all(sink, &create_convolution_head(client, convolution))?;
+    write_wide(sink, coefficients)
+}
+
+/// What stands before the coefficients in the frame of a `CreateConvolution`.
+fn create_convolution_head(client: u16, convolution: &Convolution) -> [u8; 10]
+    ensures { let c = convolution.now in
+        result ≡ frame_head (6 + c.rows * c.columns * 2) client (op_number CreateConvolutionOp) ++ c.columns ∷ c.rows ∷ c.exponent ∷ [] }
+{
+    let (columns, rows) = (convolution.columns(), convolution.rows());
+    let len = 6 + u32::from(rows) * u32::from(columns) * 2;
+    let [a, b, c, d, e, f, op] = frame_head(len, client, Op::CreateConvolution.number());
+    [a, b, c, d, e, f, op, columns, rows, convolution.exponent()]
 }
 
 /// Writes the frame of a `CreateDelay`, at once.

@@ -1,4 +1,4 @@
-//! The samples of pictures and the entries of tables as bytes.
+//! The samples of pictures, the entries of tables, coefficients and counts as bytes.
 ghost use Rattle.std.specs.Prelude.{◌*◌, ◌<◌, ◌≤◌, ◌^◌, length};
 ghost use Rattle.std.specs.List.{flat_map};
 ghost use Rattle.vx_base.specs.Sample.{sample_bytes};
@@ -23,8 +23,8 @@ pub fn write_samples<K: Sink>(sink: &mut K, samples: &Samples) -> Result<(), Str
     }
 }
 
-/// Writes samples that take several bytes each, in blocks of 1024 samples.
-fn write_wide<S: WideSample, K: Sink>(sink: &mut K, samples: &[S]) -> Result<(), StreamFault>
+/// Writes numbers that take several bytes each, as samples do, in blocks of 1024.
+pub fn write_wide<S: WideSample, K: Sink>(sink: &mut K, samples: &[S]) -> Result<(), StreamFault>
     requires { K.failures sink.old < 2 ^ 62 }
     ensures { Writes K.taken K.failures sink.old sink.new
         (flat_map (λ s. encoded_sample S.format (S.value s)) samples.now) result }

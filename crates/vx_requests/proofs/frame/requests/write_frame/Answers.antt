@@ -1,0 +1,34 @@
+use Rattle.vx_requests.proofs.frame.requests.write_frame.Goals as goal
+
+pub returns-in-WriteImage : goal.returns-in-WriteImage
+returns-in-WriteImage g c = rw c.in-WriteImage.is c.write_write_image.ensures
+
+pub returns-in-WriteImagePgm : goal.returns-in-WriteImagePgm
+returns-in-WriteImagePgm g c = rw c.in-WriteImagePgm.is c.write_write_image_pgm.ensures
+
+pub returns-in-ReadImage : goal.returns-in-ReadImage
+returns-in-ReadImage g c = rw c.in-ReadImage.is c.write_reference-in-ReadImage.ensures
+
+pub returns-in-ReadImagePgm : goal.returns-in-ReadImagePgm
+returns-in-ReadImagePgm g c = rw c.in-ReadImagePgm.is c.write_reference-in-ReadImagePgm.ensures
+
+pub returns-in-SetValid : goal.returns-in-SetValid
+returns-in-SetValid g c = rw c.in-SetValid.is c.write_set_valid.ensures
+
+pub returns-in-Release : goal.returns-in-Release
+returns-in-Release g c = rw c.in-Release.is c.write_name.ensures
+
+pub returns-in-ReadDistribution : goal.returns-in-ReadDistribution
+returns-in-ReadDistribution g c = rw c.in-ReadDistribution.is c.write_name-in-ReadDistribution.ensures
+
+pub returns-in-ReadMinMax : goal.returns-in-ReadMinMax
+returns-in-ReadMinMax g c = rw c.in-ReadMinMax.is c.write_name-in-ReadMinMax.ensures
+
+pub returns-in-AgeDelay : goal.returns-in-AgeDelay
+returns-in-AgeDelay g c = rw c.in-AgeDelay.is c.write_name-in-AgeDelay.ensures
+
+pub returns-in-Immediate : goal.returns-in-Immediate
+returns-in-Immediate g c = rw c.in-Immediate.is (rw (c.number-in-Immediate.ensures, c.node_bytes-body.ensures) at c.write_short-in-Immediate.ensures)
+
+pub returns-in-CreateDelay : goal.returns-in-CreateDelay
+returns-in-CreateDelay g c = rw c.in-CreateDelay.is c.write_create_delay.ensures
