@@ -36,14 +36,6 @@ fn row_seen(valid: Rect, border: Border, y: i32) -> Option<u16>
     }
 }
 
-fn set_all(out: &mut [u8], sample: u8)
-    ensures { out.new ≡ replicate (length out.old) sample }
-{
-    for item in out.iter_mut() {
-        *item = sample;
-    }
-}
-
 /// Writes a row's samples, after so many times one sample and before another.
 fn write_between(left: u8, before: usize, samples: &[u8], right: u8, out: &mut [u8])
     requires { before + length samples.now ≤ length out.old }
@@ -51,9 +43,9 @@ fn write_between(left: u8, before: usize, samples: &[u8], right: u8, out: &mut [
 {
     let (front, others) = out.split_at_mut(before);
     let (middle, back) = others.split_at_mut(samples.len());
-    set_all(front, left);
+    front.fill(left);
     middle.copy_from_slice(samples);
-    set_all(back, right);
+    back.fill(right);
 }
 
 /// Writes what is seen along a valid row, as `load_row` does.
@@ -88,6 +80,6 @@ pub fn load_row(image: &Image<'_>, start: u16, radius: u16, y: i32, border: Bord
 {
     match row_seen(image.valid(), border, y) {
         Some(line) => load_line(image, start, radius, line, border, out),
-        None => set_all(out, value_beside(border, 0)),
+        None => out.fill(value_beside(border, 0)),
     }
 }

@@ -1,3 +1,4 @@
+mod Rows
 mod PlaceLaws
 mod TallyLaws
 mod LocatedLaws

@@ -16,7 +16,7 @@ use Rattle.vx_base.specs.Statistics.{row_places, places, chosen, count_of, first
 use Rattle.stat_kernels.specs.declared.part.Part.{Part}
 use Rattle.stat_kernels.specs.declared.located.Found.{Found}
 use Rattle.stat_kernels.specs.Part.{IsValidPart}
-use Rattle.stat_kernels.specs.Rows.{above}
+use Rattle.stat_kernels.proofs.Rows.{above}
 use Rattle.stat_kernels.proofs.PlaceLaws.{next_places}
 use Rattle.stat_kernels.specs.declared.located.Located.{Located}
 use Rattle.stat_kernels.specs.Located.{IsDirection, located, found_in}

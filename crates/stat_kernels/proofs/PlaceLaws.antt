@@ -11,7 +11,7 @@ use Rattle.vx_base.specs.Statistics.{row_places, places, samples_in}
 use Rattle.vx_base.proofs.TableLaws.{range-append, length-range, get_or-run}
 use Rattle.stat_kernels.specs.declared.part.Part.{Part}
 use Rattle.stat_kernels.specs.Part.{IsValidPart}
-use Rattle.stat_kernels.specs.Rows.{above}
+use Rattle.stat_kernels.proofs.Rows.{above}
 
 -- no row is above the first
 pub places_none : (r : Rectangle) → places (above r r.y0) ≡ []

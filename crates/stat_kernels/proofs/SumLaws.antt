@@ -14,7 +14,7 @@ use Rattle.vx_base.proofs.ZeroLaws.{map-replicate}
 use Rattle.vx_base.proofs.TableLaws.{get_or-run, length-run, row_across, row_outside}
 use Rattle.stat_kernels.specs.declared.part.Part.{Part}
 use Rattle.stat_kernels.specs.Part.{IsValidPart}
-use Rattle.stat_kernels.specs.Rows.{above}
+use Rattle.stat_kernels.proofs.Rows.{above}
 use Rattle.stat_kernels.specs.Sums.{corner, sum_before, AreSums}
 use Rattle.stat_kernels.proofs.PlaceLaws.{samples_none, samples_more}
 

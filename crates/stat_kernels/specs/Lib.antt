@@ -1,4 +1,3 @@
-pub mod Rows
 pub mod Located
 pub mod Part
 pub mod Sums

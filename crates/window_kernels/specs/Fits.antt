@@ -1,7 +1,9 @@
--- What a kernel of nine samples may be given.
-use Rattle.std.specs.Prelude.{◌≡◌}
+-- What a kernel of windows may be given.
+use Rattle.std.specs.Prelude.{◌≡◌, IsTrue, Some, None}
 use Rattle.vx_base.specs.declared.format.Format.{Format}
 use Rattle.vx_base.specs.declared.format.Format.TheVariants.{U8}
+use Rattle.vx_base.specs.declared.function.Function.TheVariants.{Convolve}
+use Rattle.vx_base.specs.Formats.{takes_formats}
 use Rattle.vx_base.specs.Image.{ImageValue}
 use Rattle.image_core.specs.declared.image_mut.ImageMut.{ImageMut}
 use Rattle.image_core.specs.Fits.{HaveSameSize}
@@ -13,3 +15,9 @@ pub record WindowFits (output : Format) (a : ImageValue) (out : ImageMut) : Type
   pub size : HaveSameSize (written out) a
   pub input_format : a.format ≡ U8
   pub format : (written out).format ≡ output
+
+-- a U8 image, and an output of its size, of U8 or S16
+pub record ConvolutionFits (a : ImageValue) (out : ImageMut) : Type 0 where
+  pub target : IsTarget out
+  pub size : HaveSameSize (written out) a
+  pub formats : IsTrue (takes_formats Convolve a.format None (Some (written out).format))

@@ -1,2 +1,3 @@
 pub mod Nine
 pub mod Fits
+pub mod Products

@@ -3,7 +3,7 @@ ghost use Rattle.std.specs.Prelude.{◌≡◌, ℤ, List, [], ◌∷◌, pos, ne
 ghost use Rattle.vx_base.specs.declared.format.Format.TheVariants.{U8, S16};
 ghost use Rattle.vx_base.specs.declared.border.Border.TheVariants.{Undefined, Constant, Replicate};
 ghost use Rattle.vx_base.specs.Rectangle.{empty};
-ghost use Rattle.vx_base.specs.Window.{look, nine_around, box_mean, gaussian_mean, median, least_of, greatest_of, gradient_x, gradient_y, window_valid, from_nine};
+ghost use Rattle.vx_base.specs.Window.{look, nine_around, box_mean, gaussian_mean, median, least_of, greatest_of, gradient_x, gradient_y, window_valid, from_nine, from_matrix};
 
 /// What windows see of a row that holds 10 20 30 40 and is valid but for its ends.
 pub fn places()
@@ -50,4 +50,18 @@ pub fn beside_the_valid()
 pub fn gradients()
     ensures { from_nine S16 gradient_x Undefined (record { width = 3; height = 3; format = U8; valid = record { x0 = 0; y0 = 0; x1 = 3; y1 = 3 }; samples = pos 1 ∷ pos 2 ∷ pos 3 ∷ pos 4 ∷ pos 5 ∷ pos 6 ∷ pos 7 ∷ pos 8 ∷ pos 9 ∷ [] })
         ≡ record { width = 3; height = 3; format = S16; valid = record { x0 = 1; y0 = 1; x1 = 2; y1 = 2 }; samples = pos 0 ∷ pos 0 ∷ pos 0 ∷ pos 0 ∷ pos 8 ∷ pos 0 ∷ pos 0 ∷ pos 0 ∷ pos 0 ∷ [] } }
+{}
+
+/// A matrix with 1 at its upper left corner alone gives the sample to the lower right.
+pub fn turned_matrix()
+    ensures { from_matrix U8 (record { columns = 3; rows = 3; exponent = 0; coefficients = pos 1 ∷ pos 0 ∷ pos 0 ∷ pos 0 ∷ pos 0 ∷ pos 0 ∷ pos 0 ∷ pos 0 ∷ pos 0 ∷ [] }) Undefined (record { width = 3; height = 3; format = U8; valid = record { x0 = 0; y0 = 0; x1 = 3; y1 = 3 }; samples = pos 1 ∷ pos 2 ∷ pos 3 ∷ pos 4 ∷ pos 5 ∷ pos 6 ∷ pos 7 ∷ pos 8 ∷ pos 9 ∷ [] })
+        ≡ record { width = 3; height = 3; format = U8; valid = record { x0 = 1; y0 = 1; x1 = 2; y1 = 2 }; samples = pos 0 ∷ pos 0 ∷ pos 0 ∷ pos 0 ∷ pos 9 ∷ pos 0 ∷ pos 0 ∷ pos 0 ∷ pos 0 ∷ [] } }
+{}
+
+/// What a matrix with -3 at its centre alone gives of an image that holds 1: -3 over 2 to zero,
+/// clamped to each format, and -3 over 2^31.
+pub fn scaled_sums()
+    ensures to_zero { (from_matrix S16 (record { columns = 3; rows = 3; exponent = 1; coefficients = pos 0 ∷ pos 0 ∷ pos 0 ∷ pos 0 ∷ negsuc 2 ∷ pos 0 ∷ pos 0 ∷ pos 0 ∷ pos 0 ∷ [] }) Replicate (record { width = 1; height = 1; format = U8; valid = record { x0 = 0; y0 = 0; x1 = 1; y1 = 1 }; samples = pos 1 ∷ [] })).samples ≡ negsuc 0 ∷ [] }
+    ensures clamped { (from_matrix U8 (record { columns = 3; rows = 3; exponent = 1; coefficients = pos 0 ∷ pos 0 ∷ pos 0 ∷ pos 0 ∷ negsuc 2 ∷ pos 0 ∷ pos 0 ∷ pos 0 ∷ pos 0 ∷ [] }) Replicate (record { width = 1; height = 1; format = U8; valid = record { x0 = 0; y0 = 0; x1 = 1; y1 = 1 }; samples = pos 1 ∷ [] })).samples ≡ pos 0 ∷ [] }
+    ensures to_nothing { (from_matrix S16 (record { columns = 3; rows = 3; exponent = 31; coefficients = pos 0 ∷ pos 0 ∷ pos 0 ∷ pos 0 ∷ negsuc 2 ∷ pos 0 ∷ pos 0 ∷ pos 0 ∷ pos 0 ∷ [] }) Replicate (record { width = 1; height = 1; format = U8; valid = record { x0 = 0; y0 = 0; x1 = 1; y1 = 1 }; samples = pos 1 ∷ [] })).samples ≡ pos 0 ∷ [] }
 {}

@@ -1,13 +1,15 @@
 //! What the definitions mean: functions that do nothing, whose contracts are facts.
 ghost use Rattle.std.specs.Prelude.{◌≡◌, ◌<◌, ◌≤◌, ℕ, ℤ, pos, true, List, [], ◌∷◌, Contains, int_lt};
 ghost use Rattle.std.specs.List.{count_by};
+ghost use Rattle.vx_base.specs.declared.format.Format.{Format};
 ghost use Rattle.vx_base.specs.declared.format.Format.TheVariants.{U8, S16};
 ghost use Rattle.vx_base.specs.declared.border.Border.{Border};
 ghost use Rattle.vx_base.specs.Sample.{distance};
 ghost use Rattle.vx_base.specs.Rectangle.{inside};
+ghost use Rattle.vx_base.specs.Convolution.{ConvolutionValue};
 ghost use Rattle.vx_base.specs.Image.{ImageValue, IsImage, at};
 ghost use Rattle.vx_base.specs.Node.{IsBorder};
-ghost use Rattle.vx_base.specs.Window.{nearest, look, box_mean, gaussian_mean, median, least_of, greatest_of, gradient_x, gradient_y, from_nine};
+ghost use Rattle.vx_base.specs.Window.{nearest, look, box_mean, gaussian_mean, median, least_of, greatest_of, gradient_x, gradient_y, from_nine, from_matrix};
 
 /// At a valid place the image's sample is seen, under each border.
 pub fn valid_places()
@@ -30,7 +32,8 @@ pub fn median_of_nine()
         count_by (λ z. int_lt z v) zs ≤ 4 → count_by (λ z. int_lt v z) zs ≤ 4 → v ≡ median zs }
 {}
 
-/// What a function of the nine samples gives of a U8 image is an image of the output's format.
+/// What a function of the nine samples gives of a U8 image is an image of the output's format, and
+/// so is what a matrix gives.
 pub fn results_are_images()
     ensures box_means { (border : Border) (a : ImageValue) → IsBorder border → IsImage a → a.format ≡ U8 → IsImage (from_nine U8 box_mean border a) }
     ensures gaussian_means { (border : Border) (a : ImageValue) → IsBorder border → IsImage a → a.format ≡ U8 → IsImage (from_nine U8 gaussian_mean border a) }
@@ -39,4 +42,5 @@ pub fn results_are_images()
     ensures greatest { (border : Border) (a : ImageValue) → IsBorder border → IsImage a → a.format ≡ U8 → IsImage (from_nine U8 greatest_of border a) }
     ensures gradients_x { (border : Border) (a : ImageValue) → IsBorder border → IsImage a → a.format ≡ U8 → IsImage (from_nine S16 gradient_x border a) }
     ensures gradients_y { (border : Border) (a : ImageValue) → IsBorder border → IsImage a → a.format ≡ U8 → IsImage (from_nine S16 gradient_y border a) }
+    ensures convolutions { (format : Format) (c : ConvolutionValue) (border : Border) (a : ImageValue) → IsImage a → IsImage (from_matrix format c border a) }
 {}

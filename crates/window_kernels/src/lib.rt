@@ -1,13 +1,15 @@
 //! Functions that give each sample of an image from the samples around its place.
 //!
 //! Each writes a whole output: the formula of OpenVX 1.3 where the border mode makes the output
-//! valid, 0 elsewhere. A kernel is a type with a `sample` of the nine around a place, `OfNine`;
-//! that it gives a whole image is proved once for all, in `write_nine`. The three rows that a
-//! window touches are loaded with what counts beside them, so that no kernel asks for a border.
-//! No function takes memory. `examples` works the definitions out in numbers, and `laws` states
-//! what the median means.
+//! valid, 0 elsewhere. A kernel of nine samples is a type with a `sample` of those around a place,
+//! `OfNine`; that it gives a whole image is proved once for all, in `write_nine`. `convolve` sums
+//! up a row of products for each coefficient of a matrix. The rows that a window touches are
+//! loaded with what counts beside them, so that no kernel asks for a border. No function takes
+//! memory. `examples` works the definitions out in numbers, and `laws` states what the median
+//! means.
 #![tactic(auto)]
 
+mod convolution;
 pub mod examples;
 mod extremes;
 mod gradients;
@@ -15,8 +17,10 @@ pub mod laws;
 mod means;
 mod median;
 mod nine;
+mod products;
 mod sums;
 
+pub use convolution::convolve;
 pub use extremes::{dilate3, erode3};
 pub use gradients::{sobel_x3, sobel_y3, sobel3};
 pub use means::{box3, gaussian3};

@@ -26,7 +26,7 @@ returns-in-None c =
     let radius = c.args.radius in
     let n = length c.args.out.now in
     let seen = ap (λ (r : Rectangle). row_seen r border c.args.y) (sym c.valid.ensures.value) ∙ ap (row_seen c.valid.result border) (sym (to_z-of_z w32 c.args.y c.ranges.y)) ∙ sym c.row_seen.ensures.value ∙ c.in-None.is in
-    ap (map pos) c.set_all.ensures
+    ap (map pos) (c.fill.ensures.after (λ y same. same))
     ∙ map-replicate pos n c.value_beside.result
     ∙ sym (run-constant (pos c.value_beside.result) c.args.start n)
     ∙ run-same (λ _. pos c.value_beside.result) (λ k. look image border (pos k -ℤ pos radius) c.args.y) c.args.start n

@@ -1,6 +1,6 @@
 use Rattle.std.proofs.Common.{◌≡◌, ◌∙◌, sym, ap, pos, map, length, get_or, arith}
 use Rattle.vx_base.specs.Statistics.{tallies, samples_in}
-use Rattle.stat_kernels.specs.Rows.{above}
+use Rattle.stat_kernels.proofs.Rows.{above}
 use Rattle.stat_kernels.proofs.PlaceLaws.{samples_none, next_row, places_fit, length-samples, length-places}
 use Rattle.stat_kernels.proofs.TallyLaws.{tallies_none, tallies_at_most}
 use Rattle.stat_kernels.proofs.counts.histogram.Goals as goal

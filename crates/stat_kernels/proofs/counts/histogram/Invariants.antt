@@ -1,6 +1,6 @@
 use Rattle.std.proofs.Common.{◌≡◌}
 use Rattle.vx_base.specs.Statistics.{tallies, samples_in}
-use Rattle.stat_kernels.specs.Rows.{above}
+use Rattle.stat_kernels.proofs.Rows.{above}
 use Rattle.stat_kernels.proofs.counts.histogram.Given as goal
 
 abbrev pub invariant-loop-y : goal.invariant-loop-y

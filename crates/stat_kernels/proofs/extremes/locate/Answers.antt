@@ -3,7 +3,7 @@ use Rattle.vx_base.specs.Image.{at}
 use Rattle.vx_base.specs.Statistics.{places}
 use Rattle.stat_kernels.specs.declared.located.Found.{Found}
 use Rattle.stat_kernels.specs.Located.{found_in}
-use Rattle.stat_kernels.specs.Rows.{above}
+use Rattle.stat_kernels.proofs.Rows.{above}
 use Rattle.stat_kernels.proofs.PlaceLaws.{places_none, places_fit}
 use Rattle.stat_kernels.proofs.LocatedLaws.{least_at_most, greatest_at_most, next_found}
 use Rattle.stat_kernels.proofs.extremes.locate.Goals as goal

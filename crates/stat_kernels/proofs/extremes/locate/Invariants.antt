@@ -2,7 +2,7 @@ use Rattle.std.proofs.Common.{◌≡◌}
 use Rattle.vx_base.specs.Image.{at}
 use Rattle.vx_base.specs.Statistics.{places}
 use Rattle.stat_kernels.specs.Located.{found_in}
-use Rattle.stat_kernels.specs.Rows.{above}
+use Rattle.stat_kernels.proofs.Rows.{above}
 use Rattle.stat_kernels.proofs.extremes.locate.Given as goal
 
 abbrev pub invariant-loop-y : goal.invariant-loop-y

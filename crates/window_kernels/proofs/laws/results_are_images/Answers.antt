@@ -1,6 +1,6 @@
 use Rattle.vx_base.specs.declared.format.Format.TheVariants.{U8, S16}
 use Rattle.vx_base.specs.Window.{box_mean, gaussian_mean, median, least_of, greatest_of, gradient_x, gradient_y}
-use Rattle.vx_base.proofs.WindowLaws.{nine_image, box_sample, gaussian_sample, median_sample, least_sample, greatest_sample, gradient_x_sample, gradient_y_sample}
+use Rattle.vx_base.proofs.WindowLaws.{nine_image, box_sample, gaussian_sample, median_sample, least_sample, greatest_sample, gradient_x_sample, gradient_y_sample, matrix_image}
 use Rattle.window_kernels.proofs.laws.results_are_images.Goals as goal
 
 pub returns-clause-box_means : goal.returns-clause-box_means
@@ -23,3 +23,6 @@ returns-clause-gradients_x c = λ border a k h is. nine_image S16 gradient_x bor
 
 pub returns-clause-gradients_y : goal.returns-clause-gradients_y
 returns-clause-gradients_y c = λ border a k h is. nine_image S16 gradient_y border a (λ zs long s. gradient_y_sample zs s) h is k
+
+pub returns-clause-convolutions : goal.returns-clause-convolutions
+returns-clause-convolutions c = matrix_image
