@@ -14,7 +14,7 @@ use pixel_kernels::{
 };
 use stat_kernels::integral;
 use vx_base::{Function, Node, Output};
-use window_kernels::{box3, dilate3, erode3, gaussian3, median3, sobel_x3, sobel_y3};
+use window_kernels::{box3, convolve, dilate3, erode3, gaussian3, median3, sobel_x3, sobel_y3};
 
 /// Writes what the node's function gives to one of its outputs, an image: each sample, and the
 /// rectangle.
@@ -33,6 +33,9 @@ pub fn run_node(
         (_, Second::Image(second)) => run_on_two(node, which, first, second, output),
         (Function::Threshold, Second::Threshold(rule)) => threshold(first, output, *rule),
         (Function::TableLookup, Second::Lut(lut)) => lookup(first, output, lut),
+        (Function::Convolve, Second::Convolution(convolution)) => convolve(
+            first, convolution, output, node.border,
+        ),
         _ => unreachable!(),
     }
 }

@@ -1,6 +1,7 @@
 -- What a verdict has to know of the objects that a node names: their kinds, sizes and formats.
 use Rattle.std.specs.Prelude.{Bool, true, List, ◌++◌, Option, Some, None, option_to_list}
 use Rattle.vx_base.specs.declared.format.Format.{Format}
+use Rattle.vx_base.specs.declared.format.Format.TheVariants.{S16}
 use Rattle.vx_base.specs.declared.kind.Kind.{Kind}
 use Rattle.vx_base.specs.declared.kind.Kind.TheVariants as kind
 use Rattle.vx_base.specs.Description.{same_size}
@@ -29,11 +30,13 @@ operand_kind Convolution = kind.Convolution
 operand_kind Distribution = kind.Distribution
 operand_kind Extremes = kind.Extremes
 
--- the format of an image's samples, of a table's entries, or of the samples that a threshold tests; an operand may have none
+-- the format of an image's samples, of a table's entries, of the samples that a threshold tests, or of a convolution's
+-- coefficients; an operand may have none
 abbrev pub operand_format : Operand → Option Format
 operand_format (Image d) = Some d.format
 operand_format (Lut format) = Some format
 operand_format (Threshold format) = Some format
+operand_format Convolution = Some S16
 operand_format other = None
 
 -- whether two operands are of one size, as far as both are images

@@ -14,7 +14,7 @@ pub enum Operand {
     Threshold(Format),
     /// A delay as a whole, which no function takes; a slot of it is an image.
     Delay,
-    /// A convolution.
+    /// A convolution, whose coefficients are S16.
     Convolution,
     /// A distribution.
     Distribution,
@@ -48,15 +48,16 @@ impl Operand {
         }
     }
 
-    /// The format of an image's samples, of a table's entries, or of the samples that a threshold
-    /// tests. `None`: the operand has none.
+    /// The format of an image's samples, of a table's entries, of the samples that a threshold tests,
+    /// or of a convolution's coefficients. `None`: the operand has none.
     pub fn format(self) -> Option<Format>
         ensures { result ≡ operand_format self }
     {
         match self {
             Operand::Image(desc) => Some(desc.format()),
             Operand::Lut(format) | Operand::Threshold(format) => Some(format),
-            _ => None,
+            Operand::Convolution => Some(Format::S16),
+            Operand::Delay | Operand::Distribution | Operand::Extremes => None,
         }
     }
 }

@@ -102,7 +102,6 @@ is_window Median = true
 is_window Erode = true
 is_window Dilate = true
 is_window Sobel = true
-is_window Convolve = true
 is_window other = false
 
 abbrev GivesSamples : Format → (List ℤ → ℤ) → Type 0
@@ -116,12 +115,12 @@ nine_gives Erode output U8 U8 t = (refl, λ zs long s. least_sample zs s)
 nine_gives Dilate output U8 U8 t = (refl, λ zs long s. greatest_sample zs s)
 nine_gives Sobel First U8 S16 t = (refl, λ zs long s. gradient_x_sample zs s)
 nine_gives Sobel Second U8 S16 t = (refl, λ zs long s. gradient_y_sample zs s)
-nine_gives Convolve output U8 format t = (refl, λ zs long s. zero_sample format)
 nine_gives function output first format t = not_so t
 
 -- functions that make no image of one image alone
 abbrev is_no_maker : Function → Bool
 is_no_maker Threshold = true
+is_no_maker Convolve = true
 is_no_maker Histogram = true
 is_no_maker MinMaxLoc = true
 is_no_maker other = false
@@ -129,6 +128,7 @@ is_no_maker other = false
 makes_no_image : (function : Function) (first format : Format) → IsTrue (is_no_maker function && takes_formats function first None (Some format)) → ⊥
 makes_no_image Threshold U8 format t = not_so t
 makes_no_image Threshold S16 format t = not_so t
+makes_no_image Convolve U8 format t = not_so t
 makes_no_image Histogram U8 format t = not_so t
 makes_no_image MinMaxLoc U8 format t = not_so t
 makes_no_image MinMaxLoc S16 format t = not_so t
@@ -174,7 +174,7 @@ module _ (n : Node) (format : Format) (a : ImageValue) (is : IsNode n) (image : 
   of_one_image Erode output h t = of_nine Erode output t
   of_one_image Dilate output h t = of_nine Dilate output t
   of_one_image Sobel output h t = of_nine Sobel output t
-  of_one_image Convolve output h t = of_nine Convolve output t
+  of_one_image Convolve output h t = absurd (makes_no_image Convolve a.format format t)
   of_one_image Threshold output h t = absurd (makes_no_image Threshold a.format format t)
   of_one_image Histogram output h t = absurd (makes_no_image Histogram a.format format t)
   of_one_image MinMaxLoc output h t = absurd (makes_no_image MinMaxLoc a.format format t)

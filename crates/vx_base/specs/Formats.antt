@@ -26,7 +26,7 @@ are_arithmetic S16 S16 S16 = true
 are_arithmetic a b g = false
 
 -- whether a function takes these formats: of its first input, of its second and of its output. A second input's is that of
--- an image, of a table's entries or of what a threshold tests; none stands for no such operand, or for one without a format.
+-- an image, of a table's entries, of what a threshold tests or of a convolution's coefficients; none stands for no such operand, or for one without a format.
 abbrev pub takes_formats : Function → Format → Option Format → Option Format → Bool
 takes_formats AndBits a (Some b) (Some g) = are_bytes a b g
 takes_formats OrBits a (Some b) (Some g) = are_bytes a b g
@@ -49,8 +49,8 @@ takes_formats Median U8 None (Some U8) = true
 takes_formats Erode U8 None (Some U8) = true
 takes_formats Dilate U8 None (Some U8) = true
 takes_formats Sobel U8 None (Some S16) = true
-takes_formats Convolve U8 None (Some U8) = true
-takes_formats Convolve U8 None (Some S16) = true
+takes_formats Convolve U8 (Some S16) (Some U8) = true
+takes_formats Convolve U8 (Some S16) (Some S16) = true
 takes_formats Histogram U8 None None = true
 takes_formats Integral U8 None (Some U32) = true
 takes_formats MinMaxLoc U8 None None = true

@@ -3,6 +3,7 @@
 use Rattle.std.specs.Prelude.{ℕ, ◌≡◌, ◌≤◌, Bool, true, false, IsTrue, ⊤, Option, Some, None, List, length, map, sum_by, All, replicate, pos}
 use Rattle.std.specs.List.{AllPairs}
 use Rattle.vx_base.specs.declared.format.Format.{Format}
+use Rattle.vx_base.specs.declared.format.Format.TheVariants.{S16}
 use Rattle.vx_base.specs.declared.extremes.Extremes.{Extremes}
 use Rattle.vx_base.specs.declared.kind.Kind.{Kind}
 use Rattle.vx_base.specs.declared.kind.Kind.TheVariants as kind
@@ -47,11 +48,13 @@ object_kind (ConvolutionObject convolution) = kind.Convolution
 object_kind (DistributionObject distribution) = kind.Distribution
 object_kind (ExtremesObject extremes) = kind.Extremes
 
--- the format of an image's samples, of a table's entries, or of the samples that a threshold tests; an object may have none
+-- the format of an image's samples, of a table's entries, of the samples that a threshold tests, or of a convolution's
+-- coefficients; an object may have none
 abbrev pub object_format : ObjectValue → Option Format
 object_format (ImageObject image) = Some image.format
 object_format (LutObject lut) = Some lut.format
 object_format (ThresholdObject threshold) = Some threshold.format
+object_format (ConvolutionObject convolution) = Some S16
 object_format other = None
 
 -- the sample bytes of an image

@@ -190,8 +190,8 @@ impl Function {
     }
 
     /// Whether the function takes these formats: of its first input; of its second, which is that
-    /// of an image, of a table's entries or of what a threshold tests; and of its output. `None`:
-    /// there is no such operand, or it has no format.
+    /// of an image, of a table's entries, of what a threshold tests or of a convolution's
+    /// coefficients; and of its output. `None`: there is no such operand, or it has no format.
     pub fn takes_formats(
         self,
         first: Format,
@@ -236,7 +236,6 @@ impl Function {
             | Function::Erode
             | Function::Dilate => (first, output) == (Format::U8, Format::U8),
             Function::Sobel => (first, output) == (Format::U8, Format::S16),
-            Function::Convolve => first == Format::U8 && output != Format::U32,
             Function::Integral => (first, output) == (Format::U8, Format::U32),
             _ => false,
         }
@@ -261,6 +260,9 @@ impl Function {
             | Function::MinPixel
             | Function::MaxPixel
             | Function::TableLookup => are_equal(first, second, output),
+            Function::Convolve => {
+                (first, second) == (Format::U8, Format::S16) && output != Format::U32
+            }
             _ => false,
         }
     }

@@ -1,7 +1,7 @@
 -- What a kernel of windows may be given.
-use Rattle.std.specs.Prelude.{◌≡◌, IsTrue, Some, None}
+use Rattle.std.specs.Prelude.{◌≡◌, IsTrue, Some}
 use Rattle.vx_base.specs.declared.format.Format.{Format}
-use Rattle.vx_base.specs.declared.format.Format.TheVariants.{U8}
+use Rattle.vx_base.specs.declared.format.Format.TheVariants.{U8, S16}
 use Rattle.vx_base.specs.declared.function.Function.TheVariants.{Convolve}
 use Rattle.vx_base.specs.Formats.{takes_formats}
 use Rattle.vx_base.specs.Image.{ImageValue}
@@ -20,4 +20,4 @@ pub record WindowFits (output : Format) (a : ImageValue) (out : ImageMut) : Type
 pub record ConvolutionFits (a : ImageValue) (out : ImageMut) : Type 0 where
   pub target : IsTarget out
   pub size : HaveSameSize (written out) a
-  pub formats : IsTrue (takes_formats Convolve a.format None (Some (written out).format))
+  pub formats : IsTrue (takes_formats Convolve a.format (Some S16) (Some (written out).format))
