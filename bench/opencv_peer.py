@@ -1,17 +1,20 @@
-"""The time of OpenCV's functions on one thread, as JSON: python3 opencv_peer.py WIDTH HEIGHT COUNT ROUNDS.
+"""The time of OpenCV's functions on one thread, as JSON: python3 opencv_peer.py WIDTH HEIGHT COUNT.
 
 Each case has the name that bench/functions gives it, and OpenCV's own name of the function; NumPy's where
-OpenCV has none in Python. Outputs are arrays that are there already.
+OpenCV has none in Python. The name says what OpenCV does less or more. Outputs are arrays that are there already.
 """
 
 import json
+import random
 import sys
-import time
 
 import cv2
 import numpy
 
-width, height, count, rounds = map(int, sys.argv[1:])
+sys.dont_write_bytecode = True
+from shared import best_seconds  # noqa: E402
+
+width, height, count = map(int, sys.argv[1:])
 cv2.setNumThreads(1)
 pixels = width * height
 first = numpy.frombuffer(bytes(range(256)) * (pixels // 256), numpy.uint8).reshape(height, width).copy()
@@ -23,7 +26,17 @@ table = numpy.arange(255, -1, -1, dtype=numpy.uint8)
 short_table = numpy.arange(32767, -32769, -1).astype(numpy.int16)
 indices = shorts.view(numpy.uint16)
 
-CASES = {
+bytes_of_noise = random.Random(1).randbytes(2 * pixels)
+noise = numpy.frombuffer(bytes_of_noise[:pixels], numpy.uint8).reshape(height, width).copy()
+short_noise = numpy.frombuffer(bytes_of_noise, ">i2").astype(numpy.int16).reshape(height, width)
+constant = numpy.full_like(first, 100)
+second_output = numpy.empty_like(shorts)
+sums = numpy.empty((height + 1, width + 1), numpy.int32)
+counts = numpy.empty((256, 1), numpy.float32)
+square = numpy.ones((3, 3), numpy.uint8)
+REPLICATE = cv2.BORDER_REPLICATE
+
+PIXELWISE = {
     "AndBits": ("bitwise_and", lambda: cv2.bitwise_and(first, second, byte_output)),
     "OrBits": ("bitwise_or", lambda: cv2.bitwise_or(first, second, byte_output)),
     "XorBits": ("bitwise_xor", lambda: cv2.bitwise_xor(first, second, byte_output)),
@@ -46,20 +59,57 @@ CASES = {
     "Threshold, S16, BINARY": ("inRange", lambda: cv2.inRange(shorts, 101, 32767, byte_output)),
     "TableLookup, U8": ("LUT", lambda: cv2.LUT(first, table, byte_output)),
     "TableLookup, S16": ("NumPy's take", lambda: numpy.take(short_table, indices, out=short_output, mode="wrap")),
-    "ConvertDepth, U8 to S16, shift 4": ("NumPy's left_shift", lambda: numpy.left_shift(first, 4, out=short_output, dtype=numpy.int16)),
-    "ConvertDepth, S16 to U8, shift 4": ("convertScaleAbs by 1/16", lambda: cv2.convertScaleAbs(shorts, byte_output, 1 / 16)),
+    "ConvertDepth, U8 to S16, shift 4": (
+        "NumPy's left_shift", lambda: numpy.left_shift(first, 4, out=short_output, dtype=numpy.int16)),
+    "ConvertDepth, S16 to U8, shift 4": (
+        "convertScaleAbs by 1/16", lambda: cv2.convertScaleAbs(shorts, byte_output, 1 / 16)),
 }
 
 
-def seconds(function):
-    function()
-    best = float("inf")
-    for _ in range(rounds):
-        start = time.perf_counter()
-        for _ in range(count):
-            function()
-        best = min(best, (time.perf_counter() - start) / count)
-    return best
+def filtered(side, depth, output):
+    """filter2D doesn't turn its kernel, so this is the server's convolution turned, and divided by 2^4."""
+    coefficients = [k % 7 - 3 or 4 for k in range(side * side)]
+    kernel = numpy.array(coefficients[::-1], numpy.float32).reshape(side, side) / 16
+    return lambda: cv2.filter2D(noise, depth, kernel, output, borderType=REPLICATE)
 
 
-print(json.dumps({case: (name, seconds(function)) for case, (name, function) in CASES.items()}))
+WINDOWS = {
+    "Box": ("blur, to nearest", lambda: cv2.blur(noise, (3, 3), byte_output, borderType=REPLICATE)),
+    "Gaussian": (
+        "GaussianBlur, to nearest", lambda: cv2.GaussianBlur(noise, (3, 3), 0, byte_output, borderType=REPLICATE)),
+    "Median": ("medianBlur", lambda: cv2.medianBlur(noise, 3, byte_output)),
+    "Erode": ("erode", lambda: cv2.erode(noise, square, byte_output, borderType=REPLICATE)),
+    "Dilate": ("dilate", lambda: cv2.dilate(noise, square, byte_output, borderType=REPLICATE)),
+    "Sobel, gx alone": (
+        "Sobel to CV_16S", lambda: cv2.Sobel(noise, cv2.CV_16S, 1, 0, short_output, borderType=REPLICATE)),
+    "Sobel, gy alone": (
+        "Sobel to CV_16S", lambda: cv2.Sobel(noise, cv2.CV_16S, 0, 1, short_output, borderType=REPLICATE)),
+    "Sobel, both": (
+        "spatialGradient", lambda: cv2.spatialGradient(noise, short_output, second_output, 3, REPLICATE)),
+    "Convolve, 3x3 to U8": ("filter2D, to nearest", filtered(3, cv2.CV_8U, byte_output)),
+    "Convolve, 3x3 to S16": ("filter2D to CV_16S, to nearest", filtered(3, cv2.CV_16S, short_output)),
+    "Convolve, 5x5 to S16": ("filter2D to CV_16S, to nearest", filtered(5, cv2.CV_16S, short_output)),
+    "Convolve, 9x9 to S16": ("filter2D to CV_16S, to nearest", filtered(9, cv2.CV_16S, short_output)),
+}
+
+STATISTICS = {
+    "Histogram, noise": ("calcHist", lambda: cv2.calcHist([noise], [0], None, [256], [0, 256], counts)),
+    "Histogram, constant": ("calcHist", lambda: cv2.calcHist([constant], [0], None, [256], [0, 256], counts)),
+    "Integral": ("integral, a row and a column more", lambda: cv2.integral(noise, sums, cv2.CV_32S)),
+    "MinMaxLoc, U8, noise": ("minMaxLoc, without counts", lambda: cv2.minMaxLoc(noise)),
+    "MinMaxLoc, U8, constant": ("minMaxLoc, without counts", lambda: cv2.minMaxLoc(constant)),
+    "MinMaxLoc, S16, noise": ("minMaxLoc, without counts", lambda: cv2.minMaxLoc(short_noise)),
+}
+
+
+def times():
+    for case, (name, function) in (PIXELWISE | STATISTICS).items():
+        yield case, (name, best_seconds(function, count))
+    for case, (name, function) in WINDOWS.items():
+        # OpenCV always gives the border, so one time stands for both.
+        seconds = best_seconds(function, count)
+        yield f"{case}, REPLICATE", (name, seconds)
+        yield f"{case}, UNDEFINED", (name + ", with its border", seconds)
+
+
+print(json.dumps(dict(times())))

@@ -1,15 +1,20 @@
 """Request frames and reply frames, in bytes and in words."""
 
 import struct
+from collections import namedtuple
 
-(OPEN_CONTEXT, RELEASE_CONTEXT, CREATE_IMAGE, QUERY_IMAGE, WRITE_IMAGE, READ_IMAGE, SET_VALID, RELEASE, CREATE_LUT,
- CREATE_THRESHOLD, IMMEDIATE, CREATE_DELAY, AGE_DELAY) = 1, 2, 3, 4, 5, 7, 9, 10, 11, 12, 24, 25, 26
-CREATES = (CREATE_IMAGE, CREATE_LUT, CREATE_THRESHOLD, CREATE_DELAY)
+(OPEN_CONTEXT, RELEASE_CONTEXT, CREATE_IMAGE, QUERY_IMAGE, WRITE_IMAGE, WRITE_IMAGE_PGM, READ_IMAGE, READ_IMAGE_PGM,
+ SET_VALID, RELEASE, CREATE_LUT, CREATE_THRESHOLD, CREATE_CONVOLUTION, CREATE_DISTRIBUTION, READ_DISTRIBUTION,
+ CREATE_MIN_MAX, READ_MIN_MAX) = range(1, 18)
+IMMEDIATE, CREATE_DELAY, AGE_DELAY = 24, 25, 26
+CREATES = (
+    CREATE_IMAGE, CREATE_LUT, CREATE_THRESHOLD, CREATE_CONVOLUTION, CREATE_DISTRIBUTION, CREATE_MIN_MAX, CREATE_DELAY)
 U8, S16, U32 = 1, 2, 3
 SAMPLE_LETTERS = {U8: "B", S16: "h", U32: "I"}
 FORMAT_NAMES = {U8: "U8", S16: "S16", U32: "U32"}
 (AND_BITS, OR_BITS, XOR_BITS, NOT_BITS, ADD, SUBTRACT, MULTIPLY, ABSOLUTE_DIFFERENCE, MIN_PIXEL, MAX_PIXEL, THRESHOLD,
- TABLE_LOOKUP, CONVERT_DEPTH) = range(1, 14)
+ TABLE_LOOKUP, CONVERT_DEPTH, BOX, GAUSSIAN, MEDIAN, ERODE, DILATE, SOBEL, CONVOLVE, HISTOGRAM, INTEGRAL,
+ MIN_MAX_LOCATION) = range(1, 24)
 WRAP, SATURATE = 0, 1
 UNDEFINED, CONSTANT, REPLICATE = 0, 1, 2
 BINARY, RANGE = 0, 1
@@ -62,8 +67,18 @@ def write_image(client, named, fmt, width, height, samples):
     return frame(client, WRITE_IMAGE, operand(named) + struct.pack(">BHH", fmt, width, height) + samples)
 
 
+def write_image_pgm(client, named, text):
+    """The bytes of a PGM text, P5 or P2, whose picture has the image's format and size."""
+    return frame(client, WRITE_IMAGE_PGM, operand(named) + text)
+
+
 def read_image(client, named):
     return frame(client, READ_IMAGE, operand(named))
+
+
+def read_image_pgm(client, named):
+    """Of a U8 image."""
+    return frame(client, READ_IMAGE_PGM, operand(named))
 
 
 def set_valid(client, named, rectangle):
@@ -86,6 +101,29 @@ def create_threshold(client, fmt, limits, true_value=255, false_value=0):
     return frame(client, CREATE_THRESHOLD, body)
 
 
+def create_convolution(client, columns, rows, exponent, coefficients):
+    """The coefficients by rows from the top; what they give is divided by 2 to the exponent."""
+    body = struct.pack(f">BBB{len(coefficients)}h", columns, rows, exponent, *coefficients)
+    return frame(client, CREATE_CONVOLUTION, body)
+
+
+def create_distribution(client, bins, offset, range):
+    """So many bins for the samples from the offset on, as far as the range goes."""
+    return frame(client, CREATE_DISTRIBUTION, struct.pack(">HHH", bins, offset, range))
+
+
+def read_distribution(client, name):
+    return frame(client, READ_DISTRIBUTION, struct.pack(">I", name))
+
+
+def create_min_max(client):
+    return frame(client, CREATE_MIN_MAX)
+
+
+def read_min_max(client, name):
+    return frame(client, READ_MIN_MAX, struct.pack(">I", name))
+
+
 def create_delay(client, exemplar, slots):
     return frame(client, CREATE_DELAY, operand(exemplar) + bytes([slots]))
 
@@ -95,14 +133,14 @@ def age_delay(client, name):
 
 
 def node(function, in1, in2, out1, policy=WRAP, amount=0, border=UNDEFINED, constant=0, out2=None):
-    """The bytes of a node; in2 is None where the function has no second input."""
+    """The bytes of a node; an operand is None where the function hasn't it, and one of Sobel's outputs may be."""
     fields = bytes([function, border, constant, policy, amount])
     return fields + b"".join(operand(named) for named in (in1, in2, out1, out2))
 
 
-def immediate(client, function, in1, in2, out1, policy=WRAP, amount=0):
+def immediate(client, function, in1, in2, out1, policy=WRAP, amount=0, border=UNDEFINED, constant=0, out2=None):
     """One node run at once."""
-    return frame(client, IMMEDIATE, node(function, in1, in2, out1, policy, amount))
+    return frame(client, IMMEDIATE, node(function, in1, in2, out1, policy, amount, border, constant, out2))
 
 
 def bitwise_not(client, source, target):
@@ -141,6 +179,31 @@ def description_of(reply):
     return fmt, width, height, tuple(valid)
 
 
+def text_of(reply):
+    """The PGM text of an image that was read as one."""
+    return reply[8:]
+
+
+def counts_of(reply):
+    """How many samples a distribution that was read has in each of its bins."""
+    (bins,) = struct.unpack_from(">H", reply, 8)
+    return struct.unpack(f">{bins}I", reply[10:])
+
+
+# The least and the greatest valid sample, how many places hold each, and the first x, y of each by rows from the top.
+Extremes = namedtuple("Extremes", "min max min_count max_count min_at max_at")
+
+
+def extremes_of(reply):
+    """All numbers are 0 where no place was valid, and where nothing was found yet."""
+    least, greatest, least_count, greatest_count, *places = struct.unpack(">hhII4H", reply[8:])
+    return Extremes(least, greatest, least_count, greatest_count, tuple(places[:2]), tuple(places[2:]))
+
+
+def say_found(words, sample, count, at):
+    return f"{words} {sample}, {count} time{'' if count == 1 else 's'}, first at {at[0]},{at[1]}"
+
+
 def say(reply):
     """A reply in a line of words."""
     client, op, code = struct.unpack_from(">HBB", reply, 4)
@@ -154,4 +217,13 @@ def say(reply):
     if code == 0 and op == READ_IMAGE:
         rows = rows_of(reply)
         line += f", {len(rows[0])} by {len(rows)}: " + " / ".join(" ".join(map(str, row)) for row in rows)
+    if code == 0 and op == READ_IMAGE_PGM:
+        *header, raster = text_of(reply).split(b"\n", 3)
+        line += f", {b' '.join(header).decode()}: {' '.join(map(str, raster))}"
+    if code == 0 and op == READ_DISTRIBUTION:
+        line += f", counts {' '.join(map(str, counts_of(reply)))}"
+    if code == 0 and op == READ_MIN_MAX:
+        found = extremes_of(reply)
+        line += f", {say_found('least', found.min, found.min_count, found.min_at)}"
+        line += f"; {say_found('greatest', found.max, found.max_count, found.max_at)}"
     return line

@@ -7,17 +7,21 @@ the fields of its body, what it comes to, and its codes. A vision function is a 
 what its node has, its formats, and what it gives. Both tables stand below what they are made of.
 """
 
+import re
 import struct
-from collections import namedtuple
+from collections import Counter, namedtuple
+from itertools import accumulate
 
 import frames
 from frames import S16, U8, U32
 
 # The ops that the program knows. Every other is answered INVALID_PARAMETERS, also where it has a row in REQUESTS.
-STANDING = {1, 2, 3, 4, 5, 7, 9, 10, 11, 12, 24, 25, 26}
+STANDING = {*range(1, 18), 24, 25, 26}
 
-OPEN_CONTEXT, RELEASE_CONTEXT, CREATE_IMAGE, QUERY_IMAGE, WRITE_IMAGE, READ_IMAGE, SET_VALID = 1, 2, 3, 4, 5, 7, 9
-RELEASE, CREATE_LUT, CREATE_THRESHOLD, IMMEDIATE, CREATE_DELAY, AGE_DELAY = 10, 11, 12, 24, 25, 26
+OPEN_CONTEXT, RELEASE_CONTEXT, CREATE_IMAGE, QUERY_IMAGE, WRITE_IMAGE, WRITE_IMAGE_PGM = 1, 2, 3, 4, 5, 6
+READ_IMAGE, READ_IMAGE_PGM, SET_VALID, RELEASE, CREATE_LUT, CREATE_THRESHOLD = 7, 8, 9, 10, 11, 12
+CREATE_CONVOLUTION, CREATE_DISTRIBUTION, READ_DISTRIBUTION, CREATE_MIN_MAX, READ_MIN_MAX = 13, 14, 15, 16, 17
+IMMEDIATE, CREATE_DELAY, AGE_DELAY = 24, 25, 26
 
 (SUCCESS, NO_MEMORY, INVALID_PARAMETERS, INVALID_REFERENCE, INVALID_SCOPE, INVALID_FORMAT, INVALID_DIMENSION, INVALID_VALUE,
  INVALID_TYPE, INVALID_GRAPH, INVALID_LINK, MULTIPLE_WRITERS, OPTIMIZED_AWAY, NO_RESOURCES) = range(14)
@@ -95,11 +99,36 @@ def is_within(rectangle, width, height):
     return rectangle.right <= width and rectangle.bottom <= height
 
 
+def is_in(rectangle, x, y):
+    return rectangle.left <= x < rectangle.right and rectangle.top <= y < rectangle.bottom
+
+
+def places(rectangle):
+    """The x and the y of each place, by rows from the top."""
+    return [(x, y) for y in range(rectangle.top, rectangle.bottom) for x in range(rectangle.left, rectangle.right)]
+
+
+def rectangle_of(left, top, right, bottom):
+    """The places that aren't before a start or from an end on."""
+    return Rectangle(left, top, right, bottom) if left < right and top < bottom else EMPTY
+
+
 def meet(one, other):
     """The places that are in both."""
     left, top = max(one.left, other.left), max(one.top, other.top)
-    right, bottom = min(one.right, other.right), min(one.bottom, other.bottom)
-    return Rectangle(left, top, right, bottom) if left < right and top < bottom else EMPTY
+    return rectangle_of(left, top, min(one.right, other.right), min(one.bottom, other.bottom))
+
+
+def shrunk(rectangle, across, down):
+    """The places whose windows, of these radii, lie wholly in the rectangle."""
+    left, top, right, bottom = rectangle
+    return rectangle_of(left + across, top + down, right - across, bottom - down)
+
+
+def windows_of(rectangle, across, down):
+    """The places in the windows of its places. It may reach beyond an image, and before its first column and row."""
+    left, top, right, bottom = rectangle
+    return EMPTY if rectangle == EMPTY else Rectangle(left - across, top - down, right + across, bottom + down)
 
 
 # ---- objects: values that never change; what changes is which of them a name has
@@ -113,6 +142,14 @@ Image = namedtuple("Image", "fmt width height valid samples")
 Lut = namedtuple("Lut", "fmt entries")
 # BINARY has one limit, RANGE the lower and the upper.
 Threshold = namedtuple("Threshold", "fmt limits true_value false_value")
+# The coefficients by rows; what they give is divided by 2 to the exponent.
+Convolution = namedtuple("Convolution", "columns rows exponent coefficients")
+# How many samples fell into each bin. The bins share a range of samples, which begins with the offset.
+Bins = namedtuple("Bins", "bins offset range")
+Distribution = namedtuple("Distribution", "bins counts")
+# The least and the greatest sample, how many places hold each, and the x and the y of the first of them.
+Extremes = namedtuple("Extremes", "min max min_count max_count min_at max_at")
+NO_EXTREMES = Extremes(0, 0, 0, 0, (0, 0), (0, 0))
 # The image in each slot, the newest first, so that the one in slot -k is number k.
 Delay = namedtuple("Delay", "images")
 
@@ -134,6 +171,19 @@ def made(fmt, width, height, valid, sample):
 def confined(image, valid):
     """The image with another valid rectangle. What isn't in both this and the old one is 0."""
     return made(image.fmt, image.width, image.height, valid, lambda place: image.samples[place])
+
+
+def sample_at(image, x, y):
+    return image.samples[y * image.width + x]
+
+
+def valid_samples(image):
+    """The samples at the valid places, by rows."""
+    return [sample_at(image, x, y) for x, y in places(image.valid)]
+
+
+def new_distribution(bins):
+    return Distribution(bins, (0,) * bins.bins)
 
 
 def new_delay(image, slots):
@@ -200,12 +250,12 @@ def held(context, cell):
     return thing.images[cell.slot] if cell.slot < len(thing.images) else NO_SUCH_SLOT
 
 
-def put(context, cell, image):
-    """Puts an image in the place of the one that a cell holds."""
+def put(context, cell, value):
+    """Puts an object, or an image in a slot, in the place of the one that a cell holds."""
     thing = context.objects[cell.name]
     if isinstance(thing, Delay):
-        image = Delay(thing.images[: cell.slot] + (image,) + thing.images[cell.slot + 1 :])
-    context.objects[cell.name] = image
+        value = Delay(thing.images[: cell.slot] + (value,) + thing.images[cell.slot + 1 :])
+    context.objects[cell.name] = value
 
 
 def is_of_kind(thing, kind):
@@ -247,6 +297,9 @@ class Fields:
 
     def long(self):
         return int.from_bytes(self.bytes(4), "big")
+
+    def rest(self):
+        return self.bytes(len(self.body) - self.at)
 
     def end(self):
         refuse_if(self.at < len(self.body), INVALID_PARAMETERS)
@@ -323,6 +376,39 @@ def take_threshold(fields):
     return Threshold(fmt, limits, fields.byte(), fields.byte())
 
 
+def take_length(fields):
+    """How many columns or rows a convolution has."""
+    length = fields.byte()
+    refuse_if(length not in (3, 5, 7, 9), INVALID_DIMENSION)
+    return length
+
+
+def take_exponent(fields):
+    exponent = fields.byte()
+    refuse_if(exponent > 31, INVALID_VALUE)
+    return exponent
+
+
+def take_convolution(fields):
+    columns, rows, exponent = take_length(fields), take_length(fields), take_exponent(fields)
+    return Convolution(columns, rows, exponent, take_samples(fields, S16, columns * rows))
+
+
+def take_number(fields, least, greatest):
+    number = fields.short()
+    refuse_if(not least <= number <= greatest, INVALID_VALUE)
+    return number
+
+
+def take_bins(fields):
+    return Bins(take_number(fields, 1, 256), take_number(fields, 0, 255), take_number(fields, 1, 256))
+
+
+def take_text(fields):
+    """All that is left, of which nothing is looked at yet."""
+    return fields.rest()
+
+
 def description_bytes(image):
     return struct.pack(">BHH", image.fmt, image.width, image.height)
 
@@ -333,6 +419,63 @@ def rectangle_bytes(rectangle):
 
 def encoded_samples(image):
     return struct.pack(f">{len(image.samples)}{frames.SAMPLE_LETTERS[image.fmt]}", *image.samples)
+
+
+# ---- PGM texts
+
+# A comment ends with the first CR or LF.
+SPACE, COMMENT, NUMBER = rb"[ \t\r\n]", rb"#[^\r\n]*[\r\n]", rb"[0-9]+"
+GAP = b"(?:" + SPACE + b"|" + COMMENT + b")+"
+HEADER = b"(P2|P5)" + 3 * (GAP + b"(" + NUMBER + b")")
+PLAIN_RASTER = b"(?:" + GAP + NUMBER + b")*(?:" + GAP + b")?"
+GREATEST_MAXVAL = 32767
+
+
+def number_of(digits):
+    """The number; a billion for one of more digits, since no limit is as great."""
+    digits = digits.lstrip(b"0")
+    return int(digits or b"0") if len(digits) < 10 else 10**9
+
+
+def header_of(text):
+    """Its magic, its three numbers, and what follows them; with P5 a whitespace byte is still the header's."""
+    header = re.match(HEADER, text)
+    refuse_if(header is None, INVALID_FORMAT)
+    magic, rest = header[1], text[header.end() :]
+    if magic == b"P5":
+        refuse_if(re.match(SPACE, rest) is None, INVALID_FORMAT)
+        rest = rest[1:]
+    return magic, [number_of(digits) for digits in header.groups()[1:]], rest
+
+
+def raster_samples(raster, fmt, count):
+    """The samples after P5's header, which take one byte or two."""
+    refuse_if(len(raster) != count * sample_bytes(fmt), INVALID_FORMAT)
+    return struct.unpack(f">{count}{'B' if fmt == U8 else 'H'}", raster)
+
+
+def plain_samples(rest, count):
+    """The samples after P2's header: each is a gap and a number, and a gap may follow the last."""
+    refuse_if(re.fullmatch(PLAIN_RASTER, rest) is None, INVALID_FORMAT)
+    numbers = re.sub(COMMENT, b" ", rest).split()
+    refuse_if(len(numbers) != count, INVALID_FORMAT)
+    return [number_of(digits) for digits in numbers]
+
+
+def picture_of(text):
+    """The picture of a PGM text, whose first fault refuses it."""
+    magic, (width, height, maxval), rest = header_of(text)
+    refuse_if(not (1 <= width <= 4096 and 1 <= height <= 4096), INVALID_DIMENSION)
+    refuse_if(not 1 <= maxval <= GREATEST_MAXVAL, INVALID_FORMAT)
+    fmt, count = U8 if maxval < 256 else S16, width * height
+    samples = plain_samples(rest, count) if magic == b"P2" else raster_samples(rest, fmt, count)
+    refuse_if(any(sample > maxval for sample in samples), INVALID_VALUE)
+    return Image(fmt, width, height, whole(width, height), samples)
+
+
+def text_of(image):
+    """The PGM text of an image of U8."""
+    return b"P5\n%d %d\n255\n" % (image.width, image.height) + bytes(image.samples)
 
 
 # ---- requests: what each comes to. It refuses before it changes anything, and gives the reply's body.
@@ -370,6 +513,18 @@ def create_threshold(limits, state, threshold):
     return create(limits, state, threshold)
 
 
+def create_convolution(limits, state, convolution):
+    return create(limits, state, convolution)
+
+
+def create_distribution(limits, state, bins):
+    return create(limits, state, new_distribution(bins))
+
+
+def create_min_max(limits, state):
+    return create(limits, state, NO_EXTREMES)
+
+
 def image_in(context, cell):
     """The image that a reference names."""
     thing = held(context, cell)
@@ -392,9 +547,20 @@ def write_image(_, state, cell, picture):
     return b""
 
 
+def write_image_pgm(limits, state, cell, text):
+    image_in(state.context, cell)
+    return write_image(limits, state, cell, picture_of(text))
+
+
 def read_image(_, state, cell):
     image = image_in(state.context, cell)
     return description_bytes(image) + encoded_samples(image)
+
+
+def read_image_pgm(_, state, cell):
+    image = image_in(state.context, cell)
+    refuse_if(image.fmt != U8, INVALID_FORMAT)
+    return text_of(image)
 
 
 def set_valid(_, state, cell, rectangle):
@@ -410,19 +576,39 @@ def release(_, state, name):
     return b""
 
 
+def object_of(context, name, kind):
+    """The object of that name, which is to be of a kind."""
+    thing = context.objects.get(name)
+    refuse_if(thing is None, INVALID_REFERENCE)
+    refuse_if(not isinstance(thing, kind), INVALID_TYPE)
+    return thing
+
+
+def read_distribution(_, state, name):
+    counts = object_of(state.context, name, Distribution).counts
+    return struct.pack(f">H{len(counts)}I", len(counts), *counts)
+
+
+def read_min_max(_, state, name):
+    found = object_of(state.context, name, Extremes)
+    return struct.pack(">hhII4H", *found[:4], *found.min_at, *found.max_at)
+
+
 # ---- nodes
 
 # The four cells are those of the operands, None where one is absent.
-Node = namedtuple("Node", "function policy amount cells")
+Node = namedtuple("Node", "function border policy amount cells")
 IN1, IN2, OUT1, OUT2 = range(4)
 INPUTS, OUTPUTS = (IN1, IN2), (OUT1, OUT2)
+Border = namedtuple("Border", "mode constant")
 
 
 def take_border(fields):
-    """A mode and its constant. No function of today looks at them."""
     mode = fields.byte()
     refuse_if(mode not in (frames.UNDEFINED, frames.CONSTANT, frames.REPLICATE), INVALID_PARAMETERS)
-    refuse_if(fields.byte() != 0 and mode != frames.CONSTANT, INVALID_PARAMETERS)
+    constant = fields.byte()
+    refuse_if(constant != 0 and mode != frames.CONSTANT, INVALID_PARAMETERS)
+    return Border(mode, constant)
 
 
 def take_policy(fields, function):
@@ -440,10 +626,10 @@ def take_amount(fields, function):
     return amount
 
 
-def take_operand(fields, kind):
+def take_operand(fields, kind, may_be_absent):
     cell = take_cell(fields)
     is_absent = cell == Cell(0, NO_SLOT)
-    refuse_if(is_absent != (kind is None), INVALID_PARAMETERS)
+    refuse_if(is_absent != (kind is None) and not (is_absent and may_be_absent), INVALID_PARAMETERS)
     return None if is_absent else cell
 
 
@@ -451,10 +637,12 @@ def take_node(fields):
     number = fields.byte()
     refuse_if(number not in FUNCTIONS, INVALID_PARAMETERS)
     function = FUNCTIONS[number]
-    take_border(fields)
+    border = take_border(fields)
     policy = take_policy(fields, function)
     amount = take_amount(fields, function)
-    return Node(function, policy, amount, [take_operand(fields, kind) for kind in function.kinds])
+    cells = [take_operand(fields, kind, k in function.optional) for k, kind in enumerate(function.kinds)]
+    refuse_if(all(cells[k] is None for k in OUTPUTS), INVALID_PARAMETERS)
+    return Node(function, border, policy, amount, cells)
 
 
 def present(node, things, among=INPUTS + OUTPUTS):
@@ -484,9 +672,13 @@ def reads_own_output(node, things):
     return bool(read & written)
 
 
+def format_of(thing):
+    """None where there is nothing, or an object that has no format."""
+    return getattr(thing, "fmt", None)
+
+
 def has_other_formats(node, things):
-    formats = tuple(None if things[k] is None else things[k].fmt for k in (IN1, IN2, OUT1))
-    return formats not in node.function.formats
+    return tuple(map(format_of, things)) not in node.function.formats
 
 
 def has_other_size(node, things):
@@ -522,10 +714,7 @@ def create_delay(limits, state, cell, slots):
 
 
 def age_delay(_, state, name):
-    delay = state.context.objects.get(name)
-    refuse_if(delay is None, INVALID_REFERENCE)
-    refuse_if(not isinstance(delay, Delay), INVALID_TYPE)
-    state.context.objects[name] = aged(delay)
+    state.context.objects[name] = aged(object_of(state.context, name, Delay))
     return b""
 
 
@@ -613,24 +802,166 @@ def pixelwise(value):
     return gives
 
 
+# ---- window functions: the value at a pixel, of the samples that count in the window around it, by rows
+
+
+def look(image, border, x, y):
+    """The sample that counts at a place, beside the valid rectangle too; with UNDEFINED nobody looks there."""
+    valid = image.valid
+    if border.mode == frames.CONSTANT and not is_in(valid, x, y):
+        return border.constant
+    return sample_at(image, min(max(x, valid.left), valid.right - 1), min(max(y, valid.top), valid.bottom - 1))
+
+
+def valid_after(valid, border, across, down):
+    """Where a window function's output is valid, whose window has these radii."""
+    return shrunk(valid, across, down) if border.mode == frames.UNDEFINED else valid
+
+
+def window_image(image, border, radii, fmt, value):
+    """The image that has at each valid place the value of the samples in the window around it."""
+    across, down = radii
+    valid = valid_after(image.valid, border, across, down)
+    seen = windows_of(valid, across, down)
+    rows = [[look(image, border, x, y) for x in range(seen.left, seen.right)] for y in range(seen.top, seen.bottom)]
+
+    def sample(place):
+        y, x = divmod(place, image.width)
+        top, left = y - down - seen.top, x - across - seen.left
+        return value([one for row in rows[top : top + 2 * down + 1] for one in row[left : left + 2 * across + 1]])
+
+    return made(fmt, image.width, image.height, valid, sample)
+
+
+def box(nine):
+    return sum(nine) // 9
+
+
+def weighted(samples, weights):
+    return sum(sample * weight for sample, weight in zip(samples, weights))
+
+
+def gaussian(nine):
+    return weighted(nine, (1, 2, 1, 2, 4, 2, 1, 2, 1)) // 16
+
+
+def median(nine):
+    return sorted(nine)[4]
+
+
+def gradient_x(nine):
+    return weighted(nine, (-1, 0, 1, -2, 0, 2, -1, 0, 1))
+
+
+def gradient_y(nine):
+    return weighted(nine, (-1, -2, -1, 0, 0, 0, 1, 2, 1))
+
+
+def windowed(value, second=None):
+    """What a node gives that has a value of nine samples for each pixel, and another for out2."""
+
+    def gives(node, things):
+        values = {OUT1: value, OUT2: second}
+        return {k: window_image(things[IN1], node.border, (1, 1), things[k].fmt, values[k])
+                for k in OUTPUTS if things[k] is not None}
+
+    return gives
+
+
+def turned(convolution):
+    """The weights in the window by rows. Column k and row l have that of C/2 - k to the right and R/2 - l below."""
+    columns, rows = convolution.columns, convolution.rows
+    weights = [0] * (columns * rows)
+    for l in range(rows):
+        for k in range(columns):
+            across, down = columns // 2 - k, rows // 2 - l
+            weights[(rows // 2 + down) * columns + columns // 2 + across] = convolution.coefficients[l * columns + k]
+    return weights
+
+
+def convolved(node, things):
+    convolution, fmt = things[IN2], things[OUT1].fmt
+    weights, radii = turned(convolution), (convolution.columns // 2, convolution.rows // 2)
+
+    def value(samples):
+        return clamp(over_power(weighted(samples, weights), convolution.exponent), fmt)
+
+    return {OUT1: window_image(things[IN1], node.border, radii, fmt, value)}
+
+
+# ---- statistics: of the valid samples
+
+
+def bin_of(bins, sample):
+    """The number of the bin that counts a sample, or None."""
+    if not bins.offset <= sample < bins.offset + bins.range:
+        return None
+    return (sample - bins.offset) * bins.bins // bins.range
+
+
+def histogram(node, things):
+    """A run counts from 0."""
+    bins = things[OUT1].bins
+    found = Counter(bin_of(bins, sample) for sample in valid_samples(things[IN1]))
+    return {OUT1: Distribution(bins, tuple(found[number] for number in range(bins.bins)))}
+
+
+def integral(node, things):
+    """For a valid place the sum of the valid samples that are neither to the right of it nor below it."""
+    image, valid = things[IN1], things[IN1].valid
+    columns, lines = range(valid.left, valid.right), range(valid.top, valid.bottom)
+    rows = [list(accumulate(sample_at(image, x, y) for x in columns)) for y in lines]
+    sums = list(accumulate(rows, lambda above, row: [one + other for one, other in zip(above, row)]))
+
+    def sample(place):
+        y, x = divmod(place, image.width)
+        return sums[y - valid.top][x - valid.left]
+
+    return {OUT1: made(U32, image.width, image.height, valid, sample)}
+
+
+def extremes_of(samples, at):
+    """Of samples, each at one of as many places in order."""
+    if not samples:
+        return NO_EXTREMES
+    least, greatest = min(samples), max(samples)
+    firsts = at[samples.index(least)], at[samples.index(greatest)]
+    return Extremes(least, greatest, samples.count(least), samples.count(greatest), *firsts)
+
+
+def extremes(node, things):
+    return {OUT1: extremes_of(valid_samples(things[IN1]), places(things[IN1].valid))}
+
+
 # ---- the table of functions
 
-# The kinds of in1, in2, out1 and out2, None where the function has none; its policies; its greatest amount, None where it
-# has none; the formats of in1, in2 and out1 that it takes; and what its node gives to its outputs.
-Function = namedtuple("Function", "kinds policies greatest_amount formats gives")
+# The kinds of in1, in2, out1 and out2, None where the function has none; its policies; its greatest amount, None where
+# it has none; the formats of the four that it takes, None where one has none; what its node gives to its outputs; and
+# the operands of which one may be absent.
+Function = namedtuple("Function", "kinds policies greatest_amount formats gives optional", defaults=((),))
 
 NO_POLICY, POLICIES = (0,), (frames.WRAP, frames.SATURATE)
 ONE_IMAGE = (Image, None, Image, None)
 TWO_IMAGES = (Image, Image, Image, None)
 WITH_THRESHOLD = (Image, Threshold, Image, None)
 WITH_TABLE = (Image, Lut, Image, None)
+WITH_CONVOLUTION = (Image, Convolution, Image, None)
+TO_TWO_IMAGES = (Image, None, Image, Image)
+TO_DISTRIBUTION = (Image, None, Distribution, None)
+TO_EXTREMES = (Image, None, Extremes, None)
 
-BYTES = ((U8, U8, U8),)
-EQUAL = ((U8, U8, U8), (S16, S16, S16))
-ARITHMETIC = ((U8, U8, S16), (U8, S16, S16), (S16, U8, S16), (S16, S16, S16), (U8, U8, U8))
-TO_BYTES = ((U8, U8, U8), (S16, S16, U8))
-ONE_OF_BYTES = ((U8, None, U8),)
-DEPTHS = ((U8, None, S16), (S16, None, U8))
+BYTES = ((U8, U8, U8, None),)
+EQUAL = ((U8, U8, U8, None), (S16, S16, S16, None))
+TO_SHORTS = ((U8, U8, S16, None), (U8, S16, S16, None), (S16, U8, S16, None), (S16, S16, S16, None))
+ARITHMETIC = (*TO_SHORTS, *BYTES)
+TO_BYTES = ((U8, U8, U8, None), (S16, S16, U8, None))
+ONE_OF_BYTES = ((U8, None, U8, None),)
+DEPTHS = ((U8, None, S16, None), (S16, None, U8, None))
+GRADIENTS = ((U8, None, S16, S16), (U8, None, S16, None), (U8, None, None, S16))
+CONVOLVED = ((U8, None, U8, None), (U8, None, S16, None))
+SUMMED = ((U8, None, U32, None),)
+COUNTED = ((U8, None, None, None),)
+COMPARED = ((U8, None, None, None), (S16, None, None, None))
 
 FUNCTIONS = {
     frames.AND_BITS: Function(TWO_IMAGES, NO_POLICY, None, BYTES, pixelwise(and_bits)),
@@ -646,6 +977,16 @@ FUNCTIONS = {
     frames.THRESHOLD: Function(WITH_THRESHOLD, NO_POLICY, None, TO_BYTES, pixelwise(thresholded)),
     frames.TABLE_LOOKUP: Function(WITH_TABLE, NO_POLICY, None, EQUAL, pixelwise(looked_up)),
     frames.CONVERT_DEPTH: Function(ONE_IMAGE, POLICIES, 7, DEPTHS, pixelwise(converted)),
+    frames.BOX: Function(ONE_IMAGE, NO_POLICY, None, ONE_OF_BYTES, windowed(box)),
+    frames.GAUSSIAN: Function(ONE_IMAGE, NO_POLICY, None, ONE_OF_BYTES, windowed(gaussian)),
+    frames.MEDIAN: Function(ONE_IMAGE, NO_POLICY, None, ONE_OF_BYTES, windowed(median)),
+    frames.ERODE: Function(ONE_IMAGE, NO_POLICY, None, ONE_OF_BYTES, windowed(min)),
+    frames.DILATE: Function(ONE_IMAGE, NO_POLICY, None, ONE_OF_BYTES, windowed(max)),
+    frames.SOBEL: Function(TO_TWO_IMAGES, NO_POLICY, None, GRADIENTS, windowed(gradient_x, gradient_y), OUTPUTS),
+    frames.CONVOLVE: Function(WITH_CONVOLUTION, NO_POLICY, None, CONVOLVED, convolved),
+    frames.HISTOGRAM: Function(TO_DISTRIBUTION, NO_POLICY, None, COUNTED, histogram),
+    frames.INTEGRAL: Function(ONE_IMAGE, NO_POLICY, None, SUMMED, integral),
+    frames.MIN_MAX_LOCATION: Function(TO_EXTREMES, NO_POLICY, None, COMPARED, extremes),
 }
 
 
@@ -661,24 +1002,31 @@ def each(*takes):
     return lambda fields: [take(fields) for take in takes]
 
 
-CREATE_CODES = {SUCCESS, INVALID_PARAMETERS, INVALID_REFERENCE, INVALID_FORMAT, NO_RESOURCES}
 NAME_CODES = {SUCCESS, INVALID_PARAMETERS, INVALID_REFERENCE}
+CREATE_CODES = NAME_CODES | {NO_RESOURCES}
 IMAGE_CODES = NAME_CODES | {INVALID_TYPE, INVALID_VALUE}
 PICTURE_CODES = IMAGE_CODES | {INVALID_FORMAT, INVALID_DIMENSION}
 
 REQUESTS = {
     OPEN_CONTEXT: Request(take_nothing, open_context, {SUCCESS, INVALID_PARAMETERS, INVALID_VALUE}),
     RELEASE_CONTEXT: Request(take_nothing, release_context, NAME_CODES),
-    CREATE_IMAGE: Request(take_description, create_image, CREATE_CODES | {INVALID_DIMENSION}),
+    CREATE_IMAGE: Request(take_description, create_image, CREATE_CODES | {INVALID_FORMAT, INVALID_DIMENSION}),
     QUERY_IMAGE: Request(each(take_cell), query_image, IMAGE_CODES),
     WRITE_IMAGE: Request(each(take_cell, take_picture), write_image, PICTURE_CODES),
+    WRITE_IMAGE_PGM: Request(each(take_cell, take_text), write_image_pgm, PICTURE_CODES),
     READ_IMAGE: Request(each(take_cell), read_image, IMAGE_CODES),
+    READ_IMAGE_PGM: Request(each(take_cell), read_image_pgm, IMAGE_CODES | {INVALID_FORMAT}),
     SET_VALID: Request(each(take_cell, take_rectangle), set_valid, IMAGE_CODES),
     RELEASE: Request(each(take_name), release, NAME_CODES),
-    CREATE_LUT: Request(each(take_lut), create_lut, CREATE_CODES),
-    CREATE_THRESHOLD: Request(each(take_threshold), create_threshold, CREATE_CODES | {INVALID_VALUE}),
-    # Two outputs, and so MULTIPLE_WRITERS, are for functions that are planned.
-    IMMEDIATE: Request(each(take_node), immediate, PICTURE_CODES | {INVALID_GRAPH}),
+    CREATE_LUT: Request(each(take_lut), create_lut, CREATE_CODES | {INVALID_FORMAT}),
+    CREATE_THRESHOLD: Request(each(take_threshold), create_threshold, CREATE_CODES | {INVALID_FORMAT, INVALID_VALUE}),
+    CREATE_CONVOLUTION: Request(
+        each(take_convolution), create_convolution, CREATE_CODES | {INVALID_DIMENSION, INVALID_VALUE}),
+    CREATE_DISTRIBUTION: Request(each(take_bins), create_distribution, CREATE_CODES | {INVALID_VALUE}),
+    READ_DISTRIBUTION: Request(each(take_name), read_distribution, NAME_CODES | {INVALID_TYPE}),
+    CREATE_MIN_MAX: Request(take_nothing, create_min_max, CREATE_CODES),
+    READ_MIN_MAX: Request(each(take_name), read_min_max, NAME_CODES | {INVALID_TYPE}),
+    IMMEDIATE: Request(each(take_node), immediate, PICTURE_CODES | {MULTIPLE_WRITERS, INVALID_GRAPH}),
     CREATE_DELAY: Request(each(take_cell, take_slots), create_delay, IMAGE_CODES | {NO_RESOURCES}),
     AGE_DELAY: Request(each(take_name), age_delay, NAME_CODES | {INVALID_TYPE}),
 }

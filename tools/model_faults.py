@@ -1,12 +1,14 @@
 """Wrong readings of docs/wire.md, each of them names of tools/model.py with what stands for them, for
 `tools/check_streams --faults`, which shows that its streams tell them from the right one."""
 
+import re
 from collections import namedtuple
 from types import SimpleNamespace
 
 import frames
 import model
-from frames import S16, U32
+from frames import CONSTANT, REPLICATE, S16, U8, U32, UNDEFINED
+from model import EMPTY, IN1, IN2, OUT1, OUT2
 
 # What is wrong; the op without which nobody can tell, or None; and what stands for which names of the model.
 Fault = namedtuple("Fault", "words needs changes")
@@ -14,13 +16,49 @@ Fault = namedtuple("Fault", "words needs changes")
 # The model as it is, also while a fault is planted.
 right = SimpleNamespace(**vars(model))
 
+QUERY_IMAGE, SET_VALID = right.QUERY_IMAGE, right.SET_VALID
+
+
+def whole_of(image):
+    return right.whole(image.width, image.height)
+
 
 # ---- samples and functions
 
 
+def with_row(number, **changes):
+    """A function whose row has something else."""
+    return {"FUNCTIONS": {**right.FUNCTIONS, number: right.FUNCTIONS[number]._replace(**changes)}}
+
+
 def with_value(number, value):
     """A pixelwise function with another value."""
-    return {"FUNCTIONS": {**right.FUNCTIONS, number: right.FUNCTIONS[number]._replace(gives=right.pixelwise(value))}}
+    return with_row(number, gives=right.pixelwise(value))
+
+
+def narrowed_by(narrow):
+    """Both policies are one."""
+    return {"narrow": lambda value, fmt, _: narrow(value, fmt)}
+
+
+def multiplied(quotient):
+    """Multiply with another quotient."""
+    def multiply(a, b, way):
+        return right.narrow(quotient(a * b, way.amount), way.fmt, way.policy)
+
+    return with_value(frames.MULTIPLY, multiply)
+
+
+def rounded_up(value, exponent):
+    return -(-value // 2**exponent)
+
+
+def rounded_down(value, exponent):
+    return value // 2**exponent
+
+
+def to_the_nearest(value, exponent):
+    return round(value / 2**exponent)
 
 
 def difference_wrapped(a, b, way):
@@ -57,11 +95,11 @@ def entry_from_zero(table, sample):
 
 
 FUNCTION_FAULTS = (
-    Fault("Multiply rounds up", None, {"over_power": lambda value, exponent: -(-value // 2**exponent)}),
-    Fault("Multiply rounds down", None, {"over_power": lambda value, exponent: value // 2**exponent}),
-    Fault("Multiply rounds to the nearest", None, {"over_power": lambda value, exponent: round(value / 2**exponent)}),
-    Fault("WRAP saturates", None, {"wrap": right.clamp}),
-    Fault("SATURATE wraps", None, {"clamp": right.wrap}),
+    Fault("Multiply rounds up", None, multiplied(rounded_up)),
+    Fault("Multiply rounds down", None, multiplied(rounded_down)),
+    Fault("Multiply rounds to the nearest", None, multiplied(to_the_nearest)),
+    Fault("WRAP saturates", None, narrowed_by(right.clamp)),
+    Fault("SATURATE wraps", None, narrowed_by(right.wrap)),
     Fault("Subtract takes in1 from in2", None, with_value(frames.SUBTRACT, difference_turned)),
     Fault("AbsoluteDifference wraps", None, with_value(frames.ABSOLUTE_DIFFERENCE, difference_wrapped)),
     Fault("MinPixel compares without the sign", None, with_value(frames.MIN_PIXEL, smaller_without_sign)),
@@ -73,6 +111,339 @@ FUNCTION_FAULTS = (
 )
 
 
+# ---- windows
+
+
+def with_window(number, value):
+    """A 3x3 window function with another value."""
+    return with_row(number, gives=right.windowed(value))
+
+
+def cross_of(nine):
+    """The middle one, and those above, below and beside it."""
+    return [nine[k] for k in (1, 3, 4, 5, 7)]
+
+
+def without_middle(nine):
+    return [*nine[:4], *nine[5:]]
+
+
+def median_of_rows(nine):
+    return sorted(sorted(nine[k : k + 3])[1] for k in (0, 3, 6))[1]
+
+
+def gaussian_by_steps(nine):
+    """It is rounded along rows, and then along columns."""
+    above, there, below = (right.weighted(nine[k : k + 3], (1, 2, 1)) // 4 for k in (0, 3, 6))
+    return (above + 2 * there + below) // 4
+
+
+def with_gradients(gradient_x, gradient_y):
+    return with_row(frames.SOBEL, gives=right.windowed(gradient_x, gradient_y))
+
+
+def plain_gradient(nine):
+    return right.weighted(nine, (-1, 0, 1, -1, 0, 1, -1, 0, 1))
+
+
+def opposite(gradient):
+    return lambda nine: -gradient(nine)
+
+
+def size_of(gradient):
+    return lambda nine: abs(gradient(nine))
+
+
+def gradients_in_order(node, things):
+    """What the first output has is gx, also where it is gy's."""
+    written = [k for k in model.OUTPUTS if things[k] is not None]
+    values = zip(written, (right.gradient_x, right.gradient_y))
+    return {k: right.window_image(things[IN1], node.border, (1, 1), things[k].fmt, value) for k, value in values}
+
+
+def convolved_to(result):
+    """Convolve that gives something else of a sum, the exponent and the output's format."""
+    def gives(node, things):
+        convolution, fmt = things[IN2], things[OUT1].fmt
+        weights, radii = right.turned(convolution), (convolution.columns // 2, convolution.rows // 2)
+
+        def value(samples):
+            return result(right.weighted(samples, weights), convolution.exponent, fmt)
+
+        return {OUT1: right.window_image(things[IN1], node.border, radii, fmt, value)}
+
+    return with_row(frames.CONVOLVE, gives=gives)
+
+
+def divided_by(quotient):
+    return convolved_to(lambda total, exponent, fmt: right.clamp(quotient(total, exponent), fmt))
+
+
+def convolved_of_shorts(total, exponent, fmt):
+    return right.clamp(right.over_power(right.wrap(total, S16), exponent), fmt)
+
+
+def rows_of(convolution):
+    columns = convolution.columns
+    return [convolution.coefficients[k : k + columns] for k in range(0, columns * convolution.rows, columns)]
+
+
+def turned_across(convolution):
+    return [weight for row in rows_of(convolution) for weight in row[::-1]]
+
+
+def turned_by_columns(convolution):
+    """Its coefficients stand by columns."""
+    rows = convolution.rows
+    return [convolution.coefficients[k * rows + l] for l in range(rows) for k in range(convolution.columns)][::-1]
+
+
+def look_from_image(mode):
+    """With one mode a place counts as beside only where it is beside the image."""
+    def look(image, border, x, y):
+        return right.look(image._replace(valid=whole_of(image)) if border.mode == mode else image, border, x, y)
+
+    return {"look": look}
+
+
+def mirrored(start, end, at):
+    return 2 * start - at if at < start else 2 * (end - 1) - at if at >= end else at
+
+
+def look_mirrored(image, border, x, y):
+    left, top, end, bottom = image.valid
+    if border.mode == REPLICATE:
+        x, y = mirrored(left, end, x), mirrored(top, bottom, y)
+    return right.look(image, border, x, y)
+
+
+def look_at_zero(image, border, x, y):
+    return right.look(image, border._replace(constant=0), x, y)
+
+
+def valid_after_with(radii):
+    """Other radii by which the rectangle shrinks."""
+    return {"valid_after": lambda valid, border, *of: right.valid_after(valid, border, *radii(*of))}
+
+
+def shrunk_by(mode):
+    """One more mode with which a rectangle shrinks."""
+    def valid_after(valid, border, *radii):
+        shrinking = border._replace(mode=UNDEFINED) if border.mode == mode else border
+        return right.valid_after(valid, shrinking, *radii)
+
+    return {"valid_after": valid_after}
+
+
+def window_within_image(image, border, radii, fmt, value):
+    """With UNDEFINED it is the image whose ends aren't valid."""
+    if border.mode != UNDEFINED:
+        return right.window_image(image, border, radii, fmt, value)
+    wide = right.window_image(image._replace(valid=whole_of(image)), border, radii, fmt, value)
+    return right.confined(wide, right.meet(wide.valid, image.valid))
+
+
+def window_of_constant(image, border, radii, fmt, value):
+    """With CONSTANT an image that is valid nowhere has a border everywhere."""
+    if border.mode != CONSTANT or image.valid != EMPTY:
+        return right.window_image(image, border, radii, fmt, value)
+    constant = value([border.constant] * ((2 * radii[0] + 1) * (2 * radii[1] + 1)))
+    return right.made(fmt, image.width, image.height, whole_of(image), lambda _: constant)
+
+
+WINDOW_FAULTS = (
+    Fault("Box rounds to the nearest", None, with_window(frames.BOX, lambda nine: (sum(nine) + 4) // 9)),
+    Fault("Box rounds up", None, with_window(frames.BOX, lambda nine: -(-sum(nine) // 9))),
+    Fault("Box leaves out the middle", None, with_window(frames.BOX, lambda nine: sum(without_middle(nine)) // 8)),
+    Fault("Gaussian rounds to the nearest", None,
+          with_window(frames.GAUSSIAN, lambda nine: (right.weighted(nine, (1, 2, 1, 2, 4, 2, 1, 2, 1)) + 8) // 16)),
+    Fault("Gaussian rounds along rows and again along columns", None, with_window(frames.GAUSSIAN, gaussian_by_steps)),
+    Fault("Median is the median of the rows' medians", None, with_window(frames.MEDIAN, median_of_rows)),
+    Fault("Median is the fourth by size", None, with_window(frames.MEDIAN, lambda nine: sorted(nine)[3])),
+    Fault("Median is the sixth by size", None, with_window(frames.MEDIAN, lambda nine: sorted(nine)[5])),
+    Fault("Erode looks at a cross", None, with_window(frames.ERODE, lambda nine: min(cross_of(nine)))),
+    Fault("Erode leaves out the middle", None, with_window(frames.ERODE, lambda nine: min(without_middle(nine)))),
+    Fault("Erode is the greatest", None, with_window(frames.ERODE, max)),
+    Fault("Dilate looks at a cross", None, with_window(frames.DILATE, lambda nine: max(cross_of(nine)))),
+    Fault("Dilate leaves out the middle", None, with_window(frames.DILATE, lambda nine: max(without_middle(nine)))),
+    Fault("Dilate is the least", None, with_window(frames.DILATE, min)),
+    Fault("Sobel's outputs are exchanged", None, with_gradients(right.gradient_y, right.gradient_x)),
+    Fault("gx falls to the right", None, with_gradients(opposite(right.gradient_x), right.gradient_y)),
+    Fault("gy falls to below", None, with_gradients(right.gradient_x, opposite(right.gradient_y))),
+    Fault("gx weighs the three rows alike", None, with_gradients(plain_gradient, right.gradient_y)),
+    Fault("Sobel gives no number below 0", None, with_gradients(size_of(right.gradient_x), size_of(right.gradient_y))),
+    Fault("Sobel's only output is gx", None, with_row(frames.SOBEL, gives=gradients_in_order)),
+    Fault("Convolve doesn't turn the coefficients", None, {"turned": lambda convolution: convolution.coefficients}),
+    Fault("Convolve turns columns alone", None, {"turned": turned_across}),
+    Fault("a convolution's coefficients stand by columns", None, {"turned": turned_by_columns}),
+    Fault("Convolve rounds down", None, divided_by(rounded_down)),
+    Fault("Convolve rounds up", None, divided_by(rounded_up)),
+    Fault("Convolve rounds to the nearest", None, divided_by(to_the_nearest)),
+    Fault("Convolve doesn't divide", None, divided_by(lambda total, _: total)),
+    Fault("Convolve divides by 2^15 at most", None,
+          divided_by(lambda total, exponent: right.over_power(total, min(exponent, 15)))),
+    Fault("Convolve wraps", None,
+          convolved_to(lambda total, exponent, fmt: right.wrap(right.over_power(total, exponent), fmt))),
+    Fault("Convolve has sums of 16 bits", None, convolved_to(convolved_of_shorts)),
+    Fault("REPLICATE counts from the image's ends", SET_VALID, look_from_image(REPLICATE)),
+    Fault("CONSTANT counts from the image's ends", SET_VALID, look_from_image(CONSTANT)),
+    Fault("REPLICATE mirrors", None, {"look": look_mirrored}),
+    Fault("CONSTANT counts 0", None, {"look": look_at_zero}),
+    Fault("UNDEFINED shrinks nothing", None, valid_after_with(lambda *_: (0, 0))),
+    Fault("UNDEFINED shrinks by one place, whatever the window", None, valid_after_with(lambda *_: (1, 1))),
+    Fault("UNDEFINED shrinks by rows across and by columns down", None,
+          valid_after_with(lambda across, down: (down, across))),
+    Fault("UNDEFINED shrinks by the window's whole sides", None,
+          valid_after_with(lambda across, down: (2 * across, 2 * down))),
+    Fault("UNDEFINED shrinks the image and not its rectangle", SET_VALID, {"window_image": window_within_image}),
+    Fault("CONSTANT shrinks the rectangle", None, shrunk_by(CONSTANT)),
+    Fault("REPLICATE shrinks the rectangle", None, shrunk_by(REPLICATE)),
+    Fault("with CONSTANT the output of an image that is valid nowhere is wholly valid", SET_VALID,
+          {"window_image": window_of_constant}),
+)
+
+
+# ---- statistics
+
+
+def with_bin(bin_of):
+    """A histogram that counts a sample in the bin that is given by its distance from the offset."""
+    def bin_there(bins, sample):
+        return None if right.bin_of(bins, sample) is None else bin_of(bins, sample - bins.offset)
+
+    return {"bin_of": bin_there}
+
+
+def bin_of_last(bins, sample):
+    """What is beyond the last bin counts there."""
+    if sample < bins.offset:
+        return None
+    return right.bin_of(bins, min(sample, bins.offset + bins.range - 1))
+
+
+def bin_of_first(bins, sample):
+    """What is before the first bin counts there."""
+    return right.bin_of(bins, max(sample, bins.offset))
+
+
+def bin_to_range(bins, sample):
+    """The range is an end, and not a length."""
+    return right.bin_of(bins, sample) if sample < bins.range else None
+
+
+def bin_with_end(bins, sample):
+    return bins.bins - 1 if sample == bins.offset + bins.range else right.bin_of(bins, sample)
+
+
+def histogram_added(node, things):
+    distribution = right.histogram(node, things)[OUT1]
+    counts = map(sum, zip(distribution.counts, things[OUT1].counts))
+    return {OUT1: distribution._replace(counts=tuple(counts))}
+
+
+def of_whole(gives):
+    """A function that looks at all samples, also at those that aren't valid."""
+    return lambda node, things: gives(node, [things[IN1]._replace(valid=whole_of(things[IN1])), *things[1:]])
+
+
+def unless_empty(gives):
+    """A function that writes nothing where nothing is valid."""
+    return lambda node, things: {} if things[IN1].valid == EMPTY else gives(node, things)
+
+
+def nearest_bin(bins, distance):
+    return min((2 * distance * bins.bins + bins.range) // (2 * bins.range), bins.bins - 1)
+
+
+def with_sums(sum_at):
+    """An integral that has something else, of the image and a valid place."""
+    def gives(_, things):
+        image = things[IN1]
+        return {OUT1: right.made(U32, image.width, image.height, image.valid,
+                                 lambda place: sum_at(image, place % image.width, place // image.width))}
+
+    return with_row(frames.INTEGRAL, gives=gives)
+
+
+def sum_of(image, x, y):
+    """Of the valid samples that are to the left of a place and above it."""
+    part = image.valid._replace(right=x, bottom=y)
+    return sum(right.sample_at(image, x, y) for x, y in right.places(part))
+
+
+def sum_of_row(image, x, y):
+    return sum(right.sample_at(image, k, y) for k in range(image.valid.left, x + 1))
+
+
+def with_extremes(extremes_of):
+    return {"extremes_of": extremes_of}
+
+
+def extremes_at_last(samples, at):
+    """The last place of each."""
+    return right.extremes_of(samples[::-1], at[::-1])
+
+
+def extremes_by_columns(samples, at):
+    """The first place of each by columns from the left."""
+    found = sorted(zip(samples, at), key=lambda one: one[1])
+    return right.extremes_of([sample for sample, _ in found], [place for _, place in found])
+
+
+def extremes_from_start(samples, at):
+    """Places that are counted from the valid rectangle's start."""
+    left, top = at[0] if at else (0, 0)
+    return right.extremes_of(samples, [(x - left, y - top) for x, y in at])
+
+
+def extremes_without_sign(samples, at):
+    order = {sample % 2**16: sample for sample in samples}
+    found = right.extremes_of([sample % 2**16 for sample in samples], at)
+    return found._replace(min=order[found.min], max=order[found.max]) if samples else found
+
+
+def extremes_of_all_runs(node, things):
+    found, before = right.extremes(node, things)[OUT1], things[OUT1]
+    if before.min_count and before.min < found.min:
+        found = found._replace(min=before.min, min_count=before.min_count, min_at=before.min_at)
+    return {OUT1: found}
+
+
+HISTOGRAM, MIN_MAX_LOCATION = frames.HISTOGRAM, frames.MIN_MAX_LOCATION
+
+STATISTIC_FAULTS = (
+    Fault("Histogram adds to what was counted before", None, with_row(HISTOGRAM, gives=histogram_added)),
+    Fault("Histogram counts samples that aren't valid", SET_VALID,
+          with_row(HISTOGRAM, gives=of_whole(right.histogram))),
+    Fault("Histogram leaves the counts where nothing is valid", SET_VALID,
+          with_row(HISTOGRAM, gives=unless_empty(right.histogram))),
+    Fault("bins have a whole number of samples, rounded up", None,
+          with_bin(lambda bins, distance: distance // -(-bins.range // bins.bins))),
+    Fault("bins have a whole number of samples, rounded down", None,
+          with_bin(lambda bins, distance: min(distance // max(1, bins.range // bins.bins), bins.bins - 1))),
+    Fault("a sample's bin is rounded to the nearest", None, with_bin(nearest_bin)),
+    Fault("a sample beyond the range counts in the last bin", None, {"bin_of": bin_of_last}),
+    Fault("a sample below the offset counts in the first bin", None, {"bin_of": bin_of_first}),
+    Fault("a range is where the bins end", None, {"bin_of": bin_to_range}),
+    Fault("the sample at a range's end counts", None, {"bin_of": bin_with_end}),
+    Fault("Integral has the sums at all places", SET_VALID, with_row(frames.INTEGRAL, gives=of_whole(right.integral))),
+    Fault("Integral leaves out a place's row and column", None, with_sums(sum_of)),
+    Fault("Integral leaves out a place's row", None, with_sums(lambda image, x, y: sum_of(image, x + 1, y))),
+    Fault("Integral begins anew in each row", None, with_sums(sum_of_row)),
+    Fault("Integral has sums of 16 bits", None,
+          with_sums(lambda image, x, y: sum_of(image, x + 1, y + 1) % 2**16)),
+    Fault("MinMaxLoc tells the last places", None, with_extremes(extremes_at_last)),
+    Fault("MinMaxLoc tells the first places by columns", None, with_extremes(extremes_by_columns)),
+    Fault("MinMaxLoc counts places from the valid rectangle's start", SET_VALID, with_extremes(extremes_from_start)),
+    Fault("MinMaxLoc compares without the sign", None, with_extremes(extremes_without_sign)),
+    Fault("MinMaxLoc looks at samples that aren't valid", SET_VALID,
+          with_row(MIN_MAX_LOCATION, gives=of_whole(right.extremes))),
+    Fault("MinMaxLoc leaves the extremes where nothing is valid", SET_VALID,
+          with_row(MIN_MAX_LOCATION, gives=unless_empty(right.extremes))),
+    Fault("MinMaxLoc finds the least of all runs", None, with_row(MIN_MAX_LOCATION, gives=extremes_of_all_runs)),
+)
+
+
 # ---- objects
 
 
@@ -81,12 +452,14 @@ def image_of_ones(fmt, width, height):
 
 
 def image_in_part(fmt, width, height):
-    return right.new_image(fmt, width, height)._replace(valid=right.whole(width - 1, height) if width > 1 else right.EMPTY)
+    return right.new_image(fmt, width, height)._replace(valid=right.whole(width - 1, height) if width > 1 else EMPTY)
 
 
-def put_over(context, cell, image):
-    samples = [one or other for one, other in zip(image.samples, right.held(context, cell).samples)]
-    right.put(context, cell, image._replace(samples=samples))
+def put_over(context, cell, value):
+    if isinstance(value, model.Image):
+        samples = [one or other for one, other in zip(value.samples, right.held(context, cell).samples)]
+        value = value._replace(samples=samples)
+    right.put(context, cell, value)
 
 
 def write_as_many_samples(limits, state, cell, picture):
@@ -108,8 +481,18 @@ def bytes_of_four(thing):
     return right.object_bytes(thing._replace(fmt=U32) if isinstance(thing, model.Image) else thing)
 
 
-def bytes_of_tables(thing):
-    return len(thing.entries) if isinstance(thing, model.Lut) else right.object_bytes(thing)
+def with_bytes(kind, count):
+    """Objects of a kind that are charged so much."""
+    return {"object_bytes": lambda thing: count(thing) if isinstance(thing, kind) else right.object_bytes(thing)}
+
+
+def without_count(*kinds):
+    """Objects of some kinds that don't count among those that a client may hold."""
+    def has_room(limits, context, thing):
+        more = sum(isinstance(held, kinds) for held in (thing, *context.objects.values()))
+        return right.has_room(limits._replace(objects=limits.objects + more), context, thing)
+
+    return {"has_room": has_room}
 
 
 def create_with_name(limits, state, thing):
@@ -179,7 +562,14 @@ OBJECT_FAULTS = (
     Fault("the quota is one byte less", None, with_room_for(quota=-1)),
     Fault("the quota is one byte more", None, with_room_for(quota=1)),
     Fault("every sample is charged 4 bytes", None, {"object_bytes": bytes_of_four}),
-    Fault("a table is charged", None, {"object_bytes": bytes_of_tables}),
+    Fault("a table is charged", None, with_bytes(model.Lut, lambda table: len(table.entries))),
+    Fault("a convolution is charged", None,
+          with_bytes(model.Convolution, lambda convolution: 2 * len(convolution.coefficients))),
+    Fault("a distribution is charged", None, with_bytes(model.Distribution, lambda found: 4 * len(found.counts))),
+    Fault("extremes are charged", None, with_bytes(model.Extremes, lambda _: 20)),
+    Fault("a convolution isn't counted among the objects", None, without_count(model.Convolution)),
+    Fault("a distribution isn't counted among the objects", None, without_count(model.Distribution)),
+    Fault("extremes aren't counted among the objects", None, without_count(model.Extremes)),
     Fault("the name of an object that was released is given again", right.RELEASE,
           with_outcome(right.RELEASE, release_to_give_again)),
     Fault("an image that was released is still charged", right.RELEASE, still_charged()),
@@ -187,12 +577,6 @@ OBJECT_FAULTS = (
 
 
 # ---- valid rectangles: without these two requests all of them are whole, and nobody is told of one
-
-QUERY_IMAGE, SET_VALID = right.QUERY_IMAGE, right.SET_VALID
-
-
-def whole_of(image):
-    return right.whole(image.width, image.height)
 
 
 def uncleared(image, valid):
@@ -206,7 +590,7 @@ def hidden_samples(image):
 
 def cleared_by_rows(image, valid):
     rows = valid._replace(left=0, right=image.width)
-    return right.confined(image, rows if valid != right.EMPTY else valid)._replace(valid=valid)
+    return right.confined(image, rows if valid != EMPTY else valid)._replace(valid=valid)
 
 
 def cleared(image, valid):
@@ -257,7 +641,7 @@ def is_ordered(rectangle):
 
 
 def is_rectangle_of_places(rectangle):
-    return right.is_rectangle(rectangle) and rectangle != right.EMPTY
+    return right.is_rectangle(rectangle) and rectangle != EMPTY
 
 
 def rectangle_turned_back(fields):
@@ -305,7 +689,7 @@ def query_of_samples(_, state, cell):
     image = right.image_in(state.context, cell)
     places = [divmod(place, image.width) for place, sample in enumerate(image.samples) if sample != 0]
     rows, columns = [y for y, _ in places], [x for _, x in places]
-    valid = (min(columns), min(rows), max(columns) + 1, max(rows) + 1) if places else right.EMPTY
+    valid = (min(columns), min(rows), max(columns) + 1, max(rows) + 1) if places else EMPTY
     return right.description_bytes(image) + right.rectangle_bytes(valid)
 
 
@@ -343,8 +727,8 @@ def delay_with_rectangle(image, slots):
 
 def joined(one, other):
     """The least rectangle that has both in it."""
-    if right.EMPTY in (one, other):
-        return other if one == right.EMPTY else one
+    if EMPTY in (one, other):
+        return other if one == EMPTY else one
     return model.Rectangle(*map(min, one[:2], other[:2]), *map(max, one[2:], other[2:]))
 
 
@@ -354,40 +738,49 @@ def meet_in_any_spelling(one, other):
 
 
 def with_output(change, numbers=right.FUNCTIONS):
-    """Functions whose output is changed, of what the operands were."""
+    """Functions whose images are changed: by one of them, the one in whose place it is put, and the inputs."""
     def changed(function):
         def gives(node, things):
-            return {k: change(image, things) for k, image in function.gives(node, things).items()}
+            given = function.gives(node, things)
+            return {k: change(image, things[k], things[:OUT1]) for k, image in given.items()}
 
-        return function._replace(gives=gives)
+        writes_images = function.kinds[OUT1] is model.Image
+        return function._replace(gives=gives) if writes_images else function
 
     return {"FUNCTIONS": {**right.FUNCTIONS, **{number: changed(right.FUNCTIONS[number]) for number in numbers}}}
 
 
 def valid_as(k):
-    """An output with the rectangle that an operand had."""
-    return lambda image, things: image._replace(valid=things[k].valid)
+    """An output with the rectangle that an input had."""
+    return lambda image, _, inputs: image._replace(valid=inputs[k].valid)
 
 
-def wholly_valid(image, _):
+def wholly_valid(image, *_):
     return image._replace(valid=whole_of(image))
 
 
-def valid_in_both(image, things):
-    return right.confined(image, right.meet(image.valid, things[model.OUT1].valid))
+def valid_as_before(image, before, _):
+    return image._replace(valid=before.valid)
 
 
-def over_the_old(image, things):
+def valid_in_both(image, before, _):
+    return right.confined(image, right.meet(image.valid, before.valid))
+
+
+def over_the_old(image, before, _):
     inside = right.made(image.fmt, image.width, image.height, image.valid, lambda _: True).samples
-    samples = [new if is_inside else old for new, old, is_inside in zip(image.samples, things[model.OUT1].samples, inside)]
+    samples = [new if is_inside else old for new, old, is_inside in zip(image.samples, before.samples, inside)]
     return image._replace(samples=samples)
 
 
 def rectangles_of(number):
     """Wrong rectangles of what one function gives."""
-    yield Fault(f"function {number} gives an image that is wholly valid", SET_VALID, with_output(wholly_valid, [number]))
-    if right.FUNCTIONS[number].kinds == right.TWO_IMAGES:
-        for k, words in ((model.IN1, "first"), (model.IN2, "second")):
+    kinds = right.FUNCTIONS[number].kinds
+    if kinds[OUT1] is model.Image:
+        yield Fault(f"function {number} gives an image that is wholly valid", SET_VALID,
+                    with_output(wholly_valid, [number]))
+    if kinds == right.TWO_IMAGES:
+        for k, words in ((IN1, "first"), (IN2, "second")):
             yield Fault(f"function {number} gives an image that is valid where the {words} input is", SET_VALID,
                         with_output(valid_as(k), [number]))
 
@@ -441,11 +834,444 @@ RECTANGLE_FAULTS = (
     Fault("an output is valid where one of its inputs is", SET_VALID, {"meet": joined}),
     Fault("an output that is valid nowhere has an empty rectangle in another spelling", SET_VALID,
           {"meet": meet_in_any_spelling}),
-    Fault("an output keeps its rectangle", SET_VALID, with_output(valid_as(model.OUT1))),
+    Fault("an output keeps its rectangle", SET_VALID, with_output(valid_as_before)),
     Fault("an output is valid only where it was before", SET_VALID, with_output(valid_in_both)),
     Fault("an output keeps its samples outside the rectangle", SET_VALID, with_output(over_the_old)),
     *(fault for number in right.FUNCTIONS for fault in rectangles_of(number)),
 )
+
+
+# ---- PGM texts
+
+WRITE_IMAGE_PGM, READ_IMAGE_PGM = right.WRITE_IMAGE_PGM, right.READ_IMAGE_PGM
+
+
+def with_grammar(space=right.SPACE, comment=right.COMMENT, number=right.NUMBER, gap=None, plain_gap=None, end=None):
+    """Texts of other parts: with another gap between P2's samples, or at its end."""
+    gap = gap or b"(?:" + space + b"|" + comment + b")+"
+    header = b"(P2|P5)" + 3 * (gap + b"(" + number + b")")
+    raster = b"(?:" + (plain_gap or gap) + number + b")*(?:" + (gap if end is None else end) + b")?"
+    return {"SPACE": space, "COMMENT": comment, "NUMBER": number, "GAP": gap, "HEADER": header, "PLAIN_RASTER": raster}
+
+
+def with_picture(change):
+    """Texts that stand for another picture, by the one that they stand for and maxval."""
+    return {"picture_of": lambda text: change(right.picture_of(text), right.header_of(text)[1][2])}
+
+
+def rescaled(picture, maxval):
+    greatest = 255 if picture.fmt == U8 else 32767
+    return picture._replace(samples=[sample * greatest // maxval for sample in picture.samples])
+
+
+def texts_of_shorts(first):
+    """Texts whose samples are S16 from another maxval on."""
+    def picture_of(text):
+        picture, maxval = right.picture_of(text), right.header_of(text)[1][2]
+        fmt = U8 if maxval < first else S16
+        return picture._replace(fmt=fmt, samples=[right.wrap(sample, fmt) for sample in picture.samples])
+
+    return {"picture_of": picture_of}
+
+
+def texts_to(greatest):
+    """Another greatest maxval. Samples that are no samples of S16 wrap."""
+    def picture_of(text):
+        picture = right.picture_of(text)
+        return picture._replace(samples=[right.wrap(sample, picture.fmt) for sample in picture.samples])
+
+    return {"GREATEST_MAXVAL": greatest, "picture_of": picture_of}
+
+
+def above_maxval(text):
+    """A sample above maxval is maxval."""
+    magic, (width, height, maxval), rest = right.header_of(text)
+    try:
+        return right.picture_of(text)
+    except model.Refused as refusal:
+        if refusal.code != model.INVALID_VALUE:
+            raise
+    fmt, count = U8 if maxval < 256 else S16, width * height
+    samples = right.plain_samples(rest, count) if magic == b"P2" else right.raster_samples(rest, fmt, count)
+    return right.Image(fmt, width, height, right.whole(width, height), [min(sample, maxval) for sample in samples])
+
+
+def maxval_before_sides(text):
+    maxval = right.header_of(text)[1][2]
+    model.refuse_if(not 1 <= maxval <= right.GREATEST_MAXVAL, model.INVALID_FORMAT)
+    return right.picture_of(text)
+
+
+def maxval_is_value(text):
+    width, height, maxval = right.header_of(text)[1]
+    is_told = 1 <= width <= 4096 and 1 <= height <= 4096
+    model.refuse_if(is_told and not 1 <= maxval <= right.GREATEST_MAXVAL, model.INVALID_VALUE)
+    return right.picture_of(text)
+
+
+def raster_before_sides(text):
+    magic, (width, height, maxval), rest = right.header_of(text)
+    fmt, count = U8 if maxval < 256 else S16, width * height
+    model.refuse_if(magic == b"P5" and len(rest) != count * right.sample_bytes(fmt), model.INVALID_FORMAT)
+    if magic == b"P2":
+        right.plain_samples(rest, count)
+    return right.picture_of(text)
+
+
+def sample_before_raster(text):
+    """A sample above maxval is told also of a P2 text that is wrong after it."""
+    try:
+        return right.picture_of(text)
+    except model.Refused as refusal:
+        if refusal.code != model.INVALID_FORMAT:
+            raise
+    magic, (_, _, maxval), rest = right.header_of(text)
+    numbers = re.findall(rb"\d+", re.sub(right.COMMENT, b" ", rest)) if magic == b"P2" else []
+    is_fault = 1 <= maxval <= right.GREATEST_MAXVAL and any(right.number_of(digits) > maxval for digits in numbers)
+    raise model.Refused(model.INVALID_VALUE if is_fault else model.INVALID_FORMAT)
+
+
+def header_after(taken):
+    """P5's header ends with something else than one whitespace byte."""
+    def header_of(text):
+        header = re.match(right.HEADER, text)
+        end = re.match(taken, text[header.end() :]) if header and header[1] == b"P5" else None
+        if end is None:
+            return right.header_of(text)
+        return b"P5", [right.number_of(digits) for digits in header.groups()[1:]], text[header.end() + end.end() :]
+
+    return {"header_of": header_of}
+
+
+def with_text(change):
+    """Texts that are read after something was done to them."""
+    return {"picture_of": lambda text: right.picture_of(change(text))}
+
+
+def with_whitespace_at_end(text):
+    """A P2 text that ends with a number becomes one that isn't right."""
+    return text + b"#" if text[:2] == b"P2" and text[-1:].isdigit() else text
+
+
+def without_comments(text):
+    """A comment is no more than left out. What looks like one in P5's raster stays."""
+    return re.sub(right.COMMENT, b"", text) if text[:2] == b"P2" else text
+
+
+def low_byte_first(raster, fmt, count):
+    samples = right.raster_samples(raster, fmt, count)
+    return samples if fmt == U8 else [sample % 256 * 256 + sample // 256 for sample in samples]
+
+
+def raster_with_more(raster, fmt, count):
+    return right.raster_samples(raster[: count * right.sample_bytes(fmt)], fmt, count)
+
+
+def raster_with_less(raster, fmt, count):
+    return right.raster_samples(raster.ljust(count * right.sample_bytes(fmt), b"\0"), fmt, count)
+
+
+def plain_of_any(rest, count):
+    model.refuse_if(re.fullmatch(right.PLAIN_RASTER, rest) is None, model.INVALID_FORMAT)
+    numbers = re.sub(right.COMMENT, b" ", rest).split()[:count]
+    return [right.number_of(digits) for digits in numbers] + [0] * (count - len(numbers))
+
+
+def plain_until_fault(rest, count):
+    """What follows the last sample isn't looked at."""
+    found = re.match(b"(?:" + right.GAP + right.NUMBER + b"){%d}" % count, rest)
+    return right.plain_samples(rest if found is None else found[0], count)
+
+
+def write_pgm(before):
+    """A WriteImagePgm that tries something before what else it refuses for."""
+    def write_image_pgm(limits, state, cell, text):
+        before(state, cell, text)
+        return right.write_image_pgm(limits, state, cell, text)
+
+    return with_outcome(WRITE_IMAGE_PGM, write_image_pgm)
+
+
+def text_before_image(state, cell, text):
+    right.picture_of(text)
+
+
+def format_before_text(state, cell, text):
+    """The format as soon as maxval tells it."""
+    image = right.image_in(state.context, cell)
+    _, _, maxval = right.header_of(text)[1]
+    is_told = 1 <= maxval <= right.GREATEST_MAXVAL
+    model.refuse_if(is_told and image.fmt != (U8 if maxval < 256 else S16), model.INVALID_FORMAT)
+
+
+def size_before_raster(state, cell, text):
+    """The size as soon as it is told."""
+    image = right.image_in(state.context, cell)
+    model.refuse_if(right.header_of(text)[1][:2] != [image.width, image.height], model.INVALID_DIMENSION)
+
+
+def size_before_format(state, cell, text):
+    image = right.image_in(state.context, cell)
+    model.refuse_if(not right.same_size(right.picture_of(text), image), model.INVALID_DIMENSION)
+
+
+def write_pgm_alone(limits, state, cell, text):
+    valid = right.image_in(state.context, cell).valid
+    right.write_image_pgm(limits, state, cell, text)
+    right.put(state.context, cell, right.image_in(state.context, cell)._replace(valid=valid))
+    return b""
+
+
+def write_pgm_where_valid(limits, state, cell, text):
+    valid = right.image_in(state.context, cell).valid
+    right.write_image_pgm(limits, state, cell, text)
+    right.put(state.context, cell, right.confined(right.image_in(state.context, cell), valid))
+    return b""
+
+
+def some_text(fields):
+    text = fields.rest()
+    model.refuse_if(not text, model.INVALID_PARAMETERS)
+    return text
+
+
+def read_pgm_of_any(_, state, cell):
+    image = right.image_in(state.context, cell)
+    if image.fmt == U8:
+        return right.text_of(image)
+    model.refuse_if(image.fmt == U32 or any(sample < 0 for sample in image.samples), model.INVALID_FORMAT)
+    return b"P5\n%d %d\n32767\n" % (image.width, image.height) + right.encoded_samples(image)
+
+
+def read_pgm_of_bytes(limits, state, cell):
+    """An image that isn't U8 is refused as one whose kind is wrong."""
+    model.refuse_if(right.image_in(state.context, cell).fmt != U8, model.INVALID_TYPE)
+    return right.read_image_pgm(limits, state, cell)
+
+
+def with_header(header):
+    """Texts that begin otherwise."""
+    return {"text_of": lambda image: header(image) + right.text_of(image).split(b"\n", 3)[3]}
+
+
+def text_of_valid(image):
+    left, top, end, bottom = image.valid
+    part = [right.sample_at(image, x, y) for x, y in right.places(image.valid)]
+    return right.text_of(image._replace(width=end - left, height=bottom - top, samples=part))
+
+
+PGM_FAULTS = tuple(Fault(words, WRITE_IMAGE_PGM, changes) for words, changes in (
+    ("samples are rescaled", with_picture(rescaled)),
+    ("a maxval of 255 gives S16", texts_of_shorts(255)),
+    ("a maxval of 256 gives U8", texts_of_shorts(257)),
+    ("maxval may be 32768", texts_to(32768)),
+    ("maxval is 32766 at most", texts_to(32766)),
+    ("a sample above maxval is maxval", {"picture_of": above_maxval}),
+    ("maxval is told before the sides", {"picture_of": maxval_before_sides}),
+    ("a maxval that isn't allowed is told as INVALID_VALUE", {"picture_of": maxval_is_value}),
+    ("the raster is told before the sides", {"picture_of": raster_before_sides}),
+    ("a sample above maxval is told before what is wrong after it", {"picture_of": sample_before_raster}),
+    ("a comment may follow the maxval of P5", header_after(right.COMMENT)),
+    ("CR LF may follow the maxval of P5", header_after(b"\r\n")),
+    ("nothing need follow the maxval of P5", header_after(b"")),
+    ("a comment ends at LF alone", with_grammar(comment=rb"#[^\n]*\n")),
+    ("a comment may end with the text", with_grammar(comment=rb"#[^\r\n]*(?:[\r\n]|\Z)")),
+    ("a comment within a number is left out", with_text(without_comments)),
+    ("a comment follows whitespace alone", with_grammar(gap=rb"[ \t\r\n](?:[ \t\r\n]|#[^\r\n]*[\r\n])*")),
+    ("no comment stands between samples", with_grammar(plain_gap=right.SPACE + b"+")),
+    ("no comment stands at the end", with_grammar(end=right.SPACE + b"*")),
+    ("VT is whitespace", with_grammar(space=rb"[ \t\r\n\x0b]")),
+    ("CR is no whitespace", with_grammar(space=rb"[ \t\n]")),
+    ("a number has no leading zeros", with_grammar(number=rb"(?:0|[1-9][0-9]*)")),
+    ("a number may have a sign",
+     {**with_grammar(number=rb"[+-]?[0-9]+"), "number_of": lambda digits: right.number_of(digits.lstrip(b"+-"))}),
+    ("whitespace may stand before the text", with_text(lambda text: text.lstrip(b" \t\r\n"))),
+    ("a P2 text ends with its last number", with_grammar(end=b"")),
+    ("a P2 text ends with whitespace", with_text(with_whitespace_at_end)),
+    ("samples of two bytes have the low one first", {"raster_samples": low_byte_first}),
+    ("bytes may follow the raster of P5", {"raster_samples": raster_with_more}),
+    ("what lacks of the raster of P5 is 0", {"raster_samples": raster_with_less}),
+    ("numbers may follow the samples of P2, and those that lack are 0", {"plain_samples": plain_of_any}),
+    ("anything may follow the samples of P2", {"plain_samples": plain_until_fault}),
+    ("a text's fault is told before what is wrong with its image", write_pgm(text_before_image)),
+    ("a text's format is compared as soon as it is told", write_pgm(format_before_text)),
+    ("a text's size is compared as soon as it is told", write_pgm(size_before_raster)),
+    ("a text's size is compared before its format", write_pgm(size_before_format)),
+    ("WriteImagePgm leaves the valid rectangle", with_outcome(WRITE_IMAGE_PGM, write_pgm_alone)),
+    ("WriteImagePgm writes where the image is valid", with_outcome(WRITE_IMAGE_PGM, write_pgm_where_valid)),
+    ("an empty text answers INVALID_PARAMETERS", with_fields(WRITE_IMAGE_PGM, right.take_cell, some_text)),
+)) + tuple(Fault(words, READ_IMAGE_PGM, changes) for words, changes in (
+    ("ReadImagePgm gives S16 too", with_outcome(READ_IMAGE_PGM, read_pgm_of_any)),
+    ("ReadImagePgm of S16 answers INVALID_TYPE", with_outcome(READ_IMAGE_PGM, read_pgm_of_bytes)),
+    ("a text that is written has blanks alone",
+     with_header(lambda image: b"P5 %d %d 255\n" % (image.width, image.height))),
+    ("a text that is written has its height first",
+     with_header(lambda image: b"P5\n%d %d\n255\n" % (image.height, image.width))),
+    ("a text that is written has the greatest sample as maxval",
+     with_header(lambda image: b"P5\n%d %d\n%d\n" % (image.width, image.height, max(1, *image.samples, 0)))),
+    ("a text that is written has the valid part alone", {"text_of": text_of_valid}),
+))
+
+
+# ---- convolutions, distributions and extremes
+
+
+def length_in(*allowed):
+    """A convolution of other sizes."""
+    def take(fields):
+        length = fields.byte()
+        model.refuse_if(length not in allowed, model.INVALID_DIMENSION)
+        return length
+
+    return {"take_length": take}
+
+
+def length_as_value(fields):
+    length = fields.byte()
+    model.refuse_if(length not in (3, 5, 7, 9), model.INVALID_VALUE)
+    return length
+
+
+def exponent_to(greatest, code=model.INVALID_VALUE):
+    def take(fields):
+        exponent = fields.byte()
+        model.refuse_if(exponent > greatest, code)
+        return exponent
+
+    return {"take_exponent": take}
+
+
+def convolution_at_once(fields):
+    """Its three numbers are there before one is looked at."""
+    at = fields.at
+    fields.bytes(3)
+    fields.at = at
+    return right.take_convolution(fields)
+
+
+def convolution_of_rows(fields):
+    """It has its rows before its columns."""
+    rows, columns, exponent = right.take_length(fields), right.take_length(fields), right.take_exponent(fields)
+    return model.Convolution(columns, rows, exponent, right.take_samples(fields, S16, columns * rows))
+
+
+def number_refused(fields, least, greatest):
+    number = fields.short()
+    model.refuse_if(not least <= number <= greatest, model.INVALID_PARAMETERS)
+    return number
+
+
+def number_up_to_end(fields, least, greatest):
+    number = fields.short()
+    model.refuse_if(not least <= number <= greatest + 1, model.INVALID_VALUE)
+    return number
+
+
+def number_from_zero(fields, _, greatest):
+    return right.take_number(fields, 0, greatest)
+
+
+def number_below(fields, least, _):
+    return right.take_number(fields, least, 255)
+
+
+def bins_by_range(fields):
+    bins, length = right.take_number(fields, 1, 256), right.take_number(fields, 1, 256)
+    return model.Bins(bins, right.take_number(fields, 0, 255), length)
+
+
+def bins_to_256(fields):
+    """They don't go beyond the samples."""
+    bins = right.take_bins(fields)
+    model.refuse_if(bins.offset + bins.range > 256, model.INVALID_VALUE)
+    return bins
+
+
+def bins_at_once(fields):
+    at = fields.at
+    fields.bytes(6)
+    fields.at = at
+    return right.take_bins(fields)
+
+
+def distribution_of_ones(bins):
+    return model.Distribution(bins, (1,) * bins.bins)
+
+
+def counts_without_bins(limits, state, name):
+    return right.read_distribution(limits, state, name)[2:]
+
+
+def counts_of_shorts(limits, state, name):
+    body = right.read_distribution(limits, state, name)
+    return body[:2] + b"".join(body[k + 2 : k + 4] for k in range(2, len(body), 4))
+
+
+def read_and_clear(op, cleared):
+    """What is read is then as it was at first."""
+    def read(limits, state, name):
+        body = right.REQUESTS[op].outcome(limits, state, name)
+        state.context.objects[name] = cleared(state.context.objects[name])
+        return body
+
+    return with_outcome(op, read)
+
+
+def told_extremes(order):
+    """ReadMinMax that tells its numbers otherwise, by what stands at which bytes."""
+    def read_min_max(limits, state, name):
+        body = right.read_min_max(limits, state, name)
+        return b"".join(body[start:end] for start, end in order)
+
+    return with_outcome(READ_MIN_MAX, read_min_max)
+
+
+def of_code(code):
+    """An object of another kind has another code."""
+    def object_of(context, name, kind):
+        thing = context.objects.get(name)
+        model.refuse_if(thing is not None and not isinstance(thing, kind), code)
+        return right.object_of(context, name, kind)
+
+    return {"object_of": object_of}
+
+
+CREATE_CONVOLUTION, CREATE_DISTRIBUTION = right.CREATE_CONVOLUTION, right.CREATE_DISTRIBUTION
+READ_DISTRIBUTION, READ_MIN_MAX = right.READ_DISTRIBUTION, right.READ_MIN_MAX
+
+CONVOLUTION_FAULTS = tuple(Fault(words, CREATE_CONVOLUTION, changes) for words, changes in (
+    ("a convolution may have even sides", length_in(*range(2, 10))),
+    ("a convolution may have a side of 11", length_in(3, 5, 7, 9, 11)),
+    ("a convolution has 7 rows and columns at most", length_in(3, 5, 7)),
+    ("a convolution's sides are told as INVALID_VALUE", {"take_length": length_as_value}),
+    ("an exponent is 15 at most", exponent_to(15)),
+    ("an exponent may be 32", exponent_to(32)),
+    ("an exponent is told as INVALID_PARAMETERS", exponent_to(31, model.INVALID_PARAMETERS)),
+    ("a convolution that is cut short is told before its sides", with_fields(CREATE_CONVOLUTION, convolution_at_once)),
+    ("a convolution has its rows before its columns", with_fields(CREATE_CONVOLUTION, convolution_of_rows)),
+))
+
+STATISTIC_OBJECT_FAULTS = tuple(Fault(words, CREATE_DISTRIBUTION, changes) for words, changes in (
+    ("bins that aren't allowed answer INVALID_PARAMETERS", {"take_number": number_refused}),
+    ("a bins' number may be greater by one", {"take_number": number_up_to_end}),
+    ("a bins' number may be 0", {"take_number": number_from_zero}),
+    ("bins have numbers to 255", {"take_number": number_below}),
+    ("bins have their range before their offset", with_fields(CREATE_DISTRIBUTION, bins_by_range)),
+    ("bins may not go beyond 255", with_fields(CREATE_DISTRIBUTION, bins_to_256)),
+    ("bins that are cut short are told before their numbers", with_fields(CREATE_DISTRIBUTION, bins_at_once)),
+    ("a new distribution isn't 0", {"new_distribution": distribution_of_ones}),
+    ("ReadDistribution doesn't tell how many bins there are", with_outcome(READ_DISTRIBUTION, counts_without_bins)),
+    ("ReadDistribution tells counts of two bytes", with_outcome(READ_DISTRIBUTION, counts_of_shorts)),
+    ("ReadDistribution clears the counts",
+     read_and_clear(READ_DISTRIBUTION, lambda found: right.new_distribution(found.bins))),
+)) + tuple(Fault(words, right.CREATE_MIN_MAX, changes) for words, changes in (
+    ("new extremes are the ends of S16", {"NO_EXTREMES": right.NO_EXTREMES._replace(min=32767, max=-32768)}),
+    ("ReadMinMax tells the greatest first", told_extremes(((2, 4), (0, 2), (8, 12), (4, 8), (16, 20), (12, 16)))),
+    ("ReadMinMax tells a place's row before its column",
+     told_extremes(((0, 12), (14, 16), (12, 14), (18, 20), (16, 18)))),
+    ("ReadMinMax clears the extremes", read_and_clear(READ_MIN_MAX, lambda _: right.NO_EXTREMES)),
+    ("an object of another kind is told as INVALID_REFERENCE", of_code(model.INVALID_REFERENCE)),
+))
 
 
 # ---- delays
@@ -521,9 +1347,10 @@ def slots_to_17(fields):
     return slots
 
 
-def node_refusal_at(k, applies):
+def node_refusal_at(k, applies=None, code=None):
+    """One of a node's refusals, for something else or with another code."""
     rows = [*right.NODE_REFUSALS]
-    rows[k] = (applies, rows[k][1])
+    rows[k] = (applies or rows[k][0], code or rows[k][1])
     return {"NODE_REFUSALS": rows}
 
 
@@ -635,13 +1462,15 @@ def amount_as_parameter(fields, function):
 
 
 def border_without_constant(fields):
-    model.refuse_if(fields.byte() > frames.REPLICATE, model.INVALID_PARAMETERS)
-    fields.byte()
+    mode = fields.byte()
+    model.refuse_if(mode > REPLICATE, model.INVALID_PARAMETERS)
+    return model.Border(mode, fields.byte())
 
 
-def operand_absent_by_name(fields, kind):
+def operand_absent_by_name(fields, kind, may_be_absent):
     cell = right.take_cell(fields)
-    model.refuse_if((cell.name == 0) != (kind is None), model.INVALID_PARAMETERS)
+    is_fault = kind is not None and not may_be_absent if cell.name == 0 else kind is None
+    model.refuse_if(is_fault, model.INVALID_PARAMETERS)
     return cell if cell.name else None
 
 
@@ -689,6 +1518,25 @@ def image_by_kind(context, cell):
     return right.image_in(context, cell)
 
 
+def of_first_output(applies):
+    """A refusal that doesn't see the second output."""
+    return lambda node, things: applies(node._replace(cells=[*node.cells[:OUT2], None]), [*things[:OUT2], None])
+
+
+def has_formats_but_of_second(node, things):
+    taken = {formats[:OUT2] for formats in node.function.formats}
+    return tuple(map(right.format_of, things[:OUT2])) not in taken
+
+
+def window_clamped(image, border, radii, fmt, value):
+    return right.window_image(image, border, radii, fmt, lambda samples: right.clamp(value(samples), fmt))
+
+
+def is_of_any_kind(thing, kind):
+    """A slot that isn't there is of any kind."""
+    return thing is model.NO_SUCH_SLOT or right.is_of_kind(thing, kind)
+
+
 REFUSAL_FAULTS = (
     Fault("a node's kinds are tried before its names", None, refusals_in(1, 0, 2, 3, 4, 5, 6)),
     Fault("a node's slots are tried before its names", right.CREATE_DELAY, refusals_in(2, 0, 1, 3, 4, 5, 6)),
@@ -698,9 +1546,29 @@ REFUSAL_FAULTS = (
     Fault("a node's formats are tried before its own output", None, refusals_in(0, 1, 2, 3, 5, 4, 6)),
     Fault("a node's sizes are tried before its formats", None, refusals_in(0, 1, 2, 3, 4, 6, 5)),
     Fault("a node's operands are tried one after another", None, by_operands()),
+    Fault("two outputs may be one image", None, node_refusal_at(3, lambda *_: False)),
+    Fault("two outputs that are one image answer INVALID_GRAPH", None, node_refusal_at(3, code=model.INVALID_GRAPH)),
+    Fault("two outputs that are one image are told before their kinds", None, refusals_in(0, 3, 1, 2, 4, 5, 6)),
+    Fault("two outputs that are one image are told after one that is read", None, refusals_in(0, 1, 2, 4, 3, 5, 6)),
+    Fault("two outputs that are one image are told after formats", None, refusals_in(0, 1, 2, 4, 5, 3, 6)),
+    Fault("two outputs that are one image are told last", None, refusals_in(0, 1, 2, 4, 5, 6, 3)),
+    Fault("a node may read its second output", None, node_refusal_at(4, of_first_output(right.reads_own_output))),
+    Fault("the second output may have another format", None,
+          {**node_refusal_at(5, has_formats_but_of_second), "window_image": window_clamped}),
+    Fault("the second output may have another size", None, node_refusal_at(6, of_first_output(right.has_other_size))),
+    Fault("Sobel has both outputs", None, with_row(frames.SOBEL, optional=())),
+    Fault("Sobel has its first output", None, with_row(frames.SOBEL, optional=(OUT2,))),
+    Fault("Sobel has its second output", None, with_row(frames.SOBEL, optional=(OUT1,))),
+    Fault("a slot that isn't there is of any kind", right.CREATE_DELAY, {"is_of_kind": is_of_any_kind}),
+    Fault("an operand of another kind answers INVALID_FORMAT", None, node_refusal_at(1, code=model.INVALID_FORMAT)),
+    Fault("Convolve gives S16 alone", None, with_row(frames.CONVOLVE, formats=right.CONVOLVED[1:])),
+    Fault("MinMaxLoc takes U8 alone", None, with_row(frames.MIN_MAX_LOCATION, formats=right.COUNTED)),
+    Fault("Histogram takes S16 too", None, with_row(frames.HISTOGRAM, formats=right.COMPARED)),
     Fault("a slot of an object that isn't a delay is passed over", None, with_cells_at(object_without_delay)),
     Fault("a slot is told before a name that is no object's", None, {"image_in": image_by_kind}),
     Fault("WriteImage tries sizes before formats", None, with_outcome(right.WRITE_IMAGE, write_image_by_size)),
 )
 
-FAULTS = FUNCTION_FAULTS + OBJECT_FAULTS + RECTANGLE_FAULTS + DELAY_FAULTS + CLIENT_FAULTS + BODY_FAULTS + REFUSAL_FAULTS
+FAULTS = (
+    *FUNCTION_FAULTS, *WINDOW_FAULTS, *STATISTIC_FAULTS, *OBJECT_FAULTS, *RECTANGLE_FAULTS, *PGM_FAULTS,
+    *CONVOLUTION_FAULTS, *STATISTIC_OBJECT_FAULTS, *DELAY_FAULTS, *CLIENT_FAULTS, *BODY_FAULTS, *REFUSAL_FAULTS)
