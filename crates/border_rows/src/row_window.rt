@@ -1,5 +1,5 @@
 //! Rows of whole images, with what stands beside them.
-ghost use Rattle.std.specs.Prelude.{◌≡◌, ◌+◌, ◌*◌, ◌<◌, pos, ◌-ℤ◌, IfOk, length, map};
+ghost use Rattle.std.specs.Prelude.{◌≡◌, ◌+◌, ◌*◌, ◌<◌, pos, ◌-ℤ◌, IfOk, length, map, replicate};
 ghost use Rattle.vx_base.specs.declared.format.Format.TheVariants.{U8};
 ghost use Rattle.vx_base.specs.Image.{run};
 ghost use Rattle.vx_base.specs.Window.{look};
@@ -30,10 +30,11 @@ impl Model for RowWindow {
 }
 
 impl RowWindow {
-    /// A window on rows of images of this width, none of which is loaded yet.
+    /// A window on rows of images of this width. No row is loaded yet, and its samples are 0.
     pub fn new(alloc: Global, width: u16, radius: u16) -> Result<RowWindow, AllocError>
         ensures width { IfOk result (λ made. made.width ≡ width) }
         ensures radius { IfOk result (λ made. made.radius ≡ radius) }
+        ensures samples { IfOk result (λ made. made.samples ≡ replicate (width + 2 * radius) (pos 0)) }
     {
         let count = usize::from(width) + 2 * usize::from(radius);
         Ok(RowWindow {

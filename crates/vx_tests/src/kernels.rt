@@ -1,21 +1,27 @@
-//! Functions of whole images that no request asks for yet: windows and statistics.
+//! Functions of whole images: windows and statistics, and the text of an image.
 ghost use Rattle.vx_base.specs.Rectangle.{IsWithin};
 
 use crate::images::lend;
+use border_rows::RowWindow;
 use image_core::ImageMut;
+use pgm_images::write;
 use stat_kernels::{histogram, integral, min_max};
+use std::alloc::Global;
 use std::test::Fail;
-use vx_base::{Bins, Border, Desc, Extremes, Format, Rect};
-use window_kernels::{box3, median3};
+use vx_base::{Bins, Border, Convolution, Desc, Extremes, Format, Rect};
+use window_kernels::{box3, convolve, dilate3, erode3, gaussian3, median3, sobel3};
 
-/// The medians and the means of a 3 by 3 image that is valid in a part; and where they are valid.
+/// The samples of a 3 by 3 image.
+const SAMPLES: [u8; 9] = [1, 2, 9, 3, 4, 8, 5, 6, 7];
+
+/// The medians and the means of this image where it is valid in a part; and where they are valid.
 fn smoothed(valid: Rect, border: Border) -> ([u8; 9], [u8; 9], Rect)
     requires { IsWithin valid 3 3 }
 {
     let (mut medians, mut means) = ([77; 9], [77; 9]);
     let mut found = Rect::empty();
     if let Some(desc) = Desc::new(3, 3, Format::U8) {
-        let mut samples = [1, 2, 9, 3, 4, 8, 5, 6, 7];
+        let mut samples = SAMPLES;
         let image = lend(desc, valid, &mut samples);
         let mut target = ImageMut::new(desc, &mut medians);
         median3(&image, &mut target, border);
@@ -45,6 +51,165 @@ fn nine_samples(rt: HostRuntime) -> Result<(), Fail> {
     assert_eq!(rt; smoothed(centre, Border::Undefined), none);
     assert_eq!(rt; smoothed(whole, Border::Replicate), moved);
     assert_eq!(rt; smoothed(Rect::empty(), Border::Replicate), none);
+    Ok(())
+}
+
+/// The weighted means, the least and the greatest of the nine samples around each place.
+fn filtered(border: Border) -> Option<[[u8; 9]; 3]> {
+    let desc = Desc::new(3, 3, Format::U8)?;
+    let mut samples = SAMPLES;
+    let image = lend(desc, Rect::new(0, 0, 3, 3)?, &mut samples);
+    let (mut means, mut least, mut greatest) = ([77; 9], [77; 9], [77; 9]);
+    gaussian3(&image, &mut ImageMut::new(desc, &mut means), border);
+    erode3(&image, &mut ImageMut::new(desc, &mut least), border);
+    dilate3(&image, &mut ImageMut::new(desc, &mut greatest), border);
+    Some([means, least, greatest])
+}
+
+#[test]
+fn weighted_least_greatest(rt: HostRuntime) {
+    let middle = [
+        [0, 0, 0, 0, 4, 0, 0, 0, 0],
+        [0, 0, 0, 0, 1, 0, 0, 0, 0],
+        [0, 0, 0, 0, 9, 0, 0, 0, 0],
+    ];
+    let moved = [
+        [1, 3, 7, 3, 4, 7, 4, 5, 6],
+        [1, 1, 2, 1, 1, 2, 3, 3, 4],
+        [4, 9, 9, 6, 9, 9, 6, 8, 8],
+    ];
+    assert_eq!(rt; filtered(Border::Undefined), Some(middle));
+    assert_eq!(rt; filtered(Border::Replicate), Some(moved));
+}
+
+/// The changes around each place, from left to right and from above to below.
+fn gradients(border: Border) -> Option<[[i16; 9]; 2]> {
+    let desc = Desc::new(3, 3, Format::S16)?;
+    let mut samples = SAMPLES;
+    let whole = Rect::new(0, 0, 3, 3)?;
+    let image = lend(Desc::new(3, 3, Format::U8)?, whole, &mut samples);
+    let (mut right, mut down) = ([77; 9], [77; 9]);
+    let mut right_target = ImageMut::new(desc, &mut right);
+    let mut down_target = ImageMut::new(desc, &mut down);
+    sobel3(&image, &mut right_target, &mut down_target, border);
+    Some([right, down])
+}
+
+#[test]
+fn both_gradients(rt: HostRuntime) {
+    let middle = [[0, 0, 0, 0, 20, 0, 0, 0, 0], [0, 0, 0, 0, 10, 0, 0, 0, 0]];
+    let moved = [
+        [4, 29, 25, 4, 20, 16, 4, 11, 7],
+        [8, 5, -1, 16, 10, -2, 8, 5, -1],
+    ];
+    assert_eq!(rt; gradients(Border::Undefined), Some(middle));
+    assert_eq!(rt; gradients(Border::Replicate), Some(moved));
+}
+
+/// What a matrix of 5 columns and 3 rows gives, as U8 and as S16, and where the latter is valid.
+fn convolved(exponent: u8, border: Border) -> Option<([u8; 9], [i16; 9], Rect)> {
+    let desc = Desc::new(3, 3, Format::U8)?;
+    let mut samples = SAMPLES;
+    let image = lend(desc, Rect::new(0, 0, 3, 3)?, &mut samples);
+    let coefficients = [
+        -10, 20, -30, 40, -50, -60, 70, -80, 90, -100, 110, -120, 130, -140, 150,
+    ];
+    let matrix = Convolution::new(5, 3, exponent, &coefficients)?;
+    let (mut bytes, mut shorts) = ([77; 9], [77; 9]);
+    let mut target = ImageMut::new(desc, &mut bytes);
+    convolve(&image, &matrix, &mut target, border);
+    let mut target = ImageMut::new(Desc::new(3, 3, Format::S16)?, &mut shorts);
+    convolve(&image, &matrix, &mut target, border);
+    let valid = target.valid();
+    Some((bytes, shorts, valid))
+}
+
+#[test]
+fn matrix_of_five_by_three(rt: HostRuntime) -> Result<(), Fail> {
+    let whole = Rect::new(0, 0, 3, 3).ok_or("a rectangle")?;
+    let none = ([0; 9], [0; 9], Rect::empty());
+    let sums = (
+        [255, 30, 250, 255, 0, 255, 220, 0, 250],
+        [280, 30, 250, 270, -250, 300, 220, -150, 250],
+        whole,
+    );
+    let quarters = (
+        [70, 7, 62, 67, 0, 75, 55, 0, 62],
+        [70, 7, 62, 67, -62, 75, 55, -37, 62],
+        whole,
+    );
+    assert_eq!(rt; convolved(0, Border::Undefined), Some(none));
+    assert_eq!(rt; convolved(0, Border::Replicate), Some(sums));
+    assert_eq!(rt; convolved(2, Border::Replicate), Some(quarters));
+    Ok(())
+}
+
+/// What the least coefficients of the largest matrix give of 255 everywhere, as U8 and as S16, and
+/// where it is valid.
+fn greatest_sum(exponent: u8) -> Option<([u8; 81], [i16; 81], Rect)> {
+    let desc = Desc::new(9, 9, Format::U8)?;
+    let mut samples = [255; 81];
+    let image = lend(desc, Rect::new(0, 0, 9, 9)?, &mut samples);
+    let matrix = Convolution::new(9, 9, exponent, &[-32_768; 81])?;
+    let (mut bytes, mut shorts) = ([77; 81], [77; 81]);
+    let mut target = ImageMut::new(desc, &mut bytes);
+    convolve(&image, &matrix, &mut target, Border::Undefined);
+    let mut target = ImageMut::new(Desc::new(9, 9, Format::S16)?, &mut shorts);
+    convolve(&image, &matrix, &mut target, Border::Undefined);
+    let valid = target.valid();
+    Some((bytes, shorts, valid))
+}
+
+#[test]
+fn greatest_sums(rt: HostRuntime) -> Result<(), Fail> {
+    let centre = Rect::new(4, 4, 5, 5).ok_or("a rectangle")?;
+    for (exponent, sample) in [(0, -32_768), (15, -20_655), (31, 0)] {
+        let mut shorts = [0; 81];
+        shorts[40] = sample;
+        assert_eq!(rt; greatest_sum(exponent), Some(([0; 81], shorts, centre)));
+    }
+    Ok(())
+}
+
+/// What a window of two samples to either side sees in row y, before it is loaded and after.
+fn seen(alloc: Global, y: i32, border: Border) -> Result<[Vec<u8>; 2], Fail> {
+    let desc = Desc::new(3, 3, Format::U8).ok_or("a description")?;
+    let whole = Rect::new(0, 0, 3, 3).ok_or("a rectangle")?;
+    let mut samples = SAMPLES;
+    let image = lend(desc, whole, &mut samples);
+    let mut window = RowWindow::new(alloc, 3, 2)?;
+    let empty = Vec::from_slice(alloc, window.row())?;
+    let valid = image.valid();
+    if valid.x0() < valid.x1() && valid.y0() < valid.y1() {
+        window.load(&image, y, border);
+    }
+    Ok([empty, Vec::from_slice(alloc, window.row())?])
+}
+
+#[test]
+fn rows_with_a_border(rt: HostRuntime) -> Result<(), Fail> {
+    for (y, border, row) in [
+        (-1, Border::Undefined, [0, 0, 0, 0, 0, 0, 0]),
+        (1, Border::Constant(7), [7, 7, 3, 4, 8, 7, 7]),
+        (-1, Border::Replicate, [1, 1, 1, 2, 9, 9, 9]),
+    ] {
+        let [empty, loaded] = seen(rt.alloc(), y, border)?;
+        assert_eq!(rt; empty.as_slice(), [0; 7].as_slice());
+        assert_eq!(rt; loaded.as_slice(), row.as_slice());
+    }
+    Ok(())
+}
+
+#[test]
+fn text_of_an_image(rt: HostRuntime) -> Result<(), Fail> {
+    let desc = Desc::new(3, 3, Format::U8).ok_or("a description")?;
+    let centre = Rect::new(1, 1, 2, 2).ok_or("a rectangle")?;
+    let mut samples = SAMPLES;
+    let text = write(rt.alloc(), &lend(desc, centre, &mut samples))?;
+    assert_eq!(rt;
+        text.as_slice(),
+        b"P5\n3 3\n255\n\0\0\0\0\x04\0\0\0\0".as_slice()
+    );
     Ok(())
 }
 
