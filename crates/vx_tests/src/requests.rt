@@ -1,12 +1,12 @@
 //! Requests as bytes, and back; and the texts of faults.
 use crate::devices::{NEVER, PiecewiseSink};
-use client_contexts::Request;
+use client_contexts::{Request, Text};
 use std::alloc::Global;
 use std::fmt::Display;
 use std::test::Fail;
 use vx_base::{
-    Border, Desc, Format, Function, Lut, Node, NodeSpec, ObjRef, Picture, Policy, Rect, Samples,
-    SlotCount, ThresholdKind, ThresholdRule,
+    Bins, Border, Convolution, Desc, Format, Function, Lut, Node, NodeSpec, ObjRef, Picture,
+    Policy, Rect, Samples, SlotCount, ThresholdKind, ThresholdRule,
 };
 use vx_requests::{Failed, ParseFault, StreamFault, parse, write_request};
 
@@ -23,7 +23,7 @@ fn write(alloc: Global, request: &Request, good_writes: u64) -> (Result<(), Stre
 }
 
 /// Requests with their frames, by number.
-fn request(number: u8) -> Option<Request> {
+fn request(alloc: Global, number: u8) -> Option<Request> {
     match number {
         0 => Some(Request::OpenContext),
         1 => Some(Request::CreateImage(Desc::new(4096, 2, Format::U32)?)),
@@ -46,8 +46,23 @@ fn request(number: u8) -> Option<Request> {
             let valid = Rect::new(1, 0, 258, 4096)?;
             Some(Request::SetValid(ObjRef::new(258, Some(3)), valid))
         }
+        12 => {
+            let text = Vec::from_slice(alloc, b"P2 1 1 255 7").ok()?;
+            Some(Request::WriteImagePgm(ObjRef::new(7, None), Text::new(text)))
+        }
+        13 => Some(Request::ReadImagePgm(ObjRef::new(258, Some(0)))),
+        14 => Some(Request::CreateConvolution(convolution()?)),
+        15 => Some(Request::CreateDistribution(Bins::new(3, 255, 256)?)),
+        16 => Some(Request::ReadDistribution(258)),
+        17 => Some(Request::CreateMinMax),
+        18 => Some(Request::ReadMinMax(65_536)),
         _ => None,
     }
+}
+
+fn convolution() -> Option<Convolution> {
+    let coefficients = [1, -1, 3, 4, 5, 6, 7, 8, 9, 10, 11, 12, 13, 32_767, -32_768];
+    Convolution::new(3, 5, 31, &coefficients)
 }
 
 fn node() -> Option<NodeSpec> {
@@ -63,7 +78,7 @@ fn node() -> Option<NodeSpec> {
     })
 }
 
-const FRAMES: [&[u8]; 12] = [
+const FRAMES: [&[u8]; 19] = [
     b"\0\0\0\x03\x01\x02\x01",
     b"\0\0\0\x08\x01\x02\x03\x03\x10\0\0\x02",
     b"\0\0\0\x08\x01\x02\x07\0\0\0\x07\xfe",
@@ -76,6 +91,14 @@ const FRAMES: [&[u8]; 12] = [
     b"\0\0\0\x07\x01\x02\x1a\0\0\0\x02",
     b"\0\0\0\x08\x01\x02\x04\0\0\0\x01\xff",
     b"\0\0\0\x10\x01\x02\x09\0\0\x01\x02\x03\0\x01\0\0\x01\x02\x10\0",
+    b"\0\0\0\x14\x01\x02\x06\0\0\0\x07\xffP2 1 1 255 7",
+    b"\0\0\0\x08\x01\x02\x08\0\0\x01\x02\0",
+    b"\0\0\0\x24\x01\x02\x0d\x03\x05\x1f\0\x01\xff\xff\0\x03\0\x04\0\x05\0\x06\0\x07\0\x08\
+        \0\x09\0\x0a\0\x0b\0\x0c\0\x0d\x7f\xff\x80\0",
+    b"\0\0\0\x09\x01\x02\x0e\0\x03\0\xff\x01\0",
+    b"\0\0\0\x07\x01\x02\x0f\0\0\x01\x02",
+    b"\0\0\0\x03\x01\x02\x10",
+    b"\0\0\0\x07\x01\x02\x11\0\x01\0\0",
 ];
 
 /// Whether a request is written to these bytes.
@@ -88,7 +111,7 @@ fn is_written(alloc: Global, request: &Request, bytes: &[u8]) -> bool {
 fn written_as_bytes(rt: HostRuntime) {
     let mut number = 0;
     for bytes in FRAMES {
-        match request(number) {
+        match request(rt.alloc(), number) {
             Some(request) => assert!(rt; is_written(rt.alloc(), &request, bytes), "{number}"),
             None => panic!(rt; "no request {number}"),
         }
