@@ -19,7 +19,7 @@ use Rattle.vx_wire.specs.Description.{take_side, take_description, description_b
 use Rattle.vx_wire.specs.Reference.{slot_numbered, take_reference, reference_bytes}
 use Rattle.vx_wire.specs.Slots.{take_slots}
 use Rattle.vx_wire.specs.Rectangle.{take_rectangle, rectangle_bytes}
-use Rattle.vx_wire.specs.Bins.{is_bin_size, take_bin_size, take_offset, take_bins, bins_bytes}
+use Rattle.vx_wire.specs.Bins.{is_up_to_256, take_up_to_256, take_offset, take_bins, bins_bytes}
 use Rattle.vx_wire.proofs.NodeShape.{both}
 use Rattle.vx_wire.proofs.Numbers.{number_is}
 
@@ -225,18 +225,18 @@ pub bins_of_body : (body : List ℕ) (b : BinsValue) (rest : List ℕ) → AllBy
 bins_of_body body b rest is e =
     let made : ℕ → ℕ → ℕ → BinsValue = λ bins offset range. record { bins = bins; offset = offset; range = range } in
     let last : ℕ → ℕ → ℕ → List ℕ → Taken BinsValue = λ bins offset range rest. ok (made bins offset range) rest in
-    let third : ℕ → ℕ → List ℕ → Taken BinsValue = λ bins offset rest. and_then (take_bin_size rest) (last bins offset) in
+    let third : ℕ → ℕ → List ℕ → Taken BinsValue = λ bins offset rest. and_then (take_up_to_256 rest) (last bins offset) in
     let second : ℕ → List ℕ → Taken BinsValue = λ bins rest. and_then (take_offset rest) (third bins) in
-    let (bins, rest1, is_bins, e1) = then_of (take_bin_size body) second (b, rest) e in
+    let (bins, rest1, is_bins, e1) = then_of (take_up_to_256 body) second (b, rest) e in
     let (offset, rest2, is_offset, e2) = then_of (take_offset rest1) (third bins) (b, rest) e1 in
-    let (range, rest3, is_range, e3) = then_of (take_bin_size rest2) (last bins offset) (b, rest) e2 in
+    let (range, rest3, is_range, e3) = then_of (take_up_to_256 rest2) (last bins offset) (b, rest) e2 in
     let (same, behind) = taken_same (made bins offset range) b rest3 rest e3 in
-    let (body_is, bins_are, is1) = tested_short_of InvalidValue is_bin_size body bins rest1 is is_bins in
+    let (body_is, bins_are, is1) = tested_short_of InvalidValue is_up_to_256 body bins rest1 is is_bins in
     let (rest1_is, offset_is, is2) = tested_short_of InvalidValue (λ n. nat_lt n 256) rest1 offset rest2 is1 is_offset in
-    let (rest2_is, range_is, is3) = tested_short_of InvalidValue is_bin_size rest2 range rest3 is2 is_range in
-    let front = both (is_bin_size bins) (nat_lt offset 256) bins_are offset_is in (
+    let (rest2_is, range_is, is3) = tested_short_of InvalidValue is_up_to_256 rest2 range rest3 is2 is_range in
+    let front = both (is_up_to_256 bins) (nat_lt offset 256) bins_are offset_is in (
       body_is ∙ ap (λ l. to_be_bytes w16 bins ++ l) rest1_is ∙ ap (λ l. to_be_bytes w16 bins ++ (to_be_bytes w16 offset ++ l)) rest2_is
           ∙ ap (λ b. bins_bytes b ++ rest3) same ∙ ap (λ l. bins_bytes b ++ l) behind,
-      subst (λ b. IsTrue (are_bins b.bins b.offset b.range)) same (both (is_bin_size bins && nat_lt offset 256) (is_bin_size range) front range_is),
+      subst (λ b. IsTrue (are_bins b.bins b.offset b.range)) same (both (is_up_to_256 bins && nat_lt offset 256) (is_up_to_256 range) front range_is),
       subst AllBytes behind is3,
     )

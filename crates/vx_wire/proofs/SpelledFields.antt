@@ -24,7 +24,7 @@ use Rattle.vx_wire.specs.Reference.{slot_numbered, take_reference, reference_byt
 use Rattle.vx_wire.specs.Samples.{decoded, encoded, take_samples, take_picture, picture_bytes}
 use Rattle.vx_wire.specs.Slots.{take_slots}
 use Rattle.vx_wire.specs.Rectangle.{take_rectangle, rectangle_bytes}
-use Rattle.vx_wire.specs.Bins.{is_bin_size, take_bin_size, take_offset, take_bins, bins_bytes}
+use Rattle.vx_wire.specs.Bins.{is_up_to_256, take_up_to_256, take_offset, take_bins, bins_bytes}
 use Rattle.vx_wire.proofs.NodeShape.{both_of}
 use Rattle.vx_wire.proofs.SampleBytes.{length-encoded, decoded_back}
 
@@ -108,11 +108,11 @@ rectangle_back r rest h =
 pub slots_back : (n : ℕ) (rest : List ℕ) → IsTrue (is_slot_count n) → take_slots (n ∷ rest) ≡ Ok (n, rest)
 slots_back n rest is = tested_byte_back InvalidValue is_slot_count n rest is
 
-bin_size_below : (n : ℕ) → IsTrue (is_bin_size n) → n < 2 ^ 16
-bin_size_below n is = grind (arith, nat_tests)
+up_to_256_below : (n : ℕ) → IsTrue (is_up_to_256 n) → n < 2 ^ 16
+up_to_256_below n is = grind (arith, nat_tests)
 
-bin_size_back : (n : ℕ) (rest : List ℕ) → IsTrue (is_bin_size n) → take_bin_size (to_be_bytes w16 n ++ rest) ≡ Ok (n, rest)
-bin_size_back n rest is = tested_short_back InvalidValue is_bin_size n rest (bin_size_below n is) is
+up_to_256_back : (n : ℕ) (rest : List ℕ) → IsTrue (is_up_to_256 n) → take_up_to_256 (to_be_bytes w16 n ++ rest) ≡ Ok (n, rest)
+up_to_256_back n rest is = tested_short_back InvalidValue is_up_to_256 n rest (up_to_256_below n is) is
 
 offset_below : (n : ℕ) → IsTrue (nat_lt n 256) → n < 2 ^ 16
 offset_below n is = grind (arith, nat_tests)
@@ -122,15 +122,15 @@ offset_back n rest is = tested_short_back InvalidValue (λ m. nat_lt m 256) n re
 
 pub bins_back : (b : BinsValue) (rest : List ℕ) → IsTrue (are_bins b.bins b.offset b.range) → take_bins (bins_bytes b ++ rest) ≡ Ok (b, rest)
 bins_back b rest is =
-    let (front, range) = both_of (is_bin_size b.bins && nat_lt b.offset 256) (is_bin_size b.range) is in
-    let (bins, offset) = both_of (is_bin_size b.bins) (nat_lt b.offset 256) front in
-    let third : ℕ → ℕ → List ℕ → Taken BinsValue = λ bins offset rest. and_then (take_bin_size rest) (λ range rest. Ok (record { bins = bins; offset = offset; range = range }, rest)) in
+    let (front, range) = both_of (is_up_to_256 b.bins && nat_lt b.offset 256) (is_up_to_256 b.range) is in
+    let (bins, offset) = both_of (is_up_to_256 b.bins) (nat_lt b.offset 256) front in
+    let third : ℕ → ℕ → List ℕ → Taken BinsValue = λ bins offset rest. and_then (take_up_to_256 rest) (λ range rest. Ok (record { bins = bins; offset = offset; range = range }, rest)) in
     let second : ℕ → List ℕ → Taken BinsValue = λ bins rest. and_then (take_offset rest) (third bins) in
     let after_offset = to_be_bytes w16 b.range ++ rest in
     let after_bins = to_be_bytes w16 b.offset ++ after_offset in
-    then_ok (take_bin_size (to_be_bytes w16 b.bins ++ after_bins)) b.bins after_bins second (bin_size_back b.bins after_bins bins)
+    then_ok (take_up_to_256 (to_be_bytes w16 b.bins ++ after_bins)) b.bins after_bins second (up_to_256_back b.bins after_bins bins)
     ∙ then_ok (take_offset after_bins) b.offset after_offset (third b.bins) (offset_back b.offset after_offset offset)
-    ∙ then_ok (take_bin_size after_offset) b.range rest (λ range rest. Ok (record { bins = b.bins; offset = b.offset; range = range }, rest)) (bin_size_back b.range rest range)
+    ∙ then_ok (take_up_to_256 after_offset) b.range rest (λ range rest. Ok (record { bins = b.bins; offset = b.offset; range = range }, rest)) (up_to_256_back b.range rest range)
 
 -- so many bytes
 pub bytes_back : (n : ℕ) (bytes rest : List ℕ) → length bytes ≡ n → take_bytes n (bytes ++ rest) ≡ Ok (bytes, rest)

@@ -5,19 +5,19 @@ use Rattle.vx_base.specs.Statistics.{BinsValue}
 use Rattle.vx_wire.specs.declared.body_fault.BodyFault.TheVariants.{InvalidValue}
 use Rattle.vx_wire.specs.Fields.{Taken, and_then, allowed, take_short}
 
--- how many bins there may be, and how long they may be together
-abbrev pub is_bin_size : ℕ → Bool
-is_bin_size n = nat_le 1 n && nat_le n 256
+-- how many bins there may be, and how many numbers may fall into them: 1 to 256
+abbrev pub is_up_to_256 : ℕ → Bool
+is_up_to_256 n = nat_le 1 n && nat_le n 256
 
-abbrev pub take_bin_size : List ℕ → Taken ℕ
-take_bin_size body = and_then (take_short body) (λ n rest. allowed InvalidValue (if is_bin_size n then Some n else None) rest)
+abbrev pub take_up_to_256 : List ℕ → Taken ℕ
+take_up_to_256 body = and_then (take_short body) (λ n rest. allowed InvalidValue (if is_up_to_256 n then Some n else None) rest)
 
 abbrev pub take_offset : List ℕ → Taken ℕ
 take_offset body = and_then (take_short body) (λ n rest. allowed InvalidValue (if nat_lt n 256 then Some n else None) rest)
 
 abbrev pub take_bins : List ℕ → Taken BinsValue
 take_bins body =
-    and_then (take_bin_size body) (λ bins rest. and_then (take_offset rest) (λ offset rest. and_then (take_bin_size rest) (λ range rest.
+    and_then (take_up_to_256 body) (λ bins rest. and_then (take_offset rest) (λ offset rest. and_then (take_up_to_256 rest) (λ range rest.
     Ok (record { bins = bins; offset = offset; range = range }, rest))))
 
 abbrev pub bins_bytes : BinsValue → List ℕ

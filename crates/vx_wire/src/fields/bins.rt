@@ -1,20 +1,20 @@
 //! The bins of a distribution: how many there are, the offset and the range.
 ghost use Rattle.std.specs.Prelude.{◌≡◌, ◌<◌, IfOk, IsTrue};
 ghost use Rattle.vx_wire.specs.Fields.{Takes};
-ghost use Rattle.vx_wire.specs.Bins.{is_bin_size, take_bin_size, take_offset, take_bins, bins_bytes};
+ghost use Rattle.vx_wire.specs.Bins.{is_up_to_256, take_up_to_256, take_offset, take_bins, bins_bytes};
 
 use crate::body_fault::BodyFault;
 use crate::fields::Fields;
 use vx_base::Bins;
 
-/// How many bins there are, or the range over which they lie: 1 to 256.
-fn take_bin_size(fields: &mut Fields) -> Result<u16, BodyFault>
-    ensures taken { Takes take_bin_size fields.old fields.new result }
-    ensures allowed { IfOk result (λ n. IsTrue (is_bin_size n)) }
+/// How many bins there are, or how many numbers fall into them: 1 to 256.
+fn take_up_to_256(fields: &mut Fields) -> Result<u16, BodyFault>
+    ensures taken { Takes take_up_to_256 fields.old fields.new result }
+    ensures allowed { IfOk result (λ n. IsTrue (is_up_to_256 n)) }
 {
-    let size = fields.short()?;
-    if (1..=256).contains(&size) {
-        Ok(size)
+    let number = fields.short()?;
+    if (1..=256).contains(&number) {
+        Ok(number)
     } else {
         Err(BodyFault::InvalidValue)
     }
@@ -37,9 +37,9 @@ fn take_offset(fields: &mut Fields) -> Result<u16, BodyFault>
 pub fn take_bins(fields: &mut Fields) -> Result<Bins, BodyFault>
     ensures { Takes take_bins fields.old fields.new result }
 {
-    let bins = take_bin_size(fields)?;
+    let bins = take_up_to_256(fields)?;
     let offset = take_offset(fields)?;
-    let range = take_bin_size(fields)?;
+    let range = take_up_to_256(fields)?;
     match Bins::new(bins, offset, range) {
         Some(bins) => Ok(bins),
         None => unreachable!(),
