@@ -35,6 +35,7 @@ pub fn lend(desc: Desc, valid: Rect, samples: &mut [u8]) -> Image<'_>
     ensures { description_of result ≡ desc }
 {
     let _ordered = valid.x0();
+    desc.has_sides();
     clear(desc, valid, samples);
     are_bytes(samples);
     Image::new(desc, valid, samples)
