@@ -25,7 +25,7 @@ fn fault(rt: HostRuntime, text: &[u8]) -> Option<PgmFault> {
 
 #[test]
 fn no_pictures(rt: HostRuntime) {
-    let texts: [(&[u8], PgmFault); 16] = [
+    let texts: [(&[u8], PgmFault); 25] = [
         (b"", PgmFault::InvalidFormat),
         (b"P6 1 1 255 0", PgmFault::InvalidFormat),
         (b"P5 1 1 255", PgmFault::InvalidFormat),
@@ -45,6 +45,18 @@ fn no_pictures(rt: HostRuntime) {
         (b"P5 1 1 255 \0\0", PgmFault::InvalidFormat),
         (b"P2 1 1 9 10 x", PgmFault::InvalidFormat),
         (b"P2 1 1 9 10", PgmFault::InvalidValue),
+        (b"P5", PgmFault::InvalidFormat),
+        (
+            b"P5 99999999999999999999 1 255\n",
+            PgmFault::InvalidDimension,
+        ),
+        (b"P5 0 1 0\n", PgmFault::InvalidDimension),
+        (b"P5 4096 4096 255\n", PgmFault::InvalidFormat),
+        (b"P5 1 1 99999999999999999999\n", PgmFault::InvalidFormat),
+        (b"P5 1 1 255#x\n", PgmFault::InvalidFormat),
+        (b"P2 2 1 255 1", PgmFault::InvalidFormat),
+        (b"P2 1 1 255 5#", PgmFault::InvalidFormat),
+        (b"P2 1 1 255 99999999999999999999", PgmFault::InvalidValue),
     ];
     for (text, why) in texts {
         assert_eq!(rt; fault(rt, text), Some(why));
@@ -58,6 +70,12 @@ fn what_is_cut_short_is_none(rt: HostRuntime) {
         b"P5#c\n2\t1\r255\n\x0A\x14",
         b"P5 1 1 300 \x01\x00",
         b"P2 2 1 255 1 2",
+        b"P5\n1 2\n1\n\x00\x01",
+        b"P5 0001 1 00255\r\x80",
+        b"P5 2 2 256 \x00\x01\x00\x02\x01\x00\x00\xFF",
+        b"P2#a\n#b\r1 1#c\n32767#d\n7",
+        b"P2\r\n2\r\n2\r\n9\r\n1\r\n2\r\n3\r\n4",
+        b"P2\t3 1 1 0 1 0",
     ] {
         for end in 0..text.len() {
             assert!(rt; fault(rt, &text[..end]).is_some());
