@@ -1,1 +1,3 @@
+pub mod FaultLemmas
+pub mod MadeLemmas
 pub mod QuotaLemmas

@@ -1,2 +1,4 @@
+pub mod Apply
 pub mod CommandLine
 pub mod Ended
+pub mod Job

@@ -1,6 +1,8 @@
 //! How the program ends other than well.
 ghost use Rattle.std.specs.Prelude.{◌≡◌};
 
+use client_contexts::NoMemory;
+use pgm_images::PgmFault;
 use std::alloc::{AllocError, AllocFailed};
 use vx_base::Code;
 use vx_requests::StreamFault;
@@ -12,7 +14,7 @@ pub enum Ended {
     CommandLine(String),
     /// The stream ended early.
     Stream(StreamFault),
-    /// There was no memory to start with.
+    /// `apply` was refused, or there was no memory to start with.
     Refused(Code),
 }
 
@@ -56,5 +58,32 @@ impl From<AllocError> for Ended {
 impl<T: Drop> From<AllocFailed<T>> for Ended {
     fn from(_failed: AllocFailed<T>) -> Ended {
         Ended::Refused(Code::NoMemory)
+    }
+}
+
+impl From<NoMemory> for Ended {
+    ghost use Rattle.vx_base.specs.declared.code.Code.TheVariants as code;
+    ghost use Rattle.vx_main.specs.declared.ended.Ended.TheVariants.{Refused};
+
+    ghost from_gives = { λ _ ended. ended ≡ Refused code.NoMemory };
+
+    fn from(_error: NoMemory) -> Ended {
+        Ended::Refused(Code::NoMemory)
+    }
+}
+
+impl From<PgmFault> for Ended {
+    ghost use Rattle.vx_main.specs.Apply.{fault_code};
+    ghost use Rattle.vx_main.specs.declared.ended.Ended.TheVariants.{Refused};
+
+    ghost from_gives = { λ fault ended. ended ≡ Refused (fault_code fault) };
+
+    fn from(fault: PgmFault) -> Ended {
+        Ended::Refused(match fault {
+            PgmFault::NoMemory => Code::NoMemory,
+            PgmFault::InvalidFormat => Code::InvalidFormat,
+            PgmFault::InvalidDimension => Code::InvalidDimension,
+            PgmFault::InvalidValue => Code::InvalidValue,
+        })
     }
 }

@@ -1,12 +1,16 @@
 //! The server's program.
 //!
 //! `vx_main serve` reads request frames from standard input and writes a reply frame for each to
-//! standard output. `program::run` is all of it over any reader and writer; `main` gives it the
+//! standard output. `vx_main apply` reads one PGM text there, and writes the text of what one
+//! function makes of it. `program::run` is all of it over any reader and writer; `main` gives it the
 //! process's own, prints the line of how it ended, and ends with the status.
 #![tactic(auto)]
 
+mod apply;
 mod command_line;
 mod ended;
+mod job;
+mod output;
 mod program;
 #[cfg(test)]
 mod tests;

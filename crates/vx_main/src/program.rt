@@ -1,13 +1,15 @@
 //! The program over any reader and writer.
-use crate::command_line::read_words;
+use crate::apply::apply;
+use crate::command_line::{Asked, read_words};
 use crate::ended::Ended;
+use crate::output::write_bytes;
 use clap::Error;
 use clap::error::ErrorKind;
 use client_contexts::{Limits, Runtime};
 use std::alloc::Global;
 use std::io::{Read, Write};
 use vx_base::Code;
-use vx_requests::{FromRead, FromWrite, StreamFault, serve};
+use vx_requests::{FromRead, FromWrite, serve};
 
 /// Runs the program with these words, which come without its name.
 ///
@@ -19,8 +21,21 @@ pub fn run<R: Read + Drop, W: Write + Drop>(
     mut writer: W,
 ) -> Result<(), Ended> {
     match read_words(alloc, words) {
-        Ok(limits) => serve_stream(alloc, limits, reader, writer),
+        Ok(asked) => perform(alloc, asked, reader, writer),
         Err(error) => refuse(alloc, &error, &mut writer),
+    }
+}
+
+/// Does what the words ask for.
+fn perform<R: Read + Drop, W: Write + Drop>(
+    alloc: Global,
+    asked: Asked,
+    reader: R,
+    mut writer: W,
+) -> Result<(), Ended> {
+    match asked {
+        Asked::Serve(limits) => serve_stream(alloc, limits, reader, writer),
+        Asked::Apply(job) => apply(alloc, job, reader, &mut writer),
     }
 }
 
@@ -34,15 +49,7 @@ fn refuse<W: Write>(alloc: Global, error: &Error, writer: &mut W) -> Result<(), 
     if error.use_stderr() {
         return Err(Ended::CommandLine(text.trim_end().to_string(alloc)?));
     }
-    write_text(writer, text.as_str())
-}
-
-fn write_text<W: Write>(writer: &mut W, text: &str) -> Result<(), Ended> {
-    let written = writer.write_all(text.as_bytes());
-    if written.is_err() || writer.flush().is_err() {
-        return Err(Ended::Stream(StreamFault::WriteFailed));
-    }
-    Ok(())
+    write_bytes(writer, text.as_bytes())
 }
 
 /// Serves the frames that the reader gives, with these limits for each client.

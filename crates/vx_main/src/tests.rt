@@ -1,6 +1,8 @@
 use crate::ended::Ended;
 use crate::program::run;
 use std::alloc::Global;
+use std::io;
+use std::io::{ErrorKind, Read, Write};
 use std::process::Abort;
 use std::test::Fail;
 use vx_base::Code;
@@ -77,6 +79,7 @@ fn tells_why_it_ended(rt: HostRuntime) -> Result<(), Fail> {
             "reader would not end",
         ),
         (Ended::Refused(Code::NoMemory), 5, "NO_MEMORY"),
+        (Ended::Refused(Code::NoResources), 5, "NO_RESOURCES"),
     ] {
         assert_eq!(rt; ended.status(), status);
         assert_eq!(rt; ended.line(), line);
@@ -203,7 +206,6 @@ fn refuses_other_quotas(rt: HostRuntime) {
 fn reads_the_command_line(rt: HostRuntime) {
     for words in [
         &[][..],
-        &["apply"],
         &["serve", "now"],
         &["serve", "8"],
         &["serve", "--quota", "8", "9"],
@@ -215,17 +217,203 @@ fn reads_the_command_line(rt: HostRuntime) {
         &["serve", "--", "--quota", "8"],
         &["--quota", "8", "serve"],
         &["--work", "8", "serve"],
+        &["apply"],
+        &["apply", "sobel"],
+        &["apply", "Box"],
+        &["apply", "box "],
+        &["apply", ""],
+        &["apply", "box", "not"],
+        &["apply", "--border", "replicate"],
+        &["apply", "box", "--border", "constant"],
+        &["apply", "box", "--border="],
+        &["apply", "box", "--border", "Undefined"],
+        &[
+            "apply",
+            "box",
+            "--border",
+            "replicate",
+            "--border",
+            "replicate",
+        ],
+        &["apply", "box", "--bord", "replicate"],
+        &["apply", "box", "-b", "replicate"],
+        &["apply", "box", "--quota", "8"],
+        &["--border", "replicate", "apply", "box"],
+        &["serve", "--border", "replicate"],
+        &["serve", "box"],
     ] {
         refuses(&rt, rt.alloc(), words, "Usage: vx_main");
     }
     refuses(&rt, rt.alloc(), &["serve", "--quota"], "'--quota <BYTES>'");
+    refuses(&rt, rt.alloc(), &["apply"], "<FUNCTION>");
+    let border = "'--border <BORDER>'";
+    refuses(&rt, rt.alloc(), &["apply", "box", "--border"], border);
     for (words, text) in [
         (&["--help"][..], &b"An OpenVX server"[..]),
         (&["serve", "--help"], b"Reads request frames"),
+        (&["apply", "--help"], b"Reads one PGM picture"),
         (&["--version"], b"vx_main 0.1.0\n"),
     ] {
         let mut written = Vec::new(rt.alloc());
         assert!(rt; run(rt.alloc(), words, REQUESTS, &mut written).is_ok());
         assert!(rt; written.as_slice().starts_with(text), "{words:?}");
+    }
+}
+
+/// Ten to forty, two in a row.
+const SQUARE: &[u8] = b"P5\n2 2\n255\n\x0a\x14\x1e\x28";
+
+/// What the box filter makes of it where the edges are repeated.
+const BOXED: &[u8] = b"P5\n2 2\n255\n\x14\x17\x1a\x1e";
+
+/// One to nine, three in a row.
+const NINE: &[u8] = b"P2 3 3 9 1 2 3 4 5 6 7 8 9";
+
+#[test]
+fn applies_functions(rt: HostRuntime) {
+    for (words, input, output) in [
+        (
+            &["apply", "box", "--border", "replicate"][..],
+            SQUARE,
+            BOXED,
+        ),
+        (&["apply", "--border=replicate", "box"], SQUARE, BOXED),
+        (&["apply", "box"], SQUARE, b"P5\n2 2\n255\n\0\0\0\0"),
+        (
+            &["apply", "not"],
+            b"P5\n2 1\n255\n\x0a\x14",
+            b"P5\n2 1\n255\n\xf5\xeb",
+        ),
+        (
+            &["apply", "not", "--border", "replicate"],
+            b"P2 2 1 20 10 20",
+            b"P5\n2 1\n255\n\xf5\xeb",
+        ),
+        (
+            &["apply", "gaussian"],
+            NINE,
+            b"P5\n3 3\n255\n\0\0\0\0\x05\0\0\0\0",
+        ),
+        (
+            &["apply", "median", "--border", "undefined"],
+            NINE,
+            b"P5\n3 3\n255\n\0\0\0\0\x05\0\0\0\0",
+        ),
+        (
+            &["apply", "erode", "--border", "replicate"],
+            NINE,
+            b"P5\n3 3\n255\n\x01\x01\x02\x01\x01\x02\x04\x04\x05",
+        ),
+        (
+            &["apply", "dilate", "--border", "replicate"],
+            NINE,
+            b"P5\n3 3\n255\n\x05\x06\x06\x08\x09\x09\x08\x09\x09",
+        ),
+    ] {
+        let mut written = Vec::new(rt.alloc());
+        let ended = run(rt.alloc(), words, input, &mut written);
+        assert!(rt; ended.is_ok(), "{words:?}");
+        assert_eq!(rt; written.as_slice(), output, "{words:?}");
+    }
+}
+
+/// Runs `apply` to an end that isn't a success: nothing is written then.
+fn ends<R: Read + Drop>(rt: &impl Abort, alloc: Global, reader: R, status: u8, line: &str) {
+    let mut written = Vec::new(alloc);
+    match run(alloc, &["apply", "erode"], reader, &mut written) {
+        Ok(()) => assert!(rt; false, "ended well, not {line}"),
+        Err(ended) => {
+            assert_eq!(rt; ended.status(), status);
+            assert_eq!(rt; ended.line(), line);
+        }
+    }
+    assert!(rt; written.is_empty());
+}
+
+#[test]
+fn refuses_texts(rt: HostRuntime) {
+    for (text, line) in [
+        (&b""[..], "INVALID_FORMAT"),
+        (b"P5", "INVALID_FORMAT"),
+        (b"P5 1 1 255\n\x0a\x14", "INVALID_FORMAT"),
+        (b"P2 1 1 300 5", "INVALID_FORMAT"),
+        (b"P5 1 1 300\n\x01\x2c", "INVALID_FORMAT"),
+        (b"P5 0 1 255\n", "INVALID_DIMENSION"),
+        (b"P2 1 4097 300 5", "INVALID_DIMENSION"),
+        (b"P2 1 1 300 301", "INVALID_VALUE"),
+        (b"P5 1 1 100\n\x65", "INVALID_VALUE"),
+    ] {
+        ends(&rt, rt.alloc(), text, 5, line);
+    }
+}
+
+/// Gives some bytes, and then fails.
+#[derive(Drop)]
+struct FailingReader<'a> {
+    bytes: &'a [u8],
+}
+
+impl Read for FailingReader<'_> {
+    fn read(&mut self, buf: &mut [u8]) -> io::Result<usize> {
+        if self.bytes.is_empty() {
+            return Err(io::Error::from(ErrorKind::Other));
+        }
+        self.bytes.read(buf)
+    }
+}
+
+#[test]
+fn tells_a_reader_that_fails(rt: HostRuntime) {
+    // Whatever came before, also a whole text, and one that has a fault.
+    for bytes in [&b""[..], SQUARE, b"P5 0 1 255\n"] {
+        ends(&rt, rt.alloc(), FailingReader { bytes }, 4, "read failed");
+    }
+}
+
+#[test]
+fn tells_a_text_that_is_too_long(rt: HostRuntime) {
+    // The reader has no end, and would fail after the one byte that is too many.
+    let endless = io::repeat(b' ').take(134_217_729);
+    let failing = endless.chain(FailingReader { bytes: b"" });
+    ends(&rt, rt.alloc(), failing, 5, "NO_RESOURCES");
+}
+
+/// Takes some bytes, and then fails; or takes all, and fails to flush them.
+#[derive(Drop)]
+struct FailingWriter {
+    room: usize,
+}
+
+impl Write for FailingWriter {
+    fn write(&mut self, bytes: &[u8]) -> io::Result<usize> {
+        if self.room == 0 {
+            return Err(io::Error::from(ErrorKind::Other));
+        }
+        let count = bytes.len().min(self.room);
+        self.room -= count;
+        Ok(count)
+    }
+
+    fn flush(&mut self) -> io::Result<()> {
+        Err(io::Error::from(ErrorKind::Other))
+    }
+}
+
+#[test]
+fn tells_a_writer_that_fails(rt: HostRuntime) {
+    for (text, room, status, line) in [
+        (SQUARE, 0, 4, "write failed"),
+        (SQUARE, 5, 4, "write failed"),
+        (SQUARE, 100, 4, "write failed"),
+        (b"P5", 0, 5, "INVALID_FORMAT"),
+        (b"P2 1 1 300 5", 0, 5, "INVALID_FORMAT"),
+    ] {
+        match run(rt.alloc(), &["apply", "not"], text, FailingWriter { room }) {
+            Ok(()) => assert!(rt; false, "ended well, not {line}"),
+            Err(ended) => {
+                assert_eq!(rt; ended.status(), status);
+                assert_eq!(rt; ended.line(), line);
+            }
+        }
     }
 }

@@ -1,0 +1,44 @@
+-- What `apply` gives.
+use Rattle.std.specs.Prelude.{◌≡◌, ◌⊎◌, ℕ, List, None, Result, Ok, Err, if◌then◌else◌}
+use Rattle.vx_base.specs.declared.code.Code.{Code}
+use Rattle.vx_base.specs.declared.code.Code.TheVariants.{InvalidFormat, InvalidDimension, InvalidValue, NoMemory, NoResources}
+use Rattle.vx_base.specs.declared.format.Format.TheVariants.{U8}
+use Rattle.vx_base.specs.declared.output.Output.TheVariants.{First}
+use Rattle.vx_base.specs.Sample.{same_format}
+use Rattle.vx_base.specs.Image.{ImageValue}
+use Rattle.vx_base.specs.Picture.{PictureValue, picture_of, pictured}
+use Rattle.vx_base.specs.Outputs.{node_image}
+use Rattle.pgm_images.specs.declared.fault.PgmFault.{PgmFault}
+use Rattle.pgm_images.specs.declared.fault.PgmFault.TheVariants as fault
+use Rattle.pgm_images.specs.Reading.{reading}
+use Rattle.pgm_images.specs.Writing.{written}
+use Rattle.vx_main.specs.declared.ended.Ended.{Ended}
+use Rattle.vx_main.specs.declared.ended.Ended.TheVariants.{Refused}
+use Rattle.vx_main.specs.declared.job.Job.{Job}
+use Rattle.vx_main.specs.Job.{node_of}
+
+-- the image that the job's node gives of a picture, and its text
+abbrev pub image_made : Job → PictureValue → ImageValue
+image_made job p = node_image (node_of job) First U8 (pictured p) None
+
+abbrev pub text_made : Job → PictureValue → List ℕ
+text_made job p = written (picture_of (image_made job p))
+
+-- the code that tells a text's fault
+abbrev pub fault_code : PgmFault → Code
+fault_code fault.InvalidDimension = InvalidDimension
+fault_code fault.InvalidValue = InvalidValue
+fault_code fault.InvalidFormat = InvalidFormat
+fault_code fault.NoMemory = NoMemory
+
+-- the text that comes of a picture of U8, or the code that says why there is none
+abbrev pub applied_to : Job → Result PictureValue PgmFault → Result (List ℕ) Code
+applied_to job (Err fault) = Err (fault_code fault)
+applied_to job (Ok p) = if same_format p.description.format U8 then Ok (text_made job p) else Err InvalidFormat
+
+abbrev pub applied : Job → List ℕ → Result (List ℕ) Code
+applied job text = applied_to job (reading text)
+
+-- ended for want of memory, or by the code that says why there is no text
+pub record EndsFor (outcome : Result (List ℕ) Code) (ended : Ended) : Type 0 where
+  pub is : (ended ≡ Refused NoMemory) ⊎ ((code : Code) × (outcome ≡ Err code) × (ended ≡ Refused code))

@@ -1,0 +1,54 @@
+-- What `apply` is asked to do.
+use Rattle.std.specs.Prelude.{ℕ, List, Option, Some, None, codes, if◌then◌else◌}
+use Rattle.std.specs.Str.{bytes_eq}
+use Rattle.vx_base.specs.declared.border.Border.{Border}
+use Rattle.vx_base.specs.declared.border.Border.TheVariants.{Undefined, Replicate}
+use Rattle.vx_base.specs.declared.function.Function.{Function}
+use Rattle.vx_base.specs.declared.function.Function.TheVariants as function
+use Rattle.vx_base.specs.declared.node.Node.{Node}
+use Rattle.vx_base.specs.declared.policy.Policy.TheVariants.{Wrap}
+use Rattle.vx_main.specs.declared.job.Job.{Job}
+use Rattle.vx_main.specs.declared.job.Operation.{Operation}
+use Rattle.vx_main.specs.declared.job.Operation.TheVariants.{Not, Box, Gaussian, Median, Erode, Dilate}
+
+-- ---- words
+
+-- the operation that the word FUNCTION stands for
+abbrev pub operation_told : List ℕ → Option Operation
+operation_told word =
+    if bytes_eq word (codes "not") then Some Not
+    else (if bytes_eq word (codes "box") then Some Box
+    else (if bytes_eq word (codes "gaussian") then Some Gaussian
+    else (if bytes_eq word (codes "median") then Some Median
+    else (if bytes_eq word (codes "erode") then Some Erode
+    else (if bytes_eq word (codes "dilate") then Some Dilate else None)))))
+
+-- the border that the word after `--border` stands for
+abbrev pub border_told : List ℕ → Option Border
+border_told word =
+    if bytes_eq word (codes "undefined") then Some Undefined
+    else (if bytes_eq word (codes "replicate") then Some Replicate else None)
+
+-- ---- nodes
+
+abbrev pub function_of : Operation → Function
+function_of Not = function.NotBits
+function_of Box = function.Box
+function_of Gaussian = function.Gaussian
+function_of Median = function.Median
+function_of Erode = function.Erode
+function_of Dilate = function.Dilate
+
+-- the node that runs it, from image 1 to image 2
+abbrev pub node_of : Job → Node
+node_of job =
+    record {
+      function = function_of job.operation;
+      border = job.border;
+      policy = Wrap;
+      amount = 0;
+      in1 = record { name = 1; slot = None };
+      in2 = None;
+      out1 = Some (record { name = 2; slot = None });
+      out2 = None;
+    }

@@ -1,0 +1,97 @@
+//! What `apply` is asked to do.
+ghost use Rattle.std.specs.Prelude.{◌≡◌};
+ghost use Rattle.vx_main.specs.Job.{function_of, node_of, operation_told, border_told};
+
+use vx_base::{Border, Function, Node, NodeSpec, ObjRef, Policy};
+
+/// The name of the image that is read, the first of its context.
+pub const SOURCE: u32 = 1;
+
+/// The name of the image that is written, the second.
+pub const RESULT: u32 = 2;
+
+/// A function that makes one U8 image of one other.
+#[derive(Clone, Copy, PartialEq, Eq, Debug)]
+pub enum Operation {
+    Not,
+    Box,
+    Gaussian,
+    Median,
+    Erode,
+    Dilate,
+}
+
+/// A function, and what counts beyond the image's edges, which means nothing to `Not`.
+#[derive(Clone, Copy, PartialEq, Eq, Debug)]
+pub struct Job {
+    pub operation: Operation,
+    pub border: Border,
+}
+
+impl Operation {
+    /// The function of the server's that this is.
+    pub fn function(self) -> Function
+        ensures { result ≡ function_of self }
+    {
+        match self {
+            Operation::Not => Function::NotBits,
+            Operation::Box => Function::Box,
+            Operation::Gaussian => Function::Gaussian,
+            Operation::Median => Function::Median,
+            Operation::Erode => Function::Erode,
+            Operation::Dilate => Function::Dilate,
+        }
+    }
+}
+
+impl Job {
+    /// The node that does it, from the image `SOURCE` to the image `RESULT`.
+    pub fn node(self) -> NodeSpec
+        ensures { result ≡ node_of self }
+    {
+        NodeSpec::of(Node {
+            function: self.operation.function(),
+            border: self.border,
+            policy: Policy::Wrap,
+            amount: 0,
+            in1: ObjRef::new(SOURCE, None),
+            in2: None,
+            out1: Some(ObjRef::new(RESULT, None)),
+            out2: None,
+        })
+    }
+}
+
+/// The operation that a word stands for.
+pub fn operation_told(word: &str) -> Option<Operation>
+    ensures { result ≡ operation_told word.now }
+{
+    if word == "not" {
+        Some(Operation::Not)
+    } else if word == "box" {
+        Some(Operation::Box)
+    } else if word == "gaussian" {
+        Some(Operation::Gaussian)
+    } else if word == "median" {
+        Some(Operation::Median)
+    } else if word == "erode" {
+        Some(Operation::Erode)
+    } else if word == "dilate" {
+        Some(Operation::Dilate)
+    } else {
+        None
+    }
+}
+
+/// The border that a word stands for.
+pub fn border_told(word: &str) -> Option<Border>
+    ensures { result ≡ border_told word.now }
+{
+    if word == "undefined" {
+        Some(Border::Undefined)
+    } else if word == "replicate" {
+        Some(Border::Replicate)
+    } else {
+        None
+    }
+}
