@@ -34,7 +34,10 @@ pub fn run_node(
         (Function::Threshold, Second::Threshold(rule)) => threshold(first, output, *rule),
         (Function::TableLookup, Second::Lut(lut)) => lookup(first, output, lut),
         (Function::Convolve, Second::Convolution(convolution)) => convolve(
-            first, convolution, output, node.border,
+            first,
+            convolution,
+            output,
+            node.border,
         ),
         _ => unreachable!(),
     }
