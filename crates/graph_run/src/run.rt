@@ -1,6 +1,5 @@
 //! The kernel of each function.
-ghost use Rattle.std.specs.Prelude.{◌≡◌};
-ghost use Rattle.std.specs.Prelude.{None, Some};
+ghost use Rattle.std.specs.Prelude.{◌≡◌, None, Some};
 ghost use Rattle.vx_base.specs.Object.{ImageObject};
 ghost use Rattle.vx_base.specs.Outputs.{node_image};
 ghost use Rattle.image_core.specs.Second.{second_object};

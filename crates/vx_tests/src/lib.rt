@@ -9,10 +9,10 @@
 //! - `adapters`: what std's readers and writers answer, through `FromRead` and `FromWrite`
 //! - `requests`: requests as bytes, and back; texts of faults
 //! - `clients`: what a client with a small quota may hold
-//! - `tables`: names, uses and the charge of a table
+//! - `tables`: names, uses and the charge of a table, and objects that are set
 //! - `values`: rectangles, codes and tables
 //! - `images`: images that are valid in a part
-//! - `kernels`, `texts`: windows, statistics and PGM texts, which no request asks for yet
+//! - `kernels`, `texts`: windows, statistics and PGM texts, by the calls of their crates
 #![tactic(auto)]
 
 #[cfg(test)]
