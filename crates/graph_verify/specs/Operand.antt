@@ -1,14 +1,17 @@
 -- What a verdict has to know of the objects that a node names: their kinds, sizes and formats.
-use Rattle.std.specs.Prelude.{Bool, true, List, ◌++◌, Option, Some, None, option_to_list}
+use Rattle.std.specs.Prelude.{ℕ, Bool, true, false, List, ◌++◌, Option, Some, None, option_to_list}
+use Rattle.std.specs.Option.{option_map}
 use Rattle.vx_base.specs.declared.format.Format.{Format}
 use Rattle.vx_base.specs.declared.format.Format.TheVariants.{S16}
 use Rattle.vx_base.specs.declared.kind.Kind.{Kind}
 use Rattle.vx_base.specs.declared.kind.Kind.TheVariants as kind
-use Rattle.vx_base.specs.Description.{same_size}
+use Rattle.vx_base.specs.declared.node.Node.{Node}
+use Rattle.vx_base.specs.Cell.{Cell}
+use Rattle.vx_base.specs.Description.{same_size, byte_count}
 use Rattle.vx_base.specs.Image.{description_of}
-use Rattle.vx_base.specs.Object.{ObjectValue, ImageObject, LutObject, ThresholdObject, DelayObject, ConvolutionObject, DistributionObject, ExtremesObject}
+use Rattle.vx_base.specs.Object.{ObjectValue, ImageObject, LutObject, ThresholdObject, DelayObject, ConvolutionObject, DistributionObject, ExtremesObject, GraphObject, VirtualObject}
 use Rattle.graph_verify.specs.declared.operand.Operand.{Operand}
-use Rattle.graph_verify.specs.declared.operand.Operand.TheVariants.{Image, Lut, Threshold, Delay, Convolution, Distribution, Extremes}
+use Rattle.graph_verify.specs.declared.operand.Operand.TheVariants.{Image, Lut, Threshold, Delay, Convolution, Distribution, Extremes, Graph, Virtual}
 use Rattle.graph_verify.specs.declared.operand.Operands.{Operands}
 
 -- what an object is as an operand
@@ -20,6 +23,8 @@ operand_of (DelayObject images) = Delay
 operand_of (ConvolutionObject convolution) = Convolution
 operand_of (DistributionObject distribution) = Distribution
 operand_of (ExtremesObject extremes) = Extremes
+operand_of (GraphObject graph) = Graph
+operand_of (VirtualObject image) = Virtual image.declared
 
 abbrev pub operand_kind : Operand → Kind
 operand_kind (Image d) = kind.Image
@@ -29,6 +34,8 @@ operand_kind Delay = kind.Delay
 operand_kind Convolution = kind.Convolution
 operand_kind Distribution = kind.Distribution
 operand_kind Extremes = kind.Extremes
+operand_kind Graph = kind.Graph
+operand_kind (Virtual declared) = kind.VirtualImage
 
 -- the format of an image's samples, of a table's entries, of the samples that a threshold tests, or of a convolution's
 -- coefficients; an operand may have none
@@ -43,6 +50,20 @@ operand_format other = None
 abbrev pub are_of_one_size : Operand → Operand → Bool
 are_of_one_size (Image d) (Image e) = same_size d e
 are_of_one_size a b = true
+
+-- whether an operand is a virtual image
+abbrev pub is_virtual : Operand → Bool
+is_virtual (Virtual declared) = true
+is_virtual other = false
+
+-- the bytes of an image's samples
+abbrev pub operand_bytes : Operand → ℕ
+operand_bytes (Image d) = byte_count d
+operand_bytes other = 0
+
+-- what the cells of a node are
+abbrev pub operands_of : (Cell → Operand) → Node → Operands
+operands_of is n = record { in1 = is n.in1; in2 = option_map is n.in2; out1 = option_map is n.out1; out2 = option_map is n.out2 }
 
 -- the operands that a node writes, and those beside its first input
 abbrev pub written_operands : Operands → List Operand

@@ -1,7 +1,7 @@
 -- Why a graph can't run. OpenVX 1.3, "Graphs", vxVerifyGraph.
-use Rattle.std.specs.Prelude.{Bool, false, not, ◌||◌, List, [], ◌∷◌, Option, Some, None, if◌then◌else◌}
-use Rattle.std.specs.List.{list_any, list_all}
-use Rattle.std.specs.Option.{option_and_then}
+use Rattle.std.specs.Prelude.{ℕ, Bool, false, not, ◌&&◌, nat_le, sum_by, List, [], ◌∷◌, Option, Some, None, if◌then◌else◌}
+use Rattle.std.specs.List.{list_any, list_all, filter, flat_map}
+use Rattle.std.specs.Option.{option_and_then, option_or}
 use Rattle.vx_base.specs.declared.format.Format.{Format}
 use Rattle.vx_base.specs.declared.function.Function.{Function}
 use Rattle.vx_base.specs.declared.node.Node.{Node}
@@ -13,8 +13,11 @@ use Rattle.vx_base.specs.Formats.{takes_formats}
 use Rattle.graph_verify.specs.declared.operand.Operand.{Operand}
 use Rattle.graph_verify.specs.declared.operand.Operands.{Operands}
 use Rattle.graph_verify.specs.declared.verdict.Verdict.{Verdict}
-use Rattle.graph_verify.specs.declared.verdict.Verdict.TheVariants.{MultipleWriters, InvalidGraph, InvalidFormat, InvalidDimension}
-use Rattle.graph_verify.specs.Operand.{operand_format, are_of_one_size, written_operands, other_operands}
+use Rattle.graph_verify.specs.declared.verdict.Verdict.TheVariants.{MultipleWriters, InvalidGraph, InvalidLink, InvalidFormat, InvalidDimension, NoResources}
+use Rattle.graph_verify.specs.Operand.{operand_format, are_of_one_size, written_operands, other_operands, operands_of, is_virtual, operand_bytes}
+use Rattle.graph_verify.specs.Links.{feeds, has_twice, is_written}
+use Rattle.graph_verify.specs.Cycle.{has_cycle}
+use Rattle.graph_verify.specs.Outlines.{resolved}
 
 -- the code that says so
 abbrev pub verdict_code : Verdict → Code
@@ -22,11 +25,8 @@ verdict_code MultipleWriters = code.MultipleWriters
 verdict_code InvalidGraph = code.InvalidGraph
 verdict_code InvalidFormat = code.InvalidFormat
 verdict_code InvalidDimension = code.InvalidDimension
-
--- whether a cell stands in the list twice
-abbrev pub has_twice : List Cell → Bool
-has_twice [] = false
-has_twice (cell ∷ cells) = list_any (same_cell cell) cells || has_twice cells
+verdict_code InvalidLink = code.InvalidLink
+verdict_code NoResources = code.NoResources
 
 -- whether two outputs of a node are one cell
 abbrev pub writes_twice : Node → Bool
@@ -56,3 +56,38 @@ verdict_on n o =
     if writes_twice n then Some MultipleWriters
     else (if reads_own_output n then Some InvalidGraph
     else node_fault n.function o)
+
+-- ---- graphs of any nodes
+
+-- whether two outputs, of two nodes or of one, are one cell
+abbrev pub two_writers : List Node → Bool
+two_writers nodes = has_twice (flat_map outputs nodes)
+
+-- whether a node reads a virtual image that no node writes
+abbrev pub is_loose : (Cell → Operand) → List Node → Cell → Bool
+is_loose is nodes cell = is_virtual (is cell) && not (is_written nodes cell)
+
+abbrev pub reads_loose : (Cell → Operand) → List Node → Bool
+reads_loose is nodes = list_any (λ n. list_any (is_loose is nodes) (inputs n)) nodes
+
+-- the fault of the node that was added first among those that have one
+abbrev pub first_fault : (Cell → Operand) → List Node → Option Verdict
+first_fault is [] = None
+first_fault is (n ∷ nodes) = option_or (node_fault n.function (operands_of is n)) (first_fault is nodes)
+
+-- the virtual images that the nodes write
+abbrev pub virtual_outputs : (Cell → Operand) → List Node → List Cell
+virtual_outputs is nodes = filter (λ cell. is_virtual (is cell)) (flat_map outputs nodes)
+
+-- the bytes of their samples
+abbrev pub work_bytes : (Cell → Operand) → List Node → ℕ
+work_bytes is nodes = sum_by (λ cell. operand_bytes (resolved is nodes cell)) (virtual_outputs is nodes)
+
+-- the verdict on a graph with these nodes, whose cells are these operands, where virtual images may take so many bytes: none
+-- where it can run
+abbrev pub verdict : ℕ → (Cell → Operand) → List Node → Option Verdict
+verdict work is nodes =
+    if two_writers nodes then Some MultipleWriters
+    else (if has_cycle feeds nodes then Some InvalidGraph
+    else (if reads_loose is nodes then Some InvalidLink
+    else option_or (first_fault (resolved is nodes) nodes) (if nat_le (work_bytes is nodes) work then None else Some NoResources)))

@@ -1,7 +1,7 @@
 //! What a verdict has to know of the objects that a node names.
 ghost use Rattle.std.specs.Prelude.{◌≡◌};
 
-use vx_base::{Desc, Format, Kind};
+use vx_base::{Desc, Format, Kind, Outline};
 
 /// An object that a node names, by its kind, and by what verdicts ask of that kind.
 #[derive(Clone, Copy, PartialEq, Eq, Debug)]
@@ -20,6 +20,10 @@ pub enum Operand {
     Distribution,
     /// The extremes of an image.
     Extremes,
+    /// A graph, which no function takes.
+    Graph,
+    /// A virtual image, of which this is declared.
+    Virtual(Outline),
 }
 
 /// The operands of a node, as far as it has them.
@@ -45,6 +49,8 @@ impl Operand {
             Operand::Convolution => Kind::Convolution,
             Operand::Distribution => Kind::Distribution,
             Operand::Extremes => Kind::Extremes,
+            Operand::Graph => Kind::Graph,
+            Operand::Virtual(_) => Kind::VirtualImage,
         }
     }
 
@@ -57,7 +63,11 @@ impl Operand {
             Operand::Image(desc) => Some(desc.format()),
             Operand::Lut(format) | Operand::Threshold(format) => Some(format),
             Operand::Convolution => Some(Format::S16),
-            Operand::Delay | Operand::Distribution | Operand::Extremes => None,
+            Operand::Delay
+            | Operand::Distribution
+            | Operand::Extremes
+            | Operand::Graph
+            | Operand::Virtual(_) => None,
         }
     }
 }

@@ -17,12 +17,16 @@ use vx_base::{Code, Desc, Format, Function, Node, ObjRef};
 pub enum Verdict {
     /// One cell is written by two outputs.
     MultipleWriters,
-    /// A cycle: a node reads a cell that it writes.
+    /// A cycle: nodes of which each writes what the next reads, the last for the first.
     InvalidGraph,
+    /// A node reads a virtual image that no node writes.
+    InvalidLink,
     /// A node's function doesn't take the formats of its operands.
     InvalidFormat,
     /// An image of a node is of another size than its first input.
     InvalidDimension,
+    /// The virtual images that the nodes write take more bytes than they may.
+    NoResources,
 }
 
 impl Verdict {
@@ -37,6 +41,8 @@ impl Verdict {
             Verdict::InvalidGraph => Code::InvalidGraph,
             Verdict::InvalidFormat => Code::InvalidFormat,
             Verdict::InvalidDimension => Code::InvalidDimension,
+            Verdict::InvalidLink => Code::InvalidLink,
+            Verdict::NoResources => Code::NoResources,
         }
     }
 }

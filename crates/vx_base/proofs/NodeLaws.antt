@@ -20,7 +20,7 @@ use Rattle.vx_base.specs.Node.{is_node, has_amount, IsNode}
 use Rattle.vx_base.specs.Image.{ImageValue, IsImage}
 use Rattle.vx_base.specs.Lut.{LutValue, IsLut}
 use Rattle.vx_base.specs.Threshold.{ThresholdValue, IsThreshold, passes}
-use Rattle.vx_base.specs.Object.{ObjectValue, ImageObject, LutObject, ThresholdObject, DelayObject, ConvolutionObject, DistributionObject, ExtremesObject, IsObject, object_kind, same_kind, object_format}
+use Rattle.vx_base.specs.Object.{ObjectValue, ImageObject, LutObject, ThresholdObject, DelayObject, ConvolutionObject, DistributionObject, ExtremesObject, GraphObject, VirtualObject, IsObject, object_kind, same_kind, object_format}
 use Rattle.vx_base.specs.declared.output.Output.{Output}
 use Rattle.vx_base.specs.declared.output.Output.TheVariants.{First, Second}
 use Rattle.vx_base.specs.Window.{from_nine, formula_of_nine}
@@ -75,6 +75,8 @@ same_kind_equal kind.Delay kind.Delay h = refl
 same_kind_equal kind.Convolution kind.Convolution h = refl
 same_kind_equal kind.Distribution kind.Distribution h = refl
 same_kind_equal kind.Extremes kind.Extremes h = refl
+same_kind_equal kind.Graph kind.Graph h = refl
+same_kind_equal kind.VirtualImage kind.VirtualImage h = refl
 same_kind_equal a b h = cc
 
 -- no function reads a delay as a whole
@@ -147,6 +149,15 @@ pub takes_no_extremes : (function : Function) → (parameters function).second_i
 takes_no_extremes AndBits h = cc
 takes_no_extremes other h = cc
 
+-- no function has a graph or only a virtual image beside its first input
+pub takes_no_graph : (function : Function) → (parameters function).second_input ≡ Some kind.Graph → ⊥
+takes_no_graph AndBits h = cc
+takes_no_graph other h = cc
+
+pub takes_no_virtual : (function : Function) → (parameters function).second_input ≡ Some kind.VirtualImage → ⊥
+takes_no_virtual AndBits h = cc
+takes_no_virtual other h = cc
+
 module _ (n : Node) (format : Format) (a : ImageValue) (is : IsNode n) (image : IsImage a) where
   of_lut : (lut : LutValue) → IsLut lut → n.function ≡ TableLookup → IsTrue (takes_formats n.function a.format (Some lut.format) (Some format)) → IsImage (from_one format (looked_up lut) a)
   of_lut lut h f t =
@@ -190,3 +201,5 @@ module _ (n : Node) (format : Format) (a : ImageValue) (is : IsNode n) (image : 
   node_image_is output (Some (DelayObject images)) h k t = absurd (takes_no_delay n.function k)
   node_image_is output (Some (DistributionObject distribution)) h k t = absurd (takes_no_distribution n.function k)
   node_image_is output (Some (ExtremesObject extremes)) h k t = absurd (takes_no_extremes n.function k)
+  node_image_is output (Some (GraphObject graph)) h k t = absurd (takes_no_graph n.function k)
+  node_image_is output (Some (VirtualObject image)) h k t = absurd (takes_no_virtual n.function k)

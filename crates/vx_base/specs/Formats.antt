@@ -56,3 +56,20 @@ takes_formats Integral U8 None (Some U32) = true
 takes_formats MinMaxLoc U8 None None = true
 takes_formats MinMaxLoc S16 None None = true
 takes_formats function a second output = false
+
+-- the format of an image that a node writes and whose format is open, from that of the node's first input; a function that
+-- writes no image has none
+abbrev pub open_format : Function → Format → Format
+open_format Add first = S16
+open_format Subtract first = S16
+open_format Multiply first = S16
+open_format AbsoluteDifference first = first
+open_format MinPixel first = first
+open_format MaxPixel first = first
+open_format TableLookup first = first
+open_format ConvertDepth S16 = U8
+open_format ConvertDepth first = S16
+open_format Sobel first = S16
+open_format Convolve first = S16
+open_format Integral first = U32
+open_format function first = U8

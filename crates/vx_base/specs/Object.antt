@@ -1,14 +1,17 @@
 -- Objects that a client names and nodes use. OpenVX 1.3, "Object: Image", "Object: LUT", "Object: Threshold", "Object: Delay",
--- "Object: Convolution", "Object: Distribution".
-use Rattle.std.specs.Prelude.{ℕ, ◌≡◌, ◌≤◌, Bool, true, false, IsTrue, ⊤, Option, Some, None, List, length, map, sum_by, All, replicate, pos}
+-- "Object: Convolution", "Object: Distribution", "Object: Graph".
+use Rattle.std.specs.Prelude.{ℕ, ◌≡◌, ◌<◌, ◌≤◌, ◌^◌, Bool, true, false, IsTrue, ⊤, Option, Some, None, List, length, map, sum_by, All, replicate, pos}
 use Rattle.std.specs.List.{AllPairs}
 use Rattle.vx_base.specs.declared.format.Format.{Format}
 use Rattle.vx_base.specs.declared.format.Format.TheVariants.{S16}
 use Rattle.vx_base.specs.declared.extremes.Extremes.{Extremes}
+use Rattle.vx_base.specs.declared.virtual_image.VirtualImage.{VirtualImage}
 use Rattle.vx_base.specs.declared.kind.Kind.{Kind}
 use Rattle.vx_base.specs.declared.kind.Kind.TheVariants as kind
 use Rattle.vx_base.specs.Description.{byte_count}
 use Rattle.vx_base.specs.Image.{ImageValue, IsImage, description_of}
+use Rattle.vx_base.specs.Outline.{IsOutline}
+use Rattle.vx_base.specs.Graph.{GraphValue, IsGraph}
 use Rattle.vx_base.specs.Lut.{LutValue, IsLut}
 use Rattle.vx_base.specs.Threshold.{ThresholdValue, IsThreshold}
 use Rattle.vx_base.specs.Convolution.{ConvolutionValue, IsConvolution}
@@ -28,6 +31,8 @@ pub data ObjectValue : Type 0 where
   ConvolutionObject : ConvolutionValue → ObjectValue
   DistributionObject : DistributionValue → ObjectValue
   ExtremesObject : Extremes → ObjectValue
+  GraphObject : GraphValue → ObjectValue
+  VirtualObject : VirtualImage → ObjectValue
 
 abbrev pub same_kind : Kind → Kind → Bool
 same_kind kind.Image kind.Image = true
@@ -37,6 +42,8 @@ same_kind kind.Delay kind.Delay = true
 same_kind kind.Convolution kind.Convolution = true
 same_kind kind.Distribution kind.Distribution = true
 same_kind kind.Extremes kind.Extremes = true
+same_kind kind.Graph kind.Graph = true
+same_kind kind.VirtualImage kind.VirtualImage = true
 same_kind a b = false
 
 abbrev pub object_kind : ObjectValue → Kind
@@ -47,6 +54,8 @@ object_kind (DelayObject images) = kind.Delay
 object_kind (ConvolutionObject convolution) = kind.Convolution
 object_kind (DistributionObject distribution) = kind.Distribution
 object_kind (ExtremesObject extremes) = kind.Extremes
+object_kind (GraphObject graph) = kind.Graph
+object_kind (VirtualObject image) = kind.VirtualImage
 
 -- the format of an image's samples, of a table's entries, of the samples that a threshold tests, or of a convolution's
 -- coefficients; an object may have none
@@ -91,6 +100,11 @@ pub record IsDistribution (d : DistributionValue) : Type 0 where
   pub bins : IsTrue (are_bins d.bins.bins d.bins.offset d.bins.range)
   pub size : length d.counts ≡ d.bins.bins
 
+-- the name of a graph, and an outline
+pub record IsVirtual (image : VirtualImage) : Type 0 where
+  pub graph : image.graph < 2 ^ 32
+  pub declared : IsOutline image.declared
+
 abbrev pub IsObject : ObjectValue → Type 0
 IsObject (ImageObject image) = IsImage image
 IsObject (LutObject lut) = IsLut lut
@@ -99,3 +113,5 @@ IsObject (DelayObject images) = IsDelay images
 IsObject (ConvolutionObject convolution) = IsConvolution convolution
 IsObject (DistributionObject distribution) = IsDistribution distribution
 IsObject (ExtremesObject extremes) = ⊤
+IsObject (GraphObject graph) = IsGraph graph
+IsObject (VirtualObject image) = IsVirtual image

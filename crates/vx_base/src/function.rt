@@ -268,6 +268,32 @@ impl Function {
     }
 }
 
+impl Function {
+    ghost use Rattle.vx_base.specs.Formats.{open_format};
+
+    /// The format of an image that a node of this function writes and whose format is open, from
+    /// that of the node's first input.
+    pub fn open_format(self, first: Format) -> Format
+        ensures { result ≡ open_format self first }
+    {
+        match self {
+            Function::AbsoluteDifference
+            | Function::MinPixel
+            | Function::MaxPixel
+            | Function::TableLookup => first,
+            Function::ConvertDepth if first == Format::S16 => Format::U8,
+            Function::Add
+            | Function::Subtract
+            | Function::Multiply
+            | Function::ConvertDepth
+            | Function::Sobel
+            | Function::Convolve => Format::S16,
+            Function::Integral => Format::U32,
+            _ => Format::U8,
+        }
+    }
+}
+
 /// Whether all are U8.
 fn are_bytes(first: Format, second: Format, output: Format) -> bool
     ensures { result ≡ are_bytes first second output }

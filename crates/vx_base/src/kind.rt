@@ -17,4 +17,8 @@ pub enum Kind {
     Distribution,
     /// The extremes of an image, which the standard has in scalars and arrays.
     Extremes,
+    /// A graph, `VX_TYPE_GRAPH`, which no function takes.
+    Graph,
+    /// A virtual image, which nodes of its graph take in the place of an image.
+    VirtualImage,
 }

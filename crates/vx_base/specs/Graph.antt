@@ -1,0 +1,43 @@
+-- Graphs. OpenVX 1.3, "Object: Graph".
+use Rattle.std.specs.Prelude.{ℕ, ◌+◌, ◌<◌, ◌≤◌, ◌==◌, Bool, not, ◌&&◌, nat_lt, List, [], ◌∷◌, ◌++◌, length, map, filter, All}
+use Rattle.std.specs.List.{AllPairs, list_any}
+use Rattle.vx_base.specs.declared.node.Node.{Node}
+use Rattle.vx_base.specs.declared.numbered.Numbered.{Numbered}
+use Rattle.vx_base.specs.Node.{IsNode}
+
+-- the nodes in the order of adding, each with its number, and the number that comes next
+pub record GraphValue : Type 0 where
+  pub next : ℕ
+  pub nodes : List Numbered
+
+-- a graph without nodes, and number 1 next
+abbrev pub new_graph : GraphValue
+new_graph = record { next = 1; nodes = [] }
+
+-- the nodes without their numbers
+abbrev pub nodes_of : GraphValue → List Node
+nodes_of g = map (λ n. n.node) g.nodes
+
+-- whether one more node can be added: a number is left, and the graph has fewer than 256 nodes
+abbrev pub can_add : GraphValue → Bool
+can_add g = nat_lt g.next 4294967296 && nat_lt (length g.nodes) 256
+
+-- the graph with one more node, under the next number
+abbrev pub with_node : GraphValue → Node → GraphValue
+with_node g n = record { next = g.next + 1; nodes = g.nodes ++ record { number = g.next; node = n } ∷ [] }
+
+-- whether a node of the graph has this number
+abbrev pub has_node : GraphValue → ℕ → Bool
+has_node g number = list_any (λ n. n.number == number) g.nodes
+
+-- the graph without the node of this number, which no other node takes
+abbrev pub without_node : GraphValue → ℕ → GraphValue
+without_node g number = record { next = g.next; nodes = filter (λ n. not (n.number == number)) g.nodes }
+
+-- numbers in their order, below the next, of at most 256 nodes
+pub record IsGraph (g : GraphValue) : Type 0 where
+  pub left : g.next ≤ 4294967296
+  pub count : length g.nodes ≤ 256
+  pub numbers : AllPairs (λ a b. a.number < b.number) g.nodes
+  pub below : All (λ n. n.number < g.next) g.nodes
+  pub nodes : All (λ n. IsNode n.node) g.nodes
