@@ -3,4 +3,5 @@ pub mod DelayLemmas
 pub mod SlotLemmas
 pub mod SearchLemmas
 pub mod NamesLemmas
+pub mod UseLemmas
 mod TableLemmas

@@ -1,10 +1,10 @@
 -- What a table keeps when an object is replaced, and when one is handed back.
-use Rattle.std.proofs.Common.{◌≡◌, ℕ, ◌+◌, ◌<◌, ◌≤◌, ◌*◌, List, Option, length, set, get_or, IsTrue, ap, ◌∙◌, arith}
+use Rattle.std.proofs.Common.{◌≡◌, ℕ, ◌+◌, ◌-◌, ◌<◌, ◌≤◌, ◌*◌, List, Option, length, set, get_or, IsTrue, refl, ap, subst, ◌∙◌, arith}
 use Rattle.std.specs.Prelude.{All, unwrap_or}
 use Rattle.std.specs.Option.{option_map}
 use Rattle.std.proofs.lemmas.List.{get_or_read}
 use Rattle.std.proofs.lemmas.List.Elements.{All-set}
-use Rattle.std.proofs.lemmas.List.Sums.{sum_by-set, sum_by-le}
+use Rattle.std.proofs.lemmas.List.Sums.{sum_by-set, sum_by-le, get_or-le-sum_by}
 use Rattle.vx_base.specs.Object.{ObjectValue, object_bytes}
 use Rattle.object_table.specs.declared.names.Entry.{Entry}
 use Rattle.object_table.specs.declared.place.Place.{Place}
@@ -19,22 +19,34 @@ charge_limit next charge objects h =
     let sum : charge_of objects ≤ length objects * (16 * 67108864) = sum_by-le (λ (e : Entry ObjectValue). object_bytes e.object) (16 * 67108864) objects h.each in
     omega (arith, sum, h.charged, h.names.named.count)
 
--- another object at an index, in place of one that is charged as much, leaves a table
-pub IsTable-set : {next charge : ℕ} {objects : List (Entry ObjectValue)} {t : TableValue} {index : ℕ} {e : Entry ObjectValue} (new : ObjectValue) → IsTable next charge objects
-    → ◌≡◌ {A = TableValue} (record { next = next; objects = objects }) t → index < length t.objects → e ≡ get_or objects index e → object_bytes new ≡ object_bytes e.object → IsTable next charge (set objects index (record e { object = new }))
-IsTable-set {next} {charge} {objects} {t} {index} {e} new h view within read bytes =
+-- another object at an index leaves a table, whose charge is made up for it
+pub IsTable-exchanged : {next charge : ℕ} {objects : List (Entry ObjectValue)} {t : TableValue} {index : ℕ} {e : Entry ObjectValue} (new : ObjectValue) (gone come : ℕ) → IsTable next charge objects
+    → ◌≡◌ {A = TableValue} (record { next = next; objects = objects }) t → index < length t.objects → e ≡ get_or objects index e → gone ≡ object_bytes e.object → come ≡ object_bytes new → come ≤ 16 * 67108864
+    → IsTable next (charge - gone + come) (set objects index (record e { object = new }))
+IsTable-exchanged {next} {charge} {objects} {t} {index} {e} new gone come h view within read old fresh limit =
     let there : index < length objects = omega (arith, within, ap (λ (v : TableValue). length v.objects) view) in
     let stood = get_or_read objects index e there read no_object in
     let o : Entry ObjectValue = record e { object = new } in
-    let same : object_bytes new ≡ object_bytes (entry_at objects index).object = bytes ∙ ap (λ (k : Entry ObjectValue). object_bytes k.object) stood in
+    let same : object_bytes e.object ≡ object_bytes (entry_at objects index).object = ap (λ (k : Entry ObjectValue). object_bytes k.object) stood in
+    let part : object_bytes (entry_at objects index).object ≤ charge_of objects = get_or-le-sum_by (λ (k : Entry ObjectValue). object_bytes k.object) objects index no_object there in
     record {
       names = record {
         named = AreNamed-set next objects index no_object o h.names.named there (ap (λ (k : Entry ObjectValue). k.name) stood);
         held = All-set (λ (k : Entry ObjectValue). IsTrue (is_held k)) objects index o (ap is_held stood ∙ h.names.held index no_object there) h.names.held;
       };
-      charged = omega (arith, h.charged, same, sum_by-set (λ (k : Entry ObjectValue). object_bytes k.object) objects index o no_object there);
-      each = All-set (λ (k : Entry ObjectValue). object_bytes k.object ≤ 16 * 67108864) objects index o (omega (arith, same, h.each index no_object there)) h.each;
+      charged = omega (arith, h.charged, same, part, old, fresh, sum_by-set (λ (k : Entry ObjectValue). object_bytes k.object) objects index o no_object there);
+      each = All-set (λ (k : Entry ObjectValue). object_bytes k.object ≤ 16 * 67108864) objects index o (omega (arith, limit, fresh)) h.each;
     }
+
+-- another object at an index, in place of one that is charged as much, leaves a table
+pub IsTable-set : {next charge : ℕ} {objects : List (Entry ObjectValue)} {t : TableValue} {index : ℕ} {e : Entry ObjectValue} (new : ObjectValue) → IsTable next charge objects
+    → ◌≡◌ {A = TableValue} (record { next = next; objects = objects }) t → index < length t.objects → e ≡ get_or objects index e → object_bytes new ≡ object_bytes e.object → IsTable next charge (set objects index (record e { object = new }))
+IsTable-set {next} {charge} {objects} {t} {index} {e} new h view within read bytes =
+    let there : index < length objects = omega (arith, within, ap (λ (v : TableValue). length v.objects) view) in
+    let same : object_bytes e.object ≡ object_bytes (entry_at objects index).object = ap (λ (k : Entry ObjectValue). object_bytes k.object) (get_or_read objects index e there read no_object) in
+    let part : object_bytes (entry_at objects index).object ≤ charge_of objects = get_or-le-sum_by (λ (k : Entry ObjectValue). object_bytes k.object) objects index no_object there in
+    subst (λ n. IsTable next n (set objects index (record e { object = new }))) (omega (arith, same, part, h.charged))
+    (IsTable-exchanged {e = e} new (object_bytes e.object) (object_bytes e.object) h view within read refl (omega (arith, bytes)) (omega (arith, same, h.each index no_object there)))
 
 -- it then is the table with what is made of the old object at its place
 pub objects_replaced : {next : ℕ} {objects : List (Entry ObjectValue)} {t : TableValue} {e : Entry ObjectValue} {new : ObjectValue} (place : Place) (made : ObjectValue → ObjectValue)

@@ -1,5 +1,6 @@
 pub mod Delay
 pub mod Object
 pub mod Names
+pub mod Uses
 pub mod Table
 pub mod Named

@@ -2,11 +2,11 @@
 use Rattle.std.specs.Prelude.{ℕ, ℤ, List}
 use Rattle.vx_base.specs.declared.format.Format.TheVariants.{U8}
 use Rattle.vx_base.specs.Image.{ImageValue, new_image, image_over, description_of}
-use Rattle.vx_base.specs.Object.{ObjectValue, DistributionValue, ImageObject, LutObject, ThresholdObject, DelayObject, ConvolutionObject, DistributionObject, ExtremesObject, new_distribution}
+use Rattle.vx_base.specs.Object.{ObjectValue, DistributionValue, ImageObject, LutObject, ThresholdObject, DelayObject, ConvolutionObject, DistributionObject, ExtremesObject, VirtualObject, new_distribution}
 use Rattle.vx_base.specs.Rectangle.{Rectangle}
 use Rattle.object_table.specs.declared.object.Content.{Content}
 use Rattle.object_table.specs.Delay.{aged}
-use Rattle.object_table.specs.declared.object.Content.TheVariants.{Image, Lut, Threshold, Delay, Convolution, Distribution, Extremes}
+use Rattle.object_table.specs.declared.object.Content.TheVariants.{Image, Lut, Threshold, Delay, Convolution, Distribution, Extremes, Virtual}
 
 -- the object as a value
 abbrev pub value_of : Content → ObjectValue
@@ -17,6 +17,7 @@ value_of (Delay images) = DelayObject images
 value_of (Convolution convolution) = ConvolutionObject convolution
 value_of (Distribution distribution) = DistributionObject distribution
 value_of (Extremes extremes) = ExtremesObject extremes
+value_of (Virtual image) = VirtualObject image
 
 -- an object that is an image, as one
 abbrev pub image_value : ObjectValue → ImageValue

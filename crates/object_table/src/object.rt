@@ -12,7 +12,9 @@ use crate::delay::Delay;
 use crate::distribution::Distribution;
 use crate::stored::Stored;
 use std::marker::Model;
-use vx_base::{Convolution, Extremes, Kind, Lut, Picture, Rect, Samples, ThresholdRule};
+use vx_base::{
+    Convolution, Extremes, Kind, Lut, Picture, Rect, Samples, ThresholdRule, VirtualImage,
+};
 
 /// What a client's name stands for.
 #[derive(Drop)]
@@ -30,6 +32,7 @@ pub enum Content {
     Convolution(Convolution),
     Distribution(Distribution),
     Extremes(Extremes),
+    Virtual(VirtualImage),
 }
 
 impl Model for Object {
@@ -65,6 +68,7 @@ impl Object {
             Content::Convolution(_) => Kind::Convolution,
             Content::Distribution(_) => Kind::Distribution,
             Content::Extremes(_) => Kind::Extremes,
+            Content::Virtual(_) => Kind::VirtualImage,
         }
     }
 

@@ -18,6 +18,7 @@ use crate::place::Place;
 use crate::stored::Stored;
 use std::alloc::Global;
 use std::marker::Model;
+use std::mem;
 use vx_base::{Extremes, Picture, Rect, Samples};
 
 /// The objects that a client holds, in the order of their names, and the name that comes next.
@@ -183,6 +184,21 @@ impl Table {
             let object = self.names.unuse_at(index);
             self.charge = discharged(self.charge, object);
         }
+    }
+
+    /// Puts an object in the place of the one at an index, and hands that out. Name, mark and uses
+    /// stay, and the charge is that of the new object. It takes no memory.
+    pub fn exchange(&mut self, index: usize, object: Object) -> Object
+        requires { index < length self.old.objects }
+        ensures value { self.new ≡ with_objects self.old (replaced self.old.objects (record { index = index; slot = None }) object) }
+        ensures handed_out { result ≡ (entry_at self.old.objects index).object }
+        ensures names { IsNames self.old.next self.old.objects }
+    {
+        let added = object.bytes() as u64;
+        let entry = &mut self.names.entries[index];
+        let old = mem::replace(&mut entry.object, object);
+        self.charge = self.charge - old.bytes() as u64 + added;
+        old
     }
 
     /// Writes a picture to the image at a place; both are of one description.
