@@ -4,4 +4,5 @@ pub mod SlotLemmas
 pub mod SearchLemmas
 pub mod NamesLemmas
 pub mod UseLemmas
+mod OperandLemmas
 mod TableLemmas

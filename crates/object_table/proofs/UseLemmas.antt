@@ -1,18 +1,32 @@
 -- Uses that nodes begin and end, one name after the other.
-use Rattle.std.proofs.Common.{◌≡◌, ℕ, ◌+◌, ◌-◌, ◌<◌, ◌≤◌, ◌⊎◌, inl, inr, Bool, true, false, cond, List, [], ◌∷◌, ◌++◌, map, IsTrue, refl, sym, ap, ◌∙◌, arith}
-use Rattle.std.specs.Prelude.{All, ◌==◌, ◌||◌, nat_lt}
-use Rattle.std.proofs.lemmas.Bool.{cases_lt, lt-ltb, le-ltb}
+use Rattle.std.proofs.Common.{◌≡◌, ℕ, ◌+◌, ◌-◌, ◌<◌, ◌≤◌, ◌⊎◌, inl, inr, Bool, true, false, cond, List, [], ◌∷◌, ◌++◌, map, IsTrue, zero, suc, refl, sym, ap, subst, ◌∙◌, arith}
+use Rattle.std.specs.Prelude.{All, Any, ◌==◌, ◌||◌, nat_lt}
+use Rattle.std.proofs.lemmas.Bool.{cases_lt, lt-ltb, le-ltb, eq-eqb, eqb-true}
+use Rattle.std.proofs.lemmas.List.{length-map, get_or-map}
 use Rattle.std.proofs.lemmas.List.Elements.{All-head, All-tail}
 use Rattle.std.proofs.lemmas.List.Sums.{sum_by-append, sum_by-cons}
 use Rattle.object_table.specs.declared.names.Entry.{Entry}
 use Rattle.object_table.specs.Names.{is_held, held_of, changed, used, unused}
-use Rattle.object_table.specs.Uses.{times, with_uses, used_all, unused_all}
+use Rattle.object_table.specs.Uses.{times, with_uses, used_all, unused_all, HaveRoom, HaveUses, AreUses}
 
 times-append : (name : ℕ) (names others : List ℕ) → times name (names ++ others) ≡ times name names + times name others
 times-append name names others = sum_by-append (λ other. cond (name == other) 1 0) names others
 
 times-one : (name other : ℕ) → times name (other ∷ []) ≡ cond (name == other) 1 0
 times-one name other = sum_by-cons (λ other. cond (name == other) 1 0) other [] ∙ omega arith
+
+-- what holds of each name of a list holds of each that stands there
+pub times-each : (P : ℕ → Type 0) (names : List ℕ) → All P names → (name : ℕ) → 0 < times name names → P name
+times-each P [] h name more = absurd (omega (arith, more))
+times-each P (other ∷ names) h name more =
+    either (name == other) refl (times-each P names (All-tail P other names h) name)
+  where
+    split : times name (other ∷ names) ≡ cond (name == other) 1 0 + times name names
+    split = sum_by-cons (λ (n : ℕ). cond (name == n) 1 0) other names
+
+    either : (b : Bool) → (name == other) ≡ b → (0 < times name names → P name) → P name
+    either true same others = subst P (sym (eqb-true name other same)) (All-head P other names h)
+    either false apart others = others (omega (arith, more, split, ap (λ b. let n : ℕ = cond b 1 0 in n) apart))
 
 -- what isn't held with fewer uses isn't with even fewer
 still_dropped : (live : Bool) (uses some all : ℕ) → some ≤ all → (live || nat_lt 0 (uses - some)) ≡ false → (live || nat_lt 0 (uses - all)) ≡ false
@@ -102,3 +116,107 @@ module _ {O : Type 0} where
   -- one more name at the end
   pub unused_all-more : (names : List ℕ) (name : ℕ) (entries : List (Entry O)) → unused name (unused_all names entries) ≡ unused_all (names ++ name ∷ []) entries
   unused_all-more names name entries = sym (unused_all-one name (unused_all names entries)) ∙ unused_all-append names (name ∷ []) entries
+
+  -- ---- lists of uses that can begin, and that can end
+
+  any_weaker : (P Q : Entry O → Type 0) (entries : List (Entry O)) → ((e : Entry O) → P e → Q e) → Any P entries → Any Q entries
+  any_weaker P Q entries f (k, e, within, read, is) = (k, e, within, read, f e is)
+
+  any_here : (P : Entry O → Type 0) (e : Entry O) (entries : List (Entry O)) → P e → Any P (e ∷ entries)
+  any_here P e entries is = (zero, e, omega arith, refl, is)
+
+  any_later : (P : Entry O → Type 0) (e : Entry O) (entries : List (Entry O)) → Any P entries → Any P (e ∷ entries)
+  any_later P e entries (k, o, within, read, is) = (suc k, o, omega (arith, within), read, is)
+
+  any_split : (P : Entry O → Type 0) (e : Entry O) (entries : List (Entry O)) → Any P (e ∷ entries) → P e ⊎ Any P entries
+  any_split P e entries (zero, o, within, read, is) = inl (subst P (sym read) is)
+  any_split P e entries (suc k, o, within, read, is) = inr (k, o, omega (arith, within), read, is)
+
+  any_mapped : (P Q : Entry O → Type 0) (f : Entry O → Entry O) (entries : List (Entry O)) → ((e : Entry O) → P e → Q (f e)) → Any P entries → Any Q (map f entries)
+  any_mapped P Q f entries to (k, e, within, read, is) = (k, f e, omega (arith, within, length-map entries f), get_or-map f entries k e (f e) within ∙ ap f read, to e is)
+
+  -- what is used more often than its name stands in a list is held once as many uses have ended
+  uses_left : (names : List ℕ) (name n : ℕ) (entries : List (Entry O)) → 0 < n → Any (λ e. (e.name ≡ name) × (times name names + n ≤ e.uses)) entries → Any (λ e. (e.name ≡ name) × (n ≤ e.uses)) (unused_all names entries)
+  uses_left names name n [] more (k, e, within, read, is) = absurd (omega (arith, within))
+  uses_left names name n (e ∷ entries) more any =
+      either (any_split (λ e. (e.name ≡ name) × (times name names + n ≤ e.uses)) e entries any) (uses_left names name n entries more)
+    where
+      Left : Entry O → Type 0
+      Left e = (e.name ≡ name) × (n ≤ e.uses)
+
+      o : Entry O
+      o = with_uses (e.uses - times e.name names) e
+
+      rest : List (Entry O)
+      rest = unused_all names entries
+
+      or_true : (b : Bool) → (b || true) ≡ true
+      or_true true = refl
+      or_true false = refl
+
+      kept : (b : Bool) → Any Left rest → Any Left (cond b (o ∷ rest) rest)
+      kept true later = any_later Left o rest later
+      kept false later = later
+
+      either : ((e.name ≡ name) × (times name names + n ≤ e.uses)) ⊎ Any (λ e. (e.name ≡ name) × (times name names + n ≤ e.uses)) entries
+          → (Any (λ e. (e.name ≡ name) × (times name names + n ≤ e.uses)) entries → Any Left rest) → Any Left (cond (is_held o) (o ∷ rest) rest)
+      either (inl is) others =
+          let left : n ≤ o.uses = omega (arith, is.1, ap (λ m. times m names) is.0) in
+          let held : is_held o ≡ true = ap (λ b. e.live || b) (lt-ltb 0 o.uses (omega (arith, left, more))) ∙ or_true e.live in
+          subst (λ b. Any Left (cond b (o ∷ rest) rest)) (sym held) (any_here Left o rest (is.0, left))
+      either (inr later) others = kept (is_held o) (others later)
+
+  pub HaveUses-first : (names others : List ℕ) (entries : List (Entry O)) → HaveUses (names ++ others) entries → HaveUses names entries
+  HaveUses-first names others entries h name more =
+      let both = times-append name names others in
+      any_weaker (λ e. (e.name ≡ name) × (times name (names ++ others) ≤ e.uses)) (λ e. (e.name ≡ name) × (times name names ≤ e.uses)) entries
+      (λ e is. (is.0, omega (arith, both, is.1))) (h name (omega (arith, both, more)))
+
+  pub HaveUses-others : (names others : List ℕ) (entries : List (Entry O)) → HaveUses (names ++ others) entries → HaveUses others (unused_all names entries)
+  HaveUses-others names others entries h name more =
+      let both = times-append name names others in
+      uses_left names name (times name others) entries more
+      (any_weaker (λ e. (e.name ≡ name) × (times name (names ++ others) ≤ e.uses)) (λ e. (e.name ≡ name) × (times name names + times name others ≤ e.uses)) entries
+      (λ e is. (is.0, omega (arith, both, is.1))) (h name (omega (arith, both, more))))
+
+  pub HaveUses-one : (name : ℕ) (entries : List (Entry O)) → HaveUses (name ∷ []) entries → Any (λ e. (e.name ≡ name) × (0 < e.uses)) entries
+  HaveUses-one name entries h =
+      let once : times name (name ∷ []) ≡ 1 = times-one name name ∙ ap (λ b. let n : ℕ = cond b 1 0 in n) (eq-eqb name name refl) in
+      any_weaker (λ e. (e.name ≡ name) × (times name (name ∷ []) ≤ e.uses)) (λ e. (e.name ≡ name) × (0 < e.uses)) entries
+      (λ e is. (is.0, omega (arith, once, is.1))) (h name (omega (arith, once)))
+
+  pub HaveRoom-first : (names others : List ℕ) (entries : List (Entry O)) → HaveRoom (names ++ others) entries → HaveRoom names entries
+  HaveRoom-first names others entries h name more =
+      let both = times-append name names others in
+      any_weaker (λ e. (e.name ≡ name) × (e.uses + times name (names ++ others) ≤ 4294967295)) (λ e. (e.name ≡ name) × (e.uses + times name names ≤ 4294967295)) entries
+      (λ e is. (is.0, omega (arith, both, is.1))) (h name (omega (arith, both, more)))
+
+  pub HaveRoom-others : (names others : List ℕ) (entries : List (Entry O)) → HaveRoom (names ++ others) entries → HaveRoom others (used_all names entries)
+  HaveRoom-others names others entries h name more =
+      let both = times-append name names others in
+      any_mapped (λ e. (e.name ≡ name) × (e.uses + times name (names ++ others) ≤ 4294967295)) (λ e. (e.name ≡ name) × (e.uses + times name others ≤ 4294967295))
+      (λ e. with_uses (e.uses + times e.name names) e) entries
+      (λ e is. (is.0, omega (arith, both, is.1, ap (λ m. times m names) is.0))) (h name (omega (arith, both, more)))
+
+  pub HaveRoom-one : (name : ℕ) (entries : List (Entry O)) → HaveRoom (name ∷ []) entries → Any (λ e. (e.name ≡ name) × (e.uses < 4294967295)) entries
+  HaveRoom-one name entries h =
+      let once : times name (name ∷ []) ≡ 1 = times-one name name ∙ ap (λ b. let n : ℕ = cond b 1 0 in n) (eq-eqb name name refl) in
+      any_weaker (λ e. (e.name ≡ name) × (e.uses + times name (name ∷ []) ≤ 4294967295)) (λ e. (e.name ≡ name) × (e.uses < 4294967295)) entries
+      (λ e is. (is.0, omega (arith, once, is.1))) (h name (omega (arith, once)))
+
+  -- where each entry is used as often as its name says, the names have the uses and the room that they say
+  with_use : (uses : ℕ → ℕ) (entries : List (Entry O)) (name : ℕ) → AreUses uses entries → Any (λ e. e.name ≡ name) entries → Any (λ e. (e.name ≡ name) × (e.uses ≡ uses name)) entries
+  with_use uses entries name h (k, e, within, read, is) =
+      (k, e, within, read, (is, ap (λ (o : Entry O). o.uses) (sym read) ∙ h k e within ∙ ap (λ (o : Entry O). uses o.name) read ∙ ap uses is))
+
+  pub HaveUses-from : (uses : ℕ → ℕ) (names : List ℕ) (entries : List (Entry O)) → AreUses uses entries → ((name : ℕ) → 0 < times name names → Any (λ e. e.name ≡ name) entries)
+      → ((name : ℕ) → times name names ≤ uses name) → HaveUses names entries
+  HaveUses-from uses names entries h held enough name more =
+      any_weaker (λ e. (e.name ≡ name) × (e.uses ≡ uses name)) (λ e. (e.name ≡ name) × (times name names ≤ e.uses)) entries
+      (λ e is. (is.0, omega (arith, is.1, enough name))) (with_use uses entries name h (held name more))
+
+  pub HaveRoom-from : (uses : ℕ → ℕ) (names : List ℕ) (entries : List (Entry O)) → AreUses uses entries → ((name : ℕ) → 0 < times name names → Any (λ e. e.name ≡ name) entries)
+      → ((name : ℕ) → uses name + times name names ≤ 4294967295) → HaveRoom names entries
+  HaveRoom-from uses names entries h held room name more =
+      any_weaker (λ e. (e.name ≡ name) × (e.uses ≡ uses name)) (λ e. (e.name ≡ name) × (e.uses + times name names ≤ 4294967295)) entries
+      (λ e is. (is.0, omega (arith, is.1, room name))) (with_use uses entries name h (held name more))

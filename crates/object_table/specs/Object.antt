@@ -1,12 +1,13 @@
 -- Objects as values.
 use Rattle.std.specs.Prelude.{ℕ, ℤ, List}
 use Rattle.vx_base.specs.declared.format.Format.TheVariants.{U8}
+use Rattle.vx_base.specs.Graph.{GraphValue, new_graph}
 use Rattle.vx_base.specs.Image.{ImageValue, new_image, image_over, description_of}
-use Rattle.vx_base.specs.Object.{ObjectValue, DistributionValue, ImageObject, LutObject, ThresholdObject, DelayObject, ConvolutionObject, DistributionObject, ExtremesObject, VirtualObject, new_distribution}
+use Rattle.vx_base.specs.Object.{ObjectValue, DistributionValue, ImageObject, LutObject, ThresholdObject, DelayObject, ConvolutionObject, DistributionObject, ExtremesObject, GraphObject, VirtualObject, new_distribution}
 use Rattle.vx_base.specs.Rectangle.{Rectangle}
 use Rattle.object_table.specs.declared.object.Content.{Content}
 use Rattle.object_table.specs.Delay.{aged}
-use Rattle.object_table.specs.declared.object.Content.TheVariants.{Image, Lut, Threshold, Delay, Convolution, Distribution, Extremes, Virtual}
+use Rattle.object_table.specs.declared.object.Content.TheVariants.{Image, Lut, Threshold, Delay, Convolution, Distribution, Extremes, Graph, Virtual}
 
 -- the object as a value
 abbrev pub value_of : Content → ObjectValue
@@ -17,6 +18,7 @@ value_of (Delay images) = DelayObject images
 value_of (Convolution convolution) = ConvolutionObject convolution
 value_of (Distribution distribution) = DistributionObject distribution
 value_of (Extremes extremes) = ExtremesObject extremes
+value_of (Graph graph) = GraphObject graph
 value_of (Virtual image) = VirtualObject image
 
 -- an object that is an image, as one
@@ -28,6 +30,11 @@ image_value other = new_image 0 0 U8
 abbrev pub distribution_value : ObjectValue → DistributionValue
 distribution_value (DistributionObject distribution) = distribution
 distribution_value other = new_distribution (record { bins = 0; offset = 0; range = 0 })
+
+-- an object that is a graph, as one
+abbrev pub graph_value : ObjectValue → GraphValue
+graph_value (GraphObject graph) = graph
+graph_value other = new_graph
 
 -- a delay whose images are one step later; other objects have no age
 abbrev pub aged_object : ObjectValue → ObjectValue

@@ -1,13 +1,15 @@
 -- The objects of a client.
-use Rattle.std.specs.Prelude.{ℕ, ◌≡◌, ◌<◌, ◌≤◌, ◌+◌, ◌*◌, IsTrue, is_some, List, [], length, sum_by, slice_index_or, slice_set, All, true}
+use Rattle.std.specs.Prelude.{ℕ, ◌≡◌, ◌<◌, ◌≤◌, ◌+◌, ◌*◌, IsTrue, is_some, None, List, [], length, sum_by, slice_index_or, slice_set, All, true}
 use Rattle.vx_base.specs.declared.format.Format.TheVariants.{U8}
+use Rattle.vx_base.specs.declared.kind.Kind.TheVariants as kind
+use Rattle.vx_base.specs.Graph.{GraphValue}
 use Rattle.vx_base.specs.Image.{ImageValue, new_image}
-use Rattle.vx_base.specs.Object.{ObjectValue, ImageObject, object_bytes}
+use Rattle.vx_base.specs.Object.{ObjectValue, ImageObject, GraphObject, object_bytes, object_kind}
 use Rattle.object_table.specs.declared.names.Entry.{Entry}
 use Rattle.object_table.specs.Names.{IsNames, with_entry}
 use Rattle.object_table.specs.declared.place.Place.{Place}
 use Rattle.object_table.specs.Delay.{in_slot, object_in, with_slot, HasImage}
-use Rattle.object_table.specs.Object.{image_value}
+use Rattle.object_table.specs.Object.{image_value, graph_value}
 
 -- the name that comes next, and what is held, in the order of the names
 pub record TableValue : Type 0 where
@@ -62,6 +64,21 @@ abbrev pub replaced : List (Entry ObjectValue) → Place → ObjectValue → Lis
 replaced objects place object =
     let e = entry_at objects place.index in
     slice_set objects place.index (record e { object = with_slot place.slot object e.object })
+
+-- ---- graphs
+
+-- the graph at an index
+abbrev pub graph_at : List (Entry ObjectValue) → ℕ → GraphValue
+graph_at objects index = graph_value (entry_at objects index).object
+
+-- the objects, with another graph at an index
+abbrev pub with_graph : List (Entry ObjectValue) → ℕ → GraphValue → List (Entry ObjectValue)
+with_graph objects index graph = replaced objects (record { index = index; slot = None }) (GraphObject graph)
+
+-- an index at which a graph stands
+pub record HasGraphAt (objects : List (Entry ObjectValue)) (index : ℕ) : Type 0 where
+  pub within : index < length objects
+  pub kind : object_kind (entry_at objects index).object ≡ kind.Graph
 
 -- ---- what a table keeps
 

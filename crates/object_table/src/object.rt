@@ -1,19 +1,25 @@
 //! Objects that a client holds.
-ghost use Rattle.std.specs.Prelude.{◌≡◌, ◌≤◌, ◌*◌, [], is_some, length};
+ghost use Rattle.std.specs.Prelude.{◌≡◌, ◌≤◌, ◌*◌, ◌==◌, not, if◌then◌else◌, IsTrue, [], is_some, length, find, Some, IfOk, IfErr, OnOk, OnErr};
+ghost use Rattle.std.specs.Result.{is_err};
 ghost use Rattle.vx_base.specs.declared.kind.Kind.TheVariants as kind;
 ghost use Rattle.vx_base.specs.Rectangle.{IsWithin};
 ghost use Rattle.vx_base.specs.Image.{IsImage, description_of, with_valid};
-ghost use Rattle.vx_base.specs.Object.{ImageObject, DelayObject, ExtremesObject, IsObject, object_bytes, object_kind};
+ghost use Rattle.vx_base.specs.Graph.{new_graph, can_add, with_node, has_node, without_node};
+ghost use Rattle.vx_base.specs.Object.{ImageObject, DelayObject, ExtremesObject, GraphObject, IsObject, object_bytes, object_kind};
 ghost use Rattle.vx_base.specs.Picture.{values, samples_format, pictured};
 ghost use Rattle.object_table.specs.Delay.{in_slot, object_in, slot_kind, with_slot, HasImage};
-ghost use Rattle.object_table.specs.Object.{value_of, image_value, distribution_value, aged_object, with_samples, with_counts};
+ghost use Rattle.object_table.specs.Object.{value_of, image_value, distribution_value, graph_value, aged_object, with_samples, with_counts};
+ghost use Rattle.graph_verify.specs.declared.fault.GraphFault.TheVariants.{NoMemory, NoResources, InvalidReference};
 
 use crate::delay::Delay;
 use crate::distribution::Distribution;
 use crate::stored::Stored;
+use graph_verify::{Graph, GraphFault};
+use std::alloc::Global;
 use std::marker::Model;
+use std::mem;
 use vx_base::{
-    Convolution, Extremes, Kind, Lut, Picture, Rect, Samples, ThresholdRule, VirtualImage,
+    Convolution, Extremes, Kind, Lut, NodeSpec, Picture, Rect, Samples, ThresholdRule, VirtualImage,
 };
 
 /// What a client's name stands for.
@@ -32,6 +38,7 @@ pub enum Content {
     Convolution(Convolution),
     Distribution(Distribution),
     Extremes(Extremes),
+    Graph(Graph),
     Virtual(VirtualImage),
 }
 
@@ -68,6 +75,7 @@ impl Object {
             Content::Convolution(_) => Kind::Convolution,
             Content::Distribution(_) => Kind::Distribution,
             Content::Extremes(_) => Kind::Extremes,
+            Content::Graph(_) => Kind::Graph,
             Content::Virtual(_) => Kind::VirtualImage,
         }
     }
@@ -213,6 +221,64 @@ impl Object {
     {
         match &mut self.content {
             Content::Extremes(held) => *held = extremes,
+            _ => unreachable!(),
+        }
+    }
+
+    /// The graph that the object is.
+    pub fn graph(&self) -> &Graph
+        requires { object_kind self.now ≡ kind.Graph }
+        ensures { result.now ≡ graph_value self.now }
+    {
+        match &self.content {
+            Content::Graph(graph) => graph,
+            _ => unreachable!(),
+        }
+    }
+
+    /// Adds a node to the graph that the object is, and says its number. A fault has changed
+    /// nothing.
+    pub fn add_node(&mut self, node: NodeSpec) -> Result<u32, GraphFault>
+        requires { object_kind self.old ≡ kind.Graph }
+        ensures number { IfOk result (λ number. number ≡ (graph_value self.old).next) }
+        ensures ok { OnOk result (self.new ≡ GraphObject (with_node (graph_value self.old) node)) }
+        ensures room { OnOk result (IsTrue (can_add (graph_value self.old))) }
+        ensures fault { IfErr result (λ fault. fault ≡ (if can_add (graph_value self.old) then NoMemory else NoResources)) }
+        ensures err { OnErr result (self.new ≡ self.old) }
+        ensures bytes { object_bytes self.new ≡ object_bytes self.old }
+    {
+        match &mut self.content {
+            Content::Graph(graph) => graph.add_node(node),
+            _ => unreachable!(),
+        }
+    }
+
+    /// Removes the node of this number from the graph that the object is, and hands it back.
+    /// `InvalidReference`: the graph has no such node.
+    pub fn remove_node(&mut self, number: u32) -> Result<NodeSpec, GraphFault>
+        requires { object_kind self.old ≡ kind.Graph }
+        ensures removed { IfOk result (λ node. find (λ n. n.number == number) (graph_value self.old).nodes ≡ Some (record { number = number; node = node })) }
+        ensures ok { OnOk result (self.new ≡ GraphObject (without_node (graph_value self.old) number)) }
+        ensures missing { is_err result ≡ not (has_node (graph_value self.old) number) }
+        ensures fault { IfErr result (λ fault. fault ≡ InvalidReference) }
+        ensures err { OnErr result (self.new ≡ self.old) }
+        ensures bytes { object_bytes self.new ≡ object_bytes self.old }
+    {
+        match &mut self.content {
+            Content::Graph(graph) => graph.remove_node(number),
+            _ => unreachable!(),
+        }
+    }
+
+    /// Takes out the graph that the object is, and leaves one without nodes. It takes no memory.
+    pub fn take_graph(&mut self, alloc: Global) -> Graph
+        requires { object_kind self.old ≡ kind.Graph }
+        ensures taken { result ≡ graph_value self.old }
+        ensures left { self.new ≡ GraphObject new_graph }
+        ensures bytes { object_bytes self.new ≡ object_bytes self.old }
+    {
+        match &mut self.content {
+            Content::Graph(graph) => mem::replace(graph, Graph::new(alloc)),
             _ => unreachable!(),
         }
     }

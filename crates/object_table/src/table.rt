@@ -11,6 +11,9 @@ ghost use Rattle.object_table.specs.Names.{is_live_as, object_named, can_insert,
 ghost use Rattle.object_table.specs.Object.{distribution_value, aged_object, with_samples, with_counts};
 ghost use Rattle.object_table.specs.Table.{new_table, charge_of, with_new, with_objects, entry_at, object_at, image_at, replaced, HasImageAt};
 
+mod graphs;
+mod uses;
+
 use crate::fault::{InsertFault, TableFault};
 use crate::names::Names;
 use crate::object::Object;
@@ -155,6 +158,7 @@ impl Table {
         ensures result { result ≡ (if is_none (object_named self.old.objects name) then Err InvalidReference else Ok tt) }
         ensures ok { OnOk result (self.new ≡ with_objects self.old (released name self.old.objects)) }
         ensures err { OnErr result (self.new ≡ self.old) }
+        ensures names { IsNames self.new.next self.new.objects }
     {
         let Some(index) = self.names.index_of(name) else {
             return Err(TableFault::InvalidReference);
@@ -167,7 +171,8 @@ impl Table {
     /// One more node uses the object that is held under a name, which fewer than 2^32 - 1 use.
     pub fn use_by(&mut self, name: u32)
         requires { Any (λ e. (e.name ≡ name) × (e.uses < 4294967295)) self.old.objects }
-        ensures { self.new ≡ with_objects self.old (used name self.old.objects) }
+        ensures value { self.new ≡ with_objects self.old (used name self.old.objects) }
+        ensures names { IsNames self.new.next self.new.objects }
     {
         if let Some(index) = self.names.search(name) {
             self.names.use_at(index);
@@ -178,7 +183,8 @@ impl Table {
     /// used is no longer held.
     pub fn unuse(&mut self, name: u32)
         requires { Any (λ e. (e.name ≡ name) × (0 < e.uses)) self.old.objects }
-        ensures { self.new ≡ with_objects self.old (unused name self.old.objects) }
+        ensures value { self.new ≡ with_objects self.old (unused name self.old.objects) }
+        ensures names { IsNames self.new.next self.new.objects }
     {
         if let Some(index) = self.names.search(name) {
             let object = self.names.unuse_at(index);

@@ -30,8 +30,8 @@ invariant_of-self c =
     c.discharged-self-inside.ensures
     (subst (λ (k : List (Entry ObjectValue)). All (λ e. object_bytes e.object ≤ 16 * 67108864) k) (sym (c.unuse_at-object.ensures.entries ∙ ap (λ n. unused n l) index.1)) each)
 
-pub returns-in-Some : goal.returns-in-Some
-returns-in-Some c =
+pub returns-in-Some-clause-value : goal.returns-in-Some-clause-value
+returns-in-Some-clause-value c =
     let s = c.self.inside in
     let l = s.names.entries.items in
     let index = named_there l c.args.name c.in-Some.index c.in-Some.ensures in

@@ -28,8 +28,8 @@ invariant_of-self c =
           (All-changed (λ o. object_bytes o ≤ 16 * 67108864) l c.args.name (λ e. record e { uses = e.uses + 1 }) (λ e. refl) c.self.invariant.each);
     }
 
-pub returns-in-Some : goal.returns-in-Some
-returns-in-Some c =
+pub returns-in-Some-clause-value : goal.returns-in-Some-clause-value
+returns-in-Some-clause-value c =
     let s = c.self.inside in
     let l = s.names.entries.items in
     let index = named_there l c.args.name c.in-Some.index c.in-Some.ensures in

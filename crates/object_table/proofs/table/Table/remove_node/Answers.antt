@@ -1,0 +1,5 @@
+use Rattle.object_table.proofs.TableLemmas.{IsTable-set}
+use Rattle.object_table.proofs.table.Table.remove_node.Goals as goal
+
+pub invariant_of-self : goal.invariant_of-self
+invariant_of-self c = IsTable-set c.remove_node.new.self c.self.invariant c.self.view_is c.requires.within c.index_mut-entry.ensures.value c.remove_node.ensures.bytes
