@@ -9,10 +9,13 @@ ghost use Rattle.vx_base.specs.declared.code.Code.TheVariants.{InvalidFormat};
 ghost use Rattle.vx_base.specs.Sample.{narrow};
 ghost use Rattle.vx_base.specs.Rectangle.{Rectangle, rectangle, empty, meet_of, shrunk, inside};
 ghost use Rattle.vx_base.specs.Description.{description, byte_count};
+ghost use Rattle.vx_base.specs.Outline.{outline, outline_of, filled, closed};
+ghost use Rattle.vx_base.specs.declared.node.Node.{Node};
+ghost use Rattle.vx_base.specs.Graph.{new_graph, nodes_of, with_node, without_node, can_add};
 ghost use Rattle.vx_base.specs.Image.{ImageValue, made, at, new_image};
 ghost use Rattle.vx_base.specs.Lut.{entry_for};
 ghost use Rattle.vx_base.specs.Object.{ImageObject, LutObject, object_kind};
-ghost use Rattle.vx_base.specs.Formats.{takes_formats};
+ghost use Rattle.vx_base.specs.Formats.{takes_formats, open_format};
 ghost use Rattle.vx_base.specs.Function.{parameters};
 ghost use Rattle.vx_base.specs.declared.kind.Kind.TheVariants.{Image};
 ghost use Rattle.vx_base.specs.Pixelwise.{and_bits, or_bits, xor_bits, not_bits, sum, difference, product, absolute_difference, thresholded, converted, from_one};
@@ -150,4 +153,24 @@ pub fn nodes()
     ensures whole { is_node (record { function = NotBits; border = Undefined; policy = Wrap; amount = 0; in1 = record { name = 1; slot = None }; in2 = None; out1 = Some (record { name = 2; slot = None }); out2 = None }) ≡ true }
     ensures no_output { is_node (record { function = NotBits; border = Undefined; policy = Wrap; amount = 0; in1 = record { name = 1; slot = None }; in2 = None; out1 = None; out2 = None }) ≡ false }
     ensures other_policy { is_node (record { function = NotBits; border = Undefined; policy = Saturate; amount = 0; in1 = record { name = 1; slot = None }; in2 = None; out1 = Some (record { name = 2; slot = None }); out2 = None }) ≡ false }
+{}
+
+/// Outlines whose open parts are filled, and formats that are left open.
+pub fn outlines()
+    ensures filled { filled (record { width = Some 4; height = None; format = None }) (record { width = Some 8; height = Some 2; format = Some U8 }) ≡ record { width = Some 4; height = Some 2; format = Some U8 } }
+    ensures open { closed (record { width = Some 4; height = None; format = Some U8 }) ≡ None }
+    ensures closed { closed (outline_of (record { width = 4; height = 2; format = S16 })) ≡ Some (record { width = 4; height = 2; format = S16 }) }
+    ensures side { outline (Some 4097) None None ≡ None }
+    ensures sums { open_format Add U8 ≡ S16 }
+    ensures kept { open_format TableLookup S16 ≡ S16 }
+    ensures converted { open_format ConvertDepth S16 ≡ U8 }
+    ensures converted_back { open_format ConvertDepth U8 ≡ S16 }
+{}
+
+/// A graph whose only node is removed, and its next one: the number isn't used again.
+pub fn numbers_of_nodes()
+    ensures first { (n : Node) → nodes_of (with_node new_graph n) ≡ n ∷ [] }
+    ensures removed { (n : Node) → without_node (with_node new_graph n) 1 ≡ record { next = 2; nodes = [] } }
+    ensures second { (m n : Node) → (with_node (without_node (with_node new_graph m) 1) n).nodes ≡ record { number = 2; node = n } ∷ [] }
+    ensures full { can_add (record { next = 4294967296; nodes = [] }) ≡ false }
 {}
