@@ -1,0 +1,123 @@
+//! Graphs: nodes and their numbers.
+ghost use Rattle.std.specs.Prelude.{◌≡◌, ◌==◌, ◌≤◌, not, if◌then◌else◌, IsTrue, length, find, filter, IfOk, IfErr, OnOk, OnErr, Some};
+ghost use Rattle.std.specs.Result.{is_err};
+ghost use Rattle.vx_base.specs.Graph.{new_graph, can_add, with_node, has_node, without_node, IsGraph};
+ghost use Rattle.graph_verify.specs.declared.fault.GraphFault.TheVariants.{NoMemory, NoResources, InvalidReference};
+
+use crate::fault::GraphFault;
+use std::alloc::Global;
+use std::marker::Model;
+use vx_base::{NodeSpec, Numbered};
+
+/// The greatest number of nodes in a graph.
+pub const GREATEST_NODES: usize = 256;
+
+/// Each number is below this: 2^32.
+const END_OF_NUMBERS: u64 = 4_294_967_296;
+
+/// A graph (OpenVX 1.3, "Object: Graph"): its nodes in the order of adding, and the number that
+/// comes next. Numbers count up from 1 and are never given again.
+#[derive(Drop)]
+pub struct Graph {
+    next: u64,
+    nodes: Vec<Numbered>,
+}
+
+impl Model for Graph {
+    ghost use Rattle.vx_base.specs.Graph.{GraphValue, IsGraph};
+
+    ghost Value = { GraphValue };
+
+    ghost view = { λ g. record { next = g.next; nodes = g.nodes.items } };
+
+    ghost invariant = { λ g. IsGraph (record { next = g.next; nodes = g.nodes.items }) };
+}
+
+impl Graph {
+    /// A graph without nodes. Number 1 comes next.
+    pub fn new(alloc: Global) -> Graph
+        ensures { result ≡ new_graph }
+    {
+        Graph {
+            next: 1,
+            nodes: Vec::new(alloc),
+        }
+    }
+
+    /// What is always true of a graph, which the prover knows where its fields are read.
+    pub fn is_graph(&self)
+        ensures { IsGraph self.now }
+    {
+        let _next = self.next;
+    }
+
+    /// The nodes in the order of adding, at most 256.
+    pub fn nodes(&self) -> &[Numbered]
+        ensures nodes { result.now ≡ self.now.nodes }
+        ensures limit { length result.now ≤ 256 }
+    {
+        &self.nodes
+    }
+
+    /// Whether one more node can be added: a number is left, and there are fewer than 256 nodes.
+    pub fn can_add(&self) -> bool
+        ensures { result ≡ can_add self.now }
+    {
+        self.next < END_OF_NUMBERS && self.nodes.len() < GREATEST_NODES
+    }
+
+    /// Adds a node, and says its number. A fault has changed nothing.
+    pub fn add_node(&mut self, node: NodeSpec) -> Result<u32, GraphFault>
+        ensures number { IfOk result (λ number. number ≡ self.old.next) }
+        ensures ok { OnOk result (self.new ≡ with_node self.old node) }
+        ensures room { OnOk result (IsTrue (can_add self.old)) }
+        ensures fault { IfErr result (λ fault. fault ≡ (if can_add self.old then NoMemory else NoResources)) }
+        ensures err { OnErr result (self.new ≡ self.old) }
+    {
+        if !self.can_add() {
+            return Err(GraphFault::NoResources);
+        }
+        // The prover knows that the node is one where its fields are read.
+        let _fields = node.node();
+        let number = self.next as u32;
+        if self.nodes.push(Numbered { number, node }).is_err() {
+            return Err(GraphFault::NoMemory);
+        }
+        self.next += 1;
+        Ok(number)
+    }
+
+    /// Removes the node of this number, and hands it back. `InvalidReference` where there is none.
+    pub fn remove_node(&mut self, number: u32) -> Result<NodeSpec, GraphFault>
+        ensures removed { IfOk result (λ node. find (λ n. n.number == number) self.old.nodes ≡ Some (record { number = number; node = node })) }
+        ensures ok { OnOk result (self.new ≡ without_node self.old number) }
+        ensures missing { is_err result ≡ not (has_node self.old number) }
+        ensures fault { IfErr result (λ fault. fault ≡ InvalidReference) }
+        ensures err { OnErr result (self.new ≡ self.old) }
+    {
+        match self.find(number) {
+            None => Err(GraphFault::InvalidReference),
+            Some(found) => {
+                keep_others(&mut self.nodes, number);
+                Ok(found.node)
+            }
+        }
+    }
+
+    /// The node of this number.
+    fn find(&self, number: u32) -> Option<Numbered>
+        ensures { result ≡ find (λ n. n.number == number) self.now.nodes }
+    {
+        self.nodes
+            .iter()
+            .copied()
+            .find(|node| node.number == number)
+    }
+}
+
+/// Keeps the nodes of other numbers.
+fn keep_others(nodes: &mut Vec<Numbered>, number: u32)
+    ensures { nodes.new.items ≡ filter (λ n. not (n.number == number)) nodes.old.items }
+{
+    nodes.retain(|node| node.number != number);
+}
