@@ -1,0 +1,48 @@
+-- Runs of graphs. OpenVX 1.3, "Graphs", vxProcessGraph.
+use Rattle.std.specs.Prelude.{ℕ, zero, suc, Bool, true, false, if◌then◌else◌, List, [], ◌∷◌, length, map, None}
+use Rattle.std.specs.List.{flat_map}
+use Rattle.vx_base.specs.declared.node.Node.{Node}
+use Rattle.vx_base.specs.Cell.{Cell}
+use Rattle.vx_base.specs.Image.{new_image}
+use Rattle.vx_base.specs.Object.{ObjectValue, ImageObject, VirtualObject}
+use Rattle.vx_base.specs.Outputs.{written_by}
+use Rattle.object_table.specs.Named.{Named, held, with_written}
+use Rattle.graph_verify.specs.declared.operand.Operand.{Operand}
+use Rattle.graph_verify.specs.declared.operand.Operand.TheVariants.{Image}
+use Rattle.graph_verify.specs.Links.{is_written}
+
+-- one round: all nodes write at once, of what the cells held before
+abbrev pub round : List Node → List Named → List Named
+round nodes objects = with_written objects (flat_map (λ n. written_by n (held objects)) nodes)
+
+abbrev pub rounds : List Node → ℕ → List Named → List Named
+rounds nodes zero objects = objects
+rounds nodes (suc k) objects = round nodes (rounds nodes k objects)
+
+-- what a virtual image is while a graph runs that writes it: an image of what it was found to be, wholly valid and 0 everywhere
+abbrev pub begun_as : ObjectValue → Operand → ObjectValue
+begun_as (VirtualObject image) (Image d) = ImageObject (new_image d.width d.height d.format)
+begun_as object operand = object
+
+abbrev pub begun : (Cell → Operand) → List Node → Named → Named
+begun is nodes o =
+    let cell : Cell = record { name = o.name; slot = None } in
+    if is_written nodes cell then record o { object = begun_as o.object (is cell) } else o
+
+-- virtual images are forgotten as a run ends
+abbrev pub is_virtual : ObjectValue → Bool
+is_virtual (VirtualObject image) = true
+is_virtual other = false
+
+abbrev pub forgotten : List Named → List Named → List Named
+forgotten (o ∷ before) (p ∷ after) = (if is_virtual o.object then o else p) ∷ forgotten before after
+forgotten before after = after
+
+-- a run of a graph whose cells are found to be these operands: as many rounds as there are nodes
+abbrev pub run : (Cell → Operand) → List Node → List Named → List Named
+run is nodes objects = forgotten objects (rounds nodes (length nodes) (map (begun is nodes) objects))
+
+-- the nodes one after the other, each once
+abbrev pub one_by_one : List Node → List Named → List Named
+one_by_one [] objects = objects
+one_by_one (n ∷ nodes) objects = one_by_one nodes (with_written objects (written_by n (held objects)))
