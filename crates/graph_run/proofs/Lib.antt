@@ -1,0 +1,9 @@
+pub mod Cycles
+pub mod Runs
+pub mod Orders
+pub mod Cells
+pub mod ObjectLaws
+pub mod HeldLaws
+pub mod SameHeld
+pub mod NodeLaws
+pub mod RoundLaws
