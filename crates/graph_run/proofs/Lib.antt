@@ -7,3 +7,5 @@ pub mod HeldLaws
 pub mod SameHeld
 pub mod NodeLaws
 pub mod RoundLaws
+pub mod ValueLaws
+pub mod OrderLaws

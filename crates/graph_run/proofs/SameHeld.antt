@@ -1,6 +1,7 @@
 -- Objects under the same names and marks, of which the same is seen at each cell, are the same.
 use Rattle.std.proofs.Common.{◌≡◌, ℕ, suc, ◌<◌, Bool, true, false, eqb, List, [], ◌∷◌, length, map, get_or, refl, sym, ap, subst, ◌∙◌, inl, inr, Option, Some, None, arith}
 use Rattle.std.specs.Prelude.{slice_get}
+use Rattle.std.specs.Prelude.{◌⊎◌}
 use Rattle.std.specs.Option.{option_map, option_and_then}
 use Rattle.std.specs.List.{AllPairs}
 use Rattle.std.proofs.lemmas.Bool.{cases_Bool, eqb-true, eq-eqb, ne_eqb}
@@ -84,26 +85,29 @@ under_other o objects name e = rw e refl
 absent_both : (old new : List Named) (name : ℕ) → Above name (map mark_of old) → map mark_of old ≡ map mark_of new → object_held old name ≡ object_held new name
 absent_both old new name above marks = absent old name above ∙ sym (absent new name (subst (λ z. Above name z) marks above))
 
+same_named : (o p : Named) → mark_of o ≡ mark_of p → ◌≡◌ {A = Option ObjectValue} (Some o.object) (Some p.object) → o ≡ p
+same_named o p mark found =
+    let object : o.object ≡ p.object = cc in
+    ap (λ z. record { name = z; live = o.live; object = o.object }) (ap (λ m. m.0) mark)
+    ∙ ap (λ z. record { name = p.name; live = z; object = o.object }) (ap (λ m. m.1) mark)
+    ∙ ap (λ z. record { name = p.name; live = p.live; object = z }) object
+
+-- two lists of the same names and marks, by what is held under each name
 by_names : (old new : List Named) → Rising (map mark_of old) → map mark_of old ≡ map mark_of new → ((name : ℕ) → object_held old name ≡ object_held new name) → old ≡ new
 by_names [] [] up marks h = refl
 by_names [] (p ∷ new) up marks h = absurd (cc marks)
 by_names (o ∷ old) [] up marks h = absurd (cc marks)
 by_names (o ∷ old) (p ∷ new) up marks h =
-    let first : mark_of o ≡ mark_of p = cc in
+    let mark : mark_of o ≡ mark_of p = cc in
     let rest : map mark_of old ≡ map mark_of new = cc in
-    let name : o.name ≡ p.name = ap (λ m. m.0) first in
-    let live : o.live ≡ p.live = ap (λ m. m.1) first in
-    let found : ◌≡◌ {A = Option ObjectValue} (Some o.object) (Some p.object) =
-    sym (under_own o old) ∙ h o.name ∙ ap (object_held (p ∷ new)) name ∙ under_own p new in
-    let object : o.object ≡ p.object = cc in
-    let same : o ≡ p =
-    ap (λ z. record o { name = z }) name ∙ ap (λ z. record { name = p.name; live = z; object = o.object }) live
-    ∙ ap (λ z. record { name = p.name; live = p.live; object = z }) object in
-    let others : (n : ℕ) → object_held old n ≡ object_held new n = λ n. elim (cases_Bool (eqb o.name n)) [
-      | inl e ↦ subst (λ z. object_held old z ≡ object_held new z) (eqb-true o.name n e) (absent_both old new o.name up.0 rest)
-      | inr e ↦ sym (under_other o old n e) ∙ h n ∙ under_other p new n (ap (λ z. eqb z n) (sym name) ∙ e)
-    ] in
-    ap (λ z. z ∷ old) same ∙ ap (λ z. p ∷ z) (by_names old new up.1 rest others)
+    ap (λ z. z ∷ old) (same_named o p mark (first (ap (λ m. m.0) mark)))
+    ∙ ap (λ z. p ∷ z) (by_names old new up.1 rest (λ name. others (ap (λ m. m.0) mark) rest name (cases_Bool (eqb o.name name))))
+  where
+    first : o.name ≡ p.name → ◌≡◌ {A = Option ObjectValue} (Some o.object) (Some p.object)
+    first same = sym (under_own o old) ∙ h o.name ∙ ap (object_held (p ∷ new)) same ∙ under_own p new
+    others : o.name ≡ p.name → map mark_of old ≡ map mark_of new → (name : ℕ) → (eqb o.name name ≡ true) ⊎ (eqb o.name name ≡ false) → object_held old name ≡ object_held new name
+    others same rest name (inl e) = subst (λ z. object_held old z ≡ object_held new z) (eqb-true o.name name e) (absent_both old new o.name up.0 rest)
+    others same rest name (inr e) = sym (under_other o old name e) ∙ h name ∙ under_other p new name (ap (λ z. eqb z name) (sym same) ∙ e)
 
 -- objects whose names increase are told by their marks and by what is seen at each cell
 pub same_objects : (old new : List Named) → Rising (map mark_of old) → map mark_of old ≡ map mark_of new → ((c : Cell) → seen old c ≡ seen new c) → old ≡ new
