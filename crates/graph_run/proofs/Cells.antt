@@ -2,12 +2,12 @@
 use Rattle.std.proofs.Common.{◌≡◌, ℕ, true, false, List, [], ◌∷◌, ◌++◌, eqb, refl, sym, ◌∙◌, ap, subst, inl, inr}
 use Rattle.std.specs.Prelude.{Option, Some, None}
 use Rattle.std.specs.List.{list_any, flat_map}
-use Rattle.std.proofs.lemmas.Bool.{or_parts, or_left, or_right, and_parts, and_from, eqb-true, eq-eqb}
+use Rattle.std.proofs.lemmas.Bool.{or_parts, or_from, or_left, or_right, and_parts, and_from, eqb-true, eq-eqb, false_from_ne_true}
 use Rattle.vx_base.specs.declared.node.Node.{Node}
 use Rattle.vx_base.specs.Cell.{Cell, same_slot, same_cell}
 use Rattle.vx_base.specs.Node.{given, outputs}
 use Rattle.graph_verify.specs.Members.{In}
-use Rattle.graph_verify.specs.Links.{reads, writes, feeds, has_twice}
+use Rattle.graph_verify.specs.Links.{reads, writes, feeds, has_twice, is_written}
 use Rattle.graph_verify.specs.Rounds.{OneWriter}
 use Rattle.graph_run.proofs.Cycles.{In-from_any, any-from_In}
 use Rattle.graph_run.proofs.Orders.{In-left, In-right}
@@ -72,6 +72,24 @@ no_twice_after : (xs ys : List Cell) → has_twice (xs ++ ys) ≡ false → has_
 no_twice_after [] ys h = h
 no_twice_after (x ∷ xs) ys h = no_twice_after xs ys (or_parts (list_any (same_cell x) (xs ++ ys)) (has_twice (xs ++ ys)) h).1
 
+no_twice_before : (xs ys : List Cell) → has_twice (xs ++ ys) ≡ false → has_twice xs ≡ false
+no_twice_before [] ys h = refl
+no_twice_before (x ∷ xs) ys h =
+    let both = or_parts (list_any (same_cell x) (xs ++ ys)) (has_twice (xs ++ ys)) h in
+    or_from (list_any (same_cell x) xs) (has_twice xs) (none_before xs both.0) (no_twice_before xs ys both.1)
+  where
+    none_before : (zs : List Cell) → list_any (same_cell x) (zs ++ ys) ≡ false → list_any (same_cell x) zs ≡ false
+    none_before [] h = refl
+    none_before (z ∷ zs) h =
+        let both = or_parts (same_cell x z) (list_any (same_cell x) (zs ++ ys)) h in
+        or_from (same_cell x z) (list_any (same_cell x) zs) both.0 (none_before zs both.1)
+
+-- where no cell is written twice, no node writes one by both of its outputs
+pub no_twice_each : (nodes : List Node) → has_twice (flat_map outputs nodes) ≡ false → (n : Node) → In n nodes → has_twice (outputs n) ≡ false
+no_twice_each [] h n i = absurd i
+no_twice_each (m ∷ nodes) h n (inl e) = ap (λ z. has_twice (outputs z)) e ∙ no_twice_before (outputs m) (flat_map outputs nodes) h
+no_twice_each (m ∷ nodes) h n (inr i) = no_twice_each nodes (no_twice_after (outputs m) (flat_map outputs nodes) h) n i
+
 In-all_outputs : (n : Node) (c : Cell) (nodes : List Node) → In n nodes → writes n c ≡ true → In c (flat_map outputs nodes)
 In-all_outputs n c [] i w = absurd i
 In-all_outputs n c (m ∷ ms) (inl e) w = In-left c (outputs m) (flat_map outputs ms) (In-outputs m c (ap (λ z. writes z c) (sym e) ∙ w))
@@ -92,3 +110,10 @@ one_writer (x ∷ xs) h = λ m n c i j v w.
         | inr k ↦ others m n c l k v w
       ]
     ]
+
+-- a cell that no node of the list writes
+pub unwritten : (nodes : List Node) (c : Cell) → is_written nodes c ≡ false → (n : Node) → In n nodes → writes n c ≡ false
+unwritten nodes c h n i = false_from_ne_true (writes n c) (λ w. let k = any-from_In (λ m. writes m c) n nodes i w in cc)
+
+pub is_unwritten : (nodes : List Node) (c : Cell) → ((n : Node) → In n nodes → writes n c ≡ false) → is_written nodes c ≡ false
+is_unwritten nodes c h = false_from_ne_true (is_written nodes c) (λ w. let r = In-from_any (λ m. writes m c) nodes w in let none = h r.0 r.1 in let some = r.2 in cc)

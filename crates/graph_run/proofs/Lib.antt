@@ -9,3 +9,4 @@ pub mod NodeLaws
 pub mod RoundLaws
 pub mod ValueLaws
 pub mod OrderLaws
+pub mod SolutionLaws

@@ -28,6 +28,10 @@ pub shown_whole : (x : ObjectValue) → is_delay x ≡ false → shown x ≡ x
 shown_whole (DelayObject images) h = absurd (cc h)
 shown_whole other h = refl
 
+pub delay_shown : (x : ObjectValue) → is_delay x ≡ true → shown x ≡ DelayObject []
+delay_shown (DelayObject images) h = refl
+delay_shown other h = absurd (cc h)
+
 pub is_delay-shown : (x : ObjectValue) → is_delay (shown x) ≡ is_delay x
 is_delay-shown (DelayObject images) = refl
 is_delay-shown other = refl

@@ -2,6 +2,7 @@
 use Rattle.std.proofs.Common.{◌≡◌, ℕ, ◌<◌, Bool, true, false, List, length, map, refl, sym, ap, subst, ◌∙◌, Option}
 use Rattle.std.specs.List.{AllPairs}
 use Rattle.std.proofs.lemmas.List.Sorted.{IsPermutation-sym, length_permutation}
+use Rattle.vx_base.specs.declared.kind.Kind.TheVariants as kind
 use Rattle.vx_base.specs.declared.node.Node.{Node}
 use Rattle.vx_base.specs.Cell.{Cell}
 use Rattle.vx_base.specs.Object.{ObjectValue}
@@ -12,7 +13,7 @@ use Rattle.graph_verify.specs.Order.{InTurn, IsOrder}
 use Rattle.graph_verify.specs.Rounds.{OneWriter}
 use Rattle.graph_verify.specs.Verdict.{two_writers}
 use Rattle.graph_run.specs.Graph.{rounds, one_by_one}
-use Rattle.graph_run.specs.Solution.{WritesNoDelay, mark_of}
+use Rattle.graph_run.specs.Solution.{WritesNo, mark_of}
 use Rattle.graph_run.proofs.Runs.{once_is_rounds}
 use Rattle.graph_run.proofs.Orders.{AllIn-permutation}
 use Rattle.graph_run.proofs.Cells.{feeds_is, one_writer}
@@ -22,7 +23,7 @@ use Rattle.graph_run.proofs.RoundLaws.{seen-rounds, marks-rounds, seen-one_by_on
 use Rattle.graph_run.proofs.ValueLaws.{given_from, reads_alone, same_rounds, same_once}
 
 pub once_through : (nodes steps : List Node) (objects : List Named) → InTurn feeds steps → AllIn nodes steps → AllIn steps nodes → length steps ≡ length nodes → OneWriter writes nodes
-    → Rising (map mark_of objects) → WritesNoDelay nodes objects → rounds nodes (length nodes) objects ≡ one_by_one steps objects
+    → Rising (map mark_of objects) → WritesNo kind.Delay nodes objects → rounds nodes (length nodes) objects ≡ one_by_one steps objects
 once_through nodes steps objects turn to from long one up whole =
     let start : Cell → Option ObjectValue = seen objects in
     let marks = marks-rounds nodes (length nodes) objects in
@@ -34,7 +35,7 @@ once_through nodes steps objects turn to from long one up whole =
     same_objects (rounds nodes (length nodes) objects) (one_by_one steps objects) (subst (λ z. Rising z) (sym marks) up)
       (marks ∙ sym (marks-one_by_one steps objects)) same
 
-pub order_gives_rounds : (nodes steps : List Node) (objects : List Named) → IsOrder feeds nodes steps → two_writers nodes ≡ false → AllPairs (λ a b. a.name < b.name) objects → WritesNoDelay nodes objects
+pub order_gives_rounds : (nodes steps : List Node) (objects : List Named) → IsOrder feeds nodes steps → two_writers nodes ≡ false → AllPairs (λ a b. a.name < b.name) objects → WritesNo kind.Delay nodes objects
     → rounds nodes (length nodes) objects ≡ one_by_one steps objects
 order_gives_rounds nodes steps objects order one names whole =
     once_through nodes steps objects order.in_turn

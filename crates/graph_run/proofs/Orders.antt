@@ -1,6 +1,6 @@
 -- Orders of nodes, and that there is one where no nodes make a cycle.
 use Rattle.std.proofs.Common.{◌≡◌, ℕ, ◌+◌, ◌<◌, suc, zero, Bool, true, false, not, List, [], ◌∷◌, ◌++◌, length, get_or, refl, sym, subst, inl, inr, arith, length-append}
-use Rattle.std.specs.List.{filter, list_any, Contains}
+use Rattle.std.specs.List.{filter, list_any, Contains, All}
 use Rattle.std.specs.List.Sorted.{IsPermutation}
 use Rattle.std.proofs.lemmas.List.Sorted.{Contains-permutation}
 use Rattle.std.proofs.lemmas.Bool.{cases_Bool, not-true, not-false}
@@ -30,6 +30,12 @@ In-at (y ∷ ys) (suc k) d h = inr (In-at ys k d (omega arith))
 
 pub In-from_Contains : {X : Type 0} (x : X) (xs : List X) → Contains xs x → In x xs
 In-from_Contains x xs c = subst (λ z. In z xs) c.2 (In-at xs c.0 x c.1)
+
+pub All-from_In : {X : Type 0} (P : X → Type 0) (xs : List X) → ((x : X) → In x xs → P x) → All P xs
+All-from_In P xs h = λ k d within. h (get_or xs k d) (In-at xs k d within)
+
+pub In-from_All : {X : Type 0} (P : X → Type 0) (xs : List X) → All P xs → (x : X) → In x xs → P x
+In-from_All P xs h x i = let r = Contains-from_In x xs i in subst P r.2 (h r.0 x r.1)
 
 pub AllIn-permutation : {X : Type 0} (xs ys : List X) → IsPermutation xs ys → AllIn xs ys
 AllIn-permutation xs ys p x h = In-from_Contains x ys (Contains-permutation xs ys x p (Contains-from_In x xs h))

@@ -5,6 +5,7 @@ use Rattle.std.specs.Option.{option_map, option_or}
 use Rattle.std.specs.List.{list_any, flat_map}
 use Rattle.std.proofs.lemmas.Bool.{cases_Bool, or_parts}
 use mathlib.Core.Path.{fun_ext}
+use Rattle.vx_base.specs.declared.kind.Kind.TheVariants as kind
 use Rattle.vx_base.specs.declared.node.Node.{Node}
 use Rattle.vx_base.specs.Cell.{Cell}
 use Rattle.vx_base.specs.Object.{ObjectValue, object_kind}
@@ -15,7 +16,7 @@ use Rattle.graph_verify.specs.Links.{writes}
 use Rattle.graph_verify.specs.Rounds as cells
 use Rattle.graph_verify.specs.Rounds.{OneWriter}
 use Rattle.graph_run.specs.Graph.{round, rounds, one_by_one}
-use Rattle.graph_run.specs.Solution.{WritesNoDelay, frame_held, mark_of}
+use Rattle.graph_run.specs.Solution.{WritesNo, frame_held, mark_of}
 use Rattle.graph_run.proofs.Cycles.{In-append, In-from_any, any-from_In}
 use Rattle.graph_run.proofs.ObjectLaws.{shown}
 use Rattle.graph_run.proofs.HeldLaws.{seen, AreWrites, last_to, last_to-append, or_assoc, map-or, kind-seen_frame, seen-with_written, frame-with_written, marks-with_written}
@@ -89,29 +90,29 @@ In-from_flat_map f (x ∷ xs) a h = elim (In-append a (f x) (flat_map f xs) h) [
   | inr i ↦ (let r = In-from_flat_map f xs a i in (r.0, inr r.1, r.2))
 ]
 
-AreWrites-node : (nodes : List Node) (objects : List Named) → WritesNoDelay nodes objects → (n : Node) → In n nodes → AreWrites objects (written_by n (held objects))
+AreWrites-node : (nodes : List Node) (objects : List Named) → WritesNo kind.Delay nodes objects → (n : Node) → In n nodes → AreWrites objects (written_by n (held objects))
 AreWrites-node nodes objects whole n i = AreWrites-written objects n (λ c w. whole c (any-from_In (λ m. writes m c) n nodes i w))
 
-AreWrites-round : (nodes : List Node) (objects : List Named) → WritesNoDelay nodes objects → AreWrites objects (flat_map (λ n. written_by n (held objects)) nodes)
+AreWrites-round : (nodes : List Node) (objects : List Named) → WritesNo kind.Delay nodes objects → AreWrites objects (flat_map (λ n. written_by n (held objects)) nodes)
 AreWrites-round nodes objects whole w i =
     let r = In-from_flat_map (λ n. written_by n (held objects)) nodes w i in
     AreWrites-node nodes objects whole r.0 r.1 w r.2
 
 -- where frames are the same, no delay is written as a whole either
-pub WritesNoDelay-frames : (nodes : List Node) (old new : List Named) → ((c : Cell) → frame_held new c ≡ frame_held old c) → WritesNoDelay nodes old → WritesNoDelay nodes new
-WritesNoDelay-frames nodes old new frames whole c w e =
+pub WritesNo-frames : (nodes : List Node) (old new : List Named) → ((c : Cell) → frame_held new c ≡ frame_held old c) → WritesNo kind.Delay nodes old → WritesNo kind.Delay nodes new
+WritesNo-frames nodes old new frames whole c w e =
     whole c w (sym (kind-seen_frame (held old c)) ∙ ap (option_map object_kind) (sym (frames c)) ∙ kind-seen_frame (held new c) ∙ e)
 
 -- ---- rounds and runs
 
-seen-round : (nodes : List Node) (objects : List Named) → OneWriter writes nodes → WritesNoDelay nodes objects → seen (round nodes objects) ≡ cells.round writes given_in nodes (seen objects)
+seen-round : (nodes : List Node) (objects : List Named) → OneWriter writes nodes → WritesNo kind.Delay nodes objects → seen (round nodes objects) ≡ cells.round writes given_in nodes (seen objects)
 seen-round nodes objects one whole = fun_ext (λ c.
     seen-with_written (flat_map (λ n. written_by n (held objects)) nodes) objects (AreWrites-round nodes objects whole) c
     ∙ sym (map-or shown (last_to c (flat_map (λ n. written_by n (held objects)) nodes)) (held objects c))
     ∙ ap (option_map shown) (last_in_round nodes (held objects) c one)
     ∙ shown-round nodes (held objects) c)
 
-seen-step : (nodes : List Node) (n : Node) (objects : List Named) → WritesNoDelay nodes objects → In n nodes
+seen-step : (nodes : List Node) (n : Node) (objects : List Named) → WritesNo kind.Delay nodes objects → In n nodes
     → seen (with_written objects (written_by n (held objects))) ≡ cells.step writes given_in n (seen objects)
 seen-step nodes n objects whole i = fun_ext (λ c.
     seen-with_written (written_by n (held objects)) objects (AreWrites-node nodes objects whole n i) c
@@ -119,20 +120,20 @@ seen-step nodes n objects whole i = fun_ext (λ c.
     ∙ ap (option_map shown) (last_written n (held objects) c)
     ∙ elim (cases_Bool (writes n c)) [ inl e ↦ rw e (shown-given_in n (held objects) c) | inr e ↦ rw e refl ])
 
-pub frame-rounds : (nodes : List Node) (k : ℕ) (objects : List Named) → WritesNoDelay nodes objects → (c : Cell) → frame_held (rounds nodes k objects) c ≡ frame_held objects c
+pub frame-rounds : (nodes : List Node) (k : ℕ) (objects : List Named) → WritesNo kind.Delay nodes objects → (c : Cell) → frame_held (rounds nodes k objects) c ≡ frame_held objects c
 frame-rounds nodes zero objects whole c = refl
 frame-rounds nodes (suc k) objects whole c =
     let before : List Named = rounds nodes k objects in
     let same = frame-rounds nodes k objects whole in
-    frame-with_written (flat_map (λ n. written_by n (held before)) nodes) before (AreWrites-round nodes before (WritesNoDelay-frames nodes objects before same whole)) c
+    frame-with_written (flat_map (λ n. written_by n (held before)) nodes) before (AreWrites-round nodes before (WritesNo-frames nodes objects before same whole)) c
     ∙ same c
 
-pub seen-rounds : (nodes : List Node) (k : ℕ) (objects : List Named) → OneWriter writes nodes → WritesNoDelay nodes objects
+pub seen-rounds : (nodes : List Node) (k : ℕ) (objects : List Named) → OneWriter writes nodes → WritesNo kind.Delay nodes objects
     → seen (rounds nodes k objects) ≡ cells.rounds writes given_in nodes k (seen objects)
 seen-rounds nodes zero objects one whole = refl
 seen-rounds nodes (suc k) objects one whole =
     let before : List Named = rounds nodes k objects in
-    seen-round nodes before one (WritesNoDelay-frames nodes objects before (frame-rounds nodes k objects whole) whole)
+    seen-round nodes before one (WritesNo-frames nodes objects before (frame-rounds nodes k objects whole) whole)
     ∙ ap (cells.round writes given_in nodes) (seen-rounds nodes k objects one whole)
 
 pub marks-rounds : (nodes : List Node) (k : ℕ) (objects : List Named) → map mark_of (rounds nodes k objects) ≡ map mark_of objects
@@ -141,14 +142,14 @@ marks-rounds nodes (suc k) objects =
     let before : List Named = rounds nodes k objects in
     marks-with_written (flat_map (λ n. written_by n (held before)) nodes) before ∙ marks-rounds nodes k objects
 
-pub seen-one_by_one : (nodes steps : List Node) (objects : List Named) → WritesNoDelay nodes objects → AllIn steps nodes
+pub seen-one_by_one : (nodes steps : List Node) (objects : List Named) → WritesNo kind.Delay nodes objects → AllIn steps nodes
     → seen (one_by_one steps objects) ≡ cells.once writes given_in steps (seen objects)
 seen-one_by_one nodes [] objects whole within = refl
 seen-one_by_one nodes (n ∷ steps) objects whole within =
     let ws = written_by n (held objects) in
     let after : List Named = with_written objects ws in
     let are = AreWrites-node nodes objects whole n (within n (inl refl)) in
-    seen-one_by_one nodes steps after (WritesNoDelay-frames nodes objects after (frame-with_written ws objects are) whole) (λ x i. within x (inr i))
+    seen-one_by_one nodes steps after (WritesNo-frames nodes objects after (frame-with_written ws objects are) whole) (λ x i. within x (inr i))
     ∙ ap (cells.once writes given_in steps) (seen-step nodes n objects whole (within n (inl refl)))
 
 pub marks-one_by_one : (steps : List Node) (objects : List Named) → map mark_of (one_by_one steps objects) ≡ map mark_of objects

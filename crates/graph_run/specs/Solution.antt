@@ -15,9 +15,9 @@ use Rattle.graph_verify.specs.Links.{is_written}
 abbrev pub kind_held : List Named → Cell → Option Kind
 kind_held objects cell = option_map object_kind (held objects cell)
 
--- a delay is written in its slots alone
-abbrev pub WritesNoDelay : List Node → List Named → Type 0
-WritesNoDelay nodes objects = (cell : Cell) → is_written nodes cell ≡ true → kind_held objects cell ≢ Some kind.Delay
+-- no node writes an object of this kind; what stands in a slot of a delay is an image
+abbrev pub WritesNo : Kind → List Node → List Named → Type 0
+WritesNo k nodes objects = (cell : Cell) → is_written nodes cell ≡ true → kind_held objects cell ≢ Some k
 
 -- the first input of each node is an image
 abbrev pub ReadImages : List Node → List Named → Type 0
