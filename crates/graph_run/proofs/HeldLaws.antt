@@ -12,7 +12,7 @@ use Rattle.object_table.specs.Named.{Named, object_held, held, with_object, with
 use Rattle.object_table.proofs.SlotLemmas.{slot_has_image, with_slot_there, with_slot_beside}
 use Rattle.graph_verify.specs.Members.{In}
 use Rattle.graph_run.specs.Solution.{frame_of, frame_held, mark_of}
-use Rattle.graph_run.proofs.Cells.{same_cell-true}
+use Rattle.graph_verify.proofs.LinkLemmas.{same_cell-true}
 use Rattle.graph_run.proofs.ObjectLaws.{is_delay, shown, is_delay-frame, kind-frame, frame-shown, no_slot}
 
 -- what is seen of what a cell holds

@@ -1,10 +1,7 @@
-pub mod Cycles
-pub mod Runs
-pub mod Orders
-pub mod Cells
+pub mod LinkLaws
 pub mod ObjectLaws
 pub mod HeldLaws
-pub mod SameHeld
+pub mod NameLaws
 pub mod NodeLaws
 pub mod RoundLaws
 pub mod ValueLaws

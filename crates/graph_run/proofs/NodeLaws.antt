@@ -16,8 +16,8 @@ use Rattle.object_table.specs.Named.{Named, held}
 use Rattle.graph_verify.specs.Members.{In}
 use Rattle.graph_verify.specs.Links.{writes, has_twice}
 use Rattle.graph_run.specs.Solution.{kind_held, frame_of}
-use Rattle.graph_run.proofs.Cycles.{In-append}
-use Rattle.graph_run.proofs.Cells.{same_cell-true, same_cell-refl}
+use Rattle.graph_verify.proofs.MemberLemmas.{In-append}
+use Rattle.graph_verify.proofs.LinkLemmas.{same_cell-true, same_cell-refl}
 use Rattle.graph_run.proofs.ObjectLaws.{is_delay, shown, is_delay-frame, not_delay, frame-node_output, node_output_again, shown-node_output}
 use Rattle.graph_run.proofs.HeldLaws.{IsWrite, AreWrites, last_to, last_to-append, or_assoc}
 

@@ -17,7 +17,7 @@ use Rattle.graph_verify.specs.Rounds as cells
 use Rattle.graph_verify.specs.Rounds.{OneWriter}
 use Rattle.graph_run.specs.Graph.{round, rounds, one_by_one}
 use Rattle.graph_run.specs.Solution.{WritesNo, frame_held, mark_of}
-use Rattle.graph_run.proofs.Cycles.{In-append, In-from_any, any-from_In}
+use Rattle.graph_verify.proofs.MemberLemmas.{In-append, In-from_any, any-from_In}
 use Rattle.graph_run.proofs.ObjectLaws.{shown}
 use Rattle.graph_run.proofs.HeldLaws.{seen, AreWrites, last_to, last_to-append, or_assoc, map-or, kind-seen_frame, seen-with_written, frame-with_written, marks-with_written}
 use Rattle.graph_run.proofs.NodeLaws.{given_in, shown-given_in, last_written, last_elsewhere, AreWrites-written}

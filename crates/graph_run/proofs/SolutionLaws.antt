@@ -21,13 +21,13 @@ use Rattle.graph_verify.specs.Rounds.{OneWriter, IsSolution}
 use Rattle.graph_verify.specs.Verdict.{two_writers}
 use Rattle.graph_run.specs.Graph.{rounds}
 use Rattle.graph_run.specs.Solution.{WritesNo, ReadImages, Solves, kind_held, frame_of, frame_held, mark_of}
-use Rattle.graph_run.proofs.Cycles.{In-from_any, any-from_In}
-use Rattle.graph_run.proofs.Runs.{rounds_solve, solution_is_rounds}
-use Rattle.graph_run.proofs.Orders.{All-from_In, In-from_All, order_from_no_cycle}
-use Rattle.graph_run.proofs.Cells.{feeds_is, one_writer, no_twice_each, unwritten, is_unwritten}
+use Rattle.graph_verify.proofs.MemberLemmas.{any-from_In}
+use Rattle.graph_verify.proofs.SolutionLemmas as cell_solutions
+use Rattle.graph_verify.proofs.LinkLemmas.{one_writer}
+use Rattle.graph_run.proofs.LinkLaws.{All-from_In, In-from_All, writes_once, unwritten, is_unwritten}
 use Rattle.graph_run.proofs.ObjectLaws.{is_delay, shown, shown_whole, is_delay-shown, not_delay, delay_kind, delay_shown, is_delay-frame, node_output-frame}
 use Rattle.graph_run.proofs.HeldLaws.{seen, kind-seen_frame}
-use Rattle.graph_run.proofs.SameHeld.{Rising, rising, same_objects}
+use Rattle.graph_run.proofs.NameLaws.{Rising, rising, same_objects}
 use Rattle.graph_run.proofs.NodeLaws.{output_at, output_of, given_to, given_in, shown-given_to, shown-given_in, given_holds, holds_given}
 use Rattle.graph_run.proofs.RoundLaws.{frame-rounds, seen-rounds, marks-rounds, WritesNo-frames}
 use Rattle.graph_run.proofs.ValueLaws.{given_from, reads_alone, given_same, same_rounds, Follows-rounds}
@@ -58,10 +58,7 @@ module _ (nodes : List Node) (objects : List Named) (one : two_writers nodes ≡
   seen_values = seen-rounds nodes (length nodes) objects (one_writer nodes one) whole ∙ same_rounds nodes (seen objects) (one_writer nodes one) (length nodes)
 
   values_solve : IsSolution writes (given_from (seen objects)) nodes (seen objects) values
-  values_solve =
-      let o = order_from_no_cycle feeds nodes runs in
-      rounds_solve reads writes feeds (given_from (seen objects)) feeds_is (reads_alone (seen objects)) nodes o.steps (seen objects) o.in_turn o.to o.from o.long
-        (λ m n c i j. one_writer nodes one m n c (o.from m i) (o.from n j))
+  values_solve = cell_solutions.rounds_solve (given_from (seen objects)) nodes (seen objects) (reads_alone (seen objects)) one runs
 
   seen_holds : (n : Node) (c : Cell) → In n nodes → writes n c ≡ true → seen after c ≡ option_map shown (given_in n (held after) c)
   seen_holds n c i w =
@@ -83,7 +80,7 @@ module _ (nodes : List Node) (objects : List Named) (one : two_writers nodes ≡
       frames = frame-rounds nodes (length nodes) objects whole;
       written = All-from_In (λ n. All (λ w. held after w.0 ≡ Some w.1) (written_by n (held after))) nodes
           (λ n i. All-from_In (λ w. held after w.0 ≡ Some w.1) (written_by n (held after))
-            (given_holds n (held after) (no_twice_each nodes one n i) (λ c w. holds n c i w)));
+            (given_holds n (held after) (writes_once nodes one n i) (λ c w. holds n c i w)));
       others = (λ c h plain. unshown (held after c) (held objects c) plain
           (ap (λ f. f c) seen_values ∙ values_solve.others c (unwritten nodes c h)));
     }
@@ -139,12 +136,10 @@ solution_seen nodes before after whole images solves = record {
 pub only_solution : (nodes : List Node) (before after : List Named) → two_writers nodes ≡ false → has_cycle feeds nodes ≡ false → AllPairs (λ a b. a.name < b.name) before
     → WritesNo kind.Delay nodes before → ReadImages nodes before → Solves nodes before after → after ≡ rounds nodes (length nodes) before
 only_solution nodes before after one runs names whole images solves =
-    let o = order_from_no_cycle feeds nodes runs in
     let start : Cell → Option ObjectValue = seen before in
     same_objects after (rounds nodes (length nodes) before)
       (subst (λ z. Rising z) (sym solves.marks) (rising before names))
       (solves.marks ∙ sym (marks-rounds nodes (length nodes) before))
       (λ c.
-        sym (solution_is_rounds reads writes feeds (given_from start) feeds_is (reads_alone start) nodes o.steps start (seen after) o.in_turn o.to o.from o.long
-          (solution_seen nodes before after whole images solves) c)
+        cell_solutions.only_solution (given_from start) nodes start (seen after) (reads_alone start) one runs (solution_seen nodes before after whole images solves) c
         ∙ ap (λ f. f c) (sym (seen_values nodes before one runs whole)))

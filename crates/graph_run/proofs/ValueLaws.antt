@@ -10,10 +10,10 @@ use Rattle.vx_base.specs.Cell.{Cell}
 use Rattle.vx_base.specs.Object.{ObjectValue, object_kind}
 use Rattle.graph_verify.specs.Members.{In, AllIn}
 use Rattle.graph_verify.specs.Links.{reads, writes}
-use Rattle.graph_verify.specs.Rounds.{round, rounds, step, once, OneWriter}
+use Rattle.graph_verify.specs.Rounds.{round, rounds, step, once, OneWriter, ReadsAlone}
 use Rattle.graph_run.specs.Solution.{frame_of}
-use Rattle.graph_run.proofs.Cycles.{In-from_any}
-use Rattle.graph_run.proofs.Cells.{reads_first, reads_second}
+use Rattle.graph_verify.proofs.MemberLemmas.{In-from_any}
+use Rattle.graph_run.proofs.LinkLaws.{reads_first, reads_second}
 use Rattle.graph_run.proofs.HeldLaws.{kind-seen_frame}
 use Rattle.graph_run.proofs.NodeLaws.{output_at, output_of, given_to, given_in, output_of_again, frame-output_of}
 use Rattle.graph_run.proofs.RoundLaws.{round_written, round_other}
@@ -23,7 +23,7 @@ abbrev pub given_from : (Cell → Option ObjectValue) → Node → (Cell → Opt
 given_from start n held c = given_to n held c (start c)
 
 -- that depends on the cells that the node reads alone
-pub reads_alone : (start : Cell → Option ObjectValue) (n : Node) (a b : Cell → Option ObjectValue) → ((c : Cell) → reads n c ≡ true → a c ≡ b c) → (c : Cell) → given_from start n a c ≡ given_from start n b c
+pub reads_alone : (start : Cell → Option ObjectValue) → ReadsAlone reads (given_from start)
 reads_alone start n a b h c =
     ap (λ z. output_of n (output_at n c) z (option_and_then a n.in2) (start c)) (h n.in1 (reads_first n))
     ∙ ap (λ z. output_of n (output_at n c) (b n.in1) z (start c)) (second n.in2 (λ d e. h d (reads_second n d e)))
