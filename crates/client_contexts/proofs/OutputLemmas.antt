@@ -14,7 +14,7 @@ use Rattle.vx_base.specs.Object.{ObjectValue, ImageObject, IsObject, object_kind
 use Rattle.vx_base.specs.declared.function.Function.{Function}
 use Rattle.vx_base.specs.declared.output.Output.{Output}
 use Rattle.vx_base.specs.Outputs.{node_image, node_output}
-use Rattle.vx_base.proofs.NodeLaws.{takes_no_delay, takes_no_distribution, takes_no_extremes}
+use Rattle.vx_base.proofs.NodeLaws.{takes_no_delay, takes_no_distribution, takes_no_extremes, takes_no_graph, takes_no_virtual}
 use Rattle.client_contexts.specs.declared.places.Places.{Places}
 use Rattle.object_table.specs.declared.names.Entry.{Entry}
 use Rattle.object_table.specs.declared.place.Place.{Place}
@@ -46,6 +46,8 @@ is_read function kind.Convolution e = tt
 is_read function kind.Delay e = absurd (takes_no_delay function e)
 is_read function kind.Distribution e = absurd (takes_no_distribution function e)
 is_read function kind.Extremes e = absurd (takes_no_extremes function e)
+is_read function kind.Graph e = absurd (takes_no_graph function e)
+is_read function kind.VirtualImage e = absurd (takes_no_virtual function e)
 
 -- a node's output that is an image, at a place of a table
 module _ (objects : List (Entry ObjectValue)) (n : Node) (which : Output) (p : Places) (output : Place) (h : RunsTo objects n p output) (is_image : (parameters n.function).output ≡ kind.Image) where

@@ -26,8 +26,9 @@ use Rattle.image_core.specs.Fits.{SecondHasSize}
 use Rattle.graph_verify.specs.declared.operand.Operands.{Operands}
 use Rattle.graph_verify.specs.declared.verdict.Verdict.{Verdict}
 use Rattle.graph_verify.specs.declared.verdict.Verdict.TheVariants.{MultipleWriters, InvalidGraph, InvalidFormat, InvalidDimension}
+use Rattle.graph_verify.specs.Links.{has_twice}
 use Rattle.graph_verify.specs.Operand.{operand_of, operand_format, are_of_one_size, written_operands, other_operands}
-use Rattle.graph_verify.specs.Verdict.{has_twice, writes_twice, reads_own_output, takes_operands, node_fault, verdict_on}
+use Rattle.graph_verify.specs.Verdict.{writes_twice, reads_own_output, takes_operands, node_fault, verdict_on}
 use Rattle.client_contexts.specs.declared.places.Places.{Places}
 use Rattle.client_contexts.specs.declared.refusal.Refusal.{Refusal}
 use Rattle.client_contexts.specs.declared.refusal.Refusal.TheVariants.{Rejected}

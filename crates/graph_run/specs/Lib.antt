@@ -1,2 +1,3 @@
 pub mod Run
 pub mod Graph
+pub mod Solution

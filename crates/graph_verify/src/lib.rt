@@ -6,12 +6,14 @@
 //! - `graph`, `fault`: nodes and their numbers, and why a call on a graph isn't done
 //! - `operand`: what a verdict has to know of the objects that a node names
 //! - `verdict`: why a graph can't run, and the verdict on one node
+//! - `laws`: what cycles, orders and rounds of all nodes at once mean
 //! - `examples`: verdicts on small nodes
 #![tactic(auto)]
 
 pub mod examples;
 mod fault;
 mod graph;
+pub mod laws;
 mod operand;
 mod verdict;
 

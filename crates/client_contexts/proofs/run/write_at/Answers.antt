@@ -5,9 +5,12 @@ use Rattle.vx_base.specs.declared.format.Format.TheVariants.{U8, S16, U32}
 use Rattle.vx_base.specs.declared.samples.Samples.{Samples}
 use Rattle.vx_base.specs.Rectangle.{Rectangle}
 use Rattle.vx_base.specs.Picture.{values, samples_format}
-use Rattle.client_contexts.proofs.OutputLemmas.{second_has_place, second_is_object, second_is_read, takes_back, left_format, first_is_image, taken_count, taken_format, runs_there, put_back}
+use Rattle.client_contexts.proofs.OutputLemmas.{reads_image, second_has_place, second_is_object, second_is_read, takes_back, left_format, first_is_image, taken_count, taken_format, runs_there, put_back}
 use Rattle.client_contexts.proofs.run.write_at.Goals as goal
 use Rattle.client_contexts.proofs.run.write_at.Goals.{in-U8, in-S16, in-U32}
+
+pub image_at-requires-2 : goal.image_at-requires-2
+image_at-requires-2 c = reads_image _ _ c.args.which _ _ c.requires.runs c.requires.kind _ _ c.args.table.now c.take-samples.ensures.left
 
 pub image-first-requires : goal.image-first-requires
 image-first-requires c = first_is_image _ _ c.args.which _ _ c.requires.runs c.requires.kind _ _ c.args.table.now c.take-samples.ensures.left _ c.image_at-2.ensures

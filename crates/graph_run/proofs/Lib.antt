@@ -1,0 +1,9 @@
+pub mod LinkLaws
+pub mod ObjectLaws
+pub mod HeldLaws
+pub mod NameLaws
+pub mod NodeLaws
+pub mod RoundLaws
+pub mod ValueLaws
+pub mod OrderLaws
+pub mod SolutionLaws

@@ -1,0 +1,56 @@
+-- The cells that nodes read and write, and lists of them.
+use Rattle.std.proofs.Common.{◌≡◌, Bool, true, false, ◌||◌, List, [], ◌∷◌, ◌++◌, get_or, refl, sym, ap, subst, ◌∙◌, inl, inr, Option, Some}
+use Rattle.std.specs.List.{list_any, All, flat_map}
+use Rattle.std.proofs.lemmas.Bool.{or_left, or_right, or_parts, or_from, false_from_ne_true}
+use Rattle.std.proofs.lemmas.List.Folds.{list_any-append}
+use Rattle.vx_base.specs.declared.node.Node.{Node}
+use Rattle.vx_base.specs.Cell.{Cell, same_cell}
+use Rattle.vx_base.specs.Node.{given, outputs}
+use Rattle.graph_verify.specs.Members.{In}
+use Rattle.graph_verify.specs.Links.{reads, writes, has_twice, is_written}
+use Rattle.graph_verify.specs.Verdict.{two_writers}
+use Rattle.graph_verify.proofs.LinkLemmas.{same_cell-refl}
+use Rattle.graph_verify.proofs.MemberLemmas.{In-from_any, any-from_In, In-at, Contains-from_In}
+
+-- ---- members of lists
+
+pub All-from_In : {X : Type 0} (P : X → Type 0) (xs : List X) → ((x : X) → In x xs → P x) → All P xs
+All-from_In P xs h = λ k d within. h (get_or xs k d) (In-at xs k d within)
+
+pub In-from_All : {X : Type 0} (P : X → Type 0) (xs : List X) → All P xs → (x : X) → In x xs → P x
+In-from_All P xs h x i = let r = Contains-from_In x xs i in subst P r.2 (h r.0 x r.1)
+
+-- ---- nodes
+
+-- a node reads its inputs
+pub reads_first : (n : Node) → reads n n.in1 ≡ true
+reads_first n = or_left (same_cell n.in1 n.in1) (list_any (same_cell n.in1) (given n.in2)) (same_cell-refl n.in1)
+
+pub reads_second : (n : Node) (c : Cell) → n.in2 ≡ Some c → reads n c ≡ true
+reads_second n c e =
+    or_right (same_cell c n.in1) (list_any (same_cell c) (given n.in2))
+      (ap (λ z. list_any (same_cell c) (given z)) e ∙ or_left (same_cell c c) false (same_cell-refl c))
+
+once_after : (xs ys : List Cell) → has_twice (xs ++ ys) ≡ false → has_twice ys ≡ false
+once_after [] ys h = h
+once_after (x ∷ xs) ys h = once_after xs ys (or_parts (list_any (same_cell x) (xs ++ ys)) (has_twice (xs ++ ys)) h).1
+
+once_before : (xs ys : List Cell) → has_twice (xs ++ ys) ≡ false → has_twice xs ≡ false
+once_before [] ys h = refl
+once_before (x ∷ xs) ys h =
+    let parts = or_parts (list_any (same_cell x) (xs ++ ys)) (has_twice (xs ++ ys)) h in
+    let none = or_parts (list_any (same_cell x) xs) (list_any (same_cell x) ys) (sym (list_any-append (same_cell x) xs ys) ∙ parts.0) in
+    or_from (list_any (same_cell x) xs) (has_twice xs) none.0 (once_before xs ys parts.1)
+
+-- where no cell has two writers, no node writes one by both of its outputs
+pub writes_once : (nodes : List Node) → two_writers nodes ≡ false → (n : Node) → In n nodes → has_twice (outputs n) ≡ false
+writes_once [] h n i = absurd i
+writes_once (m ∷ nodes) h n (inl e) = ap (λ z. has_twice (outputs z)) e ∙ once_before (outputs m) (flat_map outputs nodes) h
+writes_once (m ∷ nodes) h n (inr i) = writes_once nodes (once_after (outputs m) (flat_map outputs nodes) h) n i
+
+-- a cell that no node of the list writes
+pub unwritten : (nodes : List Node) (c : Cell) → is_written nodes c ≡ false → (n : Node) → In n nodes → writes n c ≡ false
+unwritten nodes c h n i = false_from_ne_true (writes n c) (λ w. let k = any-from_In (λ m. writes m c) n nodes i w in cc)
+
+pub is_unwritten : (nodes : List Node) (c : Cell) → ((n : Node) → In n nodes → writes n c ≡ false) → is_written nodes c ≡ false
+is_unwritten nodes c h = false_from_ne_true (is_written nodes c) (λ w. let r = In-from_any (λ m. writes m c) nodes w in let none = h r.0 r.1 in let some = r.2 in cc)

@@ -1,0 +1,116 @@
+-- Objects under the same names and marks, of which the same is seen at each cell, are the same.
+use Rattle.std.proofs.Common.{◌≡◌, ℕ, suc, ◌<◌, Bool, true, false, eqb, List, [], ◌∷◌, length, map, get_or, refl, sym, ap, subst, ◌∙◌, inl, inr, Option, Some, None, arith}
+use Rattle.std.specs.Prelude.{slice_get}
+use Rattle.std.specs.Prelude.{◌⊎◌}
+use Rattle.std.specs.Option.{option_map, option_and_then}
+use Rattle.std.specs.List.{AllPairs}
+use Rattle.std.proofs.lemmas.Bool.{cases_Bool, eqb-true, eq-eqb, ne_eqb}
+use Rattle.vx_base.specs.Cell.{Cell}
+use Rattle.vx_base.specs.Image.{ImageValue}
+use Rattle.vx_base.specs.Object.{ObjectValue, ImageObject, DelayObject}
+use Rattle.object_table.specs.Delay.{in_slot}
+use Rattle.object_table.specs.Named.{Named, object_held}
+use Rattle.graph_run.specs.Solution.{mark_of}
+use Rattle.graph_run.proofs.ObjectLaws.{is_delay, shown, shown_whole, is_delay-shown}
+use Rattle.graph_run.proofs.HeldLaws.{seen}
+
+-- ---- objects
+
+all_slots : (xs ys : List ImageValue) → ((k : ℕ) → slice_get xs k ≡ slice_get ys k) → xs ≡ ys
+all_slots [] [] h = refl
+all_slots [] (y ∷ ys) h = let first = h 0 in absurd (cc first)
+all_slots (x ∷ xs) [] h = let first = h 0 in absurd (cc first)
+all_slots (x ∷ xs) (y ∷ ys) h =
+    let first : ◌≡◌ {A = Option ImageValue} (Some x) (Some y) = h 0 in
+    let head : x ≡ y = cc in
+    ap (λ z. z ∷ xs) head ∙ ap (λ zs. y ∷ zs) (all_slots xs ys (λ k. h (suc k)))
+
+image_seen : (o p : Option ImageValue) → option_map ImageObject o ≡ option_map ImageObject p → o ≡ p
+image_seen None None h = refl
+image_seen (Some x) (Some y) h = let e : x ≡ y = cc in ap {B = Option ImageValue} Some e
+image_seen o p h = absurd (cc h)
+
+unshown : (o p : Option ImageValue) → option_map shown (option_map ImageObject o) ≡ option_map shown (option_map ImageObject p) → option_map ImageObject o ≡ option_map ImageObject p
+unshown None None h = refl
+unshown (Some x) (Some y) h = h
+unshown o p h = absurd (cc h)
+
+-- what an object shows in its own name and in each slot makes the object
+from_shown : (x y : ObjectValue) → shown x ≡ shown y → ((k : ℕ) → option_map shown (in_slot (Some k) x) ≡ option_map shown (in_slot (Some k) y)) → x ≡ y
+from_shown (DelayObject xs) (DelayObject ys) h each = ap DelayObject (all_slots xs ys (λ k. image_seen (slice_get xs k) (slice_get ys k) (unshown (slice_get xs k) (slice_get ys k) (each k))))
+from_shown (DelayObject xs) y h each = absurd (cc h)
+from_shown x y h each = h ∙ shown_whole y (sym (is_delay-shown y) ∙ ap is_delay (sym h))
+
+held_same : (o p : Option ObjectValue) → ((slot : Option ℕ) → option_map shown (option_and_then (in_slot slot) o) ≡ option_map shown (option_and_then (in_slot slot) p)) → o ≡ p
+held_same None None h = refl
+held_same None (Some y) h = let whole = h None in absurd (cc whole)
+held_same (Some x) None h = let whole = h None in absurd (cc whole)
+held_same (Some x) (Some y) h =
+    let whole : ◌≡◌ {A = Option ObjectValue} (Some (shown x)) (Some (shown y)) = h None in
+    let same : shown x ≡ shown y = cc in
+    ap {B = Option ObjectValue} Some (from_shown x y same (λ k. h (Some k)))
+
+-- ---- names in their order
+
+abbrev pub Above : ℕ → List (ℕ × Bool) → Type 0
+Above name [] = Unit {0}
+Above name (m ∷ marks) = (name < m.0) × Above name marks
+
+abbrev pub Rising : List (ℕ × Bool) → Type 0
+Rising [] = Unit {0}
+Rising (m ∷ marks) = Above m.0 marks × Rising marks
+
+above_all : (objects : List Named) (name : ℕ) → ((k : ℕ) (d : Named) → k < length objects → name < (get_or objects k d).name) → Above name (map mark_of objects)
+above_all [] name h = tt
+above_all (o ∷ objects) name h = (h 0 o (omega arith), above_all objects name (λ k d l. h (suc k) d (omega arith)))
+
+pub rising : (objects : List Named) → AllPairs (λ a b. a.name < b.name) objects → Rising (map mark_of objects)
+rising [] h = tt
+rising (o ∷ objects) h = (
+  above_all objects o.name (λ k d l. h 0 (suc k) d (omega arith) (omega arith)),
+  rising objects (λ i j d less within. h (suc i) (suc j) d (omega arith) (omega arith)),
+)
+
+absent : (objects : List Named) (name : ℕ) → Above name (map mark_of objects) → object_held objects name ≡ None
+absent [] name h = refl
+absent (o ∷ objects) name h = let e : eqb o.name name ≡ false = ne_eqb o.name name (λ same. absurd (omega (arith, h.0, same))) in rw e (absent objects name h.1)
+
+under_own : (o : Named) (objects : List Named) → object_held (o ∷ objects) o.name ≡ Some o.object
+under_own o objects = let e : eqb o.name o.name ≡ true = eq-eqb o.name o.name refl in rw e refl
+
+under_other : (o : Named) (objects : List Named) (name : ℕ) → eqb o.name name ≡ false → object_held (o ∷ objects) name ≡ object_held objects name
+under_other o objects name e = rw e refl
+
+-- a name that stands in front stands nowhere behind
+absent_both : (old new : List Named) (name : ℕ) → Above name (map mark_of old) → map mark_of old ≡ map mark_of new → object_held old name ≡ object_held new name
+absent_both old new name above marks = absent old name above ∙ sym (absent new name (subst (λ z. Above name z) marks above))
+
+same_named : (o p : Named) → mark_of o ≡ mark_of p → ◌≡◌ {A = Option ObjectValue} (Some o.object) (Some p.object) → o ≡ p
+same_named o p mark found =
+    let object : o.object ≡ p.object = cc in
+    ap (λ z. record { name = z; live = o.live; object = o.object }) (ap (λ m. m.0) mark)
+    ∙ ap (λ z. record { name = p.name; live = z; object = o.object }) (ap (λ m. m.1) mark)
+    ∙ ap (λ z. record { name = p.name; live = p.live; object = z }) object
+
+-- two lists of the same names and marks, by what is held under each name
+by_names : (old new : List Named) → Rising (map mark_of old) → map mark_of old ≡ map mark_of new → ((name : ℕ) → object_held old name ≡ object_held new name) → old ≡ new
+by_names [] [] up marks h = refl
+by_names [] (p ∷ new) up marks h = absurd (cc marks)
+by_names (o ∷ old) [] up marks h = absurd (cc marks)
+by_names (o ∷ old) (p ∷ new) up marks h =
+    let mark : mark_of o ≡ mark_of p = cc in
+    let rest : map mark_of old ≡ map mark_of new = cc in
+    ap (λ z. z ∷ old) (same_named o p mark (first (ap (λ m. m.0) mark)))
+    ∙ ap (λ z. p ∷ z) (by_names old new up.1 rest (λ name. others (ap (λ m. m.0) mark) rest name (cases_Bool (eqb o.name name))))
+  where
+    first : o.name ≡ p.name → ◌≡◌ {A = Option ObjectValue} (Some o.object) (Some p.object)
+    first same = sym (under_own o old) ∙ h o.name ∙ ap (object_held (p ∷ new)) same ∙ under_own p new
+    others : o.name ≡ p.name → map mark_of old ≡ map mark_of new → (name : ℕ) → (eqb o.name name ≡ true) ⊎ (eqb o.name name ≡ false) → object_held old name ≡ object_held new name
+    others same rest name (inl e) = subst (λ z. object_held old z ≡ object_held new z) (eqb-true o.name name e) (absent_both old new o.name up.0 rest)
+    others same rest name (inr e) = sym (under_other o old name e) ∙ h name ∙ under_other p new name (ap (λ z. eqb z name) (sym same) ∙ e)
+
+-- objects whose names increase are told by their marks and by what is seen at each cell
+pub same_objects : (old new : List Named) → Rising (map mark_of old) → map mark_of old ≡ map mark_of new → ((c : Cell) → seen old c ≡ seen new c) → old ≡ new
+same_objects old new up marks h =
+    by_names old new up marks
+    (λ name. held_same (object_held old name) (object_held new name) (λ slot. h (record { name = name; slot = slot })))

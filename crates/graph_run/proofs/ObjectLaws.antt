@@ -1,0 +1,109 @@
+-- What of objects is kept as nodes write: kinds, formats and bins.
+use Rattle.std.proofs.Common.{◌≡◌, ◌≢◌, ℕ, Bool, true, false, [], refl, ap, Option, Some, None}
+use Rattle.std.specs.Option.{option_map}
+use Rattle.vx_base.specs.declared.format.Format.{Format}
+use Rattle.vx_base.specs.declared.function.Function.{Function}
+use Rattle.vx_base.specs.declared.function.Function.TheVariants.{NotBits, ConvertDepth, Integral}
+use Rattle.vx_base.specs.declared.kind.Kind.TheVariants as kind
+use Rattle.vx_base.specs.declared.node.Node.{Node}
+use Rattle.vx_base.specs.declared.output.Output.{Output}
+use Rattle.vx_base.specs.Image.{ImageValue, new_image}
+use Rattle.vx_base.specs.Object.{ObjectValue, ImageObject, DelayObject, object_kind}
+use Rattle.vx_base.specs.Outputs.{image_of_one, node_image, node_output}
+use Rattle.object_table.specs.Delay.{in_slot}
+use Rattle.graph_run.specs.Solution.{frame_of}
+
+-- ---- a delay as a whole
+
+abbrev pub is_delay : ObjectValue → Bool
+is_delay (DelayObject images) = true
+is_delay other = false
+
+-- what is seen of an object in its own name: of a delay no image, since each has a cell of its own
+abbrev pub shown : ObjectValue → ObjectValue
+shown (DelayObject images) = DelayObject []
+shown other = other
+
+pub shown_whole : (x : ObjectValue) → is_delay x ≡ false → shown x ≡ x
+shown_whole (DelayObject images) h = absurd (cc h)
+shown_whole other h = refl
+
+pub delay_shown : (x : ObjectValue) → is_delay x ≡ true → shown x ≡ DelayObject []
+delay_shown (DelayObject images) h = refl
+delay_shown other h = absurd (cc h)
+
+pub is_delay-shown : (x : ObjectValue) → is_delay (shown x) ≡ is_delay x
+is_delay-shown (DelayObject images) = refl
+is_delay-shown other = refl
+
+pub is_delay-frame : (x : ObjectValue) → is_delay (frame_of x) ≡ is_delay x
+is_delay-frame (DelayObject images) = refl
+is_delay-frame other = refl
+
+pub kind-frame : (x : ObjectValue) → object_kind (frame_of x) ≡ object_kind x
+kind-frame (DelayObject images) = refl
+kind-frame other = refl
+
+pub frame-shown : (x : ObjectValue) → frame_of (shown x) ≡ frame_of x
+frame-shown (DelayObject images) = refl
+frame-shown other = refl
+
+pub not_delay : (x : ObjectValue) → object_kind x ≢ kind.Delay → is_delay x ≡ false
+not_delay (DelayObject images) h = absurd (h refl)
+not_delay other h = refl
+
+pub delay_kind : (x : ObjectValue) → is_delay x ≡ false → object_kind x ≢ kind.Delay
+delay_kind (DelayObject images) h = cc
+delay_kind other h = λ e. cc
+
+-- ---- what a node gives
+
+format-one : (function : Function) (n : Node) (output : Output) (format : Format) (a : ImageValue) → (image_of_one function n output format a).format ≡ format
+format-one NotBits n output format a = refl
+format-one ConvertDepth n output format a = refl
+format-one Integral n output format a = refl
+format-one function n output format a = refl
+
+-- an image keeps its format
+pub format-node_image : (n : Node) (output : Output) (format : Format) (a : ImageValue) (second : Option ObjectValue) → (node_image n output format a second).format ≡ format
+format-node_image n output format a None = format-one n.function n output format a
+format-node_image n output format a (Some (ImageObject b)) = refl
+format-node_image n output format a (Some other) = refl
+
+-- an output keeps its frame
+pub frame-node_output : (n : Node) (output : Output) (first : ObjectValue) (second : Option ObjectValue) (out : ObjectValue) → frame_of (node_output n output first second out) ≡ frame_of out
+frame-node_output n output (ImageObject a) second (ImageObject out) = ap (λ f. ImageObject (new_image 0 0 f)) (format-node_image n output out.format a second)
+frame-node_output n output (ImageObject a) second other = refl
+frame-node_output n output first second out = refl
+
+-- of an output but a delay as a whole, the frame alone counts where the first input is an image
+pub node_output-frame : (n : Node) (output : Output) (a : ImageValue) (second : Option ObjectValue) (out : ObjectValue) → is_delay out ≡ false → node_output n output (ImageObject a) second (frame_of out) ≡ node_output n output (ImageObject a) second out
+node_output-frame n output a second (DelayObject images) h = absurd (cc h)
+node_output-frame n output a second other h = refl
+
+-- what a node of the same kind of first input gave before makes no difference
+pub node_output_again : (n : Node) (output : Output) (first before : ObjectValue) (second other : Option ObjectValue) (out : ObjectValue) → object_kind before ≡ object_kind first
+    → node_output n output first second (node_output n output before other out) ≡ node_output n output first second out
+node_output_again n output (ImageObject a) (ImageObject b) second other (ImageObject out) same = ap (λ f. ImageObject (node_image n output f a second)) (format-node_image n output out.format b other)
+node_output_again n output (ImageObject a) (ImageObject b) second other out same = refl
+node_output_again n output (ImageObject a) before second other out same = absurd (cc same)
+node_output_again n output first (ImageObject b) second other out same = absurd (cc same)
+node_output_again n output first before second other out same = refl
+
+-- nothing that is hidden of delays counts
+pub shown-node_output : (n : Node) (output : Output) (first : ObjectValue) (second : Option ObjectValue) (out : ObjectValue) → shown (node_output n output first second out) ≡ node_output n output (shown first) (option_map shown second) (shown out)
+shown-node_output n output (ImageObject a) second (ImageObject out) = ap ImageObject (seen_second second)
+  where
+    seen_second : (second : Option ObjectValue) → node_image n output out.format a second ≡ node_image n output out.format a (option_map shown second)
+    seen_second None = refl
+    seen_second (Some (DelayObject images)) = refl
+    seen_second (Some other) = refl
+shown-node_output n output (ImageObject a) second out = refl
+shown-node_output n output first second out = refl
+
+-- ---- slots
+
+-- only a delay has slots
+pub no_slot : (k : ℕ) (x : ObjectValue) → is_delay x ≡ false → ◌≡◌ {A = Option ObjectValue} (in_slot (Some k) x) None
+no_slot k (DelayObject images) h = absurd (cc h)
+no_slot k other h = refl

@@ -1,0 +1,158 @@
+-- Rounds and runs of objects, as rounds and runs of what is seen at each cell.
+use Rattle.std.proofs.Common.{◌≡◌, ℕ, zero, suc, Bool, true, false, if◌then◌else◌, List, [], ◌∷◌, map, refl, sym, ap, ◌∙◌, inl, inr, Option, Some, None}
+use Rattle.std.specs.Prelude.{◌⊎◌}
+use Rattle.std.specs.Option.{option_map, option_or}
+use Rattle.std.specs.List.{list_any, flat_map}
+use Rattle.std.proofs.lemmas.Bool.{cases_Bool, or_parts}
+use mathlib.Core.Path.{fun_ext}
+use Rattle.vx_base.specs.declared.kind.Kind.TheVariants as kind
+use Rattle.vx_base.specs.declared.node.Node.{Node}
+use Rattle.vx_base.specs.Cell.{Cell}
+use Rattle.vx_base.specs.Object.{ObjectValue, object_kind}
+use Rattle.vx_base.specs.Outputs.{written_by}
+use Rattle.object_table.specs.Named.{Named, held, with_written}
+use Rattle.graph_verify.specs.Members.{In, AllIn}
+use Rattle.graph_verify.specs.Links.{writes}
+use Rattle.graph_verify.specs.Rounds as cells
+use Rattle.graph_verify.specs.Rounds.{OneWriter}
+use Rattle.graph_run.specs.Graph.{round, rounds, one_by_one}
+use Rattle.graph_run.specs.Solution.{WritesNo, frame_held, mark_of}
+use Rattle.graph_verify.proofs.MemberLemmas.{In-append, In-from_any, any-from_In}
+use Rattle.graph_run.proofs.ObjectLaws.{shown}
+use Rattle.graph_run.proofs.HeldLaws.{seen, AreWrites, last_to, last_to-append, or_assoc, map-or, kind-seen_frame, seen-with_written, frame-with_written, marks-with_written}
+use Rattle.graph_run.proofs.NodeLaws.{given_in, shown-given_in, last_written, last_elsewhere, AreWrites-written}
+
+-- ---- what a round of anything gives a cell
+
+module _ {N C V : Type 0} (writes : N → C → Bool) (value : N → (C → V) → C → V) where
+  -- where it has one writer, that node's value
+  pub round_written : (ns : List N) (held : C → V) (c : C) (n : N) → cells.OneWriter writes ns → In n ns → writes n c ≡ true → cells.round writes value ns held c ≡ value n held c
+  round_written [] held c n one i w = absurd i
+  round_written (m ∷ ns) held c n one i w = elim (cases_Bool (writes m c)) [
+    | inl e ↦ (let same : m ≡ n = one m n c (inl refl) i e w in rw e (ap (λ z. value z held c) same))
+    | inr e ↦ elim i [
+      | inl same ↦ (let f : writes m c ≡ true = ap (λ z. writes z c) (sym same) ∙ w in absurd (cc))
+      | inr j ↦ rw e (round_written ns held c n (λ x y d p q. one x y d (inr p) (inr q)) j w)
+    ]
+  ]
+
+  -- where it has none, what it held
+  pub round_other : (ns : List N) (held : C → V) (c : C) → list_any (λ n. writes n c) ns ≡ false → cells.round writes value ns held c ≡ held c
+  round_other [] held c h = refl
+  round_other (n ∷ ns) held c h = let both = or_parts (writes n c) (list_any (λ m. writes m c) ns) h in rw both.0 (round_other ns held c both.1)
+
+-- what is seen is rounded alike
+shown-round : (ns : List Node) (held : Cell → Option ObjectValue) (c : Cell) → option_map shown (cells.round writes given_in ns held c) ≡ cells.round writes given_in ns (λ d. option_map shown (held d)) c
+shown-round [] held c = refl
+shown-round (n ∷ ns) held c = elim (cases_Bool (writes n c)) [ inl e ↦ rw e (shown-given_in n held c) | inr e ↦ rw e (shown-round ns held c) ]
+
+-- ---- what is written in a round
+
+none_last : (ns : List Node) (held : Cell → Option ObjectValue) (c : Cell) → list_any (λ n. writes n c) ns ≡ false → last_to c (flat_map (λ n. written_by n held) ns) ≡ None
+none_last [] held c h = refl
+none_last (n ∷ ns) held c h =
+    let both = or_parts (writes n c) (list_any (λ m. writes m c) ns) h in
+    last_to-append c (written_by n held) (flat_map (λ m. written_by m held) ns)
+    ∙ rw (none_last ns held c both.1, last_elsewhere n held c both.0) refl
+
+absorbed : {X : Type 0} (o p q : Option X) → option_or o p ≡ q → option_or o q ≡ q
+absorbed None p q h = refl
+absorbed (Some x) p q h = h
+
+last_in_round : (ns : List Node) (held : Cell → Option ObjectValue) (c : Cell) → OneWriter writes ns
+    → option_or (last_to c (flat_map (λ n. written_by n held) ns)) (held c) ≡ cells.round writes given_in ns held c
+last_in_round [] held c one = refl
+last_in_round (n ∷ ns) held c one =
+    let later : Option ObjectValue = last_to c (flat_map (λ m. written_by m held) ns) in
+    ap (λ z. option_or z (held c)) (last_to-append c (written_by n held) (flat_map (λ m. written_by m held) ns))
+    ∙ or_assoc later (last_to c (written_by n held)) (held c)
+    ∙ ap (option_or later) (last_written n held c)
+    ∙ either (cases_Bool (writes n c)) (cases_Bool (list_any (λ m. writes m c) ns))
+    (last_in_round ns held c (λ x y d p q. one x y d (inr p) (inr q)))
+  where
+    either : (writes n c ≡ true) ⊎ (writes n c ≡ false) → (list_any (λ m. writes m c) ns ≡ true) ⊎ (list_any (λ m. writes m c) ns ≡ false)
+        → option_or (last_to c (flat_map (λ m. written_by m held) ns)) (held c) ≡ cells.round writes given_in ns held c
+        → option_or (last_to c (flat_map (λ m. written_by m held) ns)) (if writes n c then given_in n held c else held c)
+        ≡ (if writes n c then given_in n held c else cells.round writes given_in ns held c)
+    either (inl w) (inl some) h =
+        let m = In-from_any (λ z. writes z c) ns some in
+        let same : m.0 ≡ n = one m.0 n c (inr m.1) (inl refl) m.2 w in
+        let gives : cells.round writes given_in ns held c ≡ given_in n held c =
+        round_written writes given_in ns held c m.0 (λ x y d p q. one x y d (inr p) (inr q)) m.1 m.2 ∙ ap (λ z. given_in z held c) same in
+        rw w (absorbed (last_to c (flat_map (λ z. written_by z held) ns)) (held c) (given_in n held c) (h ∙ gives))
+    either (inl w) (inr none) h = rw (w, none_last ns held c none) refl
+    either (inr w) _ h = rw w h
+
+In-from_flat_map : {X A : Type 0} (f : X → List A) (xs : List X) (a : A) → In a (flat_map f xs) → (x : X) × In x xs × In a (f x)
+In-from_flat_map f [] a h = absurd h
+In-from_flat_map f (x ∷ xs) a h = elim (In-append a (f x) (flat_map f xs) h) [
+  | inl i ↦ (x, inl refl, i)
+  | inr i ↦ (let r = In-from_flat_map f xs a i in (r.0, inr r.1, r.2))
+]
+
+AreWrites-node : (nodes : List Node) (objects : List Named) → WritesNo kind.Delay nodes objects → (n : Node) → In n nodes → AreWrites objects (written_by n (held objects))
+AreWrites-node nodes objects whole n i = AreWrites-written objects n (λ c w. whole c (any-from_In (λ m. writes m c) n nodes i w))
+
+AreWrites-round : (nodes : List Node) (objects : List Named) → WritesNo kind.Delay nodes objects → AreWrites objects (flat_map (λ n. written_by n (held objects)) nodes)
+AreWrites-round nodes objects whole w i =
+    let r = In-from_flat_map (λ n. written_by n (held objects)) nodes w i in
+    AreWrites-node nodes objects whole r.0 r.1 w r.2
+
+-- where frames are the same, no delay is written as a whole either
+pub WritesNo-frames : (nodes : List Node) (old new : List Named) → ((c : Cell) → frame_held new c ≡ frame_held old c) → WritesNo kind.Delay nodes old → WritesNo kind.Delay nodes new
+WritesNo-frames nodes old new frames whole c w e =
+    whole c w (sym (kind-seen_frame (held old c)) ∙ ap (option_map object_kind) (sym (frames c)) ∙ kind-seen_frame (held new c) ∙ e)
+
+-- ---- rounds and runs
+
+seen-round : (nodes : List Node) (objects : List Named) → OneWriter writes nodes → WritesNo kind.Delay nodes objects → seen (round nodes objects) ≡ cells.round writes given_in nodes (seen objects)
+seen-round nodes objects one whole = fun_ext (λ c.
+    seen-with_written (flat_map (λ n. written_by n (held objects)) nodes) objects (AreWrites-round nodes objects whole) c
+    ∙ sym (map-or shown (last_to c (flat_map (λ n. written_by n (held objects)) nodes)) (held objects c))
+    ∙ ap (option_map shown) (last_in_round nodes (held objects) c one)
+    ∙ shown-round nodes (held objects) c)
+
+seen-step : (nodes : List Node) (n : Node) (objects : List Named) → WritesNo kind.Delay nodes objects → In n nodes
+    → seen (with_written objects (written_by n (held objects))) ≡ cells.step writes given_in n (seen objects)
+seen-step nodes n objects whole i = fun_ext (λ c.
+    seen-with_written (written_by n (held objects)) objects (AreWrites-node nodes objects whole n i) c
+    ∙ sym (map-or shown (last_to c (written_by n (held objects))) (held objects c))
+    ∙ ap (option_map shown) (last_written n (held objects) c)
+    ∙ elim (cases_Bool (writes n c)) [ inl e ↦ rw e (shown-given_in n (held objects) c) | inr e ↦ rw e refl ])
+
+pub frame-rounds : (nodes : List Node) (k : ℕ) (objects : List Named) → WritesNo kind.Delay nodes objects → (c : Cell) → frame_held (rounds nodes k objects) c ≡ frame_held objects c
+frame-rounds nodes zero objects whole c = refl
+frame-rounds nodes (suc k) objects whole c =
+    let before : List Named = rounds nodes k objects in
+    let same = frame-rounds nodes k objects whole in
+    frame-with_written (flat_map (λ n. written_by n (held before)) nodes) before (AreWrites-round nodes before (WritesNo-frames nodes objects before same whole)) c
+    ∙ same c
+
+pub seen-rounds : (nodes : List Node) (k : ℕ) (objects : List Named) → OneWriter writes nodes → WritesNo kind.Delay nodes objects
+    → seen (rounds nodes k objects) ≡ cells.rounds writes given_in nodes k (seen objects)
+seen-rounds nodes zero objects one whole = refl
+seen-rounds nodes (suc k) objects one whole =
+    let before : List Named = rounds nodes k objects in
+    seen-round nodes before one (WritesNo-frames nodes objects before (frame-rounds nodes k objects whole) whole)
+    ∙ ap (cells.round writes given_in nodes) (seen-rounds nodes k objects one whole)
+
+pub marks-rounds : (nodes : List Node) (k : ℕ) (objects : List Named) → map mark_of (rounds nodes k objects) ≡ map mark_of objects
+marks-rounds nodes zero objects = refl
+marks-rounds nodes (suc k) objects =
+    let before : List Named = rounds nodes k objects in
+    marks-with_written (flat_map (λ n. written_by n (held before)) nodes) before ∙ marks-rounds nodes k objects
+
+pub seen-one_by_one : (nodes steps : List Node) (objects : List Named) → WritesNo kind.Delay nodes objects → AllIn steps nodes
+    → seen (one_by_one steps objects) ≡ cells.once writes given_in steps (seen objects)
+seen-one_by_one nodes [] objects whole within = refl
+seen-one_by_one nodes (n ∷ steps) objects whole within =
+    let ws = written_by n (held objects) in
+    let after : List Named = with_written objects ws in
+    let are = AreWrites-node nodes objects whole n (within n (inl refl)) in
+    seen-one_by_one nodes steps after (WritesNo-frames nodes objects after (frame-with_written ws objects are) whole) (λ x i. within x (inr i))
+    ∙ ap (cells.once writes given_in steps) (seen-step nodes n objects whole (within n (inl refl)))
+
+pub marks-one_by_one : (steps : List Node) (objects : List Named) → map mark_of (one_by_one steps objects) ≡ map mark_of objects
+marks-one_by_one [] objects = refl
+marks-one_by_one (n ∷ steps) objects =
+    marks-one_by_one steps (with_written objects (written_by n (held objects))) ∙ marks-with_written (written_by n (held objects)) objects

@@ -1,0 +1,48 @@
+-- What a run gives, said without rounds: each written cell holds what its node gives of what the cells hold.
+use Rattle.std.specs.Prelude.{ℕ, ◌≡◌, ◌≢◌, Bool, true, false, List, [], map, All, Option, Some}
+use Rattle.std.specs.Option.{option_map}
+use Rattle.vx_base.specs.declared.kind.Kind.{Kind}
+use Rattle.vx_base.specs.declared.kind.Kind.TheVariants as kind
+use Rattle.vx_base.specs.declared.node.Node.{Node}
+use Rattle.vx_base.specs.Cell.{Cell}
+use Rattle.vx_base.specs.Image.{new_image}
+use Rattle.vx_base.specs.Object.{ObjectValue, ImageObject, DelayObject, DistributionObject, ExtremesObject, object_kind, new_distribution, no_extremes}
+use Rattle.vx_base.specs.Outputs.{written_by}
+use Rattle.object_table.specs.Named.{Named, held}
+use Rattle.graph_verify.specs.Links.{is_written}
+
+-- the kind of what a cell holds
+abbrev pub kind_held : List Named → Cell → Option Kind
+kind_held objects cell = option_map object_kind (held objects cell)
+
+-- no node writes an object of this kind; what stands in a slot of a delay is an image
+abbrev pub WritesNo : Kind → List Node → List Named → Type 0
+WritesNo k nodes objects = (cell : Cell) → is_written nodes cell ≡ true → kind_held objects cell ≢ Some k
+
+-- the first input of each node is an image
+abbrev pub ReadImages : List Node → List Named → Type 0
+ReadImages nodes objects = All (λ n. kind_held objects n.in1 ≡ Some kind.Image) nodes
+
+-- what no node changes of an object: its kind, an image's format, a distribution's bins; a delay's images are in its slots
+abbrev pub frame_of : ObjectValue → ObjectValue
+frame_of (ImageObject image) = ImageObject (new_image 0 0 image.format)
+frame_of (DistributionObject distribution) = DistributionObject (new_distribution distribution.bins)
+frame_of (ExtremesObject extremes) = ExtremesObject no_extremes
+frame_of (DelayObject images) = DelayObject []
+frame_of other = other
+
+-- the frame of what a cell holds
+abbrev pub frame_held : List Named → Cell → Option ObjectValue
+frame_held objects cell = option_map frame_of (held objects cell)
+
+-- an object's name, and whether that is live
+abbrev pub mark_of : Named → ℕ × Bool
+mark_of o = (o.name, o.live)
+
+-- objects that are what the nodes make of those before: each written cell holds what its node gives of what the cells hold, and
+-- every other cell what it held; names, marks and frames are as before
+pub record Solves (nodes : List Node) (before after : List Named) : Type 0 where
+  pub marks : map mark_of after ≡ map mark_of before
+  pub frames : (cell : Cell) → frame_held after cell ≡ frame_held before cell
+  pub written : All (λ n. All (λ w. held after w.0 ≡ Some w.1) (written_by n (held after))) nodes
+  pub others : (cell : Cell) → is_written nodes cell ≡ false → kind_held before cell ≢ Some kind.Delay → held after cell ≡ held before cell

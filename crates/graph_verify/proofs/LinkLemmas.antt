@@ -1,0 +1,170 @@
+-- How nodes are linked by cells, where no cell has two writers.
+use Rattle.std.proofs.Common.{◌≡◌, ℕ, ◌+◌, ◌≤◌, Bool, true, false, cond, List, [], ◌∷◌, ◌++◌, refl, sym, ◌∙◌, ap, subst, inl, inr, arith}
+use Rattle.std.specs.Prelude.{Option, Some, None, ◌==◌}
+use Rattle.std.specs.List.{list_any, flat_map}
+use Rattle.std.specs.List.Sorted.{IsPermutation}
+use Rattle.std.proofs.lemmas.Bool.{cases_Bool, or_parts, or_from, and_parts, and_from, eqb-true, eq-eqb}
+use Rattle.std.proofs.lemmas.List.Recursion.{is_sum_by}
+use Rattle.std.proofs.lemmas.List.Sorted.{sum_by-IsPermutation}
+use Rattle.vx_base.specs.declared.node.Node.{Node}
+use Rattle.vx_base.specs.Cell.{Cell, same_cell, same_slot}
+use Rattle.vx_base.specs.Node.{inputs, outputs}
+use Rattle.graph_verify.specs.Members.{In}
+use Rattle.graph_verify.specs.Links.{reads, writes, feeds, has_twice, is_written}
+use Rattle.graph_verify.specs.Rounds.{OneWriter}
+use Rattle.graph_verify.specs.Verdict.{two_writers}
+use Rattle.graph_verify.proofs.MemberLemmas.{In-right, In-from_any, any-from_In, In-flat_map}
+use Rattle.graph_verify.proofs.OrderLemmas.{is_fed}
+
+-- ---- cells
+
+same_slot-true : (a b : Option ℕ) → same_slot a b ≡ true → a ≡ b
+same_slot-true None None h = refl
+same_slot-true None (Some y) h = absurd (cc h)
+same_slot-true (Some x) None h = absurd (cc h)
+same_slot-true (Some x) (Some y) h = ap {B = Option ℕ} Some (eqb-true x y h)
+
+pub same_cell-true : (a b : Cell) → same_cell a b ≡ true → a ≡ b
+same_cell-true a b h =
+    let r = and_parts (a.name == b.name) (same_slot a.slot b.slot) h in
+    let n = eqb-true a.name b.name r.0 in
+    let s = same_slot-true a.slot b.slot r.1 in
+    ap (λ z. record { name = z; slot = a.slot }) n ∙ ap (λ z. record { name = b.name; slot = z }) s
+
+same_slot-refl : (a : Option ℕ) → same_slot a a ≡ true
+same_slot-refl None = refl
+same_slot-refl (Some x) = eq-eqb x x refl
+
+pub same_cell-refl : (a : Cell) → same_cell a a ≡ true
+same_cell-refl a = and_from (a.name == a.name) (same_slot a.slot a.slot) (eq-eqb a.name a.name refl) (same_slot-refl a.slot)
+
+pub same_cell-is : (a b : Cell) → a ≡ b → same_cell a b ≡ true
+same_cell-is a b e = ap (same_cell a) (sym e) ∙ same_cell-refl a
+
+-- a cell among others
+pub In-from_same : (c : Cell) (cs : List Cell) → list_any (same_cell c) cs ≡ true → In c cs
+In-from_same c cs h = let r = In-from_any (same_cell c) cs h in subst (λ d. In d cs) (sym (same_cell-true c r.0 r.2)) r.1
+
+pub same-from_In : (c : Cell) (cs : List Cell) → In c cs → list_any (same_cell c) cs ≡ true
+same-from_In c cs h = any-from_In (same_cell c) c cs h (same_cell-refl c)
+
+-- ---- links
+
+-- a node that writes what another reads feeds it
+pub feeds_is : (m n : Node) (c : Cell) → writes m c ≡ true → reads n c ≡ true → feeds m n ≡ true
+feeds_is m n c w r = any-from_In (reads n) c (outputs m) (In-from_same c (outputs m) w) r
+
+-- a node is fed by those that write what it reads
+pub is_fed-written : (g : List Node) (n : Node) → is_fed feeds g n ≡ list_any (is_written g) (inputs n)
+is_fed-written g n = elim (cases_Bool (list_any (is_written g) (inputs n))) [
+  | inl some ↦ (
+      let input = In-from_any (is_written g) (inputs n) some in
+      let writer = In-from_any (λ m. writes m input.0) g input.2 in
+      any-from_In (λ m. feeds m n) writer.0 g writer.1 (feeds_is writer.0 n input.0 writer.2 (same-from_In input.0 (inputs n) input.1)) ∙ sym some)
+  | inr none ↦ elim (cases_Bool (is_fed feeds g n)) [
+    | inl fed ↦ (
+        let feeder = In-from_any (λ m. feeds m n) g fed in
+        let cell = In-from_any (reads n) (outputs feeder.0) feeder.2 in
+        let written = any-from_In (λ m. writes m cell.0) feeder.0 g feeder.1 (same-from_In cell.0 (outputs feeder.0) cell.1) in
+        let some = any-from_In (is_written g) cell.0 (inputs n) (In-from_same cell.0 (inputs n) cell.2) written in
+        absurd (cc))
+    | inr unfed ↦ unfed ∙ sym none
+  ]
+]
+
+-- ---- no cell stands twice in a list
+
+pub once_across : (c : Cell) (xs ys : List Cell) → has_twice (xs ++ ys) ≡ false → In c xs → In c ys → ⊥
+once_across c [] ys h i j = i
+once_across c (x ∷ xs) ys h i j =
+    let p = or_parts (list_any (same_cell x) (xs ++ ys)) (has_twice (xs ++ ys)) h in
+    elim i [
+      | inl e ↦ (let k = any-from_In (same_cell x) c (xs ++ ys) (In-right c xs ys j) (same_cell-is x c (sym e)) in let l = p.0 in cc)
+      | inr k ↦ once_across c xs ys p.1 k j
+    ]
+
+once_after : (xs ys : List Cell) → has_twice (xs ++ ys) ≡ false → has_twice ys ≡ false
+once_after [] ys h = h
+once_after (x ∷ xs) ys h = once_after xs ys (or_parts (list_any (same_cell x) (xs ++ ys)) (has_twice (xs ++ ys)) h).1
+
+In-outputs : (n : Node) (c : Cell) (g : List Node) → In n g → writes n c ≡ true → In c (flat_map outputs g)
+In-outputs n c g i w = In-flat_map outputs n c g i (In-from_same c (outputs n) w)
+
+-- the test of the writers says that each cell has one
+pub one_writer : (g : List Node) → two_writers g ≡ false → OneWriter writes g
+one_writer [] h = λ m n c i j v w. absurd i
+one_writer (x ∷ xs) h = λ m n c i j v w.
+    let others = one_writer xs (once_after (outputs x) (flat_map outputs xs) h) in
+    elim i [
+      | inl e ↦ elim j [
+        | inl f ↦ e ∙ sym f
+        | inr k ↦ absurd (once_across c (outputs x) (flat_map outputs xs) h (In-from_same c (outputs x) (ap (λ z. writes z c) (sym e) ∙ v)) (In-outputs n c xs k w))
+      ]
+      | inr l ↦ elim j [
+        | inl f ↦ absurd (once_across c (outputs x) (flat_map outputs xs) h (In-from_same c (outputs x) (ap (λ z. writes z c) (sym f) ∙ w)) (In-outputs m c xs l v))
+        | inr k ↦ others m n c l k v w
+      ]
+    ]
+
+-- ---- the order of the nodes has no effect on whether a cell has two writers
+
+-- std's sums fold from the left; these recurse
+abbrev counted : {X : Type 0} → (X → Bool) → List X → ℕ
+counted p [] = 0
+counted p (x ∷ xs) = cond (p x) (1 + counted p xs) (counted p xs)
+
+abbrev totalled : {X : Type 0} → (X → ℕ) → List X → ℕ
+totalled f [] = 0
+totalled f (x ∷ xs) = f x + totalled f xs
+
+none_counted : {X : Type 0} (p : X → Bool) (xs : List X) → list_any p xs ≡ false → counted p xs ≡ 0
+none_counted p [] h = refl
+none_counted p (x ∷ xs) h = let r = or_parts (p x) (list_any p xs) h in let e = r.0 in let i = none_counted p xs r.1 in rw e i
+
+none_since_count : {X : Type 0} (p : X → Bool) (xs : List X) → counted p xs ≡ 0 → list_any p xs ≡ false
+none_since_count p [] h = refl
+none_since_count p (x ∷ xs) h = elim (cases_Bool (p x)) [
+  | inl k ↦ (let g : 1 + counted p xs ≡ 0 = rw k at h in absurd (omega arith))
+  | inr k ↦ (let g : counted p xs ≡ 0 = rw k at h in or_from (p x) (list_any p xs) k (none_since_count p xs g))
+]
+
+counted_once : (xs : List Cell) (c : Cell) → has_twice xs ≡ false → counted (same_cell c) xs ≤ 1
+counted_once [] c h = omega arith
+counted_once (x ∷ xs) c h =
+    let r = or_parts (list_any (same_cell x) xs) (has_twice xs) h in
+    elim (cases_Bool (same_cell c x)) [
+      | inl k ↦ (let e : c ≡ x = same_cell-true c x k in
+          let z : counted (same_cell c) xs ≡ 0 = ap (λ d. counted (same_cell d) xs) e ∙ none_counted (same_cell x) xs r.0 in rw k (omega arith))
+      | inr k ↦ (let i = counted_once xs c r.1 in rw k i)
+    ]
+
+once_since_count : (xs : List Cell) → ((c : Cell) → counted (same_cell c) xs ≤ 1) → has_twice xs ≡ false
+once_since_count [] h = refl
+once_since_count (x ∷ xs) h =
+    let k : same_cell x x ≡ true = same_cell-refl x in
+    let one : counted (same_cell x) (x ∷ xs) ≤ 1 = h x in
+    let same : counted (same_cell x) (x ∷ xs) ≡ 1 + counted (same_cell x) xs = rw k refl in
+    or_from (list_any (same_cell x) xs) (has_twice xs) (none_since_count (same_cell x) xs (omega arith))
+    (once_since_count xs (λ c. let o = h c in elim (cases_Bool (same_cell c x)) [
+      | inl j ↦ (let s : counted (same_cell c) (x ∷ xs) ≡ 1 + counted (same_cell c) xs = rw j refl in omega arith)
+      | inr j ↦ (let s : counted (same_cell c) (x ∷ xs) ≡ counted (same_cell c) xs = rw j refl in omega arith)
+    ]))
+
+counted-append : {X : Type 0} (p : X → Bool) (xs ys : List X) → counted p (xs ++ ys) ≡ counted p xs + counted p ys
+counted-append p [] ys = omega arith
+counted-append p (x ∷ xs) ys = let i = counted-append p xs ys in elim (cases_Bool (p x)) [ inl k ↦ rw k (omega arith) | inr k ↦ rw k i ]
+
+counted-flat_map : (p : Cell → Bool) (g : List Node) → counted p (flat_map outputs g) ≡ totalled (λ n. counted p (outputs n)) g
+counted-flat_map p [] = refl
+counted-flat_map p (n ∷ ns) = counted-append p (outputs n) (flat_map outputs ns) ∙ ap (λ z. counted p (outputs n) + z) (counted-flat_map p ns)
+
+totalled-permutation : {X : Type 0} (f : X → ℕ) (xs ys : List X) → IsPermutation xs ys → totalled f ys ≡ totalled f xs
+totalled-permutation f xs ys h = is_sum_by (totalled f) f refl (λ _ _. refl) ys ∙ sum_by-IsPermutation f xs ys h ∙ sym (is_sum_by (totalled f) f refl (λ _ _. refl) xs)
+
+pub two_writers-permutation : (g steps : List Node) → IsPermutation g steps → two_writers g ≡ false → two_writers steps ≡ false
+two_writers-permutation g steps same h = once_since_count (flat_map outputs steps) (λ c.
+    let a = counted_once (flat_map outputs g) c h in
+    let b = counted-flat_map (same_cell c) g in
+    let d = counted-flat_map (same_cell c) steps in
+    let e = totalled-permutation (λ n. counted (same_cell c) (outputs n)) g steps same in
+    omega arith)

@@ -1,0 +1,92 @@
+-- Members of lists.
+use Rattle.std.proofs.Common.{◌≡◌, ℕ, ◌<◌, ◌⊎◌, inl, inr, suc, zero, Bool, true, false, List, [], ◌∷◌, ◌++◌, length, get_or, map, refl, sym, ap, subst, ◌∙◌, arith}
+use Rattle.std.specs.List.{filter, flat_map, list_any, Contains}
+use Rattle.std.specs.List.Sorted.{IsPermutation}
+use Rattle.std.proofs.lemmas.Bool.{cases_Bool, or_cases, or_left, or_right}
+use Rattle.std.proofs.lemmas.List.Sorted.{Contains-permutation, IsPermutation-sym}
+use Rattle.graph_verify.specs.Members.{In, AllIn}
+
+module _ {X : Type 0} where
+  pub In-left : (x : X) (xs ys : List X) → In x xs → In x (xs ++ ys)
+  In-left x [] ys h = absurd h
+  In-left x (y ∷ xs) ys (inl same) = inl same
+  In-left x (y ∷ xs) ys (inr h) = inr (In-left x xs ys h)
+
+  pub In-right : (x : X) (xs ys : List X) → In x ys → In x (xs ++ ys)
+  In-right x [] ys h = h
+  In-right x (y ∷ xs) ys h = inr (In-right x xs ys h)
+
+  pub In-append : (x : X) (xs ys : List X) → In x (xs ++ ys) → In x xs ⊎ In x ys
+  In-append x [] ys h = inr h
+  In-append x (y ∷ xs) ys (inl same) = inl (inl same)
+  In-append x (y ∷ xs) ys (inr h) = elim (In-append x xs ys h) [ inl i ↦ inl (inr i) | inr i ↦ inr i ]
+
+  -- what some member passes
+  pub In-from_any : (p : X → Bool) (xs : List X) → list_any p xs ≡ true → (x : X) × In x xs × (p x ≡ true)
+  In-from_any p [] h = absurd (cc h)
+  In-from_any p (x ∷ xs) h = elim (or_cases (p x) (list_any p xs) h) [
+    | inl passes ↦ (x, inl refl, passes)
+    | inr others ↦ (let r = In-from_any p xs others in (r.0, inr r.1, r.2))
+  ]
+
+  pub any-from_In : (p : X → Bool) (x : X) (xs : List X) → In x xs → p x ≡ true → list_any p xs ≡ true
+  any-from_In p x [] h passes = absurd h
+  any-from_In p x (y ∷ xs) (inl same) passes = or_left (p y) (list_any p xs) (ap p (sym same) ∙ passes)
+  any-from_In p x (y ∷ xs) (inr h) passes = or_right (p y) (list_any p xs) (any-from_In p x xs h passes)
+
+  -- what no member passes
+  pub fails-from_In : (p : X → Bool) (x : X) (xs : List X) → list_any p xs ≡ false → In x xs → p x ≡ false
+  fails-from_In p x xs none h = elim (cases_Bool (p x)) [ inl passes ↦ (let some = any-from_In p x xs h passes in absurd (cc)) | inr fails ↦ fails ]
+
+  pub In-filter : (p : X → Bool) (x : X) (xs : List X) → In x xs → p x ≡ true → In x (filter p xs)
+  In-filter p x [] h passes = absurd h
+  In-filter p x (y ∷ xs) (inl same) passes = let k : p y ≡ true = ap p (sym same) ∙ passes in rw k (inl same)
+  In-filter p x (y ∷ xs) (inr h) passes = elim (cases_Bool (p y)) [
+    | inl k ↦ rw k (inr (In-filter p x xs h passes))
+    | inr k ↦ rw k (In-filter p x xs h passes)
+  ]
+
+  pub In-from_filter : (p : X → Bool) (x : X) (xs : List X) → In x (filter p xs) → In x xs × (p x ≡ true)
+  In-from_filter p x [] h = absurd h
+  In-from_filter p x (y ∷ xs) h = elim (cases_Bool (p y)) [
+    | inl k ↦ (let g : In x (y ∷ filter p xs) = rw k at h in
+        elim g [ inl same ↦ (inl same, ap p same ∙ k) | inr i ↦ (let r = In-from_filter p x xs i in (inr r.0, r.1)) ])
+    | inr k ↦ (let g : In x (filter p xs) = rw k at h in let r = In-from_filter p x xs g in (inr r.0, r.1))
+  ]
+
+  pub In-map : {Y : Type 0} (f : X → Y) (x : X) (xs : List X) → In x xs → In (f x) (map f xs)
+  In-map f x [] h = absurd h
+  In-map f x (y ∷ xs) (inl same) = inl (ap f same)
+  In-map f x (y ∷ xs) (inr h) = inr (In-map f x xs h)
+
+  pub In-from_map : {Y : Type 0} (f : X → Y) (y : Y) (xs : List X) → In y (map f xs) → (x : X) × In x xs × (y ≡ f x)
+  In-from_map f y [] h = absurd h
+  In-from_map f y (x ∷ xs) (inl same) = (x, inl refl, same)
+  In-from_map f y (x ∷ xs) (inr h) = let r = In-from_map f y xs h in (r.0, inr r.1, r.2)
+
+  -- ---- members by their indices
+
+  pub In-at : (xs : List X) (k : ℕ) (d : X) → k < length xs → In (get_or xs k d) xs
+  In-at [] k d h = absurd (omega (arith, h))
+  In-at (y ∷ ys) zero d h = inl refl
+  In-at (y ∷ ys) (suc k) d h = inr (In-at ys k d (omega (arith, h)))
+
+  pub Contains-from_In : (x : X) (xs : List X) → In x xs → Contains xs x
+  Contains-from_In x [] h = absurd h
+  Contains-from_In x (y ∷ ys) (inl same) = (0, omega arith, sym same)
+  Contains-from_In x (y ∷ ys) (inr h) = let r = Contains-from_In x ys h in (suc r.0, omega (arith, r.1), r.2)
+
+  pub In-from_Contains : (x : X) (xs : List X) → Contains xs x → In x xs
+  In-from_Contains x xs c = subst (λ z. In z xs) c.2 (In-at xs c.0 x c.1)
+
+  -- a list of the same members in another order
+  pub AllIn-permutation : (xs ys : List X) → IsPermutation xs ys → AllIn xs ys
+  AllIn-permutation xs ys same x h = In-from_Contains x ys (Contains-permutation xs ys x same (Contains-from_In x xs h))
+
+  pub AllIn-permutation_back : (xs ys : List X) → IsPermutation xs ys → AllIn ys xs
+  AllIn-permutation_back xs ys same = AllIn-permutation ys xs (IsPermutation-sym xs ys same)
+
+pub In-flat_map : {X Y : Type 0} (f : X → List Y) (x : X) (y : Y) (xs : List X) → In x xs → In y (f x) → In y (flat_map f xs)
+In-flat_map f x y [] h k = absurd h
+In-flat_map f x y (z ∷ xs) (inl same) k = In-left y (f z) (flat_map f xs) (subst (λ w. In y (f w)) same k)
+In-flat_map f x y (z ∷ xs) (inr h) k = In-right y (f z) (flat_map f xs) (In-flat_map f x y xs h k)

@@ -1,0 +1,47 @@
+-- Runs of the nodes of a graph, whatever the values of cells are.
+use Rattle.std.proofs.Common.{◌≡◌, false, List, length, sym, ◌∙◌}
+use Rattle.vx_base.specs.declared.node.Node.{Node}
+use Rattle.vx_base.specs.Cell.{Cell}
+use Rattle.graph_verify.specs.Members.{In}
+use Rattle.graph_verify.specs.Links.{reads, writes, feeds}
+use Rattle.graph_verify.specs.Cycle.{has_cycle}
+use Rattle.graph_verify.specs.Order.{IsOrder}
+use Rattle.graph_verify.specs.Rounds.{rounds, once, OneWriter, IsSolution, ReadsAlone}
+use Rattle.graph_verify.specs.Verdict.{two_writers}
+use Rattle.graph_verify.proofs.LinkLemmas.{feeds_is, one_writer}
+use Rattle.graph_verify.proofs.OrderLemmas.{AreStepsOf, steps_from_order, steps_from_no_cycle}
+use Rattle.graph_verify.proofs.RoundLemmas as runs
+
+module _ {V : Type 0} (value : Node → (Cell → V) → Cell → V) where
+  one_writer_in : (nodes steps : List Node) → two_writers nodes ≡ false → AreStepsOf feeds nodes steps → OneWriter writes steps
+  one_writer_in nodes steps one o = λ m n c i j. one_writer nodes one m n c (o.from m i) (o.from n j)
+
+  pub once_through_order : (nodes steps : List Node) (held : Cell → V) → ReadsAlone reads value → two_writers nodes ≡ false → IsOrder feeds nodes steps
+      → (c : Cell) → once writes value steps held c ≡ rounds writes value nodes (length nodes) held c
+  once_through_order nodes steps held alone one order c =
+      let o = steps_from_order feeds nodes steps order in
+      sym (runs.once_is_rounds reads writes feeds value feeds_is alone nodes steps held o.in_turn o.to o.from o.long (one_writer_in nodes steps one o) c)
+
+  pub rounds_solve : (nodes : List Node) (held : Cell → V) → ReadsAlone reads value → two_writers nodes ≡ false → has_cycle feeds nodes ≡ false
+      → IsSolution writes value nodes held (rounds writes value nodes (length nodes) held)
+  rounds_solve nodes held alone one no_cycle =
+      let found = steps_from_no_cycle feeds nodes no_cycle in
+      let o = found.1 in
+      runs.rounds_solve reads writes feeds value feeds_is alone nodes found.0 held o.in_turn o.to o.from o.long (one_writer_in nodes found.0 one o)
+
+  pub only_solution : (nodes : List Node) (held after : Cell → V) → ReadsAlone reads value → two_writers nodes ≡ false → has_cycle feeds nodes ≡ false
+      → IsSolution writes value nodes held after → (c : Cell) → after c ≡ rounds writes value nodes (length nodes) held c
+  only_solution nodes held after alone one no_cycle solves c =
+      let found = steps_from_no_cycle feeds nodes no_cycle in
+      let o = found.1 in
+      sym (runs.solution_is_rounds reads writes feeds value feeds_is alone nodes found.0 held after o.in_turn o.to o.from o.long solves c)
+
+  -- what is held at first of a written cell has no effect
+  pub rounds_forget : (nodes : List Node) (held other : Cell → V) → ReadsAlone reads value → two_writers nodes ≡ false → has_cycle feeds nodes ≡ false
+      → ((c : Cell) → ((n : Node) → In n nodes → writes n c ≡ false) → held c ≡ other c) → (c : Cell) → rounds writes value nodes (length nodes) held c ≡ rounds writes value nodes (length nodes) other c
+  rounds_forget nodes held other alone one no_cycle same =
+      let solves = rounds_solve nodes held alone one no_cycle in
+      only_solution nodes other (rounds writes value nodes (length nodes) held) alone one no_cycle (record {
+        written = solves.written;
+        others = (λ d unwritten. solves.others d unwritten ∙ same d unwritten);
+      })

@@ -1,0 +1,37 @@
+-- What a verdict says of a graph.
+use Rattle.std.proofs.Common.{◌≡◌, ℕ, ◌≤◌, Bool, true, false, List, refl}
+use Rattle.std.specs.Prelude.{Option, Some, None, nat_le, if◌then◌else◌}
+use Rattle.std.specs.Option.{option_or}
+use Rattle.std.proofs.lemmas.Bool.{leb-true}
+use Rattle.vx_base.specs.declared.node.Node.{Node}
+use Rattle.vx_base.specs.Cell.{Cell}
+use Rattle.graph_verify.specs.declared.operand.Operand.{Operand}
+use Rattle.graph_verify.specs.declared.verdict.Verdict.{Verdict}
+use Rattle.graph_verify.specs.declared.verdict.Verdict.TheVariants.{MultipleWriters, InvalidGraph, InvalidLink, NoResources}
+use Rattle.graph_verify.specs.Links.{feeds}
+use Rattle.graph_verify.specs.Cycle.{has_cycle}
+use Rattle.graph_verify.specs.Outlines.{resolved}
+use Rattle.graph_verify.specs.Verdict.{two_writers, reads_loose, first_fault, work_bytes, verdict}
+
+-- what is known of a graph that can run
+pub record CanRun (work : ℕ) (is : Cell → Operand) (nodes : List Node) : Type 0 where
+  pub one_writer : two_writers nodes ≡ false
+  pub no_cycle : has_cycle feeds nodes ≡ false
+  pub no_loose_end : reads_loose is nodes ≡ false
+  pub no_fault : first_fault (resolved is nodes) nodes ≡ None
+  pub room : work_bytes is nodes ≤ work
+
+pub can_run : (work : ℕ) (is : Cell → Operand) (nodes : List Node) → verdict work is nodes ≡ None → CanRun work is nodes
+can_run work is nodes h =
+    let parts = none_applies (two_writers nodes) (has_cycle feeds nodes) (reads_loose is nodes) (first_fault (resolved is nodes) nodes) (nat_le (work_bytes is nodes) work) h in
+    record { one_writer = parts.0; no_cycle = parts.1; no_loose_end = parts.2; no_fault = parts.3; room = leb-true (work_bytes is nodes) work parts.4 }
+  where
+    none_applies : (writers cycle loose : Bool) (fault : Option Verdict) (fits : Bool)
+        → (if writers then Some MultipleWriters else (if cycle then Some InvalidGraph else (if loose then Some InvalidLink else option_or fault (if fits then None else Some NoResources)))) ≡ None
+        → (writers ≡ false) × (cycle ≡ false) × (loose ≡ false) × (fault ≡ None) × (fits ≡ true)
+    none_applies true cycle loose fault fits h = absurd (cc h)
+    none_applies false true loose fault fits h = absurd (cc h)
+    none_applies false false true fault fits h = absurd (cc h)
+    none_applies false false false (Some fault) fits h = absurd (cc h)
+    none_applies false false false None true h = (refl, refl, refl, refl, refl)
+    none_applies false false false None false h = absurd (cc h)
