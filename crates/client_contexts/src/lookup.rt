@@ -121,6 +121,8 @@ fn operand_of(object: &Object) -> Operand
         Content::Convolution(_) => Operand::Convolution,
         Content::Distribution(_) => Operand::Distribution,
         Content::Extremes(_) => Operand::Extremes,
+        Content::Graph(_) => Operand::Graph,
+        Content::Virtual(image) => Operand::Virtual(image.declared),
     }
 }
 

@@ -4,6 +4,5 @@ pub mod SlotLemmas
 pub mod SearchLemmas
 pub mod NamesLemmas
 pub mod UseLemmas
-pub mod NamedLemmas
 mod OperandLemmas
 mod TableLemmas
