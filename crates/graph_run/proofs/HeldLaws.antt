@@ -78,7 +78,7 @@ slot_written (Some k) (Some j) new x f d = elim (cases_Bool (eqb k j)) [
   | inr e ↦ rw e (ap (option_map shown) (with_slot_beside k j new x (eqb-false k j e)))
 ]
 
-object_held-with_object : (objects : List Named) (cell : Cell) (new : ObjectValue) (name : ℕ)
+pub object_held-with_object : (objects : List Named) (cell : Cell) (new : ObjectValue) (name : ℕ)
     → object_held (with_object objects cell new) name ≡ option_map (λ x. if eqb name cell.name then with_slot cell.slot new x else x) (object_held objects name)
 object_held-with_object [] cell new name = refl
 object_held-with_object (o ∷ objects) cell new name = elim (cases_Bool (eqb o.name cell.name)) [

@@ -93,7 +93,7 @@ same_named o p mark found =
     ∙ ap (λ z. record { name = p.name; live = p.live; object = z }) object
 
 -- two lists of the same names and marks, by what is held under each name
-by_names : (old new : List Named) → Rising (map mark_of old) → map mark_of old ≡ map mark_of new → ((name : ℕ) → object_held old name ≡ object_held new name) → old ≡ new
+pub by_names : (old new : List Named) → Rising (map mark_of old) → map mark_of old ≡ map mark_of new → ((name : ℕ) → object_held old name ≡ object_held new name) → old ≡ new
 by_names [] [] up marks h = refl
 by_names [] (p ∷ new) up marks h = absurd (cc marks)
 by_names (o ∷ old) [] up marks h = absurd (cc marks)
