@@ -1,20 +1,20 @@
 -- What virtual images are as a run begins and ends.
-use Rattle.std.proofs.Common.{◌≡◌, ◌≢◌, ℕ, Bool, true, false, if◌then◌else◌, eqb, List, [], ◌∷◌, length, map, refl, sym, ap, subst, ◌∙◌, inl, inr, Option, Some, None}
+use Rattle.std.proofs.Common.{◌≡◌, ◌≢◌, ℕ, true, false, if◌then◌else◌, eqb, List, [], ◌∷◌, map, refl, sym, ap, subst, ◌∙◌, inl, inr, Option, Some, None}
 use Rattle.std.specs.Prelude.{◌⊎◌}
 use Rattle.std.specs.Option.{option_map, option_and_then}
-use Rattle.std.proofs.lemmas.Bool.{cases_Bool, eqb-true, eqb-false, eq-eqb, ne_eqb}
+use Rattle.std.proofs.lemmas.Bool.{cases_Bool, eqb-true, eq-eqb}
 use Rattle.vx_base.specs.declared.kind.Kind.TheVariants as kind
 use Rattle.vx_base.specs.declared.node.Node.{Node}
 use Rattle.vx_base.specs.Cell.{Cell}
 use Rattle.vx_base.specs.Object.{ObjectValue, VirtualObject, object_kind}
 use Rattle.object_table.specs.Delay.{in_slot}
-use Rattle.object_table.specs.Named.{Named, object_held, held, with_object, with_written}
+use Rattle.object_table.specs.Named.{Named, object_held, with_object, with_written}
 use Rattle.graph_verify.specs.declared.operand.Operand.{Operand}
 use Rattle.graph_verify.specs.declared.operand.Operand.TheVariants.{Image}
 use Rattle.graph_verify.specs.Members.{In}
 use Rattle.graph_verify.specs.Links.{is_written}
 use Rattle.graph_run.specs.Graph.{begun_as, begun, is_virtual, forgotten}
-use Rattle.graph_run.specs.Solution.{WritesNo, kind_held, mark_of}
+use Rattle.graph_run.specs.Solution.{WritesNo, label_of}
 use Rattle.graph_run.proofs.HeldLaws.{object_held-with_object}
 use Rattle.graph_run.proofs.NameLaws.{Rising, by_names}
 
@@ -28,20 +28,24 @@ object_held-begun : (is : Cell → Operand) (nodes : List Node) (objects : List 
     → object_held (map (begun is nodes) objects) name ≡ option_map (begun_under is nodes name) (object_held objects name)
 object_held-begun is nodes [] name = refl
 object_held-begun is nodes (o ∷ objects) name = elim (cases_Bool (is_written nodes (record { name = o.name; slot = None }))) [
-    inl w ↦ elim (cases_Bool (eqb o.name name)) [
-        inl e ↦ subst (λ z. object_held (map (begun is nodes) (o ∷ objects)) z ≡ option_map (begun_under is nodes z) (object_held (o ∷ objects) z)) (eqb-true o.name name e)
-            (let own : eqb o.name o.name ≡ true = eq-eqb o.name o.name refl in rw (begun_under, w, own) refl)
-      | inr e ↦ rw (w, e) (object_held-begun is nodes objects name) ]
+  | inl w ↦ elim (cases_Bool (eqb o.name name)) [
+    | inl e ↦ subst (λ z. object_held (map (begun is nodes) (o ∷ objects)) z ≡ option_map (begun_under is nodes z) (object_held (o ∷ objects) z)) (eqb-true o.name name e)
+        (let own : eqb o.name o.name ≡ true = eq-eqb o.name o.name refl in rw (begun_under, w, own) refl)
+    | inr e ↦ rw (w, e) (object_held-begun is nodes objects name)
+  ]
   | inr w ↦ elim (cases_Bool (eqb o.name name)) [
-        inl e ↦ subst (λ z. object_held (map (begun is nodes) (o ∷ objects)) z ≡ option_map (begun_under is nodes z) (object_held (o ∷ objects) z)) (eqb-true o.name name e)
-            (let own : eqb o.name o.name ≡ true = eq-eqb o.name o.name refl in rw (begun_under, w, own) refl)
-      | inr e ↦ rw (w, e) (object_held-begun is nodes objects name) ] ]
+    | inl e ↦ subst (λ z. object_held (map (begun is nodes) (o ∷ objects)) z ≡ option_map (begun_under is nodes z) (object_held (o ∷ objects) z)) (eqb-true o.name name e)
+        (let own : eqb o.name o.name ≡ true = eq-eqb o.name o.name refl in rw (begun_under, w, own) refl)
+    | inr e ↦ rw (w, e) (object_held-begun is nodes objects name)
+  ]
+]
 
-pub marks-begun : (is : Cell → Operand) (nodes : List Node) (objects : List Named) → map mark_of (map (begun is nodes) objects) ≡ map mark_of objects
-marks-begun is nodes [] = refl
-marks-begun is nodes (o ∷ objects) = elim (cases_Bool (is_written nodes (record { name = o.name; slot = None }))) [
-    inl w ↦ rw w (ap (λ z. mark_of o ∷ z) (marks-begun is nodes objects))
-  | inr w ↦ rw w (ap (λ z. mark_of o ∷ z) (marks-begun is nodes objects)) ]
+pub labels-begun : (is : Cell → Operand) (nodes : List Node) (objects : List Named) → map label_of (map (begun is nodes) objects) ≡ map label_of objects
+labels-begun is nodes [] = refl
+labels-begun is nodes (o ∷ objects) = elim (cases_Bool (is_written nodes (record { name = o.name; slot = None }))) [
+  | inl w ↦ rw w (ap (λ z. label_of o ∷ z) (labels-begun is nodes objects))
+  | inr w ↦ rw w (ap (λ z. label_of o ∷ z) (labels-begun is nodes objects))
+]
 
 -- what is written alike begins alike
 pub begun-same : (is : Cell → Operand) (nodes others : List Node) → ((c : Cell) → is_written nodes c ≡ is_written others c) → (objects : List Named) → map (begun is nodes) objects ≡ map (begun is others) objects
@@ -66,8 +70,9 @@ WritesNo-begun is nodes objects whole c w h =
         → option_map object_kind (option_and_then (in_slot c.slot) o) ≡ Some kind.Delay
     before None h = absurd (cc h)
     before (Some x) h = elim (cases_Bool (is_written nodes (record { name = c.name; slot = None }))) [
-        inl e ↦ delay_before c.slot x (is (record { name = c.name; slot = None })) (rw e at h)
-      | inr e ↦ (let g : option_map object_kind (in_slot c.slot x) ≡ Some kind.Delay = rw e at h in g) ]
+      | inl e ↦ delay_before c.slot x (is (record { name = c.name; slot = None })) (rw e at h)
+      | inr e ↦ (let g : option_map object_kind (in_slot c.slot x) ≡ Some kind.Delay = rw e at h in g)
+    ]
 
 -- ---- where no virtual image is written
 
@@ -84,20 +89,21 @@ no_slot_of_virtual k (VirtualObject v) h = refl
 no_slot_of_virtual k x h = absurd (cc h)
 
 -- nothing changes as the run begins
-pub nothing_begun : (is : Cell → Operand) (nodes : List Node) (objects : List Named) → Rising (map mark_of objects) → WritesNo kind.VirtualImage nodes objects → map (begun is nodes) objects ≡ objects
+pub nothing_begun : (is : Cell → Operand) (nodes : List Node) (objects : List Named) → Rising (map label_of objects) → WritesNo kind.VirtualImage nodes objects → map (begun is nodes) objects ≡ objects
 nothing_begun is nodes objects up real =
-    let marks = marks-begun is nodes objects in
-    by_names (map (begun is nodes) objects) objects (subst (λ z. Rising z) (sym marks) up) marks
-      (λ name. object_held-begun is nodes objects name ∙ same name (object_held objects name) refl)
+    let labels = labels-begun is nodes objects in
+    by_names (map (begun is nodes) objects) objects (subst (λ z. Rising z) (sym labels) up) labels
+    (λ name. object_held-begun is nodes objects name ∙ same name (object_held objects name) refl)
   where
     same : (name : ℕ) (o : Option ObjectValue) → object_held objects name ≡ o → option_map (begun_under is nodes name) o ≡ o
     same name None e = refl
     same name (Some x) e = elim (cases_Bool (is_written nodes (record { name = name; slot = None }))) [
-        inl w ↦
+      | inl w ↦
           (let kept = begun_other x (is (record { name = name; slot = None }))
-                 (λ k. real (record { name = name; slot = None }) w (ap (λ z. option_map object_kind (option_and_then (in_slot None) z)) e ∙ ap Some k)) in
-           rw w (ap {B = Option ObjectValue} Some kept))
-      | inr w ↦ rw w refl ]
+          (λ k. real (record { name = name; slot = None }) w (ap (λ z. option_map object_kind (option_and_then (in_slot None) z)) e ∙ ap Some k)) in
+          rw w (ap {B = Option ObjectValue} Some kept))
+      | inr w ↦ rw w refl
+    ]
 
 -- what stands under a name that isn't written stays
 pub object_held-unwritten : (ws : List (Cell × ObjectValue)) (objects : List Named) (name : ℕ) → ((w : Cell × ObjectValue) → In w ws → eqb name (w.0).name ≡ false)
@@ -116,15 +122,15 @@ abbrev kept_virtual : Option ObjectValue → Option ObjectValue → Option Objec
 kept_virtual (Some x) (Some y) = Some (if is_virtual x then x else y)
 kept_virtual o p = p
 
-object_held-forgotten : (before after : List Named) → map mark_of before ≡ map mark_of after → (name : ℕ)
+object_held-forgotten : (before after : List Named) → map label_of before ≡ map label_of after → (name : ℕ)
     → object_held (forgotten before after) name ≡ kept_virtual (object_held before name) (object_held after name)
-object_held-forgotten [] [] marks name = refl
-object_held-forgotten [] (p ∷ after) marks name = absurd (cc marks)
-object_held-forgotten (o ∷ before) [] marks name = absurd (cc marks)
-object_held-forgotten (o ∷ before) (p ∷ after) marks name =
-    let mark : mark_of o ≡ mark_of p = cc in
-    let rest : map mark_of before ≡ map mark_of after = cc in
-    either (ap (λ m. m.0) mark) (object_held-forgotten before after rest name) (cases_Bool (is_virtual o.object)) (cases_Bool (eqb o.name name))
+object_held-forgotten [] [] labels name = refl
+object_held-forgotten [] (p ∷ after) labels name = absurd (cc labels)
+object_held-forgotten (o ∷ before) [] labels name = absurd (cc labels)
+object_held-forgotten (o ∷ before) (p ∷ after) labels name =
+    let label : label_of o ≡ label_of p = cc in
+    let rest : map label_of before ≡ map label_of after = cc in
+    either (ap (λ m. m.0) label) (object_held-forgotten before after rest name) (cases_Bool (is_virtual o.object)) (cases_Bool (eqb o.name name))
   where
     either : o.name ≡ p.name → object_held (forgotten before after) name ≡ kept_virtual (object_held before name) (object_held after name)
         → (is_virtual o.object ≡ true) ⊎ (is_virtual o.object ≡ false) → (eqb o.name name ≡ true) ⊎ (eqb o.name name ≡ false)
@@ -134,28 +140,30 @@ object_held-forgotten (o ∷ before) (p ∷ after) marks name =
     either same h (inr v) (inl e) = let f : eqb p.name name ≡ true = ap (λ z. eqb z name) (sym same) ∙ e in rw (v, e, f, v) refl
     either same h (inr v) (inr e) = let f : eqb p.name name ≡ false = ap (λ z. eqb z name) (sym same) ∙ e in rw (v, e, f) h
 
-marks-forgotten : (before after : List Named) → map mark_of before ≡ map mark_of after → map mark_of (forgotten before after) ≡ map mark_of after
-marks-forgotten [] [] marks = refl
-marks-forgotten [] (p ∷ after) marks = refl
-marks-forgotten (o ∷ before) [] marks = refl
-marks-forgotten (o ∷ before) (p ∷ after) marks =
-    let mark : mark_of o ≡ mark_of p = cc in
-    let rest : map mark_of before ≡ map mark_of after = cc in
+labels-forgotten : (before after : List Named) → map label_of before ≡ map label_of after → map label_of (forgotten before after) ≡ map label_of after
+labels-forgotten [] [] labels = refl
+labels-forgotten [] (p ∷ after) labels = refl
+labels-forgotten (o ∷ before) [] labels = refl
+labels-forgotten (o ∷ before) (p ∷ after) labels =
+    let label : label_of o ≡ label_of p = cc in
+    let rest : map label_of before ≡ map label_of after = cc in
     elim (cases_Bool (is_virtual o.object)) [
-      inl v ↦ rw v (ap (λ z. z ∷ map mark_of (forgotten before after)) mark ∙ ap (λ z. mark_of p ∷ z) (marks-forgotten before after rest))
-    | inr v ↦ rw v (ap (λ z. mark_of p ∷ z) (marks-forgotten before after rest)) ]
+      | inl v ↦ rw v (ap (λ z. z ∷ map label_of (forgotten before after)) label ∙ ap (λ z. label_of p ∷ z) (labels-forgotten before after rest))
+      | inr v ↦ rw v (ap (λ z. label_of p ∷ z) (labels-forgotten before after rest))
+    ]
 
 -- nothing changes as the run ends
-pub nothing_forgotten : (before after : List Named) → Rising (map mark_of before) → map mark_of before ≡ map mark_of after
+pub nothing_forgotten : (before after : List Named) → Rising (map label_of before) → map label_of before ≡ map label_of after
     → ((name : ℕ) (x : ObjectValue) → object_held before name ≡ Some x → is_virtual x ≡ true → object_held after name ≡ Some x) → forgotten before after ≡ after
-nothing_forgotten before after up marks stays =
-    let same = marks-forgotten before after marks in
-    by_names (forgotten before after) after (subst (λ z. Rising z) (marks ∙ sym same) up) same
-      (λ name. object_held-forgotten before after marks name ∙ kept (object_held before name) (object_held after name) (stays name))
+nothing_forgotten before after up labels stays =
+    let same = labels-forgotten before after labels in
+    by_names (forgotten before after) after (subst (λ z. Rising z) (labels ∙ sym same) up) same
+    (λ name. object_held-forgotten before after labels name ∙ kept (object_held before name) (object_held after name) (stays name))
   where
     kept : (o p : Option ObjectValue) → ((x : ObjectValue) → o ≡ Some x → is_virtual x ≡ true → p ≡ Some x) → kept_virtual o p ≡ p
     kept (Some x) (Some y) h = elim (cases_Bool (is_virtual x)) [
-        inl v ↦ rw v (sym (h x refl v))
-      | inr v ↦ rw v refl ]
+      | inl v ↦ rw v (sym (h x refl v))
+      | inr v ↦ rw v refl
+    ]
     kept (Some x) None h = refl
     kept None p h = refl
