@@ -11,9 +11,9 @@ use Rattle.object_table.specs.Object.{image_value}
 use Rattle.object_table.specs.Named.{Named, object_held, held, with_object, with_written}
 use Rattle.object_table.proofs.SlotLemmas.{slot_has_image, with_slot_there, with_slot_beside}
 use Rattle.graph_verify.specs.Members.{In}
-use Rattle.graph_run.specs.Solution.{frame_of, frame_held, mark_of}
+use Rattle.graph_run.specs.Solution.{form_of, form_held, label_of}
 use Rattle.graph_verify.proofs.LinkLemmas.{same_cell-true}
-use Rattle.graph_run.proofs.ObjectLaws.{is_delay, shown, is_delay-frame, kind-frame, frame-shown, no_slot}
+use Rattle.graph_run.proofs.ObjectLaws.{is_delay, shown, is_delay-form, kind-form, form-shown, no_slot}
 
 -- what is seen of what a cell holds
 abbrev pub seen : List Named → Cell → Option ObjectValue
@@ -29,29 +29,29 @@ pub or_assoc : {X : Type 0} (o p q : Option X) → option_or (option_or o p) q �
 or_assoc None p q = refl
 or_assoc (Some x) p q = refl
 
-pub frame-seen : (o : Option ObjectValue) → option_map frame_of (option_map shown o) ≡ option_map frame_of o
-frame-seen None = refl
-frame-seen (Some x) = ap {B = Option ObjectValue} Some (frame-shown x)
+pub form-seen : (o : Option ObjectValue) → option_map form_of (option_map shown o) ≡ option_map form_of o
+form-seen None = refl
+form-seen (Some x) = ap {B = Option ObjectValue} Some (form-shown x)
 
-pub kind-seen_frame : (o : Option ObjectValue) → option_map object_kind (option_map frame_of o) ≡ option_map object_kind o
-kind-seen_frame None = refl
-kind-seen_frame (Some x) = ap Some (kind-frame x)
+pub kind-form_seen : (o : Option ObjectValue) → option_map object_kind (option_map form_of o) ≡ option_map object_kind o
+kind-form_seen None = refl
+kind-form_seen (Some x) = ap Some (kind-form x)
 
 -- ---- an object that is written
 
--- it is one of the frame that the cell holds, and no delay as a whole
+-- it is one of the form that the cell holds, and no delay as a whole
 pub record IsWrite (objects : List Named) (cell : Cell) (object : ObjectValue) : Type 0 where
-  pub frame : frame_held objects cell ≡ Some (frame_of object)
+  pub form : form_held objects cell ≡ Some (form_of object)
   pub whole : is_delay object ≡ false
 
 image_of_kind : (object : ObjectValue) → object_kind object ≡ kind.Image → object ≡ ImageObject (image_value object)
 image_of_kind (ImageObject image) h = refl
 image_of_kind other h = absurd (cc h)
 
-kind_of_frame : (o : Option ObjectValue) (new : ObjectValue) → option_map frame_of o ≡ Some (frame_of new) → option_map object_kind o ≡ Some (object_kind new)
-kind_of_frame o new f = sym (kind-seen_frame o) ∙ ap (option_map object_kind) f ∙ ap Some (kind-frame new)
+kind_of_form : (o : Option ObjectValue) (new : ObjectValue) → option_map form_of o ≡ Some (form_of new) → option_map object_kind o ≡ Some (object_kind new)
+kind_of_form o new f = sym (kind-form_seen o) ∙ ap (option_map object_kind) f ∙ ap Some (kind-form new)
 
-there : (o : Option ObjectValue) (new : ObjectValue) → option_map frame_of o ≡ Some (frame_of new) → IsTrue (is_some o)
+there : (o : Option ObjectValue) (new : ObjectValue) → option_map form_of o ≡ Some (form_of new) → IsTrue (is_some o)
 there None new f = absurd (cc f)
 there (Some x) new f = refl
 
@@ -59,18 +59,18 @@ whole_stays : (j : ℕ) (new x : ObjectValue) → shown (with_slot (Some j) new 
 whole_stays j (ImageObject image) (DelayObject images) = refl
 whole_stays j new x = refl
 
-slot_written : (k j : Option ℕ) (new x : ObjectValue) → option_map frame_of (in_slot j x) ≡ Some (frame_of new) → is_delay new ≡ false
+slot_written : (k j : Option ℕ) (new x : ObjectValue) → option_map form_of (in_slot j x) ≡ Some (form_of new) → is_delay new ≡ false
     → option_map shown (in_slot k (with_slot j new x)) ≡ (if same_slot k j then Some (shown new) else option_map shown (in_slot k x))
 slot_written None None new x f d = refl
 slot_written (Some k) None new x f d =
-    let same : frame_of x ≡ frame_of new = cc in
-    let plain : is_delay x ≡ false = sym (is_delay-frame x) ∙ ap is_delay same ∙ is_delay-frame new ∙ d in
+    let same : form_of x ≡ form_of new = cc in
+    let plain : is_delay x ≡ false = sym (is_delay-form x) ∙ ap is_delay same ∙ is_delay-form new ∙ d in
     ap (option_map shown) (no_slot k new d ∙ sym (no_slot k x plain))
 slot_written None (Some j) new x f d = ap {B = Option ObjectValue} Some (whole_stays j new x)
 slot_written (Some k) (Some j) new x f d = elim (cases_Bool (eqb k j)) [
   | inl e ↦
       (let image = slot_has_image j x (there (in_slot (Some j) x) new f) in
-      let is : object_kind new ≡ kind.Image = let g = kind_of_frame (in_slot (Some j) x) new f in cc in
+      let is : object_kind new ≡ kind.Image = let g = kind_of_form (in_slot (Some j) x) new f in cc in
       let same : new ≡ ImageObject (image_value new) = image_of_kind new is in
       let stands = with_slot_there (Some j) (image_value new) x image in
       let written : in_slot (Some j) (with_slot (Some j) new x) ≡ Some new = subst (λ z. in_slot (Some j) (with_slot (Some j) z x) ≡ Some z) (sym same) stands in
@@ -78,7 +78,7 @@ slot_written (Some k) (Some j) new x f d = elim (cases_Bool (eqb k j)) [
   | inr e ↦ rw e (ap (option_map shown) (with_slot_beside k j new x (eqb-false k j e)))
 ]
 
-object_held-with_object : (objects : List Named) (cell : Cell) (new : ObjectValue) (name : ℕ)
+pub object_held-with_object : (objects : List Named) (cell : Cell) (new : ObjectValue) (name : ℕ)
     → object_held (with_object objects cell new) name ≡ option_map (λ x. if eqb name cell.name then with_slot cell.slot new x else x) (object_held objects name)
 object_held-with_object [] cell new name = refl
 object_held-with_object (o ∷ objects) cell new name = elim (cases_Bool (eqb o.name cell.name)) [
@@ -92,7 +92,7 @@ object_held-with_object (o ∷ objects) cell new name = elim (cases_Bool (eqb o.
   ]
 ]
 
-seen_written : (k j : Option ℕ) (same : Bool) (new : ObjectValue) (o : Option ObjectValue) → (same ≡ true → option_map frame_of (option_and_then (in_slot j) o) ≡ Some (frame_of new)) → is_delay new ≡ false
+seen_written : (k j : Option ℕ) (same : Bool) (new : ObjectValue) (o : Option ObjectValue) → (same ≡ true → option_map form_of (option_and_then (in_slot j) o) ≡ Some (form_of new)) → is_delay new ≡ false
     → option_map shown (option_and_then (in_slot k) (option_map (λ x. if same then with_slot j new x else x) o)) ≡ (if same && same_slot k j then Some (shown new) else option_map shown (option_and_then (in_slot k) o))
 seen_written k j false new None f d = refl
 seen_written k j false new (Some x) f d = refl
@@ -105,24 +105,24 @@ pub seen-with_object : (objects : List Named) (cell : Cell) (new : ObjectValue) 
 seen-with_object objects cell new is c =
     ap (λ z. option_map shown (option_and_then (in_slot c.slot) z)) (object_held-with_object objects cell new c.name)
     ∙ seen_written c.slot cell.slot (eqb c.name cell.name) new (object_held objects c.name)
-    (λ e. ap (λ z. option_map frame_of (option_and_then (in_slot cell.slot) (object_held objects z))) (eqb-true c.name cell.name e) ∙ is.frame) is.whole
+    (λ e. ap (λ z. option_map form_of (option_and_then (in_slot cell.slot) (object_held objects z))) (eqb-true c.name cell.name e) ∙ is.form) is.whole
 
--- frames stay
-pub frame-with_object : (objects : List Named) (cell : Cell) (new : ObjectValue) → IsWrite objects cell new → (c : Cell) → frame_held (with_object objects cell new) c ≡ frame_held objects c
-frame-with_object objects cell new is c =
-    sym (frame-seen (held (with_object objects cell new) c))
-    ∙ ap (option_map frame_of) (seen-with_object objects cell new is c)
+-- forms stay
+pub form-with_object : (objects : List Named) (cell : Cell) (new : ObjectValue) → IsWrite objects cell new → (c : Cell) → form_held (with_object objects cell new) c ≡ form_held objects c
+form-with_object objects cell new is c =
+    sym (form-seen (held (with_object objects cell new) c))
+    ∙ ap (option_map form_of) (seen-with_object objects cell new is c)
     ∙ elim (cases_Bool (same_cell c cell)) [
-      | inl e ↦ rw e (ap {B = Option ObjectValue} Some (frame-shown new) ∙ sym is.frame ∙ ap (frame_held objects) (sym (same_cell-true c cell e)))
-      | inr e ↦ rw e (frame-seen (held objects c))
+      | inl e ↦ rw e (ap {B = Option ObjectValue} Some (form-shown new) ∙ sym is.form ∙ ap (form_held objects) (sym (same_cell-true c cell e)))
+      | inr e ↦ rw e (form-seen (held objects c))
     ]
 
--- names and marks stay
-pub marks-with_object : (objects : List Named) (cell : Cell) (new : ObjectValue) → map mark_of (with_object objects cell new) ≡ map mark_of objects
-marks-with_object [] cell new = refl
-marks-with_object (o ∷ objects) cell new = elim (cases_Bool (eqb o.name cell.name)) [
-  | inl k ↦ rw k (ap (λ z. mark_of o ∷ z) (marks-with_object objects cell new))
-  | inr k ↦ rw k (ap (λ z. mark_of o ∷ z) (marks-with_object objects cell new))
+-- names and labels stay
+pub labels-with_object : (objects : List Named) (cell : Cell) (new : ObjectValue) → map label_of (with_object objects cell new) ≡ map label_of objects
+labels-with_object [] cell new = refl
+labels-with_object (o ∷ objects) cell new = elim (cases_Bool (eqb o.name cell.name)) [
+  | inl k ↦ rw k (ap (λ z. label_of o ∷ z) (labels-with_object objects cell new))
+  | inr k ↦ rw k (ap (λ z. label_of o ∷ z) (labels-with_object objects cell new))
 ]
 
 -- ---- objects that are written one after the other
@@ -147,7 +147,7 @@ last_to-append c (w ∷ xs) ys =
 
 AreWrites-after : (objects : List Named) (w : Cell × ObjectValue) (ws : List (Cell × ObjectValue)) → AreWrites objects (w ∷ ws) → AreWrites (with_object objects w.0 w.1) ws
 AreWrites-after objects w ws are = λ v i. let is = are v (inr i) in record {
-  frame = frame-with_object objects w.0 w.1 (are w (inl refl)) v.0 ∙ is.frame;
+  form = form-with_object objects w.0 w.1 (are w (inl refl)) v.0 ∙ is.form;
   whole = is.whole;
 }
 
@@ -166,11 +166,11 @@ seen-with_written (w ∷ ws) objects are c =
     ∙ ap (option_or (option_map shown (last_to c ws))) (seen-with_object objects w.0 w.1 (are w (inl refl)) c)
     ∙ one_more (last_to c ws) (seen objects c) w.1 (same_cell c w.0)
 
-pub frame-with_written : (ws : List (Cell × ObjectValue)) (objects : List Named) → AreWrites objects ws → (c : Cell) → frame_held (with_written objects ws) c ≡ frame_held objects c
-frame-with_written [] objects are c = refl
-frame-with_written (w ∷ ws) objects are c =
-    frame-with_written ws (with_object objects w.0 w.1) (AreWrites-after objects w ws are) c ∙ frame-with_object objects w.0 w.1 (are w (inl refl)) c
+pub form-with_written : (ws : List (Cell × ObjectValue)) (objects : List Named) → AreWrites objects ws → (c : Cell) → form_held (with_written objects ws) c ≡ form_held objects c
+form-with_written [] objects are c = refl
+form-with_written (w ∷ ws) objects are c =
+    form-with_written ws (with_object objects w.0 w.1) (AreWrites-after objects w ws are) c ∙ form-with_object objects w.0 w.1 (are w (inl refl)) c
 
-pub marks-with_written : (ws : List (Cell × ObjectValue)) (objects : List Named) → map mark_of (with_written objects ws) ≡ map mark_of objects
-marks-with_written [] objects = refl
-marks-with_written (w ∷ ws) objects = marks-with_written ws (with_object objects w.0 w.1) ∙ marks-with_object objects w.0 w.1
+pub labels-with_written : (ws : List (Cell × ObjectValue)) (objects : List Named) → map label_of (with_written objects ws) ≡ map label_of objects
+labels-with_written [] objects = refl
+labels-with_written (w ∷ ws) objects = labels-with_written ws (with_object objects w.0 w.1) ∙ labels-with_object objects w.0 w.1

@@ -7,3 +7,6 @@ pub mod RoundLaws
 pub mod ValueLaws
 pub mod OrderLaws
 pub mod SolutionLaws
+pub mod BegunLaws
+pub mod AloneLaws
+pub mod AddingLaws

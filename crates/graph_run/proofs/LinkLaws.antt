@@ -1,5 +1,5 @@
 -- The cells that nodes read and write, and lists of them.
-use Rattle.std.proofs.Common.{◌≡◌, Bool, true, false, ◌||◌, List, [], ◌∷◌, ◌++◌, get_or, refl, sym, ap, subst, ◌∙◌, inl, inr, Option, Some}
+use Rattle.std.proofs.Common.{◌≡◌, true, false, List, [], ◌∷◌, ◌++◌, get_or, refl, sym, ap, subst, ◌∙◌, inl, inr, Some}
 use Rattle.std.specs.List.{list_any, All, flat_map}
 use Rattle.std.proofs.lemmas.Bool.{or_left, or_right, or_parts, or_from, false_from_ne_true}
 use Rattle.std.proofs.lemmas.List.Folds.{list_any-append}
@@ -29,7 +29,7 @@ reads_first n = or_left (same_cell n.in1 n.in1) (list_any (same_cell n.in1) (giv
 pub reads_second : (n : Node) (c : Cell) → n.in2 ≡ Some c → reads n c ≡ true
 reads_second n c e =
     or_right (same_cell c n.in1) (list_any (same_cell c) (given n.in2))
-      (ap (λ z. list_any (same_cell c) (given z)) e ∙ or_left (same_cell c c) false (same_cell-refl c))
+    (ap (λ z. list_any (same_cell c) (given z)) e ∙ or_left (same_cell c c) false (same_cell-refl c))
 
 once_after : (xs ys : List Cell) → has_twice (xs ++ ys) ≡ false → has_twice ys ≡ false
 once_after [] ys h = h

@@ -1,4 +1,4 @@
--- Objects under the same names and marks, of which the same is seen at each cell, are the same.
+-- Objects under the same names and labels, of which the same is seen at each cell, are the same.
 use Rattle.std.proofs.Common.{◌≡◌, ℕ, suc, ◌<◌, Bool, true, false, eqb, List, [], ◌∷◌, length, map, get_or, refl, sym, ap, subst, ◌∙◌, inl, inr, Option, Some, None, arith}
 use Rattle.std.specs.Prelude.{slice_get}
 use Rattle.std.specs.Prelude.{◌⊎◌}
@@ -10,7 +10,7 @@ use Rattle.vx_base.specs.Image.{ImageValue}
 use Rattle.vx_base.specs.Object.{ObjectValue, ImageObject, DelayObject}
 use Rattle.object_table.specs.Delay.{in_slot}
 use Rattle.object_table.specs.Named.{Named, object_held}
-use Rattle.graph_run.specs.Solution.{mark_of}
+use Rattle.graph_run.specs.Solution.{label_of}
 use Rattle.graph_run.proofs.ObjectLaws.{is_delay, shown, shown_whole, is_delay-shown}
 use Rattle.graph_run.proofs.HeldLaws.{seen}
 
@@ -54,24 +54,24 @@ held_same (Some x) (Some y) h =
 
 abbrev pub Above : ℕ → List (ℕ × Bool) → Type 0
 Above name [] = Unit {0}
-Above name (m ∷ marks) = (name < m.0) × Above name marks
+Above name (m ∷ labels) = (name < m.0) × Above name labels
 
 abbrev pub Rising : List (ℕ × Bool) → Type 0
 Rising [] = Unit {0}
-Rising (m ∷ marks) = Above m.0 marks × Rising marks
+Rising (m ∷ labels) = Above m.0 labels × Rising labels
 
-above_all : (objects : List Named) (name : ℕ) → ((k : ℕ) (d : Named) → k < length objects → name < (get_or objects k d).name) → Above name (map mark_of objects)
+above_all : (objects : List Named) (name : ℕ) → ((k : ℕ) (d : Named) → k < length objects → name < (get_or objects k d).name) → Above name (map label_of objects)
 above_all [] name h = tt
 above_all (o ∷ objects) name h = (h 0 o (omega arith), above_all objects name (λ k d l. h (suc k) d (omega arith)))
 
-pub rising : (objects : List Named) → AllPairs (λ a b. a.name < b.name) objects → Rising (map mark_of objects)
+pub rising : (objects : List Named) → AllPairs (λ a b. a.name < b.name) objects → Rising (map label_of objects)
 rising [] h = tt
 rising (o ∷ objects) h = (
   above_all objects o.name (λ k d l. h 0 (suc k) d (omega arith) (omega arith)),
   rising objects (λ i j d less within. h (suc i) (suc j) d (omega arith) (omega arith)),
 )
 
-absent : (objects : List Named) (name : ℕ) → Above name (map mark_of objects) → object_held objects name ≡ None
+absent : (objects : List Named) (name : ℕ) → Above name (map label_of objects) → object_held objects name ≡ None
 absent [] name h = refl
 absent (o ∷ objects) name h = let e : eqb o.name name ≡ false = ne_eqb o.name name (λ same. absurd (omega (arith, h.0, same))) in rw e (absent objects name h.1)
 
@@ -82,35 +82,36 @@ under_other : (o : Named) (objects : List Named) (name : ℕ) → eqb o.name nam
 under_other o objects name e = rw e refl
 
 -- a name that stands in front stands nowhere behind
-absent_both : (old new : List Named) (name : ℕ) → Above name (map mark_of old) → map mark_of old ≡ map mark_of new → object_held old name ≡ object_held new name
-absent_both old new name above marks = absent old name above ∙ sym (absent new name (subst (λ z. Above name z) marks above))
+absent_both : (old new : List Named) (name : ℕ) → Above name (map label_of old) → map label_of old ≡ map label_of new → object_held old name ≡ object_held new name
+absent_both old new name above labels = absent old name above ∙ sym (absent new name (subst (λ z. Above name z) labels above))
 
-same_named : (o p : Named) → mark_of o ≡ mark_of p → ◌≡◌ {A = Option ObjectValue} (Some o.object) (Some p.object) → o ≡ p
-same_named o p mark found =
+same_named : (o p : Named) → label_of o ≡ label_of p → ◌≡◌ {A = Option ObjectValue} (Some o.object) (Some p.object) → o ≡ p
+same_named o p label found =
     let object : o.object ≡ p.object = cc in
-    ap (λ z. record { name = z; live = o.live; object = o.object }) (ap (λ m. m.0) mark)
-    ∙ ap (λ z. record { name = p.name; live = z; object = o.object }) (ap (λ m. m.1) mark)
+    ap (λ z. record { name = z; live = o.live; object = o.object }) (ap (λ m. m.0) label)
+    ∙ ap (λ z. record { name = p.name; live = z; object = o.object }) (ap (λ m. m.1) label)
     ∙ ap (λ z. record { name = p.name; live = p.live; object = z }) object
 
--- two lists of the same names and marks, by what is held under each name
-by_names : (old new : List Named) → Rising (map mark_of old) → map mark_of old ≡ map mark_of new → ((name : ℕ) → object_held old name ≡ object_held new name) → old ≡ new
-by_names [] [] up marks h = refl
-by_names [] (p ∷ new) up marks h = absurd (cc marks)
-by_names (o ∷ old) [] up marks h = absurd (cc marks)
-by_names (o ∷ old) (p ∷ new) up marks h =
-    let mark : mark_of o ≡ mark_of p = cc in
-    let rest : map mark_of old ≡ map mark_of new = cc in
-    ap (λ z. z ∷ old) (same_named o p mark (first (ap (λ m. m.0) mark)))
-    ∙ ap (λ z. p ∷ z) (by_names old new up.1 rest (λ name. others (ap (λ m. m.0) mark) rest name (cases_Bool (eqb o.name name))))
+-- two lists of the same names and labels, by what is held under each name
+pub by_names : (old new : List Named) → Rising (map label_of old) → map label_of old ≡ map label_of new → ((name : ℕ) → object_held old name ≡ object_held new name) → old ≡ new
+by_names [] [] up labels h = refl
+by_names [] (p ∷ new) up labels h = absurd (cc labels)
+by_names (o ∷ old) [] up labels h = absurd (cc labels)
+by_names (o ∷ old) (p ∷ new) up labels h =
+    let label : label_of o ≡ label_of p = cc in
+    let rest : map label_of old ≡ map label_of new = cc in
+    ap (λ z. z ∷ old) (same_named o p label (first (ap (λ m. m.0) label)))
+    ∙ ap (λ z. p ∷ z) (by_names old new up.1 rest (λ name. others (ap (λ m. m.0) label) rest name (cases_Bool (eqb o.name name))))
   where
     first : o.name ≡ p.name → ◌≡◌ {A = Option ObjectValue} (Some o.object) (Some p.object)
     first same = sym (under_own o old) ∙ h o.name ∙ ap (object_held (p ∷ new)) same ∙ under_own p new
-    others : o.name ≡ p.name → map mark_of old ≡ map mark_of new → (name : ℕ) → (eqb o.name name ≡ true) ⊎ (eqb o.name name ≡ false) → object_held old name ≡ object_held new name
+
+    others : o.name ≡ p.name → map label_of old ≡ map label_of new → (name : ℕ) → (eqb o.name name ≡ true) ⊎ (eqb o.name name ≡ false) → object_held old name ≡ object_held new name
     others same rest name (inl e) = subst (λ z. object_held old z ≡ object_held new z) (eqb-true o.name name e) (absent_both old new o.name up.0 rest)
     others same rest name (inr e) = sym (under_other o old name e) ∙ h name ∙ under_other p new name (ap (λ z. eqb z name) (sym same) ∙ e)
 
--- objects whose names increase are told by their marks and by what is seen at each cell
-pub same_objects : (old new : List Named) → Rising (map mark_of old) → map mark_of old ≡ map mark_of new → ((c : Cell) → seen old c ≡ seen new c) → old ≡ new
-same_objects old new up marks h =
-    by_names old new up marks
+-- objects whose names increase are told by their labels and by what is seen at each cell
+pub same_objects : (old new : List Named) → Rising (map label_of old) → map label_of old ≡ map label_of new → ((c : Cell) → seen old c ≡ seen new c) → old ≡ new
+same_objects old new up labels h =
+    by_names old new up labels
     (λ name. held_same (object_held old name) (object_held new name) (λ slot. h (record { name = name; slot = slot })))

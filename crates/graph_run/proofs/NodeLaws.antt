@@ -15,10 +15,10 @@ use Rattle.vx_base.specs.Outputs.{node_output, written_to, written_in, written_b
 use Rattle.object_table.specs.Named.{Named, held}
 use Rattle.graph_verify.specs.Members.{In}
 use Rattle.graph_verify.specs.Links.{writes, has_twice}
-use Rattle.graph_run.specs.Solution.{kind_held, frame_of}
+use Rattle.graph_run.specs.Solution.{kind_held, form_of}
 use Rattle.graph_verify.proofs.MemberLemmas.{In-append}
 use Rattle.graph_verify.proofs.LinkLemmas.{same_cell-true, same_cell-refl}
-use Rattle.graph_run.proofs.ObjectLaws.{is_delay, shown, is_delay-frame, not_delay, frame-node_output, node_output_again, shown-node_output}
+use Rattle.graph_run.proofs.ObjectLaws.{is_delay, shown, is_delay-form, not_delay, form-node_output, node_output_again, shown-node_output}
 use Rattle.graph_run.proofs.HeldLaws.{IsWrite, AreWrites, last_to, last_to-append, or_assoc}
 
 -- ---- what a node gives to a cell
@@ -73,11 +73,11 @@ shown-given_to n held c out =
 pub shown-given_in : (n : Node) (held : Cell → Option ObjectValue) (c : Cell) → option_map shown (given_in n held c) ≡ given_in n (λ d. option_map shown (held d)) c
 shown-given_in n held c = shown-given_to n held c (held c)
 
--- a frame stays
-pub frame-output_of : (n : Node) (output : Output) (first second out : Option ObjectValue) → option_map frame_of (output_of n output first second out) ≡ option_map frame_of out
-frame-output_of n output (Some first) second (Some out) = ap {B = Option ObjectValue} Some (frame-node_output n output first second out)
-frame-output_of n output None second out = refl
-frame-output_of n output first second None = refl
+-- a form stays
+pub form-output_of : (n : Node) (output : Output) (first second out : Option ObjectValue) → option_map form_of (output_of n output first second out) ≡ option_map form_of out
+form-output_of n output (Some first) second (Some out) = ap {B = Option ObjectValue} Some (form-node_output n output first second out)
+form-output_of n output None second out = refl
+form-output_of n output first second None = refl
 
 -- ---- the list of what a node writes
 
@@ -168,8 +168,9 @@ IsGiven-from_In n output (Some d) held w i = each (held n.in1) (held d) refl ref
 
 given_cases : (n : Node) (held : Cell → Option ObjectValue) (w : Cell × ObjectValue) → In w (written_by n held) → IsGiven n First n.out1 held w.0 w.1 ⊎ IsGiven n Second n.out2 held w.0 w.1
 given_cases n held w i = elim (In-append w (written_in n First n.out1 held) (written_in n Second n.out2 held) i) [
-    inl j ↦ inl (IsGiven-from_In n First n.out1 held w j)
-  | inr j ↦ inr (IsGiven-from_In n Second n.out2 held w j) ]
+  | inl j ↦ inl (IsGiven-from_In n First n.out1 held w j)
+  | inr j ↦ inr (IsGiven-from_In n Second n.out2 held w j)
+]
 
 first_written : (n : Node) (c : Cell) → is_cell n.out1 c ≡ true → writes n c ≡ true
 first_written n c e = writes-outputs n c ∙ or_left (is_cell n.out1 c) (is_cell n.out2 c) e
@@ -180,23 +181,25 @@ second_written n c e = writes-outputs n c ∙ or_right (is_cell n.out1 c) (is_ce
 -- what is written is held
 pub written_held : (n : Node) (held : Cell → Option ObjectValue) (w : Cell × ObjectValue) → In w (written_by n held) → (writes n w.0 ≡ true) × ((out : ObjectValue) × (held w.0 ≡ Some out))
 written_held n held w i = elim (given_cases n held w i) [
-    inl g ↦ (first_written n w.0 g.there, (g.out, g.old))
-  | inr g ↦ (second_written n w.0 g.there, (g.out, g.old)) ]
+  | inl g ↦ (first_written n w.0 g.there, (g.out, g.old))
+  | inr g ↦ (second_written n w.0 g.there, (g.out, g.old))
+]
 
--- it has the frame of what was held
+-- it has the form of what was held
 write_is : (objects : List Named) (n : Node) (output : Output) (o : Option Cell) (c : Cell) (object : ObjectValue) → kind_held objects c ≢ Some kind.Delay → IsGiven n output o (held objects) c object → IsWrite objects c object
 write_is objects n output o c object whole g =
-    let frame : frame_of object ≡ frame_of g.out = ap frame_of g.gives ∙ frame-node_output n output g.first (option_and_then (held objects) n.in2) g.out in
+    let form : form_of object ≡ form_of g.out = ap form_of g.gives ∙ form-node_output n output g.first (option_and_then (held objects) n.in2) g.out in
     let plain : is_delay g.out ≡ false = not_delay g.out (λ k. whole (ap (option_map object_kind) g.old ∙ ap Some k)) in
     record {
-      frame = ap (option_map frame_of) g.old ∙ ap {B = Option ObjectValue} Some (sym frame);
-      whole = sym (is_delay-frame object) ∙ ap is_delay frame ∙ is_delay-frame g.out ∙ plain;
+      form = ap (option_map form_of) g.old ∙ ap {B = Option ObjectValue} Some (sym form);
+      whole = sym (is_delay-form object) ∙ ap is_delay form ∙ is_delay-form g.out ∙ plain;
     }
 
 pub AreWrites-written : (objects : List Named) (n : Node) → ((c : Cell) → writes n c ≡ true → kind_held objects c ≢ Some kind.Delay) → AreWrites objects (written_by n (held objects))
 AreWrites-written objects n whole w i = elim (given_cases n (held objects) w i) [
-    inl g ↦ write_is objects n First n.out1 w.0 w.1 (whole w.0 (first_written n w.0 g.there)) g
-  | inr g ↦ write_is objects n Second n.out2 w.0 w.1 (whole w.0 (second_written n w.0 g.there)) g ]
+  | inl g ↦ write_is objects n First n.out1 w.0 w.1 (whole w.0 (first_written n w.0 g.there)) g
+  | inr g ↦ write_is objects n Second n.out2 w.0 w.1 (whole w.0 (second_written n w.0 g.there)) g
+]
 
 -- ---- cells that hold what a node gives them
 
@@ -220,12 +223,13 @@ given_as n output o held c object at g =
 pub given_holds : (n : Node) (held : Cell → Option ObjectValue) → has_twice (outputs n) ≡ false → ((c : Cell) → writes n c ≡ true → held c ≡ given_in n held c)
     → (w : Cell × ObjectValue) → In w (written_by n held) → held w.0 ≡ Some w.1
 given_holds n held once h w i = elim (given_cases n held w i) [
-    inl g ↦
+  | inl g ↦
       (let e = other_cell n w.0 once g.there in
-       h w.0 (first_written n w.0 g.there) ∙ given_as n First n.out1 held w.0 w.1 (rw e refl) g)
+      h w.0 (first_written n w.0 g.there) ∙ given_as n First n.out1 held w.0 w.1 (rw e refl) g)
   | inr g ↦
       (let e = g.there in
-       h w.0 (second_written n w.0 g.there) ∙ given_as n Second n.out2 held w.0 w.1 (rw e refl) g) ]
+      h w.0 (second_written n w.0 g.there) ∙ given_as n Second n.out2 held w.0 w.1 (rw e refl) g)
+]
 
 held_last : (held : Cell → Option ObjectValue) (c : Cell) (ws : List (Cell × ObjectValue)) → ((w : Cell × ObjectValue) → In w ws → held w.0 ≡ Some w.1) → option_or (last_to c ws) (held c) ≡ held c
 held_last held c [] h = refl

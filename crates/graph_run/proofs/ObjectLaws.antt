@@ -11,7 +11,7 @@ use Rattle.vx_base.specs.Image.{ImageValue, new_image}
 use Rattle.vx_base.specs.Object.{ObjectValue, ImageObject, DelayObject, object_kind}
 use Rattle.vx_base.specs.Outputs.{image_of_one, node_image, node_output}
 use Rattle.object_table.specs.Delay.{in_slot}
-use Rattle.graph_run.specs.Solution.{frame_of}
+use Rattle.graph_run.specs.Solution.{form_of}
 
 -- ---- a delay as a whole
 
@@ -36,17 +36,17 @@ pub is_delay-shown : (x : ObjectValue) → is_delay (shown x) ≡ is_delay x
 is_delay-shown (DelayObject images) = refl
 is_delay-shown other = refl
 
-pub is_delay-frame : (x : ObjectValue) → is_delay (frame_of x) ≡ is_delay x
-is_delay-frame (DelayObject images) = refl
-is_delay-frame other = refl
+pub is_delay-form : (x : ObjectValue) → is_delay (form_of x) ≡ is_delay x
+is_delay-form (DelayObject images) = refl
+is_delay-form other = refl
 
-pub kind-frame : (x : ObjectValue) → object_kind (frame_of x) ≡ object_kind x
-kind-frame (DelayObject images) = refl
-kind-frame other = refl
+pub kind-form : (x : ObjectValue) → object_kind (form_of x) ≡ object_kind x
+kind-form (DelayObject images) = refl
+kind-form other = refl
 
-pub frame-shown : (x : ObjectValue) → frame_of (shown x) ≡ frame_of x
-frame-shown (DelayObject images) = refl
-frame-shown other = refl
+pub form-shown : (x : ObjectValue) → form_of (shown x) ≡ form_of x
+form-shown (DelayObject images) = refl
+form-shown other = refl
 
 pub not_delay : (x : ObjectValue) → object_kind x ≢ kind.Delay → is_delay x ≡ false
 not_delay (DelayObject images) h = absurd (h refl)
@@ -70,16 +70,16 @@ format-node_image n output format a None = format-one n.function n output format
 format-node_image n output format a (Some (ImageObject b)) = refl
 format-node_image n output format a (Some other) = refl
 
--- an output keeps its frame
-pub frame-node_output : (n : Node) (output : Output) (first : ObjectValue) (second : Option ObjectValue) (out : ObjectValue) → frame_of (node_output n output first second out) ≡ frame_of out
-frame-node_output n output (ImageObject a) second (ImageObject out) = ap (λ f. ImageObject (new_image 0 0 f)) (format-node_image n output out.format a second)
-frame-node_output n output (ImageObject a) second other = refl
-frame-node_output n output first second out = refl
+-- an output keeps its form
+pub form-node_output : (n : Node) (output : Output) (first : ObjectValue) (second : Option ObjectValue) (out : ObjectValue) → form_of (node_output n output first second out) ≡ form_of out
+form-node_output n output (ImageObject a) second (ImageObject out) = ap (λ f. ImageObject (new_image 0 0 f)) (format-node_image n output out.format a second)
+form-node_output n output (ImageObject a) second other = refl
+form-node_output n output first second out = refl
 
--- of an output but a delay as a whole, the frame alone counts where the first input is an image
-pub node_output-frame : (n : Node) (output : Output) (a : ImageValue) (second : Option ObjectValue) (out : ObjectValue) → is_delay out ≡ false → node_output n output (ImageObject a) second (frame_of out) ≡ node_output n output (ImageObject a) second out
-node_output-frame n output a second (DelayObject images) h = absurd (cc h)
-node_output-frame n output a second other h = refl
+-- of an output but a delay as a whole, the form alone counts where the first input is an image
+pub node_output-form : (n : Node) (output : Output) (a : ImageValue) (second : Option ObjectValue) (out : ObjectValue) → is_delay out ≡ false → node_output n output (ImageObject a) second (form_of out) ≡ node_output n output (ImageObject a) second out
+node_output-form n output a second (DelayObject images) h = absurd (cc h)
+node_output-form n output a second other h = refl
 
 -- what a node of the same kind of first input gave before makes no difference
 pub node_output_again : (n : Node) (output : Output) (first before : ObjectValue) (second other : Option ObjectValue) (out : ObjectValue) → object_kind before ≡ object_kind first

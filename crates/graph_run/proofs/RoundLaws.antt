@@ -16,10 +16,10 @@ use Rattle.graph_verify.specs.Links.{writes}
 use Rattle.graph_verify.specs.Rounds as cells
 use Rattle.graph_verify.specs.Rounds.{OneWriter}
 use Rattle.graph_run.specs.Graph.{round, rounds, one_by_one}
-use Rattle.graph_run.specs.Solution.{WritesNo, frame_held, mark_of}
+use Rattle.graph_run.specs.Solution.{WritesNo, form_held, label_of}
 use Rattle.graph_verify.proofs.MemberLemmas.{In-append, In-from_any, any-from_In}
 use Rattle.graph_run.proofs.ObjectLaws.{shown}
-use Rattle.graph_run.proofs.HeldLaws.{seen, AreWrites, last_to, last_to-append, or_assoc, map-or, kind-seen_frame, seen-with_written, frame-with_written, marks-with_written}
+use Rattle.graph_run.proofs.HeldLaws.{seen, AreWrites, last_to, last_to-append, or_assoc, map-or, kind-form_seen, seen-with_written, form-with_written, labels-with_written}
 use Rattle.graph_run.proofs.NodeLaws.{given_in, shown-given_in, last_written, last_elsewhere, AreWrites-written}
 
 -- ---- what a round of anything gives a cell
@@ -98,10 +98,10 @@ AreWrites-round nodes objects whole w i =
     let r = In-from_flat_map (λ n. written_by n (held objects)) nodes w i in
     AreWrites-node nodes objects whole r.0 r.1 w r.2
 
--- where frames are the same, no delay is written as a whole either
-pub WritesNo-frames : (nodes : List Node) (old new : List Named) → ((c : Cell) → frame_held new c ≡ frame_held old c) → WritesNo kind.Delay nodes old → WritesNo kind.Delay nodes new
-WritesNo-frames nodes old new frames whole c w e =
-    whole c w (sym (kind-seen_frame (held old c)) ∙ ap (option_map object_kind) (sym (frames c)) ∙ kind-seen_frame (held new c) ∙ e)
+-- where forms are the same, no delay is written as a whole either
+pub WritesNo-forms : (nodes : List Node) (old new : List Named) → ((c : Cell) → form_held new c ≡ form_held old c) → WritesNo kind.Delay nodes old → WritesNo kind.Delay nodes new
+WritesNo-forms nodes old new forms whole c w e =
+    whole c w (sym (kind-form_seen (held old c)) ∙ ap (option_map object_kind) (sym (forms c)) ∙ kind-form_seen (held new c) ∙ e)
 
 -- ---- rounds and runs
 
@@ -120,12 +120,12 @@ seen-step nodes n objects whole i = fun_ext (λ c.
     ∙ ap (option_map shown) (last_written n (held objects) c)
     ∙ elim (cases_Bool (writes n c)) [ inl e ↦ rw e (shown-given_in n (held objects) c) | inr e ↦ rw e refl ])
 
-pub frame-rounds : (nodes : List Node) (k : ℕ) (objects : List Named) → WritesNo kind.Delay nodes objects → (c : Cell) → frame_held (rounds nodes k objects) c ≡ frame_held objects c
-frame-rounds nodes zero objects whole c = refl
-frame-rounds nodes (suc k) objects whole c =
+pub form-rounds : (nodes : List Node) (k : ℕ) (objects : List Named) → WritesNo kind.Delay nodes objects → (c : Cell) → form_held (rounds nodes k objects) c ≡ form_held objects c
+form-rounds nodes zero objects whole c = refl
+form-rounds nodes (suc k) objects whole c =
     let before : List Named = rounds nodes k objects in
-    let same = frame-rounds nodes k objects whole in
-    frame-with_written (flat_map (λ n. written_by n (held before)) nodes) before (AreWrites-round nodes before (WritesNo-frames nodes objects before same whole)) c
+    let same = form-rounds nodes k objects whole in
+    form-with_written (flat_map (λ n. written_by n (held before)) nodes) before (AreWrites-round nodes before (WritesNo-forms nodes objects before same whole)) c
     ∙ same c
 
 pub seen-rounds : (nodes : List Node) (k : ℕ) (objects : List Named) → OneWriter writes nodes → WritesNo kind.Delay nodes objects
@@ -133,14 +133,14 @@ pub seen-rounds : (nodes : List Node) (k : ℕ) (objects : List Named) → OneWr
 seen-rounds nodes zero objects one whole = refl
 seen-rounds nodes (suc k) objects one whole =
     let before : List Named = rounds nodes k objects in
-    seen-round nodes before one (WritesNo-frames nodes objects before (frame-rounds nodes k objects whole) whole)
+    seen-round nodes before one (WritesNo-forms nodes objects before (form-rounds nodes k objects whole) whole)
     ∙ ap (cells.round writes given_in nodes) (seen-rounds nodes k objects one whole)
 
-pub marks-rounds : (nodes : List Node) (k : ℕ) (objects : List Named) → map mark_of (rounds nodes k objects) ≡ map mark_of objects
-marks-rounds nodes zero objects = refl
-marks-rounds nodes (suc k) objects =
+pub labels-rounds : (nodes : List Node) (k : ℕ) (objects : List Named) → map label_of (rounds nodes k objects) ≡ map label_of objects
+labels-rounds nodes zero objects = refl
+labels-rounds nodes (suc k) objects =
     let before : List Named = rounds nodes k objects in
-    marks-with_written (flat_map (λ n. written_by n (held before)) nodes) before ∙ marks-rounds nodes k objects
+    labels-with_written (flat_map (λ n. written_by n (held before)) nodes) before ∙ labels-rounds nodes k objects
 
 pub seen-one_by_one : (nodes steps : List Node) (objects : List Named) → WritesNo kind.Delay nodes objects → AllIn steps nodes
     → seen (one_by_one steps objects) ≡ cells.once writes given_in steps (seen objects)
@@ -149,10 +149,10 @@ seen-one_by_one nodes (n ∷ steps) objects whole within =
     let ws = written_by n (held objects) in
     let after : List Named = with_written objects ws in
     let are = AreWrites-node nodes objects whole n (within n (inl refl)) in
-    seen-one_by_one nodes steps after (WritesNo-frames nodes objects after (frame-with_written ws objects are) whole) (λ x i. within x (inr i))
+    seen-one_by_one nodes steps after (WritesNo-forms nodes objects after (form-with_written ws objects are) whole) (λ x i. within x (inr i))
     ∙ ap (cells.once writes given_in steps) (seen-step nodes n objects whole (within n (inl refl)))
 
-pub marks-one_by_one : (steps : List Node) (objects : List Named) → map mark_of (one_by_one steps objects) ≡ map mark_of objects
-marks-one_by_one [] objects = refl
-marks-one_by_one (n ∷ steps) objects =
-    marks-one_by_one steps (with_written objects (written_by n (held objects))) ∙ marks-with_written (written_by n (held objects)) objects
+pub labels-one_by_one : (steps : List Node) (objects : List Named) → map label_of (one_by_one steps objects) ≡ map label_of objects
+labels-one_by_one [] objects = refl
+labels-one_by_one (n ∷ steps) objects =
+    labels-one_by_one steps (with_written objects (written_by n (held objects))) ∙ labels-with_written (written_by n (held objects)) objects

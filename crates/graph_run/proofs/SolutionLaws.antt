@@ -1,35 +1,33 @@
 -- What the rounds give solves a graph, and nothing else does.
-use Rattle.std.proofs.Common.{◌≡◌, ◌≢◌, ℕ, ◌<◌, Bool, true, false, ◌||◌, List, [], ◌∷◌, ◌++◌, length, map, get_or, refl, sym, ap, subst, ◌∙◌, inl, inr, Option, Some, None}
+use Rattle.std.proofs.Common.{◌≡◌, ◌≢◌, ◌<◌, true, false, List, length, refl, sym, ap, subst, ◌∙◌, inl, inr, Option, Some, None}
 use Rattle.std.specs.Prelude.{All}
 use Rattle.std.specs.Option.{option_map, option_and_then}
-use Rattle.std.specs.List.{list_any, flat_map, AllPairs}
-use Rattle.std.proofs.lemmas.Bool.{cases_Bool, or_parts, or_from, false_from_ne_true}
-use Rattle.vx_base.specs.declared.kind.Kind.{Kind}
+use Rattle.std.specs.List.{AllPairs}
+use Rattle.std.proofs.lemmas.Bool.{cases_Bool}
 use Rattle.vx_base.specs.declared.kind.Kind.TheVariants as kind
 use Rattle.vx_base.specs.declared.node.Node.{Node}
 use Rattle.vx_base.specs.declared.output.Output.{Output}
-use Rattle.vx_base.specs.Cell.{Cell, same_cell}
-use Rattle.vx_base.specs.Node.{outputs}
+use Rattle.vx_base.specs.Cell.{Cell}
 use Rattle.vx_base.specs.Object.{ObjectValue, ImageObject, object_kind}
 use Rattle.vx_base.specs.Outputs.{written_by, node_output}
 use Rattle.object_table.specs.Named.{Named, held}
-use Rattle.graph_verify.specs.Members.{In, AllIn}
-use Rattle.graph_verify.specs.Links.{reads, writes, feeds, is_written, has_twice}
+use Rattle.graph_verify.specs.Members.{In}
+use Rattle.graph_verify.specs.Links.{writes, feeds}
 use Rattle.graph_verify.specs.Cycle.{has_cycle}
 use Rattle.graph_verify.specs.Rounds as cells
 use Rattle.graph_verify.specs.Rounds.{OneWriter, IsSolution}
 use Rattle.graph_verify.specs.Verdict.{two_writers}
 use Rattle.graph_run.specs.Graph.{rounds}
-use Rattle.graph_run.specs.Solution.{WritesNo, ReadImages, Solves, kind_held, frame_of, frame_held, mark_of}
+use Rattle.graph_run.specs.Solution.{WritesNo, ReadImages, Solves, kind_held, form_of}
 use Rattle.graph_verify.proofs.MemberLemmas.{any-from_In}
 use Rattle.graph_verify.proofs.SolutionLemmas as cell_solutions
 use Rattle.graph_verify.proofs.LinkLemmas.{one_writer}
 use Rattle.graph_run.proofs.LinkLaws.{All-from_In, In-from_All, writes_once, unwritten, is_unwritten}
-use Rattle.graph_run.proofs.ObjectLaws.{is_delay, shown, shown_whole, is_delay-shown, not_delay, delay_kind, delay_shown, is_delay-frame, node_output-frame}
-use Rattle.graph_run.proofs.HeldLaws.{seen, kind-seen_frame}
+use Rattle.graph_run.proofs.ObjectLaws.{is_delay, shown, shown_whole, is_delay-shown, not_delay, delay_kind, delay_shown, is_delay-form, node_output-form}
+use Rattle.graph_run.proofs.HeldLaws.{seen, kind-form_seen}
 use Rattle.graph_run.proofs.NameLaws.{Rising, rising, same_objects}
 use Rattle.graph_run.proofs.NodeLaws.{output_at, output_of, given_to, given_in, shown-given_to, shown-given_in, given_holds, holds_given}
-use Rattle.graph_run.proofs.RoundLaws.{frame-rounds, seen-rounds, marks-rounds, WritesNo-frames}
+use Rattle.graph_run.proofs.RoundLaws.{form-rounds, seen-rounds, labels-rounds, WritesNo-forms}
 use Rattle.graph_run.proofs.ValueLaws.{given_from, reads_alone, given_same, same_rounds, Follows-rounds}
 
 -- what is seen of a cell that holds no delay as a whole is what it holds
@@ -42,8 +40,8 @@ unshown (Some x) (Some y) whole h =
     ap {B = Option ObjectValue} Some (sym (shown_whole x other) ∙ same ∙ shown_whole y plain)
 unshown o p whole h = absurd (cc h)
 
-kinds_by_frames : (o p : Option ObjectValue) → option_map frame_of o ≡ option_map frame_of p → option_map object_kind o ≡ option_map object_kind p
-kinds_by_frames o p h = sym (kind-seen_frame o) ∙ ap (option_map object_kind) h ∙ kind-seen_frame p
+kinds_by_forms : (o p : Option ObjectValue) → option_map form_of o ≡ option_map form_of p → option_map object_kind o ≡ option_map object_kind p
+kinds_by_forms o p h = sym (kind-form_seen o) ∙ ap (option_map object_kind) h ∙ kind-form_seen p
 
 -- ---- the rounds give a solution
 
@@ -71,75 +69,77 @@ module _ (nodes : List Node) (objects : List Named) (one : two_writers nodes ≡
   -- each written cell holds what its node gives
   holds : (n : Node) (c : Cell) → In n nodes → writes n c ≡ true → held after c ≡ given_in n (held after) c
   holds n c i w = sym (unshown (given_in n (held after) c) (held after c)
-      (WritesNo-frames nodes objects after (frame-rounds nodes (length nodes) objects whole) whole c (any-from_In (λ m. writes m c) n nodes i w))
+      (WritesNo-forms nodes objects after (form-rounds nodes (length nodes) objects whole) whole c (any-from_In (λ m. writes m c) n nodes i w))
       (sym (seen_holds n c i w)))
 
   pub rounds_are_solution : Solves nodes objects (rounds nodes (length nodes) objects)
   rounds_are_solution = record {
-      marks = marks-rounds nodes (length nodes) objects;
-      frames = frame-rounds nodes (length nodes) objects whole;
-      written = All-from_In (λ n. All (λ w. held after w.0 ≡ Some w.1) (written_by n (held after))) nodes
-          (λ n i. All-from_In (λ w. held after w.0 ≡ Some w.1) (written_by n (held after))
-            (given_holds n (held after) (writes_once nodes one n i) (λ c w. holds n c i w)));
-      others = (λ c h plain. unshown (held after c) (held objects c) plain
-          (ap (λ f. f c) seen_values ∙ values_solve.others c (unwritten nodes c h)));
-    }
+    labels = labels-rounds nodes (length nodes) objects;
+    forms = form-rounds nodes (length nodes) objects whole;
+    written = All-from_In (λ n. All (λ w. held after w.0 ≡ Some w.1) (written_by n (held after))) nodes
+        (λ n i. All-from_In (λ w. held after w.0 ≡ Some w.1) (written_by n (held after))
+        (given_holds n (held after) (writes_once nodes one n i) (λ c w. holds n c i w)));
+    others = (λ c h plain. unshown (held after c) (held objects c) plain
+        (ap (λ f. f c) seen_values ∙ values_solve.others c (unwritten nodes c h)));
+  }
 
 -- ---- the only one
 
--- of an output the frame alone counts, where the first input is an image
-same_given : (n : Node) (output : Output) (first second x y : Option ObjectValue) → option_map object_kind first ≡ Some kind.Image → option_map frame_of x ≡ option_map frame_of y → option_map object_kind y ≢ Some kind.Delay
+-- of an output the form alone counts, where the first input is an image
+same_given : (n : Node) (output : Output) (first second x y : Option ObjectValue) → option_map object_kind first ≡ Some kind.Image → option_map form_of x ≡ option_map form_of y → option_map object_kind y ≢ Some kind.Delay
     → output_of n output first second x ≡ output_of n output first second y
-same_given n output (Some (ImageObject a)) second (Some x) (Some y) image frames whole =
-    let same : frame_of x ≡ frame_of y = cc in
+same_given n output (Some (ImageObject a)) second (Some x) (Some y) image forms whole =
+    let same : form_of x ≡ form_of y = cc in
     let plain : is_delay y ≡ false = not_delay y (λ k. whole (ap Some k)) in
-    let kinds = kinds_by_frames (Some x) (Some y) frames in
+    let kinds = kinds_by_forms (Some x) (Some y) forms in
     let other : is_delay x ≡ false = not_delay x (λ k. whole (sym kinds ∙ ap Some k)) in
-    ap {B = Option ObjectValue} Some (sym (node_output-frame n output a second x other) ∙ ap (node_output n output (ImageObject a) second) same ∙ node_output-frame n output a second y plain)
-same_given n output (Some first) second None None image frames whole = refl
-same_given n output (Some first) second (Some x) None image frames whole = absurd (cc frames)
-same_given n output (Some first) second None (Some y) image frames whole = absurd (cc frames)
-same_given n output first second x y image frames whole = absurd (cc image)
+    ap {B = Option ObjectValue} Some (sym (node_output-form n output a second x other) ∙ ap (node_output n output (ImageObject a) second) same ∙ node_output-form n output a second y plain)
+same_given n output (Some first) second None None image forms whole = refl
+same_given n output (Some first) second (Some x) None image forms whole = absurd (cc forms)
+same_given n output (Some first) second None (Some y) image forms whole = absurd (cc forms)
+same_given n output first second x y image forms whole = absurd (cc image)
 
 -- of a delay as a whole nothing is seen but that it is one
-same_seen : (o p : Option ObjectValue) → option_map frame_of o ≡ option_map frame_of p → (option_map object_kind p ≢ Some kind.Delay → o ≡ p) → option_map shown o ≡ option_map shown p
-same_seen None None frames h = refl
-same_seen (Some x) (Some y) frames h =
-    let same : frame_of x ≡ frame_of y = cc in
+same_seen : (o p : Option ObjectValue) → option_map form_of o ≡ option_map form_of p → (option_map object_kind p ≢ Some kind.Delay → o ≡ p) → option_map shown o ≡ option_map shown p
+same_seen None None forms h = refl
+same_seen (Some x) (Some y) forms h =
+    let same : form_of x ≡ form_of y = cc in
     elim (cases_Bool (is_delay y)) [
-      inl d ↦
-        (let e : is_delay x ≡ true = sym (is_delay-frame x) ∙ ap is_delay same ∙ is_delay-frame y ∙ d in
-         ap {B = Option ObjectValue} Some (delay_shown x e ∙ sym (delay_shown y d)))
-    | inr d ↦ ap (option_map shown) (h (λ e. let k : object_kind y ≡ kind.Delay = cc in delay_kind y d k)) ]
-same_seen o p frames h = absurd (cc frames)
+      | inl d ↦
+          (let e : is_delay x ≡ true = sym (is_delay-form x) ∙ ap is_delay same ∙ is_delay-form y ∙ d in
+          ap {B = Option ObjectValue} Some (delay_shown x e ∙ sym (delay_shown y d)))
+      | inr d ↦ ap (option_map shown) (h (λ e. let k : object_kind y ≡ kind.Delay = cc in delay_kind y d k))
+    ]
+same_seen o p forms h = absurd (cc forms)
 
 solution_seen : (nodes : List Node) (before after : List Named) → WritesNo kind.Delay nodes before → ReadImages nodes before → Solves nodes before after
     → IsSolution writes (given_from (seen before)) nodes (seen before) (seen after)
 solution_seen nodes before after whole images solves = record {
-    written = (λ n c i w. ap (option_map shown) (given n c i w) ∙ shown-given_to n (held after) c (held before c));
-    others = (λ c h. same_seen (held after c) (held before c) (solves.frames c) (solves.others c (is_unwritten nodes c h)));
-  }
+  written = (λ n c i w. ap (option_map shown) (given n c i w) ∙ shown-given_to n (held after) c (held before c));
+  others = (λ c h. same_seen (held after c) (held before c) (solves.forms c) (solves.others c (is_unwritten nodes c h)));
+}
   where
     image : (n : Node) → In n nodes → option_map object_kind (held after n.in1) ≡ Some kind.Image
     image n i =
-        kinds_by_frames (held after n.in1) (held before n.in1) (solves.frames n.in1)
+        kinds_by_forms (held after n.in1) (held before n.in1) (solves.forms n.in1)
         ∙ In-from_All (λ m. kind_held before m.in1 ≡ Some kind.Image) nodes images n i
+
     given : (n : Node) (c : Cell) → In n nodes → writes n c ≡ true → held after c ≡ given_to n (held after) c (held before c)
     given n c i w =
         holds_given n (held after)
-          (In-from_All (λ v. held after v.0 ≡ Some v.1) (written_by n (held after))
-            (In-from_All (λ m. All (λ v. held after v.0 ≡ Some v.1) (written_by m (held after))) nodes solves.written n i))
-          c w
-        ∙ same_given n (output_at n c) (held after n.in1) (option_and_then (held after) n.in2) (held after c) (held before c) (image n i) (solves.frames c)
-            (whole c (any-from_In (λ m. writes m c) n nodes i w))
+        (In-from_All (λ v. held after v.0 ≡ Some v.1) (written_by n (held after))
+        (In-from_All (λ m. All (λ v. held after v.0 ≡ Some v.1) (written_by m (held after))) nodes solves.written n i))
+        c w
+        ∙ same_given n (output_at n c) (held after n.in1) (option_and_then (held after) n.in2) (held after c) (held before c) (image n i) (solves.forms c)
+        (whole c (any-from_In (λ m. writes m c) n nodes i w))
 
 pub only_solution : (nodes : List Node) (before after : List Named) → two_writers nodes ≡ false → has_cycle feeds nodes ≡ false → AllPairs (λ a b. a.name < b.name) before
     → WritesNo kind.Delay nodes before → ReadImages nodes before → Solves nodes before after → after ≡ rounds nodes (length nodes) before
 only_solution nodes before after one runs names whole images solves =
     let start : Cell → Option ObjectValue = seen before in
     same_objects after (rounds nodes (length nodes) before)
-      (subst (λ z. Rising z) (sym solves.marks) (rising before names))
-      (solves.marks ∙ sym (marks-rounds nodes (length nodes) before))
-      (λ c.
-        cell_solutions.only_solution (given_from start) nodes start (seen after) (reads_alone start) one runs (solution_seen nodes before after whole images solves) c
-        ∙ ap (λ f. f c) (sym (seen_values nodes before one runs whole)))
+    (subst (λ z. Rising z) (sym solves.labels) (rising before names))
+    (solves.labels ∙ sym (labels-rounds nodes (length nodes) before))
+    (λ c.
+    cell_solutions.only_solution (given_from start) nodes start (seen after) (reads_alone start) one runs (solution_seen nodes before after whole images solves) c
+    ∙ ap (λ f. f c) (sym (seen_values nodes before one runs whole)))

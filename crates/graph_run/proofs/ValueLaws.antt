@@ -1,5 +1,5 @@
--- What a node gives, over and over, is what it gives to its outputs as they were at first: only their frames count.
-use Rattle.std.proofs.Common.{◌≡◌, ℕ, zero, suc, Bool, true, false, List, [], ◌∷◌, refl, sym, ap, ◌∙◌, inl, inr, Option, Some, None}
+-- What a node gives, over and over, is what it gives to its outputs as they were at first: only their forms count.
+use Rattle.std.proofs.Common.{◌≡◌, ℕ, zero, suc, true, List, [], ◌∷◌, refl, sym, ap, ◌∙◌, inl, inr, Option, Some, None}
 use Rattle.std.specs.Prelude.{◌⊎◌}
 use Rattle.std.specs.Option.{option_map, option_and_then}
 use Rattle.std.specs.List.{list_any}
@@ -11,11 +11,11 @@ use Rattle.vx_base.specs.Object.{ObjectValue, object_kind}
 use Rattle.graph_verify.specs.Members.{In, AllIn}
 use Rattle.graph_verify.specs.Links.{reads, writes}
 use Rattle.graph_verify.specs.Rounds.{round, rounds, step, once, OneWriter, ReadsAlone}
-use Rattle.graph_run.specs.Solution.{frame_of}
+use Rattle.graph_run.specs.Solution.{form_of}
 use Rattle.graph_verify.proofs.MemberLemmas.{In-from_any}
 use Rattle.graph_run.proofs.LinkLaws.{reads_first, reads_second}
-use Rattle.graph_run.proofs.HeldLaws.{kind-seen_frame}
-use Rattle.graph_run.proofs.NodeLaws.{output_at, output_of, given_to, given_in, output_of_again, frame-output_of}
+use Rattle.graph_run.proofs.HeldLaws.{kind-form_seen}
+use Rattle.graph_run.proofs.NodeLaws.{output_at, output_of, given_to, given_in, output_of_again, form-output_of}
 use Rattle.graph_run.proofs.RoundLaws.{round_written, round_other}
 
 -- what a node gives to its outputs as they were at first
@@ -32,18 +32,18 @@ reads_alone start n a b h c =
     second None h = refl
     second (Some d) h = h d refl
 
--- what the cells hold once nodes were run: frames are as at first, and no node gives its outputs anything else for what they hold
+-- what the cells hold once nodes were run: forms are as at first, and no node gives its outputs anything else for what they hold
 pub record Follows (nodes : List Node) (start now : Cell → Option ObjectValue) : Type 0 where
-  pub frames : (c : Cell) → option_map frame_of (now c) ≡ option_map frame_of (start c)
+  pub forms : (c : Cell) → option_map form_of (now c) ≡ option_map form_of (start c)
   pub again : (n : Node) (c : Cell) (first second : Option ObjectValue) → In n nodes → writes n c ≡ true → option_map object_kind first ≡ option_map object_kind (start n.in1)
       → output_of n (output_at n c) first second (now c) ≡ output_of n (output_at n c) first second (start c)
 
 module _ (nodes : List Node) (start : Cell → Option ObjectValue) where
   pub Follows-first : Follows nodes start start
-  Follows-first = record { frames = (λ c. refl); again = (λ n c first second i w k. refl) }
+  Follows-first = record { forms = (λ c. refl); again = (λ n c first second i w k. refl) }
 
   same_kinds : (now : Cell → Option ObjectValue) → Follows nodes start now → (c : Cell) → option_map object_kind (now c) ≡ option_map object_kind (start c)
-  same_kinds now f c = sym (kind-seen_frame (now c)) ∙ ap (option_map object_kind) (f.frames c) ∙ kind-seen_frame (start c)
+  same_kinds now f c = sym (kind-form_seen (now c)) ∙ ap (option_map object_kind) (f.forms c) ∙ kind-form_seen (start c)
 
   pub given_same : (now : Cell → Option ObjectValue) → Follows nodes start now → (n : Node) (c : Cell) → In n nodes → writes n c ≡ true → given_in n now c ≡ given_from start n now c
   given_same now f n c i w = f.again n c (now n.in1) (option_and_then now n.in2) i w (same_kinds now f n.in1)
@@ -52,32 +52,37 @@ module _ (nodes : List Node) (start : Cell → Option ObjectValue) where
   Follows-next : OneWriter writes nodes → (now next : Cell → Option ObjectValue) → Follows nodes start now
       → ((c : Cell) → (next c ≡ now c) ⊎ ((n : Node) × In n nodes × (writes n c ≡ true) × (next c ≡ given_from start n now c))) → Follows nodes start next
   Follows-next one now next f h = record {
-      frames = (λ c. elim (h c) [
-          inl e ↦ ap (option_map frame_of) e ∙ f.frames c
-        | inr r ↦ ap (option_map frame_of) r.3 ∙ frame-output_of r.0 (output_at r.0 c) (now (r.0).in1) (option_and_then now (r.0).in2) (start c) ]);
-      again = (λ n c first second i w k. elim (h c) [
-          inl e ↦ ap (output_of n (output_at n c) first second) e ∙ f.again n c first second i w k
-        | inr r ↦
-            ap (output_of n (output_at n c) first second) (r.3 ∙ ap (λ z. given_from start z now c) (one r.0 n c r.1 i r.2 w))
-            ∙ output_of_again n (output_at n c) first (now n.in1) second (option_and_then now n.in2) (start c) (same_kinds now f n.in1 ∙ sym k) ]);
-    }
+    forms = (λ c. elim (h c) [
+      | inl e ↦ ap (option_map form_of) e ∙ f.forms c
+      | inr r ↦ ap (option_map form_of) r.3 ∙ form-output_of r.0 (output_at r.0 c) (now (r.0).in1) (option_and_then now (r.0).in2) (start c)
+    ]);
+    again = (λ n c first second i w k. elim (h c) [
+      | inl e ↦ ap (output_of n (output_at n c) first second) e ∙ f.again n c first second i w k
+      | inr r ↦
+          ap (output_of n (output_at n c) first second) (r.3 ∙ ap (λ z. given_from start z now c) (one r.0 n c r.1 i r.2 w))
+          ∙ output_of_again n (output_at n c) first (now n.in1) second (option_and_then now n.in2) (start c) (same_kinds now f n.in1 ∙ sym k)
+    ]);
+  }
 
   Follows-round : OneWriter writes nodes → (now : Cell → Option ObjectValue) → Follows nodes start now → Follows nodes start (round writes (given_from start) nodes now)
   Follows-round one now f = Follows-next one now (round writes (given_from start) nodes now) f (λ c. elim (cases_Bool (list_any (λ n. writes n c) nodes)) [
-      inl some ↦ (let r = In-from_any (λ n. writes n c) nodes some in
-          inr (r.0, r.1, r.2, round_written writes (given_from start) nodes now c r.0 one r.1 r.2))
-    | inr none ↦ inl (round_other writes (given_from start) nodes now c none) ])
+    | inl some ↦ (let r = In-from_any (λ n. writes n c) nodes some in
+        inr (r.0, r.1, r.2, round_written writes (given_from start) nodes now c r.0 one r.1 r.2))
+    | inr none ↦ inl (round_other writes (given_from start) nodes now c none)
+  ])
 
   Follows-step : OneWriter writes nodes → (now : Cell → Option ObjectValue) → Follows nodes start now → (n : Node) → In n nodes → Follows nodes start (step writes (given_from start) n now)
   Follows-step one now f n i = Follows-next one now (step writes (given_from start) n now) f (λ c. elim (cases_Bool (writes n c)) [
-      inl w ↦ inr (n, i, w, (rw w refl))
-    | inr w ↦ inl (rw w refl) ])
+    | inl w ↦ inr (n, i, w, (rw w refl))
+    | inr w ↦ inl (rw w refl)
+  ])
 
   same_round : (now : Cell → Option ObjectValue) → Follows nodes start now → (ns : List Node) → AllIn ns nodes → (c : Cell) → round writes given_in ns now c ≡ round writes (given_from start) ns now c
   same_round now f [] within c = refl
   same_round now f (n ∷ ns) within c = elim (cases_Bool (writes n c)) [
-      inl w ↦ rw w (given_same now f n c (within n (inl refl)) w)
-    | inr w ↦ rw w (same_round now f ns (λ x i. within x (inr i)) c) ]
+    | inl w ↦ rw w (given_same now f n c (within n (inl refl)) w)
+    | inr w ↦ rw w (same_round now f ns (λ x i. within x (inr i)) c)
+  ]
 
   pub Follows-rounds : OneWriter writes nodes → (k : ℕ) → Follows nodes start (rounds writes (given_from start) nodes k start)
   Follows-rounds one zero = Follows-first
@@ -91,8 +96,9 @@ module _ (nodes : List Node) (start : Cell → Option ObjectValue) where
 
   same_step : (now : Cell → Option ObjectValue) → Follows nodes start now → (n : Node) → In n nodes → (c : Cell) → step writes given_in n now c ≡ step writes (given_from start) n now c
   same_step now f n i c = elim (cases_Bool (writes n c)) [
-      inl w ↦ rw w (given_same now f n c i w)
-    | inr w ↦ rw w refl ]
+    | inl w ↦ rw w (given_same now f n c i w)
+    | inr w ↦ rw w refl
+  ]
 
   same_once_from : OneWriter writes nodes → (steps : List Node) → AllIn steps nodes → (now : Cell → Option ObjectValue) → Follows nodes start now
       → once writes given_in steps now ≡ once writes (given_from start) steps now

@@ -1,3 +1,4 @@
 pub mod Run
 pub mod Graph
 pub mod Solution
+pub mod Examples

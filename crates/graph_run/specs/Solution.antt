@@ -24,25 +24,25 @@ abbrev pub ReadImages : List Node → List Named → Type 0
 ReadImages nodes objects = All (λ n. kind_held objects n.in1 ≡ Some kind.Image) nodes
 
 -- what no node changes of an object: its kind, an image's format, a distribution's bins; a delay's images are in its slots
-abbrev pub frame_of : ObjectValue → ObjectValue
-frame_of (ImageObject image) = ImageObject (new_image 0 0 image.format)
-frame_of (DistributionObject distribution) = DistributionObject (new_distribution distribution.bins)
-frame_of (ExtremesObject extremes) = ExtremesObject no_extremes
-frame_of (DelayObject images) = DelayObject []
-frame_of other = other
+abbrev pub form_of : ObjectValue → ObjectValue
+form_of (ImageObject image) = ImageObject (new_image 0 0 image.format)
+form_of (DistributionObject distribution) = DistributionObject (new_distribution distribution.bins)
+form_of (ExtremesObject extremes) = ExtremesObject no_extremes
+form_of (DelayObject images) = DelayObject []
+form_of other = other
 
--- the frame of what a cell holds
-abbrev pub frame_held : List Named → Cell → Option ObjectValue
-frame_held objects cell = option_map frame_of (held objects cell)
+-- the form of what a cell holds
+abbrev pub form_held : List Named → Cell → Option ObjectValue
+form_held objects cell = option_map form_of (held objects cell)
 
 -- an object's name, and whether that is live
-abbrev pub mark_of : Named → ℕ × Bool
-mark_of o = (o.name, o.live)
+abbrev pub label_of : Named → ℕ × Bool
+label_of o = (o.name, o.live)
 
 -- objects that are what the nodes make of those before: each written cell holds what its node gives of what the cells hold, and
--- every other cell what it held; names, marks and frames are as before
+-- every other cell what it held; labels and forms are as before
 pub record Solves (nodes : List Node) (before after : List Named) : Type 0 where
-  pub marks : map mark_of after ≡ map mark_of before
-  pub frames : (cell : Cell) → frame_held after cell ≡ frame_held before cell
+  pub labels : map label_of after ≡ map label_of before
+  pub forms : (cell : Cell) → form_held after cell ≡ form_held before cell
   pub written : All (λ n. All (λ w. held after w.0 ≡ Some w.1) (written_by n (held after))) nodes
   pub others : (cell : Cell) → is_written nodes cell ≡ false → kind_held before cell ≢ Some kind.Delay → held after cell ≡ held before cell

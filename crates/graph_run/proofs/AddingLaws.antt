@@ -1,0 +1,97 @@
+-- The order in which nodes were added makes no difference.
+use Rattle.std.proofs.Common.{◌≡◌, ℕ, zero, suc, ◌<◌, Bool, true, false, List, length, map, refl, sym, ap, subst, ◌∙◌, inl, inr}
+use Rattle.std.specs.List.{list_any, AllPairs}
+use Rattle.std.specs.List.Sorted.{IsPermutation}
+use Rattle.std.proofs.lemmas.Bool.{cases_Bool}
+use Rattle.std.proofs.lemmas.List.Sorted.{length_permutation}
+use mathlib.Core.Path.{fun_ext}
+use Rattle.vx_base.specs.declared.kind.Kind.TheVariants as kind
+use Rattle.vx_base.specs.declared.node.Node.{Node}
+use Rattle.vx_base.specs.Cell.{Cell}
+use Rattle.object_table.specs.Named.{Named}
+use Rattle.graph_verify.specs.declared.operand.Operand.{Operand}
+use Rattle.graph_verify.specs.Members.{AllIn}
+use Rattle.graph_verify.specs.Links.{writes}
+use Rattle.graph_verify.specs.Rounds as cells
+use Rattle.graph_verify.specs.Rounds.{OneWriter}
+use Rattle.graph_verify.specs.Outlines.{written_outline, operand_outline, outlines, as_known, resolved}
+use Rattle.graph_verify.specs.Verdict.{two_writers}
+use Rattle.graph_verify.proofs.LinkLemmas.{one_writer}
+use Rattle.graph_verify.proofs.MemberLemmas.{In-from_any, any-from_In, AllIn-permutation, AllIn-permutation_back}
+use Rattle.graph_run.specs.Graph.{begun, rounds, run, forgotten}
+use Rattle.graph_run.specs.Solution.{WritesNo, label_of}
+use Rattle.graph_run.proofs.HeldLaws.{seen}
+use Rattle.graph_run.proofs.NameLaws.{Rising, rising, same_objects}
+use Rattle.graph_run.proofs.NodeLaws.{given_in}
+use Rattle.graph_run.proofs.RoundLaws.{round_written, round_other, seen-rounds, labels-rounds}
+use Rattle.graph_run.proofs.BegunLaws.{labels-begun, begun-same, WritesNo-begun}
+
+same_any : {X : Type 0} (p : X → Bool) (xs ys : List X) → AllIn xs ys → AllIn ys xs → list_any p xs ≡ list_any p ys
+same_any {X} p xs ys to from = elim (cases_Bool (list_any p xs)) [
+  | inl e ↦ e ∙ sym (passes xs ys to e)
+  | inr e ↦ elim (cases_Bool (list_any p ys)) [
+    | inl f ↦ (let g = passes ys xs from f in absurd (cc))
+    | inr f ↦ e ∙ sym f
+  ]
+]
+  where
+    passes : (zs ws : List X) → AllIn zs ws → list_any p zs ≡ true → list_any p ws ≡ true
+    passes zs ws within e = let r = In-from_any p zs e in any-from_In p r.0 ws (within r.0 r.1) r.2
+
+-- ---- rounds of anything
+
+module _ {N C V : Type 0} (writes : N → C → Bool) (value : N → (C → V) → C → V) (nodes others : List N) (one : cells.OneWriter writes nodes) (to : AllIn nodes others) (from : AllIn others nodes) where
+  same_round : (held : C → V) (c : C) → cells.round writes value nodes held c ≡ cells.round writes value others held c
+  same_round held c = elim (cases_Bool (list_any (λ n. writes n c) nodes)) [
+    | inl e ↦
+        (let r = In-from_any (λ n. writes n c) nodes e in
+        round_written writes value nodes held c r.0 one r.1 r.2
+        ∙ sym (round_written writes value others held c r.0 (λ m n d i j. one m n d (from m i) (from n j)) (to r.0 r.1) r.2))
+    | inr e ↦
+        round_other writes value nodes held c e
+        ∙ sym (round_other writes value others held c (sym (same_any (λ n. writes n c) nodes others to from) ∙ e))
+  ]
+
+  pub cell_rounds : (k : ℕ) (held : C → V) → cells.rounds writes value nodes k held ≡ cells.rounds writes value others k held
+  cell_rounds zero held = refl
+  cell_rounds (suc k) held =
+      ap (cells.round writes value nodes) (cell_rounds k held) ∙ fun_ext (same_round (cells.rounds writes value others k held))
+
+-- ---- rounds of objects
+
+module _ (nodes others : List Node) (two : two_writers nodes ≡ false) (to : AllIn nodes others) (from : AllIn others nodes) (long : length nodes ≡ length others) where
+  WritesNo-others : (objects : List Named) → WritesNo kind.Delay nodes objects → WritesNo kind.Delay others objects
+  WritesNo-others objects whole c w = whole c (same_any (λ n. writes n c) nodes others to from ∙ w)
+
+  object_rounds : (k : ℕ) (objects : List Named) → Rising (map label_of objects) → WritesNo kind.Delay nodes objects → rounds nodes k objects ≡ rounds others k objects
+  object_rounds k objects up whole =
+      let one = one_writer nodes two in
+      let labels = labels-rounds nodes k objects in
+      let same : seen (rounds nodes k objects) ≡ seen (rounds others k objects) =
+      seen-rounds nodes k objects one whole
+      ∙ cell_rounds writes given_in nodes others one to from k (seen objects)
+      ∙ sym (seen-rounds others k objects (λ m n c i j. one m n c (from m i) (from n j)) (WritesNo-others objects whole)) in
+      same_objects (rounds nodes k objects) (rounds others k objects) (subst (λ z. Rising z) (sym labels) up) (labels ∙ sym (labels-rounds others k objects)) (λ c. ap (λ f. f c) same)
+
+  same_resolved : (is : Cell → Operand) → resolved is nodes ≡ resolved is others
+  same_resolved is =
+      let known = cell_rounds writes (written_outline is) nodes others (one_writer nodes two) to from (length nodes) (λ cell. operand_outline (is cell)) in
+      let outlined : outlines is nodes ≡ outlines is others = known ∙ ap (λ k. cells.rounds writes (written_outline is) others k (λ cell. operand_outline (is cell))) long in
+      fun_ext (λ cell. ap (λ f. as_known (is cell) (f cell)) outlined)
+
+  same_run : (is : Cell → Operand) (objects : List Named) → Rising (map label_of objects) → WritesNo kind.Delay nodes objects → run is nodes objects ≡ run is others objects
+  same_run is objects up whole =
+      let start : List Named = map (begun is nodes) objects in
+      ap (forgotten objects)
+      (object_rounds (length nodes) start (subst (λ z. Rising z) (sym (labels-begun is nodes objects)) up) (WritesNo-begun is nodes objects whole)
+      ∙ ap (λ k. rounds others k start) long
+      ∙ ap (rounds others (length others)) (begun-same is nodes others (λ c. same_any (λ n. writes n c) nodes others to from) objects))
+
+pub same_graph : (is : Cell → Operand) (nodes others : List Node) (objects : List Named) → IsPermutation nodes others → two_writers nodes ≡ false → AllPairs (λ a b. a.name < b.name) objects
+    → WritesNo kind.Delay nodes objects → run (resolved is nodes) nodes objects ≡ run (resolved is others) others objects
+same_graph is nodes others objects same two names whole =
+    let to = AllIn-permutation nodes others same in
+    let from = AllIn-permutation_back nodes others same in
+    let long = sym (length_permutation nodes others same) in
+    same_run nodes others two to from long (resolved is nodes) objects (rising objects names) whole
+    ∙ ap (λ f. run f others objects) (same_resolved nodes others two to from long is)

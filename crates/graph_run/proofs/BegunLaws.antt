@@ -1,0 +1,169 @@
+-- What virtual images are as a run begins and ends.
+use Rattle.std.proofs.Common.{◌≡◌, ◌≢◌, ℕ, true, false, if◌then◌else◌, eqb, List, [], ◌∷◌, map, refl, sym, ap, subst, ◌∙◌, inl, inr, Option, Some, None}
+use Rattle.std.specs.Prelude.{◌⊎◌}
+use Rattle.std.specs.Option.{option_map, option_and_then}
+use Rattle.std.proofs.lemmas.Bool.{cases_Bool, eqb-true, eq-eqb}
+use Rattle.vx_base.specs.declared.kind.Kind.TheVariants as kind
+use Rattle.vx_base.specs.declared.node.Node.{Node}
+use Rattle.vx_base.specs.Cell.{Cell}
+use Rattle.vx_base.specs.Object.{ObjectValue, VirtualObject, object_kind}
+use Rattle.object_table.specs.Delay.{in_slot}
+use Rattle.object_table.specs.Named.{Named, object_held, with_object, with_written}
+use Rattle.graph_verify.specs.declared.operand.Operand.{Operand}
+use Rattle.graph_verify.specs.declared.operand.Operand.TheVariants.{Image}
+use Rattle.graph_verify.specs.Members.{In}
+use Rattle.graph_verify.specs.Links.{is_written}
+use Rattle.graph_run.specs.Graph.{begun_as, begun, is_virtual, forgotten}
+use Rattle.graph_run.specs.Solution.{WritesNo, label_of}
+use Rattle.graph_run.proofs.HeldLaws.{object_held-with_object}
+use Rattle.graph_run.proofs.NameLaws.{Rising, by_names}
+
+-- ---- the begin
+
+-- what an object under a name is as the run begins
+abbrev begun_under : (Cell → Operand) → List Node → ℕ → ObjectValue → ObjectValue
+begun_under is nodes name x = if is_written nodes (record { name = name; slot = None }) then begun_as x (is (record { name = name; slot = None })) else x
+
+object_held-begun : (is : Cell → Operand) (nodes : List Node) (objects : List Named) (name : ℕ)
+    → object_held (map (begun is nodes) objects) name ≡ option_map (begun_under is nodes name) (object_held objects name)
+object_held-begun is nodes [] name = refl
+object_held-begun is nodes (o ∷ objects) name = elim (cases_Bool (is_written nodes (record { name = o.name; slot = None }))) [
+  | inl w ↦ elim (cases_Bool (eqb o.name name)) [
+    | inl e ↦ subst (λ z. object_held (map (begun is nodes) (o ∷ objects)) z ≡ option_map (begun_under is nodes z) (object_held (o ∷ objects) z)) (eqb-true o.name name e)
+        (let own : eqb o.name o.name ≡ true = eq-eqb o.name o.name refl in rw (begun_under, w, own) refl)
+    | inr e ↦ rw (w, e) (object_held-begun is nodes objects name)
+  ]
+  | inr w ↦ elim (cases_Bool (eqb o.name name)) [
+    | inl e ↦ subst (λ z. object_held (map (begun is nodes) (o ∷ objects)) z ≡ option_map (begun_under is nodes z) (object_held (o ∷ objects) z)) (eqb-true o.name name e)
+        (let own : eqb o.name o.name ≡ true = eq-eqb o.name o.name refl in rw (begun_under, w, own) refl)
+    | inr e ↦ rw (w, e) (object_held-begun is nodes objects name)
+  ]
+]
+
+pub labels-begun : (is : Cell → Operand) (nodes : List Node) (objects : List Named) → map label_of (map (begun is nodes) objects) ≡ map label_of objects
+labels-begun is nodes [] = refl
+labels-begun is nodes (o ∷ objects) = elim (cases_Bool (is_written nodes (record { name = o.name; slot = None }))) [
+  | inl w ↦ rw w (ap (λ z. label_of o ∷ z) (labels-begun is nodes objects))
+  | inr w ↦ rw w (ap (λ z. label_of o ∷ z) (labels-begun is nodes objects))
+]
+
+-- what is written alike begins alike
+pub begun-same : (is : Cell → Operand) (nodes others : List Node) → ((c : Cell) → is_written nodes c ≡ is_written others c) → (objects : List Named) → map (begun is nodes) objects ≡ map (begun is others) objects
+begun-same is nodes others same [] = refl
+begun-same is nodes others same (o ∷ objects) =
+    let cell : Cell = record { name = o.name; slot = None } in
+    ap (λ b. (if b then record o { object = begun_as o.object (is cell) } else o) ∷ map (begun is nodes) objects) (same cell)
+    ∙ ap (λ z. begun is others o ∷ z) (begun-same is nodes others same objects)
+
+delay_before : (slot : Option ℕ) (x : ObjectValue) (operand : Operand) → option_map object_kind (in_slot slot (begun_as x operand)) ≡ Some kind.Delay → option_map object_kind (in_slot slot x) ≡ Some kind.Delay
+delay_before None (VirtualObject v) (Image d) h = absurd (cc h)
+delay_before (Some k) (VirtualObject v) (Image d) h = absurd (cc h)
+delay_before slot (VirtualObject v) operand h = h
+delay_before slot x operand h = h
+
+-- no delay comes of a virtual image
+pub WritesNo-begun : (is : Cell → Operand) (nodes : List Node) (objects : List Named) → WritesNo kind.Delay nodes objects → WritesNo kind.Delay nodes (map (begun is nodes) objects)
+WritesNo-begun is nodes objects whole c w h =
+    whole c w (before (object_held objects c.name) (ap (λ z. option_map object_kind (option_and_then (in_slot c.slot) z)) (sym (object_held-begun is nodes objects c.name)) ∙ h))
+  where
+    before : (o : Option ObjectValue) → option_map object_kind (option_and_then (in_slot c.slot) (option_map (begun_under is nodes c.name) o)) ≡ Some kind.Delay
+        → option_map object_kind (option_and_then (in_slot c.slot) o) ≡ Some kind.Delay
+    before None h = absurd (cc h)
+    before (Some x) h = elim (cases_Bool (is_written nodes (record { name = c.name; slot = None }))) [
+      | inl e ↦ delay_before c.slot x (is (record { name = c.name; slot = None })) (rw e at h)
+      | inr e ↦ (let g : option_map object_kind (in_slot c.slot x) ≡ Some kind.Delay = rw e at h in g)
+    ]
+
+-- ---- where no virtual image is written
+
+begun_other : (x : ObjectValue) (operand : Operand) → object_kind x ≢ kind.VirtualImage → begun_as x operand ≡ x
+begun_other (VirtualObject v) operand h = absurd (h refl)
+begun_other x operand h = refl
+
+pub virtual_kind : (x : ObjectValue) → is_virtual x ≡ true → object_kind x ≡ kind.VirtualImage
+virtual_kind (VirtualObject v) h = refl
+virtual_kind x h = absurd (cc h)
+
+pub no_slot_of_virtual : (k : ℕ) (x : ObjectValue) → is_virtual x ≡ true → ◌≡◌ {A = Option ObjectValue} (in_slot (Some k) x) None
+no_slot_of_virtual k (VirtualObject v) h = refl
+no_slot_of_virtual k x h = absurd (cc h)
+
+-- nothing changes as the run begins
+pub nothing_begun : (is : Cell → Operand) (nodes : List Node) (objects : List Named) → Rising (map label_of objects) → WritesNo kind.VirtualImage nodes objects → map (begun is nodes) objects ≡ objects
+nothing_begun is nodes objects up real =
+    let labels = labels-begun is nodes objects in
+    by_names (map (begun is nodes) objects) objects (subst (λ z. Rising z) (sym labels) up) labels
+    (λ name. object_held-begun is nodes objects name ∙ same name (object_held objects name) refl)
+  where
+    same : (name : ℕ) (o : Option ObjectValue) → object_held objects name ≡ o → option_map (begun_under is nodes name) o ≡ o
+    same name None e = refl
+    same name (Some x) e = elim (cases_Bool (is_written nodes (record { name = name; slot = None }))) [
+      | inl w ↦
+          (let kept = begun_other x (is (record { name = name; slot = None }))
+          (λ k. real (record { name = name; slot = None }) w (ap (λ z. option_map object_kind (option_and_then (in_slot None) z)) e ∙ ap Some k)) in
+          rw w (ap {B = Option ObjectValue} Some kept))
+      | inr w ↦ rw w refl
+    ]
+
+-- what stands under a name that isn't written stays
+pub object_held-unwritten : (ws : List (Cell × ObjectValue)) (objects : List Named) (name : ℕ) → ((w : Cell × ObjectValue) → In w ws → eqb name (w.0).name ≡ false)
+    → object_held (with_written objects ws) name ≡ object_held objects name
+object_held-unwritten [] objects name h = refl
+object_held-unwritten (w ∷ ws) objects name h =
+    object_held-unwritten ws (with_object objects w.0 w.1) name (λ v i. h v (inr i))
+    ∙ object_held-with_object objects w.0 w.1 name
+    ∙ (let e = h w (inl refl) in rw e (same (object_held objects name)))
+  where
+    same : (o : Option ObjectValue) → option_map (λ x. x) o ≡ o
+    same None = refl
+    same (Some x) = refl
+
+abbrev kept_virtual : Option ObjectValue → Option ObjectValue → Option ObjectValue
+kept_virtual (Some x) (Some y) = Some (if is_virtual x then x else y)
+kept_virtual o p = p
+
+object_held-forgotten : (before after : List Named) → map label_of before ≡ map label_of after → (name : ℕ)
+    → object_held (forgotten before after) name ≡ kept_virtual (object_held before name) (object_held after name)
+object_held-forgotten [] [] labels name = refl
+object_held-forgotten [] (p ∷ after) labels name = absurd (cc labels)
+object_held-forgotten (o ∷ before) [] labels name = absurd (cc labels)
+object_held-forgotten (o ∷ before) (p ∷ after) labels name =
+    let label : label_of o ≡ label_of p = cc in
+    let rest : map label_of before ≡ map label_of after = cc in
+    either (ap (λ m. m.0) label) (object_held-forgotten before after rest name) (cases_Bool (is_virtual o.object)) (cases_Bool (eqb o.name name))
+  where
+    either : o.name ≡ p.name → object_held (forgotten before after) name ≡ kept_virtual (object_held before name) (object_held after name)
+        → (is_virtual o.object ≡ true) ⊎ (is_virtual o.object ≡ false) → (eqb o.name name ≡ true) ⊎ (eqb o.name name ≡ false)
+        → object_held (forgotten (o ∷ before) (p ∷ after)) name ≡ kept_virtual (object_held (o ∷ before) name) (object_held (p ∷ after) name)
+    either same h (inl v) (inl e) = let f : eqb p.name name ≡ true = ap (λ z. eqb z name) (sym same) ∙ e in rw (v, e, f, v) refl
+    either same h (inl v) (inr e) = let f : eqb p.name name ≡ false = ap (λ z. eqb z name) (sym same) ∙ e in rw (v, e, f) h
+    either same h (inr v) (inl e) = let f : eqb p.name name ≡ true = ap (λ z. eqb z name) (sym same) ∙ e in rw (v, e, f, v) refl
+    either same h (inr v) (inr e) = let f : eqb p.name name ≡ false = ap (λ z. eqb z name) (sym same) ∙ e in rw (v, e, f) h
+
+labels-forgotten : (before after : List Named) → map label_of before ≡ map label_of after → map label_of (forgotten before after) ≡ map label_of after
+labels-forgotten [] [] labels = refl
+labels-forgotten [] (p ∷ after) labels = refl
+labels-forgotten (o ∷ before) [] labels = refl
+labels-forgotten (o ∷ before) (p ∷ after) labels =
+    let label : label_of o ≡ label_of p = cc in
+    let rest : map label_of before ≡ map label_of after = cc in
+    elim (cases_Bool (is_virtual o.object)) [
+      | inl v ↦ rw v (ap (λ z. z ∷ map label_of (forgotten before after)) label ∙ ap (λ z. label_of p ∷ z) (labels-forgotten before after rest))
+      | inr v ↦ rw v (ap (λ z. label_of p ∷ z) (labels-forgotten before after rest))
+    ]
+
+-- nothing changes as the run ends
+pub nothing_forgotten : (before after : List Named) → Rising (map label_of before) → map label_of before ≡ map label_of after
+    → ((name : ℕ) (x : ObjectValue) → object_held before name ≡ Some x → is_virtual x ≡ true → object_held after name ≡ Some x) → forgotten before after ≡ after
+nothing_forgotten before after up labels stays =
+    let same = labels-forgotten before after labels in
+    by_names (forgotten before after) after (subst (λ z. Rising z) (labels ∙ sym same) up) same
+    (λ name. object_held-forgotten before after labels name ∙ kept (object_held before name) (object_held after name) (stays name))
+  where
+    kept : (o p : Option ObjectValue) → ((x : ObjectValue) → o ≡ Some x → is_virtual x ≡ true → p ≡ Some x) → kept_virtual o p ≡ p
+    kept (Some x) (Some y) h = elim (cases_Bool (is_virtual x)) [
+      | inl v ↦ rw v (sym (h x refl v))
+      | inr v ↦ rw v refl
+    ]
+    kept (Some x) None h = refl
+    kept None p h = refl

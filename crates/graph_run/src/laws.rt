@@ -1,0 +1,48 @@
+//! What runs mean: functions that do nothing, whose contracts are facts.
+ghost use Rattle.std.specs.Prelude.{◌≡◌, ◌<◌, false, List, [], ◌∷◌, length};
+ghost use Rattle.std.specs.List.{AllPairs};
+ghost use Rattle.std.specs.List.Sorted.{IsPermutation};
+ghost use Rattle.vx_base.specs.declared.kind.Kind.TheVariants as kind;
+ghost use Rattle.vx_base.specs.declared.node.Node.{Node};
+ghost use Rattle.vx_base.specs.Cell.{Cell};
+ghost use Rattle.vx_base.specs.Outputs.{written_by};
+ghost use Rattle.object_table.specs.Named.{Named, held, with_written};
+ghost use Rattle.graph_verify.specs.declared.operand.Operand.{Operand};
+ghost use Rattle.graph_verify.specs.Links.{feeds};
+ghost use Rattle.graph_verify.specs.Cycle.{has_cycle};
+ghost use Rattle.graph_verify.specs.Order.{IsOrder};
+ghost use Rattle.graph_verify.specs.Outlines.{resolved};
+ghost use Rattle.graph_verify.specs.Verdict.{two_writers};
+ghost use Rattle.graph_run.specs.Graph.{rounds, one_by_one, run};
+ghost use Rattle.graph_run.specs.Solution.{WritesNo, ReadImages, Solves};
+
+/// The nodes one after the other, each once and after those that feed it, leave what the rounds
+/// leave.
+pub fn once_in_order()
+    ensures { (nodes steps : List Node) (objects : List Named) → IsOrder feeds nodes steps → two_writers nodes ≡ false →
+        AllPairs (λ a b. a.name < b.name) objects → WritesNo kind.Delay nodes objects →
+        rounds nodes (length nodes) objects ≡ one_by_one steps objects }
+{}
+
+/// What the rounds leave solves a graph that has no cycle and no cell with two writers, and nothing
+/// else does.
+pub fn rounds_solve()
+    ensures solves { (nodes : List Node) (before : List Named) → two_writers nodes ≡ false → has_cycle feeds nodes ≡ false →
+        WritesNo kind.Delay nodes before → Solves nodes before (rounds nodes (length nodes) before) }
+    ensures only { (nodes : List Node) (before after : List Named) → two_writers nodes ≡ false → has_cycle feeds nodes ≡ false →
+        AllPairs (λ a b. a.name < b.name) before → WritesNo kind.Delay nodes before → ReadImages nodes before →
+        Solves nodes before after → after ≡ rounds nodes (length nodes) before }
+{}
+
+/// A graph of one node runs as the node does at once.
+pub fn one_node()
+    ensures { (is : Cell → Operand) (n : Node) (objects : List Named) → AllPairs (λ a b. a.name < b.name) objects →
+        WritesNo kind.VirtualImage (n ∷ []) objects → run is (n ∷ []) objects ≡ with_written objects (written_by n (held objects)) }
+{}
+
+/// A graph runs alike in whatever order its nodes were added.
+pub fn added_in_any_order()
+    ensures { (is : Cell → Operand) (nodes others : List Node) (objects : List Named) → IsPermutation nodes others → two_writers nodes ≡ false →
+        AllPairs (λ a b. a.name < b.name) objects → WritesNo kind.Delay nodes objects →
+        run (resolved is nodes) nodes objects ≡ run (resolved is others) others objects }
+{}
