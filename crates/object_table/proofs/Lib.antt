@@ -4,5 +4,6 @@ pub mod SlotLemmas
 pub mod SearchLemmas
 pub mod NamesLemmas
 pub mod UseLemmas
+pub mod NamedLemmas
 mod OperandLemmas
 mod TableLemmas

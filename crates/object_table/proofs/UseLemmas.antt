@@ -3,11 +3,12 @@ use Rattle.std.proofs.Common.{◌≡◌, ℕ, ◌+◌, ◌-◌, ◌<◌, ◌≤�
 use Rattle.std.specs.Prelude.{All, Any, ◌==◌, ◌||◌, nat_lt}
 use Rattle.std.proofs.lemmas.Bool.{cases_lt, lt-ltb, le-ltb, eq-eqb, eqb-true}
 use Rattle.std.proofs.lemmas.List.{length-map, get_or-map}
-use Rattle.std.proofs.lemmas.List.Elements.{All-head, All-tail}
+use Rattle.std.proofs.lemmas.List.Elements.{All-head, All-tail, All-map, All-weaker, All-filter, All-push}
 use Rattle.std.proofs.lemmas.List.Sums.{sum_by-append, sum_by-cons}
 use Rattle.object_table.specs.declared.names.Entry.{Entry}
-use Rattle.object_table.specs.Names.{is_held, held_of, changed, used, unused}
+use Rattle.object_table.specs.Names.{is_held, held_of, changed, with_entry, released, used, unused}
 use Rattle.object_table.specs.Uses.{times, with_uses, used_all, unused_all, HaveRoom, HaveUses, AreUses}
+use Rattle.object_table.proofs.NamesLemmas.{All-changed}
 
 times-append : (name : ℕ) (names others : List ℕ) → times name (names ++ others) ≡ times name names + times name others
 times-append name names others = sum_by-append (λ other. cond (name == other) 1 0) names others
@@ -122,10 +123,10 @@ module _ {O : Type 0} where
   any_weaker : (P Q : Entry O → Type 0) (entries : List (Entry O)) → ((e : Entry O) → P e → Q e) → Any P entries → Any Q entries
   any_weaker P Q entries f (k, e, within, read, is) = (k, e, within, read, f e is)
 
-  any_here : (P : Entry O → Type 0) (e : Entry O) (entries : List (Entry O)) → P e → Any P (e ∷ entries)
+  pub any_here : (P : Entry O → Type 0) (e : Entry O) (entries : List (Entry O)) → P e → Any P (e ∷ entries)
   any_here P e entries is = (zero, e, omega arith, refl, is)
 
-  any_later : (P : Entry O → Type 0) (e : Entry O) (entries : List (Entry O)) → Any P entries → Any P (e ∷ entries)
+  pub any_later : (P : Entry O → Type 0) (e : Entry O) (entries : List (Entry O)) → Any P entries → Any P (e ∷ entries)
   any_later P e entries (k, o, within, read, is) = (suc k, o, omega (arith, within), read, is)
 
   any_split : (P : Entry O → Type 0) (e : Entry O) (entries : List (Entry O)) → Any P (e ∷ entries) → P e ⊎ Any P entries
@@ -220,3 +221,53 @@ module _ {O : Type 0} where
   HaveRoom-from uses names entries h held room name more =
       any_weaker (λ e. (e.name ≡ name) × (e.uses ≡ uses name)) (λ e. (e.name ≡ name) × (e.uses + times name names ≤ 4294967295)) entries
       (λ e is. (is.0, omega (arith, is.1, room name))) (with_use uses entries name h (held name more))
+
+  -- ---- what is used as often as its name says
+
+  uses-changed : (uses : ℕ → ℕ) (name : ℕ) (change : Entry O → Entry O) (entries : List (Entry O)) → ((e : Entry O) → e.uses ≡ uses e.name → (change e).uses ≡ uses (change e).name)
+      → AreUses uses entries → AreUses uses (changed name change entries)
+  uses-changed uses name change entries keeps h =
+      All-map (λ (e : Entry O). e.uses ≡ uses e.name) (λ e. cond (e.name == name) (change e) e) entries
+      (All-weaker (λ e. e.uses ≡ uses e.name) (λ e. (cond (e.name == name) (change e) e).uses ≡ uses (cond (e.name == name) (change e) e).name) (λ e is. either (e.name == name) e is) entries h)
+    where
+      either : (b : Bool) (e : Entry O) → e.uses ≡ uses e.name → (cond b (change e) e).uses ≡ uses (cond b (change e) e).name
+      either true e is = keeps e is
+      either false e is = is
+
+  pub AreUses-ended : (uses : ℕ → ℕ) (name : ℕ) (entries : List (Entry O)) → AreUses uses entries → AreUses uses (changed name (λ e. record e { live = false }) entries)
+  AreUses-ended uses name entries = uses-changed uses name (λ e. record e { live = false }) entries (λ e is. is)
+
+  pub AreUses-held_of : (uses : ℕ → ℕ) (entries : List (Entry O)) → AreUses uses entries → AreUses uses (held_of entries)
+  AreUses-held_of uses entries h = All-filter is_held (λ e. e.uses ≡ uses e.name) entries h
+
+  pub AreUses-released : (uses : ℕ → ℕ) (name : ℕ) (entries : List (Entry O)) → AreUses uses entries → AreUses uses (released name entries)
+  AreUses-released uses name entries h = AreUses-held_of uses (changed name (λ e. record e { live = false }) entries) (AreUses-ended uses name entries h)
+
+  pub AreUses-used_all : (uses : ℕ → ℕ) (names : List ℕ) (entries : List (Entry O)) → AreUses uses entries → AreUses (λ name. uses name + times name names) (used_all names entries)
+  AreUses-used_all uses names entries h =
+      All-map (λ (e : Entry O). e.uses ≡ uses e.name + times e.name names) (λ e. with_uses (e.uses + times e.name names) e) entries
+      (All-weaker (λ e. e.uses ≡ uses e.name) (λ e. e.uses + times e.name names ≡ uses e.name + times e.name names) (λ e is. ap (λ n. n + times e.name names) is) entries h)
+
+  pub AreUses-fewer : (uses : ℕ → ℕ) (names : List ℕ) (entries : List (Entry O)) → AreUses uses entries → AreUses (λ name. uses name - times name names) (map (λ e. with_uses (e.uses - times e.name names) e) entries)
+  AreUses-fewer uses names entries h =
+      All-map (λ (e : Entry O). e.uses ≡ uses e.name - times e.name names) (λ e. with_uses (e.uses - times e.name names) e) entries
+      (All-weaker (λ e. e.uses ≡ uses e.name) (λ e. e.uses - times e.name names ≡ uses e.name - times e.name names) (λ e is. ap (λ n. n - times e.name names) is) entries h)
+
+  pub AreUses-unused_all : (uses : ℕ → ℕ) (names : List ℕ) (entries : List (Entry O)) → AreUses uses entries → AreUses (λ name. uses name - times name names) (unused_all names entries)
+  AreUses-unused_all uses names entries h = AreUses-held_of (λ name. uses name - times name names) (map (λ e. with_uses (e.uses - times e.name names) e) entries) (AreUses-fewer uses names entries h)
+
+  pub AreUses-with_entry : (uses : ℕ → ℕ) (name : ℕ) (object : O) (entries : List (Entry O)) → uses name ≡ 0 → AreUses uses entries → AreUses uses (with_entry name object entries)
+  AreUses-with_entry uses name object entries none h = All-push (λ e. e.uses ≡ uses e.name) entries (record { name = name; live = true; uses = 0; object = object }) h (sym none)
+
+  -- ---- what holds of each object stays true
+
+  pub All-released : (P : O → Type 0) (name : ℕ) (entries : List (Entry O)) → All (λ e. P e.object) entries → All (λ e. P e.object) (released name entries)
+  All-released P name entries h =
+      All-filter is_held (λ e. P e.object) (changed name (λ e. record e { live = false }) entries) (All-changed P entries name (λ e. record e { live = false }) (λ e. refl) h)
+
+  pub All-used_all : (P : O → Type 0) (names : List ℕ) (entries : List (Entry O)) → All (λ e. P e.object) entries → All (λ e. P e.object) (used_all names entries)
+  All-used_all P names entries h = All-map (λ (e : Entry O). P e.object) (λ e. with_uses (e.uses + times e.name names) e) entries h
+
+  pub All-unused_all : (P : O → Type 0) (names : List ℕ) (entries : List (Entry O)) → All (λ e. P e.object) entries → All (λ e. P e.object) (unused_all names entries)
+  All-unused_all P names entries h =
+      All-filter is_held (λ e. P e.object) (map (λ e. with_uses (e.uses - times e.name names) e) entries) (All-map (λ (e : Entry O). P e.object) (λ e. with_uses (e.uses - times e.name names) e) entries h)

@@ -2,16 +2,17 @@
 //!
 //! A `Table` gives each object that is inserted the next name, 1, 2, .., and never gives a name
 //! again. A name is live until it is released. An object is held while its name is live or a node
-//! uses it; at most 1,024 are held at a time, and a table knows what they are charged. Only `insert`
-//! takes memory.
+//! uses it; at most 1,024 are held at a time, and a table knows what they are charged. Only
+//! `insert` and `add_node` take memory.
 //!
 //! - `stored`, `delay`: an image with samples of its own, and such images in slots
 //! - `distribution`: bins, and the counts of a histogram
-//! - `object`: an image, a lookup table, a threshold, a delay, a convolution, a distribution or
-//!   extremes
+//! - `object`: an image, a lookup table, a threshold, a delay, a convolution, a distribution,
+//!   extremes, a graph or a virtual image
 //! - `names`: what is held under names, of whatever type: names and uses
 //! - `table`, `place`: objects under their names, with their charge; where an object stands, and
 //!   images that are written there
+//! - `table::graphs`, `table::uses`: graphs of a table, and how their nodes use what it holds
 //! - `fault`: why a call isn't done
 #![tactic(auto)]
 
