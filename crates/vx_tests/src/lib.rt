@@ -10,6 +10,7 @@
 //! - `requests`: requests as bytes, and back; texts of faults
 //! - `clients`: what a client with a small quota may hold
 //! - `tables`: names, uses and the charge of a table, and objects that are set
+//! - `graphs`: graphs and the numbers of their nodes
 //! - `values`: rectangles, codes and tables
 //! - `images`: images that are valid in a part
 //! - `kernels`, `texts`: windows, statistics and PGM texts, by the calls of their crates
@@ -21,6 +22,8 @@ mod adapters;
 mod clients;
 #[cfg(test)]
 mod devices;
+#[cfg(test)]
+mod graphs;
 #[cfg(test)]
 mod images;
 #[cfg(test)]
