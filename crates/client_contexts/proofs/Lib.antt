@@ -1,19 +1,23 @@
 mod PlaceLemmas
+mod LastingLemmas
+mod UsedLemmas
 mod ContextLemmas
+mod HoldLemmas
+mod ReleaseLemmas
+mod GraphLemmas
+mod EndLemmas
+mod CellLemmas
+mod GraphChangeLemmas
+mod VerifyLemmas
 mod LookupLemmas
+mod ScopeLemmas
 mod StoredLemmas
 mod OutputLemmas
 mod RunLemmas
+mod TurnLemmas
+mod ExchangeLemmas
+mod StandInLemmas
+mod ProcessLemmas
+mod ImmediateLemmas
 mod TextLemmas
-pub mod RefusalLaws
-pub mod NamedLaws
-pub mod OutlineLaws
-pub mod StateLaws
-pub mod OutcomeLaws
-pub mod ImageStepLaws
-pub mod StatisticStepLaws
-pub mod DelayStepLaws
 mod DelayLemmas
-pub mod VerdictLaws
-pub mod NodeStepLaws
-pub mod StepLaws

@@ -1,8 +1,8 @@
 -- Nodes at the places of their operands, and what they write.
 use Rattle.std.proofs.Common.{◌≡◌, ◌≢◌, ℕ, Bool, true, false, List, [], ◌∷◌, ◌++◌, Option, Some, None, IsTrue, map, refl, sym, ap, subst, ◌∙◌}
-use Rattle.std.specs.Prelude.{All, ◌<◌, ◌==◌, ◌||◌, ◌&&◌, not, slice_get, length, is_some, is_none, unwrap_or, if◌then◌else◌, IfSome, option_to_list, Ok, Err}
+use Rattle.std.specs.Prelude.{All, ◌<◌, ◌==◌, ◌||◌, ◌&&◌, not, slice_get, length, is_some, is_none, unwrap_or, if◌then◌else◌, IfSome, option_to_list}
 use Rattle.std.specs.List.{list_any, list_all}
-use Rattle.std.specs.Option.{option_map, option_and_then, option_or}
+use Rattle.std.specs.Option.{option_map, option_and_then}
 use Rattle.std.proofs.lemmas.List.Folds.{list_any-append, list_all-append}
 use Rattle.std.proofs.lemmas.Bool.{eq-eqb, eqb-true, eqb-false, and_parts, or_parts}
 use Rattle.vx_base.specs.declared.function.Function.{Function}
@@ -19,24 +19,17 @@ use Rattle.vx_base.specs.Formats.{takes_formats}
 use Rattle.vx_base.specs.Function.{parameters}
 use Rattle.vx_base.specs.Image.{ImageValue, IsImage, new_image, description_of}
 use Rattle.vx_base.specs.Statistics.{extremes}
-use Rattle.vx_base.specs.Node.{IsNode, is_node, has_amount, has_operands, all_named, given, outputs, operands, second_kind}
+use Rattle.vx_base.specs.Node.{IsNode, is_node, has_amount, has_operands, all_named, given, outputs, second_kind}
 use Rattle.vx_base.specs.Object.{ObjectValue, ImageObject, DelayObject, DistributionObject, ExtremesObject, IsObject, object_kind, object_format}
 use Rattle.vx_base.specs.Outputs.{node_image, node_output, written_to, written_in, written_by}
 use Rattle.image_core.specs.Fits.{SecondHasSize}
-use Rattle.graph_verify.specs.declared.operand.Operands.{Operands}
 use Rattle.graph_verify.specs.declared.verdict.Verdict.{Verdict}
 use Rattle.graph_verify.specs.declared.verdict.Verdict.TheVariants.{MultipleWriters, InvalidGraph, InvalidFormat, InvalidDimension}
 use Rattle.graph_verify.specs.Links.{has_twice}
 use Rattle.graph_verify.specs.Operand.{operand_of, operand_format, are_of_one_size, written_operands, other_operands}
 use Rattle.graph_verify.specs.Verdict.{writes_twice, reads_own_output, takes_operands, node_fault, verdict_on}
 use Rattle.client_contexts.specs.declared.places.Places.{Places}
-use Rattle.client_contexts.specs.declared.refusal.Refusal.{Refusal}
-use Rattle.client_contexts.specs.declared.refusal.Refusal.TheVariants.{Rejected}
-use Rattle.client_contexts.specs.declared.reply.Reply.TheVariants.{Empty}
-use Rattle.client_contexts.specs.Context.{Named, named, Context, with_object, with_objects, with_written}
-use Rattle.client_contexts.specs.Refusal.{unless}
-use Rattle.client_contexts.specs.Operands.{held, operands_refusal}
-use Rattle.client_contexts.specs.Immediate.{operand_if, operands_in, node_refusal, immediate}
+use Rattle.object_table.specs.Named.{Named, named, held, with_object, with_written}
 use Rattle.object_table.specs.declared.names.Entry.{Entry}
 use Rattle.object_table.specs.declared.place.Place.{Place}
 use Rattle.object_table.specs.Delay.{in_slot, object_in, with_slot}
@@ -44,12 +37,15 @@ use Rattle.object_table.specs.Object.{image_value}
 use Rattle.object_table.proofs.SlotLemmas.{has_image, IsObject-object_in}
 use Rattle.object_table.specs.Names.{IsNames}
 use Rattle.object_table.specs.Table as table
-use Rattle.client_contexts.specs.Places.{entry_at, object_at, object_if_at, cell_at, HasImageAt, StandsAt, StandsIf, IsInContext}
-use Rattle.client_contexts.proofs.VerdictLaws.{Suits, no_fault_suits}
+use Rattle.client_contexts.specs.Lasting.{Lasts}
+use Rattle.client_contexts.specs.Places.{entry_at, object_at, object_if_at, cell_at, HasImageAt, StandsAt, StandsIf}
+use Rattle.client_model.proofs.VerdictLaws.{Suits, no_fault_suits}
 use Rattle.client_contexts.proofs.PlaceLemmas.{object_beside, object_if_beside, place_beside, place_if_beside, image_beside, name_after, within_after}
 use Rattle.client_contexts.specs.Steps.{TwoSlots, AreApart, RunsOn, RunsTo, StandAt, counted_in, operands_at, output_at, written_at}
-use Rattle.client_contexts.proofs.ContextLemmas.{entry_there, object_there, object_if_there, place_there, image_there, named_is, All-replaced, All-written_image}
-use Rattle.client_contexts.proofs.StoredLemmas.{image_of_object, description_kept, length-histogram}
+use Rattle.client_contexts.proofs.ContextLemmas.{entry_there, object_there, object_if_there, place_there, image_there, named_is, Lasts-replaced, Lasts-written}
+use Rattle.client_contexts.proofs.LastingLemmas.{lasting-with_slot, lasting-output}
+use Rattle.client_contexts.proofs.StoredLemmas.{image_of_object, description_kept}
+use Rattle.client_model.proofs.CountLaws.{length-histogram}
 use Rattle.client_contexts.proofs.OutputLemmas.{of_images, can_run}
 use Rattle.vx_base.proofs.NodeLaws.{node_image_is}
 
@@ -212,7 +208,7 @@ module _ (n : Node) (node : IsNode n) where
   second_wanted objects (Some cell) (Some place) (Some s) has h = ap Some (sym h.kind)
 
   -- what a node reads and writes, where the operands stand in a table
-  module _ (held_in : List (Entry ObjectValue)) (p : Places) (in_context : All IsInContext held_in) (h : StandAt (map named held_in) n p) (verdict : verdict_on n (operands_at (map named held_in) p) ≡ None) where
+  module _ (held_in : List (Entry ObjectValue)) (p : Places) (are : All (λ e. IsObject e.object) held_in) (h : StandAt (map named held_in) n p) (verdict : verdict_on n (operands_at (map named held_in) p) ≡ None) where
     abbrev objects : List Named
     objects = map named held_in
 
@@ -238,7 +234,7 @@ module _ (n : Node) (node : IsNode n) where
         (place_there held_in q a.stands, apart objects c cell beside wanted q output no_delay (output_no_delay n.function) a b differ)
 
     object_is : (place : Place) → table.IsPlace held_in place → IsObject (table.object_at held_in place)
-    object_is place is = IsObject-object_in place.slot (table.entry_at held_in place.index).object (in_context place.index table.no_object is.within).object is.there
+    object_is place is = IsObject-object_in place.slot (table.entry_at held_in place.index).object (are place.index table.no_object is.within) is.there
 
     object_if_is : (place : Option Place) → IfSome place (table.IsPlace held_in) → IfSome (option_map (table.object_at held_in) place) IsObject
     object_if_is None is = tt
@@ -428,17 +424,18 @@ module _ (l : List (Entry ObjectValue)) (n : Node) (which : Output) (p : Places)
   reads_an_image = image_of_object (table.object_at l p.in1) runs.runs.first_kind runs.runs.first_is
 
 -- an output becomes an object
-pub All-written : (l : List (Entry ObjectValue)) (n : Node) (which : Output) (p : Places) (output : Option Place) → All IsInContext l → IfSome output (RunsTo l n p) → All IsInContext (written_at l n which p output)
-All-written l n which p None h runs = h
-All-written l n which p (Some output) h runs = becomes (table.object_at l output) refl
+pub Lasts-written_at : (l : List (Entry ObjectValue)) (n : Node) (which : Output) (p : Places) (output : Option Place) → All (λ e. IsObject e.object) l → IfSome output (RunsTo l n p) → Lasts l (written_at l n which p output)
+Lasts-written_at l n which p None are runs = record { objects = are; lasting = refl }
+Lasts-written_at l n which p (Some output) are runs = becomes (table.object_at l output) refl
   where
     -- an object as a whole
-    whole : (object : ObjectValue) → table.object_at l output ≡ object → object_kind object ≢ kind.Image → IsObject (node_output n which (table.object_at l p.in1) (option_map (table.object_at l) p.in2) object) → All IsInContext (table.replaced l output (node_output n which (table.object_at l p.in1) (option_map (table.object_at l) p.in2) (table.object_at l output)))
+    whole : (object : ObjectValue) → table.object_at l output ≡ object → object_kind object ≢ kind.Image → IsObject (node_output n which (table.object_at l p.in1) (option_map (table.object_at l) p.in2) object) → Lasts l (table.replaced l output (node_output n which (table.object_at l p.in1) (option_map (table.object_at l) p.in2) (table.object_at l output)))
     whole object e other is =
         let none = slot_none output.slot (table.entry_at l output.index).object runs.out.there (λ image. other (sym (ap object_kind e) ∙ image)) in
-        All-replaced l output (node_output n which (table.object_at l p.in1) (option_map (table.object_at l) p.in2) (table.object_at l output)) h runs.out.within
+        Lasts-replaced l output (node_output n which (table.object_at l p.in1) (option_map (table.object_at l) p.in2) (table.object_at l output)) are runs.out.within
         (subst (λ (slot : Option ℕ). IsObject (with_slot slot (node_output n which (table.object_at l p.in1) (option_map (table.object_at l) p.in2) (table.object_at l output)) (table.entry_at l output.index).object)) (sym none)
         (subst (λ (o : ObjectValue). IsObject (node_output n which (table.object_at l p.in1) (option_map (table.object_at l) p.in2) o)) (sym e) is))
+        (lasting-with_slot output.slot _ (table.entry_at l output.index).object (lasting-output n which (table.object_at l p.in1) (option_map (table.object_at l) p.in2) (table.object_at l output)))
 
     measured : (a object : ObjectValue) → object_kind a ≡ kind.Image → IsObject object → object_kind object ≢ kind.Image → IsObject (node_output n which a (option_map (table.object_at l) p.in2) object)
     measured (ImageObject a) (ImageObject b) e is other = absurd (other refl)
@@ -447,14 +444,15 @@ All-written l n which p (Some output) h runs = becomes (table.object_at l output
     measured (ImageObject a) object e is other = is
     measured a object e is other = cc
 
-    becomes : (object : ObjectValue) → table.object_at l output ≡ object → All IsInContext (table.replaced l output (node_output n which (table.object_at l p.in1) (option_map (table.object_at l) p.in2) (table.object_at l output)))
+    becomes : (object : ObjectValue) → table.object_at l output ≡ object → Lasts l (table.replaced l output (node_output n which (table.object_at l p.in1) (option_map (table.object_at l) p.in2) (table.object_at l output)))
     becomes (ImageObject out) e =
         let image : object_kind (table.object_at l output) ≡ kind.Image = ap object_kind e in
         let can = can_run n (table.object_at l p.in1) (option_map (table.object_at l) p.in2) (table.object_at l output) runs.runs image in
         let is_first = image_of_object (table.object_at l p.in1) runs.runs.first_kind runs.runs.first_is in
         let old = table.image_at l output in
-        subst (λ (o : ObjectValue). All IsInContext (table.replaced l output o)) (of_images n which (table.object_at l p.in1) (option_map (table.object_at l) p.in2) (table.object_at l output) runs.runs.first_kind image)
-        (All-written_image l output (node_image n which old.format (image_value (table.object_at l p.in1)) (option_map (table.object_at l) p.in2)) h runs.out.within
+        subst (λ (o : ObjectValue). Lasts l (table.replaced l output o)) (of_images n which (table.object_at l p.in1) (option_map (table.object_at l) p.in2) (table.object_at l output) runs.runs.first_kind image)
+        (Lasts-written l output (node_image n which old.format (image_value (table.object_at l p.in1)) (option_map (table.object_at l) p.in2)) are
+        (record { within = runs.out.within; image = has_image output.slot (table.entry_at l output.index).object runs.out.there image })
         (node_image_is n old.format (image_value (table.object_at l p.in1)) runs.runs.node is_first which (option_map (table.object_at l) p.in2) runs.runs.second_is can.kind can.formats)
         (description_kept n which (image_value (table.object_at l p.in1)) (option_map (table.object_at l) p.in2) old can.size))
     becomes (DistributionObject d) e = whole (DistributionObject d) e (λ k. cc) (measured (table.object_at l p.in1) (DistributionObject d) runs.runs.first_kind (subst IsObject e runs.runs.out_is) (λ k. cc))
@@ -463,38 +461,3 @@ All-written l n which p (Some output) h runs = becomes (table.object_at l output
         tt_extremes : IsObject (node_output n which (table.object_at l p.in1) (option_map (table.object_at l) p.in2) (ExtremesObject x))
         tt_extremes = measured (table.object_at l p.in1) (ExtremesObject x) runs.runs.first_kind tt (λ k. cc)
     becomes other e = absurd (no_other_output n.function (object_kind other) (sym runs.runs.out_kind ∙ ap object_kind e) (λ k. cc) (λ k. cc) (λ k. cc))
-
--- ---- immediate mode
-
-module _ (c : Context) (n : Node) where
-  refused_is : (refusal : Refusal) → node_refusal c.objects n ≡ Some refusal → immediate c n ≡ Err refusal
-  refused_is refusal e = ap (λ r. unless r Empty (with_objects c (with_written c.objects (written_by n (held c.objects))))) e
-
-  -- a cell that names nothing of its kind
-  pub operands_refuse : (refusal : Refusal) → Some refusal ≡ operands_refusal c.objects (operands n) → immediate c n ≡ Err refusal
-  operands_refuse refusal e = refused_is refusal (ap (λ r. option_or r (option_map Rejected (option_and_then (verdict_on n) (operands_in c.objects n)))) (sym e))
-
-  module _ (p : Places) (h : StandAt c.objects n p) (known : None ≡ operands_refusal c.objects (operands n)) where
-    operand_there : (cell : Option Cell) (place : Option Place) (wanted : Kind) → StandsIf c.objects cell wanted place → operand_if c.objects cell ≡ option_map operand_of (object_if_at c.objects place)
-    operand_there None None wanted s = refl
-    operand_there (Some cell) (Some place) wanted s = ap (option_map operand_of) s.object
-    operand_there None (Some place) wanted s = absurd s
-    operand_there (Some cell) None wanted s = absurd s
-
-    operands_there : operands_in c.objects n ≡ Some (operands_at c.objects p)
-    operands_there =
-        ap (λ o. option_map (λ in1. let r : Operands = record { in1 = in1; in2 = operand_if c.objects n.in2; out1 = operand_if c.objects n.out1; out2 = operand_if c.objects n.out2 } in r) (option_map operand_of o)) h.in1.object
-        ∙ ap (λ o. let r : Operands = record { in1 = operand_of (object_at c.objects p.in1); in2 = o; out1 = operand_if c.objects n.out1; out2 = operand_if c.objects n.out2 } in Some r) (operand_there n.in2 p.in2 (second_kind n) h.in2)
-        ∙ ap (λ o. let r : Operands = record { in1 = operand_of (object_at c.objects p.in1); in2 = option_map operand_of (object_if_at c.objects p.in2); out1 = o; out2 = operand_if c.objects n.out2 } in Some r) (operand_there n.out1 p.out1 (parameters n.function).output h.out1)
-        ∙ ap (λ o. let r : Operands = record { in1 = operand_of (object_at c.objects p.in1); in2 = option_map operand_of (object_if_at c.objects p.in2); out1 = option_map operand_of (object_if_at c.objects p.out1); out2 = o } in Some r) (operand_there n.out2 p.out2 (parameters n.function).output h.out2)
-
-    verdict_is : node_refusal c.objects n ≡ option_map Rejected (verdict_on n (operands_at c.objects p))
-    verdict_is =
-        ap (λ r. option_or r (option_map Rejected (option_and_then (verdict_on n) (operands_in c.objects n)))) (sym known)
-        ∙ ap (λ o. option_map Rejected (option_and_then (verdict_on n) o)) operands_there
-
-    pub verdict_refuses : (verdict : Verdict) → verdict_on n (operands_at c.objects p) ≡ Some verdict → immediate c n ≡ Err (Rejected verdict)
-    verdict_refuses verdict e = refused_is (Rejected verdict) (verdict_is ∙ ap (option_map Rejected) e)
-
-    pub nothing_refuses : verdict_on n (operands_at c.objects p) ≡ None → immediate c n ≡ Ok (Empty, Some (with_objects c (with_written c.objects (written_by n (held c.objects)))))
-    nothing_refuses e = ap (λ r. unless r Empty (with_objects c (with_written c.objects (written_by n (held c.objects))))) (verdict_is ∙ ap (option_map Rejected) e)

@@ -1,8 +1,6 @@
 -- Images that a context holds, and what nodes write to them.
-use Rattle.std.proofs.Common.{◌≡◌, ℕ, ℤ, List, length, Option, Some, None, refl, ap, ◌∙◌, sym}
-use Rattle.std.specs.Prelude.{◌==◌, unsigned_abs}
-use Rattle.std.specs.List.{count_by}
-use Rattle.std.proofs.lemmas.List.FromFn.{length-map-range_with_len}
+use Rattle.std.proofs.Common.{◌≡◌, ℕ, ℤ, List, Option, ap, ◌∙◌, sym}
+use Rattle.std.specs.Prelude.{◌==◌}
 use Rattle.std.proofs.lemmas.Bool.{eqb-true, and_parts}
 use Rattle.vx_base.specs.declared.node.Node.{Node}
 use Rattle.vx_base.specs.declared.format.Format.{Format}
@@ -10,12 +8,10 @@ use Rattle.vx_base.specs.Rectangle.{Rectangle}
 use Rattle.vx_base.specs.Description.{Description}
 use Rattle.vx_base.specs.Image.{ImageValue, IsImage, image_over, description_of}
 use Rattle.vx_base.specs.Object.{ObjectValue, ImageObject, IsObject, object_kind}
-use Rattle.vx_base.specs.declared.function.Function.{Function}
-use Rattle.vx_base.specs.declared.function.Function.TheVariants.{NotBits}
 use Rattle.vx_base.specs.declared.output.Output.{Output}
-use Rattle.vx_base.specs.Outputs.{node_image, image_of_one}
-use Rattle.vx_base.specs.Statistics.{BinsValue, bin_of, is_bin, histogram, valid_samples}
+use Rattle.vx_base.specs.Outputs.{node_image}
 use Rattle.vx_base.proofs.ImageLaws.{same_parts}
+use Rattle.graph_run.proofs.OperandLaws.{described_node}
 use Rattle.image_core.specs.Fits.{HaveSameSize}
 use Rattle.client_contexts.specs.Steps.{CanRun}
 use Rattle.object_table.specs.Object.{image_value}
@@ -31,16 +27,6 @@ described : (w h k l : ℕ) (format : Format) → w ≡ k → h ≡ l → ◌≡
 described w h k l format e f =
     ap (λ n. let d : Description = record { width = n; height = h; format = format } in d) e
     ∙ ap (λ n. let d : Description = record { width = k; height = n; format = format } in d) f
-
--- what a node gives is of its first input's size, and of the format that is asked for
-described_one : (function : Function) (n : Node) (output : Output) (format : Format) (a : ImageValue) → description_of (image_of_one function n output format a) ≡ record { width = a.width; height = a.height; format = format }
-described_one NotBits n output format a = refl
-described_one other n output format a = refl
-
-pub described_node : (n : Node) (output : Output) (format : Format) (a : ImageValue) (second : Option ObjectValue) → description_of (node_image n output format a second) ≡ record { width = a.width; height = a.height; format = format }
-described_node n output format a None = described_one n.function n output format a
-described_node n output format a (Some (ImageObject b)) = refl
-described_node n output format a (Some other) = refl
 
 -- an output keeps its description
 pub description_kept : (n : Node) (output : Output) (a : ImageValue) (second : Option ObjectValue) (out : ImageValue) → HaveSameSize out a → description_of (node_image n output out.format a second) ≡ description_of out
@@ -60,10 +46,6 @@ module _ (n : Node) (output : Output) (a : ImageValue) (second : Option ObjectVa
   stored_is =
       same_parts (image_over d area (samples)) (node_image n output d.format a second)
       (sym (ap (λ (e : Description). e.width) same_size)) (sym (ap (λ (e : Description). e.height) same_size)) (sym (ap (λ (e : Description). e.format) same_size)) valid written
-
--- there is a count for each bin
-pub length-histogram : (bins : BinsValue) (a : ImageValue) → length (histogram bins a) ≡ bins.bins
-length-histogram bins a = length-map-range_with_len (λ k. count_by (λ z. is_bin k (bin_of bins (unsigned_abs z))) (valid_samples a)) 0 bins.bins
 
 -- an object that is an image is one
 pub image_of_object : (object : ObjectValue) → object_kind object ≡ kind.Image → IsObject object → IsImage (image_value object)

@@ -1,6 +1,5 @@
 -- A text that is written to an image, or isn't.
 use Rattle.std.proofs.Common.{◌≡◌, ℕ, inl, inr, List, Result, Ok, Err, refl, ap, ◌∙◌}
-use Rattle.vx_base.specs.declared.kind.Kind.TheVariants as kind
 use Rattle.vx_base.specs.Cell.{Cell}
 use Rattle.vx_base.specs.Image.{ImageValue}
 use Rattle.vx_base.specs.Picture.{PictureValue}
@@ -9,13 +8,12 @@ use Rattle.pgm_images.specs.declared.fault.PgmFault.{PgmFault}
 use Rattle.pgm_images.specs.declared.fault.PgmFault.TheVariants.{NoMemory}
 use Rattle.pgm_images.specs.Reading.{reading, FailsFor}
 use Rattle.pgm_images.proofs.StandsLemmas.{fault_is}
-use Rattle.client_contexts.specs.declared.refusal.Refusal.{Refusal}
-use Rattle.client_contexts.specs.Context.{Context}
-use Rattle.client_contexts.specs.Operands.{image_of}
-use Rattle.client_contexts.specs.Images.{write_to, write_image, write_text_to, write_text}
-use Rattle.client_contexts.specs.Places.{image_at, StandsAt}
+use Rattle.client_model.specs.declared.refusal.Refusal.{Refusal}
+use Rattle.client_model.specs.Context.{Context}
+use Rattle.client_model.specs.Operands.{image_of}
+use Rattle.client_model.specs.Images.{write_to, write_image, write_text_to, write_text}
+use Rattle.client_contexts.specs.Places.{image_at, ImageAt}
 use Rattle.client_contexts.specs.Steps.{SaysWhy, text_fault}
-use Rattle.client_contexts.proofs.LookupLemmas.{image_of-there}
 
 written_to : (image : Result ImageValue Refusal) (c : Context) (cell : Cell) (p : PictureValue) → write_text_to image c cell (Ok p) ≡ write_to image c cell p
 written_to (Ok image) c cell p = refl
@@ -26,10 +24,10 @@ pub text_is : (c : Context) (cell : Cell) (text : List ℕ) (p : PictureValue) �
 text_is c cell text p e = ap (write_text_to (image_of c.objects cell) c cell) e ∙ written_to (image_of c.objects cell) c cell p
 
 -- a text without a picture is refused, where there is an image
-pub text_refused : (c : Context) (cell : Cell) (text : List ℕ) (place : Place) (why : PgmFault) → StandsAt c.objects cell kind.Image place → FailsFor text why → SaysWhy (write_text c cell text) (text_fault why)
+pub text_refused : (c : Context) (cell : Cell) (text : List ℕ) (place : Place) (why : PgmFault) → ImageAt c.objects cell place → FailsFor text why → SaysWhy (write_text c cell text) (text_fault why)
 text_refused c cell text place NoMemory h fails = tt
 text_refused c cell text place why h fails =
     elim fails.is [
-      | inl e ↦ ap (λ i. write_text_to i c cell (reading text)) (image_of-there c.objects cell place h) ∙ ap (write_text_to (Ok (image_at c.objects place)) c cell) (fault_is (reading text) why e)
+      | inl e ↦ ap (λ i. write_text_to i c cell (reading text)) h.image ∙ ap (write_text_to (Ok (image_at c.objects place)) c cell) (fault_is (reading text) why e)
       | inr e ↦ let no = e.0 in cc
     ]

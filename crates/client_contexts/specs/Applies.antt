@@ -1,11 +1,11 @@
 -- What a call of apply does.
 use Rattle.std.specs.Prelude.{◌≡◌, ◌≢◌, ℕ, Result, IfOk, OnOk, OnErr}
-use Rattle.client_contexts.specs.declared.request.Request.{Request}
-use Rattle.client_contexts.specs.declared.reply.Reply.{Reply}
+use Rattle.client_model.specs.declared.request.Request.{Request}
+use Rattle.client_model.specs.declared.reply.Reply.{Reply}
 use Rattle.client_contexts.specs.declared.memory.NoMemory.{NoMemory}
-use Rattle.client_contexts.specs.Context.{World, state_of}
-use Rattle.client_contexts.specs.Request.{TakesMemory}
-use Rattle.client_contexts.specs.Answer.{answer_to}
+use Rattle.client_model.specs.Context.{World, state_of}
+use Rattle.client_model.specs.Request.{TakesMemory}
+use Rattle.client_model.specs.Answer.{answer_to}
 
 -- Ok is the model's reply and the client's new state; where memory was wanted nothing is changed; other clients never are.
 pub record Applies (client : ℕ) (request : Request) (old new : World) (result : Result Reply NoMemory) : Type 0 where

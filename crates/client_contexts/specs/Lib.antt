@@ -1,15 +1,5 @@
-pub mod Allowance
-pub mod Context
-pub mod Request
-pub mod Refusal
-pub mod Operands
-pub mod Images
-pub mod Objects
-pub mod Statistics
-pub mod Immediate
-pub mod Delays
-pub mod Answer
-pub mod States
+pub mod Lasting
+pub mod Turns
 pub mod Applies
 pub mod Places
 pub mod Steps

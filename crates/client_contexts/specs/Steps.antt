@@ -1,5 +1,5 @@
 -- What a request does in the context of its client, and where a node runs.
-use Rattle.std.specs.Prelude.{ℕ, ◌≡◌, ◌≢◌, not, is_none, IsTrue, ⊤, if◌then◌else◌, List, Option, Some, None, Result, Ok, Err, IfOk, IfErr, OnErr, IfSome}
+use Rattle.std.specs.Prelude.{ℕ, ◌≡◌, ◌≢◌, Bool, false, not, is_none, IsTrue, ⊤, if◌then◌else◌, List, ◌∷◌, Option, Some, None, Result, Ok, Err, IfOk, IfErr, OnErr, IfSome}
 use Rattle.std.specs.Option.{option_map, option_and_then}
 use Rattle.vx_base.specs.declared.kind.Kind.{Kind}
 use Rattle.vx_base.specs.declared.kind.Kind.TheVariants as kind
@@ -9,31 +9,38 @@ use Rattle.vx_base.specs.Image.{ImageValue}
 use Rattle.vx_base.specs.Function.{parameters}
 use Rattle.vx_base.specs.declared.output.Output.{Output}
 use Rattle.vx_base.specs.Node.{IsNode, second_kind}
-use Rattle.vx_base.specs.Object.{ObjectValue, IsObject, object_kind, object_format}
+use Rattle.vx_base.specs.Object.{ObjectValue, IsObject, object_kind, object_format, same_kind}
 use Rattle.vx_base.specs.Statistics.{histogram}
 use Rattle.vx_base.specs.Outputs.{node_output}
 use Rattle.image_core.specs.Fits.{HaveSameSize, SecondHasSize}
 use Rattle.graph_verify.specs.declared.operand.Operands.{Operands}
-use Rattle.graph_verify.specs.Operand.{operand_of}
+use Rattle.graph_verify.specs.declared.operand.Operand.{Operand}
+use Rattle.graph_verify.specs.Operand.{operand_of, other_operands}
 use Rattle.graph_verify.specs.Verdict.{verdict_on}
+use Rattle.graph_verify.specs.declared.fault.GraphFault.{GraphFault}
+use Rattle.graph_verify.specs.declared.fault.GraphFault.TheVariants as graph
+use Rattle.graph_verify.specs.declared.verdict.Verdict.{Verdict}
+use Rattle.graph_verify.specs.declared.verified.VerifyFault.{VerifyFault}
+use Rattle.graph_verify.specs.declared.verified.VerifyFault.TheVariants as verified
 use Rattle.pgm_images.specs.declared.fault.PgmFault.{PgmFault}
 use Rattle.pgm_images.specs.declared.fault.PgmFault.TheVariants as fault
-use Rattle.client_contexts.specs.Images.{fault_refusal}
+use Rattle.client_model.specs.Images.{fault_refusal}
 use Rattle.client_contexts.specs.declared.fault.RequestFault.{RequestFault}
 use Rattle.client_contexts.specs.declared.fault.RequestFault.TheVariants.{Refused, NoMemory}
 use Rattle.client_contexts.specs.declared.places.Places.{Places}
-use Rattle.client_contexts.specs.declared.refusal.Refusal.{Refusal}
-use Rattle.client_contexts.specs.declared.refusal.Refusal.TheVariants.{InvalidReference, InvalidType, InvalidValue}
-use Rattle.client_contexts.specs.declared.reply.Reply.{Reply}
-use Rattle.client_contexts.specs.Context.{Named, Context}
-use Rattle.client_contexts.specs.Refusal.{Outcome}
+use Rattle.client_model.specs.declared.refusal.Refusal.{Refusal}
+use Rattle.client_model.specs.declared.refusal.Refusal.TheVariants.{InvalidReference, InvalidType, InvalidScope, InvalidValue, NoResources, Rejected}
+use Rattle.client_model.specs.declared.reply.Reply.{Reply}
+use Rattle.object_table.specs.Named.{Named}
+use Rattle.client_model.specs.Context.{Context}
+use Rattle.client_model.specs.Refusal.{Outcome}
 use Rattle.object_table.specs.declared.names.Entry.{Entry}
 use Rattle.object_table.specs.declared.place.Place.{Place}
 use Rattle.object_table.specs.Delay.{in_slot, slot_kind}
 use Rattle.object_table.specs.Object.{image_value, distribution_value, with_counts}
 use Rattle.object_table.specs.Table as table
-use Rattle.client_contexts.specs.Operands.{is_kind}
-use Rattle.client_contexts.specs.Places.{object_at, object_if_at, IsPlace, StandsAt, StandsIf}
+use Rattle.client_model.specs.Operands.{is_kind, is_of_other_graph}
+use Rattle.client_contexts.specs.Places.{object_at, object_if_at, IsPlace, StandsAt, StandsIf, FoundAt, FoundIf}
 
 -- ---- results
 
@@ -63,6 +70,23 @@ abbrev pub text_fault : PgmFault → RequestFault
 text_fault fault.NoMemory = NoMemory
 text_fault other = Refused (fault_refusal other)
 
+-- a graph that can't be changed
+abbrev pub graph_fault : GraphFault → RequestFault
+graph_fault graph.NoMemory = NoMemory
+graph_fault graph.NoResources = Refused NoResources
+graph_fault graph.InvalidReference = Refused InvalidReference
+
+-- a graph that isn't verified
+abbrev pub verify_fault : VerifyFault → RequestFault
+verify_fault verified.NoMemory = NoMemory
+verify_fault (verified.Refused verdict) = Refused (Rejected verdict)
+
+-- what is said of the verdict that refuses a request, where no other refusal may
+abbrev pub IfRejected : RequestFault → (Verdict → Type 0) → Type 0
+IfRejected NoMemory P = ⊤
+IfRejected (Refused (Rejected verdict)) P = P verdict
+IfRejected (Refused other) P = ⊥
+
 -- ---- operands
 
 -- why there is no result
@@ -70,20 +94,37 @@ abbrev pub refusal_in : {A : Type 0} → Result A Refusal → Option Refusal
 refusal_in (Ok value) = None
 refusal_in (Err refusal) = Some refusal
 
--- why an object, or what stands in a slot of it, isn't what is wanted
-abbrev pub slot_refusal : Kind → Option ℕ → ObjectValue → Option Refusal
-slot_refusal wanted slot object =
-    if not (is_kind wanted (slot_kind slot object)) then Some InvalidType
-    else (if is_none (in_slot slot object) then Some InvalidValue else None)
+-- why a name isn't that of an object of the kind that is wanted
+abbrev pub name_refusal : Kind → Option ObjectValue → Option Refusal
+name_refusal wanted None = Some InvalidReference
+name_refusal wanted (Some object) = if same_kind wanted (object_kind object) then None else Some InvalidType
 
--- of two refusals of operands the one that comes first: that of a name, or that of a kind, or that of a slot
+-- whether what a cell holds is out of a scope: a virtual image of another graph
+abbrev pub is_outside : Option ℕ → Option ObjectValue → Bool
+is_outside None object = false
+is_outside (Some graph) object = is_of_other_graph graph object
+
+-- why an object, or what stands in a slot of it, isn't what is wanted
+abbrev pub slot_refusal : Kind → Option ℕ → Option ℕ → ObjectValue → Option Refusal
+slot_refusal wanted scope slot object =
+    if not (is_kind wanted (slot_kind slot object)) then Some InvalidType
+    else (if is_outside scope (in_slot slot object) then Some InvalidScope
+    else (if is_none (in_slot slot object) then Some InvalidValue else None))
+
+-- of two refusals of operands the one that comes first: that of a name, or of a kind, or of a scope, or of a slot
 abbrev pub first_class : Option Refusal → Option Refusal → Option Refusal
 first_class None other = other
 first_class one None = one
 first_class (Some InvalidReference) (Some other) = Some InvalidReference
 first_class (Some one) (Some InvalidReference) = Some InvalidReference
 first_class (Some InvalidType) (Some other) = Some InvalidType
+first_class (Some one) (Some InvalidType) = Some InvalidType
+first_class (Some InvalidScope) (Some other) = Some InvalidScope
 first_class (Some one) (Some other) = Some other
+
+-- a node's first input, and what it has beside that
+abbrev pub all_operands : Operands → List Operand
+all_operands o = o.in1 ∷ other_operands o
 
 -- ---- nodes
 
@@ -93,6 +134,13 @@ pub record StandAt (objects : List Named) (n : Node) (p : Places) : Type 0 where
   pub in2 : StandsIf objects n.in2 (second_kind n) p.in2
   pub out1 : StandsIf objects n.out1 (parameters n.function).output p.out1
   pub out2 : StandsIf objects n.out2 (parameters n.function).output p.out2
+
+-- the places at which they are found
+pub record AreFound (objects : List Named) (n : Node) (p : Places) : Type 0 where
+  pub in1 : FoundAt objects n.in1 kind.Image p.in1
+  pub in2 : FoundIf objects n.in2 (second_kind n) p.in2
+  pub out1 : FoundIf objects n.out1 (parameters n.function).output p.out1
+  pub out2 : FoundIf objects n.out2 (parameters n.function).output p.out2
 
 -- places at which objects stand
 pub record ArePlaces (objects : List Named) (p : Places) : Type 0 where

@@ -1,5 +1,6 @@
 //! The context of a client: its objects, their names and their charge.
-ghost use Rattle.std.specs.Prelude.{◌≡◌, ◌*◌, ◌<◌, ◌≤◌, ◌==◌, is_none, if◌then◌else◌, None, Ok, Err, length, position, IfOk, OnOk, OnErr};
+ghost use Rattle.std.specs.Prelude.{◌≡◌, ◌*◌, ◌<◌, ◌≤◌, ◌==◌, ◌&&◌, is_none, if◌then◌else◌, [], None, Ok, Err, length, position, IfOk, OnOk, OnErr};
+ghost use Rattle.std.specs.List.{AllPairs};
 ghost use Rattle.vx_base.specs.declared.kind.Kind.TheVariants as kind;
 ghost use Rattle.vx_base.specs.Rectangle.{IsWithin};
 ghost use Rattle.vx_base.specs.Image.{IsImage, description_of, with_valid};
@@ -7,21 +8,26 @@ ghost use Rattle.vx_base.specs.Object.{ImageObject, IsObject, object_kind};
 ghost use Rattle.vx_base.specs.Outputs.{written_by};
 ghost use Rattle.vx_base.specs.Picture.{pictured};
 ghost use Rattle.object_table.specs.Object.{aged_object};
-ghost use Rattle.client_contexts.specs.declared.refusal.Refusal.TheVariants.{InvalidReference, NoResources};
-ghost use Rattle.client_contexts.specs.Context.{new_context, has_room, object_named, with_object, with_objects, with_written, without, with_new};
-ghost use Rattle.client_contexts.specs.Operands.{held};
+ghost use Rattle.client_model.specs.declared.refusal.Refusal.TheVariants.{InvalidReference, NoResources};
+ghost use Rattle.object_table.specs.Named.{held, with_object, with_written};
+ghost use Rattle.client_model.specs.Context.{new_context, has_room, object_named, with_objects, with_new};
+ghost use Rattle.client_model.specs.Holds.{still_held, unnamed};
 ghost use Rattle.client_contexts.specs.Places.{entry_at, image_at, cell_at, HasImageAt};
+ghost use Rattle.client_model.specs.States.{nodes_in};
 ghost use Rattle.client_contexts.specs.Steps.{Runs};
 
-use crate::limits::Limits;
+mod graphs;
+mod running;
+mod verifying;
+
 use crate::memory::NoMemory;
 use crate::places::Places;
-use crate::refusal::Refusal;
-use crate::run::run_at;
+use crate::run::run_on;
+use client_model::{Limits, Refusal};
 use object_table::{Object, Place, Stored, Table};
 use std::alloc::Global;
 use std::marker::Model;
-use vx_base::{Node, Output, Picture, Rect};
+use vx_base::{Kind, Node, Picture, Rect};
 
 /// The objects of a client in the order of their names, and the name that comes next. Each of their
 /// names is live, and each image has all its samples.
@@ -31,15 +37,14 @@ pub struct Context {
 }
 
 impl Model for Context {
-    ghost use Rattle.std.specs.Prelude.{All};
-    ghost use Rattle.client_contexts.specs.Context.{Context as ContextValue, context_of};
-    ghost use Rattle.client_contexts.specs.Places.{IsInContext};
+    ghost use Rattle.client_model.specs.Context.{Context as ContextValue, context_of};
+    ghost use Rattle.client_contexts.specs.Places.{AreInContext};
 
     ghost Value = { ContextValue };
 
     ghost view = { λ c. context_of c.table };
 
-    ghost invariant = { λ c. All IsInContext c.table.objects };
+    ghost invariant = { λ c. AreInContext c.table.objects };
 }
 
 impl Context {
@@ -72,11 +77,12 @@ impl Context {
         }
     }
 
-    /// Adds an object under the next name.
+    /// Adds an object under the next name. A graph has no nodes yet.
     pub fn add(&mut self, object: Object) -> Result<u32, NoMemory>
         requires name_left { self.old.next < 4294967296 }
         requires place_left { length self.old.objects < 1024 }
         requires object { IsObject object }
+        requires no_nodes { nodes_in object ≡ [] }
         ensures name { IfOk result (λ name. name ≡ self.old.next) }
         ensures ok { OnOk result (self.new ≡ with_new self.old object) }
         ensures err { OnErr result (self.new ≡ self.old) }
@@ -87,21 +93,30 @@ impl Context {
         }
     }
 
-    /// Drops the object with this name, which no other takes.
+    /// Ends the name of an object, which no other takes. A graph ends with its nodes. What is then
+    /// no longer held is dropped.
     pub fn release(&mut self, name: u32) -> Result<(), Refusal>
         ensures result { result ≡ (if is_none (object_named self.old.objects name) then Err InvalidReference else Ok tt) }
-        ensures ok { OnOk result (self.new ≡ with_objects self.old (without self.old.objects name)) }
+        ensures ok { OnOk result (self.new ≡ with_objects self.old (still_held (unnamed self.old.objects name))) }
         ensures err { OnErr result (self.new ≡ self.old) }
     {
+        let Some(index) = self.table.index_of(name) else {
+            return Err(Refusal::InvalidReference);
+        };
+        if self.table.object(index).kind() == Kind::Graph {
+            let graph = self.table.take_graph(index);
+            self.table.unuse_nodes(graph.nodes());
+        }
         match self.table.release(name) {
             Ok(()) => Ok(()),
             Err(_) => Err(Refusal::InvalidReference),
         }
     }
 
-    /// The index of the object with this name.
+    /// The index of the object whose live name this is.
     pub fn index_of(&self, name: u32) -> Option<usize>
-        ensures { result ≡ position (λ o. o.name == name) self.now.objects }
+        ensures index { result ≡ position (λ o. o.live && o.name == name) self.now.objects }
+        ensures in_order { AllPairs (λ a b. a.name < b.name) self.now.objects }
     {
         self.table.index_of(name)
     }
@@ -156,7 +171,6 @@ impl Context {
         requires { Runs self.old.objects node.now places }
         ensures { self.new ≡ with_objects self.old (with_written self.old.objects (written_by node.now (held self.old.objects))) }
     {
-        run_at(&mut self.table, node, Output::First, places, places.out1);
-        run_at(&mut self.table, node, Output::Second, places, places.out2);
+        run_on(&mut self.table, node, places);
     }
 }

@@ -1,13 +1,11 @@
 //! Requests on delays: creating and ageing them.
-ghost use Rattle.client_contexts.specs.Delays.{create_delay, age_delay};
+ghost use Rattle.client_model.specs.Delays.{create_delay, age_delay};
 ghost use Rattle.client_contexts.specs.Steps.{ComesTo, MayComeTo};
 
 use crate::context::Context;
 use crate::fault::RequestFault;
-use crate::limits::Limits;
-use crate::lookup::find;
-use crate::refusal::Refusal;
-use crate::reply::Reply;
+use crate::lookup::{find_image, find_named};
+use client_model::{Limits, Refusal, Reply};
 use object_table::{Content, Delay, Object};
 use vx_base::{Kind, ObjRef, SlotCount};
 
@@ -20,7 +18,7 @@ pub fn create_delay(
 ) -> Result<Reply, RequestFault>
     ensures { MayComeTo (create_delay limits context.old exemplar slots) context.old context.new result }
 {
-    let place = find(context, exemplar, Kind::Image)?;
+    let place = find_image(context, exemplar)?;
     let desc = context.image_at(place).desc();
     context.look_for_room(limits, usize::from(slots.get()) * desc.byte_count())?;
     let delay = Delay::new(context.allocator(), desc, slots)?;
@@ -31,7 +29,7 @@ pub fn create_delay(
 pub fn age_delay(context: &mut Context, name: u32) -> Result<Reply, Refusal>
     ensures { ComesTo (age_delay context.old name) context.old context.new result }
 {
-    let place = find(context, ObjRef::new(name, None), Kind::Delay)?;
-    context.age(place.index);
+    let index = find_named(context, name, Kind::Delay)?;
+    context.age(index);
     Ok(Reply::Empty)
 }

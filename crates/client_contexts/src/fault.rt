@@ -1,6 +1,7 @@
 //! Why a request isn't done.
 use crate::memory::NoMemory;
-use crate::refusal::Refusal;
+use client_model::Refusal;
+use graph_verify::{GraphFault, VerifyFault};
 use pgm_images::PgmFault;
 use std::alloc::AllocError;
 
@@ -58,6 +59,35 @@ impl From<PgmFault> for RequestFault {
             PgmFault::InvalidFormat => RequestFault::Refused(Refusal::InvalidFormat),
             PgmFault::InvalidDimension => RequestFault::Refused(Refusal::InvalidDimension),
             PgmFault::InvalidValue => RequestFault::Refused(Refusal::InvalidValue),
+        }
+    }
+}
+
+impl From<GraphFault> for RequestFault {
+    ghost use Rattle.std.specs.Prelude.{◌≡◌};
+    ghost use Rattle.client_contexts.specs.Steps.{graph_fault};
+
+    ghost from_gives = { λ fault f. f ≡ graph_fault fault };
+
+    fn from(fault: GraphFault) -> RequestFault {
+        match fault {
+            GraphFault::NoMemory => RequestFault::NoMemory,
+            GraphFault::NoResources => RequestFault::Refused(Refusal::NoResources),
+            GraphFault::InvalidReference => RequestFault::Refused(Refusal::InvalidReference),
+        }
+    }
+}
+
+impl From<VerifyFault> for RequestFault {
+    ghost use Rattle.std.specs.Prelude.{◌≡◌};
+    ghost use Rattle.client_contexts.specs.Steps.{verify_fault};
+
+    ghost from_gives = { λ fault f. f ≡ verify_fault fault };
+
+    fn from(fault: VerifyFault) -> RequestFault {
+        match fault {
+            VerifyFault::NoMemory => RequestFault::NoMemory,
+            VerifyFault::Refused(verdict) => RequestFault::Refused(Refusal::Rejected(verdict)),
         }
     }
 }

@@ -1,19 +1,16 @@
 //! Requests on images: creating and querying them, writing and reading their samples, also as PGM
 //! texts, and making a part of them valid.
 ghost use Rattle.std.specs.Prelude.{◌≡◌};
-ghost use Rattle.client_contexts.specs.Images.{create_image, query_image, write_image, write_text, read_image, read_text, set_valid, picture_refusal, valid_refusal};
+ghost use Rattle.client_model.specs.Images.{create_image, described, described_virtual, query_image, write_image, write_text, read_image, read_text, set_valid, picture_refusal, valid_refusal};
 ghost use Rattle.client_contexts.specs.Steps.{ComesTo, MayComeTo};
 
 use crate::context::Context;
 use crate::fault::RequestFault;
-use crate::limits::Limits;
-use crate::lookup::find;
-use crate::refusal::Refusal;
-use crate::reply::{Described, Reply};
-use crate::text::Text;
+use crate::lookup::{find, find_image};
+use client_model::{Described, Limits, Refusal, Reply, Text};
 use object_table::{Content, Object, Stored};
 use std::alloc::Global;
-use vx_base::{Desc, Format, Kind, ObjRef, Picture, Rect};
+use vx_base::{Desc, Format, Kind, ObjRef, Outline, Picture, Rect};
 
 /// Creates an image that is 0 everywhere and wholly valid.
 pub fn create_image(
@@ -28,18 +25,39 @@ pub fn create_image(
     Ok(Reply::Name(context.add(Object::new(Content::Image(image)))?))
 }
 
-/// The format, the size and the valid rectangle of an image.
-pub fn query_image(context: &Context, reference: ObjRef) -> Result<Reply, Refusal>
-    ensures { ComesTo (query_image context.now reference) context.now context.now result }
+/// What is told of an image with samples.
+fn described(image: &Stored) -> Described
+    ensures { result ≡ described image.now }
 {
-    let place = find(context, reference, Kind::Image)?;
-    let image = context.image_at(place);
     let desc = image.desc();
-    Ok(Reply::Described(Described {
+    Described {
         format: Some(desc.format()),
         width: desc.width(),
         height: desc.height(),
         valid: image.valid(),
+    }
+}
+
+/// What is told of a virtual image: what was declared, 0 where a side is open, and no place.
+fn described_virtual(declared: Outline) -> Described
+    ensures { result ≡ described_virtual declared }
+{
+    Described {
+        format: declared.format(),
+        width: declared.width().unwrap_or(0),
+        height: declared.height().unwrap_or(0),
+        valid: Rect::empty(),
+    }
+}
+
+/// The format, the size and the valid rectangle of an image.
+pub fn query_image(context: &Context, reference: ObjRef) -> Result<Reply, Refusal>
+    ensures { ComesTo (query_image context.now reference) context.now context.now result }
+{
+    let place = find(context, reference, Kind::Image, None)?;
+    Ok(Reply::Described(match context.object(place.index).content() {
+        Content::Virtual(image) => described_virtual(image.declared),
+        _ => described(context.image_at(place)),
     }))
 }
 
@@ -64,7 +82,7 @@ pub fn write_image(
 ) -> Result<Reply, Refusal>
     ensures { ComesTo (write_image context.old reference picture.now) context.old context.new result }
 {
-    let place = find(context, reference, Kind::Image)?;
+    let place = find_image(context, reference)?;
     let image = context.image_at(place);
     if let Some(refusal) = picture_refusal(image.desc(), picture.desc()) {
         return Err(refusal);
@@ -83,7 +101,7 @@ pub fn write_text(
 ) -> Result<Reply, RequestFault>
     ensures { MayComeTo (write_text context.old reference text.now) context.old context.new result }
 {
-    find(context, reference, Kind::Image)?;
+    find_image(context, reference)?;
     let picture = pgm_images::read(alloc, text.bytes())?;
     Ok(write_image(context, reference, &picture)?)
 }
@@ -96,7 +114,7 @@ pub fn read_image(
 ) -> Result<Reply, RequestFault>
     ensures { MayComeTo (read_image context.now reference) context.now context.now result }
 {
-    let place = find(context, reference, Kind::Image)?;
+    let place = find_image(context, reference)?;
     let image = context.image_at(place);
     Ok(Reply::Picture(image.picture(alloc)?))
 }
@@ -105,7 +123,7 @@ pub fn read_image(
 pub fn read_text(context: &Context, alloc: Global, reference: ObjRef) -> Result<Reply, RequestFault>
     ensures { MayComeTo (read_text context.now reference) context.now context.now result }
 {
-    let place = find(context, reference, Kind::Image)?;
+    let place = find_image(context, reference)?;
     let image = context.image_at(place);
     if image.desc().format() != Format::U8 {
         return Err(RequestFault::Refused(Refusal::InvalidFormat));
@@ -128,7 +146,7 @@ fn valid_refusal(image: Desc, valid: Rect) -> Option<Refusal>
 pub fn set_valid(context: &mut Context, reference: ObjRef, valid: Rect) -> Result<Reply, Refusal>
     ensures { ComesTo (set_valid context.old reference valid) context.old context.new result }
 {
-    let place = find(context, reference, Kind::Image)?;
+    let place = find_image(context, reference)?;
     let desc = context.image_at(place).desc();
     if let Some(refusal) = valid_refusal(desc, valid) {
         return Err(refusal);

@@ -1,11 +1,10 @@
 //! Nodes that run by themselves, at once.
-ghost use Rattle.client_contexts.specs.Immediate.{immediate};
+ghost use Rattle.client_model.specs.Immediate.{immediate};
 ghost use Rattle.client_contexts.specs.Steps.{ComesTo};
 
 use crate::context::Context;
-use crate::lookup::{find_operands, operands_at};
-use crate::refusal::Refusal;
-use crate::reply::Reply;
+use crate::lookup::{find_operands, has_virtual, operands_at};
+use client_model::{Refusal, Reply};
 use graph_verify::verdict_on;
 use vx_base::NodeSpec;
 
@@ -14,8 +13,12 @@ pub fn run_at_once(context: &mut Context, node: NodeSpec) -> Result<Reply, Refus
     ensures { ComesTo (immediate context.old node) context.old context.new result }
 {
     let node = node.node();
-    let places = find_operands(context, &node)?;
-    if let Some(verdict) = verdict_on(&node, &operands_at(context, places)) {
+    let places = find_operands(context, &node, None)?;
+    let operands = operands_at(context, places);
+    if has_virtual(&operands) {
+        return Err(Refusal::OptimizedAway);
+    }
+    if let Some(verdict) = verdict_on(&node, &operands) {
         return Err(Refusal::Rejected(verdict));
     }
     context.run(&node, places);

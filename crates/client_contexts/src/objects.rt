@@ -1,10 +1,9 @@
 //! Requests on objects of any kind: releasing them.
-ghost use Rattle.client_contexts.specs.Objects.{release};
+ghost use Rattle.client_model.specs.Objects.{release};
 ghost use Rattle.client_contexts.specs.Steps.{ComesTo};
 
 use crate::context::Context;
-use crate::refusal::Refusal;
-use crate::reply::Reply;
+use client_model::{Refusal, Reply};
 
 /// Drops the object with this name.
 pub fn release(context: &mut Context, name: u32) -> Result<Reply, Refusal>

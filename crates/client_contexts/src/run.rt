@@ -1,19 +1,21 @@
 //! Nodes that run on the objects of a context.
-ghost use Rattle.std.specs.Prelude.{◌≡◌, ◌≢◌, ◌<◌, [], length, map, pos, None, Some, IfSome};
+ghost use Rattle.std.specs.Prelude.{◌≡◌, ◌≢◌, ◌<◌, [], length, map, pos, All, None, Some, IfSome};
 ghost use Rattle.vx_base.specs.declared.format.Format.TheVariants.{U8, S16, U32};
 ghost use Rattle.vx_base.specs.Rectangle.{empty};
 ghost use Rattle.vx_base.specs.Image.{IsImage, image_over};
 ghost use Rattle.vx_base.specs.declared.kind.Kind.TheVariants as kind;
 ghost use Rattle.vx_base.specs.Object.{ExtremesObject, IsObject, object_kind};
 ghost use Rattle.vx_base.specs.Description.{sample_count};
-ghost use Rattle.vx_base.specs.Outputs.{node_image};
+ghost use Rattle.vx_base.specs.Outputs.{node_image, written_by};
 ghost use Rattle.vx_base.specs.Function.{parameters};
 ghost use Rattle.vx_base.specs.Statistics.{extremes};
 ghost use Rattle.image_core.specs.Second.{second_object};
 ghost use Rattle.std.specs.Option.{option_map};
 ghost use Rattle.object_table.specs.Names.{IsNames};
+ghost use Rattle.object_table.specs.Named.{named, held, with_written};
 ghost use Rattle.object_table.specs.Table.{entry_at, object_at, image_at, replaced, with_objects, IsPlace, HasImageAt};
-ghost use Rattle.client_contexts.specs.Steps.{CanRun, RunsTo, IsRead, counted_in, output_at, written_at};
+ghost use Rattle.client_contexts.specs.Lasting.{Lasts};
+ghost use Rattle.client_contexts.specs.Steps.{CanRun, Runs, RunsTo, IsRead, counted_in, output_at, written_at};
 
 use crate::places::Places;
 use graph_run::run_node;
@@ -22,9 +24,21 @@ use object_table::{Content, Object, Place, Table};
 use stat_kernels::{histogram, min_max};
 use vx_base::{Desc, GREATEST_BINS, Kind, Node, Output, Rect, Samples};
 
+/// Runs a node that nothing refuses on the objects at these places. It takes no memory.
+pub fn run_on(table: &mut Table, node: &Node, places: Places)
+    requires objects { All (λ e. IsObject e.object) table.old.objects }
+    requires runs { Runs (map named table.old.objects) node.now places }
+    ensures value { map named table.new.objects ≡ with_written (map named table.old.objects) (written_by node.now (held (map named table.old.objects))) }
+    ensures next { table.new.next ≡ table.old.next }
+    ensures lasts { Lasts table.old.objects table.new.objects }
+{
+    run_at(table, node, Output::First, places, places.out1);
+    run_at(table, node, Output::Second, places, places.out2);
+}
+
 /// Runs a node on the objects at these places, to one of its outputs, if it has that. The inputs
 /// are none of the outputs, and are read where they stand. It takes no memory.
-pub fn run_at(table: &mut Table, node: &Node, which: Output, places: Places, output: Option<Place>)
+fn run_at(table: &mut Table, node: &Node, which: Output, places: Places, output: Option<Place>)
     requires { IfSome output (RunsTo table.old.objects node.now places) }
     ensures value { table.new ≡ with_objects table.old (written_at table.old.objects node.now which places output) }
     ensures names { IfSome output (λ _. IsNames table.old.next table.old.objects) }

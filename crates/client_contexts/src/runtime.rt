@@ -1,27 +1,27 @@
 //! All clients, and what their requests do.
 ghost use Rattle.std.specs.Prelude.{◌≡◌, ◌≢◌, [], None, Ok, IfErr, OnErr};
-ghost use Rattle.client_contexts.specs.declared.request.Request.TheVariants.{ReleaseContext};
-ghost use Rattle.client_contexts.specs.Context.{state_of};
-ghost use Rattle.client_contexts.specs.Request.{TakesMemory};
-ghost use Rattle.client_contexts.specs.Answer.{outcome_of};
+ghost use Rattle.client_model.specs.declared.request.Request.TheVariants.{ReleaseContext};
+ghost use Rattle.client_model.specs.Context.{state_of};
+ghost use Rattle.client_model.specs.Request.{TakesMemory};
+ghost use Rattle.client_model.specs.Answer.{outcome_of};
 ghost use Rattle.client_contexts.specs.Applies.{Applies};
 ghost use Rattle.client_contexts.specs.Steps.{MayComeTo, WantsMemory};
 
 use crate::context::Context;
 use crate::delays::{age_delay, create_delay};
 use crate::fault::RequestFault;
+use crate::graphs::{
+    add_node, create_graph, create_virtual_image, process_graph, remove_node, verify_graph,
+};
 use crate::images::{
     create_image, query_image, read_image, read_text, set_valid, write_image, write_text,
 };
 use crate::immediate::run_at_once;
-use crate::limits::Limits;
 use crate::memory::NoMemory;
 use crate::objects::release;
-use crate::refusal::Refusal;
-use crate::reply::Reply;
-use crate::request::Request;
 use crate::statistics::{create_distribution, create_min_max, read_distribution, read_min_max};
 use crate::tables::{create_convolution, create_lut, create_threshold};
+use client_model::{Limits, Refusal, Reply, Request};
 use std::alloc::Global;
 use std::collections::BTreeMap;
 use std::marker::Model;
@@ -36,7 +36,7 @@ pub struct Runtime {
 }
 
 impl Model for Runtime {
-    ghost use Rattle.client_contexts.specs.Context.{World};
+    ghost use Rattle.client_model.specs.Context.{World};
 
     ghost Value = { World };
 
@@ -134,6 +134,14 @@ fn answer(
         Request::ReadDistribution(name) => read_distribution(context, alloc, *name),
         Request::CreateMinMax => create_min_max(context, limits),
         Request::ReadMinMax(name) => Ok(read_min_max(context, *name)?),
+        Request::CreateGraph => create_graph(context, limits),
+        Request::CreateVirtualImage(graph, declared) => {
+            create_virtual_image(context, limits, *graph, *declared)
+        }
+        Request::AddNode(graph, node) => add_node(context, *graph, *node),
+        Request::RemoveNode(graph, number) => Ok(remove_node(context, *graph, *number)?),
+        Request::VerifyGraph(graph) => verify_graph(context, limits, alloc, *graph),
+        Request::ProcessGraph(graph) => process_graph(context, limits, alloc, *graph),
         Request::Immediate(node) => Ok(run_at_once(context, *node)?),
         Request::CreateDelay(exemplar, slots) => create_delay(context, limits, *exemplar, *slots),
         Request::AgeDelay(name) => Ok(age_delay(context, *name)?),

@@ -1,19 +1,16 @@
 //! Requests on what is found in images: creating and reading distributions and extremes.
 ghost use Rattle.vx_base.specs.Object.{DistributionObject, ExtremesObject, new_distribution, no_extremes};
-ghost use Rattle.client_contexts.specs.Images.{create};
-ghost use Rattle.client_contexts.specs.Statistics.{read_distribution, read_min_max};
+ghost use Rattle.client_model.specs.Images.{create};
+ghost use Rattle.client_model.specs.Statistics.{read_distribution, read_min_max};
 ghost use Rattle.client_contexts.specs.Steps.{ComesTo, MayComeTo};
 
 use crate::context::Context;
-use crate::counts::Counts;
 use crate::fault::RequestFault;
-use crate::limits::Limits;
-use crate::lookup::find;
-use crate::refusal::Refusal;
-use crate::reply::Reply;
+use crate::lookup::find_named;
+use client_model::{Counts, Limits, Refusal, Reply};
 use object_table::{Content, Distribution, Object};
 use std::alloc::Global;
-use vx_base::{Bins, Extremes, Kind, ObjRef};
+use vx_base::{Bins, Extremes, Kind};
 
 /// Creates a distribution of these bins, which has counted nothing.
 pub fn create_distribution(
@@ -32,8 +29,8 @@ pub fn create_distribution(
 pub fn read_distribution(context: &Context, alloc: Global, name: u32) -> Result<Reply, RequestFault>
     ensures { MayComeTo (read_distribution context.now name) context.now context.now result }
 {
-    let place = find(context, ObjRef::new(name, None), Kind::Distribution)?;
-    match context.object(place.index).content() {
+    let index = find_named(context, name, Kind::Distribution)?;
+    match context.object(index).content() {
         Content::Distribution(distribution) => {
             let mut counts = Vec::new(alloc);
             counts.extend_from_slice(distribution.counts())?;
@@ -63,8 +60,8 @@ pub fn create_min_max(context: &mut Context, limits: Limits) -> Result<Reply, Re
 pub fn read_min_max(context: &Context, name: u32) -> Result<Reply, Refusal>
     ensures { ComesTo (read_min_max context.now name) context.now context.now result }
 {
-    let place = find(context, ObjRef::new(name, None), Kind::Extremes)?;
-    match context.object(place.index).content() {
+    let index = find_named(context, name, Kind::Extremes)?;
+    match context.object(index).content() {
         Content::Extremes(extremes) => Ok(Reply::Extremes(*extremes)),
         _ => unreachable!(),
     }

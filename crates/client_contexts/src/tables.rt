@@ -1,13 +1,12 @@
 //! Requests that create what functions look samples up in, compare them with or convolve them by:
 //! lookup tables, thresholds and convolutions.
 ghost use Rattle.vx_base.specs.Object.{LutObject, ThresholdObject, ConvolutionObject};
-ghost use Rattle.client_contexts.specs.Images.{create};
+ghost use Rattle.client_model.specs.Images.{create};
 ghost use Rattle.client_contexts.specs.Steps.{MayComeTo};
 
 use crate::context::Context;
 use crate::fault::RequestFault;
-use crate::limits::Limits;
-use crate::reply::Reply;
+use client_model::{Limits, Reply};
 use object_table::{Content, Object};
 use vx_base::{Convolution, Lut, ThresholdRule};
 

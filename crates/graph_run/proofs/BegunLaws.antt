@@ -21,10 +21,10 @@ use Rattle.graph_run.proofs.NameLaws.{Rising, by_names}
 -- ---- the begin
 
 -- what an object under a name is as the run begins
-abbrev begun_under : (Cell → Operand) → List Node → ℕ → ObjectValue → ObjectValue
+abbrev pub begun_under : (Cell → Operand) → List Node → ℕ → ObjectValue → ObjectValue
 begun_under is nodes name x = if is_written nodes (record { name = name; slot = None }) then begun_as x (is (record { name = name; slot = None })) else x
 
-object_held-begun : (is : Cell → Operand) (nodes : List Node) (objects : List Named) (name : ℕ)
+pub object_held-begun : (is : Cell → Operand) (nodes : List Node) (objects : List Named) (name : ℕ)
     → object_held (map (begun is nodes) objects) name ≡ option_map (begun_under is nodes name) (object_held objects name)
 object_held-begun is nodes [] name = refl
 object_held-begun is nodes (o ∷ objects) name = elim (cases_Bool (is_written nodes (record { name = o.name; slot = None }))) [

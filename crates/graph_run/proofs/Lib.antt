@@ -10,3 +10,5 @@ pub mod SolutionLaws
 pub mod BegunLaws
 pub mod AloneLaws
 pub mod AddingLaws
+pub mod OperandLaws
+pub mod TurnLaws

@@ -2,8 +2,9 @@
 ghost use Rattle.std.specs.Prelude.{◌≡◌, [], ◌∷◌};
 ghost use Rattle.vx_base.specs.declared.format.Format.TheVariants.{U8};
 ghost use Rattle.graph_verify.specs.declared.operand.Operand.TheVariants.{Image};
+ghost use Rattle.graph_verify.specs.Examples.{not_to};
 ghost use Rattle.graph_run.specs.Graph.{run};
-ghost use Rattle.graph_run.specs.Examples.{not_to, pixel, open_image};
+ghost use Rattle.graph_run.specs.Examples.{pixel, open_image};
 
 /// Not of image 1 to virtual image 2, and Not of that to image 3, added in either order: what image
 /// 1 holds comes to image 3, and the virtual image is forgotten.

@@ -1,5 +1,5 @@
 //! What runs mean: functions that do nothing, whose contracts are facts.
-ghost use Rattle.std.specs.Prelude.{◌≡◌, ◌<◌, false, List, [], ◌∷◌, length};
+ghost use Rattle.std.specs.Prelude.{◌≡◌, ◌<◌, ℕ, false, List, [], ◌∷◌, length, map, None};
 ghost use Rattle.std.specs.List.{AllPairs};
 ghost use Rattle.std.specs.List.Sorted.{IsPermutation};
 ghost use Rattle.vx_base.specs.declared.kind.Kind.TheVariants as kind;
@@ -10,10 +10,13 @@ ghost use Rattle.object_table.specs.Named.{Named, held, with_written};
 ghost use Rattle.graph_verify.specs.declared.operand.Operand.{Operand};
 ghost use Rattle.graph_verify.specs.Links.{feeds};
 ghost use Rattle.graph_verify.specs.Cycle.{has_cycle};
+ghost use Rattle.graph_verify.specs.Members.{In, AllIn};
+ghost use Rattle.graph_verify.specs.Operand.{operands_of};
 ghost use Rattle.graph_verify.specs.Order.{IsOrder};
 ghost use Rattle.graph_verify.specs.Outlines.{resolved};
-ghost use Rattle.graph_verify.specs.Verdict.{two_writers};
-ghost use Rattle.graph_run.specs.Graph.{rounds, one_by_one, run};
+ghost use Rattle.graph_verify.specs.Verdict.{two_writers, verdict, verdict_on};
+ghost use Rattle.graph_run.specs.Graph.{begun, forgotten, rounds, one_by_one, run};
+ghost use Rattle.graph_run.specs.Operands.{CellsStand};
 ghost use Rattle.graph_run.specs.Solution.{WritesNo, ReadImages, Solves};
 
 /// The nodes one after the other, each once and after those that feed it, leave what the rounds
@@ -45,4 +48,22 @@ pub fn added_in_any_order()
     ensures { (is : Cell → Operand) (nodes others : List Node) (objects : List Named) → IsPermutation nodes others → two_writers nodes ≡ false →
         AllPairs (λ a b. a.name < b.name) objects → WritesNo kind.Delay nodes objects →
         run (resolved is nodes) nodes objects ≡ run (resolved is others) others objects }
+{}
+
+/// In a graph that can run, each node can run on what its cells are found to be, and whichever of
+/// the nodes have run by then, the cells are what they were found to be.
+pub fn each_at_its_turn()
+    ensures alone { (work : ℕ) (is : Cell → Operand) (nodes : List Node) (n : Node) → verdict work is nodes ≡ None → In n nodes →
+        verdict_on n (operands_of (resolved is nodes) n) ≡ None }
+    ensures cells { (work : ℕ) (is : Cell → Operand) (nodes before : List Node) (objects : List Named) → verdict work is nodes ≡ None →
+        CellsStand is nodes objects → AllIn before nodes →
+        CellsStand (resolved is nodes) nodes (one_by_one before (map (begun (resolved is nodes) nodes) objects)) }
+{}
+
+/// A run of a graph that can run is its nodes in an order in which they can run, each once, on what
+/// its cells are as it begins; virtual images are forgotten.
+pub fn runs_in_order()
+    ensures { (work : ℕ) (is : Cell → Operand) (nodes steps : List Node) (objects : List Named) → verdict work is nodes ≡ None →
+        CellsStand is nodes objects → AllPairs (λ a b. a.name < b.name) objects → IsOrder feeds nodes steps →
+        run (resolved is nodes) nodes objects ≡ forgotten objects (one_by_one steps (map (begun (resolved is nodes) nodes) objects)) }
 {}

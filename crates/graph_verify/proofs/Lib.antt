@@ -4,5 +4,12 @@ pub mod CycleLemmas
 pub mod OrderLemmas
 pub mod RoundLemmas
 pub mod LinkLemmas
+pub mod WaitingLemmas
 pub mod SolutionLemmas
+pub mod OutlineLemmas
+pub mod KnownLemmas
+pub mod LooseLemmas
 pub mod VerdictLemmas
+pub mod NodeVerdictLemmas
+pub mod SingleLemmas
+mod VerifyLemmas

@@ -1,9 +1,11 @@
 -- How nodes are linked by cells, where no cell has two writers.
 use Rattle.std.proofs.Common.{◌≡◌, ℕ, ◌+◌, ◌≤◌, Bool, true, false, cond, List, [], ◌∷◌, ◌++◌, refl, sym, ◌∙◌, ap, subst, inl, inr, arith}
-use Rattle.std.specs.Prelude.{Option, Some, None, ◌==◌}
+use Rattle.std.specs.Prelude.{Option, Some, None, ◌==◌, ◌||◌}
 use Rattle.std.specs.List.{list_any, flat_map}
 use Rattle.std.specs.List.Sorted.{IsPermutation}
 use Rattle.std.proofs.lemmas.Bool.{cases_Bool, or_parts, or_from, and_parts, and_from, eqb-true, eq-eqb}
+use Rattle.std.proofs.lemmas.Grind.{flat_map-append}
+use Rattle.std.proofs.lemmas.List.Folds.{list_any-append}
 use Rattle.std.proofs.lemmas.List.Recursion.{is_sum_by}
 use Rattle.std.proofs.lemmas.List.Sorted.{sum_by-IsPermutation}
 use Rattle.vx_base.specs.declared.node.Node.{Node}
@@ -12,8 +14,8 @@ use Rattle.vx_base.specs.Node.{inputs, outputs}
 use Rattle.graph_verify.specs.Members.{In}
 use Rattle.graph_verify.specs.Links.{reads, writes, feeds, has_twice, is_written}
 use Rattle.graph_verify.specs.Rounds.{OneWriter}
-use Rattle.graph_verify.specs.Verdict.{two_writers}
-use Rattle.graph_verify.proofs.MemberLemmas.{In-right, In-from_any, any-from_In, In-flat_map}
+use Rattle.graph_verify.specs.Verdict.{two_writers, writes_twice}
+use Rattle.graph_verify.proofs.MemberLemmas.{In-right, In-from_any, any-from_In, fails-from_In, In-flat_map}
 use Rattle.graph_verify.proofs.OrderLemmas.{is_fed}
 
 -- ---- cells
@@ -83,11 +85,11 @@ once_across c (x ∷ xs) ys h i j =
       | inr k ↦ once_across c xs ys p.1 k j
     ]
 
-once_after : (xs ys : List Cell) → has_twice (xs ++ ys) ≡ false → has_twice ys ≡ false
+pub once_after : (xs ys : List Cell) → has_twice (xs ++ ys) ≡ false → has_twice ys ≡ false
 once_after [] ys h = h
 once_after (x ∷ xs) ys h = once_after xs ys (or_parts (list_any (same_cell x) (xs ++ ys)) (has_twice (xs ++ ys)) h).1
 
-In-outputs : (n : Node) (c : Cell) (g : List Node) → In n g → writes n c ≡ true → In c (flat_map outputs g)
+pub In-outputs : (n : Node) (c : Cell) (g : List Node) → In n g → writes n c ≡ true → In c (flat_map outputs g)
 In-outputs n c g i w = In-flat_map outputs n c g i (In-from_same c (outputs n) w)
 
 -- the test of the writers says that each cell has one
@@ -168,3 +170,41 @@ two_writers-permutation g steps same h = once_since_count (flat_map outputs step
     let d = counted-flat_map (same_cell c) steps in
     let e = totalled-permutation (λ n. counted (same_cell c) (outputs n)) g steps same in
     omega arith)
+
+-- ---- the test of the writers, node by node
+
+has_twice-append : (xs ys : List Cell) → has_twice (xs ++ ys) ≡ ((has_twice xs || list_any (λ c. list_any (same_cell c) ys) xs) || has_twice ys)
+has_twice-append [] ys = refl
+has_twice-append (x ∷ xs) ys =
+    ap (λ b. b || has_twice (xs ++ ys)) (list_any-append (same_cell x) xs ys)
+    ∙ ap (λ b. (list_any (same_cell x) xs || list_any (same_cell x) ys) || b) (has_twice-append xs ys)
+    ∙ regroup (list_any (same_cell x) xs) (list_any (same_cell x) ys) (has_twice xs) (list_any (λ c. list_any (same_cell c) ys) xs) (has_twice ys)
+  where
+    regroup : (a b c d e : Bool) → ((a || b) || ((c || d) || e)) ≡ (((a || c) || (b || d)) || e)
+    regroup true b c d e = refl
+    regroup false true true d e = refl
+    regroup false true false d e = refl
+    regroup false false c d e = refl
+
+is_written-outputs : (ns : List Node) (c : Cell) → list_any (same_cell c) (flat_map outputs ns) ≡ is_written ns c
+is_written-outputs [] c = refl
+is_written-outputs (n ∷ ns) c = list_any-append (same_cell c) (outputs n) (flat_map outputs ns) ∙ ap (λ b. writes n c || b) (is_written-outputs ns c)
+
+pub any_agree : {X : Type 0} (p q : X → Bool) (xs : List X) → ((x : X) → p x ≡ q x) → list_any p xs ≡ list_any q xs
+any_agree p q [] same = refl
+any_agree p q (x ∷ xs) same = ap (λ b. b || list_any p xs) (same x) ∙ ap (λ b. q x || b) (any_agree p q xs same)
+
+pub two_writers-cons : (n : Node) (ns : List Node) → two_writers (n ∷ ns) ≡ ((writes_twice n || list_any (is_written ns) (outputs n)) || two_writers ns)
+two_writers-cons n ns =
+    has_twice-append (outputs n) (flat_map outputs ns)
+    ∙ ap (λ b. (writes_twice n || b) || two_writers ns) (any_agree (λ c. list_any (same_cell c) (flat_map outputs ns)) (is_written ns) (outputs n) (is_written-outputs ns))
+
+-- the last of the nodes
+pub two_writers-after : (ms ns : List Node) → two_writers (ms ++ ns) ≡ false → two_writers ns ≡ false
+two_writers-after ms ns h = once_after (flat_map outputs ms) (flat_map outputs ns) (ap has_twice (sym (flat_map-append outputs ms ns)) ∙ h)
+
+-- what one node writes none of the others writes
+pub written_once : (n : Node) (ns : List Node) → two_writers (n ∷ ns) ≡ false → (c : Cell) → writes n c ≡ true → is_written ns c ≡ false
+written_once n ns h c w =
+    let parts = or_parts (writes_twice n || list_any (is_written ns) (outputs n)) (two_writers ns) (sym (two_writers-cons n ns) ∙ h) in
+    fails-from_In (is_written ns) c (outputs n) (or_parts (writes_twice n) (list_any (is_written ns) (outputs n)) parts.0).1 (In-from_same c (outputs n) w)

@@ -1,8 +1,9 @@
 -- Members of lists.
-use Rattle.std.proofs.Common.{◌≡◌, ℕ, ◌<◌, ◌⊎◌, inl, inr, suc, zero, Bool, true, false, List, [], ◌∷◌, ◌++◌, length, get_or, map, refl, sym, ap, subst, ◌∙◌, arith}
-use Rattle.std.specs.List.{filter, flat_map, list_any, Contains}
+use Rattle.std.proofs.Common.{◌≡◌, ℕ, ◌+◌, ◌<◌, ◌≤◌, ◌⊎◌, inl, inr, suc, zero, Bool, true, false, List, [], ◌∷◌, ◌++◌, length, get_or, map, refl, sym, ap, subst, ◌∙◌, arith}
+use Rattle.std.specs.Prelude.{◌||◌, nat_lt, Some, None, position}
+use Rattle.std.specs.List.{filter, flat_map, list_any, Contains, remove, position_or_len}
 use Rattle.std.specs.List.Sorted.{IsPermutation}
-use Rattle.std.proofs.lemmas.Bool.{cases_Bool, or_cases, or_left, or_right}
+use Rattle.std.proofs.lemmas.Bool.{cases_Bool, or_cases, or_left, or_right, ltb-false}
 use Rattle.std.proofs.lemmas.List.Sorted.{Contains-permutation, IsPermutation-sym}
 use Rattle.graph_verify.specs.Members.{In, AllIn}
 
@@ -64,12 +65,48 @@ module _ {X : Type 0} where
   In-from_map f y (x ∷ xs) (inl same) = (x, inl refl, same)
   In-from_map f y (x ∷ xs) (inr h) = let r = In-from_map f y xs h in (r.0, inr r.1, r.2)
 
+  pub any-map : {Y : Type 0} (f : X → Y) (p : Y → Bool) (xs : List X) → list_any (λ x. p (f x)) xs ≡ list_any p (map f xs)
+  any-map f p [] = refl
+  any-map f p (x ∷ xs) = ap (λ b. p (f x) || b) (any-map f p xs)
+
+  pub filter-map : {Y : Type 0} (f : X → Y) (p : X → Bool) (q : Y → Bool) → ((x : X) → p x ≡ q (f x)) → (xs : List X) → map f (filter p xs) ≡ filter q (map f xs)
+  filter-map f p q same [] = refl
+  filter-map f p q same (x ∷ xs) = elim (cases_Bool (p x)) [
+    | inl e ↦ (let k : q (f x) ≡ true = sym (same x) ∙ e in rw (e, k) (ap (λ l. f x ∷ l) (filter-map f p q same xs)))
+    | inr e ↦ (let k : q (f x) ≡ false = sym (same x) ∙ e in rw (e, k) (filter-map f p q same xs))
+  ]
+
+  pub map_agree : {Y : Type 0} (f g : X → Y) → ((x : X) → f x ≡ g x) → (xs : List X) → map f xs ≡ map g xs
+  map_agree f g same [] = refl
+  map_agree f g same (x ∷ xs) = ap (λ y. y ∷ map f xs) (same x) ∙ ap (λ l. g x ∷ l) (map_agree f g same xs)
+
+  pub map-remove : {Y : Type 0} (f : X → Y) (xs : List X) (i : ℕ) → map f (remove xs i) ≡ remove (map f xs) i
+  map-remove f [] zero = refl
+  map-remove f [] (suc i) = refl
+  map-remove f (x ∷ xs) zero = refl
+  map-remove f (x ∷ xs) (suc i) = ap (λ l. f x ∷ l) (map-remove f xs i)
+
   -- ---- members by their indices
 
   pub In-at : (xs : List X) (k : ℕ) (d : X) → k < length xs → In (get_or xs k d) xs
   In-at [] k d h = absurd (omega (arith, h))
   In-at (y ∷ ys) zero d h = inl refl
   In-at (y ∷ ys) (suc k) d h = inr (In-at ys k d (omega (arith, h)))
+
+  -- what `position` says where it finds none
+  none_pass : (p : X → Bool) (xs : List X) → length xs ≤ position_or_len p xs → (x : X) → In x xs → p x ≡ false
+  none_pass p [] h x i = absurd i
+  none_pass p (y ∷ ys) h x i = elim (cases_Bool (p y)) [
+    | inl k ↦ (let g : length (y ∷ ys) ≤ 0 = rw k at h in absurd (omega arith))
+    | inr k ↦ (let g : length (y ∷ ys) ≤ 1 + position_or_len p ys = rw k at h in
+        elim i [ inl same ↦ ap p same ∙ k | inr j ↦ none_pass p ys (omega arith) x j ])
+  ]
+
+  pub position-None : (p : X → Bool) (xs : List X) → position p xs ≡ None → (x : X) → In x xs → p x ≡ false
+  position-None p xs h = none_pass p xs (elim (cases_Bool (nat_lt (position_or_len p xs) (length xs))) [
+    | inl k ↦ (let g : Some (position_or_len p xs) ≡ None = rw k at h in absurd (cc))
+    | inr k ↦ ltb-false (position_or_len p xs) (length xs) k
+  ])
 
   pub Contains-from_In : (x : X) (xs : List X) → In x xs → Contains xs x
   Contains-from_In x [] h = absurd h
@@ -90,3 +127,10 @@ pub In-flat_map : {X Y : Type 0} (f : X → List Y) (x : X) (y : Y) (xs : List X
 In-flat_map f x y [] h k = absurd h
 In-flat_map f x y (z ∷ xs) (inl same) k = In-left y (f z) (flat_map f xs) (subst (λ w. In y (f w)) same k)
 In-flat_map f x y (z ∷ xs) (inr h) k = In-right y (f z) (flat_map f xs) (In-flat_map f x y xs h k)
+
+pub In-from_flat_map : {X Y : Type 0} (f : X → List Y) (y : Y) (xs : List X) → In y (flat_map f xs) → (x : X) × In x xs × In y (f x)
+In-from_flat_map f y [] h = absurd h
+In-from_flat_map f y (x ∷ xs) h = elim (In-append y (f x) (flat_map f xs) h) [
+  | inl i ↦ (x, inl refl, i)
+  | inr j ↦ (let r = In-from_flat_map f y xs j in (r.0, inr r.1, r.2))
+]

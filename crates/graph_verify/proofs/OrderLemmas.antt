@@ -1,6 +1,6 @@
 -- Orders of nodes: that there is one where there is no cycle, and how one is made node by node.
 use Rattle.std.proofs.Common.{◌≡◌, ℕ, ◌<◌, suc, zero, Bool, true, false, List, [], ◌∷◌, ◌++◌, length, get_or, map, append-nil, length-append, refl, sym, ◌∙◌, ap, inl, inr, arith}
-use Rattle.std.specs.Prelude.{not, ◌||◌}
+use Rattle.std.specs.Prelude.{not}
 use Rattle.std.specs.List.{filter, list_any, remove}
 use Rattle.std.specs.List.Sorted.{IsPermutation}
 use Rattle.std.proofs.lemmas.Bool.{cases_Bool, not-true, not-false}
@@ -10,7 +10,7 @@ use Rattle.std.proofs.lemmas.List.Sorted.{IsPermutation-remove, IsPermutation-ma
 use Rattle.graph_verify.specs.Members.{In, AllIn}
 use Rattle.graph_verify.specs.Cycle.{HasCycle, waiting, left_after, is_empty, has_cycle}
 use Rattle.graph_verify.specs.Order.{InTurn, IsOrder}
-use Rattle.graph_verify.proofs.MemberLemmas.{In-left, In-right, In-append, In-from_any, fails-from_In, In-filter, In-from_filter, In-from_map, AllIn-permutation, AllIn-permutation_back}
+use Rattle.graph_verify.proofs.MemberLemmas.{In-left, In-right, In-append, In-from_any, fails-from_In, In-filter, In-from_filter, In-from_map, any-map, filter-map, AllIn-permutation, AllIn-permutation_back}
 use Rattle.graph_verify.proofs.CycleLemmas.{cycle_or_empty, no_cycle_in_turn, cycle_from-has_cycle}
 
 -- whether a node of the list feeds a node
@@ -86,7 +86,7 @@ module _ {N : Type 0} (feeds : N → N → Bool) where
   InTurnThen [] rest = Unit {0}
   InTurnThen (n ∷ ns) rest = ((m : N) → In m ((n ∷ ns) ++ rest) → feeds m n ≡ false) × InTurnThen ns rest
 
-  -- one more node is placed
+  -- one more node is ordered
   InTurnThen-more : (steps rest less : List N) (x : N) → AllIn (x ∷ less) rest → ((m : N) → In m rest → feeds m x ≡ false) → InTurnThen steps rest → InTurnThen (steps ++ x ∷ []) less
   InTurnThen-more [] rest less x within ready turn = ((λ m i. ready m (within m i)), tt)
   InTurnThen-more (n ∷ ns) rest less x within ready turn = (
@@ -100,8 +100,8 @@ module _ {N : Type 0} (feeds : N → N → Bool) where
     InTurnThen-more ns rest less x within ready turn.1,
   )
 
-  pub InTurnThen-placed : (steps rest : List N) (i : ℕ) (x : N) → i < length rest → x ≡ get_or rest i x → is_fed feeds rest x ≡ false → InTurnThen steps rest → InTurnThen (steps ++ x ∷ []) (remove rest i)
-  InTurnThen-placed steps rest i x within read unfed turn =
+  pub InTurnThen-next : (steps rest : List N) (i : ℕ) (x : N) → i < length rest → x ≡ get_or rest i x → is_fed feeds rest x ≡ false → InTurnThen steps rest → InTurnThen (steps ++ x ∷ []) (remove rest i)
+  InTurnThen-next steps rest i x within read unfed turn =
       InTurnThen-more steps rest (remove rest i) x
       (AllIn-permutation_back rest (x ∷ remove rest i) (IsPermutation-remove rest i x within read))
       (λ m h. not_fed rest x unfed m h) turn
@@ -110,7 +110,7 @@ module _ {N : Type 0} (feeds : N → N → Bool) where
   InTurn-from_then [] h = tt
   InTurn-from_then (n ∷ ns) h = ((λ m i. h.0 m (In-left m (n ∷ ns) [] i)), InTurn-from_then ns h.1)
 
-  -- all are placed
+  -- all are ordered
   pub IsOrder-from_then : (g steps : List N) → IsPermutation g (steps ++ []) → InTurnThen steps [] → IsOrder feeds g steps
   IsOrder-from_then g steps same turn = record {
     same_nodes = rw (append-nil steps) at same;
@@ -131,22 +131,11 @@ module _ {M N : Type 0} (f : M → N) (feeds : N → N → Bool) where
   abbrev links : M → M → Bool
   links a b = feeds (f a) (f b)
 
-  any-map : (p : N → Bool) (xs : List M) → list_any (λ x. p (f x)) xs ≡ list_any p (map f xs)
-  any-map p [] = refl
-  any-map p (x ∷ xs) = ap (λ b. p (f x) || b) (any-map p xs)
-
-  filter-map : (p : M → Bool) (q : N → Bool) → ((x : M) → p x ≡ q (f x)) → (xs : List M) → map f (filter p xs) ≡ filter q (map f xs)
-  filter-map p q same [] = refl
-  filter-map p q same (x ∷ xs) = elim (cases_Bool (p x)) [
-    | inl e ↦ (let k : q (f x) ≡ true = sym (same x) ∙ e in rw (e, k) (ap (λ l. f x ∷ l) (filter-map p q same xs)))
-    | inr e ↦ (let k : q (f x) ≡ false = sym (same x) ∙ e in rw (e, k) (filter-map p q same xs))
-  ]
-
   left-map : (k : ℕ) (g : List M) → map f (left_after links k g) ≡ left_after feeds k (map f g)
   left-map zero g = refl
   left-map (suc k) g =
       left-map k (waiting links g)
-      ∙ ap (left_after feeds k) (filter-map (λ n. list_any (λ m. links m n) g) (λ n. list_any (λ m. feeds m n) (map f g)) (λ n. any-map (λ m. feeds m (f n)) g) g)
+      ∙ ap (left_after feeds k) (filter-map f (λ n. list_any (λ m. links m n) g) (λ n. list_any (λ m. feeds m n) (map f g)) (λ n. any-map f (λ m. feeds m (f n)) g) g)
 
   is_empty-map : (g : List M) → is_empty (map f g) ≡ is_empty g
   is_empty-map [] = refl

@@ -1,8 +1,8 @@
 -- What a verdict says of a graph.
-use Rattle.std.proofs.Common.{◌≡◌, ℕ, ◌≤◌, Bool, true, false, List, refl}
+use Rattle.std.proofs.Common.{◌≡◌, ℕ, ◌<◌, ◌≤◌, Bool, true, false, List, refl, sym, ap, ◌∙◌}
 use Rattle.std.specs.Prelude.{Option, Some, None, nat_le, if◌then◌else◌}
 use Rattle.std.specs.Option.{option_or}
-use Rattle.std.proofs.lemmas.Bool.{leb-true}
+use Rattle.std.proofs.lemmas.Bool.{leb-true, lt-leb, le-leb}
 use Rattle.vx_base.specs.declared.node.Node.{Node}
 use Rattle.vx_base.specs.Cell.{Cell}
 use Rattle.graph_verify.specs.declared.operand.Operand.{Operand}
@@ -35,3 +35,31 @@ can_run work is nodes h =
     none_applies false false false (Some fault) fits h = absurd (cc h)
     none_applies false false false None true h = (refl, refl, refl, refl, refl)
     none_applies false false false None false h = absurd (cc h)
+
+-- ---- which of the reasons applies
+
+-- the last of them
+abbrev pub where_room : ℕ → (Cell → Operand) → List Node → Option Verdict
+where_room work is nodes = if nat_le (work_bytes is nodes) work then None else Some NoResources
+
+module _ (work : ℕ) (is : Cell → Operand) (nodes : List Node) (one : two_writers nodes ≡ false) (no_cycle : has_cycle feeds nodes ≡ false) where
+  from_links : (loose : Bool) → reads_loose is nodes ≡ loose → verdict work is nodes ≡ (if loose then Some InvalidLink else option_or (first_fault (resolved is nodes) nodes) (where_room work is nodes))
+  from_links loose h =
+      ap (λ b. if b then Some MultipleWriters else (if has_cycle feeds nodes then Some InvalidGraph else rest (reads_loose is nodes))) one
+      ∙ ap (λ b. if b then Some InvalidGraph else rest (reads_loose is nodes)) no_cycle
+      ∙ ap rest h
+    where
+      rest : Bool → Option Verdict
+      rest b = if b then Some InvalidLink else option_or (first_fault (resolved is nodes) nodes) (where_room work is nodes)
+
+  pub loose_end : true ≡ reads_loose is nodes → verdict work is nodes ≡ Some InvalidLink
+  loose_end loose = from_links true (sym loose)
+
+  pub by_fault : false ≡ reads_loose is nodes → (fault : Option Verdict) → fault ≡ first_fault (resolved is nodes) nodes → verdict work is nodes ≡ option_or fault (where_room work is nodes)
+  by_fault no_loose_end fault h = from_links false (sym no_loose_end) ∙ ap (λ f. option_or f (where_room work is nodes)) (sym h)
+
+pub too_large : (work : ℕ) (is : Cell → Operand) (nodes : List Node) → work < work_bytes is nodes → where_room work is nodes ≡ Some NoResources
+too_large work is nodes more = ap (λ b. if b then None else Some NoResources) (lt-leb (work_bytes is nodes) work more)
+
+pub there_is_room : (work : ℕ) (is : Cell → Operand) (nodes : List Node) → work_bytes is nodes ≤ work → where_room work is nodes ≡ None
+there_is_room work is nodes fits = ap (λ b. if b then None else Some NoResources) (le-leb (work_bytes is nodes) work fits)

@@ -2,7 +2,12 @@ pub mod Members
 pub mod Links
 pub mod Cycle
 pub mod Order
+pub mod Waiting
 pub mod Rounds
 pub mod Operand
+pub mod Linked
 pub mod Outlines
 pub mod Verdict
+pub mod Known
+pub mod Verified
+pub mod Examples

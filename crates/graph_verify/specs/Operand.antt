@@ -7,7 +7,7 @@ use Rattle.vx_base.specs.declared.kind.Kind.{Kind}
 use Rattle.vx_base.specs.declared.kind.Kind.TheVariants as kind
 use Rattle.vx_base.specs.declared.node.Node.{Node}
 use Rattle.vx_base.specs.Cell.{Cell}
-use Rattle.vx_base.specs.Description.{same_size, byte_count}
+use Rattle.vx_base.specs.Description.{Description, same_size, byte_count}
 use Rattle.vx_base.specs.Image.{description_of}
 use Rattle.vx_base.specs.Object.{ObjectValue, ImageObject, LutObject, ThresholdObject, DelayObject, ConvolutionObject, DistributionObject, ExtremesObject, GraphObject, VirtualObject}
 use Rattle.graph_verify.specs.declared.operand.Operand.{Operand}
@@ -55,6 +55,17 @@ are_of_one_size a b = true
 abbrev pub is_virtual : Operand → Bool
 is_virtual (Virtual declared) = true
 is_virtual other = false
+
+-- whether an operand is an image, one that is there or a virtual one
+abbrev pub is_image : Operand → Bool
+is_image (Image d) = true
+is_image (Virtual declared) = true
+is_image other = false
+
+-- the description of an image that is there
+abbrev pub operand_description : Operand → Option Description
+operand_description (Image d) = Some d
+operand_description other = None
 
 -- the bytes of an image's samples
 abbrev pub operand_bytes : Operand → ℕ

@@ -1,12 +1,14 @@
-//! Worked examples: verdicts on small nodes.
-ghost use Rattle.std.specs.Prelude.{◌≡◌, Some, None};
+//! Worked examples: verdicts on small nodes and graphs.
+ghost use Rattle.std.specs.Prelude.{◌≡◌, [], ◌∷◌, Some, None};
 ghost use Rattle.vx_base.specs.declared.format.Format.TheVariants.{U8, S16};
 ghost use Rattle.vx_base.specs.declared.policy.Policy.TheVariants.{Wrap};
 ghost use Rattle.vx_base.specs.declared.border.Border.TheVariants.{Undefined};
 ghost use Rattle.vx_base.specs.declared.function.Function.TheVariants.{AndBits, NotBits, TableLookup};
 ghost use Rattle.graph_verify.specs.declared.operand.Operand.TheVariants.{Image, Lut};
-ghost use Rattle.graph_verify.specs.declared.verdict.Verdict.TheVariants.{MultipleWriters, InvalidGraph, InvalidFormat, InvalidDimension};
-ghost use Rattle.graph_verify.specs.Verdict.{verdict_on, node_fault};
+ghost use Rattle.graph_verify.specs.declared.verdict.Verdict.TheVariants.{MultipleWriters, InvalidGraph, InvalidLink, InvalidFormat, InvalidDimension, NoResources};
+ghost use Rattle.graph_verify.specs.Outlines.{resolved};
+ghost use Rattle.graph_verify.specs.Verdict.{verdict_on, node_fault, verdict};
+ghost use Rattle.graph_verify.specs.Examples.{cell_of, not_to, and_to, add_to, convert_to, image_of, virtual_of, small, but_for};
 
 /// Not of an image to itself is a cycle, and two outputs are not one cell.
 pub fn cells()
@@ -23,4 +25,36 @@ pub fn operands()
     ensures formats { node_fault NotBits (record { in1 = Image (record { width = 4; height = 1; format = S16 }); in2 = None; out1 = Some (Image (record { width = 4; height = 1; format = S16 })); out2 = None }) ≡ Some InvalidFormat }
     ensures formats_first { node_fault NotBits (record { in1 = Image (record { width = 4; height = 1; format = S16 }); in2 = None; out1 = Some (Image (record { width = 2; height = 1; format = S16 })); out2 = None }) ≡ Some InvalidFormat }
     ensures table { node_fault TableLookup (record { in1 = Image (record { width = 4; height = 1; format = U8 }); in2 = Some (Lut U8); out1 = Some (Image (record { width = 4; height = 1; format = U8 })); out2 = None }) ≡ None }
+{}
+
+/// One graph for each verdict on links, formats and sizes; of all their nodes together the two
+/// writers are told. A graph without nodes can run.
+pub fn graphs()
+    ensures writers { verdict 9 small (not_to 1 2 ∷ not_to 3 2 ∷ []) ≡ Some MultipleWriters }
+    ensures itself { verdict 9 small (not_to 1 1 ∷ []) ≡ Some InvalidGraph }
+    ensures ring { verdict 9 small (not_to 6 7 ∷ not_to 7 8 ∷ not_to 8 6 ∷ []) ≡ Some InvalidGraph }
+    ensures link { verdict 9 small (not_to 6 2 ∷ []) ≡ Some InvalidLink }
+    ensures format { verdict 9 small (not_to 4 2 ∷ []) ≡ Some InvalidFormat }
+    ensures size { verdict 9 small (and_to 1 5 2 ∷ []) ≡ Some InvalidDimension }
+    ensures all { verdict 9 small (not_to 1 2 ∷ not_to 3 2 ∷ not_to 1 1 ∷ not_to 6 7 ∷ not_to 7 8 ∷ not_to 8 6 ∷ not_to 6 2 ∷ not_to 4 2 ∷ and_to 1 5 2 ∷ []) ≡ Some MultipleWriters }
+    ensures none { verdict 9 small [] ≡ None }
+{}
+
+/// The fault that is told is that of the node that was added first, though it runs last.
+pub fn earliest_added()
+    ensures { verdict 9 small (and_to 6 5 2 ∷ not_to 4 3 ∷ not_to 1 6 ∷ []) ≡ Some InvalidDimension }
+{}
+
+/// Two nodes through a virtual image of two by two samples: it takes four bytes.
+pub fn work()
+    ensures little { verdict 3 (but_for (virtual_of None) 2 2) (not_to 1 2 ∷ not_to 2 3 ∷ []) ≡ Some NoResources }
+    ensures enough { verdict 4 (but_for (virtual_of None) 2 2) (not_to 1 2 ∷ not_to 2 3 ∷ []) ≡ None }
+{}
+
+/// A sum that wraps is S16 in a virtual image whose format is open. Where U8 is declared, that
+/// stays, and the conversion of depth can't take it.
+pub fn open_formats()
+    ensures found { resolved (but_for (virtual_of None) 1 1) (add_to 1 3 2 ∷ convert_to 2 4 ∷ []) (cell_of 2) ≡ image_of 1 1 S16 }
+    ensures opened { verdict 9 (but_for (virtual_of None) 1 1) (add_to 1 3 2 ∷ convert_to 2 4 ∷ []) ≡ None }
+    ensures declared { verdict 9 (but_for (virtual_of (Some U8)) 1 1) (add_to 1 3 2 ∷ convert_to 2 4 ∷ []) ≡ Some InvalidFormat }
 {}

@@ -2,3 +2,4 @@
 
 pub mod cycles;
 pub mod rounds;
+pub mod verdicts;

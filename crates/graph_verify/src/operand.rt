@@ -36,7 +36,7 @@ pub struct Operands {
 }
 
 impl Operand {
-    ghost use Rattle.graph_verify.specs.Operand.{operand_kind, operand_format};
+    ghost use Rattle.graph_verify.specs.Operand.{operand_kind, operand_format, is_virtual};
 
     pub fn kind(self) -> Kind
         ensures { result ≡ operand_kind self }
@@ -52,6 +52,13 @@ impl Operand {
             Operand::Graph => Kind::Graph,
             Operand::Virtual(_) => Kind::VirtualImage,
         }
+    }
+
+    /// Whether it is a virtual image.
+    pub fn is_virtual(self) -> bool
+        ensures { result ≡ is_virtual self }
+    {
+        matches!(self, Operand::Virtual(_))
     }
 
     /// The format of an image's samples, of a table's entries, of the samples that a threshold tests,

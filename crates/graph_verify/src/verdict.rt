@@ -7,10 +7,11 @@ ghost use Rattle.vx_base.specs.Node.{outputs};
 ghost use Rattle.vx_base.specs.Formats.{takes_formats};
 ghost use Rattle.graph_verify.specs.declared.operand.Operand.TheVariants.{Image};
 ghost use Rattle.graph_verify.specs.Operand.{operand_format, are_of_one_size, other_operands};
-ghost use Rattle.graph_verify.specs.Verdict.{takes_operands, node_fault, verdict_on, writes_twice, reads_own_output};
+ghost use Rattle.graph_verify.specs.Verdict.{takes_operands, node_fault, verdict_on, reads_own_output};
 
+use crate::linked::{writes, writes_given, writes_twice};
 use crate::operand::{Operand, Operands};
-use vx_base::{Code, Desc, Format, Function, Node, ObjRef};
+use vx_base::{Code, Desc, Format, Function, Node};
 
 /// Why a graph can't run (OpenVX 1.3, `vxVerifyGraph`).
 #[derive(Clone, Copy, PartialEq, Eq, Debug)]
@@ -60,28 +61,11 @@ pub fn verdict_on(node: &Node, operands: &Operands) -> Option<Verdict>
     }
 }
 
-/// Whether two outputs of a node are one cell.
-fn writes_twice(node: &Node) -> bool
-    ensures { result ≡ writes_twice node.now }
-{
-    match (node.out1, node.out2) {
-        (Some(first), Some(second)) => first == second,
-        _ => false,
-    }
-}
-
-/// Whether a node writes a cell.
-fn writes(node: &Node, cell: ObjRef) -> bool
-    ensures { result ≡ list_any (same_cell cell) (outputs node.now) }
-{
-    node.out1 == Some(cell) || node.out2 == Some(cell)
-}
-
 /// Whether a node reads a cell that it writes: a cycle of one node.
 fn reads_own_output(node: &Node) -> bool
     ensures { result ≡ reads_own_output node.now }
 {
-    writes(node, node.in1) || node.in2.is_some_and(|cell| writes(node, cell))
+    writes(node, node.in1) || writes_given(node, node.in2)
 }
 
 /// Whether the function takes the formats of the inputs and of an output, if that is there.
@@ -149,7 +133,7 @@ fn fits(first: Operand, other: Option<Operand>) -> bool
 
 /// The fault of a node by its operands: formats that its function doesn't take, then an image of
 /// another size than its first input.
-fn node_fault(function: Function, operands: &Operands) -> Option<Verdict>
+pub fn node_fault(function: Function, operands: &Operands) -> Option<Verdict>
     ensures { result ≡ node_fault function operands.now }
 {
     if !takes_operands(function, operands) {

@@ -1,6 +1,6 @@
 -- What a table holds, by name: how that changes as the table does.
 use Rattle.std.proofs.Common.{◌≡◌, ℕ, ◌+◌, ◌-◌, ◌<◌, Bool, true, false, cond, List, [], ◌∷◌, ◌++◌, length, map, get_or, Option, Some, None, refl, sym, ap, ◌∙◌, arith}
-use Rattle.std.specs.Prelude.{All, Any, ◌==◌, ◌&&◌, ◌||◌, nat_lt, position, find, filter, sum_by}
+use Rattle.std.specs.Prelude.{All, Any, ◌==◌, ◌&&◌, ◌||◌, nat_lt, position, find, filter, sum_by, if◌then◌else◌}
 use Rattle.std.specs.Option.{option_map}
 use Rattle.std.specs.List.{AllPairs}
 use Rattle.std.specs.List.Sorted.{IsStrictlyIncreasing}
@@ -17,7 +17,7 @@ use Rattle.object_table.specs.declared.place.Place.{Place}
 use Rattle.object_table.specs.Delay.{with_slot}
 use Rattle.object_table.specs.Names.{is_live_as, object_named, is_held, held_of, changed, released, unused, IsNames}
 use Rattle.object_table.specs.Uses.{times, with_uses, used_all, unused_all, AreUses}
-use Rattle.object_table.specs.Named.{Named, named, object_held, with_object, ended, still_held}
+use Rattle.object_table.specs.Named.{Named, named, object_held, with_object}
 use Rattle.object_table.specs.Table.{TableValue, no_object, entry_at, replaced, with_new, charge_of}
 use Rattle.object_table.proofs.NamesLemmas.{changed_at}
 use Rattle.object_table.proofs.SearchLemmas.{position-map, find-map}
@@ -25,6 +25,15 @@ use Rattle.object_table.proofs.UseLemmas.{any_here, any_later, AreUses-ended, Ar
 
 abbrev Objects : Type 0
 Objects = List (Entry ObjectValue)
+
+-- the objects, of which the one of this name has ended its name
+abbrev pub ended : ℕ → List Named → List Named
+ended name [] = []
+ended name (o ∷ objects) = (if o.name == name then record o { live = false } else o) ∷ ended name objects
+
+-- those of the objects whose names are live or that nodes use, as often as this says of each name
+abbrev pub held_by : (ℕ → ℕ) → List Named → List Named
+held_by uses objects = filter (λ o. o.live || nat_lt 0 (uses o.name)) objects
 
 -- ---- objects that are replaced, and that are added
 
@@ -68,7 +77,7 @@ named-held_of is_kept (e ∷ objects) h =
     either true others = ap (λ l. named e ∷ l) others
     either false others = others
 
-pub named-held : (uses : ℕ → ℕ) (objects : Objects) → AreUses uses objects → map named (held_of objects) ≡ still_held uses (map named objects)
+pub named-held : (uses : ℕ → ℕ) (objects : Objects) → AreUses uses objects → map named (held_of objects) ≡ held_by uses (map named objects)
 named-held uses objects h =
     named-held_of (λ o. o.live || nat_lt 0 (uses o.name)) objects
     (All-weaker (λ e. e.uses ≡ uses e.name) (λ e. is_held e ≡ (e.live || nat_lt 0 (uses e.name))) (λ e is. ap (λ n. e.live || nat_lt 0 n) is) objects h)
@@ -85,36 +94,36 @@ named-ended name (e ∷ objects) = either (e.name == name) (named-ended name obj
     either true others = ap (λ l. record (named e) { live = false } ∷ l) others
     either false others = ap (λ l. named e ∷ l) others
 
-pub named-released : (uses : ℕ → ℕ) (name : ℕ) (objects : Objects) → AreUses uses objects → map named (released name objects) ≡ still_held uses (ended name (map named objects))
+pub named-released : (uses : ℕ → ℕ) (name : ℕ) (objects : Objects) → AreUses uses objects → map named (released name objects) ≡ held_by uses (ended name (map named objects))
 named-released uses name objects h =
-    named-held uses (changed name (λ e. record e { live = false }) objects) (AreUses-ended uses name objects h) ∙ ap (still_held uses) (named-ended name objects)
+    named-held uses (changed name (λ e. record e { live = false }) objects) (AreUses-ended uses name objects h) ∙ ap (held_by uses) (named-ended name objects)
 
 named-fewer : (names : List ℕ) (objects : Objects) → map named (map (λ e. with_uses (e.uses - times e.name names) e) objects) ≡ map named objects
 named-fewer names [] = refl
 named-fewer names (e ∷ objects) = ap (λ l. named e ∷ l) (named-fewer names objects)
 
-pub named-unused_all : (uses : ℕ → ℕ) (names : List ℕ) (objects : Objects) → AreUses uses objects → map named (unused_all names objects) ≡ still_held (λ name. uses name - times name names) (map named objects)
+pub named-unused_all : (uses : ℕ → ℕ) (names : List ℕ) (objects : Objects) → AreUses uses objects → map named (unused_all names objects) ≡ held_by (λ name. uses name - times name names) (map named objects)
 named-unused_all uses names objects h =
     named-held (λ name. uses name - times name names) (map (λ e. with_uses (e.uses - times e.name names) e) objects) (AreUses-fewer uses names objects h)
-    ∙ ap (still_held (λ name. uses name - times name names)) (named-fewer names objects)
+    ∙ ap (held_by (λ name. uses name - times name names)) (named-fewer names objects)
 
 right_fails : (a b : Bool) → (a || b) ≡ false → b ≡ false
 right_fails true b h = cc
 right_fails false b h = h
 
 -- what isn't held before a name ends isn't held after
-pub still_held-ended : (uses : ℕ → ℕ) (name : ℕ) (objects : List Named) → still_held uses (ended name (still_held uses objects)) ≡ still_held uses (ended name objects)
-still_held-ended uses name [] = refl
-still_held-ended uses name (o ∷ objects) = either (is_kept o) refl (still_held-ended uses name objects)
+pub held_by-ended : (uses : ℕ → ℕ) (name : ℕ) (objects : List Named) → held_by uses (ended name (held_by uses objects)) ≡ held_by uses (ended name objects)
+held_by-ended uses name [] = refl
+held_by-ended uses name (o ∷ objects) = either (is_kept o) refl (held_by-ended uses name objects)
   where
     is_kept : Named → Bool
     is_kept p = p.live || nat_lt 0 (uses p.name)
 
     kept : List Named
-    kept = still_held uses objects
+    kept = held_by uses objects
 
     after : List Named
-    after = still_held uses (ended name objects)
+    after = held_by uses (ended name objects)
 
     without : Bool → Named
     without b = cond b (record o { live = false }) o
@@ -123,25 +132,25 @@ still_held-ended uses name (o ∷ objects) = either (is_kept o) refl (still_held
     dropped true fails = right_fails o.live (nat_lt 0 (uses o.name)) fails
     dropped false fails = fails
 
-    either : (b : Bool) → is_kept o ≡ b → still_held uses (ended name kept) ≡ after
-        → still_held uses (ended name (cond b (o ∷ kept) kept)) ≡ cond (is_kept (without (o.name == name))) (without (o.name == name) ∷ after) after
+    either : (b : Bool) → is_kept o ≡ b → held_by uses (ended name kept) ≡ after
+        → held_by uses (ended name (cond b (o ∷ kept) kept)) ≡ cond (is_kept (without (o.name == name))) (without (o.name == name) ∷ after) after
     either true passes others = ap (λ l. cond (is_kept (without (o.name == name))) (without (o.name == name) ∷ l) l) others
     either false fails others = others ∙ sym (ap (λ b. cond b (without (o.name == name) ∷ after) after) (dropped (o.name == name) fails))
 
 -- an object that no node uses is gone once its name has ended, whatever it was
-pub still_held-replaced : (uses : ℕ → ℕ) (name : ℕ) (object : ObjectValue) (objects : List Named) → uses name ≡ 0
-    → still_held uses (ended name (with_object objects (record { name = name; slot = None }) object)) ≡ still_held uses (ended name objects)
-still_held-replaced uses name object [] unused = refl
-still_held-replaced uses name object (o ∷ objects) unused = either (o.name == name) refl (still_held-replaced uses name object objects unused)
+pub held_by-replaced : (uses : ℕ → ℕ) (name : ℕ) (object : ObjectValue) (objects : List Named) → uses name ≡ 0
+    → held_by uses (ended name (with_object objects (record { name = name; slot = None }) object)) ≡ held_by uses (ended name objects)
+held_by-replaced uses name object [] unused = refl
+held_by-replaced uses name object (o ∷ objects) unused = either (o.name == name) refl (held_by-replaced uses name object objects unused)
   where
     is_kept : Named → Bool
     is_kept p = p.live || nat_lt 0 (uses p.name)
 
     before : List Named
-    before = still_held uses (ended name (with_object objects (record { name = name; slot = None }) object))
+    before = held_by uses (ended name (with_object objects (record { name = name; slot = None }) object))
 
     after : List Named
-    after = still_held uses (ended name objects)
+    after = held_by uses (ended name objects)
 
     -- an object once its name has ended, in front of others
     onto : Named → List Named → List Named

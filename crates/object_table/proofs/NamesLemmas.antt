@@ -32,7 +32,7 @@ module _ {O : Type 0} where
 
   -- ---- one entry is changed
 
-  changed-none : (entries : List (Entry O)) (name : ℕ) (change : Entry O → Entry O) → ((k : ℕ) (d : Entry O) → k < length entries → (get_or entries k d).name ≢ name) → changed name change entries ≡ entries
+  pub changed-none : (entries : List (Entry O)) (name : ℕ) (change : Entry O → Entry O) → ((k : ℕ) (d : Entry O) → k < length entries → (get_or entries k d).name ≢ name) → changed name change entries ≡ entries
   changed-none [] name change h = refl
   changed-none (e ∷ entries) name change h =
       ap (λ b. cond b (change e) e ∷ changed name change entries) (ne_eqb e.name name (h zero e (omega arith)))

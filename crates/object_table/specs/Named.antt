@@ -1,5 +1,5 @@
 -- What is held, by name.
-use Rattle.std.specs.Prelude.{ℕ, ◌==◌, Bool, false, ◌||◌, nat_lt, if◌then◌else◌, List, [], ◌∷◌, find, filter, Option}
+use Rattle.std.specs.Prelude.{ℕ, ◌==◌, Bool, if◌then◌else◌, List, [], ◌∷◌, find, Option}
 use Rattle.std.specs.Option.{option_map, option_and_then}
 use Rattle.vx_base.specs.Cell.{Cell}
 use Rattle.vx_base.specs.Object.{ObjectValue}
@@ -34,12 +34,3 @@ with_object (o ∷ objects) cell object =
 abbrev pub with_written : List Named → List (Cell × ObjectValue) → List Named
 with_written objects [] = objects
 with_written objects (w ∷ written) = with_written (with_object objects w.0 w.1) written
-
--- the objects, of which the one of this name has ended its name
-abbrev pub ended : ℕ → List Named → List Named
-ended name [] = []
-ended name (o ∷ objects) = (if o.name == name then record o { live = false } else o) ∷ ended name objects
-
--- those of the objects whose names are live or that nodes use, as often as this says of each name
-abbrev pub still_held : (ℕ → ℕ) → List Named → List Named
-still_held uses objects = filter (λ o. o.live || nat_lt 0 (uses o.name)) objects

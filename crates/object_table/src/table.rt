@@ -88,6 +88,7 @@ impl Table {
         ensures fault { IfErr result (λ e. e.fault ≡ (if can_insert self.old.next self.old.objects then NoMemory else NoResources)) }
         ensures err { OnErr result (self.new ≡ self.old) }
         ensures handed_back { IfErr result (λ e. e.object ≡ object) }
+        ensures names { IsNames self.old.next self.old.objects }
     {
         if !self.names.can_insert() {
             return Err(InsertFault {
@@ -123,6 +124,14 @@ impl Table {
         ensures names { IsNames self.now.next self.now.objects }
     {
         self.names.search(name)
+    }
+
+    /// The names are in their order, and what has them is held, which the prover knows where they
+    /// are read.
+    pub fn is_named(&self)
+        ensures { IsNames self.now.next self.now.objects }
+    {
+        let _names = &self.names;
     }
 
     /// The object at an index.
@@ -192,19 +201,19 @@ impl Table {
         }
     }
 
-    /// Puts an object in the place of the one at an index, and hands that out. Name, mark and uses
-    /// stay, and the charge is that of the new object. It takes no memory.
-    pub fn exchange(&mut self, index: usize, object: Object) -> Object
+    /// The object at an index and the given one change places. Name, mark and uses stay, and the
+    /// charge is that of the new object. It takes no memory.
+    pub fn exchange(&mut self, index: usize, object: &mut Object)
         requires { index < length self.old.objects }
-        ensures value { self.new ≡ with_objects self.old (replaced self.old.objects (record { index = index; slot = None }) object) }
-        ensures handed_out { result ≡ (entry_at self.old.objects index).object }
+        ensures value { self.new ≡ with_objects self.old (replaced self.old.objects (record { index = index; slot = None }) object.old) }
+        ensures handed_out { object.new ≡ (entry_at self.old.objects index).object }
         ensures names { IsNames self.old.next self.old.objects }
     {
-        let added = object.bytes() as u64;
+        let come = object.bytes() as u64;
         let entry = &mut self.names.entries[index];
-        let old = mem::replace(&mut entry.object, object);
-        self.charge = self.charge - old.bytes() as u64 + added;
-        old
+        let gone = entry.object.bytes() as u64;
+        mem::swap(&mut entry.object, object);
+        self.charge = self.charge - gone + come;
     }
 
     /// Writes a picture to the image at a place; both are of one description.

@@ -1,5 +1,5 @@
 -- How `apply` ends where a text stands for no picture.
-use Rattle.std.proofs.Common.{◌≡◌, ℕ, List, Option, Some, Result, Ok, Err, IfErr, IsErrAnd, inl, inr, refl, ap, ◌∙◌}
+use Rattle.std.proofs.Common.{◌≡◌, ℕ, List, Some, Result, Ok, Err, IfErr, IsErrAnd, inl, inr, ap, ◌∙◌}
 use Rattle.vx_base.specs.Picture.{PictureValue}
 use Rattle.pgm_images.specs.declared.fault.PgmFault.{PgmFault}
 use Rattle.pgm_images.specs.Reading.{reading, fault_of, FailsFor}

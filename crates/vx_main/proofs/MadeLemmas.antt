@@ -1,5 +1,5 @@
 -- What the requests of `apply` are answered, from one state to the next.
-use Rattle.std.proofs.Common.{◌≡◌, ◌∙◌, ◌+◌, ◌*◌, ◌≤◌, ◌==◌, ℕ, ℤ, true, List, [], ◌∷◌, None, Some, ap, subst, sym, refl, arith}
+use Rattle.std.proofs.Common.{◌≡◌, ◌∙◌, ◌+◌, ◌*◌, ◌≤◌, ℕ, ℤ, true, List, [], ◌∷◌, None, Some, ap, subst, sym, refl, arith}
 use Rattle.std.specs.Prelude.{nat_le}
 use Rattle.std.proofs.lemmas.Bool.{eq-eqb, le-leb, leb-true, and_parts}
 use Rattle.std.proofs.Math.Nat.{mul-le-mul}
@@ -11,13 +11,13 @@ use Rattle.vx_base.specs.Description.{Description, IsDescription, is_side}
 use Rattle.vx_base.specs.Image.{ImageValue, new_image}
 use Rattle.vx_base.specs.Picture.{PictureValue, pictured}
 use Rattle.vx_base.specs.Object.{ImageObject}
-use Rattle.client_contexts.specs.declared.request.Request.{Request}
-use Rattle.client_contexts.specs.declared.request.Request.TheVariants.{OpenContext, CreateImage, WriteImage, Immediate, ReadImagePgm}
-use Rattle.client_contexts.specs.declared.reply.Reply.{Reply}
-use Rattle.client_contexts.specs.declared.reply.Reply.TheVariants.{Text}
-use Rattle.client_contexts.specs.Allowance.{Allowance, default_allowance}
-use Rattle.client_contexts.specs.Context.{Named, State, World, new_context, state_of, charge_of}
-use Rattle.client_contexts.specs.Answer.{answer_to}
+use Rattle.client_model.specs.declared.request.Request.{Request}
+use Rattle.client_model.specs.declared.request.Request.TheVariants.{OpenContext, CreateImage, WriteImage, Immediate, ReadImagePgm}
+use Rattle.client_model.specs.declared.reply.Reply.{Reply}
+use Rattle.client_model.specs.declared.reply.Reply.TheVariants.{Text}
+use Rattle.client_model.specs.Allowance.{Allowance, default_allowance}
+use Rattle.client_model.specs.Context.{State, World, new_context, state_of, charge_of}
+use Rattle.client_model.specs.Answer.{answer_to}
 use Rattle.vx_main.specs.declared.job.Job.{Job}
 use Rattle.vx_main.specs.declared.job.Operation.{Operation}
 use Rattle.vx_main.specs.declared.job.Operation.TheVariants.{Not, Box, Gaussian, Median, Erode, Dilate}
@@ -26,10 +26,13 @@ use Rattle.vx_main.specs.Apply.{image_made, text_made}
 
 -- a context with one image, and one with two
 abbrev pub of_one : ImageValue → State
-of_one a = Some (record { next = 2; objects = record { name = 1; object = ImageObject a } ∷ [] })
+of_one a = Some (record { next = 2; objects = record { name = 1; live = true; object = ImageObject a } ∷ [] })
 
 abbrev pub of_two : ImageValue → ImageValue → State
-of_two a b = Some (record { next = 3; objects = record { name = 1; object = ImageObject a } ∷ record { name = 2; object = ImageObject b } ∷ [] })
+of_two a b = Some (record {
+  next = 3;
+  objects = record { name = 1; live = true; object = ImageObject a } ∷ record { name = 2; live = true; object = ImageObject b } ∷ [];
+})
 
 -- images of at most 2^24 samples of one byte, two of which are within the quota
 pub first_created : (w h : ℕ) → h * w ≤ 16777216 → (answer_to default_allowance (Some new_context) (CreateImage (record { width = w; height = h; format = U8 }))).1 ≡ of_one (new_image w h U8)
@@ -39,8 +42,8 @@ first_created w h fits =
 
 pub second_created : (w h : ℕ) → h * w ≤ 16777216 → (answer_to default_allowance (of_one (new_image w h U8)) (CreateImage (record { width = w; height = h; format = U8 }))).1 ≡ of_two (new_image w h U8) (new_image w h U8)
 second_created w h fits =
-    let held : List Named = record { name = 1; object = ImageObject (new_image w h U8) } ∷ [] in
-    let room : nat_le (charge_of held + h * w * 1) 268435456 ≡ true = le-leb _ _ (omega (arith, fits)) in
+    let charge : ℕ = charge_of (record { name = 1; live = true; object = ImageObject (new_image w h U8) } ∷ []) in
+    let room : nat_le (charge + h * w * 1) 268435456 ≡ true = le-leb _ _ (omega (arith, fits)) in
     rw room refl
 
 pub picture_written : (w h : ℕ) (samples : List ℤ) →

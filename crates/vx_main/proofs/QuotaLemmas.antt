@@ -1,12 +1,12 @@
 -- What a quota's word tells, by the number that `parse` reads from it.
-use Rattle.std.proofs.Common.{◌≡◌, ◌∙◌, ◌<◌, ◌≤◌, ◌^◌, ℕ, Bool, true, List, [], ◌∷◌, length, None, if◌then◌else◌, Result, Ok, Err, ◌≢◌, get_or, ap, sym, subst, refl, rules, arith, inl, inr}
+use Rattle.std.proofs.Common.{◌≡◌, ◌∙◌, ◌<◌, ◌≤◌, ◌^◌, ℕ, Bool, true, List, [], ◌∷◌, length, Option, Some, None, if◌then◌else◌, Result, Ok, Err, ◌≢◌, get_or, ap, sym, subst, refl, rules, arith, inl, inr}
 use Rattle.std.proofs.lemmas.Bool.{cases_Bool, cases_lt, lt-leb}
 use Rattle.std.specs.Str.{all_ascii_digits}
 use Rattle.std.specs.Result.{OkIff}
 use Rattle.std.specs.Str.Parse.{digits_value, ParsesUnsigned}
 use Rattle.std.proofs.lemmas.Str.Parse.{IsNumeralModel, numerals_by_value, tells_all_ascii_digits, parse_plain}
-use Rattle.client_contexts.specs.Allowance.{allowance}
-use Rattle.vx_main.specs.CommandLine.{limits_told}
+use Rattle.client_model.specs.Allowance.{is_limit}
+use Rattle.vx_main.specs.CommandLine.{bytes_told}
 
 -- the words of digits, and the numbers that they write
 digits_model : IsNumeralModel (λ ds. all_ascii_digits ds ≡ true) (digits_value 10)
@@ -16,21 +16,25 @@ digits_model = numerals_by_value _ tells_all_ascii_digits
 abbrev IsNumber : List ℕ → Type 0
 IsNumber word = (all_ascii_digits word ≡ true) × (0 < length word) × (digits_value 10 word < 2 ^ 64)
 
+-- a number of bytes that may be told
+abbrev pub limit_of : ℕ → Option ℕ
+limit_of n = if is_limit n then Some n else None
+
 -- digits tell the number that they write
-told_of_digits : (word : List ℕ) → all_ascii_digits word ≡ true → limits_told word ≡ allowance (digits_value 10 word) 268435456
-told_of_digits word digits = ap (λ (t : Bool). if t then allowance (digits_value 10 word) 268435456 else None) digits
+told_of_digits : (word : List ℕ) → all_ascii_digits word ≡ true → bytes_told word ≡ limit_of (digits_value 10 word)
+told_of_digits word digits = ap (λ (t : Bool). if t then limit_of (digits_value 10 word) else None) digits
 
 -- a great number is no limit
-great : (n : ℕ) → 2 ^ 64 ≤ n → allowance n 268435456 ≡ None
+great : (n : ℕ) → 2 ^ 64 ≤ n → limit_of n ≡ None
 great n high = search (rules, arith, high, lt-leb n 1099511627776)
 
 -- what writes no number below 2^64 tells none
-told_of_others : (word : List ℕ) → (IsNumber word → ⊥) → limits_told word ≡ None
+told_of_others : (word : List ℕ) → (IsNumber word → ⊥) → bytes_told word ≡ None
 told_of_others [] others = refl
 told_of_others (c ∷ cs) others =
     let word = c ∷ cs in
     elim (cases_Bool (all_ascii_digits word)) [
-      | inr stray ↦ ap (λ (t : Bool). if t then allowance (digits_value 10 word) 268435456 else None) stray
+      | inr stray ↦ ap (λ (t : Bool). if t then limit_of (digits_value 10 word) else None) stray
       | inl digits ↦ elim (cases_lt (digits_value 10 word) (2 ^ 64)) [
         | inl low ↦ absurd (others (digits, omega arith, low))
         | inr high ↦ told_of_digits word digits ∙ great (digits_value 10 word) high
@@ -42,10 +46,10 @@ module _ {E : Type 0} (word : List ℕ) (r : Result ℕ E) (plain : get_or word 
   parsed : OkIff r (IsNumber word) (digits_value 10 word)
   parsed = parse_plain digits_model 64 word r read plain
 
-  pub told_ok : (n : ℕ) → r ≡ Ok n → limits_told word ≡ allowance n 268435456
+  pub told_ok : (n : ℕ) → r ≡ Ok n → bytes_told word ≡ limit_of n
   told_ok n is =
       let found : IsNumber word × (n ≡ digits_value 10 word) = subst (λ (s : Result ℕ E). OkIff s (IsNumber word) (digits_value 10 word)) is parsed in
-      told_of_digits word found.0.0 ∙ ap (λ (m : ℕ). allowance m 268435456) (sym found.1)
+      told_of_digits word found.0.0 ∙ ap (λ (m : ℕ). limit_of m) (sym found.1)
 
-  pub told_err : (e : E) → r ≡ Err e → limits_told word ≡ None
+  pub told_err : (e : E) → r ≡ Err e → bytes_told word ≡ None
   told_err e is = told_of_others word (subst (λ (s : Result ℕ E). OkIff s (IsNumber word) (digits_value 10 word)) is parsed)

@@ -1,7 +1,7 @@
 -- What `apply` gives.
 use Rattle.std.specs.Prelude.{◌≡◌, ◌⊎◌, ℕ, List, None, Result, Ok, Err, if◌then◌else◌}
 use Rattle.vx_base.specs.declared.code.Code.{Code}
-use Rattle.vx_base.specs.declared.code.Code.TheVariants.{InvalidFormat, InvalidDimension, InvalidValue, NoMemory, NoResources}
+use Rattle.vx_base.specs.declared.code.Code.TheVariants.{InvalidFormat, InvalidDimension, InvalidValue, NoMemory}
 use Rattle.vx_base.specs.declared.format.Format.TheVariants.{U8}
 use Rattle.vx_base.specs.declared.output.Output.TheVariants.{First}
 use Rattle.vx_base.specs.Sample.{same_format}

@@ -1,14 +1,15 @@
 //! One function of one PGM text, as its reader and its writer see it.
 ghost use Rattle.std.specs.Prelude.{◌≡◌, Ok, IfOk, IfErr, OnOk};
 ghost use Rattle.vx_base.specs.declared.format.Format.TheVariants.{U8 as FormatU8};
-ghost use Rattle.client_contexts.specs.Answer.{answer_to};
-ghost use Rattle.client_contexts.specs.Context.{state_of};
+ghost use Rattle.client_model.specs.Answer.{answer_to};
+ghost use Rattle.client_model.specs.Context.{state_of};
 ghost use Rattle.vx_main.specs.Apply.{applied, fault_code, text_made, EndsFor};
 
 use crate::ended::Ended;
 use crate::job::{Job, RESULT, SOURCE};
 use crate::output::write_bytes;
-use client_contexts::{Limits, NoMemory, Reply, Request, Runtime, Text};
+use client_contexts::{NoMemory, Runtime};
+use client_model::{Limits, Reply, Request, Text};
 use std::alloc::Global;
 use std::io::{ErrorKind, Read, Write};
 use vx_base::{Code, Format, ObjRef, Picture};

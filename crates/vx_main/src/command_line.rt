@@ -4,12 +4,15 @@ ghost use Rattle.std.specs.Prelude.{◌≡◌};
 use crate::job::{Job, border_told, operation_told};
 use clap::error::ErrorKind;
 use clap::{Arg, ArgAction, ArgMatches, Command, Error};
-use client_contexts::Limits;
+use client_model::{GREATEST_LIMIT, Limits};
 use std::alloc::{AllocError, Global};
 use vx_base::Border;
 
 /// The server's version.
 const VERSION: &str = "0.1.0";
+
+/// The word for the number of bytes that a quota and a work are by default.
+const DEFAULT_BYTES: &str = "268435456";
 
 /// What a command line asks for.
 #[derive(Clone, Copy, PartialEq, Eq, Debug)]
@@ -21,7 +24,7 @@ pub enum Asked {
 }
 
 /// What the words ask for, where they are a command line of the program: the subcommand `serve`,
-/// with or without a quota, or `apply` with a function, with or without a border.
+/// with or without a quota and a work, or `apply` with a function, with or without a border.
 pub fn read_words(alloc: Global, words: &[&str]) -> Result<Asked, Error> {
     let program = Command::new(alloc, "vx_main")
         .version(VERSION)
@@ -43,34 +46,45 @@ pub fn read_words(alloc: Global, words: &[&str]) -> Result<Asked, Error> {
 
 /// The subcommand `serve`.
 fn serve_command<'a>(alloc: Global) -> Result<Command<'a>, AllocError> {
-    let quota = Arg::new(alloc, "quota")
-        .long("quota")
-        .value_name("BYTES")
-        .action(ArgAction::Set)
-        .help("Sample bytes for each client's images, 1 to 1099511627776 [default: 268435456]");
+    let quota = bytes_option(
+        alloc,
+        "quota",
+        "Sample bytes for each client's images, 1 to 1099511627776 [default: 268435456]",
+    );
+    let work = bytes_option(
+        alloc,
+        "work",
+        "Sample bytes for each graph's virtual images, 1 to 1099511627776 [default: 268435456]",
+    );
     Command::new(alloc, "serve")
         .about("Reads request frames from standard input and writes a reply frame for each")
-        .arg(quota)
+        .arg(quota)?
+        .arg(work)
+}
+
+/// An option whose value is a number of bytes.
+fn bytes_option<'a>(alloc: Global, name: &'static str, help: &'static str) -> Arg<'a> {
+    Arg::new(alloc, name)
+        .long(name)
+        .value_name("BYTES")
+        .action(ArgAction::Set)
+        .help(help)
 }
 
 /// The limits that the words after `serve` ask for.
 fn read_limits(alloc: Global, serve: &ArgMatches<'_>) -> Result<Limits, Error> {
-    let Some(quota) = serve.get_str("quota") else {
-        return Ok(Limits::default());
-    };
-    match limits_told(quota) {
-        Some(limits) => Ok(limits),
-        None => Err(no_quota(alloc)?),
+    let quota = serve.get_str("quota").unwrap_or(DEFAULT_BYTES);
+    let work = serve.get_str("work").unwrap_or(DEFAULT_BYTES);
+    if let Some(limits) = limits_told(quota, work) {
+        return Ok(limits);
     }
-}
-
-/// The refusal of a quota's word.
-fn no_quota(alloc: Global) -> Result<Error, AllocError> {
+    let text = if bytes_told(quota).is_none() {
+        "the value of '--quota <BYTES>' isn't a decimal number from 1 to 1099511627776"
+    } else {
+        "the value of '--work <BYTES>' isn't a decimal number from 1 to 1099511627776"
+    };
     let mut serve = serve_command(alloc)?.bin_name("vx_main serve")?;
-    serve.error(
-        ErrorKind::ValueValidation,
-        "the value of '--quota <BYTES>' isn't a decimal number from 1 to 1099511627776",
-    )
+    Err(serve.error(ErrorKind::ValueValidation, text)?)
 }
 
 /// The subcommand `apply`.
@@ -118,19 +132,38 @@ fn no_word(alloc: Global, text: &str) -> Result<Error, AllocError> {
     apply.error(ErrorKind::ValueValidation, text)
 }
 
-ghost use Rattle.vx_main.specs.CommandLine.{limits_told};
+ghost use Rattle.client_model.specs.Allowance.{is_limit};
+ghost use Rattle.vx_main.specs.CommandLine.{bytes_told, limits_told};
 
-/// The limits of a program that is told this quota: decimal digits and nothing else, for a number
-/// of bytes from 1 to 2^40.
-pub fn limits_told(word: &str) -> Option<Limits>
-    ensures { result ≡ limits_told word.now }
+/// The number of bytes that a word tells: decimal digits and nothing else, for a number from 1 to
+/// 2^40.
+pub fn bytes_told(word: &str) -> Option<u64>
+    ensures { result ≡ bytes_told word.now }
 {
     // `parse` takes a plus.
     if word.starts_with('+') {
         return None;
     }
     match word.parse::<u64>() {
-        Ok(quota) => Limits::new(quota, Limits::default().work()),
+        Ok(bytes) => is_limit(bytes).then_some(bytes),
         Err(_) => None,
+    }
+}
+
+/// Whether a quota or a work may be so many bytes.
+fn is_limit(bytes: u64) -> bool
+    ensures { result ≡ is_limit bytes }
+{
+    (1..=GREATEST_LIMIT).contains(&bytes)
+}
+
+/// The limits of a program that is told this quota and this work. `None` unless each is a word that
+/// tells a number of bytes.
+pub fn limits_told(quota: &str, work: &str) -> Option<Limits>
+    ensures { result ≡ limits_told quota.now work.now }
+{
+    match (bytes_told(quota), bytes_told(work)) {
+        (Some(quota), Some(work)) => Limits::new(quota, work),
+        _ => None,
     }
 }

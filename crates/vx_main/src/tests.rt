@@ -137,6 +137,9 @@ fn allows_each_client_its_quota(rt: HostRuntime) {
             &["serve", "--quota=00000000000000000000000000009"],
             THIRD_MADE,
         ),
+        (&["serve", "--quota", "8", "--work", "1"], THIRD_REFUSED),
+        (&["serve", "--work=1", "--quota=7"], SECOND_REFUSED),
+        (&["serve", "--work", "1099511627776"], THIRD_MADE),
         (&["serve"], THIRD_MADE),
     ] {
         let mut written = Vec::new(rt.alloc());
@@ -163,7 +166,7 @@ fn refuses(rt: &impl Abort, alloc: Global, words: &[&str], text: &str) {
 }
 
 #[test]
-fn refuses_other_quotas(rt: HostRuntime) {
+fn refuses_other_numbers_of_bytes(rt: HostRuntime) {
     for word in [
         "0",
         "00",
@@ -186,20 +189,30 @@ fn refuses_other_quotas(rt: HostRuntime) {
         "\u{0668}",
         "",
     ] {
-        refuses(&rt, rt.alloc(), &["serve", "--quota", word], "error: ");
-        let joined = format!(in rt.alloc(); "--quota={word}");
-        let Ok(joined) = joined else {
-            assert!(rt; false, "no memory");
-            return;
-        };
-        refuses(&rt, rt.alloc(), &["serve", joined.as_str()], "error: ");
+        for option in ["--quota", "--work"] {
+            refuses(&rt, rt.alloc(), &["serve", option, word], "error: ");
+            let joined = format!(in rt.alloc(); "{option}={word}");
+            let Ok(joined) = joined else {
+                assert!(rt; false, "no memory");
+                return;
+            };
+            refuses(&rt, rt.alloc(), &["serve", joined.as_str()], "error: ");
+        }
     }
-    refuses(
-        &rt,
-        rt.alloc(),
-        &["serve", "--quota", "0"],
-        "a decimal number from 1 to 1099511627776\n\nUsage: vx_main serve",
-    );
+    for (option, text) in [
+        (
+            "--quota",
+            "'--quota <BYTES>' isn't a decimal number from 1 to",
+        ),
+        (
+            "--work",
+            "'--work <BYTES>' isn't a decimal number from 1 to",
+        ),
+        ("--quota", "1099511627776\n\nUsage: vx_main serve"),
+        ("--work", "1099511627776\n\nUsage: vx_main serve"),
+    ] {
+        refuses(&rt, rt.alloc(), &["serve", option, "0"], text);
+    }
 }
 
 #[test]
@@ -212,7 +225,8 @@ fn reads_the_command_line(rt: HostRuntime) {
         &["serve", "--quota", "8", "--quota", "8"],
         &["serve", "--quota=8", "--quota=9"],
         &["serve", "--quot", "8"],
-        &["serve", "--work", "8"],
+        &["serve", "--work", "8", "--work", "8"],
+        &["serve", "--works", "8"],
         &["serve", "-q", "8"],
         &["serve", "--", "--quota", "8"],
         &["--quota", "8", "serve"],
@@ -238,6 +252,7 @@ fn reads_the_command_line(rt: HostRuntime) {
         &["apply", "box", "--bord", "replicate"],
         &["apply", "box", "-b", "replicate"],
         &["apply", "box", "--quota", "8"],
+        &["apply", "box", "--work", "8"],
         &["--border", "replicate", "apply", "box"],
         &["serve", "--border", "replicate"],
         &["serve", "box"],
@@ -245,6 +260,7 @@ fn reads_the_command_line(rt: HostRuntime) {
         refuses(&rt, rt.alloc(), words, "Usage: vx_main");
     }
     refuses(&rt, rt.alloc(), &["serve", "--quota"], "'--quota <BYTES>'");
+    refuses(&rt, rt.alloc(), &["serve", "--work"], "'--work <BYTES>'");
     refuses(&rt, rt.alloc(), &["apply"], "<FUNCTION>");
     let border = "'--border <BORDER>'";
     refuses(&rt, rt.alloc(), &["apply", "box", "--border"], border);

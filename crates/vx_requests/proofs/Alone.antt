@@ -5,7 +5,7 @@ use Rattle.std.proofs.lemmas.List.{map_push}
 use Rattle.std.proofs.lemmas.List.Elements.{filter-append}
 use Rattle.std.proofs.lemmas.Bool.{eqb-true}
 use Rattle.vx_requests.specs.Frame.Frames.{Frame, ReplyFrame}
-use Rattle.vx_requests.specs.Serving.Clients.{Received, reply_to, no_memory, frames_of, is_kept_of, mine, kept_replies, answer_frame, after, alone, reply_in, state_then, states_after, served_after, served}
+use Rattle.vx_requests.specs.Serving.Clients.{Received, reply_to, no_memory, frames_of, is_kept_of, mine, sent_to, kept_replies, answer_frame, after, alone, reply_in, state_then, states_after, served_after, served}
 use Rattle.vx_wire.specs.Replies.{Said}
 
 -- a frame at the end is its client's, if it was kept
@@ -58,6 +58,28 @@ kept_replies-all client (m ∷ marked) (r ∷ replies) each long =
     let first = each 0 m (omega arith) in
     ap (λ b. cond b (r ∷ kept_replies client marked replies) (kept_replies client marked replies)) (kept_of client m first.0 first.1)
     ∙ ap (λ l. r ∷ l) (kept_replies-all client marked replies (λ k d within. each (suc k) d (omega arith)) (omega arith))
+
+-- a client's kept frames all go to its own server
+mine-sent : (server : ℕ → ℕ) (client : ℕ) (marked : List Received) → mine client (sent_to server (server client) marked) ≡ mine client marked
+mine-sent server client [] = refl
+mine-sent server client (m ∷ marked) =
+    let sent = sent_to server (server client) marked in
+    let kept_frames : List Received → List Frame = λ l. map (λ (x : Received). x.frame) l in
+    elim (tells (is_kept_of client m)) [
+      | inl kept ↦
+          ap (λ b. mine client (cond b (m ∷ sent) sent)) (eq-eqb (server m.frame.client) (server client) (ap server (kept_is client m kept).0))
+          ∙ ap (λ b. kept_frames (cond b (m ∷ filter (is_kept_of client) sent) (filter (is_kept_of client) sent))) kept
+          ∙ ap (λ l. m.frame ∷ l) (mine-sent server client marked)
+          ∙ sym (ap (λ b. kept_frames (cond b (m ∷ filter (is_kept_of client) marked) (filter (is_kept_of client) marked))) kept)
+      | inr other ↦
+          passed_by (server m.frame.client == server client) sent other
+          ∙ mine-sent server client marked
+          ∙ sym (ap (λ b. kept_frames (cond b (m ∷ filter (is_kept_of client) marked) (filter (is_kept_of client) marked))) other)
+    ]
+  where
+    passed_by : (b : Bool) (sent : List Received) → is_kept_of client m ≡ false → mine client (cond b (m ∷ sent) sent) ≡ mine client sent
+    passed_by true sent other = ap (λ b. map (λ (x : Received). x.frame) (cond b (m ∷ filter (is_kept_of client) sent) (filter (is_kept_of client) sent))) other
+    passed_by false sent other = refl
 
 module _ {S : Type 0} (answer : S → ℕ → List ℕ → Said × S) where
   pub after-push : (state : S) (frames : List Frame) (f : Frame) → after answer state (frames ++ f ∷ []) ≡ (answer_frame answer (after answer state frames) f).1
@@ -129,6 +151,11 @@ module _ {S : Type 0} (answer : S → ℕ → List ℕ → Said × S) where
       → kept_replies client marked (served answer start marked) ≡ kept_replies client others (served answer other others)
   isolated start other marked others client same agree =
       each_alone start marked client ∙ ap (λ s. alone answer s (mine client marked)) same ∙ ap (alone answer (other client)) agree ∙ sym (each_alone other others client)
+
+  -- a client of one of several servers
+  pub over_servers : (start : ℕ → S) (server : ℕ → ℕ) (marked : List Received) (client : ℕ)
+      → kept_replies client (sent_to server (server client) marked) (served answer start (sent_to server (server client) marked)) ≡ kept_replies client marked (served answer start marked)
+  over_servers start server marked client = isolated start start (sent_to server (server client) marked) marked client refl (mine-sent server client marked)
 
   -- where the model never says 1, a lost frame shows
   pub lost_shows_after : ((state : S) (op : ℕ) (body : List ℕ) → ((answer state op body).0.code == 1) ≡ false) → (start : ℕ → S) (before marked : List Received)

@@ -4,13 +4,13 @@ use Rattle.std.specs.Prelude.{◌==◌}
 use Rattle.vx_base.specs.declared.code.Code.{Code}
 use Rattle.vx_base.specs.declared.code.Code.TheVariants.{NoMemory}
 use Rattle.vx_base.specs.Code.{code_number}
-use Rattle.client_contexts.specs.declared.request.Request.{Request}
-use Rattle.client_contexts.specs.declared.reply.Reply.{Reply}
-use Rattle.client_contexts.specs.declared.reply.Reply.TheVariants.{Refused, Empty, Name, Described, Picture, Text, Counts, Extremes}
-use Rattle.client_contexts.specs.Allowance.{Allowance}
-use Rattle.client_contexts.specs.Context.{State}
-use Rattle.client_contexts.specs.Answer.{answer_to}
-use Rattle.client_contexts.proofs.RefusalLaws.{never_no_memory}
+use Rattle.client_model.specs.declared.request.Request.{Request}
+use Rattle.client_model.specs.declared.reply.Reply.{Reply}
+use Rattle.client_model.specs.declared.reply.Reply.TheVariants.{Refused, Empty, Name, Node, Described, Picture, Text, Counts, Extremes}
+use Rattle.client_model.specs.Allowance.{Allowance}
+use Rattle.client_model.specs.Context.{State}
+use Rattle.client_model.specs.Answer.{answer_to}
+use Rattle.client_laws.proofs.RefusalLaws.{never_no_memory}
 use Rattle.vx_wire.specs.declared.body_fault.BodyFault.{BodyFault}
 use Rattle.vx_wire.specs.declared.body_fault.BodyFault.TheVariants.{InvalidParameters, InvalidFormat, InvalidDimension, InvalidValue}
 use Rattle.vx_wire.specs.Requests.{request_of}
@@ -27,6 +27,7 @@ said-other : (reply : Reply) → reply ≢ Refused NoMemory → ((said_of reply)
 said-other (Refused code) other = other_number code (λ e. other cc)
 said-other Empty other = refl
 said-other (Name n) other = refl
+said-other (Node n) other = refl
 said-other (Described d) other = refl
 said-other (Picture p) other = refl
 said-other (Text text) other = refl

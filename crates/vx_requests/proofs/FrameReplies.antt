@@ -2,12 +2,12 @@
 use Rattle.std.proofs.Common.{◌≡◌, ◌≢◌, ℕ, Bool, true, false, cond, List, Result, Ok, Err, inl, inr, ◌⊎◌, refl, sym, ap, ◌∙◌, subst, eq-eqb}
 use Rattle.std.specs.Prelude.{◌&&◌, ◌==◌}
 use Rattle.std.proofs.lemmas.Bool.{eqb-true}
-use Rattle.client_contexts.specs.declared.request.Request.{Request}
-use Rattle.client_contexts.specs.declared.reply.Reply.{Reply}
-use Rattle.client_contexts.specs.declared.reply.Reply.TheVariants.{Refused}
-use Rattle.client_contexts.specs.Allowance.{Allowance}
-use Rattle.client_contexts.specs.Context.{State}
-use Rattle.client_contexts.specs.Answer.{answer_to}
+use Rattle.client_model.specs.declared.request.Request.{Request}
+use Rattle.client_model.specs.declared.reply.Reply.{Reply}
+use Rattle.client_model.specs.declared.reply.Reply.TheVariants.{Refused}
+use Rattle.client_model.specs.Allowance.{Allowance}
+use Rattle.client_model.specs.Context.{State}
+use Rattle.client_model.specs.Answer.{answer_to}
 use Rattle.vx_base.specs.declared.code.Code.TheVariants.{NoMemory as CodeNoMemory}
 use Rattle.vx_wire.specs.declared.parse_fault.ParseFault.{ParseFault}
 use Rattle.vx_wire.specs.declared.body_fault.BodyFault.{BodyFault}
@@ -16,7 +16,7 @@ use Rattle.vx_requests.specs.Serving.Clients.{spelled, reply_to, state_then}
 use Rattle.vx_requests.specs.Frame.Frames.{frame_of}
 use Rattle.vx_requests.specs.Serving.Lost.{SpellsTaking, MayBeLost}
 use Rattle.vx_requests.specs.Serving.Turn.{IsReply}
-use Rattle.client_contexts.specs.Request.{TakesMemory}
+use Rattle.client_model.specs.Request.{TakesMemory}
 use Rattle.vx_wire.specs.Replies.{Said, said_of}
 use Rattle.vx_wire.specs.Faults.{parse_fault, FailsFor, fault_code}
 use Rattle.vx_wire.specs.Requests.{request_of}

@@ -8,8 +8,8 @@ use Rattle.std.proofs.lemmas.List.Elements.{All-push}
 use Rattle.std.proofs.lemmas.List.Sums.{sum_by-append}
 use Rattle.vx_requests.specs.declared.stream.fault.StreamFault.{StreamFault}
 use Rattle.vx_requests.specs.declared.stream.fault.StreamFault.TheVariants.{WriteFailed}
-use Rattle.client_contexts.specs.Allowance.{Allowance}
-use Rattle.client_contexts.specs.Context.{State}
+use Rattle.client_model.specs.Allowance.{Allowance}
+use Rattle.client_model.specs.Context.{State}
 use Rattle.vx_requests.specs.declared.serving.summary.Summary.{Summary}
 use Rattle.vx_requests.specs.Frame.Frames.{Frame, ReplyFrame, IsFrame, frame_bytes, reply_bytes, joined, joined_replies}
 use Rattle.vx_requests.specs.Serving.Clients.{Received, frames_of, served, reply_in, state_then, states_after}

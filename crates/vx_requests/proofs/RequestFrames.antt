@@ -11,7 +11,7 @@ use Rattle.vx_base.specs.Picture.{PictureValue, Describes, values, samples_forma
 use Rattle.vx_base.specs.Lut.{LutValue}
 use Rattle.vx_base.specs.declared.format.Format.TheVariants.{S16}
 use Rattle.vx_base.specs.Convolution.{ConvolutionValue}
-use Rattle.client_contexts.specs.declared.request.Request.TheVariants.{WriteImage, WriteImagePgm, CreateLut, CreateConvolution}
+use Rattle.client_model.specs.declared.request.Request.TheVariants.{WriteImage, WriteImagePgm, CreateLut, CreateConvolution}
 use Rattle.vx_requests.specs.Frame.Frames.{frame_head, frame_bytes, request_frame}
 use Rattle.vx_wire.specs.Samples.{encoded_sample}
 use Rattle.vx_wire.specs.Format.{format_number}

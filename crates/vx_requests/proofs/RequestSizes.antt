@@ -1,9 +1,9 @@
 -- A request fits a frame, but for a text that is too long.
 use Rattle.std.proofs.Common.{ℕ, ◌<◌, ◌≤◌, ◌^◌, length, IsTrue, arith, refl}
 use Rattle.std.proofs.lemmas.Bool.{leb-true, le-leb}
-use Rattle.client_contexts.specs.declared.request.Request.{Request}
-use Rattle.client_contexts.specs.declared.request.Request.TheVariants.{OpenContext, ReleaseContext, CreateImage, QueryImage, WriteImage, WriteImagePgm, ReadImage, ReadImagePgm, SetValid, Release, CreateLut, CreateThreshold, CreateConvolution, CreateDistribution, ReadDistribution, CreateMinMax, ReadMinMax, Immediate, CreateDelay, AgeDelay}
-use Rattle.client_contexts.specs.Request.{IsRequest}
+use Rattle.client_model.specs.declared.request.Request.{Request}
+use Rattle.client_model.specs.declared.request.Request.TheVariants.{OpenContext, ReleaseContext, CreateImage, QueryImage, WriteImage, WriteImagePgm, ReadImage, ReadImagePgm, SetValid, Release, CreateLut, CreateThreshold, CreateConvolution, CreateDistribution, ReadDistribution, CreateMinMax, ReadMinMax, CreateGraph, CreateVirtualImage, AddNode, RemoveNode, VerifyGraph, ProcessGraph, Immediate, CreateDelay, AgeDelay}
+use Rattle.client_model.specs.Request.{IsRequest}
 use Rattle.vx_wire.proofs.SpelledSizes.{spelled_most, entries_most, threshold_most, convolution_most, length-node_bytes}
 use Rattle.vx_requests.specs.Frame.Frames.{IsFrame, request_frame, fits_a_frame}
 
@@ -25,6 +25,12 @@ fits client (CreateDistribution bins) below is fit = record { client = below; op
 fits client (ReadDistribution name) below is fit = record { client = below; op = omega arith; len = omega arith }
 fits client CreateMinMax below is fit = record { client = below; op = omega arith; len = omega arith }
 fits client (ReadMinMax name) below is fit = record { client = below; op = omega arith; len = omega arith }
+fits client CreateGraph below is fit = record { client = below; op = omega arith; len = omega arith }
+fits client (CreateVirtualImage graph declared) below is fit = record { client = below; op = omega arith; len = omega arith }
+fits client (AddNode graph node) below is fit = record { client = below; op = omega arith; len = omega (arith, length-node_bytes node) }
+fits client (RemoveNode graph number) below is fit = record { client = below; op = omega arith; len = omega arith }
+fits client (VerifyGraph graph) below is fit = record { client = below; op = omega arith; len = omega arith }
+fits client (ProcessGraph graph) below is fit = record { client = below; op = omega arith; len = omega arith }
 fits client (Immediate node) below is fit = record { client = below; op = omega arith; len = omega (arith, length-node_bytes node) }
 fits client (CreateDelay cell slots) below is fit = record { client = below; op = omega arith; len = omega arith }
 fits client (AgeDelay name) below is fit = record { client = below; op = omega arith; len = omega arith }

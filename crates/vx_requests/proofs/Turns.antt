@@ -4,9 +4,9 @@ use Rattle.std.specs.Int.{w16, w32, to_be_bytes}
 use Rattle.std.proofs.lemmas.Nat.{from_be_bytes-to_be_bytes_4}
 use Rattle.std.specs.Io.KnownBytes.{Consumes}
 use Rattle.std.proofs.KnownBytes.{Consumes-trans, Appends-nil}
-use Rattle.client_contexts.specs.Allowance.{Allowance}
-use Rattle.client_contexts.specs.Context.{State}
-use Rattle.client_contexts.specs.declared.reply.Reply.TheVariants.{Refused}
+use Rattle.client_model.specs.Allowance.{Allowance}
+use Rattle.client_model.specs.Context.{State}
+use Rattle.client_model.specs.declared.reply.Reply.TheVariants.{Refused}
 use Rattle.vx_base.specs.declared.code.Code.TheVariants.{NoMemory}
 use Rattle.vx_requests.specs.declared.stream.fault.StreamFault.{StreamFault}
 use Rattle.vx_requests.specs.declared.stream.fault.StreamFault.TheVariants.{Truncated, BadLength, ReadFailed, WriteFailed, ReaderWouldNotEnd}

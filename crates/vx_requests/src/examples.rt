@@ -1,9 +1,18 @@
 //! Worked examples: frames, in bytes.
 ghost use Rattle.std.specs.Prelude.{◌≡◌, [], ◌∷◌, None};
-ghost use Rattle.client_contexts.specs.declared.request.Request.TheVariants.{ReadImage};
-ghost use Rattle.vx_requests.specs.Frame.Frames.{frame_bytes, request_frame};
+ghost use Rattle.client_model.specs.declared.request.Request.TheVariants.{ReadImage, RemoveNode};
+ghost use Rattle.client_model.specs.declared.reply.Reply.TheVariants.{Node};
+ghost use Rattle.vx_requests.specs.Frame.Frames.{frame_bytes, request_frame, reply_bytes};
+ghost use Rattle.vx_requests.specs.Serving.Clients.{spelled};
+ghost use Rattle.vx_wire.specs.Replies.{said_of};
 
-/// The frame in which client 258 asks for image 7.
+/// The frames in which client 258 asks for image 7, and removes node 3 from graph 7.
 pub fn frames()
-    ensures { frame_bytes (request_frame 258 (ReadImage (record { name = 7; slot = None }))) ≡ 0 ∷ 0 ∷ 0 ∷ 8 ∷ 1 ∷ 2 ∷ 7 ∷ 0 ∷ 0 ∷ 0 ∷ 7 ∷ 255 ∷ [] }
+    ensures read { frame_bytes (request_frame 258 (ReadImage (record { name = 7; slot = None }))) ≡ 0 ∷ 0 ∷ 0 ∷ 8 ∷ 1 ∷ 2 ∷ 7 ∷ 0 ∷ 0 ∷ 0 ∷ 7 ∷ 255 ∷ [] }
+    ensures removed { frame_bytes (request_frame 258 (RemoveNode 7 3)) ≡ 0 ∷ 0 ∷ 0 ∷ 11 ∷ 1 ∷ 2 ∷ 21 ∷ 0 ∷ 0 ∷ 0 ∷ 7 ∷ 0 ∷ 0 ∷ 0 ∷ 3 ∷ [] }
+{}
+
+/// The frame in which client 258 is told the number of a node that was added.
+pub fn replies()
+    ensures { reply_bytes (spelled 258 20 (said_of (Node 3))) ≡ 0 ∷ 0 ∷ 0 ∷ 8 ∷ 1 ∷ 2 ∷ 20 ∷ 0 ∷ 0 ∷ 0 ∷ 0 ∷ 3 ∷ [] }
 {}

@@ -1,12 +1,12 @@
 //! Requests as bytes, and back; and the texts of faults.
 use crate::devices::{NEVER, PiecewiseSink};
-use client_contexts::{Request, Text};
+use client_model::{Request, Text};
 use std::alloc::Global;
 use std::fmt::Display;
 use std::test::Fail;
 use vx_base::{
-    Bins, Border, Convolution, Desc, Format, Function, Lut, Node, NodeSpec, ObjRef, Picture,
-    Policy, Rect, Samples, SlotCount, ThresholdKind, ThresholdRule,
+    Bins, Border, Convolution, Desc, Format, Function, Lut, Node, NodeSpec, ObjRef, Outline,
+    Picture, Policy, Rect, Samples, SlotCount, ThresholdKind, ThresholdRule,
 };
 use vx_requests::{Failed, ParseFault, StreamFault, parse, write_request};
 
@@ -56,6 +56,26 @@ fn request(alloc: Global, number: u8) -> Option<Request> {
         16 => Some(Request::ReadDistribution(258)),
         17 => Some(Request::CreateMinMax),
         18 => Some(Request::ReadMinMax(65_536)),
+        _ => request_on_graphs(number),
+    }
+}
+
+/// Those of them that are on graphs.
+fn request_on_graphs(number: u8) -> Option<Request> {
+    match number {
+        19 => Some(Request::CreateGraph),
+        20 => {
+            let declared = Outline::new(Some(258), None, Some(Format::S16))?;
+            Some(Request::CreateVirtualImage(258, declared))
+        }
+        21 => {
+            let declared = Outline::new(None, Some(4096), None)?;
+            Some(Request::CreateVirtualImage(3, declared))
+        }
+        22 => Some(Request::AddNode(65_536, node()?)),
+        23 => Some(Request::RemoveNode(3, 258)),
+        24 => Some(Request::VerifyGraph(258)),
+        25 => Some(Request::ProcessGraph(16_777_216)),
         _ => None,
     }
 }
@@ -78,7 +98,7 @@ fn node() -> Option<NodeSpec> {
     })
 }
 
-const FRAMES: [&[u8]; 19] = [
+const FRAMES: [&[u8]; 26] = [
     b"\0\0\0\x03\x01\x02\x01",
     b"\0\0\0\x08\x01\x02\x03\x03\x10\0\0\x02",
     b"\0\0\0\x08\x01\x02\x07\0\0\0\x07\xfe",
@@ -99,6 +119,14 @@ const FRAMES: [&[u8]; 19] = [
     b"\0\0\0\x07\x01\x02\x0f\0\0\x01\x02",
     b"\0\0\0\x03\x01\x02\x10",
     b"\0\0\0\x07\x01\x02\x11\0\x01\0\0",
+    b"\0\0\0\x03\x01\x02\x12",
+    b"\0\0\0\x0c\x01\x02\x13\0\0\x01\x02\x02\x01\x02\0\0",
+    b"\0\0\0\x0c\x01\x02\x13\0\0\0\x03\0\0\0\x10\0",
+    b"\0\0\0\x20\x01\x02\x14\0\x01\0\0\
+        \x04\x01\x05\0\0\0\0\0\x01\x03\0\0\0\0\xff\0\x01\0\0\xff\0\0\0\0\xff",
+    b"\0\0\0\x0b\x01\x02\x15\0\0\0\x03\0\0\x01\x02",
+    b"\0\0\0\x07\x01\x02\x16\0\0\x01\x02",
+    b"\0\0\0\x07\x01\x02\x17\x01\0\0\0",
 ];
 
 /// Whether a request is written to these bytes.

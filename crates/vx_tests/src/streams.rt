@@ -1,7 +1,8 @@
 //! One stream of two clients, over devices that move it in pieces or fail, and how far a stream is
 //! read that ends badly.
 use crate::devices::{NEVER, PiecewiseSink, PiecewiseSource};
-use client_contexts::{Limits, Runtime};
+use client_contexts::Runtime;
+use client_model::Limits;
 use std::alloc::Global;
 use std::process::Abort;
 use vx_requests::{StreamFault, Summary, serve};

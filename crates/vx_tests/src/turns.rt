@@ -3,7 +3,8 @@ ghost use Rattle.std.specs.Prelude.{None};
 
 use crate::devices::NEVER;
 use crate::streams::{REPLIES, TURNS};
-use client_contexts::{Limits, Runtime};
+use client_contexts::Runtime;
+use client_model::Limits;
 use std::cell::Cell;
 use vx_requests::{Failed, Sink, Source, Summary, serve};
 

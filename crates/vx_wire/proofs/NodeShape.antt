@@ -1,5 +1,5 @@
 -- A node whose fields are as its function wants them is one.
-use Rattle.std.proofs.Common.{◌≡◌, ℕ, Bool, true, false, not, ◌&&◌, ◌||◌, nat_le, Option, Some, None, is_some, is_none, unwrap_or, if◌then◌else◌, IsTrue, refl, List, Ok}
+use Rattle.std.proofs.Common.{◌≡◌, ℕ, Bool, true, false, not, ◌&&◌, ◌||◌, nat_le, Option, Some, None, is_some, is_none, unwrap_or, if◌then◌else◌, IsTrue, refl, ap, ◌∙◌, List, ◌++◌, append_assoc, Ok}
 use Rattle.vx_base.specs.declared.node.Node.{Node}
 use Rattle.vx_base.specs.declared.function.Parameters.{Parameters}
 use Rattle.vx_base.specs.Function.{parameters}
@@ -63,3 +63,7 @@ pub take_node-fields : (n : Node) (p : Parameters) (a b c d e f rest : List ℕ)
     take_operands p f ≡ Ok ((n.in2, n.out1, n.out2), rest) → take_node a ≡ Ok (n, rest)
 take_node-fields n p a b c d e f rest is function border policy amount in1 others =
     rw (function, border, ← is, policy, amount, in1, others) refl
+
+-- three lists joined, and what follows them
+pub three_joined : (a b c rest : List ℕ) → (a ++ (b ++ c)) ++ rest ≡ a ++ (b ++ (c ++ rest))
+three_joined a b c rest = append_assoc a (b ++ c) rest ∙ ap (λ l. a ++ l) (append_assoc b c rest)

@@ -1,7 +1,7 @@
 -- Each op has a number of its own.
 use Rattle.std.proofs.Common.{◌≡◌, Some, refl}
 use Rattle.vx_wire.specs.declared.op.Op.{Op}
-use Rattle.vx_wire.specs.declared.op.Op.TheVariants.{OpenContext, ReleaseContext, CreateImage, QueryImage, WriteImage, WriteImagePgm, ReadImage, ReadImagePgm, SetValid, Release, CreateLut, CreateThreshold, CreateConvolution, CreateDistribution, ReadDistribution, CreateMinMax, ReadMinMax, Immediate, CreateDelay, AgeDelay}
+use Rattle.vx_wire.specs.declared.op.Op.TheVariants.{OpenContext, ReleaseContext, CreateImage, QueryImage, WriteImage, WriteImagePgm, ReadImage, ReadImagePgm, SetValid, Release, CreateLut, CreateThreshold, CreateConvolution, CreateDistribution, ReadDistribution, CreateMinMax, ReadMinMax, CreateGraph, CreateVirtualImage, AddNode, RemoveNode, VerifyGraph, ProcessGraph, Immediate, CreateDelay, AgeDelay}
 use Rattle.vx_wire.specs.Op.{op_number, op_numbered}
 
 -- the op with an op's number is that op
@@ -23,6 +23,12 @@ op_back CreateDistribution = refl
 op_back ReadDistribution = refl
 op_back CreateMinMax = refl
 op_back ReadMinMax = refl
+op_back CreateGraph = refl
+op_back CreateVirtualImage = refl
+op_back AddNode = refl
+op_back RemoveNode = refl
+op_back VerifyGraph = refl
+op_back ProcessGraph = refl
 op_back Immediate = refl
 op_back CreateDelay = refl
 op_back AgeDelay = refl

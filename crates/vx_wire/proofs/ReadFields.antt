@@ -8,14 +8,16 @@ use Rattle.vx_base.specs.declared.format.Format.{Format}
 use Rattle.vx_base.specs.declared.format.Format.TheVariants.{U8, S16, U32}
 use Rattle.vx_base.specs.Cell.{Cell, IsCell}
 use Rattle.vx_base.specs.Description.{Description, is_side, IsDescription}
+use Rattle.vx_base.specs.Outline.{Outline, may_be_side, IsOutline}
 use Rattle.vx_base.specs.Slots.{is_slot_count}
 use Rattle.vx_base.specs.Rectangle.{Rectangle, is_rectangle, rectangle, IsRectangle}
 use Rattle.vx_base.specs.Statistics.{BinsValue, are_bins}
 use Rattle.vx_wire.specs.declared.body_fault.BodyFault.{BodyFault}
 use Rattle.vx_wire.specs.declared.body_fault.BodyFault.TheVariants.{InvalidParameters, InvalidFormat, InvalidDimension, InvalidValue}
 use Rattle.vx_wire.specs.Fields.{Taken, and_then, allowed, take_byte, take_short, take_long, take_bytes}
-use Rattle.vx_wire.specs.Format.{format_numbered, take_format, format_number}
+use Rattle.vx_wire.specs.Format.{format_numbered, take_format, format_number, open_format_number, open_format_numbered, take_open_format}
 use Rattle.vx_wire.specs.Description.{take_side, take_description, description_bytes}
+use Rattle.vx_wire.specs.Outline.{open_side_number, open_side_numbered, take_open_side, take_outline, outline_bytes}
 use Rattle.vx_wire.specs.Reference.{slot_numbered, take_reference, reference_bytes}
 use Rattle.vx_wire.specs.Slots.{take_slots}
 use Rattle.vx_wire.specs.Rectangle.{take_rectangle, rectangle_bytes}
@@ -132,7 +134,7 @@ bytes_of n body bytes rest is e =
       subst AllBytes behind (All-drop (λ b. b < 256) n body is),
     )
 
--- ---- formats, sides, descriptions, references, rectangles, numbers of slots, bins
+-- ---- formats, sides, descriptions, outlines, references, rectangles, numbers of slots, bins
 
 format_of : (body : List ℕ) (format : Format) (rest : List ℕ) → AllBytes body → take_format body ≡ Ok (format, rest)
     → (body ≡ format_number format ∷ rest) × AllBytes rest
@@ -161,6 +163,54 @@ description_of body d rest is e =
       body_is ∙ ap (λ l. format_number format ∷ l) rest1_is ∙ ap (λ l. format_number format ∷ (to_be_bytes w16 width ++ l)) rest2_is
           ∙ ap (λ d. description_bytes d ++ rest3) same ∙ ap (λ l. description_bytes d ++ l) behind,
       subst IsDescription same (record { width = width_is; height = height_is }),
+      subst AllBytes behind is3,
+    )
+
+open_format_of : (body : List ℕ) (format : Option Format) (rest : List ℕ) → AllBytes body → take_open_format body ≡ Ok (format, rest)
+    → (body ≡ open_format_number format ∷ rest) × AllBytes rest
+open_format_of body format rest is e =
+    let (n, rest1, is_n, e1) = then_of (take_byte body) (λ n rest. allowed InvalidFormat (open_format_numbered n) rest) (format, rest) e in
+    let (same, behind) = allowed_of InvalidFormat (open_format_numbered n) format rest1 rest e1 in
+    let (body_is, below, is1) = byte_of body n rest1 is is_n in
+    let number = number_is open_format_number (None ∷ Some U8 ∷ Some S16 ∷ Some U32 ∷ []) n format same in
+    (body_is ∙ ap (λ x. x ∷ rest1) number ∙ ap (λ l. open_format_number format ∷ l) behind, subst AllBytes behind is1)
+
+number_of_side : (n : ℕ) (side : Option ℕ) → open_side_numbered n ≡ Some side → (n ≡ open_side_number side) × IsTrue (may_be_side side)
+number_of_side n side e =
+    let known : Option (Option ℕ) = if is_side n then Some (Some n) else None in
+    elim (if_some (n == 0) None known side e) [
+      | inl h ↦ (eqb-true n 0 h.0 ∙ ap open_side_number h.1, subst (λ s. IsTrue (may_be_side s)) h.1 refl)
+      | inr h ↦ elim (if_some (is_side n) (Some n) None side h.1) [
+        | inl k ↦ (ap open_side_number k.1, subst (λ s. IsTrue (may_be_side s)) k.1 k.0)
+        | inr k ↦ cc
+      ]
+    ]
+
+open_side_of : (body : List ℕ) (side : Option ℕ) (rest : List ℕ) → AllBytes body → take_open_side body ≡ Ok (side, rest)
+    → (body ≡ to_be_bytes w16 (open_side_number side) ++ rest) × IsTrue (may_be_side side) × AllBytes rest
+open_side_of body side rest is e =
+    let (n, rest1, is_n, e1) = then_of (take_short body) (λ n rest. allowed InvalidDimension (open_side_numbered n) rest) (side, rest) e in
+    let (same, behind) = allowed_of InvalidDimension (open_side_numbered n) side rest1 rest e1 in
+    let (body_is, below, is1) = short_of body n rest1 is is_n in
+    let (number, side_is) = number_of_side n side same in
+    (body_is ∙ ap (λ x. to_be_bytes w16 x ++ rest1) number ∙ ap (λ l. to_be_bytes w16 (open_side_number side) ++ l) behind, side_is, subst AllBytes behind is1)
+
+pub outline_of_body : (body : List ℕ) (o : Outline) (rest : List ℕ) → AllBytes body → take_outline body ≡ Ok (o, rest)
+    → (body ≡ outline_bytes o ++ rest) × IsOutline o × AllBytes rest
+outline_of_body body o rest is e =
+    let made : Option Format → Option ℕ → Option ℕ → Outline = λ format width height. record { width = width; height = height; format = format } in
+    let last : Option Format → Option ℕ → List ℕ → Taken Outline = λ format width rest. and_then (take_open_side rest) (λ height rest. ok (made format width height) rest) in
+    let (format, rest1, is_format, e1) = then_of (take_open_format body) (λ format rest. and_then (take_open_side rest) (last format)) (o, rest) e in
+    let (width, rest2, is_width, e2) = then_of (take_open_side rest1) (last format) (o, rest) e1 in
+    let (height, rest3, is_height, e3) = then_of (take_open_side rest2) (λ height rest. ok (made format width height) rest) (o, rest) e2 in
+    let (same, behind) = taken_same (made format width height) o rest3 rest e3 in
+    let (body_is, is1) = open_format_of body format rest1 is is_format in
+    let (rest1_is, width_is, is2) = open_side_of rest1 width rest2 is1 is_width in
+    let (rest2_is, height_is, is3) = open_side_of rest2 height rest3 is2 is_height in
+    let front : List ℕ → List ℕ = λ l. open_format_number format ∷ (to_be_bytes w16 (open_side_number width) ++ l) in (
+      body_is ∙ ap (λ l. open_format_number format ∷ l) rest1_is ∙ ap front rest2_is
+          ∙ ap (λ o. outline_bytes o ++ rest3) same ∙ ap (λ l. outline_bytes o ++ l) behind,
+      subst IsOutline same (both (may_be_side width) (may_be_side height) width_is height_is),
       subst AllBytes behind is3,
     )
 

@@ -1,5 +1,5 @@
 -- A node that is read has one spelling.
-use Rattle.std.proofs.Common.{◌≡◌, ℕ, ◌<◌, ◌==◌, List, [], ◌∷◌, ◌++◌, Option, Some, None, Ok, Bool, true, false, not, ◌&&◌, ◌||◌, inl, inr, IsTrue, if◌then◌else◌, nat_le, is_none, unwrap_or, arith, refl, sym, ap, subst, ◌∙◌, append-nil}
+use Rattle.std.proofs.Common.{◌≡◌, ℕ, ◌<◌, ◌==◌, List, [], ◌∷◌, ◌++◌, Option, Some, None, Ok, Bool, true, false, not, ◌&&◌, ◌||◌, inl, inr, IsTrue, if◌then◌else◌, nat_le, is_none, unwrap_or, arith, refl, sym, ap, subst, ◌∙◌}
 use Rattle.std.specs.Prelude.{All, IfSome}
 use Rattle.std.proofs.lemmas.List.Elements.{All-nil, All-cons}
 use Rattle.vx_wire.specs.Numbered.{numbered}
@@ -22,7 +22,7 @@ use Rattle.vx_wire.specs.Fields.{Taken, and_then, allowed, take_byte}
 use Rattle.vx_wire.specs.Reference.{take_reference, reference_bytes}
 use Rattle.vx_wire.specs.Operand.{operand, take_operand, second_input, first_output, second_output, take_operands, take_first_input, is_operand, operand_bytes}
 use Rattle.vx_wire.specs.Node.{take_function, take_border, take_policy, amount_allowed, take_amount, take_node, border_mode, border_constant, border_with, border_bytes, policy_number, policies, node_bytes}
-use Rattle.vx_wire.proofs.NodeShape.{both_of, is_node-from_fields}
+use Rattle.vx_wire.proofs.NodeShape.{both_of, is_node-from_fields, three_joined}
 use Rattle.vx_wire.proofs.FunctionNumbers.{number_of_function}
 use Rattle.vx_wire.proofs.ReadFields.{AllBytes, ok, taken_same, then_of, allowed_of, if_some, if_none, byte_of, cell_of}
 
@@ -200,7 +200,7 @@ later_fields function border policy rest =
     and_then (take_amount (parameters function) rest) (λ amount rest. and_then (take_first_input rest) (last_fields function border policy amount))
 
 -- the fields of a node, one after the other
-record NodeFrom (body : List ℕ) (n : Node) : Type 0 where
+record NodeFrom (body rest : List ℕ) (n : Node) : Type 0 where
   behind_function : List ℕ
   behind_border : List ℕ
   behind_policy : List ℕ
@@ -211,16 +211,16 @@ record NodeFrom (body : List ℕ) (n : Node) : Type 0 where
   policy : take_policy (parameters n.function) behind_border ≡ Ok (n.policy, behind_policy)
   amount : take_amount (parameters n.function) behind_policy ≡ Ok (n.amount, behind_amount)
   in1 : take_first_input behind_amount ≡ Ok (n.in1, behind_in1)
-  others : take_operands (parameters n.function) behind_in1 ≡ Ok ((n.in2, n.out1, n.out2), [])
+  others : take_operands (parameters n.function) behind_in1 ≡ Ok ((n.in2, n.out1, n.out2), rest)
 
-later_from : (body r1 r2 r3 : List ℕ) (f : Function) (b : Border) (p : Policy) (n : Node) → take_function body ≡ Ok (f, r1) → take_border r1 ≡ Ok (b, r2)
-    → take_policy (parameters f) r2 ≡ Ok (p, r3) → later_fields f b p r3 ≡ Ok (n, []) → NodeFrom body n
-later_from body r1 r2 r3 f b p n is_f is_b is_p e =
-    let (amount, r4, is_amount, e1) = then_of (take_amount (parameters f) r3) (λ amount rest. and_then (take_first_input rest) (last_fields f b p amount)) (n, []) e in
-    let (in1, r5, is_in1, e2) = then_of (take_first_input r4) (last_fields f b p amount) (n, []) e1 in
-    let (others, r6, is_others, e3) = then_of (take_operands (parameters f) r5) (λ others rest. ok (made f b p amount in1 others) rest) (n, []) e2 in
-    let (same, empty) = taken_same (made f b p amount in1 others) n r6 [] e3 in
-    subst (NodeFrom body) same (record {
+later_from : (body r1 r2 r3 rest : List ℕ) (f : Function) (b : Border) (p : Policy) (n : Node) → take_function body ≡ Ok (f, r1) → take_border r1 ≡ Ok (b, r2)
+    → take_policy (parameters f) r2 ≡ Ok (p, r3) → later_fields f b p r3 ≡ Ok (n, rest) → NodeFrom body rest n
+later_from body r1 r2 r3 rest f b p n is_f is_b is_p e =
+    let (amount, r4, is_amount, e1) = then_of (take_amount (parameters f) r3) (λ amount rest. and_then (take_first_input rest) (last_fields f b p amount)) (n, rest) e in
+    let (in1, r5, is_in1, e2) = then_of (take_first_input r4) (last_fields f b p amount) (n, rest) e1 in
+    let (others, r6, is_others, e3) = then_of (take_operands (parameters f) r5) (λ others rest. ok (made f b p amount in1 others) rest) (n, rest) e2 in
+    let (same, behind) = taken_same (made f b p amount in1 others) n r6 rest e3 in
+    subst (NodeFrom body rest) same (record {
       behind_function = r1;
       behind_border = r2;
       behind_policy = r3;
@@ -231,38 +231,38 @@ later_from body r1 r2 r3 f b p n is_f is_b is_p e =
       policy = is_p;
       amount = is_amount;
       in1 = is_in1;
-      others = is_others ∙ ap (λ l. Ok (others, l)) empty;
+      others = is_others ∙ ap (λ l. Ok (others, l)) behind;
     })
 
-node_from : (body : List ℕ) (n : Node) → take_node body ≡ Ok (n, []) → NodeFrom body n
-node_from body n e =
+node_from : (body : List ℕ) (n : Node) (rest : List ℕ) → take_node body ≡ Ok (n, rest) → NodeFrom body rest n
+node_from body n rest e =
     let third : Function → Border → List ℕ → Taken Node = λ f b rest. and_then (take_policy (parameters f) rest) (later_fields f b) in
     let second : Function → List ℕ → Taken Node = λ f rest. and_then (take_border rest) (third f) in
-    let (f, r1, is_f, e1) = then_of (take_function body) second (n, []) e in
-    let (b, r2, is_b, e2) = then_of (take_border r1) (third f) (n, []) e1 in
-    let (p, r3, is_p, e3) = then_of (take_policy (parameters f) r2) (later_fields f b) (n, []) e2 in
-    later_from body r1 r2 r3 f b p n is_f is_b is_p e3
+    let (f, r1, is_f, e1) = then_of (take_function body) second (n, rest) e in
+    let (b, r2, is_b, e2) = then_of (take_border r1) (third f) (n, rest) e1 in
+    let (p, r3, is_p, e3) = then_of (take_policy (parameters f) r2) (later_fields f b) (n, rest) e2 in
+    later_from body r1 r2 r3 rest f b p n is_f is_b is_p e3
 
-spelled_fields : (n : Node) (body r1 r2 r3 r4 r5 : List ℕ) → body ≡ function_number n.function ∷ r1 → r1 ≡ border_bytes n.border ++ r2 → r2 ≡ policy_number n.policy ∷ r3
-    → r3 ≡ n.amount ∷ r4 → r4 ≡ reference_bytes n.in1 ++ r5 → r5 ≡ operand_bytes n.in2 ++ (operand_bytes n.out1 ++ (operand_bytes n.out2 ++ [])) → body ≡ node_bytes n
-spelled_fields n body r1 r2 r3 r4 r5 e0 e1 e2 e3 e4 e5 =
+spelled_fields : (n : Node) (body r1 r2 r3 r4 r5 rest : List ℕ) → body ≡ function_number n.function ∷ r1 → r1 ≡ border_bytes n.border ++ r2 → r2 ≡ policy_number n.policy ∷ r3
+    → r3 ≡ n.amount ∷ r4 → r4 ≡ reference_bytes n.in1 ++ r5 → r5 ≡ operand_bytes n.in2 ++ (operand_bytes n.out1 ++ (operand_bytes n.out2 ++ rest)) → body ≡ node_bytes n ++ rest
+spelled_fields n body r1 r2 r3 r4 r5 rest e0 e1 e2 e3 e4 e5 =
     let f = function_number n.function in
     let front : List ℕ → List ℕ = λ l. f ∷ (border_bytes n.border ++ l) in
     let numbers : List ℕ → List ℕ = λ l. front (policy_number n.policy ∷ n.amount ∷ l) in
-    e0 ∙ ap (λ l. f ∷ l) e1 ∙ ap front e2 ∙ ap (λ l. front (policy_number n.policy ∷ l)) e3 ∙ ap numbers e4 ∙ ap (λ l. numbers (reference_bytes n.in1 ++ l)) e5
-    ∙ ap (λ l. numbers (reference_bytes n.in1 ++ (operand_bytes n.in2 ++ (operand_bytes n.out1 ++ l)))) (append-nil (operand_bytes n.out2))
+    let joined = three_joined (operand_bytes n.in2) (operand_bytes n.out1) (operand_bytes n.out2) rest in
+    e0 ∙ ap (λ l. f ∷ l) e1 ∙ ap front e2 ∙ ap (λ l. front (policy_number n.policy ∷ l)) e3 ∙ ap numbers e4 ∙ ap (λ l. numbers (reference_bytes n.in1 ++ l)) (e5 ∙ sym joined)
 
-pub node_of : (body : List ℕ) (n : Node) → AllBytes body → take_node body ≡ Ok (n, []) → (body ≡ node_bytes n) × IsNode n
-node_of body n is e =
+pub node_of : (body : List ℕ) (n : Node) (rest : List ℕ) → AllBytes body → take_node body ≡ Ok (n, rest) → (body ≡ node_bytes n ++ rest) × IsNode n × AllBytes rest
+node_of body n rest is e =
     let p = parameters n.function in
-    let read = node_from body n e in
+    let read = node_from body n rest e in
     let (body_is, is1) = function_of body n.function read.behind_function is read.function in
     let (r1_is, border_is, is2) = border_of read.behind_function n.border read.behind_border is1 read.border in
     let (r2_is, has_policy, is3) = policy_of p read.behind_border n.policy read.behind_policy is2 read.policy in
     let (r3_is, below, has_amount, is4) = amount_of p read.behind_policy n.amount read.behind_amount is3 read.amount in
     let (r4_is, given, in1_is, is5) = first_of read.behind_amount n.in1 read.behind_in1 is4 read.in1 in
-    let (r5_is, has, are, is6) = operands_of p read.behind_in1 (n.in2, n.out1, n.out2) [] is5 read.others in (
-      spelled_fields n body read.behind_function read.behind_border read.behind_policy read.behind_amount read.behind_in1 body_is r1_is r2_is r3_is r4_is r5_is,
+    let (r5_is, has, are, is6) = operands_of p read.behind_in1 (n.in2, n.out1, n.out2) rest is5 read.others in (
+      spelled_fields n body read.behind_function read.behind_border read.behind_policy read.behind_amount read.behind_in1 rest body_is r1_is r2_is r3_is r4_is r5_is,
       record {
         shape = is_node-from_fields n has_policy has_amount given has.0 has.1 has.2;
         border = border_is;
@@ -272,4 +272,5 @@ node_of body n is e =
         out1 = are.1;
         out2 = are.2;
       },
+      is6,
     )

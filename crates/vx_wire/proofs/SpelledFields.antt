@@ -11,6 +11,7 @@ use Rattle.vx_base.specs.declared.format.Format.{Format}
 use Rattle.vx_base.specs.declared.format.Format.TheVariants.{U8, S16, U32}
 use Rattle.vx_base.specs.Cell.{Cell, IsCell}
 use Rattle.vx_base.specs.Description.{Description, is_side, sample_count, IsDescription}
+use Rattle.vx_base.specs.Outline.{Outline, may_be_side, IsOutline}
 use Rattle.vx_base.specs.Sample.{IsSample, sample_bytes}
 use Rattle.vx_base.specs.Picture.{PictureValue, IsPicture}
 use Rattle.vx_base.specs.Slots.{is_slot_count}
@@ -18,8 +19,9 @@ use Rattle.vx_base.specs.Rectangle.{Rectangle, rectangle, IsRectangle}
 use Rattle.vx_base.specs.Statistics.{BinsValue, are_bins}
 use Rattle.vx_base.proofs.RectangleLaws.{rectangle_ordered}
 use Rattle.vx_wire.specs.Fields.{Taken, and_then, allowed, take_byte, take_short, take_long, take_bytes}
-use Rattle.vx_wire.specs.Format.{take_format, format_number}
+use Rattle.vx_wire.specs.Format.{take_format, format_number, open_format_number, take_open_format}
 use Rattle.vx_wire.specs.Description.{take_side, take_description, description_bytes}
+use Rattle.vx_wire.specs.Outline.{open_side_number, open_side_numbered, take_open_side, take_outline, outline_bytes}
 use Rattle.vx_wire.specs.Reference.{slot_numbered, take_reference, reference_bytes}
 use Rattle.vx_wire.specs.Samples.{decoded, encoded, take_samples, take_picture, picture_bytes}
 use Rattle.vx_wire.specs.Slots.{take_slots}
@@ -70,6 +72,41 @@ description_back d rest is =
     then_ok (take_format (description_bytes d ++ rest)) d.format (to_be_bytes w16 d.width ++ behind) (λ format rest. and_then (take_side rest) (last format)) (format_back d.format _)
     ∙ then_ok (take_side (to_be_bytes w16 d.width ++ behind)) d.width behind (last d.format) (side_back d.width behind is.width)
     ∙ then_ok (take_side behind) d.height rest (λ height rest. Ok (made d.format d.width height, rest)) (side_back d.height rest is.height)
+
+open_format_back : (format : Option Format) (rest : List ℕ) → take_open_format (open_format_number format ∷ rest) ≡ Ok (format, rest)
+open_format_back None rest = refl
+open_format_back (Some U8) rest = refl
+open_format_back (Some S16) rest = refl
+open_format_back (Some U32) rest = refl
+
+open_side_below : (side : Option ℕ) → IsTrue (may_be_side side) → open_side_number side < 2 ^ 16
+open_side_below None is = omega arith
+open_side_below (Some n) is = side_below n is
+
+numbered_side : (side : Option ℕ) → IsTrue (may_be_side side) → open_side_numbered (open_side_number side) ≡ Some side
+numbered_side None is = refl
+numbered_side (Some n) is = known (n == 0) refl
+  where
+    known : (b : Bool) → (n == 0) ≡ b → (if b then Some None else if is_side n then Some (Some n) else None) ≡ Some (Some n)
+    known true e = let none : is_side n ≡ false = ap is_side (eqb-true n 0 e) in cc
+    known false e = ap (λ b. if b then Some (Some n) else None) is
+
+open_side_back : (side : Option ℕ) (rest : List ℕ) → IsTrue (may_be_side side) → take_open_side (to_be_bytes w16 (open_side_number side) ++ rest) ≡ Ok (side, rest)
+open_side_back side rest is =
+    let n = open_side_number side in
+    then_ok (take_short (to_be_bytes w16 n ++ rest)) n rest (λ n rest. allowed InvalidDimension (open_side_numbered n) rest) (short_back n rest (open_side_below side is))
+    ∙ ap (λ side. allowed InvalidDimension side rest) (numbered_side side is)
+
+pub outline_back : (o : Outline) (rest : List ℕ) → IsOutline o → take_outline (outline_bytes o ++ rest) ≡ Ok (o, rest)
+outline_back o rest is =
+    let (width, height) = both_of (may_be_side o.width) (may_be_side o.height) is in
+    let made : Option Format → Option ℕ → Option ℕ → Outline = λ format width height. record { width = width; height = height; format = format } in
+    let last : Option Format → Option ℕ → List ℕ → Taken Outline = λ format width rest. and_then (take_open_side rest) (λ height rest. Ok (made format width height, rest)) in
+    let after_width = to_be_bytes w16 (open_side_number o.height) ++ rest in
+    let after_format = to_be_bytes w16 (open_side_number o.width) ++ after_width in
+    then_ok (take_open_format (open_format_number o.format ∷ after_format)) o.format after_format (λ format rest. and_then (take_open_side rest) (last format)) (open_format_back o.format after_format)
+    ∙ then_ok (take_open_side after_format) o.width after_width (last o.format) (open_side_back o.width after_width width)
+    ∙ then_ok (take_open_side after_width) o.height rest (λ height rest. Ok (made o.format o.width height, rest)) (open_side_back o.height rest height)
 
 slot_back : (slot : Option ℕ) → IfSome slot (λ k. k < 255) → slot_numbered (unwrap_or slot 255) ≡ slot
 slot_back None is = refl

@@ -1,5 +1,5 @@
 -- A node is read back from its bytes.
-use Rattle.std.proofs.Common.{◌≡◌, ℕ, ◌==◌, List, [], ◌∷◌, ◌++◌, Option, Some, None, Ok, Bool, true, false, not, ◌&&◌, ◌||◌, IsTrue, if◌then◌else◌, cond, nat_le, is_some, is_none, unwrap_or, arith, refl, sym, ap, ◌∙◌, append-nil}
+use Rattle.std.proofs.Common.{◌≡◌, ℕ, ◌==◌, List, [], ◌∷◌, ◌++◌, Option, Some, None, Ok, Bool, true, false, not, ◌&&◌, ◌||◌, IsTrue, if◌then◌else◌, cond, nat_le, is_some, is_none, unwrap_or, arith, refl, ap, ◌∙◌}
 use Rattle.std.specs.Prelude.{IfSome}
 use Rattle.vx_wire.specs.Numbered.{numbered}
 use Rattle.std.proofs.lemmas.Bool.{eq-eqb, leb-true}
@@ -20,7 +20,7 @@ use Rattle.vx_wire.specs.Fields.{Taken, and_then, allowed}
 use Rattle.vx_wire.specs.Reference.{take_reference, reference_bytes}
 use Rattle.vx_wire.specs.Operand.{operand, take_operand, second_input, first_output, second_output, take_operands, take_first_input, is_operand, operand_bytes}
 use Rattle.vx_wire.specs.Node.{take_function, take_border, take_policy, amount_allowed, take_node, border_bytes, policy_number, node_bytes}
-use Rattle.vx_wire.proofs.NodeShape.{both_of, take_node-fields}
+use Rattle.vx_wire.proofs.NodeShape.{both_of, take_node-fields, three_joined}
 use Rattle.vx_wire.proofs.FunctionNumbers.{numbered_back}
 use Rattle.vx_wire.proofs.SpelledFields.{then_ok, cell_back}
 
@@ -85,19 +85,19 @@ first_back cell rest given is =
     there true is = cc
     there false is = refl
 
-operands_back : (p : Parameters) (in2 out1 out2 : Option Cell) → IsTrue (is_operand (second_input p) in2) → IsTrue (is_operand (first_output p) out1)
+operands_back : (p : Parameters) (in2 out1 out2 : Option Cell) (rest : List ℕ) → IsTrue (is_operand (second_input p) in2) → IsTrue (is_operand (first_output p) out1)
     → IsTrue (is_operand (second_output p out1) out2) → IfSome in2 IsCell → IfSome out1 IsCell → IfSome out2 IsCell
-    → take_operands p (operand_bytes in2 ++ (operand_bytes out1 ++ operand_bytes out2)) ≡ Ok ((in2, out1, out2), [])
-operands_back p in2 out1 out2 has2 has_out1 has_out2 is2 is_out1 is_out2 =
+    → take_operands p (operand_bytes in2 ++ (operand_bytes out1 ++ (operand_bytes out2 ++ rest))) ≡ Ok ((in2, out1, out2), rest)
+operands_back p in2 out1 out2 rest has2 has_out1 has_out2 is2 is_out1 is_out2 =
     let Others : Type 0 = Option Cell × Option Cell × Option Cell in
     let third : Option Cell → Option Cell → List ℕ → Taken Others =
     λ in2 out1 rest. and_then (take_operand (second_output p out1) rest) (λ out2 rest. Ok ((in2, out1, out2), rest)) in
     let second : Option Cell → List ℕ → Taken Others = λ in2 rest. and_then (take_operand (first_output p) rest) (third in2) in
-    let behind = operand_bytes out1 ++ operand_bytes out2 in
+    let after_out1 = operand_bytes out2 ++ rest in
+    let behind = operand_bytes out1 ++ after_out1 in
     then_ok (take_operand (second_input p) (operand_bytes in2 ++ behind)) in2 behind second (operand_back (second_input p) in2 behind has2 is2)
-    ∙ then_ok (take_operand (first_output p) behind) out1 (operand_bytes out2) (third in2) (operand_back (first_output p) out1 (operand_bytes out2) has_out1 is_out1)
-    ∙ then_ok (take_operand (second_output p out1) (operand_bytes out2)) out2 [] (λ out2 rest. Ok ((in2, out1, out2), rest))
-    (ap (take_operand (second_output p out1)) (sym (append-nil (operand_bytes out2))) ∙ operand_back (second_output p out1) out2 [] has_out2 is_out2)
+    ∙ then_ok (take_operand (first_output p) behind) out1 after_out1 (third in2) (operand_back (first_output p) out1 after_out1 has_out1 is_out1)
+    ∙ then_ok (take_operand (second_output p out1) after_out1) out2 rest (λ out2 rest. Ok ((in2, out1, out2), rest)) (operand_back (second_output p out1) out2 rest has_out2 is_out2)
 
 -- ---- what is_node says of the operands
 
@@ -117,8 +117,8 @@ outputs_are false None out2 has one two = cc
 outputs_are false (Some cell) None has one two = (one, refl)
 outputs_are false (Some cell) (Some other) has one two = cc
 
-pub node_back : (n : Node) → IsNode n → take_node (node_bytes n) ≡ Ok (n, [])
-node_back n is =
+pub node_back : (n : Node) (rest : List ℕ) → IsNode n → take_node (node_bytes n ++ rest) ≡ Ok (n, rest)
+node_back n rest is =
     let p = parameters n.function in
     let (has, others) = both_of (has_amount p n.policy n.amount) (has_operands p n && all_named n) is.shape in
     let (policy, amount) = both_of (p.policy || is_wrap n.policy) (nat_le n.amount (unwrap_or p.greatest_amount 0)) has in
@@ -128,11 +128,13 @@ node_back n is =
     let (given2, given_outputs) = both_of (is_named n.in2) (is_named n.out1 && is_named n.out2) given_others in
     let (given_out1, given_out2) = both_of (is_named n.out1) (is_named n.out2) given_outputs in
     let are = outputs_are p.output_pair n.out1 n.out2 outputs given_out1 given_out2 in
-    let f = operand_bytes n.in2 ++ (operand_bytes n.out1 ++ operand_bytes n.out2) in
+    let f = operand_bytes n.in2 ++ (operand_bytes n.out1 ++ (operand_bytes n.out2 ++ rest)) in
     let e = reference_bytes n.in1 ++ f in
     let d = n.amount ∷ e in
     let c = policy_number n.policy ∷ d in
     let b = border_bytes n.border ++ c in
-    take_node-fields n p (function_number n.function ∷ b) b c d e f [] refl (function_back n.function b) (border_back n.border c) (policy_back p n.policy d policy)
+    let front : List ℕ → List ℕ = λ l. function_number n.function ∷ (border_bytes n.border ++ policy_number n.policy ∷ n.amount ∷ (reference_bytes n.in1 ++ l)) in
+    ap (λ l. take_node (front l)) (three_joined (operand_bytes n.in2) (operand_bytes n.out1) (operand_bytes n.out2) rest)
+    ∙ take_node-fields n p (function_number n.function ∷ b) b c d e f rest refl (function_back n.function b) (border_back n.border c) (policy_back p n.policy d policy)
     (amount_back p.greatest_amount n.amount e amount) (first_back n.in1 f given1 is.in1)
-    (operands_back p n.in2 n.out1 n.out2 (second_is (is_some p.second_input) n.in2 second given2) are.0 are.1 is.in2 is.out1 is.out2)
+    (operands_back p n.in2 n.out1 n.out2 rest (second_is (is_some p.second_input) n.in2 second given2) are.0 are.1 is.in2 is.out1 is.out2)

@@ -1,7 +1,7 @@
 -- The bodies of requests about contexts.
 use Rattle.std.specs.Prelude.{ℕ, List, Result}
-use Rattle.client_contexts.specs.declared.request.Request.{Request}
-use Rattle.client_contexts.specs.declared.request.Request.TheVariants.{OpenContext, ReleaseContext}
+use Rattle.client_model.specs.declared.request.Request.{Request}
+use Rattle.client_model.specs.declared.request.Request.TheVariants.{OpenContext, ReleaseContext}
 use Rattle.vx_wire.specs.declared.body_fault.BodyFault.{BodyFault}
 use Rattle.vx_wire.specs.Fields.{at_end}
 

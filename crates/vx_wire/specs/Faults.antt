@@ -2,7 +2,7 @@
 use Rattle.std.specs.Prelude.{◌≡◌, Result, Ok, Err}
 use Rattle.vx_base.specs.declared.code.Code.{Code}
 use Rattle.vx_base.specs.declared.code.Code.TheVariants as codes
-use Rattle.client_contexts.specs.declared.request.Request.{Request}
+use Rattle.client_model.specs.declared.request.Request.{Request}
 use Rattle.vx_wire.specs.declared.body_fault.BodyFault.{BodyFault}
 use Rattle.vx_wire.specs.declared.body_fault.BodyFault.TheVariants.{InvalidParameters, InvalidFormat, InvalidDimension, InvalidValue}
 use Rattle.vx_wire.specs.declared.parse_fault.ParseFault.{ParseFault}

@@ -22,6 +22,14 @@ abbrev pub at_end : {A : Type 0} → A → List ℕ → Result A BodyFault
 at_end value [] = Ok value
 at_end value (b ∷ rest) = Err InvalidParameters
 
+-- a body of one field, of which something is made
+abbrev pub one_field : {A B : Type 0} → (List ℕ → Taken A) → (A → B) → List ℕ → Result B BodyFault
+one_field take made body = and_then (take body) (λ x rest. at_end (made x) rest)
+
+-- and one of two
+abbrev pub two_fields : {A B C : Type 0} → (List ℕ → Taken A) → (List ℕ → Taken B) → (A → B → C) → List ℕ → Result C BodyFault
+two_fields first second made body = and_then (first body) (λ x rest. one_field second (made x) rest)
+
 -- a value that is allowed, or the field's fault
 abbrev pub allowed : {A : Type 0} → BodyFault → Option A → List ℕ → Taken A
 allowed fault None rest = Err fault

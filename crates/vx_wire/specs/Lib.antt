@@ -3,6 +3,7 @@ pub mod Op
 pub mod Fields
 pub mod Format
 pub mod Description
+pub mod Outline
 pub mod Reference
 pub mod Rectangle
 pub mod Described
@@ -21,6 +22,7 @@ pub mod Images
 pub mod Objects
 pub mod Tables
 pub mod Statistics
+pub mod Graphs
 pub mod Immediate
 pub mod Delays
 pub mod Requests

@@ -1,9 +1,9 @@
 -- The bodies of requests on objects of any kind.
 use Rattle.std.specs.Prelude.{ℕ, List, Result}
-use Rattle.client_contexts.specs.declared.request.Request.{Request}
-use Rattle.client_contexts.specs.declared.request.Request.TheVariants.{Release}
+use Rattle.client_model.specs.declared.request.Request.{Request}
+use Rattle.client_model.specs.declared.request.Request.TheVariants.{Release}
 use Rattle.vx_wire.specs.declared.body_fault.BodyFault.{BodyFault}
-use Rattle.vx_wire.specs.Fields.{and_then, at_end, take_long}
+use Rattle.vx_wire.specs.Fields.{one_field, take_long}
 
 abbrev pub release_in : List ℕ → Result Request BodyFault
-release_in body = and_then (take_long body) (λ name rest. at_end (Release name) rest)
+release_in body = one_field take_long Release body

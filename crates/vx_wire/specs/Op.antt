@@ -1,10 +1,10 @@
 -- The ops of requests, and their numbers.
 use Rattle.std.specs.Prelude.{ℕ, List, [], ◌∷◌, Option}
-use Rattle.client_contexts.specs.declared.request.Request.{Request}
-use Rattle.client_contexts.specs.declared.request.Request.TheVariants as requests
+use Rattle.client_model.specs.declared.request.Request.{Request}
+use Rattle.client_model.specs.declared.request.Request.TheVariants as requests
 use Rattle.vx_wire.specs.Numbered.{numbered}
 use Rattle.vx_wire.specs.declared.op.Op.{Op}
-use Rattle.vx_wire.specs.declared.op.Op.TheVariants.{OpenContext, ReleaseContext, CreateImage, QueryImage, WriteImage, WriteImagePgm, ReadImage, ReadImagePgm, SetValid, Release, CreateLut, CreateThreshold, CreateConvolution, CreateDistribution, ReadDistribution, CreateMinMax, ReadMinMax, Immediate, CreateDelay, AgeDelay}
+use Rattle.vx_wire.specs.declared.op.Op.TheVariants.{OpenContext, ReleaseContext, CreateImage, QueryImage, WriteImage, WriteImagePgm, ReadImage, ReadImagePgm, SetValid, Release, CreateLut, CreateThreshold, CreateConvolution, CreateDistribution, ReadDistribution, CreateMinMax, ReadMinMax, CreateGraph, CreateVirtualImage, AddNode, RemoveNode, VerifyGraph, ProcessGraph, Immediate, CreateDelay, AgeDelay}
 
 -- the number of this project's that stands for the op
 abbrev pub op_number : Op → ℕ
@@ -25,6 +25,12 @@ op_number CreateDistribution = 14
 op_number ReadDistribution = 15
 op_number CreateMinMax = 16
 op_number ReadMinMax = 17
+op_number CreateGraph = 18
+op_number CreateVirtualImage = 19
+op_number AddNode = 20
+op_number RemoveNode = 21
+op_number VerifyGraph = 22
+op_number ProcessGraph = 23
 op_number Immediate = 24
 op_number CreateDelay = 25
 op_number AgeDelay = 26
@@ -32,7 +38,8 @@ op_number AgeDelay = 26
 abbrev pub ops : List Op
 ops =
     OpenContext ∷ ReleaseContext ∷ CreateImage ∷ QueryImage ∷ WriteImage ∷ WriteImagePgm ∷ ReadImage ∷ ReadImagePgm ∷ SetValid ∷ Release ∷ CreateLut ∷ CreateThreshold
-    ∷ CreateConvolution ∷ CreateDistribution ∷ ReadDistribution ∷ CreateMinMax ∷ ReadMinMax ∷ Immediate ∷ CreateDelay ∷ AgeDelay ∷ []
+    ∷ CreateConvolution ∷ CreateDistribution ∷ ReadDistribution ∷ CreateMinMax ∷ ReadMinMax ∷ CreateGraph ∷ CreateVirtualImage ∷ AddNode ∷ RemoveNode ∷ VerifyGraph ∷ ProcessGraph
+    ∷ Immediate ∷ CreateDelay ∷ AgeDelay ∷ []
 
 -- the op with this number
 abbrev pub op_numbered : ℕ → Option Op
@@ -57,6 +64,12 @@ op_of (requests.CreateDistribution bins) = CreateDistribution
 op_of (requests.ReadDistribution name) = ReadDistribution
 op_of requests.CreateMinMax = CreateMinMax
 op_of (requests.ReadMinMax name) = ReadMinMax
+op_of requests.CreateGraph = CreateGraph
+op_of (requests.CreateVirtualImage graph declared) = CreateVirtualImage
+op_of (requests.AddNode graph node) = AddNode
+op_of (requests.RemoveNode graph number) = RemoveNode
+op_of (requests.VerifyGraph graph) = VerifyGraph
+op_of (requests.ProcessGraph graph) = ProcessGraph
 op_of (requests.Immediate node) = Immediate
 op_of (requests.CreateDelay exemplar slots) = CreateDelay
 op_of (requests.AgeDelay name) = AgeDelay

@@ -1,15 +1,16 @@
 -- Requests and their bodies. Each table goes by families: contexts, images, objects of any kind, tables (and thresholds and convolutions), statistics (distributions and extremes),
--- nodes that run at once, delays.
+-- graphs, nodes that run at once, delays.
 use Rattle.std.specs.Prelude.{ℕ, ⊤, List, [], ◌∷◌, ◌++◌, Option, Some, None, Result, Err}
 use Rattle.std.specs.Int.{w32, to_be_bytes}
-use Rattle.client_contexts.specs.declared.request.Request.{Request}
-use Rattle.client_contexts.specs.declared.request.Request.TheVariants.{OpenContext, ReleaseContext, CreateImage, QueryImage, WriteImage, WriteImagePgm, ReadImage, ReadImagePgm, SetValid, Release, CreateLut, CreateThreshold, CreateConvolution, CreateDistribution, ReadDistribution, CreateMinMax, ReadMinMax, Immediate, CreateDelay, AgeDelay}
+use Rattle.client_model.specs.declared.request.Request.{Request}
+use Rattle.client_model.specs.declared.request.Request.TheVariants.{OpenContext, ReleaseContext, CreateImage, QueryImage, WriteImage, WriteImagePgm, ReadImage, ReadImagePgm, SetValid, Release, CreateLut, CreateThreshold, CreateConvolution, CreateDistribution, ReadDistribution, CreateMinMax, ReadMinMax, CreateGraph, CreateVirtualImage, AddNode, RemoveNode, VerifyGraph, ProcessGraph, Immediate, CreateDelay, AgeDelay}
 use Rattle.vx_wire.specs.declared.body_fault.BodyFault.{BodyFault}
 use Rattle.vx_wire.specs.declared.body_fault.BodyFault.TheVariants.{InvalidParameters}
 use Rattle.vx_wire.specs.declared.op.Op.{Op}
 use Rattle.vx_wire.specs.declared.op.Op.TheVariants as ops
 use Rattle.vx_wire.specs.Op.{op_numbered}
 use Rattle.vx_wire.specs.Description.{description_bytes}
+use Rattle.vx_wire.specs.Outline.{outline_bytes}
 use Rattle.vx_wire.specs.Reference.{reference_bytes}
 use Rattle.vx_wire.specs.Rectangle.{rectangle_bytes}
 use Rattle.vx_wire.specs.Samples.{picture_bytes}
@@ -23,6 +24,7 @@ use Rattle.vx_wire.specs.Images.{create_image_in, query_image_in, write_image_in
 use Rattle.vx_wire.specs.Objects.{release_in}
 use Rattle.vx_wire.specs.Tables.{create_lut_in, create_threshold_in, create_convolution_in}
 use Rattle.vx_wire.specs.Statistics.{create_distribution_in, read_distribution_in, create_min_max_in, read_min_max_in}
+use Rattle.vx_wire.specs.Graphs.{create_graph_in, create_virtual_image_in, add_node_in, remove_node_in, verify_graph_in, process_graph_in}
 use Rattle.vx_wire.specs.Immediate.{immediate_in}
 use Rattle.vx_wire.specs.Delays.{create_delay_in, age_delay_in}
 
@@ -45,6 +47,12 @@ request_with ops.CreateDistribution body = create_distribution_in body
 request_with ops.ReadDistribution body = read_distribution_in body
 request_with ops.CreateMinMax body = create_min_max_in body
 request_with ops.ReadMinMax body = read_min_max_in body
+request_with ops.CreateGraph body = create_graph_in body
+request_with ops.CreateVirtualImage body = create_virtual_image_in body
+request_with ops.AddNode body = add_node_in body
+request_with ops.RemoveNode body = remove_node_in body
+request_with ops.VerifyGraph body = verify_graph_in body
+request_with ops.ProcessGraph body = process_graph_in body
 request_with ops.Immediate body = immediate_in body
 request_with ops.CreateDelay body = create_delay_in body
 request_with ops.AgeDelay body = age_delay_in body
@@ -77,6 +85,12 @@ body_of (CreateDistribution bins) = bins_bytes bins
 body_of (ReadDistribution name) = to_be_bytes w32 name
 body_of CreateMinMax = []
 body_of (ReadMinMax name) = to_be_bytes w32 name
+body_of CreateGraph = []
+body_of (CreateVirtualImage graph declared) = to_be_bytes w32 graph ++ outline_bytes declared
+body_of (AddNode graph node) = to_be_bytes w32 graph ++ node_bytes node
+body_of (RemoveNode graph number) = to_be_bytes w32 graph ++ to_be_bytes w32 number
+body_of (VerifyGraph graph) = to_be_bytes w32 graph
+body_of (ProcessGraph graph) = to_be_bytes w32 graph
 body_of (Immediate node) = node_bytes node
 body_of (CreateDelay exemplar slots) = reference_bytes exemplar ++ slots ∷ []
 body_of (AgeDelay name) = to_be_bytes w32 name
@@ -100,6 +114,12 @@ HoldsSamples (CreateDistribution bins) = ⊥
 HoldsSamples (ReadDistribution name) = ⊥
 HoldsSamples CreateMinMax = ⊥
 HoldsSamples (ReadMinMax name) = ⊥
+HoldsSamples CreateGraph = ⊥
+HoldsSamples (CreateVirtualImage graph declared) = ⊥
+HoldsSamples (AddNode graph node) = ⊥
+HoldsSamples (RemoveNode graph number) = ⊥
+HoldsSamples (VerifyGraph graph) = ⊥
+HoldsSamples (ProcessGraph graph) = ⊥
 HoldsSamples (Immediate node) = ⊥
 HoldsSamples (CreateDelay exemplar slots) = ⊥
 HoldsSamples (AgeDelay name) = ⊥

@@ -1,19 +1,19 @@
 -- The bodies of requests about distributions and extremes.
 use Rattle.std.specs.Prelude.{ℕ, List, Result}
-use Rattle.client_contexts.specs.declared.request.Request.{Request}
-use Rattle.client_contexts.specs.declared.request.Request.TheVariants.{CreateDistribution, ReadDistribution, CreateMinMax, ReadMinMax}
+use Rattle.client_model.specs.declared.request.Request.{Request}
+use Rattle.client_model.specs.declared.request.Request.TheVariants.{CreateDistribution, ReadDistribution, CreateMinMax, ReadMinMax}
 use Rattle.vx_wire.specs.declared.body_fault.BodyFault.{BodyFault}
-use Rattle.vx_wire.specs.Fields.{and_then, at_end, take_long}
+use Rattle.vx_wire.specs.Fields.{at_end, one_field, take_long}
 use Rattle.vx_wire.specs.Bins.{take_bins}
 
 abbrev pub create_distribution_in : List ℕ → Result Request BodyFault
-create_distribution_in body = and_then (take_bins body) (λ bins rest. at_end (CreateDistribution bins) rest)
+create_distribution_in body = one_field take_bins CreateDistribution body
 
 abbrev pub read_distribution_in : List ℕ → Result Request BodyFault
-read_distribution_in body = and_then (take_long body) (λ name rest. at_end (ReadDistribution name) rest)
+read_distribution_in body = one_field take_long ReadDistribution body
 
 abbrev pub create_min_max_in : List ℕ → Result Request BodyFault
 create_min_max_in body = at_end CreateMinMax body
 
 abbrev pub read_min_max_in : List ℕ → Result Request BodyFault
-read_min_max_in body = and_then (take_long body) (λ name rest. at_end (ReadMinMax name) rest)
+read_min_max_in body = one_field take_long ReadMinMax body

@@ -8,8 +8,8 @@ pub enum BodyFault {
     InvalidParameters,
     /// A number stands for no format, or for one that a table or a threshold doesn't take.
     InvalidFormat,
-    /// A width or a height isn't 1 to 4096, or the columns or the rows of a convolution aren't 3,
-    /// 5, 7 or 9.
+    /// A width or a height isn't 1 to 4096 (or 0, where it may be left open), or the columns or the
+    /// rows of a convolution aren't 3, 5, 7 or 9.
     InvalidDimension,
     /// An amount is beyond what the function takes, the limit of a threshold isn't a sample of its
     /// format or is below the lower limit, the bounds of a rectangle aren't those of one, the slots

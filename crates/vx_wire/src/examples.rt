@@ -5,7 +5,7 @@ ghost use Rattle.vx_base.specs.declared.policy.Policy.TheVariants.{Wrap, Saturat
 ghost use Rattle.vx_base.specs.declared.border.Border.TheVariants.{Undefined, Constant};
 ghost use Rattle.vx_base.specs.declared.function.Function.TheVariants.{NotBits, Multiply};
 ghost use Rattle.vx_base.specs.declared.threshold.ThresholdKind.TheVariants.{Binary, Range};
-ghost use Rattle.client_contexts.specs.declared.request.Request.TheVariants.{OpenContext, ReleaseContext, CreateImage, QueryImage, WriteImage, WriteImagePgm, ReadImage, ReadImagePgm, SetValid, Release, CreateThreshold, CreateConvolution, CreateDistribution, ReadDistribution, CreateMinMax, ReadMinMax, Immediate, CreateDelay, AgeDelay};
+ghost use Rattle.client_model.specs.declared.request.Request.TheVariants.{OpenContext, ReleaseContext, CreateImage, QueryImage, WriteImage, WriteImagePgm, ReadImage, ReadImagePgm, SetValid, Release, CreateThreshold, CreateConvolution, CreateDistribution, ReadDistribution, CreateMinMax, ReadMinMax, CreateGraph, CreateVirtualImage, AddNode, RemoveNode, VerifyGraph, ProcessGraph, Immediate, CreateDelay, AgeDelay};
 ghost use Rattle.vx_wire.specs.declared.body_fault.BodyFault.TheVariants.{InvalidParameters, InvalidFormat, InvalidDimension, InvalidValue};
 ghost use Rattle.vx_wire.specs.Requests.{request_of, body_of};
 ghost use Rattle.vx_wire.specs.Described.{described_bytes};
@@ -180,6 +180,63 @@ pub fn statistics_told()
         ≡ 255 ∷ 254 ∷ 1 ∷ 2 ∷ 0 ∷ 0 ∷ 0 ∷ 1 ∷ 0 ∷ 1 ∷ 0 ∷ 0 ∷ 0 ∷ 3 ∷ 0 ∷ 4 ∷ 0 ∷ 5 ∷ 2 ∷ 3 ∷ [] }
 {}
 
+/// A graph that is made by an empty body.
+pub fn graphs_made()
+    ensures made { request_of 18 [] ≡ Ok CreateGraph }
+    ensures more { request_of 18 (0 ∷ []) ≡ Err InvalidParameters }
+{}
+
+/// Virtual images of graph 3 of which all is known, nothing or a part, and of what none is. The
+/// first field that is wrong decides, also where the next is cut.
+pub fn virtual_images_made()
+    ensures known { request_of 19 (0 ∷ 0 ∷ 0 ∷ 3 ∷ 1 ∷ 1 ∷ 2 ∷ 16 ∷ 0 ∷ []) ≡ Ok (CreateVirtualImage 3 (record { width = Some 258; height = Some 4096; format = Some U8 })) }
+    ensures open { request_of 19 (0 ∷ 0 ∷ 0 ∷ 3 ∷ 0 ∷ 0 ∷ 0 ∷ 0 ∷ 0 ∷ []) ≡ Ok (CreateVirtualImage 3 (record { width = None; height = None; format = None })) }
+    ensures open_width { request_of 19 (0 ∷ 0 ∷ 0 ∷ 3 ∷ 2 ∷ 0 ∷ 0 ∷ 0 ∷ 1 ∷ []) ≡ Ok (CreateVirtualImage 3 (record { width = None; height = Some 1; format = Some S16 })) }
+    ensures open_height { request_of 19 (0 ∷ 0 ∷ 0 ∷ 3 ∷ 3 ∷ 0 ∷ 1 ∷ 0 ∷ 0 ∷ []) ≡ Ok (CreateVirtualImage 3 (record { width = Some 1; height = None; format = Some U32 })) }
+    ensures open_format { request_of 19 (0 ∷ 0 ∷ 0 ∷ 3 ∷ 0 ∷ 0 ∷ 1 ∷ 0 ∷ 2 ∷ []) ≡ Ok (CreateVirtualImage 3 (record { width = Some 1; height = Some 2; format = None })) }
+    ensures no_format { request_of 19 (0 ∷ 0 ∷ 0 ∷ 3 ∷ 4 ∷ 0 ∷ 1 ∷ 0 ∷ 1 ∷ []) ≡ Err InvalidFormat }
+    ensures too_wide { request_of 19 (0 ∷ 0 ∷ 0 ∷ 3 ∷ 1 ∷ 16 ∷ 1 ∷ 0 ∷ 1 ∷ []) ≡ Err InvalidDimension }
+    ensures too_high { request_of 19 (0 ∷ 0 ∷ 0 ∷ 3 ∷ 0 ∷ 0 ∷ 0 ∷ 16 ∷ 1 ∷ []) ≡ Err InvalidDimension }
+    ensures no_format_and_cut { request_of 19 (0 ∷ 0 ∷ 0 ∷ 3 ∷ 4 ∷ []) ≡ Err InvalidFormat }
+    ensures too_wide_and_cut { request_of 19 (0 ∷ 0 ∷ 0 ∷ 3 ∷ 1 ∷ 16 ∷ 1 ∷ 0 ∷ []) ≡ Err InvalidDimension }
+    ensures too_high_and_more { request_of 19 (0 ∷ 0 ∷ 0 ∷ 3 ∷ 1 ∷ 0 ∷ 1 ∷ 16 ∷ 1 ∷ 0 ∷ []) ≡ Err InvalidDimension }
+    ensures cut { request_of 19 (0 ∷ 0 ∷ 0 ∷ 3 ∷ 0 ∷ 0 ∷ 0 ∷ 0 ∷ []) ≡ Err InvalidParameters }
+    ensures more { request_of 19 (0 ∷ 0 ∷ 0 ∷ 3 ∷ 0 ∷ 0 ∷ 0 ∷ 0 ∷ 0 ∷ 0 ∷ []) ≡ Err InvalidParameters }
+    ensures no_outline { request_of 19 (0 ∷ 0 ∷ 0 ∷ 3 ∷ []) ≡ Err InvalidParameters }
+    ensures no_name { request_of 19 (0 ∷ 0 ∷ 0 ∷ []) ≡ Err InvalidParameters }
+{}
+
+/// Not of image 1 to image 2 that is added to graph 258, and nodes that are none. The name is taken
+/// before the node.
+pub fn nodes_added()
+    ensures added { request_of 20 (0 ∷ 0 ∷ 1 ∷ 2 ∷ 4 ∷ 0 ∷ 0 ∷ 0 ∷ 0 ∷ 0 ∷ 0 ∷ 0 ∷ 1 ∷ 255 ∷ 0 ∷ 0 ∷ 0 ∷ 0 ∷ 255 ∷ 0 ∷ 0 ∷ 0 ∷ 2 ∷ 255 ∷ 0 ∷ 0 ∷ 0 ∷ 0 ∷ 255 ∷ [])
+        ≡ Ok (AddNode 258 (record { function = NotBits; border = Undefined; policy = Wrap; amount = 0; in1 = record { name = 1; slot = None }; in2 = None; out1 = Some (record { name = 2; slot = None }); out2 = None })) }
+    ensures no_function { request_of 20 (0 ∷ 0 ∷ 1 ∷ 2 ∷ 0 ∷ []) ≡ Err InvalidParameters }
+    ensures too_much { request_of 20 (0 ∷ 0 ∷ 1 ∷ 2 ∷ 7 ∷ 0 ∷ 0 ∷ 1 ∷ 16 ∷ 0 ∷ 0 ∷ 0 ∷ 1 ∷ 255 ∷ 0 ∷ 0 ∷ 0 ∷ 2 ∷ 255 ∷ 0 ∷ 0 ∷ 0 ∷ 4 ∷ 255 ∷ 0 ∷ 0 ∷ 0 ∷ 0 ∷ 255 ∷ []) ≡ Err InvalidValue }
+    ensures too_much_and_cut { request_of 20 (0 ∷ 0 ∷ 1 ∷ 2 ∷ 7 ∷ 0 ∷ 0 ∷ 1 ∷ 16 ∷ []) ≡ Err InvalidValue }
+    ensures cut { request_of 20 (0 ∷ 0 ∷ 1 ∷ 2 ∷ 4 ∷ 0 ∷ 0 ∷ 0 ∷ 0 ∷ 0 ∷ 0 ∷ 0 ∷ 1 ∷ 255 ∷ 0 ∷ 0 ∷ 0 ∷ 0 ∷ 255 ∷ 0 ∷ 0 ∷ 0 ∷ 2 ∷ 255 ∷ 0 ∷ 0 ∷ 0 ∷ 0 ∷ []) ≡ Err InvalidParameters }
+    ensures more { request_of 20 (0 ∷ 0 ∷ 1 ∷ 2 ∷ 4 ∷ 0 ∷ 0 ∷ 0 ∷ 0 ∷ 0 ∷ 0 ∷ 0 ∷ 1 ∷ 255 ∷ 0 ∷ 0 ∷ 0 ∷ 0 ∷ 255 ∷ 0 ∷ 0 ∷ 0 ∷ 2 ∷ 255 ∷ 0 ∷ 0 ∷ 0 ∷ 0 ∷ 255 ∷ 0 ∷ []) ≡ Err InvalidParameters }
+    ensures no_node { request_of 20 (0 ∷ 0 ∷ 1 ∷ 2 ∷ []) ≡ Err InvalidParameters }
+    ensures no_name { request_of 20 (4 ∷ 0 ∷ 0 ∷ []) ≡ Err InvalidParameters }
+{}
+
+/// Node 258 that is removed from graph 3.
+pub fn nodes_removed()
+    ensures removed { request_of 21 (0 ∷ 0 ∷ 0 ∷ 3 ∷ 0 ∷ 0 ∷ 1 ∷ 2 ∷ []) ≡ Ok (RemoveNode 3 258) }
+    ensures cut { request_of 21 (0 ∷ 0 ∷ 0 ∷ 3 ∷ 0 ∷ 0 ∷ 1 ∷ []) ≡ Err InvalidParameters }
+    ensures more { request_of 21 (0 ∷ 0 ∷ 0 ∷ 3 ∷ 0 ∷ 0 ∷ 1 ∷ 2 ∷ 255 ∷ []) ≡ Err InvalidParameters }
+{}
+
+/// Graph 258 that is verified and run, and a name that is cut short or has a slot.
+pub fn graphs_verified_and_run()
+    ensures verified { request_of 22 (0 ∷ 0 ∷ 1 ∷ 2 ∷ []) ≡ Ok (VerifyGraph 258) }
+    ensures verified_cut { request_of 22 (0 ∷ 0 ∷ 1 ∷ []) ≡ Err InvalidParameters }
+    ensures verified_with_a_slot { request_of 22 (0 ∷ 0 ∷ 1 ∷ 2 ∷ 255 ∷ []) ≡ Err InvalidParameters }
+    ensures run { request_of 23 (0 ∷ 0 ∷ 1 ∷ 2 ∷ []) ≡ Ok (ProcessGraph 258) }
+    ensures run_cut { request_of 23 (0 ∷ 0 ∷ 1 ∷ []) ≡ Err InvalidParameters }
+    ensures run_with_a_slot { request_of 23 (0 ∷ 0 ∷ 1 ∷ 2 ∷ 255 ∷ []) ≡ Err InvalidParameters }
+{}
+
 /// Not of image 1 to image 2, and nodes of Not with what it lacks or without what it has.
 pub fn nodes()
     ensures whole { request_of 24 (4 ∷ 0 ∷ 0 ∷ 0 ∷ 0 ∷ 0 ∷ 0 ∷ 0 ∷ 1 ∷ 255 ∷ 0 ∷ 0 ∷ 0 ∷ 0 ∷ 255 ∷ 0 ∷ 0 ∷ 0 ∷ 2 ∷ 255 ∷ 0 ∷ 0 ∷ 0 ∷ 0 ∷ 255 ∷ [])
@@ -221,8 +278,8 @@ pub fn delays_aged()
     ensures with_a_slot { request_of 26 (0 ∷ 0 ∷ 0 ∷ 2 ∷ 255 ∷ []) ≡ Err InvalidParameters }
 {}
 
-/// The spellings of a picture, of a text, of a rectangle, of a threshold, of a convolution, of bins
-/// and of a delay.
+/// The spellings of a picture, of a text, of a rectangle, of a threshold, of a convolution, of bins,
+/// of two outlines, of a node of a graph and of a delay.
 pub fn spelled()
     ensures picture { body_of (WriteImage (record { name = 7; slot = None }) (record { description = record { width = 2; height = 1; format = S16 }; samples = negsuc 1 ∷ pos 1 ∷ [] }))
         ≡ 0 ∷ 0 ∷ 0 ∷ 7 ∷ 255 ∷ 2 ∷ 0 ∷ 2 ∷ 0 ∷ 1 ∷ 255 ∷ 254 ∷ 0 ∷ 1 ∷ [] }
@@ -234,5 +291,9 @@ pub fn spelled()
     ensures convolution { body_of (CreateConvolution (record { columns = 3; rows = 5; exponent = 31; coefficients = pos 1 ∷ negsuc 1 ∷ pos 3 ∷ pos 4 ∷ pos 5 ∷ pos 6 ∷ pos 7 ∷ pos 8 ∷ pos 9 ∷ pos 10 ∷ pos 11 ∷ pos 12 ∷ pos 13 ∷ pos 32767 ∷ negsuc 32767 ∷ [] }))
         ≡ 3 ∷ 5 ∷ 31 ∷ 0 ∷ 1 ∷ 255 ∷ 254 ∷ 0 ∷ 3 ∷ 0 ∷ 4 ∷ 0 ∷ 5 ∷ 0 ∷ 6 ∷ 0 ∷ 7 ∷ 0 ∷ 8 ∷ 0 ∷ 9 ∷ 0 ∷ 10 ∷ 0 ∷ 11 ∷ 0 ∷ 12 ∷ 0 ∷ 13 ∷ 127 ∷ 255 ∷ 128 ∷ 0 ∷ [] }
     ensures bins { body_of (CreateDistribution (record { bins = 3; offset = 0; range = 256 })) ≡ 0 ∷ 3 ∷ 0 ∷ 0 ∷ 1 ∷ 0 ∷ [] }
+    ensures outline { body_of (CreateVirtualImage 3 (record { width = Some 258; height = Some 4096; format = Some U8 })) ≡ 0 ∷ 0 ∷ 0 ∷ 3 ∷ 1 ∷ 1 ∷ 2 ∷ 16 ∷ 0 ∷ [] }
+    ensures open_outline { body_of (CreateVirtualImage 3 (record { width = None; height = Some 1; format = None })) ≡ 0 ∷ 0 ∷ 0 ∷ 3 ∷ 0 ∷ 0 ∷ 0 ∷ 0 ∷ 1 ∷ [] }
+    ensures node_of_a_graph { body_of (AddNode 258 (record { function = NotBits; border = Undefined; policy = Wrap; amount = 0; in1 = record { name = 1; slot = None }; in2 = None; out1 = Some (record { name = 2; slot = None }); out2 = None }))
+        ≡ 0 ∷ 0 ∷ 1 ∷ 2 ∷ 4 ∷ 0 ∷ 0 ∷ 0 ∷ 0 ∷ 0 ∷ 0 ∷ 0 ∷ 1 ∷ 255 ∷ 0 ∷ 0 ∷ 0 ∷ 0 ∷ 255 ∷ 0 ∷ 0 ∷ 0 ∷ 2 ∷ 255 ∷ 0 ∷ 0 ∷ 0 ∷ 0 ∷ 255 ∷ [] }
     ensures delay { body_of (CreateDelay (record { name = 1; slot = None }) 3) ≡ 0 ∷ 0 ∷ 0 ∷ 1 ∷ 255 ∷ 3 ∷ [] }
 {}

@@ -1,6 +1,6 @@
 //! Taking fields from the front of a body, in order.
 ghost use Rattle.std.specs.Prelude.{◌≡◌, length, Ok, Err, IfOk, IfErr, OnOk};
-ghost use Rattle.client_contexts.specs.declared.request.Request.{Request as RequestValue};
+ghost use Rattle.client_model.specs.declared.request.Request.{Request as RequestValue};
 ghost use Rattle.vx_wire.specs.Fields.{Takes, take_byte, take_short, take_long, take_bytes, at_end};
 
 pub mod bins;
@@ -11,6 +11,7 @@ pub mod extremes;
 pub mod format;
 pub mod node;
 pub mod operand;
+pub mod outline;
 pub mod rectangle;
 pub mod reference;
 pub mod samples;

@@ -8,12 +8,12 @@
 //! - `op`: what kind of request a frame holds, and its number
 //! - `body_fault`, `parse_fault`: why a body spells no request, and why none was read
 //! - `fields`: taking fields from the front of a body, and in its modules what each subject takes
-//!   and gives: `format`, `description`, `reference`, `rectangle`, `samples`, `threshold`,
-//!   `convolution`, `bins` (of a distribution), `operand`, `node`, `slots` (of a delay),
-//!   `described` (what is told of an image), `extremes`
+//!   and gives: `format`, `description`, `outline` (of an image that isn't there), `reference`,
+//!   `rectangle`, `samples`, `threshold`, `convolution`, `bins` (of a distribution), `operand`,
+//!   `node`, `slots` (of a delay), `described` (what is told of an image), `extremes`
 //! - `requests`: the bodies of requests, by families: `contexts`, `images`, `objects` (of any
 //!   kind), `tables` (and thresholds and convolutions), `statistics` (distributions and extremes),
-//!   `immediate`, `delays`
+//!   `graphs`, `immediate`, `delays`
 //! - `parsing`: the body of any request
 //! - `laws`, `examples`: what the definitions mean
 #![tactic(auto)]
@@ -34,6 +34,7 @@ pub use fields::description::description_bytes;
 pub use fields::extremes::extremes_bytes;
 pub use fields::format::format_number;
 pub use fields::node::node_bytes;
+pub use fields::outline::outline_bytes;
 pub use fields::rectangle::rectangle_bytes;
 pub use fields::reference::reference_bytes;
 pub use fields::samples::{WideSample, encode};

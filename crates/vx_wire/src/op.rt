@@ -3,7 +3,7 @@ ghost use Rattle.std.specs.Prelude.{◌≡◌, ◌↔◌, Some};
 ghost use Rattle.vx_wire.specs.declared.op.Op.{Op as RequestOp};
 ghost use Rattle.vx_wire.specs.Op.{op_number, op_numbered, op_of};
 
-use client_contexts::Request;
+use client_model::Request;
 
 /// What kind of request a frame holds.
 #[derive(Clone, Copy, PartialEq, Eq, Debug)]
@@ -25,6 +25,12 @@ pub enum Op {
     ReadDistribution,
     CreateMinMax,
     ReadMinMax,
+    CreateGraph,
+    CreateVirtualImage,
+    AddNode,
+    RemoveNode,
+    VerifyGraph,
+    ProcessGraph,
     Immediate,
     CreateDelay,
     AgeDelay,
@@ -53,6 +59,12 @@ impl Op {
             Op::ReadDistribution => 15,
             Op::CreateMinMax => 16,
             Op::ReadMinMax => 17,
+            Op::CreateGraph => 18,
+            Op::CreateVirtualImage => 19,
+            Op::AddNode => 20,
+            Op::RemoveNode => 21,
+            Op::VerifyGraph => 22,
+            Op::ProcessGraph => 23,
             Op::Immediate => 24,
             Op::CreateDelay => 25,
             Op::AgeDelay => 26,
@@ -82,6 +94,12 @@ impl Op {
             15 => Some(Op::ReadDistribution),
             16 => Some(Op::CreateMinMax),
             17 => Some(Op::ReadMinMax),
+            18 => Some(Op::CreateGraph),
+            19 => Some(Op::CreateVirtualImage),
+            20 => Some(Op::AddNode),
+            21 => Some(Op::RemoveNode),
+            22 => Some(Op::VerifyGraph),
+            23 => Some(Op::ProcessGraph),
             24 => Some(Op::Immediate),
             25 => Some(Op::CreateDelay),
             26 => Some(Op::AgeDelay),
@@ -111,6 +129,12 @@ impl Op {
             Request::ReadDistribution(_) => Op::ReadDistribution,
             Request::CreateMinMax => Op::CreateMinMax,
             Request::ReadMinMax(_) => Op::ReadMinMax,
+            Request::CreateGraph => Op::CreateGraph,
+            Request::CreateVirtualImage(_, _) => Op::CreateVirtualImage,
+            Request::AddNode(_, _) => Op::AddNode,
+            Request::RemoveNode(_, _) => Op::RemoveNode,
+            Request::VerifyGraph(_) => Op::VerifyGraph,
+            Request::ProcessGraph(_) => Op::ProcessGraph,
             Request::Immediate(_) => Op::Immediate,
             Request::CreateDelay(_, _) => Op::CreateDelay,
             Request::AgeDelay(_) => Op::AgeDelay,

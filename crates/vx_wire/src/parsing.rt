@@ -7,6 +7,9 @@ use crate::op::Op;
 use crate::parse_fault::ParseFault;
 use crate::requests::contexts::{open_context, release_context};
 use crate::requests::delays::{age_delay, create_delay};
+use crate::requests::graphs::{
+    add_node, create_graph, create_virtual_image, process_graph, remove_node, verify_graph,
+};
 use crate::requests::images::{
     create_image, query_image, read_image, read_image_pgm, set_valid, write_image, write_image_pgm,
 };
@@ -16,7 +19,7 @@ use crate::requests::statistics::{
     create_distribution, create_min_max, read_distribution, read_min_max,
 };
 use crate::requests::tables::{create_convolution, create_lut, create_threshold};
-use client_contexts::Request;
+use client_model::Request;
 use std::alloc::Global;
 
 /// The request that a body spells after the number of its op.
@@ -48,6 +51,12 @@ pub fn parse(alloc: Global, op: u8, body: &[u8]) -> Result<Request, ParseFault>
         Some(Op::ReadDistribution) => Ok(read_distribution(body)?),
         Some(Op::CreateMinMax) => Ok(create_min_max(body)?),
         Some(Op::ReadMinMax) => Ok(read_min_max(body)?),
+        Some(Op::CreateGraph) => Ok(create_graph(body)?),
+        Some(Op::CreateVirtualImage) => Ok(create_virtual_image(body)?),
+        Some(Op::AddNode) => Ok(add_node(body)?),
+        Some(Op::RemoveNode) => Ok(remove_node(body)?),
+        Some(Op::VerifyGraph) => Ok(verify_graph(body)?),
+        Some(Op::ProcessGraph) => Ok(process_graph(body)?),
         Some(Op::Immediate) => Ok(immediate(body)?),
         Some(Op::CreateDelay) => Ok(create_delay(body)?),
         Some(Op::AgeDelay) => Ok(age_delay(body)?),

@@ -1,9 +1,42 @@
 //! The bodies of requests, by families.
+ghost use Rattle.std.specs.Prelude.{◌≡◌, ℕ, Ok, Err, IfOk, IfErr};
+ghost use Rattle.client_model.specs.declared.request.Request.{Request as RequestValue};
+ghost use Rattle.vx_base.specs.Cell.{Cell};
+ghost use Rattle.vx_wire.specs.Fields.{one_field, take_long};
+ghost use Rattle.vx_wire.specs.Reference.{take_reference};
 
 pub mod contexts;
 pub mod delays;
+pub mod graphs;
 pub mod images;
 pub mod immediate;
 pub mod objects;
 pub mod statistics;
 pub mod tables;
+
+use crate::body_fault::BodyFault;
+use crate::fields::Fields;
+use crate::fields::reference::take_reference;
+use vx_base::ObjRef;
+
+/// The name that is all of a body.
+fn name_alone(body: &[u8]) -> Result<u32, BodyFault>
+    ensures ok { IfOk result (λ name. (made : ℕ → RequestValue) → one_field take_long made body.now ≡ Ok (made name)) }
+    ensures err { IfErr result (λ e. (made : ℕ → RequestValue) → one_field take_long made body.now ≡ Err e) }
+{
+    let mut fields = Fields::new(body);
+    let name = fields.long()?;
+    fields.end()?;
+    Ok(name)
+}
+
+/// The reference that is all of a body.
+fn reference_alone(body: &[u8]) -> Result<ObjRef, BodyFault>
+    ensures ok { IfOk result (λ cell. (made : Cell → RequestValue) → one_field take_reference made body.now ≡ Ok (made cell)) }
+    ensures err { IfErr result (λ e. (made : Cell → RequestValue) → one_field take_reference made body.now ≡ Err e) }
+{
+    let mut fields = Fields::new(body);
+    let reference = take_reference(&mut fields)?;
+    fields.end()?;
+    Ok(reference)
+}

@@ -2,8 +2,8 @@
 use Rattle.std.specs.Prelude.{◌≡◌, ℕ, ◌+◌, ◌<◌, ◌≤◌, ◌^◌, nat_le, Bool, true, List, [], ◌∷◌, ◌++◌, length, take, All, ◌⊎◌}
 use Rattle.std.specs.List.{flat_map}
 use Rattle.std.specs.Int.{w16, w32, to_be_bytes, from_be_bytes}
-use Rattle.client_contexts.specs.declared.request.Request.{Request}
-use Rattle.client_contexts.specs.declared.request.Request.TheVariants.{WriteImagePgm}
+use Rattle.client_model.specs.declared.request.Request.{Request}
+use Rattle.client_model.specs.declared.request.Request.TheVariants.{WriteImagePgm}
 use Rattle.vx_wire.specs.Op.{op_number, op_of}
 use Rattle.vx_wire.specs.Requests.{body_of}
 

@@ -1,9 +1,9 @@
 -- What one client by itself is answered: the body's request, and then the model's answer.
 use Rattle.std.specs.Prelude.{ℕ, List, Result, Ok, Err}
-use Rattle.client_contexts.specs.declared.request.Request.{Request}
-use Rattle.client_contexts.specs.Allowance.{Allowance}
-use Rattle.client_contexts.specs.Context.{State}
-use Rattle.client_contexts.specs.Answer.{answer_to}
+use Rattle.client_model.specs.declared.request.Request.{Request}
+use Rattle.client_model.specs.Allowance.{Allowance}
+use Rattle.client_model.specs.Context.{State}
+use Rattle.client_model.specs.Answer.{answer_to}
 use Rattle.vx_wire.specs.declared.body_fault.BodyFault.{BodyFault}
 use Rattle.vx_wire.specs.Requests.{request_of}
 use Rattle.vx_wire.specs.Replies.{Said, refusal, said_of}

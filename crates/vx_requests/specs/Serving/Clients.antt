@@ -1,6 +1,6 @@
 -- What each client of a stream gets, from what one client by itself gets.
 use Rattle.std.specs.Prelude.{ℕ, Bool, not, ◌&&◌, ◌==◌, cond, List, [], ◌∷◌, ◌++◌, map, filter}
-use Rattle.client_contexts.specs.Context.{State, World, state_of}
+use Rattle.client_model.specs.Context.{State, World, state_of}
 use Rattle.vx_requests.specs.Frame.Frames.{Frame, ReplyFrame}
 use Rattle.vx_wire.specs.Replies.{Said}
 
@@ -30,6 +30,10 @@ is_kept_of client m = (m.frame.client == client) && not m.lost
 -- the client's kept frames, in their order
 abbrev pub mine : ℕ → List Received → List Frame
 mine client marked = map (λ m. m.frame) (filter (is_kept_of client) marked)
+
+-- the frames of the clients that a router sends to the server of this number
+abbrev pub sent_to : (ℕ → ℕ) → ℕ → List Received → List Received
+sent_to server number marked = filter (λ m. server m.frame.client == number) marked
 
 -- the replies at the client's kept frames
 abbrev pub kept_replies : ℕ → List Received → List ReplyFrame → List ReplyFrame

@@ -1,9 +1,9 @@
 -- Which frames may be lost for want of memory.
 use Rattle.std.specs.Prelude.{◌<◌, length, Result, Ok, Err, ◌⊎◌}
-use Rattle.client_contexts.specs.declared.request.Request.{Request}
+use Rattle.client_model.specs.declared.request.Request.{Request}
 use Rattle.vx_requests.specs.Frame.Frames.{Frame}
 use Rattle.vx_wire.specs.declared.body_fault.BodyFault.{BodyFault}
-use Rattle.client_contexts.specs.Request.{TakesMemory}
+use Rattle.client_model.specs.Request.{TakesMemory}
 use Rattle.vx_wire.specs.Requests.{request_of, HoldsSamples}
 
 -- a request was spelled for which memory is taken, when its samples are parsed or when it is answered

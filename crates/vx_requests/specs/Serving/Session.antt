@@ -1,8 +1,8 @@
 -- The headline: what a call of serve did.
 use Rattle.std.specs.Prelude.{◌≡◌, ℕ, true, List, ◌++◌, Option, Result, All}
 use Rattle.std.specs.Io.KnownBytes.{Consumes}
-use Rattle.client_contexts.specs.Allowance.{Allowance}
-use Rattle.client_contexts.specs.Context.{State}
+use Rattle.client_model.specs.Allowance.{Allowance}
+use Rattle.client_model.specs.Context.{State}
 use Rattle.vx_requests.specs.declared.stream.fault.StreamFault.{StreamFault}
 use Rattle.vx_requests.specs.declared.serving.summary.Summary.{Summary}
 use Rattle.vx_requests.specs.Frame.Frames.{IsFrame, joined}

@@ -1,9 +1,9 @@
 //! Requests are within the limits of their types, and most of them within those of a frame.
 ghost use Rattle.std.specs.Prelude.{◌≡◌, ◌<◌, ◌^◌, All};
-ghost use Rattle.client_contexts.specs.Request.{IsRequest};
+ghost use Rattle.client_model.specs.Request.{IsRequest};
 ghost use Rattle.vx_requests.specs.Frame.Frames.{fits_a_frame};
 
-use client_contexts::Request;
+use client_model::Request;
 
 /// The greatest number of bytes that a text has in a frame: 8 less than 2^27.
 const GREATEST_TEXT: usize = 134_217_720;
@@ -14,7 +14,10 @@ pub fn is_request(request: &Request)
     ensures { IsRequest request.now }
 {
     match request {
-        Request::OpenContext | Request::ReleaseContext | Request::CreateMinMax => {}
+        Request::OpenContext
+        | Request::ReleaseContext
+        | Request::CreateMinMax
+        | Request::CreateGraph => {}
         Request::CreateImage(desc) => desc.has_sides(),
         Request::WriteImage(image, picture) => {
             image.is_cell();
@@ -43,6 +46,20 @@ pub fn is_request(request: &Request)
         Request::CreateConvolution(convolution) => convolution.is_convolution(),
         Request::CreateDistribution(bins) => {
             let _numbers = (bins.bins(), bins.offset(), bins.range());
+        }
+        Request::CreateVirtualImage(graph, declared) => {
+            let _graph = *graph;
+            declared.has_sides();
+        }
+        Request::AddNode(graph, node) => {
+            let _graph = *graph;
+            let _fields = node.node();
+        }
+        Request::RemoveNode(graph, number) => {
+            let _names = (*graph, *number);
+        }
+        Request::VerifyGraph(graph) | Request::ProcessGraph(graph) => {
+            let _graph = *graph;
         }
         Request::Immediate(node) => {
             let _fields = node.node();

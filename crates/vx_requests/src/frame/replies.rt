@@ -16,7 +16,7 @@ ghost use Rattle.vx_wire.specs.Replies.{said_of};
 
 use crate::frame::samples::{write_samples, write_wide};
 use crate::stream::{Failed, Sink, StreamFault, write_all};
-use client_contexts::{Counts, Described, Reply, Text};
+use client_model::{Counts, Described, Reply, Text};
 use vx_base::{Desc, Extremes, Picture};
 use vx_wire::{described_bytes, description_bytes, extremes_bytes};
 
@@ -38,7 +38,8 @@ pub fn write_reply<K: Sink>(
     match reply {
         Reply::Refused(code) => write_small(sink, &head(4, client, op, code.number())),
         Reply::Empty => write_small(sink, &head(4, client, op, 0)),
-        Reply::Name(name) => write_small(sink, &head_and_name(client, op, *name)),
+        Reply::Name(name) => write_small(sink, &head_and_long(client, op, *name)),
+        Reply::Node(number) => write_small(sink, &head_and_long(client, op, *number)),
         Reply::Described(described) => {
             write_small(sink, &head_and_described(client, op, *described))
         }
@@ -137,12 +138,12 @@ fn head(length: u32, client: u16, op: u8, code: u8) -> [u8; 8]
     [a, b, c, d, e, f, op, code]
 }
 
-/// The frame of a reply that is a name.
-fn head_and_name(client: u16, op: u8, name: u32) -> [u8; 12]
-    ensures { result ≡ reply_head 8 client op 0 ++ to_be_bytes w32 name }
+/// The frame of a reply that is a name or the number of a node.
+fn head_and_long(client: u16, op: u8, number: u32) -> [u8; 12]
+    ensures { result ≡ reply_head 8 client op 0 ++ to_be_bytes w32 number }
 {
     let [a, b, c, d, e, f, g, h] = head(8, client, op, 0);
-    let [i, j, k, l] = name.to_be_bytes();
+    let [i, j, k, l] = number.to_be_bytes();
     [a, b, c, d, e, f, g, h, i, j, k, l]
 }
 

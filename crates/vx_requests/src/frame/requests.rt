@@ -1,7 +1,7 @@
 //! Requests as frames.
 ghost use Rattle.std.specs.Prelude.{◌≡◌, ◌+◌, ◌*◌, ◌<◌, ◌≤◌, ◌^◌, false, [], ◌∷◌, ◌++◌, length, IsTrue};
 ghost use Rattle.std.specs.Int.{w32, to_be_bytes};
-ghost use Rattle.client_contexts.specs.declared.request.Request.TheVariants.{WriteImage as WriteImageRequest, WriteImagePgm as WriteImagePgmRequest, SetValid as SetValidRequest, CreateLut as CreateLutRequest, CreateThreshold as CreateThresholdRequest, CreateConvolution as CreateConvolutionRequest, CreateDelay as CreateDelayRequest};
+ghost use Rattle.client_model.specs.declared.request.Request.TheVariants.{WriteImage as WriteImageRequest, WriteImagePgm as WriteImagePgmRequest, SetValid as SetValidRequest, CreateLut as CreateLutRequest, CreateThreshold as CreateThresholdRequest, CreateConvolution as CreateConvolutionRequest, CreateDelay as CreateDelayRequest};
 ghost use Rattle.vx_base.specs.Description.{byte_count};
 ghost use Rattle.vx_base.specs.Lut.{is_full};
 ghost use Rattle.vx_wire.specs.declared.op.Op.TheVariants.{WriteImage as WriteImageOp, WriteImagePgm as WriteImagePgmOp, CreateLut as CreateLutOp, CreateConvolution as CreateConvolutionOp};
@@ -9,7 +9,7 @@ ghost use Rattle.vx_wire.specs.Op.{op_number};
 ghost use Rattle.vx_base.specs.Sample.{sample_bytes};
 ghost use Rattle.vx_requests.specs.Stream.Transfer.{Writes};
 ghost use Rattle.vx_requests.specs.Frame.Frames.{frame_head, frame_bytes, request_frame, fits_a_frame};
-ghost use Rattle.client_contexts.specs.Request.{IsRequest};
+ghost use Rattle.client_model.specs.Request.{IsRequest};
 ghost use Rattle.vx_wire.specs.Reference.{reference_bytes};
 ghost use Rattle.vx_wire.specs.Description.{description_bytes};
 ghost use Rattle.vx_wire.specs.Format.{format_number};
@@ -17,13 +17,13 @@ ghost use Rattle.vx_wire.specs.Format.{format_number};
 use crate::frame::limits::{fits_a_frame, is_request};
 use crate::frame::samples::{write_samples, write_wide};
 use crate::stream::{Sink, StreamFault, write_all};
-use client_contexts::{Request, Text};
+use client_model::{Request, Text};
 use vx_base::{
     Convolution, Desc, Format, Lut, ObjRef, Picture, Rect, SlotCount, ThresholdKind, ThresholdRule,
 };
 use vx_wire::{
-    Op, binary_bytes, bins_bytes, description_bytes, format_number, node_bytes, range_bytes,
-    rectangle_bytes, reference_bytes,
+    Op, binary_bytes, bins_bytes, description_bytes, format_number, node_bytes, outline_bytes,
+    range_bytes, rectangle_bytes, reference_bytes,
 };
 
 /// Writes the frame in which a client sends the request, and flushes nothing. `WriteFailed` comes
@@ -85,6 +85,21 @@ fn write_frame<K: Sink>(sink: &mut K, client: u16, request: &Request) -> Result<
         Request::ReadDistribution(name) => write_name(sink, client, Op::ReadDistribution, *name),
         Request::CreateMinMax => write_short(sink, client, Op::CreateMinMax.number(), &[]),
         Request::ReadMinMax(name) => write_name(sink, client, Op::ReadMinMax, *name),
+        Request::CreateGraph => write_short(sink, client, Op::CreateGraph.number(), &[]),
+        Request::CreateVirtualImage(graph, declared) => {
+            let outline = outline_bytes(*declared);
+            write_named(sink, client, Op::CreateVirtualImage, *graph, &outline)
+        }
+        Request::AddNode(graph, node) => {
+            let node = node_bytes(*node);
+            write_named(sink, client, Op::AddNode, *graph, &node)
+        }
+        Request::RemoveNode(graph, number) => {
+            let number = number.to_be_bytes();
+            write_named(sink, client, Op::RemoveNode, *graph, &number)
+        }
+        Request::VerifyGraph(graph) => write_name(sink, client, Op::VerifyGraph, *graph),
+        Request::ProcessGraph(graph) => write_name(sink, client, Op::ProcessGraph, *graph),
         Request::Immediate(node) => {
             let body = node_bytes(*node);
             write_short(sink, client, Op::Immediate.number(), &body)
@@ -105,6 +120,34 @@ fn write_name<K: Sink>(sink: &mut K, client: u16, op: Op, name: u32) -> Result<(
     write_short(sink, client, op.number(), &name.to_be_bytes())
 }
 
+/// Writes a frame whose body is a name and a field of at most 25 bytes, at once.
+fn write_named<K: Sink>(
+    sink: &mut K,
+    client: u16,
+    op: Op,
+    name: u32,
+    field: &[u8],
+) -> Result<(), StreamFault>
+    requires failures_fit { K.failures sink.old < 2 ^ 62 }
+    requires room { length field.now ≤ 25 }
+    ensures { Writes K.taken K.failures sink.old sink.new
+        (frame_bytes (record { client = client; op = op_number op; body = to_be_bytes w32 name ++ field.now })) result }
+{
+    let mut room = [0; 29];
+    let body = &mut room[..4 + field.len()];
+    spell_named(name, field, body);
+    write_short(sink, client, op.number(), body)
+}
+
+/// Writes a name and a field into as many bytes as they take.
+fn spell_named(name: u32, field: &[u8], body: &mut [u8])
+    requires { length body.old ≡ 4 + length field.now }
+    ensures { body.new ≡ to_be_bytes w32 name ++ field.now }
+{
+    body[..4].copy_from_slice(&name.to_be_bytes());
+    body[4..].copy_from_slice(field);
+}
+
 /// Writes a frame whose body is a reference, at once.
 fn write_reference<K: Sink>(
     sink: &mut K,
@@ -119,14 +162,14 @@ fn write_reference<K: Sink>(
     write_short(sink, client, op.number(), &reference_bytes(reference))
 }
 
-/// Writes a frame whose body has at most 25 bytes, at once.
+/// Writes a frame whose body has at most 29 bytes, at once.
 fn write_short<K: Sink>(sink: &mut K, client: u16, op: u8, body: &[u8]) -> Result<(), StreamFault>
     requires failures_fit { K.failures sink.old < 2 ^ 62 }
-    requires room { length body.now ≤ 25 }
+    requires room { length body.now ≤ 29 }
     ensures { Writes K.taken K.failures sink.old sink.new
         (frame_bytes (record { client = client; op = op; body = body.now })) result }
 {
-    let mut room = [0; 32];
+    let mut room = [0; 36];
     let frame = &mut room[..7 + body.len()];
     spell_short(client, op, body, frame);
     write_all(sink, frame)
@@ -134,7 +177,7 @@ fn write_short<K: Sink>(sink: &mut K, client: u16, op: u8, body: &[u8]) -> Resul
 
 /// Writes a frame with a short body into as many bytes as it takes.
 fn spell_short(client: u16, op: u8, body: &[u8], frame: &mut [u8])
-    requires room { length body.now ≤ 25 }
+    requires room { length body.now ≤ 29 }
     requires fits { length frame.old ≡ 7 + length body.now }
     ensures { frame.new ≡ frame_bytes (record { client = client; op = op; body = body.now }) }
 {

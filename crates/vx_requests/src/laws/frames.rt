@@ -1,7 +1,7 @@
 //! Laws of the frames of requests.
 ghost use Rattle.std.specs.Prelude.{◌<◌, ◌^◌, ℕ, IsTrue};
-ghost use Rattle.client_contexts.specs.declared.request.Request.{Request};
-ghost use Rattle.client_contexts.specs.Request.{IsRequest};
+ghost use Rattle.client_model.specs.declared.request.Request.{Request};
+ghost use Rattle.client_model.specs.Request.{IsRequest};
 ghost use Rattle.vx_requests.specs.Frame.Frames.{IsFrame, request_frame, fits_a_frame};
 
 /// A request fits a frame, unless it writes a text of more than 134,217,720 bytes.

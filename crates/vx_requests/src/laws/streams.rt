@@ -1,11 +1,11 @@
 //! Laws of streams and of their clients.
 ghost use Rattle.std.specs.Prelude.{◌≡◌, ℕ, ◌<◌, false, List, [], ◌++◌, ◌==◌, map, All, Option, Some, Result};
-ghost use Rattle.client_contexts.specs.Allowance.{Allowance};
-ghost use Rattle.client_contexts.specs.Context.{State};
+ghost use Rattle.client_model.specs.Allowance.{Allowance};
+ghost use Rattle.client_model.specs.Context.{State};
 ghost use Rattle.vx_requests.specs.declared.stream.fault.StreamFault.{StreamFault};
 ghost use Rattle.vx_requests.specs.declared.serving.summary.Summary.{Summary};
 ghost use Rattle.vx_requests.specs.Frame.Frames.{Frame, IsFrame, frame_bytes, Splits};
-ghost use Rattle.vx_requests.specs.Serving.Clients.{Received, mine, kept_replies, alone, served, frames_of};
+ghost use Rattle.vx_requests.specs.Serving.Clients.{Received, mine, sent_to, kept_replies, alone, served, frames_of};
 ghost use Rattle.vx_requests.specs.Serving.Answer.{answer};
 ghost use Rattle.vx_requests.specs.Serving.Ends.{ReadsToARest};
 ghost use Rattle.vx_requests.specs.Serving.Session.{Session};
@@ -50,6 +50,16 @@ pub fn isolated()
         start client ≡ other client → mine client marked ≡ mine client others →
         kept_replies client marked (served (answer limits) start marked)
         ≡ kept_replies client others (served (answer limits) other others) }
+{}
+
+/// Any number of servers may serve a stream, each of them all frames of the clients that are its
+/// own: each client gets the kept replies that one server of all clients would give it.
+pub fn over_servers()
+    ensures { (limits : Allowance) (start : ℕ → State) (server : ℕ → ℕ)
+        (marked : List Received) (client : ℕ) →
+        kept_replies client (sent_to server (server client) marked)
+            (served (answer limits) start (sent_to server (server client) marked))
+        ≡ kept_replies client marked (served (answer limits) start marked) }
 {}
 
 /// A frame was lost exactly where its reply's code is 1, NO_MEMORY.

@@ -1,7 +1,7 @@
 //! A frame, once its length is known: its payload is read, and answered by the runtime.
 ghost use Rattle.std.specs.Prelude.{◌≡◌, ℕ, ◌<◌, ◌≤◌, IfOk, length};
-ghost use Rattle.client_contexts.specs.Allowance.{Allowance};
-ghost use Rattle.client_contexts.specs.Context.{State};
+ghost use Rattle.client_model.specs.Allowance.{Allowance};
+ghost use Rattle.client_model.specs.Context.{State};
 ghost use Rattle.vx_requests.specs.Frame.Frames.{IsLength, frame_of, payload};
 ghost use Rattle.vx_requests.specs.Serving.Clients.{states_of, spelled};
 ghost use Rattle.vx_requests.specs.Frame.Reading.{CanRead, KeepsCount};
@@ -10,7 +10,8 @@ ghost use Rattle.vx_wire.specs.Replies.{said_of};
 
 use crate::frame::{Reader, number_of_two};
 use crate::stream::{Source, StreamFault};
-use client_contexts::{NoMemory, Reply, Runtime};
+use client_contexts::{NoMemory, Runtime};
+use client_model::Reply;
 use std::alloc::{AllocError, Global};
 use vx_base::Code;
 use vx_wire::parse;

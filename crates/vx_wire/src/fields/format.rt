@@ -2,7 +2,7 @@
 ghost use Rattle.std.specs.Prelude.{◌≡◌, ◌≢◌, IfOk};
 ghost use Rattle.vx_base.specs.declared.format.Format.TheVariants.{U32 as FormatU32};
 ghost use Rattle.vx_wire.specs.Fields.{Takes};
-ghost use Rattle.vx_wire.specs.Format.{format_number, take_format, take_input_format};
+ghost use Rattle.vx_wire.specs.Format.{format_number, open_format_number, take_format, take_input_format, take_open_format};
 
 use crate::body_fault::BodyFault;
 use crate::fields::Fields;
@@ -16,6 +16,19 @@ pub fn take_format(fields: &mut Fields) -> Result<Format, BodyFault>
         1 => Ok(Format::U8),
         2 => Ok(Format::S16),
         3 => Ok(Format::U32),
+        _ => Err(BodyFault::InvalidFormat),
+    }
+}
+
+/// The format of an image that isn't there: 0 where it is open, or 1, 2 or 3.
+pub fn take_open_format(fields: &mut Fields) -> Result<Option<Format>, BodyFault>
+    ensures { Takes take_open_format fields.old fields.new result }
+{
+    match fields.byte()? {
+        0 => Ok(None),
+        1 => Ok(Some(Format::U8)),
+        2 => Ok(Some(Format::S16)),
+        3 => Ok(Some(Format::U32)),
         _ => Err(BodyFault::InvalidFormat),
     }
 }
@@ -40,5 +53,15 @@ pub fn format_number(format: Format) -> u8
         Format::U8 => 1,
         Format::S16 => 2,
         Format::U32 => 3,
+    }
+}
+
+/// The number of a format, where 0 stands for one that is open.
+pub fn open_format_number(format: Option<Format>) -> u8
+    ensures { result ≡ open_format_number format }
+{
+    match format {
+        None => 0,
+        Some(format) => format_number(format),
     }
 }

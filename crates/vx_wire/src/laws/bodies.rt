@@ -1,9 +1,9 @@
 //! Laws of the bodies of requests.
 ghost use Rattle.std.specs.Prelude.{◌≡◌, ◌<◌, ◌^◌, ℕ, List, All, Ok};
-ghost use Rattle.client_contexts.specs.declared.request.Request.{Request};
+ghost use Rattle.client_model.specs.declared.request.Request.{Request};
 ghost use Rattle.vx_wire.specs.Op.{op_number, op_of};
 ghost use Rattle.vx_wire.specs.Requests.{request_of, body_of};
-ghost use Rattle.client_contexts.specs.Request.{IsRequest};
+ghost use Rattle.client_model.specs.Request.{IsRequest};
 
 /// A request is read back from its op and body.
 pub fn read_back()

@@ -4,7 +4,7 @@ ghost use Rattle.vx_wire.specs.Contexts.{open_context_in, release_context_in};
 
 use crate::body_fault::BodyFault;
 use crate::fields::Fields;
-use client_contexts::Request;
+use client_model::Request;
 
 /// An empty body.
 pub fn open_context(body: &[u8]) -> Result<Request, BodyFault>

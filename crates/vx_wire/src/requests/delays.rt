@@ -6,7 +6,8 @@ use crate::body_fault::BodyFault;
 use crate::fields::Fields;
 use crate::fields::reference::take_reference;
 use crate::fields::slots::take_slots;
-use client_contexts::Request;
+use crate::requests::name_alone;
+use client_model::Request;
 
 /// A reference to the exemplar, and the number of slots.
 pub fn create_delay(body: &[u8]) -> Result<Request, BodyFault>
@@ -23,8 +24,5 @@ pub fn create_delay(body: &[u8]) -> Result<Request, BodyFault>
 pub fn age_delay(body: &[u8]) -> Result<Request, BodyFault>
     ensures { result ≡ age_delay_in body.now }
 {
-    let mut fields = Fields::new(body);
-    let name = fields.long()?;
-    fields.end()?;
-    Ok(Request::AgeDelay(name))
+    Ok(Request::AgeDelay(name_alone(body)?))
 }

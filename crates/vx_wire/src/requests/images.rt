@@ -10,7 +10,8 @@ use crate::fields::rectangle::take_rectangle;
 use crate::fields::reference::take_reference;
 use crate::fields::samples::{decode, take_samples};
 use crate::parse_fault::ParseFault;
-use client_contexts::{Request, Text};
+use crate::requests::reference_alone;
+use client_model::{Request, Text};
 use std::alloc::Global;
 use vx_base::Picture;
 
@@ -28,10 +29,7 @@ pub fn create_image(body: &[u8]) -> Result<Request, BodyFault>
 pub fn query_image(body: &[u8]) -> Result<Request, BodyFault>
     ensures { result ≡ query_image_in body.now }
 {
-    let mut fields = Fields::new(body);
-    let image = take_reference(&mut fields)?;
-    fields.end()?;
-    Ok(Request::QueryImage(image))
+    Ok(Request::QueryImage(reference_alone(body)?))
 }
 
 /// A reference and a picture.
@@ -64,20 +62,14 @@ pub fn write_image_pgm(alloc: Global, body: &[u8]) -> Result<Request, ParseFault
 pub fn read_image(body: &[u8]) -> Result<Request, BodyFault>
     ensures { result ≡ read_image_in body.now }
 {
-    let mut fields = Fields::new(body);
-    let image = take_reference(&mut fields)?;
-    fields.end()?;
-    Ok(Request::ReadImage(image))
+    Ok(Request::ReadImage(reference_alone(body)?))
 }
 
 /// A reference.
 pub fn read_image_pgm(body: &[u8]) -> Result<Request, BodyFault>
     ensures { result ≡ read_image_pgm_in body.now }
 {
-    let mut fields = Fields::new(body);
-    let image = take_reference(&mut fields)?;
-    fields.end()?;
-    Ok(Request::ReadImagePgm(image))
+    Ok(Request::ReadImagePgm(reference_alone(body)?))
 }
 
 /// A reference and a rectangle.

@@ -5,7 +5,7 @@ ghost use Rattle.vx_wire.specs.Immediate.{immediate_in};
 use crate::body_fault::BodyFault;
 use crate::fields::Fields;
 use crate::fields::node::take_node;
-use client_contexts::Request;
+use client_model::Request;
 
 /// A node.
 pub fn immediate(body: &[u8]) -> Result<Request, BodyFault>

@@ -5,7 +5,8 @@ ghost use Rattle.vx_wire.specs.Statistics.{create_distribution_in, read_distribu
 use crate::body_fault::BodyFault;
 use crate::fields::Fields;
 use crate::fields::bins::take_bins;
-use client_contexts::Request;
+use crate::requests::name_alone;
+use client_model::Request;
 
 /// Bins.
 pub fn create_distribution(body: &[u8]) -> Result<Request, BodyFault>
@@ -21,10 +22,7 @@ pub fn create_distribution(body: &[u8]) -> Result<Request, BodyFault>
 pub fn read_distribution(body: &[u8]) -> Result<Request, BodyFault>
     ensures { result ≡ read_distribution_in body.now }
 {
-    let mut fields = Fields::new(body);
-    let name = fields.long()?;
-    fields.end()?;
-    Ok(Request::ReadDistribution(name))
+    Ok(Request::ReadDistribution(name_alone(body)?))
 }
 
 /// An empty body.
@@ -39,8 +37,5 @@ pub fn create_min_max(body: &[u8]) -> Result<Request, BodyFault>
 pub fn read_min_max(body: &[u8]) -> Result<Request, BodyFault>
     ensures { result ≡ read_min_max_in body.now }
 {
-    let mut fields = Fields::new(body);
-    let name = fields.long()?;
-    fields.end()?;
-    Ok(Request::ReadMinMax(name))
+    Ok(Request::ReadMinMax(name_alone(body)?))
 }

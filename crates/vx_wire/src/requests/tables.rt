@@ -10,7 +10,7 @@ use crate::fields::format::take_input_format;
 use crate::fields::samples::{decode, take_samples};
 use crate::fields::threshold::take_threshold;
 use crate::parse_fault::ParseFault;
-use client_contexts::Request;
+use client_model::Request;
 use std::alloc::Global;
 use vx_base::Lut;
 

@@ -4,9 +4,9 @@ use Rattle.vx_base.specs.Description.{byte_count}
 use Rattle.vx_base.specs.Image.{description_of}
 use Rattle.vx_base.specs.Object.{ObjectValue, DelayObject}
 use Rattle.object_table.specs.Delay.{new_delay}
-use Rattle.client_contexts.specs.declared.reply.Reply.TheVariants.{Name}
-use Rattle.client_contexts.specs.Context.{Context, has_room, with_new}
-use Rattle.client_contexts.specs.Refusal.{Outcome}
+use Rattle.client_model.specs.declared.reply.Reply.TheVariants.{Name}
+use Rattle.client_model.specs.Context.{Context, has_room, with_new}
+use Rattle.client_model.specs.Refusal.{Outcome}
 use Rattle.client_contexts.proofs.DelayLemmas.{found_room, delay_created}
 use Rattle.client_contexts.proofs.delays.create_delay.Goals as goal
 

@@ -7,7 +7,7 @@ pub returns-in_err-picture : goal.returns-in_err-picture
 returns-in_err-picture c =
     let why = c.in_err-picture.field-0.0 in
     let fails = subst (λ (text : List ℕ). FailsFor text why) c.bytes.ensures c.in_err-picture.ensures.err in
-    let e = text_refused c.args.context.now c.args.reference c.args.text.now c.in_ok-find.field-0 why c.in_ok-find.ensures.ok fails in
+    let e = text_refused c.args.context.now c.args.reference c.args.text.now c.in_ok-find_image.field-0 why c.in_ok-find_image.ensures.ok fails in
     search (rules, e)
 
 pub returns-in_err-write_image : goal.returns-in_err-write_image

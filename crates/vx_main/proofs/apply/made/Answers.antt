@@ -1,5 +1,5 @@
 use Rattle.std.proofs.Common.{rules, ◌≡◌, sym, ◌∙◌}
-use Rattle.client_contexts.specs.declared.reply.Reply.TheVariants.{Text}
+use Rattle.client_model.specs.declared.reply.Reply.TheVariants.{Text}
 use Rattle.vx_main.specs.Apply.{text_made}
 use Rattle.vx_main.proofs.MadeLemmas.{gives_text}
 use Rattle.vx_main.proofs.apply.made.Goals as goal

@@ -1,8 +1,18 @@
-use Rattle.std.proofs.Common.{arith, rules, ◌∙◌}
+use Rattle.std.proofs.Common.{arith, rules, refl, ◌∙◌}
 use Rattle.std.proofs.lemmas.Result.{err_from_is_err_and}
-use Rattle.vx_requests.proofs.Progress.{went_on, broke_off, left_there}
+use Rattle.vx_requests.proofs.Progress.{started, went_on, broke_off, left_there}
 use Rattle.vx_requests.proofs.ReadCounts.{KeepsCount-more}
 use Rattle.vx_requests.proofs.serving.serve.Goals as goal
+
+pub frames-init : goal.frames-init
+frames-init g c = record {
+  progress = started _ _ _ _;
+  limits = refl;
+  counted = search rules;
+  few = omega arith;
+  refused = omega arith;
+  write_failed = refl;
+}
 
 pub frames-preserved : goal.frames-preserved
 frames-preserved g c =

@@ -1,13 +1,12 @@
 use Rattle.std.proofs.Common.{◌<◌, ◌∙◌, List, None, length, ap, subst, sym}
-use Rattle.std.specs.Prelude.{All}
-use Rattle.vx_base.specs.Object.{ObjectValue}
-use Rattle.object_table.specs.declared.names.Entry.{Entry}
 use Rattle.object_table.specs.declared.place.Place.{Place}
 use Rattle.object_table.specs.Object.{aged_object}
 use Rattle.object_table.specs.Table as table
-use Rattle.client_contexts.specs.Context.{Named, Context, context_of, with_object, with_objects}
-use Rattle.client_contexts.specs.Places.{entry_at, cell_at, IsInContext}
-use Rattle.client_contexts.proofs.ContextLemmas.{within_there, entry_there, named_is, All-replaced}
+use Rattle.object_table.specs.Named.{Named, with_object}
+use Rattle.client_model.specs.Context.{Context, context_of, with_objects}
+use Rattle.client_contexts.specs.Places.{entry_at, cell_at, AreInContext}
+use Rattle.client_contexts.proofs.ContextLemmas.{within_there, entry_there, named_is, AreInContext-replaced}
+use Rattle.client_contexts.proofs.LastingLemmas.{lasting-aged}
 use Rattle.client_contexts.proofs.DelayLemmas.{IsObject-aged}
 use Rattle.client_contexts.proofs.context.Context.age.Goals as goal
 
@@ -18,8 +17,8 @@ invariant_of-self c =
     let place : Place = record { index = index; slot = None } in
     let object = (table.entry_at l index).object in
     let within = within_there l index (subst (λ (v : Context). index < length v.objects) (sym c.self.view_is) c.requires.within) in
-    subst (λ (k : List (Entry ObjectValue)). All IsInContext k) (sym (ap (λ (t : table.TableValue). t.objects) c.age.ensures.value))
-    (All-replaced l place (aged_object object) c.self.invariant within (IsObject-aged object (c.self.invariant index table.no_object within).object))
+    subst AreInContext (sym (ap (λ (t : table.TableValue). t.objects) c.age.ensures.value))
+    (AreInContext-replaced l place (aged_object object) c.self.invariant within (IsObject-aged object (c.self.invariant.objects index table.no_object within)) (lasting-aged object))
 
 pub returns : goal.returns
 returns c =

@@ -1,16 +1,15 @@
 use Rattle.std.proofs.Common.{◌∙◌, List, ap, refl, subst, sym}
-use Rattle.std.specs.Prelude.{All}
 use Rattle.vx_base.specs.Image.{with_valid}
 use Rattle.vx_base.specs.Rectangle.{IsWithin}
 use Rattle.vx_base.specs.Object.{ObjectValue, ImageObject}
 use Rattle.vx_base.proofs.ImageLaws.{with_valid_is}
 use Rattle.vx_base.proofs.RectangleLaws.{rectangle_ordered}
-use Rattle.object_table.specs.declared.names.Entry.{Entry}
 use Rattle.object_table.specs.Object.{image_value}
 use Rattle.object_table.specs.Table as table
-use Rattle.client_contexts.specs.Context.{Named, Context, context_of, with_object, with_objects}
-use Rattle.client_contexts.specs.Places.{cell_at, image_at, HasImageAt, IsInContext}
-use Rattle.client_contexts.proofs.ContextLemmas.{table_image_is, image_there, object_there, named_is, All-written_image}
+use Rattle.object_table.specs.Named.{Named, with_object}
+use Rattle.client_model.specs.Context.{Context, context_of, with_objects}
+use Rattle.client_contexts.specs.Places.{cell_at, image_at, HasImageAt, AreInContext}
+use Rattle.client_contexts.proofs.ContextLemmas.{table_image_is, image_there, object_there, named_is, AreInContext-written}
 use Rattle.client_contexts.proofs.context.Context.set_valid.Goals as goal
 
 pub invariant_of-self : goal.invariant_of-self
@@ -22,8 +21,8 @@ invariant_of-self c =
     let is_image = table_image_is l place c.self.invariant there in
     let room = subst (λ (o : ObjectValue). IsWithin c.args.valid (image_value o).width (image_value o).height) (object_there l place)
     (subst (λ (v : Context). IsWithin c.args.valid (image_at v.objects place).width (image_at v.objects place).height) (sym c.self.view_is) c.requires.room) in
-    subst (λ (k : List (Entry ObjectValue)). All IsInContext k) (sym (ap (λ (t : table.TableValue). t.objects) c.set_valid.ensures.value))
-    (All-written_image l place (with_valid c.args.valid image) c.self.invariant there.within (with_valid_is image c.args.valid is_image (rectangle_ordered c.args.valid c.is_rectangle.ensures.bounds) room) refl)
+    subst AreInContext (sym (ap (λ (t : table.TableValue). t.objects) c.set_valid.ensures.value))
+    (AreInContext-written l place (with_valid c.args.valid image) c.self.invariant there (with_valid_is image c.args.valid is_image (rectangle_ordered c.args.valid c.is_rectangle.ensures.bounds) room) refl)
 
 pub returns : goal.returns
 returns c =

@@ -1,14 +1,13 @@
 use Rattle.std.proofs.Common.{◌∙◌, List, ap, subst, sym}
-use Rattle.std.specs.Prelude.{All}
 use Rattle.vx_base.specs.Image.{description_of}
 use Rattle.vx_base.specs.Object.{ObjectValue, ImageObject}
 use Rattle.vx_base.specs.Picture.{pictured}
-use Rattle.object_table.specs.declared.names.Entry.{Entry}
 use Rattle.object_table.specs.Object.{image_value}
 use Rattle.object_table.specs.Table.{TableValue}
-use Rattle.client_contexts.specs.Context.{Named, Context, context_of, with_object, with_objects}
-use Rattle.client_contexts.specs.Places.{cell_at, object_at, HasImageAt, IsInContext}
-use Rattle.client_contexts.proofs.ContextLemmas.{image_there, object_there, named_is, All-written_image}
+use Rattle.object_table.specs.Named.{Named, with_object}
+use Rattle.client_model.specs.Context.{Context, context_of, with_objects}
+use Rattle.client_contexts.specs.Places.{cell_at, object_at, HasImageAt, AreInContext}
+use Rattle.client_contexts.proofs.ContextLemmas.{image_there, object_there, named_is, AreInContext-written}
 use Rattle.client_contexts.proofs.context.Context.write.Goals as goal
 
 pub invariant_of-self : goal.invariant_of-self
@@ -18,8 +17,7 @@ invariant_of-self c =
     let held = ap (λ (v : Context). v.objects) c.self.view_is in
     let there = image_there l place (subst (λ (k : List Named). HasImageAt k place) (sym held) c.requires.there) in
     let same = sym c.requires.same ∙ ap (λ (k : List Named). description_of (image_value (object_at k place))) (sym held) ∙ ap (λ (o : ObjectValue). description_of (image_value o)) (object_there l place) in
-    subst (λ (k : List (Entry ObjectValue)). All IsInContext k) (sym (ap (λ (t : TableValue). t.objects) c.write.ensures.value))
-    (All-written_image l place (pictured c.args.picture.now) c.self.invariant there.within c.write.ensures.image same)
+    subst AreInContext (sym (ap (λ (t : TableValue). t.objects) c.write.ensures.value)) (AreInContext-written l place (pictured c.args.picture.now) c.self.invariant there c.write.ensures.image same)
 
 pub returns : goal.returns
 returns c =

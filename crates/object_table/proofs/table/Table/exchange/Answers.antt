@@ -6,11 +6,11 @@ use Rattle.object_table.proofs.table.Table.exchange.Goals as goal
 pub overflow_add-self : goal.overflow_add-self
 overflow_add-self c =
     let s = c.self.inside in
-    omega (arith, charge_limit s.names.next s.charge s.names.entries.items c.self.invariant, c.bytes-added.ensures.limit)
+    omega (arith, charge_limit s.names.next s.charge s.names.entries.items c.self.invariant, c.bytes-come.ensures.limit)
 
 pub invariant_of-self : goal.invariant_of-self
 invariant_of-self c =
-    IsTable-exchanged c.replace-old.new.dest c.bytes.result c.bytes-added.result c.self.invariant c.self.view_is c.requires c.index_mut-entry.ensures.value
-    (c.bytes.ensures.value ∙ ap object_bytes c.replace-old.ensures.value)
-    (c.bytes-added.ensures.value ∙ ap object_bytes (sym c.replace-old.ensures.after))
-    c.bytes-added.ensures.limit
+    IsTable-exchanged c.swap.new.x c.bytes-gone.result c.bytes-come.result c.self.invariant c.self.view_is c.requires c.index_mut-entry.ensures.value
+    c.bytes-gone.ensures.value
+    (c.bytes-come.ensures.value ∙ ap object_bytes (sym c.swap.ensures.x_after))
+    c.bytes-come.ensures.limit

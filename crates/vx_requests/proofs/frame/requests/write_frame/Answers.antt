@@ -27,6 +27,21 @@ returns-in-ReadMinMax g c = rw c.in-ReadMinMax.is c.write_name-in-ReadMinMax.ens
 pub returns-in-AgeDelay : goal.returns-in-AgeDelay
 returns-in-AgeDelay g c = rw c.in-AgeDelay.is c.write_name-in-AgeDelay.ensures
 
+pub returns-in-CreateVirtualImage : goal.returns-in-CreateVirtualImage
+returns-in-CreateVirtualImage g c = rw c.in-CreateVirtualImage.is (rw c.outline_bytes-outline.ensures at c.write_named.ensures)
+
+pub returns-in-AddNode : goal.returns-in-AddNode
+returns-in-AddNode g c = rw c.in-AddNode.is (rw c.node_bytes-node.ensures at c.write_named-in-AddNode.ensures)
+
+pub returns-in-RemoveNode : goal.returns-in-RemoveNode
+returns-in-RemoveNode g c = rw c.in-RemoveNode.is (rw c.to_be_bytes-number.ensures at c.write_named-in-RemoveNode.ensures)
+
+pub returns-in-VerifyGraph : goal.returns-in-VerifyGraph
+returns-in-VerifyGraph g c = rw c.in-VerifyGraph.is c.write_name-in-VerifyGraph.ensures
+
+pub returns-in-ProcessGraph : goal.returns-in-ProcessGraph
+returns-in-ProcessGraph g c = rw c.in-ProcessGraph.is c.write_name-in-ProcessGraph.ensures
+
 pub returns-in-Immediate : goal.returns-in-Immediate
 returns-in-Immediate g c = rw c.in-Immediate.is (rw (c.number-in-Immediate.ensures, c.node_bytes-body.ensures) at c.write_short-in-Immediate.ensures)
 

@@ -1,3 +1,0 @@
-//! What the definitions mean: functions that do nothing, whose contracts are facts.
-
-pub mod states;

@@ -1,0 +1,5 @@
+pub mod RefusalLaws
+mod StatisticStepLaws
+mod RoundLaws
+mod RunStepLaws
+mod StepLaws

@@ -1,0 +1,285 @@
+-- A graph that runs keeps the limits: as it begins, virtual images become images; its rounds write to outputs what they may become;
+-- and as it ends, virtual images are forgotten.
+use Rattle.std.proofs.Common.{◌≡◌, inl, inr, ℕ, Bool, true, false, cond, IsTrue, List, [], ◌∷◌, ◌++◌, length, map, get_or, drop, Option, Some, None, IfSome, if◌then◌else◌, refl, sym, ap, subst, ◌∙◌}
+use Rattle.std.specs.Prelude.{All, not, is_some, is_none, unwrap_or}
+use Rattle.std.specs.List.{list_any}
+use Rattle.std.specs.List.Sorted.{IsStrictlyIncreasing}
+use Rattle.std.specs.Option.{option_map, option_and_then}
+use Rattle.std.proofs.lemmas.Bool.{and_cases, both_ways, cond_both, not-false, or_left, or_right}
+use Rattle.std.proofs.lemmas.List.Elements.{All-nil, All-cons, All-head, All-tail, All-map}
+use Rattle.std.proofs.lemmas.List.Folds.{list_any_at}
+use Rattle.vx_base.specs.declared.kind.Kind.{Kind}
+use Rattle.vx_base.specs.declared.kind.Kind.TheVariants as kind
+use Rattle.vx_base.specs.declared.node.Node.{Node}
+use Rattle.vx_base.specs.declared.numbered.Numbered.{Numbered}
+use Rattle.vx_base.specs.Cell.{Cell, same_cell}
+use Rattle.vx_base.specs.Function.{parameters}
+use Rattle.vx_base.specs.Graph.{nodes_of}
+use Rattle.vx_base.specs.Node.{IsNode, given, inputs, operands, second_kind}
+use Rattle.vx_base.specs.Object.{ObjectValue, GraphObject, IsObject, object_kind}
+use Rattle.object_table.specs.Delay.{in_slot}
+use Rattle.object_table.specs.Named.{Named, object_held, held}
+use Rattle.graph_verify.specs.declared.operand.Operand.{Operand}
+use Rattle.graph_verify.specs.declared.operand.Operand.TheVariants.{Delay}
+use Rattle.graph_verify.specs.Links.{writes, is_written}
+use Rattle.graph_verify.specs.Operand.{operand_of, operand_kind, operand_format, operands_of, is_virtual as is_virtual_operand}
+use Rattle.graph_verify.specs.Outlines.{outlines, as_known, resolved}
+use Rattle.graph_verify.specs.Verdict.{node_fault, is_loose, first_fault}
+use Rattle.graph_verify.proofs.LinkLemmas.{same_cell-refl}
+use Rattle.graph_verify.proofs.VerdictLemmas.{can_run}
+use Rattle.graph_run.specs.Graph.{rounds, begun_as, begun, is_virtual, forgotten, run}
+use Rattle.client_model.specs.declared.refusal.Refusal.TheVariants.{Rejected}
+use Rattle.client_model.specs.declared.reply.Reply.TheVariants.{Empty}
+use Rattle.client_model.specs.Allowance.{Allowance}
+use Rattle.client_model.specs.Context.{Context, object_named, with_objects}
+use Rattle.client_model.specs.Graphs.{as_graph, operand_held, graph_verdict, process_found, process_graph}
+use Rattle.client_model.specs.Immediate.{operand_in}
+use Rattle.client_model.specs.Operands.{is_kind, stands_for}
+use Rattle.client_model.specs.States.{KeepsLimits, kind_held, stands, nodes_in}
+use Rattle.client_model.proofs.NamedLaws.{names_of, bare_named, bares, held_by_name, held_is, held_kind, object_held-map}
+use Rattle.client_model.proofs.HoldLaws.{each_fails, is_taken, kinds_taken, OperandsStand, stands_parts}
+use Rattle.client_model.proofs.StateLaws.{alike_keeps}
+use Rattle.client_model.proofs.VerdictLaws.{Suits, no_fault_suits}
+use Rattle.client_model.proofs.NodeStepLaws.{CanGive, CanGiveTo, CanRunOn, neither, of_operands, second_there, not_rejected}
+use Rattle.client_model.proofs.OutcomeLaws.{Keeps, unless_keeps}
+use Rattle.client_model.proofs.GraphStepLaws.{graph_is, graph_stands}
+use Rattle.client_laws.proofs.RoundLaws.{rounds_keep}
+use Rattle.client_model.proofs.BegunLaws.{IsSmall, object_small, rounds_small, begun_if, begun_is_object, slot_as_begun, image_as_begun, begun_stays, virtual_as_operand, Taken, taken_as_begun, kind_as_begun, SecondTaken, give_as_taken}
+
+-- ---- the cells of a node
+
+-- where the verdict is none, no node has a fault
+each_faultless : (known : Cell → Operand) (nodes : List Node) → first_fault known nodes ≡ None → All (λ n. node_fault n.function (operands_of known n) ≡ None) nodes
+each_faultless known [] h = All-nil (λ n. node_fault n.function (operands_of known n) ≡ None)
+each_faultless known (n ∷ nodes) h =
+    let parts = neither (node_fault n.function (operands_of known n)) (first_fault known nodes) h in
+    All-cons (λ m. node_fault m.function (operands_of known m) ≡ None) n nodes parts.0 (each_faultless known nodes parts.1)
+
+-- each output of a node is one
+own_outputs : (first second : Option Cell) → IfSome first (λ cell. list_any (same_cell cell) (given first ++ given second) ≡ true) × IfSome second (λ cell. list_any (same_cell cell) (given first ++ given second) ≡ true)
+own_outputs None None = (tt, tt)
+own_outputs None (Some b) = (tt, or_left (same_cell b b) false (same_cell-refl b))
+own_outputs (Some a) None = (or_left (same_cell a a) false (same_cell-refl a), tt)
+own_outputs (Some a) (Some b) = (
+  or_left (same_cell a a) (list_any (same_cell a) (b ∷ [])) (same_cell-refl a),
+  or_right (same_cell b a) (list_any (same_cell b) (b ∷ [])) (or_left (same_cell b b) false (same_cell-refl b)),
+)
+
+-- so is its second input
+own_second : (P : Cell → Type 0) (cell : Option Cell) → All P (given cell) → IfSome cell P
+own_second P None h = tt
+own_second P (Some x) h = All-head P x [] h
+
+if_both : {X : Type 0} (P Q R : X → Type 0) (x : Option X) → IfSome x P → IfSome x Q → ((y : X) → P y → Q y → R y) → IfSome x R
+if_both P Q R None p q both = tt
+if_both P Q R (Some x) p q both = both x p q
+
+-- a node has a second input where its function has one
+second_if_given : (n : Node) → IsNode n → (known : Cell → Operand) → is_some (option_map known n.in2) ≡ true → is_some (parameters n.function).second_input ≡ true
+second_if_given n node known = either (parameters n.function).second_input n.in2 (second_there n node.shape)
+  where
+    either : (wanted : Option Kind) (cell : Option Cell) → IsTrue (if is_some wanted then is_some cell else is_none cell) → is_some (option_map known cell) ≡ true → is_some wanted ≡ true
+    either (Some k) cell there given_one = refl
+    either None None there given_one = given_one
+    either None (Some x) there given_one = there
+
+-- ---- objects as a run begins
+
+module _ (objects : List Named) (nodes : List Node) (are : All (λ o. IsObject o.object) objects) (names : IsStrictlyIncreasing (names_of objects)) where
+  abbrev is : Cell → Operand
+  is = operand_held objects
+
+  abbrev found_to_be : Cell → Operand
+  found_to_be = resolved is nodes
+
+  abbrev begin : List Named
+  begin = map (begun found_to_be nodes) objects
+
+  -- what an object becomes that a cell holds
+  abbrev begun_in : Cell → ObjectValue → ObjectValue
+  begun_in cell object = begun_if (is_written nodes cell) object (found_to_be cell)
+
+  abbrev whole : ℕ → Cell
+  whole name = record { name = name; slot = None }
+
+  known_small : (cell : Cell) → IsSmall (outlines is nodes cell)
+  known_small = rounds_small is (λ cell. object_small (held objects cell) (held_is objects cell are)) nodes (length nodes)
+
+  -- each object becomes what the cell of its name does
+  begun_object : (o : Named) → (begun found_to_be nodes o).object ≡ begun_in (whole o.name) o.object
+  begun_object o = either (is_written nodes (whole o.name))
+    where
+      either : (b : Bool) → (if b then record o { object = begun_as o.object (found_to_be (whole o.name)) } else o).object ≡ begun_if b o.object (found_to_be (whole o.name))
+      either true = refl
+      either false = refl
+
+  begun_name : (o : Named) → (begun found_to_be nodes o).name ≡ o.name
+  begun_name o = cond_both (is_written nodes (whole o.name)) (record o { object = begun_as o.object (found_to_be (whole o.name)) }) o (λ p. p.name ≡ o.name) (λ e. refl) (λ e. refl)
+
+  begin_increases : IsStrictlyIncreasing (names_of begin)
+  begin_increases = subst IsStrictlyIncreasing (sym (same_names objects)) names
+    where
+      same_names : (l : List Named) → names_of (map (begun found_to_be nodes) l) ≡ names_of l
+      same_names [] = refl
+      same_names (o ∷ l) = ap (λ n. n ∷ names_of (map (begun found_to_be nodes) l)) (begun_name o) ∙ ap (λ ns. o.name ∷ ns) (same_names l)
+
+  -- they are objects
+  begin_is : All (λ o. IsObject o.object) begin
+  begin_is =
+      All-map (λ o. IsObject o.object) (begun found_to_be nodes) objects
+      (λ k d below.
+      let o : Named = get_or objects k d in
+      let cell = whole o.name in
+      let own : is cell ≡ operand_of o.object = ap (λ found. unwrap_or (option_map operand_of (option_and_then (in_slot None) found)) Delay) (held_by_name objects names k d below) in
+      subst IsObject (sym (begun_object o))
+      (subst (λ operand. IsObject (begun_if (is_written nodes cell) o.object (as_known operand (outlines is nodes cell)))) (sym own)
+      (begun_is_object o.object (outlines is nodes cell) (is_written nodes cell) (are k d below) (known_small cell))))
+
+  -- a cell holds what it held, as that becomes
+  held_begun : (cell : Cell) → held begin cell ≡ option_map (begun_in cell) (held objects cell)
+  held_begun cell =
+      ap (option_and_then (in_slot cell.slot))
+      (object_held-map (begun found_to_be nodes) (begun_in (whole cell.name)) objects cell.name begun_name (λ o e. begun_object o ∙ ap (λ n. begun_in (whole n) o.object) e))
+      ∙ in_its_slot cell.slot (object_held objects cell.name)
+    where
+      in_its_slot : (slot : Option ℕ) (object : Option ObjectValue) → option_and_then (in_slot slot) (option_map (begun_in (whole cell.name)) object)
+          ≡ option_map (begun_in (record { name = cell.name; slot = slot })) (option_and_then (in_slot slot) object)
+      in_its_slot slot None = refl
+      in_its_slot None (Some x) = refl
+      in_its_slot (Some k) (Some x) =
+          let cell_of_slot : Cell = record { name = cell.name; slot = Some k } in
+          slot_as_begun k x (is_written nodes (whole cell.name)) (found_to_be (whole cell.name)) ∙ sym (image_as_begun k x (is_written nodes cell_of_slot) (found_to_be cell_of_slot))
+
+  -- ---- what a node sees as a run begins
+
+  -- what a cell holds then, as an operand: what the verdict took it for, and of the kind that is wanted there
+  record Sees (cell : Cell) (wanted : Kind) : Type 0 where
+    operand : Operand
+    found : operand_in begin cell ≡ Some operand
+    taken : Taken (found_to_be cell) operand
+    kind : stands_for (operand_kind operand) wanted ≡ true
+
+  -- a cell that stands, and that a node writes if it holds a virtual image
+  sees : (graph : ℕ) (cell : Cell) (wanted : Kind) → is_taken wanted ≡ true → IsTrue (stands objects graph (cell, wanted)) → (is_virtual_operand (is cell) ≡ true → is_written nodes cell ≡ true) → Sees cell wanted
+  sees graph cell wanted taken stood written =
+      let parts = stands_parts objects graph (cell, wanted) stood in
+      of_held (held objects cell) refl (held_kind objects cell) parts.there
+    where
+      of_held : (object : Option ObjectValue) → held objects cell ≡ object → IfSome object (λ x. kind_held objects cell ≡ Some (object_kind x)) → is_none object ≡ false → Sees cell wanted
+      of_held None e kinds there = absurd (cc)
+      of_held (Some x) e kinds there =
+          let own : is cell ≡ operand_of x = ap (λ found. unwrap_or (option_map operand_of found) Delay) e in
+          let known = outlines is nodes cell in
+          record {
+            operand = operand_of (begun_in cell x);
+            found = ap (option_map operand_of) (held_begun cell ∙ ap (option_map (begun_in cell)) e);
+            taken =
+                subst (λ operand. Taken (as_known operand known) (operand_of (begun_if (is_written nodes cell) x (as_known operand known)))) (sym own)
+                (taken_as_begun x known (is_written nodes cell) (λ virtual. written (ap is_virtual_operand own ∙ virtual_as_operand x virtual)));
+            kind = kind_as_begun x (is_written nodes cell) (found_to_be cell) wanted taken (subst (λ k. is_kind wanted k ≡ true) kinds (stands_parts objects graph (cell, wanted) stood).kind);
+          }
+
+  -- what is known of an operand of a node of a graph
+  record IsOperand (graph : ℕ) (operand : Cell × Kind) : Type 0 where
+    stood : IsTrue (stands objects graph operand)
+    taken : is_taken operand.1 ≡ true
+
+  -- a node that stands, has no fault and reads no loose end can give to its outputs as the run begins
+  node_can : (graph : ℕ) (n : Node) → IsNode n → OperandsStand objects graph n → node_fault n.function (operands_of found_to_be n) ≡ None → list_any (is_loose is nodes) (inputs n) ≡ false
+      → ((cell : Cell) → writes n cell ≡ true → is_written nodes cell ≡ true) → CanRunOn (operand_in begin) n
+  node_can graph n node stood faultless read written =
+      let each : All (IsOperand graph) (operands n) = λ k d below. record { stood = stood k d below; taken = kinds_taken n k d below } in
+      let operand = of_operands (IsOperand graph) n each in
+      let fail = each_fails (is_loose is nodes) (inputs n) read in
+      let outs = own_outputs n.out1 n.out2 in
+      let suit = no_fault_suits n.function (operands_of found_to_be n) faultless in
+      let first = see_read n.in1 kind.Image (All-head (λ cell. is_loose is nodes cell ≡ false) n.in1 (given n.in2) fail) operand.in1 in
+      let second = if_both (λ cell. is_loose is nodes cell ≡ false) (λ cell. IsOperand graph (cell, second_kind n)) (λ cell. Sees cell (second_kind n)) n.in2
+      (own_second (λ cell. is_loose is nodes cell ≡ false) n.in2 (All-tail (λ cell. is_loose is nodes cell ≡ false) n.in1 (given n.in2) fail)) operand.in2 (λ cell. see_read cell (second_kind n)) in
+      record { node = node; out1 = to_output first second n.out1 outs.0 operand.out1 suit.0; out2 = to_output first second n.out2 outs.1 operand.out2 suit.1 }
+    where
+      look : Cell → Option Operand
+      look = operand_in begin
+
+      output : Kind
+      output = (parameters n.function).output
+
+      see_read : (cell : Cell) (wanted : Kind) → is_loose is nodes cell ≡ false → IsOperand graph (cell, wanted) → Sees cell wanted
+      see_read cell wanted tied o =
+          sees graph cell wanted o.taken o.stood
+          (λ virtual. elim (and_cases (is_virtual_operand (is cell)) (not (is_written nodes cell)) tied) [
+            | inl real ↦ absurd (both_ways (is_virtual_operand (is cell)) real virtual)
+            | inr there ↦ not-false (is_written nodes cell) there
+          ])
+
+      as_second : (cell : Option Cell) → IfSome cell (λ x. Sees x (second_kind n)) → SecondTaken (second_kind n) (option_map found_to_be cell) (option_and_then look cell)
+      as_second None seen = tt
+      as_second (Some x) seen = subst (λ o. SecondTaken (second_kind n) (Some (found_to_be x)) o) (sym seen.found) (seen.taken, seen.kind)
+
+      to_output : Sees n.in1 kind.Image → IfSome n.in2 (λ cell. Sees cell (second_kind n)) → (out : Option Cell) → IfSome out (λ cell. writes n cell ≡ true) → IfSome out (λ cell. IsOperand graph (cell, output))
+          → IfSome (option_map found_to_be out) (Suits n.function (found_to_be n.in1) (option_and_then operand_format (option_map found_to_be n.in2)))
+          → CanGiveTo n.function (look n.in1) (option_and_then look n.in2) (option_and_then look out)
+      to_output first second None writes_it o suits = subst (λ a. CanGiveTo n.function a (option_and_then look n.in2) None) (sym first.found) tt
+      to_output first second (Some cell) writes_it o suits =
+          let seen = sees graph cell output o.taken o.stood (λ virtual. written cell writes_it) in
+          let beside = option_and_then look n.in2 in
+          subst (λ a. CanGiveTo n.function a beside (look cell)) (sym first.found)
+          (subst (λ b. IfSome b (CanGive n.function first.operand beside)) (sym seen.found)
+          (give_as_taken n node (found_to_be n.in1) first.operand (found_to_be cell) seen.operand (option_map found_to_be n.in2) beside
+          (second_if_given n node found_to_be) first.taken seen.taken (as_second n.in2 second) suits))
+
+-- ---- as a run ends
+
+-- what is no virtual image is the same as a run begins, without what writes change
+begun_bare : (known : Cell → Operand) (nodes : List Node) (o : Named) → is_virtual o.object ≡ false → begun known nodes o ≡ o
+begun_bare known nodes o real =
+    let cell : Cell = record { name = o.name; slot = None } in
+    cond_both (is_written nodes cell) (record o { object = begun_as o.object (known cell) }) o (λ p. p ≡ o)
+    (λ e. ap (λ (x : ObjectValue). let p : Named = record o { object = x } in p) (begun_stays o.object true (known cell) real)) (λ e. refl)
+
+-- once virtual images are forgotten, all are objects, and the same as before without what writes change
+forgotten_keep : (known : Cell → Operand) (nodes : List Node) (objects after : List Named) → bares after ≡ bares (map (begun known nodes) objects) → All (λ o. IsObject o.object) objects → All (λ o. IsObject o.object) after
+    → (bares (forgotten objects after) ≡ bares objects) × All (λ o. IsObject o.object) (forgotten objects after)
+forgotten_keep known nodes [] [] same were are = (refl, are)
+forgotten_keep known nodes [] (p ∷ after) same were are = absurd (cc)
+forgotten_keep known nodes (o ∷ objects) [] same were are = absurd (cc)
+forgotten_keep known nodes (o ∷ objects) (p ∷ after) same were are =
+    let Is : Named → Type 0 = λ q. IsObject q.object in
+    let first : bare_named p ≡ bare_named (begun known nodes o) = ap (λ l. get_or l 0 o) same in
+    let others : bares after ≡ bares (map (begun known nodes) objects) = ap (drop 1) same in
+    let rest = forgotten_keep known nodes objects after others (All-tail Is o objects were) (All-tail Is p after are) in
+    let left : Named = cond (is_virtual o.object) o p in (
+      ap (λ q. q ∷ bares (forgotten objects after))
+          (cond_both (is_virtual o.object) o p (λ q. bare_named q ≡ bare_named o) (λ e. refl) (λ e. first ∙ ap bare_named (begun_bare known nodes o e)))
+          ∙ ap (λ l. bare_named o ∷ l) rest.0,
+      All-cons Is left (forgotten objects after) (cond_both (is_virtual o.object) o p Is (λ e. All-head Is o objects were) (λ e. All-head Is p after are)) rest.1,
+    )
+
+-- ---- runs
+
+process_found_keeps : (limits : Allowance) (c : Context) (name : ℕ) (object : Option ObjectValue) → KeepsLimits limits c → IfSome object IsObject → IfSome object (λ x. All (OperandsStand c.objects name) (nodes_in x))
+    → Keeps limits (process_found (as_graph object) limits c)
+process_found_keeps limits c name None h is stood = tt
+process_found_keeps limits c name (Some (GraphObject graph)) h is stood =
+    let objects : List Named = c.objects in
+    let nodes = nodes_of graph in
+    let operand = operand_held objects in
+    let known = resolved operand nodes in
+    let begin : List Named = map (begun known nodes) objects in
+    unless_keeps limits (option_map Rejected (graph_verdict limits objects graph)) Empty (with_objects c (run known nodes objects))
+    (λ allowed.
+    let runs = can_run limits.work operand nodes (not_rejected (graph_verdict limits objects graph) allowed) in
+    let are_nodes : All IsNode nodes = All-map IsNode (λ (n : Numbered). n.node) graph.nodes is.nodes in
+    let faultless = each_faultless known nodes runs.no_fault in
+    let tied = each_fails (λ n. list_any (is_loose operand nodes) (inputs n)) nodes runs.no_loose_end in
+    let can : All (CanRunOn (operand_in begin)) nodes = λ k d below.
+    node_can objects nodes h.objects h.names name (get_or nodes k d) (are_nodes k d below) (stood k d below) (faultless k d below) (tied k d below)
+    (λ cell writes_it. list_any_at (λ n. writes n cell) nodes k d below writes_it) in
+    let ran = rounds_keep nodes (length nodes) begin (begin_is objects nodes h.objects h.names) (begin_increases objects nodes h.objects h.names) can in
+    let end = forgotten_keep known nodes objects (rounds nodes (length nodes) begin) ran.0 h.objects ran.1 in
+    alike_keeps limits c (run known nodes objects) h end.0 end.1)
+process_found_keeps limits c name (Some other) h is stood = tt
+
+-- a graph that runs keeps the limits
+pub process_graph_keeps : (limits : Allowance) (c : Context) (name : ℕ) → KeepsLimits limits c → Keeps limits (process_graph limits c name)
+process_graph_keeps limits c name h = process_found_keeps limits c name (object_named c.objects name) h (graph_is limits c name h) (graph_stands limits c name h)

@@ -1,0 +1,6 @@
+//! What the definitions of `client_model` mean: laws of every state that requests reach.
+//!
+//! - `states`: states keep the limits, refusals leave them
+#![tactic(auto)]
+
+pub mod states;

@@ -1,0 +1,249 @@
+-- What is held: what nodes of graphs use, and what they still find once the rest is gone.
+use Rattle.std.proofs.Common.{◌≡◌, ◌⊎◌, inl, inr, ℕ, suc, arith, Bool, true, false, cond, IsTrue, List, [], ◌∷◌, ◌++◌, get_or, Option, Some, None, refl, sym, ap, subst, ◌∙◌}
+use Rattle.std.specs.Prelude.{All, is_none, ◌==◌, ◌&&◌, ◌||◌, not, find, filter, unwrap_or}
+use Rattle.std.specs.List.{list_any}
+use Rattle.std.specs.List.Sorted.{IsStrictlyIncreasing}
+use Rattle.std.specs.Option.{option_map, option_and_then, option_or}
+use Rattle.std.proofs.lemmas.Bool.{and_parts, and_from, and_right, both_ways, eq-eqb, eqb-true, false_from_ne_true, not-true, not_from_false, or_cases, or_parts, or_right}
+use Rattle.std.proofs.lemmas.List.Elements.{All-nil, All-cons, All-append, All-filter, All-map, All-weaker, filter_passes}
+use Rattle.std.proofs.lemmas.List.Folds.{find-append, list_any_at, list_any_none}
+use Rattle.vx_base.specs.declared.function.Function.{Function}
+use Rattle.vx_base.specs.declared.function.Function.TheVariants.{AndBits}
+use Rattle.vx_base.specs.declared.kind.Kind.{Kind}
+use Rattle.vx_base.specs.declared.kind.Kind.TheVariants as kind
+use Rattle.vx_base.specs.declared.node.Node.{Node}
+use Rattle.vx_base.specs.declared.numbered.Numbered.{Numbered}
+use Rattle.vx_base.specs.Cell.{Cell}
+use Rattle.vx_base.specs.Function.{parameters}
+use Rattle.vx_base.specs.Node.{operands, second_kind, with_kind}
+use Rattle.vx_base.specs.Object.{ObjectValue, GraphObject, object_kind}
+use Rattle.vx_base.proofs.NodeLaws.{same_kind_equal}
+use Rattle.object_table.specs.Delay.{in_slot, slot_kind}
+use Rattle.object_table.specs.Named.{Named, object_held, held}
+use Rattle.client_model.specs.Holds.{names_it, uses, is_used, is_held, still_held}
+use Rattle.client_model.specs.Operands.{is_kind, is_empty, is_of_other_graph}
+use Rattle.client_model.specs.States.{kind_held, stands, nodes_in, NodesStand}
+use Rattle.client_model.specs.Frame.{frame}
+use Rattle.client_model.proofs.FrameLemmas.{stands-alike}
+use Rattle.client_model.proofs.NamedLaws.{names_of, All-from_map, held_by_name}
+
+-- ---- lists of which some elements are kept
+
+module _ {X : Type 0} (p q : X → Bool) where
+  -- an element is found as before, if all that pass are kept
+  find_kept : (xs : List X) → All (λ x. p x ≡ true → q x ≡ true) xs → find p (filter q xs) ≡ find p xs
+  find_kept [] h = refl
+  find_kept (x ∷ xs) h = either (p x) (q x) refl (h 0 x (omega arith)) (find_kept xs (λ k d below. h (suc k) d (omega arith)))
+    where
+      either : (b c : Bool) → p x ≡ b → (b ≡ true → c ≡ true) → find p (filter q xs) ≡ find p xs → find p (cond c (x ∷ filter q xs) (filter q xs)) ≡ cond b (Some x) (find p xs)
+      either true true passes kept rest = ap (λ b. cond b (Some x) (find p (filter q xs))) passes
+      either true false passes kept rest = let is = kept refl in absurd (cc)
+      either false true fails kept rest = ap (λ b. cond b (Some x) (find p (filter q xs))) fails ∙ rest
+      either false false fails kept rest = rest
+
+  -- so it is told whether one passes
+  any_kept : ((x : X) → p x ≡ true → q x ≡ true) → (xs : List X) → list_any p (filter q xs) ≡ list_any p xs
+  any_kept h [] = refl
+  any_kept h (x ∷ xs) = either (p x) (q x) refl (h x) (any_kept h xs)
+    where
+      either : (b c : Bool) → p x ≡ b → (b ≡ true → c ≡ true) → list_any p (filter q xs) ≡ list_any p xs → list_any p (cond c (x ∷ filter q xs) (filter q xs)) ≡ (b || list_any p xs)
+      either true true passes kept rest = ap (λ b. b || list_any p (filter q xs)) passes
+      either true false passes kept rest = let is = kept refl in absurd (cc)
+      either false true fails kept rest = ap (λ b. b || list_any p (filter q xs)) fails ∙ rest
+      either false false fails kept rest = rest
+
+-- what holds of each element that passes holds of each that is kept
+All-kept : {X : Type 0} (q : X → Bool) (P : X → Type 0) (xs : List X) → All (λ x. q x ≡ true → P x) xs → All P (filter q xs)
+All-kept q P xs h k d below = All-filter q (λ x. q x ≡ true → P x) xs h k d below (filter_passes q xs k d below)
+
+-- where no element passes, each fails
+pub each_fails : {X : Type 0} (p : X → Bool) (xs : List X) → list_any p xs ≡ false → All (λ x. p x ≡ false) xs
+each_fails p [] h = All-nil (λ x. p x ≡ false)
+each_fails p (x ∷ xs) h = let parts = or_parts (p x) (list_any p xs) h in All-cons (λ y. p y ≡ false) x xs parts.0 (each_fails p xs parts.1)
+
+-- ---- kinds of operands
+
+-- whether a node can name an object of this kind as it is; a virtual image stands for an image
+abbrev pub is_taken : Kind → Bool
+is_taken kind.Graph = false
+is_taken kind.VirtualImage = false
+is_taken other = true
+
+second_taken : (function : Function) → is_taken (unwrap_or (parameters function).second_input kind.Image) ≡ true
+second_taken AndBits = refl
+second_taken other = refl
+
+output_taken : (function : Function) → is_taken (parameters function).output ≡ true
+output_taken AndBits = refl
+output_taken other = refl
+
+-- the kinds that a node's function has for its operands are such
+pub kinds_taken : (n : Node) → All (λ operand. is_taken operand.1 ≡ true) (operands n)
+kinds_taken n =
+    let Taken : Cell × Kind → Type 0 = λ operand. is_taken operand.1 ≡ true in
+    let second = with_kind (second_kind n) n.in2 in
+    let output = (parameters n.function).output in
+    All-cons Taken (n.in1, kind.Image) _ refl
+    (All-append Taken second _ (each (second_kind n) (second_taken n.function) n.in2)
+    (All-append Taken (with_kind output n.out1) (with_kind output n.out2) (each output (output_taken n.function) n.out1) (each output (output_taken n.function) n.out2)))
+  where
+    each : (k : Kind) → is_taken k ≡ true → (cell : Option Cell) → All (λ operand. is_taken operand.1 ≡ true) (with_kind k cell)
+    each k taken None = All-nil (λ operand. is_taken operand.1 ≡ true)
+    each k taken (Some cell) = All-cons (λ operand. is_taken operand.1 ≡ true) (cell, k) [] taken (All-nil (λ operand. is_taken operand.1 ≡ true))
+
+-- ---- operands that stand
+
+-- what a cell that stands is
+pub record StandsFor (objects : List Named) (graph : ℕ) (operand : Cell × Kind) : Type 0 where
+  pub kind : is_kind operand.1 (kind_held objects operand.0) ≡ true
+  pub scope : is_of_other_graph graph (held objects operand.0) ≡ false
+  pub there : is_empty objects operand.0 ≡ false
+
+pub stands_parts : (objects : List Named) (graph : ℕ) (operand : Cell × Kind) → IsTrue (stands objects graph operand) → StandsFor objects graph operand
+stands_parts objects graph operand h =
+    let first = and_parts (is_kind operand.1 (kind_held objects operand.0)) (not (is_of_other_graph graph (held objects operand.0)) && not (is_empty objects operand.0)) h in
+    let rest = and_parts (not (is_of_other_graph graph (held objects operand.0))) (not (is_empty objects operand.0)) first.1 in
+    record { kind = first.0; scope = not-true (is_of_other_graph graph (held objects operand.0)) rest.0; there = not-true (is_empty objects operand.0) rest.1 }
+
+pub stands_from : (objects : List Named) (graph : ℕ) (operand : Cell × Kind) → StandsFor objects graph operand → IsTrue (stands objects graph operand)
+stands_from objects graph operand h =
+    and_from (is_kind operand.1 (kind_held objects operand.0)) (not (is_of_other_graph graph (held objects operand.0)) && not (is_empty objects operand.0)) h.kind
+    (and_from (not (is_of_other_graph graph (held objects operand.0))) (not (is_empty objects operand.0))
+    (not_from_false (is_of_other_graph graph (held objects operand.0)) h.scope) (not_from_false (is_empty objects operand.0) h.there))
+
+-- each operand of a node stands
+abbrev pub OperandsStand : List Named → ℕ → Node → Type 0
+OperandsStand objects graph n = All (λ operand. IsTrue (stands objects graph operand)) (operands n)
+
+-- where each operand that stands among some objects stands among others, nodes stand there
+pub nodes_stand : (objects others : List Named) (graph : ℕ) (nodes : List Node) → ((operand : Cell × Kind) → IsTrue (stands objects graph operand) → IsTrue (stands others graph operand))
+    → All (OperandsStand objects graph) nodes → All (OperandsStand others graph) nodes
+nodes_stand objects others graph nodes still h =
+    All-weaker (OperandsStand objects graph) (OperandsStand others graph)
+    (λ n each. All-weaker (λ operand. IsTrue (stands objects graph operand)) (λ operand. IsTrue (stands others graph operand)) still (operands n) each) nodes h
+
+-- an operand stands among others, where these have the same object of its name
+pub stands_still : (objects others : List Named) (graph : ℕ) (operand : Cell × Kind) → object_held others operand.0.name ≡ object_held objects operand.0.name
+    → IsTrue (stands objects graph operand) → IsTrue (stands others graph operand)
+stands_still objects others graph operand same h = stands-alike others objects graph operand (ap (option_map frame) same) ∙ h
+
+-- so it does with one object more
+pub stands_more : (objects : List Named) (new : Named) (graph : ℕ) (operand : Cell × Kind) → IsTrue (stands objects graph operand) → IsTrue (stands (objects ++ new ∷ []) graph operand)
+stands_more objects new graph operand h =
+    let object_of : Option Named → Option ObjectValue = option_map (λ p. p.object) in
+    let cell = operand.0 in
+    stands_still objects (objects ++ new ∷ []) graph operand
+    (ap object_of (find-append (λ (p : Named). p.name == cell.name) objects (new ∷ [])) ∙ first (find (λ (p : Named). p.name == cell.name) objects) (stands_parts objects graph operand h).there) h
+  where
+    first : (found : Option Named) → is_none (option_and_then (in_slot operand.0.slot) (option_map (λ (p : Named). p.object) found)) ≡ false
+        → option_map (λ (p : Named). p.object) (option_or found (find (λ (p : Named). p.name == operand.0.name) (new ∷ []))) ≡ option_map (λ (p : Named). p.object) found
+    first None there = cc
+    first (Some p) there = refl
+
+-- ---- graphs, which no node uses
+
+-- a graph is of no kind that a node can name
+not_taken : (slot : Option ℕ) (k : Kind) (object : ObjectValue) → object_kind object ≡ kind.Graph → is_taken k ≡ true → is_kind k (slot_kind slot object) ≡ true → ⊥
+not_taken None k (GraphObject graph) is taken h = let of_graph : is_taken kind.Graph ≡ true = subst (λ j. is_taken j ≡ true) (same_kind_equal k kind.Graph h) taken in cc
+not_taken (Some slot) k (GraphObject graph) is taken h = cc
+not_taken slot k other is taken h = cc
+
+module _ (objects : List Named) (name : ℕ) (object : ObjectValue) (found : object_held objects name ≡ Some object) (is : object_kind object ≡ kind.Graph) where
+  -- no operand that stands has its name
+  of_other_name : (graph : ℕ) (operand : Cell × Kind) → IsTrue (stands objects graph operand) → is_taken operand.1 ≡ true → (operand.0.name == name) ≡ false
+  of_other_name graph operand h taken =
+      let cell = operand.0 in
+      false_from_ne_true (cell.name == name)
+      (λ same.
+      let there : object_held objects cell.name ≡ Some object = ap (object_held objects) (eqb-true cell.name name same) ∙ found in
+      not_taken cell.slot operand.1 object is taken
+      (subst (λ o. is_kind operand.1 (option_and_then (slot_kind cell.slot) o) ≡ true) there (stands_parts objects graph operand h).kind))
+
+  not_named : (graph : ℕ) (n : Node) → OperandsStand objects graph n → list_any (λ operand. operand.0.name == name) (operands n) ≡ false
+  not_named graph n h =
+      list_any_none (λ operand. operand.0.name == name) (operands n) (λ k d below. of_other_name graph (get_or (operands n) k d) (h k d below) (kinds_taken n k d below))
+
+  not_used : (graph : ℕ) (user : ObjectValue) → All (OperandsStand objects graph) (nodes_in user) → uses user name ≡ false
+  not_used graph (GraphObject g) h =
+      list_any_none (names_it name) g.nodes
+      (All-weaker (λ (n : Numbered). OperandsStand objects graph n.node) (λ n. names_it name n ≡ false) (λ n each. not_named graph n.node each)
+      g.nodes (All-from_map (OperandsStand objects graph) (λ (n : Numbered). n.node) g.nodes h))
+  not_used graph other h = refl
+
+  -- where nodes find what they name, no node uses a graph
+  pub graph_unused : All (NodesStand objects) objects → is_used objects name ≡ false
+  graph_unused h =
+      list_any_none (λ o. o.live && uses o.object name) objects
+      (All-weaker (NodesStand objects) (λ o. (o.live && uses o.object name) ≡ false) (λ o each. and_right o.live (uses o.object name) (not_used o.name o.object each)) objects h)
+
+-- ---- what nodes use
+
+-- each operand of a node is used
+abbrev OperandsUsed : List Named → Node → Type 0
+OperandsUsed objects n = All (λ operand. is_used objects operand.0.name ≡ true) (operands n)
+
+-- each operand of a graph's node is named by it
+uses_its_own : (object : ObjectValue) → All (λ n. All (λ operand. uses object operand.0.name ≡ true) (operands n)) (nodes_in object)
+uses_its_own (GraphObject g) =
+    All-map (λ n. All (λ operand. list_any (names_it operand.0.name) g.nodes ≡ true) (operands n)) (λ (n : Numbered). n.node) g.nodes
+    (λ k d below i e within.
+    let n : Node = (get_or g.nodes k d).node in
+    let operand = get_or (operands n) i e in
+    list_any_at (names_it operand.0.name) g.nodes k d below
+    (list_any_at (λ other. other.0.name == operand.0.name) (operands n) i e within (eq-eqb operand.0.name operand.0.name refl)))
+uses_its_own other = All-nil (λ n. All (λ operand. uses other operand.0.name ≡ true) (operands n))
+
+-- what a node of an unreleased graph names is used
+used_by_live : (objects : List Named) → All (λ o. o.live ≡ true → All (OperandsUsed objects) (nodes_in o.object)) objects
+used_by_live objects k d below live =
+    let o : Named = get_or objects k d in
+    All-weaker (λ n. All (λ operand. uses o.object operand.0.name ≡ true) (operands n)) (OperandsUsed objects)
+    (λ n each. All-weaker (λ operand. uses o.object operand.0.name ≡ true) (λ operand. is_used objects operand.0.name ≡ true)
+    (λ operand used. list_any_at (λ p. p.live && uses p.object operand.0.name) objects k d below (and_from o.live (uses o.object operand.0.name) live used)) (operands n) each)
+    (nodes_in o.object) (uses_its_own o.object)
+
+-- ---- what is held still
+
+module _ (objects : List Named) where
+  -- what is used stays used, and what is held stays held
+  used_still : (name : ℕ) → is_used (still_held objects) name ≡ is_used objects name
+  used_still name =
+      any_kept (λ (o : Named). o.live && uses o.object name) (is_held objects)
+      (λ o used. let live = (and_parts o.live (uses o.object name) used).0 in ap (λ b. b || is_used objects o.name) live) objects
+
+  pub held_still : All (λ o. IsTrue (is_held (still_held objects) o)) (still_held objects)
+  held_still =
+      All-weaker (λ o. is_held objects o ≡ true) (λ o. IsTrue (is_held (still_held objects) o)) (λ o kept. ap (λ b. o.live || b) (used_still o.name) ∙ kept)
+      (still_held objects) (filter_passes (is_held objects) objects)
+
+  -- what is used is found as before
+  found_still : (name : ℕ) → is_used objects name ≡ true → object_held (still_held objects) name ≡ object_held objects name
+  found_still name used =
+      ap (option_map (λ (o : Named). o.object))
+      (find_kept (λ (o : Named). o.name == name) (is_held objects) objects
+      (λ k d below same.
+      let o : Named = get_or objects k d in
+      or_right o.live (is_used objects o.name) (ap (is_used objects) (eqb-true o.name name same) ∙ used)))
+
+  -- a graph has nodes, and no other object does
+  graph_or_none : (object : ObjectValue) → (object_kind object ≡ kind.Graph) ⊎ (nodes_in object ≡ [])
+  graph_or_none (GraphObject graph) = inl refl
+  graph_or_none other = inr refl
+
+  module _ (names : IsStrictlyIncreasing (names_of objects)) (nodes : All (NodesStand objects) objects) where
+    -- nodes of what is held still find what they name
+    node_finds_still : (o : Named) → object_held objects o.name ≡ Some o.object → (o.live ≡ true → All (OperandsUsed objects) (nodes_in o.object)) → NodesStand objects o
+        → is_held objects o ≡ true → NodesStand (still_held objects) o
+    node_finds_still o found used stand kept = by_mark (or_cases o.live (is_used objects o.name) kept) (graph_or_none o.object)
+      where
+        by_mark : (o.live ≡ true) ⊎ (is_used objects o.name ≡ true) → (object_kind o.object ≡ kind.Graph) ⊎ (nodes_in o.object ≡ []) → NodesStand (still_held objects) o
+        by_mark (inl live) any = λ k d below i e within.
+            let operand = get_or (operands (get_or (nodes_in o.object) k d)) i e in
+            stands_still objects (still_held objects) o.name operand (found_still operand.0.name (used live k d below i e within)) (stand k d below i e within)
+        by_mark (inr in_use) (inl graph) = absurd (both_ways (is_used objects o.name) (graph_unused objects o.name o.object found graph nodes) in_use)
+        by_mark (inr in_use) (inr none) = subst (All (OperandsStand (still_held objects) o.name)) (sym none) (All-nil (OperandsStand (still_held objects) o.name))
+
+    pub nodes_still : All (NodesStand (still_held objects)) (still_held objects)
+    nodes_still =
+        All-kept (is_held objects) (NodesStand (still_held objects)) objects
+        (λ k d below. node_finds_still (get_or objects k d) (held_by_name objects names k d below) (used_by_live objects k d below) (nodes k d below))

@@ -1,0 +1,13 @@
+pub mod FrameLemmas
+pub mod WriteLaws
+pub mod NamedLaws
+pub mod HoldLaws
+pub mod StateLaws
+pub mod OutcomeLaws
+pub mod ImageStepLaws
+pub mod DelayStepLaws
+pub mod VerdictLaws
+pub mod NodeStepLaws
+pub mod GraphStepLaws
+pub mod BegunLaws
+pub mod CountLaws

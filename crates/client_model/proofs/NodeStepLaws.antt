@@ -1,0 +1,271 @@
+-- A node that runs at once keeps the limits: each output becomes an object of the kind, the size and the format that it had.
+use Rattle.std.proofs.Common.{◌≡◌, ℕ, true, false, IsTrue, List, get_or, [], ◌++◌, Option, Some, None, IfSome, if◌then◌else◌, refl, sym, ap, subst, ◌∙◌}
+use Rattle.std.specs.Prelude.{All, ◌&&◌, is_some, is_none, unwrap_or}
+use Rattle.std.specs.List.{list_any}
+use Rattle.std.specs.List.Sorted.{IsStrictlyIncreasing}
+use Rattle.std.specs.Option.{option_map, option_and_then, option_or}
+use Rattle.std.proofs.lemmas.Bool.{and_parts, not-false}
+use Rattle.std.proofs.lemmas.Option.{IfSome_then}
+use Rattle.std.proofs.lemmas.List.Elements.{All-nil, All-cons, All-head, All-tail, All-append}
+use Rattle.vx_base.specs.declared.format.Format.{Format}
+use Rattle.vx_base.specs.declared.function.Function.{Function}
+use Rattle.vx_base.specs.declared.kind.Kind.{Kind}
+use Rattle.vx_base.specs.declared.kind.Kind.TheVariants as kind
+use Rattle.vx_base.specs.declared.node.Node.{Node}
+use Rattle.vx_base.specs.Cell.{Cell}
+use Rattle.vx_base.specs.Description.{Description, same_size}
+use Rattle.vx_base.specs.Formats.{takes_formats}
+use Rattle.vx_base.specs.Function.{parameters}
+use Rattle.vx_base.specs.Image.{description_of}
+use Rattle.vx_base.specs.Node.{IsNode, is_node, has_amount, has_operands, all_named, operands, with_kind, second_kind}
+use Rattle.vx_base.specs.Object.{ObjectValue, ImageObject, DistributionObject, ExtremesObject, VirtualObject, IsObject, object_kind, object_format}
+use Rattle.vx_base.specs.declared.output.Output.{Output}
+use Rattle.vx_base.specs.declared.output.Output.TheVariants.{First, Second}
+use Rattle.vx_base.specs.Outputs.{node_image, node_output, written_to, written_in, written_by}
+use Rattle.vx_base.proofs.NodeLaws.{node_image_is, same_kind_equal}
+use Rattle.object_table.specs.Named.{Named, held, with_written}
+use Rattle.graph_verify.specs.declared.operand.Operand.{Operand}
+use Rattle.graph_verify.specs.declared.operand.Operand.TheVariants.{Image}
+use Rattle.graph_verify.specs.declared.verdict.Verdict.{Verdict}
+use Rattle.graph_verify.specs.Operand.{operand_of, operand_format, operand_kind}
+use Rattle.graph_verify.specs.Verdict.{verdict_on}
+use Rattle.client_model.specs.declared.refusal.Refusal.TheVariants.{InvalidReference, InvalidType, InvalidScope, InvalidValue, OptimizedAway, Rejected}
+use Rattle.client_model.specs.declared.reply.Reply.TheVariants.{Empty}
+use Rattle.client_model.specs.Allowance.{Allowance}
+use Rattle.client_model.specs.Context.{Context, with_objects}
+use Rattle.client_model.specs.Operands.{is_unknown, is_empty, is_beyond, is_kind, kind_of, is_of_other_kind, stands_for, operands_refusal}
+use Rattle.client_model.specs.Immediate.{operand_in, operand_if, operands_in, is_some_virtual, away_refusal, node_refusal, immediate}
+use Rattle.client_model.specs.States.{KeepsLimits, kind_held}
+use Rattle.client_model.proofs.WriteLaws.{bare, same_bare_image}
+use Rattle.client_model.proofs.NamedLaws.{names_of, Fits, held_is, held_kind, held_fits, kind_if_live}
+use Rattle.client_model.proofs.HoldLaws.{each_fails}
+use Rattle.client_model.proofs.StateLaws.{IsReplacement, with_written_keeps}
+use Rattle.client_model.proofs.VerdictLaws.{Suits, BothSuit, verdict_suits}
+use Rattle.graph_run.proofs.OperandLaws.{described_node}
+use Rattle.client_model.proofs.CountLaws.{length-histogram}
+use Rattle.client_model.proofs.OutcomeLaws.{Keeps, unless_keeps, passed, same_description}
+
+-- ---- what a node can give
+
+-- a node gives an image to an output: formats that its function takes, one size, and a second input of the kind that the function has
+pub record GivesImage (function : Function) (first : Description) (second : Option Operand) (out : Description) : Type 0 where
+  pub formats : IsTrue (takes_formats function first.format (option_and_then operand_format second) (Some out.format))
+  pub size : IsTrue (same_size first out)
+  pub kind : IfSome second (λ o. (parameters function).second_input ≡ Some (operand_kind o))
+
+abbrev pub CanGive : Function → Operand → Option Operand → Operand → Type 0
+CanGive function (Image first) second (Image out) = GivesImage function first second out
+CanGive function first second out = Unit {0}
+
+-- the same of operands that may not be there
+abbrev pub CanGiveTo : Function → Option Operand → Option Operand → Option Operand → Type 0
+CanGiveTo function first second out = IfSome first (λ a. IfSome out (CanGive function a second))
+
+-- a node that can give to each of its outputs, where its cells hold these operands
+pub record CanRunOn (look : Cell → Option Operand) (n : Node) : Type 0 where
+  pub node : IsNode n
+  pub out1 : CanGiveTo n.function (look n.in1) (option_and_then look n.in2) (option_and_then look n.out1)
+  pub out2 : CanGiveTo n.function (look n.in1) (option_and_then look n.in2) (option_and_then look n.out2)
+
+-- an output that suits beside a second input of the right kind can be given to
+pub suits_give : (function : Function) (first out : Operand) (second : Option Operand) → Suits function first (option_and_then operand_format second) out
+    → IfSome second (λ o. (parameters function).second_input ≡ Some (operand_kind o)) → CanGive function first second out
+suits_give function (Image first) (Image out) second suits right = record { formats = suits.formats; size = suits.size; kind = right }
+suits_give function first out second suits right = tt
+
+-- ---- objects as operands
+
+format_as_operand : (object : ObjectValue) → operand_format (operand_of object) ≡ object_format object
+format_as_operand (ImageObject image) = refl
+format_as_operand other = refl
+
+pub kind_as_operand : (object : ObjectValue) → operand_kind (operand_of object) ≡ object_kind object
+kind_as_operand (ImageObject image) = refl
+kind_as_operand other = refl
+
+formats_as_operands : (object : Option ObjectValue) → option_and_then operand_format (option_map operand_of object) ≡ option_and_then object_format object
+formats_as_operands None = refl
+formats_as_operands (Some object) = format_as_operand object
+
+-- a cell that may not be given, as an operand
+operand_if_held : (objects : List Named) (cell : Option Cell) → operand_if objects cell ≡ option_map operand_of (option_and_then (held objects) cell)
+operand_if_held objects None = refl
+operand_if_held objects (Some cell) = refl
+
+-- ---- what a node writes
+
+module _ (objects : List Named) (n : Node) (node : IsNode n) (second : Option ObjectValue) (is : IfSome second IsObject) where
+  -- an output to which it can give becomes an object that is the same without what writes change
+  output_fits : (output : Output) (cell : Cell) (first out : ObjectValue) → IsObject first → IsObject out → All (Fits cell (bare out)) objects → CanGive n.function (operand_of first) (option_map operand_of second) (operand_of out)
+      → IsReplacement objects (cell, node_output n output first second out)
+  output_fits output cell (ImageObject a) (ImageObject out) is_first is_out fits can =
+      let e : description_of (node_image n output out.format a second) ≡ description_of out =
+      described_node n output out.format a second ∙ same_description (record { width = a.width; height = a.height; format = out.format }) (description_of out) can.size refl in
+      let May : ObjectValue → Type 0 = λ o. All (Fits cell o) objects in
+      let Taken : Option Format → Type 0 = λ format. IsTrue (takes_formats n.function a.format format (Some out.format)) in
+      record {
+        is_object = node_image_is n out.format a node is_first output second is (right second can.kind) (subst Taken (formats_as_operands second) can.formats);
+        fits = subst May (sym (same_bare_image (node_image n output out.format a second) out e)) fits;
+      }
+    where
+      right : (object : Option ObjectValue) → IfSome (option_map operand_of object) (λ o. (parameters n.function).second_input ≡ Some (operand_kind o)) → IfSome object (λ o. (parameters n.function).second_input ≡ Some (object_kind o))
+      right None h = tt
+      right (Some object) h = h ∙ ap Some (kind_as_operand object)
+  output_fits output cell (ImageObject a) (DistributionObject d) is_first is_out fits can = record { is_object = record { bins = is_out.bins; size = length-histogram d.bins a }; fits = fits }
+  output_fits output cell (ImageObject a) (ExtremesObject e) is_first is_out fits can = record { is_object = tt; fits = fits }
+  output_fits output cell first out is_first is_out fits can = record { is_object = is_out; fits = fits }
+
+  -- so does what a cell holds, if it holds something
+  written_to_fits : (output : Output) (cell : Cell) (first out : Option ObjectValue) → IfSome first IsObject → IfSome out IsObject → IfSome out (λ x. All (Fits cell (bare x)) objects)
+      → CanGiveTo n.function (option_map operand_of first) (option_map operand_of second) (option_map operand_of out) → All (IsReplacement objects) (written_to n output cell first second out)
+  written_to_fits output cell (Some first) (Some out) is_first is_out fits can =
+      All-cons (IsReplacement objects) (cell, node_output n output first second out) [] (output_fits output cell first out is_first is_out fits can) (All-nil (IsReplacement objects))
+  written_to_fits output cell first out is_first is_out fits can = All-nil (IsReplacement objects)
+
+-- what a node writes to its outputs may be written there
+pub written_by_fits : (objects : List Named) (n : Node) → All (λ o. IsObject o.object) objects → IsStrictlyIncreasing (names_of objects) → CanRunOn (operand_in objects) n → All (IsReplacement objects) (written_by n (held objects))
+written_by_fits objects n is names can =
+    All-append (IsReplacement objects) (written_in n First n.out1 (held objects)) (written_in n Second n.out2 (held objects)) (given_fits First n.out1 can.out1) (given_fits Second n.out2 can.out2)
+  where
+    second_is : (cell : Option Cell) → IfSome (option_and_then (held objects) cell) IsObject
+    second_is None = tt
+    second_is (Some x) = held_is objects x is
+
+    given_fits : (output : Output) (out : Option Cell) → CanGiveTo n.function (operand_in objects n.in1) (operand_if objects n.in2) (operand_if objects out) → All (IsReplacement objects) (written_in n output out (held objects))
+    given_fits output None gives = All-nil (IsReplacement objects)
+    given_fits output (Some cell) gives =
+        let second = option_and_then (held objects) n.in2 in
+        written_to_fits objects n can.node second (second_is n.in2) output cell (held objects n.in1) (held objects cell)
+        (held_is objects n.in1 is) (held_is objects cell is) (held_fits objects cell is names)
+        (subst (λ o. CanGiveTo n.function (operand_in objects n.in1) o (operand_in objects cell)) (operand_if_held objects n.in2) gives)
+
+-- ---- operands that nothing refuses
+
+-- where neither of two refuses, the first doesn't and the second doesn't
+pub neither : {R : Type 0} (first second : Option R) → option_or first second ≡ None → (first ≡ None) × (second ≡ None)
+neither None second h = (refl, h)
+neither (Some refusal) second h = cc
+
+-- an operand that isn't refused
+pub record Passes (scope : Option ℕ) (objects : List Named) (operand : Cell × Kind) : Type 0 where
+  pub known : is_unknown objects operand.0 ≡ false
+  pub kind : is_of_other_kind objects operand ≡ false
+  pub within : is_beyond scope objects operand.0 ≡ false
+  pub there : is_empty objects operand.0 ≡ false
+
+pub operands_pass : (scope : Option ℕ) (objects : List Named) (all : List (Cell × Kind)) → operands_refusal scope objects all ≡ None → All (Passes scope objects) all
+operands_pass scope objects all h =
+    let known = passed (list_any (λ operand. is_unknown objects operand.0) all) InvalidReference _ h in
+    let of_kind = passed (list_any (is_of_other_kind objects) all) InvalidType _ known.1 in
+    let within = passed (list_any (λ operand. is_beyond scope objects operand.0) all) InvalidScope _ of_kind.1 in
+    let there = passed (list_any (λ operand. is_empty objects operand.0) all) InvalidValue _ within.1 in
+    λ k d below.
+    record {
+      known = each_fails (λ operand. is_unknown objects operand.0) all known.0 k d below;
+      kind = each_fails (is_of_other_kind objects) all of_kind.0 k d below;
+      within = each_fails (λ operand. is_beyond scope objects operand.0) all within.0 k d below;
+      there = each_fails (λ operand. is_empty objects operand.0) all there.0 k d below;
+    }
+
+-- ---- the operands of a node
+
+-- what holds of a node's operands, each beside the kind that its function has there
+pub record OfOperands (P : Cell × Kind → Type 0) (n : Node) : Type 0 where
+  pub in1 : P (n.in1, kind.Image)
+  pub in2 : IfSome n.in2 (λ cell. P (cell, second_kind n))
+  pub out1 : IfSome n.out1 (λ cell. P (cell, (parameters n.function).output))
+  pub out2 : IfSome n.out2 (λ cell. P (cell, (parameters n.function).output))
+
+pub of_operands : (P : Cell × Kind → Type 0) (n : Node) → All P (operands n) → OfOperands P n
+of_operands P n h =
+    let output = (parameters n.function).output in
+    let others = All-tail P (n.in1, kind.Image) _ h in
+    let second = apart (second_kind n) n.in2 (with_kind output n.out1 ++ with_kind output n.out2) others in
+    let first = apart output n.out1 (with_kind output n.out2) second.1 in
+    record { in1 = All-head P (n.in1, kind.Image) _ h; in2 = second.0; out1 = first.0; out2 = alone output n.out2 first.1 }
+  where
+    apart : (k : Kind) (cell : Option Cell) (rest : List (Cell × Kind)) → All P (with_kind k cell ++ rest) → IfSome cell (λ x. P (x, k)) × All P rest
+    apart k None rest all = (tt, all)
+    apart k (Some x) rest all = (All-head P (x, k) rest all, All-tail P (x, k) rest all)
+
+    alone : (k : Kind) (cell : Option Cell) → All P (with_kind k cell) → IfSome cell (λ x. P (x, k))
+    alone k None all = tt
+    alone k (Some x) all = All-head P (x, k) [] all
+
+-- a node has a second input where its function has one
+pub second_there : (n : Node) → IsTrue (is_node n) → IsTrue (if is_some (parameters n.function).second_input then is_some n.in2 else is_none n.in2)
+second_there n shape =
+    let p = parameters n.function in
+    let of_operands = and_parts (has_amount p n.policy n.amount) (has_operands p n && all_named n) shape in
+    let there = and_parts (has_operands p n) (all_named n) of_operands.1 in
+    (and_parts (if is_some p.second_input then is_some n.in2 else is_none n.in2) _ there.0).0
+
+-- an object that stands for a kind is of that kind, if it is no virtual image
+pub stands_for_equal : (a wanted : Kind) → stands_for a wanted ≡ true → (a ≡ kind.VirtualImage → ⊥) → wanted ≡ a
+stands_for_equal kind.VirtualImage wanted h not_virtual = absurd (not_virtual refl)
+stands_for_equal a wanted h not_virtual = same_kind_equal wanted a h
+
+-- where each second input that is there is of the kind that a node is to have, it is of that which its function has
+pub second_right : (look : Cell → Option Operand) (n : Node) → IsNode n → IfSome n.in2 (λ cell. IfSome (look cell) (λ o. second_kind n ≡ operand_kind o))
+    → IfSome (option_and_then look n.in2) (λ o. (parameters n.function).second_input ≡ Some (operand_kind o))
+second_right look n node h = of_kind (parameters n.function).second_input n.in2 (second_there n node.shape) h
+  where
+    of_kind : (wanted : Option Kind) (cell : Option Cell) → IsTrue (if is_some wanted then is_some cell else is_none cell) → IfSome cell (λ x. IfSome (look x) (λ o. unwrap_or wanted kind.Image ≡ operand_kind o))
+        → IfSome (option_and_then look cell) (λ o. wanted ≡ Some (operand_kind o))
+    of_kind wanted None there right = tt
+    of_kind None (Some x) there right = absurd (cc)
+    of_kind (Some k) (Some x) there right = IfSome_then (look x) right (λ o e. ap Some e)
+
+-- ---- a node that isn't refused
+
+-- where nothing is rejected, the verdict is none
+pub not_rejected : (verdict : Option Verdict) → option_map Rejected verdict ≡ None → verdict ≡ None
+not_rejected None h = refl
+not_rejected (Some verdict) h = cc
+
+-- what a node by itself needs of an operand
+pub record IsOwn (objects : List Named) (operand : Cell × Kind) : Type 0 where
+  pub kind : is_kind operand.1 (kind_held objects operand.0) ≡ true
+  pub real : is_some_virtual (held objects operand.0) ≡ false
+
+-- an operand that passes, and that is no virtual image, is of the kind that is wanted there
+of_wanted : (objects : List Named) (operand : Cell × Kind) → IsOwn objects operand → IfSome (operand_in objects operand.0) (λ o. operand.1 ≡ operand_kind o)
+of_wanted objects operand h = of_found (held objects operand.0) (held_kind objects operand.0) h.real
+  where
+    of_found : (found : Option ObjectValue) → IfSome found (λ x. kind_held objects operand.0 ≡ Some (object_kind x)) → is_some_virtual found ≡ false → IfSome (option_map operand_of found) (λ o. operand.1 ≡ operand_kind o)
+    of_found None is real = tt
+    of_found (Some (VirtualObject image)) is real = absurd (cc)
+    of_found (Some x) is real =
+        stands_for_equal (object_kind x) operand.1 (subst (λ k. is_kind operand.1 k ≡ true) is h.kind) (λ e. absurd (cc)) ∙ sym (kind_as_operand x)
+
+-- where both suit, both can be given to
+both_give : (function : Function) (first : Option ObjectValue) (second out1 out2 : Option Operand) → IfSome second (λ o. (parameters function).second_input ≡ Some (operand_kind o))
+    → IfSome first (BothSuit function (option_and_then operand_format second) out1 out2) → CanGiveTo function (option_map operand_of first) second out1 × CanGiveTo function (option_map operand_of first) second out2
+both_give function None second out1 out2 right suit = (tt, tt)
+both_give function (Some a) second out1 out2 right suit = (
+  IfSome_then out1 suit.0 (λ o suits. suits_give function (operand_of a) o second suits right),
+  IfSome_then out2 suit.1 (λ o suits. suits_give function (operand_of a) o second suits right),
+)
+
+-- a node that isn't refused can give to its outputs
+not_refused : (limits : Allowance) (c : Context) (n : Node) → KeepsLimits limits c → IsNode n → node_refusal c.objects n ≡ None → CanRunOn (operand_in c.objects) n
+not_refused limits c n h node allowed =
+    let objects : List Named = c.objects in
+    let first = neither (operands_refusal None objects (operands n)) _ allowed in
+    let rest = neither (away_refusal objects n) (option_map Rejected (option_and_then (verdict_on n) (operands_in objects n))) first.1 in
+    let pass = operands_pass None objects (operands n) first.0 in
+    let real = each_fails (λ operand. is_some_virtual (held objects operand.0)) (operands n) (passed _ OptimizedAway None rest.0).0 in
+    let own : All (IsOwn objects) (operands n) = λ k d below.
+    let operand = get_or (operands n) k d in
+    record { kind = kind_if_live objects operand.1 operand.0 h.names (not-false (is_kind operand.1 (kind_of objects operand.0)) (pass k d below).kind); real = real k d below } in
+    let right = second_right (operand_in objects) n node (IfSome_then n.in2 (of_operands (IsOwn objects) n own).in2 (λ cell is. of_wanted objects (cell, second_kind n) is)) in
+    let suit = verdict_suits n (held objects n.in1) (operand_if objects n.in2) (operand_if objects n.out1) (operand_if objects n.out2) (option_and_then operand_format (operand_if objects n.in2)) refl
+    (not_rejected (option_and_then (verdict_on n) (operands_in objects n)) rest.1) in
+    let give = both_give n.function (held objects n.in1) (operand_if objects n.in2) (operand_if objects n.out1) (operand_if objects n.out2) right suit in
+    record { node = node; out1 = give.0; out2 = give.1 }
+
+-- a node that runs at once keeps the limits
+pub immediate_keeps : (limits : Allowance) (c : Context) (n : Node) → KeepsLimits limits c → IsNode n → Keeps limits (immediate c n)
+immediate_keeps limits c n h is =
+    unless_keeps limits (node_refusal c.objects n) Empty (with_objects c (with_written c.objects (written_by n (held c.objects))))
+    (λ allowed. with_written_keeps limits c (written_by n (held c.objects)) h (written_by_fits c.objects n h.objects h.names (not_refused limits c n h is allowed)))

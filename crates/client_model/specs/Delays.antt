@@ -1,0 +1,32 @@
+-- Requests on delays. OpenVX 1.3, "Object: Delay", vxCreateDelay and vxAgeDelay.
+use Rattle.std.specs.Prelude.{ℕ, Option, Some, None, Result, Ok, Err}
+use Rattle.vx_base.specs.Cell.{Cell}
+use Rattle.vx_base.specs.Image.{ImageValue, description_of}
+use Rattle.vx_base.specs.Object.{ObjectValue, DelayObject}
+use Rattle.object_table.specs.Delay.{new_delay, aged}
+use Rattle.client_model.specs.declared.refusal.Refusal.{Refusal}
+use Rattle.client_model.specs.declared.refusal.Refusal.TheVariants.{InvalidReference, InvalidType}
+use Rattle.client_model.specs.declared.reply.Reply.TheVariants.{Empty}
+use Rattle.client_model.specs.Allowance.{Allowance}
+use Rattle.client_model.specs.Context.{Context, object_named, with_objects}
+use Rattle.object_table.specs.Named.{with_object}
+use Rattle.client_model.specs.Refusal.{Outcome}
+use Rattle.client_model.specs.Operands.{image_of}
+use Rattle.client_model.specs.Images.{create}
+
+-- CreateDelay: so many new images of the size and format of an image
+abbrev pub create_like : Allowance → Context → Result ImageValue Refusal → ℕ → Outcome
+create_like limits c (Err refusal) slots = Err refusal
+create_like limits c (Ok image) slots = create limits c (DelayObject (new_delay (description_of image) slots))
+
+abbrev pub create_delay : Allowance → Context → Cell → ℕ → Outcome
+create_delay limits c cell slots = create_like limits c (image_of c.objects cell) slots
+
+-- AgeDelay: each image comes to the slot behind its own, the last to slot 0
+abbrev pub age_named : Context → ℕ → Option ObjectValue → Outcome
+age_named c name None = Err InvalidReference
+age_named c name (Some (DelayObject images)) = Ok (Empty, Some (with_objects c (with_object c.objects (record { name = name; slot = None }) (DelayObject (aged images)))))
+age_named c name (Some other) = Err InvalidType
+
+abbrev pub age_delay : Context → ℕ → Outcome
+age_delay c name = age_named c name (object_named c.objects name)

@@ -1,0 +1,100 @@
+-- Requests on graphs. OpenVX 1.3, "Object: Graph", vxCreateGraph, vxVerifyGraph and vxProcessGraph, "Object: Node", vxRemoveNode,
+-- and "Object: Image", vxCreateVirtualImage.
+use Rattle.std.specs.Prelude.{ℕ, List, ◌∷◌, Option, Some, None, Result, Ok, Err, if◌then◌else◌, unwrap_or}
+use Rattle.std.specs.Option.{option_map}
+use Rattle.vx_base.specs.declared.kind.Kind.TheVariants as kind
+use Rattle.vx_base.specs.declared.node.Node.{Node}
+use Rattle.vx_base.specs.Cell.{Cell}
+use Rattle.vx_base.specs.Graph.{GraphValue, nodes_of, can_add, with_node, has_node, without_node}
+use Rattle.vx_base.specs.Node.{operands}
+use Rattle.vx_base.specs.Object.{ObjectValue, GraphObject, VirtualObject}
+use Rattle.vx_base.specs.Outline.{Outline}
+use Rattle.object_table.specs.Named.{Named, held, with_object}
+use Rattle.graph_verify.specs.declared.operand.Operand.{Operand}
+use Rattle.graph_verify.specs.declared.operand.Operand.TheVariants.{Delay}
+use Rattle.graph_verify.specs.declared.verdict.Verdict.{Verdict}
+use Rattle.graph_verify.specs.Operand.{operand_of}
+use Rattle.graph_verify.specs.Outlines.{resolved}
+use Rattle.graph_verify.specs.Verdict.{verdict}
+use Rattle.graph_run.specs.Graph.{run}
+use Rattle.client_model.specs.declared.refusal.Refusal.{Refusal}
+use Rattle.client_model.specs.declared.refusal.Refusal.TheVariants.{InvalidReference, InvalidType, NoResources, Rejected}
+use Rattle.client_model.specs.declared.reply.Reply.TheVariants.{Empty}
+use Rattle.client_model.specs.declared.reply.Reply.TheVariants as reply
+use Rattle.client_model.specs.Allowance.{Allowance}
+use Rattle.client_model.specs.Context.{Context, object_named, with_objects}
+use Rattle.client_model.specs.Holds.{still_held}
+use Rattle.client_model.specs.Images.{create}
+use Rattle.client_model.specs.Operands.{operands_refusal}
+use Rattle.client_model.specs.Refusal.{Outcome, refused_or, unless}
+
+-- the graph whose live name this is, or why there is none
+abbrev pub as_graph : Option ObjectValue → Result GraphValue Refusal
+as_graph None = Err InvalidReference
+as_graph (Some (GraphObject graph)) = Ok graph
+as_graph (Some other) = Err InvalidType
+
+abbrev pub graph_named : List Named → ℕ → Result GraphValue Refusal
+graph_named objects name = as_graph (object_named objects name)
+
+-- the cell of an object without slots
+abbrev pub cell_of : ℕ → Cell
+cell_of name = record { name = name; slot = None }
+
+-- the objects, of which the graph of this name is another
+abbrev pub with_graph : List Named → ℕ → GraphValue → List Named
+with_graph objects name graph = with_object objects (cell_of name) (GraphObject graph)
+
+-- CreateVirtualImage: an image of this graph alone
+abbrev pub create_virtual_in : Result GraphValue Refusal → Allowance → Context → ℕ → Outline → Outcome
+create_virtual_in (Err refusal) limits c name declared = Err refusal
+create_virtual_in (Ok graph) limits c name declared = create limits c (VirtualObject (record { graph = name; declared = declared }))
+
+abbrev pub create_virtual_image : Allowance → Context → ℕ → Outline → Outcome
+create_virtual_image limits c name declared = create_virtual_in (graph_named c.objects name) limits c name declared
+
+-- AddNode: the node comes after the others, under the graph's next number
+abbrev pub add_to : Result GraphValue Refusal → Context → ℕ → Node → Outcome
+add_to (Err refusal) c name n = Err refusal
+add_to (Ok graph) c name n =
+    if can_add graph then Ok (reply.Node graph.next, Some (with_objects c (with_graph c.objects name (with_node graph n)))) else Err NoResources
+
+abbrev pub add_node : Context → ℕ → Node → Outcome
+add_node c name n =
+    refused_or (operands_refusal (Some name) c.objects ((cell_of name, kind.Graph) ∷ operands n)) (add_to (graph_named c.objects name) c name n)
+
+-- RemoveNode: the node is gone, and so is what is then no longer held
+abbrev pub remove_from : Result GraphValue Refusal → Context → ℕ → ℕ → Outcome
+remove_from (Err refusal) c name number = Err refusal
+remove_from (Ok graph) c name number =
+    if has_node graph number then Ok (Empty, Some (with_objects c (still_held (with_graph c.objects name (without_node graph number)))))
+    else Err InvalidReference
+
+abbrev pub remove_node : Context → ℕ → ℕ → Outcome
+remove_node c name number = remove_from (graph_named c.objects name) c name number
+
+-- what a cell is to a graph whose node names it
+abbrev pub operand_held : List Named → Cell → Operand
+operand_held objects cell = unwrap_or (option_map operand_of (held objects cell)) Delay
+
+-- VerifyGraph: the verdict
+abbrev pub graph_verdict : Allowance → List Named → GraphValue → Option Verdict
+graph_verdict limits objects graph = verdict limits.work (operand_held objects) (nodes_of graph)
+
+abbrev pub verify_found : Result GraphValue Refusal → Allowance → Context → Outcome
+verify_found (Err refusal) limits c = Err refusal
+verify_found (Ok graph) limits c = unless (option_map Rejected (graph_verdict limits c.objects graph)) Empty c
+
+abbrev pub verify_graph : Allowance → Context → ℕ → Outcome
+verify_graph limits c name = verify_found (graph_named c.objects name) limits c
+
+-- ProcessGraph: the verdict, and a run where the graph can run
+abbrev pub process_found : Result GraphValue Refusal → Allowance → Context → Outcome
+process_found (Err refusal) limits c = Err refusal
+process_found (Ok graph) limits c =
+    let nodes = nodes_of graph in
+    unless (option_map Rejected (graph_verdict limits c.objects graph)) Empty
+    (with_objects c (run (resolved (operand_held c.objects) nodes) nodes c.objects))
+
+abbrev pub process_graph : Allowance → Context → ℕ → Outcome
+process_graph limits c name = process_found (graph_named c.objects name) limits c

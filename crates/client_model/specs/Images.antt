@@ -1,0 +1,117 @@
+-- Requests that make objects, and those on the samples of images.
+use Rattle.std.specs.Prelude.{ℕ, List, not, nat_le, ◌&&◌, unwrap_or, Option, Some, None, Result, Ok, Err, if◌then◌else◌}
+use Rattle.vx_base.specs.declared.format.Format.TheVariants.{U8}
+use Rattle.vx_base.specs.Cell.{Cell}
+use Rattle.vx_base.specs.Sample.{same_format}
+use Rattle.vx_base.specs.Description.{Description, same_size}
+use Rattle.vx_base.specs.Rectangle.{Rectangle, empty}
+use Rattle.vx_base.specs.Image.{ImageValue, new_image, description_of, with_valid}
+use Rattle.vx_base.specs.Picture.{PictureValue, picture_of, pictured}
+use Rattle.vx_base.specs.Object.{ObjectValue, ImageObject, VirtualObject, object_bytes}
+use Rattle.vx_base.specs.Outline.{Outline}
+use Rattle.vx_base.specs.declared.kind.Kind.TheVariants as kind
+use Rattle.pgm_images.specs.declared.fault.PgmFault.{PgmFault}
+use Rattle.pgm_images.specs.declared.fault.PgmFault.TheVariants as fault
+use Rattle.pgm_images.specs.Reading.{reading}
+use Rattle.pgm_images.specs.Writing.{written}
+use Rattle.client_model.specs.declared.refusal.Refusal.{Refusal}
+use Rattle.client_model.specs.declared.refusal.Refusal.TheVariants.{InvalidReference, InvalidType, InvalidFormat, InvalidDimension, InvalidValue, NoResources}
+use Rattle.client_model.specs.declared.reply.Described.{Described}
+use Rattle.client_model.specs.declared.reply.Reply.TheVariants as reply
+use Rattle.client_model.specs.declared.reply.Reply.TheVariants.{Empty, Name, Picture, Text}
+use Rattle.client_model.specs.Allowance.{Allowance}
+use Rattle.client_model.specs.Context.{Context, with_new, with_objects, has_room}
+use Rattle.object_table.specs.Named.{Named, held, with_object}
+use Rattle.client_model.specs.Refusal.{Outcome, unless}
+use Rattle.client_model.specs.Operands.{is_unknown, is_of_other_kind, image_of}
+
+-- a create: the next name, for this object
+abbrev pub create : Allowance → Context → ObjectValue → Outcome
+create limits c object = if has_room limits c (object_bytes object) then Ok (Name c.next, Some (with_new c object)) else Err NoResources
+
+-- CreateImage: an image that is 0 everywhere
+abbrev pub create_image : Allowance → Context → Description → Outcome
+create_image limits c d = create limits c (ImageObject (new_image d.width d.height d.format))
+
+-- QueryImage: the format, the size and the valid rectangle
+abbrev pub described : ImageValue → Described
+described image = record { format = Some image.format; width = image.width; height = image.height; valid = image.valid }
+
+-- of a virtual image what was declared, 0 where that is open, and no place
+abbrev pub described_virtual : Outline → Described
+described_virtual declared = record { format = declared.format; width = unwrap_or declared.width 0; height = unwrap_or declared.height 0; valid = empty }
+
+abbrev pub as_described : Option ObjectValue → Result Described Refusal
+as_described (Some (ImageObject image)) = Ok (described image)
+as_described (Some (VirtualObject image)) = Ok (described_virtual image.declared)
+as_described other = Err InvalidValue
+
+abbrev pub described_in : List Named → Cell → Result Described Refusal
+described_in objects cell =
+    if is_unknown objects cell then Err InvalidReference
+    else (if is_of_other_kind objects (cell, kind.Image) then Err InvalidType else as_described (held objects cell))
+
+abbrev pub query_of : Result Described Refusal → Context → Outcome
+query_of (Err refusal) c = Err refusal
+query_of (Ok found) c = Ok (reply.Described found, Some c)
+
+abbrev pub query_image : Context → Cell → Outcome
+query_image c cell = query_of (described_in c.objects cell) c
+
+-- why a picture can't be written to an image: another format, or another size
+abbrev pub picture_refusal : Description → Description → Option Refusal
+picture_refusal image picture =
+    if not (same_format image.format picture.format) then Some InvalidFormat
+    else (if same_size image picture then None else Some InvalidDimension)
+
+-- WriteImage: the picture's samples, all of them valid
+abbrev pub write_to : Result ImageValue Refusal → Context → Cell → PictureValue → Outcome
+write_to (Err refusal) c cell p = Err refusal
+write_to (Ok image) c cell p =
+    unless (picture_refusal (description_of image) p.description) Empty (with_objects c (with_object c.objects cell (ImageObject (pictured p))))
+
+abbrev pub write_image : Context → Cell → PictureValue → Outcome
+write_image c cell p = write_to (image_of c.objects cell) c cell p
+
+-- WriteImagePgm: the picture for which a text stands
+abbrev pub fault_refusal : PgmFault → Refusal
+fault_refusal fault.InvalidDimension = InvalidDimension
+fault_refusal fault.InvalidValue = InvalidValue
+fault_refusal other = InvalidFormat
+
+abbrev pub write_text_to : Result ImageValue Refusal → Context → Cell → Result PictureValue PgmFault → Outcome
+write_text_to (Err refusal) c cell picture = Err refusal
+write_text_to (Ok image) c cell (Err fault) = Err (fault_refusal fault)
+write_text_to (Ok image) c cell (Ok p) = write_to (Ok image) c cell p
+
+abbrev pub write_text : Context → Cell → List ℕ → Outcome
+write_text c cell text = write_text_to (image_of c.objects cell) c cell (reading text)
+
+-- ReadImage: the samples of all places
+abbrev pub read_from : Result ImageValue Refusal → Context → Outcome
+read_from (Err refusal) c = Err refusal
+read_from (Ok image) c = Ok (Picture (picture_of image), Some c)
+
+abbrev pub read_image : Context → Cell → Outcome
+read_image c cell = read_from (image_of c.objects cell) c
+
+-- ReadImagePgm: the same of a U8 image as a PGM text
+abbrev pub read_text_from : Result ImageValue Refusal → Context → Outcome
+read_text_from (Err refusal) c = Err refusal
+read_text_from (Ok image) c = unless (if same_format image.format U8 then None else Some InvalidFormat) (Text (written (picture_of image))) c
+
+abbrev pub read_text : Context → Cell → Outcome
+read_text c cell = read_text_from (image_of c.objects cell) c
+
+-- why a rectangle can't be an image's valid one: it has places beyond the image
+abbrev pub valid_refusal : Description → Rectangle → Option Refusal
+valid_refusal image valid = if nat_le valid.x1 image.width && nat_le valid.y1 image.height then None else Some InvalidValue
+
+-- SetValid: the image with this valid rectangle, 0 outside it
+abbrev pub set_valid_of : Result ImageValue Refusal → Context → Cell → Rectangle → Outcome
+set_valid_of (Err refusal) c cell valid = Err refusal
+set_valid_of (Ok image) c cell valid =
+    unless (valid_refusal (description_of image) valid) Empty (with_objects c (with_object c.objects cell (ImageObject (with_valid valid image))))
+
+abbrev pub set_valid : Context → Cell → Rectangle → Outcome
+set_valid c cell valid = set_valid_of (image_of c.objects cell) c cell valid

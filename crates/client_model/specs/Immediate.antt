@@ -1,0 +1,54 @@
+-- A node that runs by itself, at once. OpenVX 1.3, "Graphs", immediate mode.
+use Rattle.std.specs.Prelude.{Bool, false, if◌then◌else◌, List, Option, Some, None}
+use Rattle.std.specs.List.{list_any}
+use Rattle.std.specs.Option.{option_map, option_and_then, option_or}
+use Rattle.vx_base.specs.declared.node.Node.{Node}
+use Rattle.vx_base.specs.Cell.{Cell}
+use Rattle.vx_base.specs.Node.{operands}
+use Rattle.vx_base.specs.Object.{ObjectValue}
+use Rattle.vx_base.specs.Outputs.{written_by}
+use Rattle.graph_run.specs.Graph.{is_virtual}
+use Rattle.graph_verify.specs.declared.operand.Operand.{Operand}
+use Rattle.graph_verify.specs.declared.operand.Operands.{Operands}
+use Rattle.graph_verify.specs.Operand.{operand_of}
+use Rattle.graph_verify.specs.Verdict.{verdict_on}
+use Rattle.client_model.specs.declared.refusal.Refusal.{Refusal}
+use Rattle.client_model.specs.declared.refusal.Refusal.TheVariants.{Rejected, OptimizedAway}
+use Rattle.client_model.specs.declared.reply.Reply.TheVariants.{Empty}
+use Rattle.client_model.specs.Context.{Context, with_objects}
+use Rattle.object_table.specs.Named.{Named, held, with_written}
+use Rattle.client_model.specs.Refusal.{Outcome, unless}
+use Rattle.client_model.specs.Operands.{operands_refusal}
+
+-- what a cell of a node holds, as an operand
+abbrev pub operand_in : List Named → Cell → Option Operand
+operand_in objects cell = option_map operand_of (held objects cell)
+
+abbrev pub operand_if : List Named → Option Cell → Option Operand
+operand_if objects cell = option_and_then (operand_in objects) cell
+
+-- the operands of a node whose first input there is
+abbrev pub operands_in : List Named → Node → Option Operands
+operands_in objects n =
+    option_map (λ in1. record { in1 = in1; in2 = operand_if objects n.in2; out1 = operand_if objects n.out1; out2 = operand_if objects n.out2 }) (operand_in objects n.in1)
+
+-- whether an object is a virtual image
+abbrev pub is_some_virtual : Option ObjectValue → Bool
+is_some_virtual (Some object) = is_virtual object
+is_some_virtual None = false
+
+-- a node by itself takes no virtual image
+abbrev pub away_refusal : List Named → Node → Option Refusal
+away_refusal objects n =
+    if list_any (λ operand. is_some_virtual (held objects operand.0)) (operands n) then Some OptimizedAway else None
+
+-- the first refusal of its operands, then that of virtual images, and then the verdict on the graph of this node alone
+abbrev pub node_refusal : List Named → Node → Option Refusal
+node_refusal objects n =
+    option_or (operands_refusal None objects (operands n))
+    (option_or (away_refusal objects n)
+    (option_map Rejected (option_and_then (verdict_on n) (operands_in objects n))))
+
+-- Immediate: each output becomes what the node gives
+abbrev pub immediate : Context → Node → Outcome
+immediate c n = unless (node_refusal c.objects n) Empty (with_objects c (with_written c.objects (written_by n (held c.objects))))

@@ -1,0 +1,15 @@
+pub mod Allowance
+pub mod Context
+pub mod Holds
+pub mod Request
+pub mod Refusal
+pub mod Operands
+pub mod Images
+pub mod Objects
+pub mod Statistics
+pub mod Graphs
+pub mod Immediate
+pub mod Delays
+pub mod Answer
+pub mod States
+pub mod Frame

@@ -1,0 +1,11 @@
+-- Requests on objects of any kind.
+use Rattle.std.specs.Prelude.{ℕ, is_none, Some, Ok, Err, if◌then◌else◌}
+use Rattle.client_model.specs.declared.refusal.Refusal.TheVariants.{InvalidReference}
+use Rattle.client_model.specs.declared.reply.Reply.TheVariants.{Empty}
+use Rattle.client_model.specs.Context.{Context, object_named, with_objects}
+use Rattle.client_model.specs.Holds.{still_held, unnamed}
+use Rattle.client_model.specs.Refusal.{Outcome}
+
+-- Release: the name is gone, and no other object takes it; so is what is then no longer held
+abbrev pub release : Context → ℕ → Outcome
+release c name = if is_none (object_named c.objects name) then Err InvalidReference else Ok (Empty, Some (with_objects c (still_held (unnamed c.objects name))))

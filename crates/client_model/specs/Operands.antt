@@ -1,0 +1,70 @@
+-- What references and the operands of nodes name.
+use Rattle.std.specs.Prelude.{ℕ, ◌==◌, Bool, true, false, not, List, Option, Some, None, is_none, Result, Ok, Err, if◌then◌else◌}
+use Rattle.std.specs.List.{list_any}
+use Rattle.std.specs.Option.{option_and_then}
+use Rattle.vx_base.specs.declared.kind.Kind.{Kind}
+use Rattle.vx_base.specs.declared.kind.Kind.TheVariants as kind
+use Rattle.vx_base.specs.Cell.{Cell}
+use Rattle.vx_base.specs.Image.{ImageValue}
+use Rattle.vx_base.specs.Object.{ObjectValue, ImageObject, VirtualObject, same_kind}
+use Rattle.object_table.specs.Delay.{slot_kind}
+use Rattle.object_table.specs.Named.{Named, held}
+use Rattle.client_model.specs.declared.refusal.Refusal.{Refusal}
+use Rattle.client_model.specs.declared.refusal.Refusal.TheVariants.{InvalidReference, InvalidType, InvalidScope, InvalidValue, OptimizedAway}
+use Rattle.client_model.specs.Context.{object_named}
+
+-- whether the cell's name isn't live
+abbrev pub is_unknown : List Named → Cell → Bool
+is_unknown objects cell = is_none (object_named objects cell.name)
+
+-- the kind of what a cell is for: an object's, or an image's where it is a slot of a delay
+abbrev pub kind_of : List Named → Cell → Option Kind
+kind_of objects cell = option_and_then (slot_kind cell.slot) (object_named objects cell.name)
+
+-- whether an object of one kind can stand where another is wanted: a virtual image stands for an image
+abbrev pub stands_for : Kind → Kind → Bool
+stands_for kind.VirtualImage kind.Image = true
+stands_for kind wanted = same_kind wanted kind
+
+abbrev pub is_kind : Kind → Option Kind → Bool
+is_kind wanted None = false
+is_kind wanted (Some kind) = stands_for kind wanted
+
+-- whether a cell is for no object of the kind that is wanted there
+abbrev pub is_of_other_kind : List Named → Cell × Kind → Bool
+is_of_other_kind objects operand = not (is_kind operand.1 (kind_of objects operand.0))
+
+-- whether a cell holds nothing: its name is nobody's, or its slot isn't there
+abbrev pub is_empty : List Named → Cell → Bool
+is_empty objects cell = is_none (held objects cell)
+
+-- whether an object is a virtual image of another graph than this
+abbrev pub is_of_other_graph : ℕ → Option ObjectValue → Bool
+is_of_other_graph graph (Some (VirtualObject image)) = not (image.graph == graph)
+is_of_other_graph graph other = false
+
+-- whether a cell that a node of this graph names is beyond it; a node of no graph has no scope
+abbrev pub is_beyond : Option ℕ → List Named → Cell → Bool
+is_beyond None objects cell = false
+is_beyond (Some graph) objects cell = is_of_other_graph graph (held objects cell)
+
+-- the first refusal of cells, each with the kind that is wanted there: all names come before all kinds, these before all scopes, and
+-- these before all slots
+abbrev pub operands_refusal : Option ℕ → List Named → List (Cell × Kind) → Option Refusal
+operands_refusal scope objects operands =
+    if list_any (λ operand. is_unknown objects operand.0) operands then Some InvalidReference
+    else (if list_any (is_of_other_kind objects) operands then Some InvalidType
+    else (if list_any (λ operand. is_beyond scope objects operand.0) operands then Some InvalidScope
+    else (if list_any (λ operand. is_empty objects operand.0) operands then Some InvalidValue else None)))
+
+-- an image, or the refusal of a slot that isn't there, or of a virtual image
+abbrev pub as_image : Option ObjectValue → Result ImageValue Refusal
+as_image (Some (ImageObject image)) = Ok image
+as_image (Some (VirtualObject image)) = Err OptimizedAway
+as_image other = Err InvalidValue
+
+-- the image that a reference names, or why it names none
+abbrev pub image_of : List Named → Cell → Result ImageValue Refusal
+image_of objects cell =
+    if is_unknown objects cell then Err InvalidReference
+    else (if is_of_other_kind objects (cell, kind.Image) then Err InvalidType else as_image (held objects cell))

@@ -1,0 +1,54 @@
+-- The states that a client can be in.
+use Rattle.std.specs.Prelude.{ℕ, ◌<◌, ◌≤◌, Bool, not, ◌&&◌, IsTrue, Option, List, [], ◌∷◌, length, map, All}
+use Rattle.std.specs.Option.{option_and_then}
+use Rattle.std.specs.List.Sorted.{IsStrictlyIncreasing}
+use Rattle.vx_base.specs.declared.kind.Kind.{Kind}
+use Rattle.vx_base.specs.declared.node.Node.{Node}
+use Rattle.vx_base.specs.Cell.{Cell}
+use Rattle.vx_base.specs.Graph.{nodes_of}
+use Rattle.vx_base.specs.Node.{operands}
+use Rattle.vx_base.specs.Object.{ObjectValue, GraphObject, IsObject}
+use Rattle.object_table.specs.Delay.{slot_kind}
+use Rattle.object_table.specs.Named.{Named, object_held, held as object_in_cell}
+use Rattle.client_model.specs.declared.request.Request.{Request}
+use Rattle.client_model.specs.Allowance.{Allowance}
+use Rattle.client_model.specs.Context.{Context, State, charge_of}
+use Rattle.client_model.specs.Holds.{is_held}
+use Rattle.client_model.specs.Operands.{is_kind, is_empty, is_of_other_graph}
+use Rattle.client_model.specs.Answer.{answer_to}
+
+-- the kind of what a cell that a node names is for
+abbrev pub kind_held : List Named → Cell → Option Kind
+kind_held objects cell = option_and_then (slot_kind cell.slot) (object_held objects cell.name)
+
+-- whether a cell that a node of this graph names holds what its function has there
+abbrev pub stands : List Named → ℕ → Cell × Kind → Bool
+stands objects graph operand =
+    is_kind operand.1 (kind_held objects operand.0)
+    && (not (is_of_other_graph graph (object_in_cell objects operand.0)) && not (is_empty objects operand.0))
+
+-- the nodes of an object that is a graph
+abbrev pub nodes_in : ObjectValue → List Node
+nodes_in (GraphObject graph) = nodes_of graph
+nodes_in other = []
+
+-- each cell that a node of a graph names holds what its function has there
+abbrev pub NodesStand : List Named → Named → Type 0
+NodesStand objects o = All (λ n. All (λ operand. IsTrue (stands objects o.name operand)) (operands n)) (nodes_in o.object)
+
+-- each object is one, so that each image has samples of its format and 0 outside its rectangle; names are distinct and below the
+-- next; what is held is named or used by a graph, whose nodes find what they name; at most 1,024 objects are held, and their charge
+-- is at most the quota
+pub record KeepsLimits (limits : Allowance) (c : Context) : Type 0 where
+  pub objects : All (λ o. IsObject o.object) c.objects
+  pub names : IsStrictlyIncreasing (map (λ o. o.name) c.objects)
+  pub below : All (λ o. o.name < c.next) c.objects
+  pub held : All (λ o. IsTrue (is_held c.objects o)) c.objects
+  pub nodes : All (NodesStand c.objects) c.objects
+  pub count : length c.objects ≤ 1024
+  pub quota : charge_of c.objects ≤ limits.quota
+
+-- a client's state after these requests of its own
+abbrev pub state_after : Allowance → State → List Request → State
+state_after limits state [] = state
+state_after limits state (request ∷ requests) = state_after limits (answer_to limits state request).1 requests

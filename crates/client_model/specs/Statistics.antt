@@ -1,0 +1,25 @@
+-- Requests on distributions and extremes. OpenVX 1.3, "Object: Distribution" and "Min, Max Location".
+use Rattle.std.specs.Prelude.{ℕ, Option, Some, None, Ok, Err}
+use Rattle.vx_base.specs.Object.{ObjectValue, DistributionObject, ExtremesObject}
+use Rattle.client_model.specs.declared.refusal.Refusal.TheVariants.{InvalidReference, InvalidType}
+use Rattle.client_model.specs.declared.reply.Reply.TheVariants.{Counts, Extremes}
+use Rattle.client_model.specs.Context.{Context, object_named}
+use Rattle.client_model.specs.Refusal.{Outcome}
+
+-- ReadDistribution: how many samples fell into each bin
+abbrev pub counts_of : Context → Option ObjectValue → Outcome
+counts_of c None = Err InvalidReference
+counts_of c (Some (DistributionObject distribution)) = Ok (Counts distribution.counts, Some c)
+counts_of c (Some other) = Err InvalidType
+
+abbrev pub read_distribution : Context → ℕ → Outcome
+read_distribution c name = counts_of c (object_named c.objects name)
+
+-- ReadMinMax: the least and the greatest sample
+abbrev pub extremes_of : Context → Option ObjectValue → Outcome
+extremes_of c None = Err InvalidReference
+extremes_of c (Some (ExtremesObject extremes)) = Ok (Extremes extremes, Some c)
+extremes_of c (Some other) = Err InvalidType
+
+abbrev pub read_min_max : Context → ℕ → Outcome
+read_min_max c name = extremes_of c (object_named c.objects name)

@@ -1,0 +1,63 @@
+//! Requests of clients.
+use crate::text::Text;
+use vx_base::{
+    Bins, Convolution, Desc, Lut, NodeSpec, ObjRef, Outline, Picture, Rect, SlotCount,
+    ThresholdRule,
+};
+
+/// What a client asks for.
+#[derive(Debug, Drop)]
+pub enum Request {
+    /// Opens the client's context.
+    OpenContext,
+    /// Drops the client's context with all of its objects.
+    ReleaseContext,
+    /// Makes an image that is 0 everywhere and wholly valid.
+    CreateImage(Desc),
+    /// Asks for the size, the format and the valid rectangle of an image.
+    QueryImage(ObjRef),
+    /// Writes all samples of an image, which becomes wholly valid.
+    WriteImage(ObjRef, Picture),
+    /// Writes the picture for which a PGM text stands, which is carried unread.
+    WriteImagePgm(ObjRef, Text),
+    /// Asks for all samples of an image.
+    ReadImage(ObjRef),
+    /// Asks for all samples of a U8 image, as a PGM text.
+    ReadImagePgm(ObjRef),
+    /// Makes this the valid rectangle of an image, whose samples outside it become 0.
+    SetValid(ObjRef, Rect),
+    /// Drops the object with this name.
+    Release(u32),
+    /// Makes a lookup table.
+    CreateLut(Lut),
+    /// Makes a threshold.
+    CreateThreshold(ThresholdRule),
+    /// Makes a matrix by which images are convolved.
+    CreateConvolution(Convolution),
+    /// Makes a distribution of these bins, which has counted nothing.
+    CreateDistribution(Bins),
+    /// Asks for the counts of the distribution with this name.
+    ReadDistribution(u32),
+    /// Makes extremes that were found nowhere.
+    CreateMinMax,
+    /// Asks for the extremes with this name.
+    ReadMinMax(u32),
+    /// Makes a graph without nodes.
+    CreateGraph,
+    /// Makes a virtual image of the graph with this name, of this outline.
+    CreateVirtualImage(u32, Outline),
+    /// Adds a node to the graph with this name.
+    AddNode(u32, NodeSpec),
+    /// Removes the node of this number from the graph with this name.
+    RemoveNode(u32, u32),
+    /// Asks for the verdict on the graph with this name.
+    VerifyGraph(u32),
+    /// Runs the graph with this name, if its verdict allows it.
+    ProcessGraph(u32),
+    /// Runs one node at once.
+    Immediate(NodeSpec),
+    /// Makes a delay of new images of the size and format of an image, so many.
+    CreateDelay(ObjRef, SlotCount),
+    /// Ages the delay with this name: each image comes to the next slot, the last to the first.
+    AgeDelay(u32),
+}

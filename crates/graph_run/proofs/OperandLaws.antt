@@ -1,0 +1,305 @@
+-- What cells hold, as operands: as a graph begins to run, and as its nodes write.
+use Rattle.std.proofs.Common.{◌≡◌, ◌≢◌, ℕ, Bool, true, false, List, ◌++◌, map, refl, sym, ap, subst, ◌∙◌, inl, inr, Option, Some, None}
+use Rattle.std.specs.Prelude.{◌&&◌, ◌==◌, not, if◌then◌else◌, option_to_list, slice_get}
+use Rattle.std.specs.Option.{option_map, option_and_then}
+use Rattle.std.specs.List.{list_all, list_any}
+use Rattle.std.proofs.lemmas.List.Sums.{AllPass-from_list_all}
+use Rattle.std.proofs.lemmas.Bool.{cases_Bool, and_parts, or_cases, or_left, or_right, eqb-true}
+use Rattle.vx_base.specs.declared.format.Format.{Format}
+use Rattle.vx_base.specs.declared.function.Function.{Function}
+use Rattle.vx_base.specs.declared.function.Function.TheVariants.{NotBits, Histogram, MinMaxLoc}
+use Rattle.vx_base.specs.declared.kind.Kind.{Kind}
+use Rattle.vx_base.specs.declared.kind.Kind.TheVariants as kind
+use Rattle.vx_base.specs.declared.node.Node.{Node}
+use Rattle.vx_base.specs.declared.output.Output.{Output}
+use Rattle.vx_base.specs.declared.virtual_image.VirtualImage.{VirtualImage}
+use Rattle.vx_base.specs.Cell.{Cell}
+use Rattle.vx_base.specs.Description.{Description, same_size}
+use Rattle.vx_base.specs.Function.{parameters}
+use Rattle.vx_base.specs.Image.{ImageValue, description_of}
+use Rattle.vx_base.specs.Node.{given, inputs, outputs}
+use Rattle.vx_base.specs.Object.{ObjectValue, ImageObject, DelayObject, VirtualObject, object_kind}
+use Rattle.vx_base.specs.Outline.{Outline, closed}
+use Rattle.vx_base.specs.Outputs.{image_of_one, node_image, node_output, written_by}
+use Rattle.object_table.specs.Delay.{in_slot}
+use Rattle.object_table.specs.Named.{Named, object_held, held, with_written}
+use Rattle.graph_verify.specs.declared.operand.Operand.{Operand}
+use Rattle.graph_verify.specs.declared.operand.Operand.TheVariants.{Image, Virtual}
+use Rattle.graph_verify.specs.declared.operand.Operands.{Operands}
+use Rattle.graph_verify.specs.declared.verdict.Verdict.{Verdict}
+use Rattle.graph_verify.specs.declared.verdict.Verdict.TheVariants.{MultipleWriters, InvalidGraph, InvalidFormat, InvalidDimension}
+use Rattle.graph_verify.specs.Links.{reads, writes, is_written}
+use Rattle.graph_verify.specs.Members.{In}
+use Rattle.graph_verify.specs.Operand.{operand_of, operand_kind, operand_format, are_of_one_size, is_virtual, operands_of, written_operands, other_operands}
+use Rattle.graph_verify.specs.Outlines.{outlines, as_described, as_known, resolved}
+use Rattle.graph_verify.specs.Verdict.{writes_twice, reads_own_output, takes_operands, node_fault, verdict_on, is_loose}
+use Rattle.graph_verify.proofs.LinkLemmas.{In-from_same}
+use Rattle.graph_verify.proofs.MemberLemmas.{In-from_any, any-from_In, fails-from_In, In-map, In-right}
+use Rattle.graph_verify.proofs.NodeVerdictLemmas.{runs_alone, written_described}
+use Rattle.graph_verify.proofs.VerdictLemmas.{CanRun}
+use Rattle.graph_run.specs.Graph.{begun_as, begun}
+use Rattle.graph_run.specs.Operands.{HoldsOperand, names_cell, StandsFor, CellsStand}
+use Rattle.graph_run.specs.Solution.{WritesNo}
+use Rattle.graph_run.proofs.BegunLaws.{begun_under, object_held-begun}
+use Rattle.graph_run.proofs.HeldLaws.{last_to, map-or, seen-with_written}
+use Rattle.graph_run.proofs.LinkLaws.{In-from_All, reads_first}
+use Rattle.graph_run.proofs.NodeLaws.{output_at, output_of, given_in, last_written, AreWrites-written}
+use Rattle.graph_run.proofs.ObjectLaws.{shown}
+
+-- ---- operands of objects
+
+-- in a slot no image is virtual
+image_in_slot : (image : Option ImageValue) (declared : Outline) → option_map operand_of (option_map ImageObject image) ≢ Some (Virtual declared)
+image_in_slot None declared e = cc
+image_in_slot (Some image) declared e = cc
+
+-- a cell that holds a virtual image has no slot
+pub virtual_there : (slot : Option ℕ) (x : ObjectValue) (declared : Outline) → option_map operand_of (in_slot slot x) ≡ Some (Virtual declared)
+    → ◌≡◌ {A = Option ℕ} slot None × (v : VirtualImage) × (x ≡ VirtualObject v)
+virtual_there None (VirtualObject v) declared e = (refl, v, refl)
+virtual_there None x declared e = absurd (cc e)
+virtual_there (Some k) (DelayObject images) declared e = absurd (image_in_slot (slice_get images k) declared e)
+virtual_there (Some k) x declared e = absurd (cc e)
+
+-- what isn't virtual begins as it was
+real_begins : (slot : Option ℕ) (x : ObjectValue) (operand found : Operand) → option_map operand_of (in_slot slot x) ≡ Some operand → is_virtual operand ≡ false → in_slot slot (begun_as x found) ≡ in_slot slot x
+real_begins None (VirtualObject v) operand found e real =
+    let same : Virtual v.declared ≡ operand = cc in
+    let never : true ≡ false = ap is_virtual same ∙ real in
+    absurd (cc never)
+real_begins (Some k) (VirtualObject v) operand found e real = absurd (cc e)
+real_begins slot x operand found e real = refl
+
+pub outline_of_virtual : (operand : Operand) → is_virtual operand ≡ true → (declared : Outline) × (operand ≡ Virtual declared)
+outline_of_virtual (Virtual declared) h = (declared, refl)
+outline_of_virtual operand h = absurd (cc h)
+
+-- what isn't virtual is what it was found to be
+pub known_kept : (operand : Operand) (known : Outline) → is_virtual operand ≡ false → as_known operand known ≡ operand
+known_kept (Virtual declared) known h = absurd (cc h)
+known_kept operand known h = refl
+
+-- ---- a node's outputs as operands
+
+pub written_operand : (is : Cell → Operand) (n : Node) (c : Cell) → writes n c ≡ true → In (is c) (written_operands (operands_of is n))
+written_operand is n c w = subst (λ l. In (is c) l) (each n.out1 n.out2) (In-map is c (outputs n) (In-from_same c (outputs n) w))
+  where
+    each : (a b : Option Cell) → map is (given a ++ given b) ≡ (option_to_list (option_map is a) ++ option_to_list (option_map is b))
+    each None None = refl
+    each None (Some d) = refl
+    each (Some d) None = refl
+    each (Some d) (Some e) = refl
+
+pub no_fault : (n : Node) (is : Cell → Operand) → verdict_on n (operands_of is n) ≡ None → node_fault n.function (operands_of is n) ≡ None
+no_fault n is h = last (writes_twice n) (reads_own_output n) (node_fault n.function (operands_of is n)) h
+  where
+    last : (twice own : Bool) (fault : Option Verdict) → (if twice then Some MultipleWriters else (if own then Some InvalidGraph else fault)) ≡ None → fault ≡ None
+    last true own fault e = absurd (cc e)
+    last false true fault e = absurd (cc e)
+    last false false fault e = e
+
+-- ---- as a graph begins to run
+
+module _ (work : ℕ) (is : Cell → Operand) (nodes : List Node) (can : CanRun work is nodes) where
+  abbrev known : Cell → Operand
+  known = resolved is nodes
+
+  -- a virtual image that is written is described
+  written_virtual : (n : Node) (c : Cell) (declared : Outline) → In n nodes → writes n c ≡ true → (parameters n.function).output ≡ kind.Image → is c ≡ Virtual declared
+      → (d : Description) × (known c ≡ Image d)
+  written_virtual n c declared i w image e =
+      let outline : Outline = outlines is nodes c in
+      described outline (closed outline) (ap (λ o. as_known o outline) e)
+    where
+      described : (outline : Outline) (o : Option Description) → known c ≡ as_described outline o → (d : Description) × (known c ≡ Image d)
+      described outline (Some d) k = (d, k)
+      described outline None k =
+          absurd (written_described n.function (operands_of known n) image (no_fault n known (runs_alone work is nodes n can i)) (known c) (written_operand known n c w) (ap operand_format k))
+
+  -- a virtual image that is read is written
+  pub virtual_written : (n : Node) (c : Cell) → In n nodes → names_cell n c ≡ true → is_virtual (is c) ≡ true → is_written nodes c ≡ true
+  virtual_written n c i named v = elim (or_cases (reads n c) (writes n c) named) [
+    | inl r ↦ tight (is_written nodes c) (ap (λ b. b && not (is_written nodes c)) (sym v) ∙ fails-from_In (is_loose is nodes) c (inputs n) (fails-from_In (λ m. list_any (is_loose is nodes) (inputs m)) n nodes can.no_loose_end i) (In-from_same c (inputs n) r))
+    | inr w ↦ any-from_In (λ m. writes m c) n nodes i w
+  ]
+    where
+      tight : (b : Bool) → (true && not b) ≡ false → b ≡ true
+      tight true e = refl
+      tight false e = absurd (cc e)
+
+  -- an image stands for a virtual one that is written
+  virtual_begins : (c : Cell) (x : ObjectValue) (v : VirtualImage) (d : Description) → ◌≡◌ {A = Option ℕ} c.slot None → x ≡ VirtualObject v → is_written nodes c ≡ true → known c ≡ Image d
+      → option_map operand_of (in_slot c.slot (begun_under known nodes c.name x)) ≡ Some (known c)
+  virtual_begins c x v d none same w k =
+      let whole : c ≡ record { name = c.name; slot = None } = ap (λ (s : Option ℕ). let r : Cell = record { name = c.name; slot = s } in r) none in
+      ap (λ (s : Option ℕ). option_map operand_of (in_slot s (begun_under known nodes c.name x))) none
+      ∙ ap (λ y. Some (operand_of (begun_under known nodes c.name y))) same
+      ∙ as_image c.name (ap (is_written nodes) (sym whole) ∙ w) (ap known (sym whole) ∙ k)
+      ∙ ap Some (sym k)
+    where
+      as_image : (name : ℕ) → is_written nodes (record { name = name; slot = None }) ≡ true → known (record { name = name; slot = None }) ≡ Image d
+          → Some (operand_of (begun_under known nodes name (VirtualObject v))) ≡ Some (Image d)
+      as_image name e f =
+          ap (λ b. Some (operand_of (if b then begun_as (VirtualObject v) (known (record { name = name; slot = None })) else VirtualObject v))) e
+          ∙ ap (λ o. Some (operand_of (begun_as (VirtualObject v) o))) f
+
+  real_stays : (c : Cell) (x : ObjectValue) → option_map operand_of (in_slot c.slot x) ≡ Some (is c) → is_virtual (is c) ≡ false → in_slot c.slot (begun_under known nodes c.name x) ≡ in_slot c.slot x
+  real_stays c x e real = either (is_written nodes (record { name = c.name; slot = None }))
+    where
+      either : (b : Bool) → in_slot c.slot (if b then begun_as x (known (record { name = c.name; slot = None })) else x) ≡ in_slot c.slot x
+      either true = real_begins c.slot x (is c) (known (record { name = c.name; slot = None })) e real
+      either false = refl
+
+  module _ (objects : List Named) (stand : CellsStand is nodes objects) where
+    abbrev begin : List Named
+    begin = map (begun known nodes) objects
+
+    image_written : (n : Node) (c : Cell) (declared : Outline) → In n nodes → writes n c ≡ true → is c ≡ Virtual declared → (parameters n.function).output ≡ kind.Image
+    image_written n c declared i w e = subst (λ o. StandsFor o (parameters n.function).output) e (stand.kinds n c i w)
+
+    -- each cell is then what it was found to be
+    holds_known : (n : Node) (c : Cell) → In n nodes → names_cell n c ≡ true → HoldsOperand begin c (known c)
+    holds_known n c i named =
+        ap (λ o. option_map operand_of (option_and_then (in_slot c.slot) o)) (object_held-begun known nodes objects c.name)
+        ∙ each (object_held objects c.name) (stand.found n c i named)
+      where
+        each : (o : Option ObjectValue) → option_map operand_of (option_and_then (in_slot c.slot) o) ≡ Some (is c)
+            → option_map operand_of (option_and_then (in_slot c.slot) (option_map (begun_under known nodes c.name) o)) ≡ Some (known c)
+        each None e = absurd (cc e)
+        each (Some x) e = elim (cases_Bool (is_virtual (is c))) [
+          | inl v ↦
+              (let outline = outline_of_virtual (is c) v in
+              let there = virtual_there c.slot x outline.0 (e ∙ ap Some outline.1) in
+              let w = virtual_written n c i named v in
+              let writer = In-from_any (λ m. writes m c) nodes w in
+              let image = written_virtual writer.0 c outline.0 writer.1 writer.2 (image_written writer.0 c outline.0 writer.1 writer.2 outline.1) outline.1 in
+              virtual_begins c x there.1 image.0 there.0 there.2 w image.1)
+          | inr real ↦ ap (option_map operand_of) (real_stays c x e real) ∙ e ∙ ap Some (sym (known_kept (is c) (outlines is nodes c) real))
+        ]
+
+    pub begun_stands : CellsStand known nodes begin
+    begun_stands = record {
+      found = holds_known;
+      kinds = (λ n c i w. elim (cases_Bool (is_virtual (is c))) [
+        | inl v ↦
+            (let outline = outline_of_virtual (is c) v in
+            let output = image_written n c outline.0 i w outline.1 in
+            let image = written_virtual n c outline.0 i w output outline.1 in
+            subst (λ o. StandsFor o (parameters n.function).output) (sym image.1) (sym output))
+        | inr real ↦ subst (λ o. StandsFor o (parameters n.function).output) (sym (known_kept (is c) (outlines is nodes c) real)) (stand.kinds n c i w)
+      ]);
+    }
+
+-- ---- as nodes write
+
+kind-operand : (x : ObjectValue) → operand_kind (operand_of x) ≡ object_kind x
+kind-operand (ImageObject image) = refl
+kind-operand x = refl
+
+no_delay_written : (function : Function) → (parameters function).output ≢ kind.Delay
+no_delay_written Histogram e = cc
+no_delay_written MinMaxLoc e = cc
+no_delay_written function e = cc
+
+-- no function writes a delay
+pub no_delay : (is : Cell → Operand) (nodes : List Node) (objects : List Named) → CellsStand is nodes objects → WritesNo kind.Delay nodes objects
+no_delay is nodes objects stand c w e =
+    let writer = In-from_any (λ m. writes m c) nodes w in
+    each (held objects c) (is c) (stand.found writer.0 c writer.1 (or_right (reads writer.0 c) (writes writer.0 c) writer.2)) (stand.kinds writer.0 c writer.1 writer.2) e
+  where
+    of_kind : (x : ObjectValue) (wanted : Kind) → StandsFor (operand_of x) wanted → object_kind x ≡ kind.Delay → wanted ≡ kind.Delay
+    of_kind (DelayObject images) wanted s k = sym s
+    of_kind x wanted s k = absurd (cc k)
+
+    each : (o : Option ObjectValue) (operand : Operand) → option_map operand_of o ≡ Some operand → StandsFor operand (parameters (In-from_any (λ m. writes m c) nodes w).0.function).output → option_map object_kind o ≡ Some kind.Delay → ⊥
+    each None operand f s k = cc
+    each (Some x) operand f s k =
+        let same : operand_of x ≡ operand = cc in
+        let delay : object_kind x ≡ kind.Delay = cc in
+        let output = (parameters (In-from_any (λ m. writes m c) nodes w).0.function).output in
+        no_delay_written (In-from_any (λ m. writes m c) nodes w).0.function (of_kind x output (subst (λ z. StandsFor z output) (sym same) s) delay)
+
+-- what a node gives is of its first input's size, and of the format that is asked for
+described_one : (function : Function) (n : Node) (output : Output) (format : Format) (a : ImageValue) → description_of (image_of_one function n output format a) ≡ record { width = a.width; height = a.height; format = format }
+described_one NotBits n output format a = refl
+described_one function n output format a = refl
+
+pub described_node : (n : Node) (output : Output) (format : Format) (a : ImageValue) (second : Option ObjectValue) → description_of (node_image n output format a second) ≡ record { width = a.width; height = a.height; format = format }
+described_node n output format a None = described_one n.function n output format a
+described_node n output format a (Some (ImageObject b)) = refl
+described_node n output format a (Some second) = refl
+
+one_description : (a out : ImageValue) → same_size (description_of a) (description_of out) ≡ true → ◌≡◌ {A = Description} (record { width = a.width; height = a.height; format = out.format }) (description_of out)
+one_description a out same =
+    let sides = and_parts (a.width == out.width) (a.height == out.height) same in
+    ap (λ width. let d : Description = record { width = width; height = a.height; format = out.format } in d) (eqb-true a.width out.width sides.0)
+    ∙ ap (λ height. let d : Description = record { width = out.width; height = height; format = out.format } in d) (eqb-true a.height out.height sides.1)
+
+-- an output of the first input's size stays the operand that it is
+output_kept : (n : Node) (output : Output) (first : ObjectValue) (second : Option ObjectValue) (out : ObjectValue) → are_of_one_size (operand_of first) (operand_of out) ≡ true
+    → operand_of (node_output n output first second out) ≡ operand_of out
+output_kept n output (ImageObject a) second (ImageObject out) same = ap Image (described_node n output out.format a second ∙ one_description a out same)
+output_kept n output (ImageObject a) second out same = refl
+output_kept n output first second out same = refl
+
+given_kept : (n : Node) (output : Output) (first second out : Option ObjectValue) → ((x y : ObjectValue) → first ≡ Some x → out ≡ Some y → are_of_one_size (operand_of x) (operand_of y) ≡ true)
+    → option_map operand_of (output_of n output first second out) ≡ option_map operand_of out
+given_kept n output (Some x) second (Some y) h = ap Some (output_kept n output x second y (h x y refl refl))
+given_kept n output None second out h = refl
+given_kept n output (Some x) second None h = refl
+
+operand-shown : (o : Option ObjectValue) → option_map operand_of (option_map shown o) ≡ option_map operand_of o
+operand-shown None = refl
+operand-shown (Some (DelayObject images)) = refl
+operand-shown (Some x) = refl
+
+-- what a node writes is of its first input's size
+one_size : (n : Node) (is : Cell → Operand) (c : Cell) → node_fault n.function (operands_of is n) ≡ None → writes n c ≡ true → are_of_one_size (is n.in1) (is c) ≡ true
+one_size n is c none w =
+    let o : Operands = operands_of is n in
+    In-from_All (λ z. are_of_one_size (is n.in1) z ≡ true) (other_operands o)
+    (AllPass-from_list_all (are_of_one_size (is n.in1)) (other_operands o) (sizes (takes_operands n.function o) (list_all (are_of_one_size (is n.in1)) (other_operands o)) none)) (is c)
+    (In-right (is c) (option_to_list o.in2) (written_operands o) (written_operand is n c w))
+  where
+    sizes : (takes same : Bool) → (if not takes then Some InvalidFormat else (if same then None else Some InvalidDimension)) ≡ None → same ≡ true
+    sizes true true e = refl
+    sizes true false e = absurd (cc e)
+    sizes false same e = absurd (cc e)
+
+operand_is : (o : Option ObjectValue) (x : ObjectValue) (operand : Operand) → option_map operand_of o ≡ Some operand → o ≡ Some x → operand_of x ≡ operand
+operand_is None x operand f e = absurd (cc e)
+operand_is (Some y) x operand f e =
+    let same : y ≡ x = cc in
+    let is : operand_of y ≡ operand = cc in
+    ap operand_of (sym same) ∙ is
+
+module _ (is : Cell → Operand) (nodes : List Node) (objects : List Named) (stand : CellsStand is nodes objects) (n : Node) (i : In n nodes) (none : node_fault n.function (operands_of is n) ≡ None) where
+  gives_alike : (c : Cell) → writes n c ≡ true → option_map operand_of (given_in n (held objects) c) ≡ option_map operand_of (held objects c)
+  gives_alike c w =
+      given_kept n (output_at n c) (held objects n.in1) (option_and_then (held objects) n.in2) (held objects c)
+      (λ x y e f.
+      ap (λ z. are_of_one_size z (operand_of y)) (operand_is (held objects n.in1) x (is n.in1) (stand.found n n.in1 i (or_left (reads n n.in1) (writes n n.in1) (reads_first n))) e)
+      ∙ ap (are_of_one_size (is n.in1)) (operand_is (held objects c) y (is c) (stand.found n c i (or_right (reads n c) (writes n c) w)) f)
+      ∙ one_size n is c none w)
+
+  given_or_kept : (c : Cell) (b : Bool) → writes n c ≡ b → option_map operand_of (if b then given_in n (held objects) c else held objects c) ≡ option_map operand_of (held objects c)
+  given_or_kept c true w = gives_alike c w
+  given_or_kept c false w = refl
+
+  seen_after : (c : Cell) → option_map shown (held (with_written objects (written_by n (held objects))) c) ≡ option_map shown (if writes n c then given_in n (held objects) c else held objects c)
+  seen_after c =
+      seen-with_written (written_by n (held objects)) objects
+      (AreWrites-written objects n (λ d w. no_delay is nodes objects stand d (any-from_In (λ m. writes m d) n nodes i w))) c
+      ∙ sym (map-or shown (last_to c (written_by n (held objects))) (held objects c))
+      ∙ ap (option_map shown) (last_written n (held objects) c)
+
+  -- no cell becomes another operand
+  pub operand_after : (c : Cell) → option_map operand_of (held (with_written objects (written_by n (held objects))) c) ≡ option_map operand_of (held objects c)
+  operand_after c =
+      sym (operand-shown (held (with_written objects (written_by n (held objects))) c))
+      ∙ ap (option_map operand_of) (seen_after c)
+      ∙ operand-shown (if writes n c then given_in n (held objects) c else held objects c)
+      ∙ given_or_kept c (writes n c) refl
+
+  pub stands_after : CellsStand is nodes (with_written objects (written_by n (held objects)))
+  stands_after = record { found = (λ m c j named. operand_after c ∙ stand.found m c j named); kinds = stand.kinds }

@@ -1,0 +1,50 @@
+-- Each node of a graph that can run finds, at its turn, what its cells were found to be.
+use Rattle.std.proofs.Common.{◌≡◌, ◌<◌, ℕ, List, [], ◌∷◌, map, sym, ap, subst, inl, inr, refl, None}
+use Rattle.std.specs.List.{AllPairs}
+use Rattle.vx_base.specs.declared.node.Node.{Node}
+use Rattle.vx_base.specs.Cell.{Cell}
+use Rattle.vx_base.specs.Outputs.{written_by}
+use Rattle.object_table.specs.Named.{Named, held, with_written}
+use Rattle.graph_verify.specs.declared.operand.Operand.{Operand}
+use Rattle.graph_verify.specs.Links.{feeds}
+use Rattle.graph_verify.specs.Members.{In, AllIn}
+use Rattle.graph_verify.specs.Operand.{operands_of}
+use Rattle.graph_verify.specs.Order.{IsOrder}
+use Rattle.graph_verify.specs.Outlines.{resolved}
+use Rattle.graph_verify.specs.Verdict.{verdict, verdict_on, node_fault}
+use Rattle.graph_verify.proofs.NodeVerdictLemmas.{runs_alone}
+use Rattle.graph_verify.proofs.VerdictLemmas.{can_run}
+use Rattle.graph_run.specs.Graph.{begun, forgotten, one_by_one, run}
+use Rattle.graph_run.specs.Operands.{CellsStand}
+use Rattle.graph_run.proofs.BegunLaws.{labels-begun}
+use Rattle.graph_run.proofs.NameLaws.{Rising, rising}
+use Rattle.graph_run.proofs.OperandLaws.{no_fault, begun_stands, no_delay, stands_after}
+use Rattle.graph_run.proofs.OrderLaws.{rounds_in_order}
+
+-- nodes that have no fault leave each cell what it was found to be, one after the other
+stand_on : (is : Cell → Operand) (nodes steps : List Node) (objects : List Named) → ((n : Node) → In n nodes → node_fault n.function (operands_of is n) ≡ None) → AllIn steps nodes
+    → CellsStand is nodes objects → CellsStand is nodes (one_by_one steps objects)
+stand_on is nodes [] objects none within stand = stand
+stand_on is nodes (n ∷ steps) objects none within stand =
+    let i = within n (inl refl) in
+    stand_on is nodes steps (with_written objects (written_by n (held objects))) none (λ m j. within m (inr j)) (stands_after is nodes objects stand n i (none n i))
+
+module _ (work : ℕ) (is : Cell → Operand) (nodes : List Node) (runs : verdict work is nodes ≡ None) where
+  pub each_alone : (n : Node) → In n nodes → verdict_on n (operands_of (resolved is nodes) n) ≡ None
+  each_alone n i = runs_alone work is nodes n (can_run work is nodes runs) i
+
+  -- whichever have run
+  pub at_its_turn : (objects : List Named) → CellsStand is nodes objects → (steps : List Node) → AllIn steps nodes → CellsStand (resolved is nodes) nodes (one_by_one steps (map (begun (resolved is nodes) nodes) objects))
+  at_its_turn objects stand steps within =
+      stand_on (resolved is nodes) nodes steps (map (begun (resolved is nodes) nodes) objects) (λ n i. no_fault n (resolved is nodes) (each_alone n i)) within
+      (begun_stands work is nodes (can_run work is nodes runs) objects stand)
+
+  -- a run is the nodes in an order in which they can run, each once
+  pub run_in_order : (objects : List Named) → CellsStand is nodes objects → AllPairs (λ a b. a.name < b.name) objects → (steps : List Node) → IsOrder feeds nodes steps
+      → run (resolved is nodes) nodes objects ≡ forgotten objects (one_by_one steps (map (begun (resolved is nodes) nodes) objects))
+  run_in_order objects stand names steps order =
+      let can = can_run work is nodes runs in
+      let begin : List Named = map (begun (resolved is nodes) nodes) objects in
+      ap (forgotten objects)
+      (rounds_in_order nodes steps begin order can.one_writer (subst (λ z. Rising z) (sym (labels-begun (resolved is nodes) nodes objects)) (rising objects names))
+      (no_delay (resolved is nodes) nodes begin (begun_stands work is nodes can objects stand)))

@@ -1,0 +1,237 @@
+-- What is known of the virtual images that nodes write, node by node.
+use Rattle.std.proofs.Common.{◌≡◌, ℕ, ◌+◌, ◌<◌, ◌≤◌, Bool, true, false, cond, List, [], ◌∷◌, ◌++◌, length, map, take, drop, get_or, IsTrue, refl, sym, ◌∙◌, ap, subst, inl, inr}
+use Rattle.std.specs.Prelude.{◌⊎◌, Option, Some, None, find, unwrap_or, All}
+use Rattle.std.specs.Option.{option_map}
+use Rattle.std.specs.List.{filter, flat_map}
+use Rattle.std.proofs.lemmas.Bool.{cases_Bool, false_from_ne_true}
+use Rattle.std.proofs.lemmas.List.{map-append, append-nil, drop_more, take_more, take_all, take-append-drop}
+use Rattle.std.proofs.lemmas.List.Elements.{filter-append}
+use Rattle.std.proofs.lemmas.Grind.{flat_map-append}
+use Rattle.vx_base.specs.declared.node.Node.{Node}
+use Rattle.vx_base.specs.Cell.{Cell, same_cell}
+use Rattle.vx_base.specs.Node.{given, inputs, outputs}
+use Rattle.vx_base.specs.Outline.{Outline, filled}
+use Rattle.graph_verify.specs.declared.known.Known.{Known}
+use Rattle.graph_verify.specs.declared.linked.Linked.{Linked}
+use Rattle.graph_verify.specs.declared.operand.Operand.{Operand}
+use Rattle.graph_verify.specs.declared.operand.Operand.TheVariants.{Image, Lut, Threshold, Delay, Convolution, Distribution, Extremes, Graph, Virtual}
+use Rattle.graph_verify.specs.declared.operand.Operands.{Operands}
+use Rattle.graph_verify.specs.Members.{In}
+use Rattle.graph_verify.specs.Known.{known_of, known_outline, learnt, learnt_from, known_operand, known_given, known_operands, AreKnown}
+use Rattle.graph_verify.specs.Linked.{linked_nodes, AreOperands}
+use Rattle.graph_verify.specs.Links.{writes, feeds}
+use Rattle.graph_verify.specs.Operand.{is_virtual, is_image, operands_of}
+use Rattle.graph_verify.specs.Order.{InTurn}
+use Rattle.graph_verify.specs.Outlines.{operand_outline, given_outline, written_outline, outlines, as_known, resolved}
+use Rattle.graph_verify.specs.Rounds.{IsSolution}
+use Rattle.graph_verify.specs.Verdict.{two_writers, virtual_outputs}
+use Rattle.graph_verify.proofs.LinkLemmas.{same_cell-true, same_cell-is, In-outputs, feeds_is, same-from_In}
+use Rattle.graph_verify.proofs.MemberLemmas.{In-left, In-right, In-append, In-from_map, In-filter, In-at, Contains-from_In}
+use Rattle.graph_verify.proofs.OutlineLemmas.{outlines_solve, no_cycle_in_steps, image_outline}
+
+-- what `find` finds, and where it finds none
+pub find_cases : {X : Type 0} (p : X → Bool) (xs : List X) → ((x : X) × (find p xs ≡ Some x) × In x xs × (p x ≡ true)) ⊎ ((find p xs ≡ None) × ((x : X) → In x xs → p x ≡ false))
+find_cases p [] = inr (refl, λ x i. absurd i)
+find_cases p (x ∷ xs) = elim (cases_Bool (p x)) [
+  | inl k ↦ inl (x, rw k refl, inl refl, k)
+  | inr k ↦ elim (find_cases p xs) [
+    | inl found ↦ inl (found.0, rw k found.1, inr found.2, found.3)
+    | inr none ↦ inr (rw k none.0, λ y i. elim i [ inl same ↦ ap p same ∙ k | inr j ↦ none.1 y j ])
+  ]
+]
+
+module _ (is : Cell → Operand) where
+  -- what is known of the nodes that are done, by the outlines of all
+  pub record AreLearnt (all done : List Node) (known : List Known) : Type 0 where
+    pub cells : map (λ k. k.cell) known ≡ virtual_outputs is done
+    pub each : (k : Known) → In k known → k.outline ≡ outlines is all k.cell
+
+  abbrev Solves : List Node → Type 0
+  Solves all = IsSolution writes (written_outline is) all (λ c. operand_outline (is c)) (outlines is all)
+
+  virtual_written : (n : Node) (done : List Node) (c : Cell) → In n done → writes n c ≡ true → is_virtual (is c) ≡ true → In c (virtual_outputs is done)
+  virtual_written n done c i w virtual = In-filter (λ d. is_virtual (is d)) c (flat_map outputs done) (In-outputs n c done i w) virtual
+
+  -- what is known of a cell is what is to be known, where the nodes that write it are done
+  virtual_known : (all done : List Node) (known : List Known) → Solves all → AreLearnt all done known → (c : Cell) (declared : Outline) → is c ≡ Virtual declared
+      → ((n : Node) → In n all → writes n c ≡ true → In n done) → unwrap_or (known_of known c) declared ≡ outlines is all c
+  virtual_known all done known solves h c declared virtual writers_done = elim (find_cases (λ k. same_cell k.cell c) known) [
+    | inl found ↦ (
+        let same : found.0.cell ≡ c = same_cell-true found.0.cell c found.3 in
+        ap (λ (o : Option Known). unwrap_or (option_map (λ (k : Known). k.outline) o) declared) found.1 ∙ h.each found.0 found.2 ∙ ap (outlines is all) same)
+    | inr none ↦ (
+        let unwritten : (n : Node) → In n all → writes n c ≡ false = λ n i. false_from_ne_true (writes n c) (λ w.
+        let stands = virtual_written n done c (writers_done n i w) w (ap is_virtual virtual) in
+        let learnt_of = In-from_map (λ (k : Known). k.cell) c known (subst (λ l. In c l) (sym h.cells) stands) in
+        let differs = none.1 learnt_of.0 learnt_of.1 in
+        let equal = same_cell-is learnt_of.0.cell c (sym learnt_of.2) in cc) in
+        ap (λ (o : Option Known). unwrap_or (option_map (λ (k : Known). k.outline) o) declared) none.0 ∙ sym (ap operand_outline virtual) ∙ sym (solves.others c unwritten))
+  ]
+
+  outline_known : (all done : List Node) (known : List Known) → Solves all → AreLearnt all done known → (c : Cell) (o : Operand) → is c ≡ o → IsTrue (is_image o)
+      → ((n : Node) → In n all → writes n c ≡ true → In n done) → known_outline known c o ≡ outlines is all c
+  outline_known all done known solves h c (Image d) e image writers_done = sym (image_outline is all c d e)
+  outline_known all done known solves h c (Virtual declared) e image writers_done = virtual_known all done known solves h c declared e writers_done
+  outline_known all done known solves h c (Lut f) e image writers_done = absurd (cc image)
+  outline_known all done known solves h c (Threshold f) e image writers_done = absurd (cc image)
+  outline_known all done known solves h c Delay e image writers_done = absurd (cc image)
+  outline_known all done known solves h c Convolution e image writers_done = absurd (cc image)
+  outline_known all done known solves h c Distribution e image writers_done = absurd (cc image)
+  outline_known all done known solves h c Extremes e image writers_done = absurd (cc image)
+  outline_known all done known solves h c Graph e image writers_done = absurd (cc image)
+
+  -- ---- one more node
+
+  learnt_cells : (cell : Option Cell) (given_to : Outline) → map (λ (k : Known). k.cell) (learnt cell (option_map is cell) given_to) ≡ filter (λ c. is_virtual (is c)) (given cell)
+  learnt_cells None given_to = refl
+  learnt_cells (Some c) given_to = by (is c) refl
+    where
+      by : (o : Operand) → is c ≡ o → map (λ (k : Known). k.cell) (learnt (Some c) (Some o) given_to) ≡ cond (is_virtual o) (c ∷ []) []
+      by (Image d) e = refl
+      by (Virtual declared) e = refl
+      by (Lut f) e = refl
+      by (Threshold f) e = refl
+      by Delay e = refl
+      by Convolution e = refl
+      by Distribution e = refl
+      by Extremes e = refl
+      by Graph e = refl
+
+  learnt_each : (cell : Option Cell) (given_to : Outline) (k : Known) → In k (learnt cell (option_map is cell) given_to) → In k.cell (given cell) × (k.outline ≡ filled (operand_outline (is k.cell)) given_to)
+  learnt_each None given_to k i = absurd i
+  learnt_each (Some c) given_to k i = by (is c) refl i
+    where
+      by : (o : Operand) → is c ≡ o → In k (learnt (Some c) (Some o) given_to) → In k.cell (c ∷ []) × (k.outline ≡ filled (operand_outline (is k.cell)) given_to)
+      by (Virtual declared) e i = elim i [
+        | inl same ↦ (let cell : k.cell ≡ c = ap (λ (j : Known). j.cell) same in
+            (inl cell, ap (λ (j : Known). j.outline) same ∙ ap (λ o. filled (operand_outline o) given_to) (sym e ∙ ap is (sym cell))))
+        | inr none ↦ absurd none
+      ]
+      by (Image d) e i = absurd i
+      by (Lut f) e i = absurd i
+      by (Threshold f) e i = absurd i
+      by Delay e i = absurd i
+      by Convolution e i = absurd i
+      by Distribution e i = absurd i
+      by Extremes e i = absurd i
+      by Graph e i = absurd i
+
+  InTurn-at : (done : List Node) (n : Node) (rest : List Node) → InTurn feeds (done ++ n ∷ rest) → (m : Node) → In m (n ∷ rest) → feeds m n ≡ false
+  InTurn-at [] n rest turn = turn.0
+  InTurn-at (d ∷ done) n rest turn = InTurn-at done n rest turn.1
+
+  virtual_outputs-push : (done : List Node) (n : Node) → virtual_outputs is (done ++ n ∷ []) ≡ virtual_outputs is done ++ (filter (λ c. is_virtual (is c)) (given n.out1) ++ filter (λ c. is_virtual (is c)) (given n.out2))
+  virtual_outputs-push done n =
+      let virtual : Cell → Bool = λ c. is_virtual (is c) in
+      ap (filter virtual) (flat_map-append outputs done (n ∷ []))
+      ∙ filter-append virtual (flat_map outputs done) (outputs n ++ [])
+      ∙ ap (λ l. virtual_outputs is done ++ filter virtual l) (append-nil (outputs n))
+      ∙ ap (λ l. virtual_outputs is done ++ l) (filter-append virtual (given n.out1) (given n.out2))
+
+  pub learn_more : (done rest : List Node) (l : Linked) (known known' : List Known) → two_writers (done ++ l.node ∷ rest) ≡ false → InTurn feeds (done ++ l.node ∷ rest)
+      → l.operands ≡ operands_of is l.node → IsTrue (is_image l.operands.in1) → AreLearnt (done ++ l.node ∷ rest) done known → known' ≡ known ++ learnt_from known l
+      → AreLearnt (done ++ l.node ∷ rest) (done ++ l.node ∷ []) known'
+  learn_more done rest l known known' one turn operands image h is_known' =
+      let n = l.node in
+      let all = done ++ n ∷ rest in
+      let solves = outlines_solve is all one (no_cycle_in_steps is all turn) in
+      let in1 : l.operands.in1 ≡ is n.in1 = ap (λ (o : Operands). o.in1) operands in
+      let writers_done : (m : Node) → In m all → writes m n.in1 ≡ true → In m done = λ m i w. elim (In-append m done (n ∷ rest) i) [
+        | inl j ↦ j
+        | inr j ↦ (let fed = feeds_is m n n.in1 w (same-from_In n.in1 (inputs n) (inl refl)) in let unfed = InTurn-at done n rest turn m j in absurd (cc))
+      ] in
+      let first : known_outline known n.in1 l.operands.in1 ≡ outlines is all n.in1 = outline_known all done known solves h n.in1 l.operands.in1 (sym in1) image writers_done in
+      let gives = given_outline n.function (known_outline known n.in1 l.operands.in1) in
+      let out1 : l.operands.out1 ≡ option_map is n.out1 = ap (λ (o : Operands). o.out1) operands in
+      let out2 : l.operands.out2 ≡ option_map is n.out2 = ap (λ (o : Operands). o.out2) operands in
+      let more : learnt_from known l ≡ learnt n.out1 (option_map is n.out1) gives ++ learnt n.out2 (option_map is n.out2) gives =
+      ap (λ o. learnt n.out1 o gives ++ learnt n.out2 l.operands.out2 gives) out1 ∙ ap (λ o. learnt n.out1 (option_map is n.out1) gives ++ learnt n.out2 o gives) out2 in
+      let is_new : known' ≡ known ++ (learnt n.out1 (option_map is n.out1) gives ++ learnt n.out2 (option_map is n.out2) gives) = is_known' ∙ ap (λ k. known ++ k) more in
+      let written : (k : Known) → In k.cell (outputs n) → k.outline ≡ filled (operand_outline (is k.cell)) gives → k.outline ≡ outlines is all k.cell = λ k i e.
+      e ∙ ap (λ o. filled (operand_outline (is k.cell)) (given_outline n.function o)) first ∙ sym (solves.written n k.cell (In-right n done (n ∷ rest) (inl refl)) (same-from_In k.cell (outputs n) i)) in
+      record {
+        cells =
+            ap (map (λ (k : Known). k.cell)) is_new
+            ∙ map-append (λ (k : Known). k.cell) known (learnt n.out1 (option_map is n.out1) gives ++ learnt n.out2 (option_map is n.out2) gives)
+            ∙ ap (λ c. c ++ map (λ (k : Known). k.cell) (learnt n.out1 (option_map is n.out1) gives ++ learnt n.out2 (option_map is n.out2) gives)) h.cells
+            ∙ ap (λ c. virtual_outputs is done ++ c) (map-append (λ (k : Known). k.cell) (learnt n.out1 (option_map is n.out1) gives) (learnt n.out2 (option_map is n.out2) gives))
+            ∙ ap (λ c. virtual_outputs is done ++ (c ++ map (λ (k : Known). k.cell) (learnt n.out2 (option_map is n.out2) gives))) (learnt_cells n.out1 gives)
+            ∙ ap (λ c. virtual_outputs is done ++ (filter (λ d. is_virtual (is d)) (given n.out1) ++ c)) (learnt_cells n.out2 gives)
+            ∙ sym (virtual_outputs-push done n);
+        each = (λ k i. elim (In-append k known (learnt n.out1 (option_map is n.out1) gives ++ learnt n.out2 (option_map is n.out2) gives) (subst (λ l. In k l) is_new i)) [
+          | inl j ↦ h.each k j
+          | inr j ↦ elim (In-append k (learnt n.out1 (option_map is n.out1) gives) (learnt n.out2 (option_map is n.out2) gives) j) [
+            | inl j1 ↦ (let r = learnt_each n.out1 gives k j1 in written k (In-left k.cell (given n.out1) (given n.out2) r.0) r.1)
+            | inr j2 ↦ (let r = learnt_each n.out2 gives k j2 in written k (In-right k.cell (given n.out1) (given n.out2) r.0) r.1)
+          ]
+        ]);
+      }
+
+  pub learn_none : (all : List Node) → AreLearnt all [] []
+  learn_none all = record { cells = refl; each = (λ k i. absurd i) }
+
+  -- one more of the steps
+  pub learn_next : (steps : List Linked) (i : ℕ) (l : Linked) (known known' : List Known) → i < length steps → l ≡ get_or steps i l → two_writers (linked_nodes steps) ≡ false
+      → InTurn feeds (linked_nodes steps) → All (λ k. IsTrue (is_image k.operands.in1)) steps → AreOperands is steps → AreLearnt (linked_nodes steps) (linked_nodes (take i steps)) known
+      → known' ≡ known ++ learnt_from known l → AreLearnt (linked_nodes steps) (linked_nodes (take (i + 1) steps)) known'
+  learn_next steps i l known known' within read one turn images operands h is_known' =
+      let done = linked_nodes (take i steps) in
+      let rest = linked_nodes (drop (i + 1) steps) in
+      let at_l : drop i steps ≡ l ∷ drop (i + 1) steps = drop_more steps i l within ∙ ap (λ (k : Linked). k ∷ drop (i + 1) steps) (sym read) in
+      let split : linked_nodes steps ≡ done ++ l.node ∷ rest =
+      ap linked_nodes (sym (take-append-drop i steps))
+      ∙ map-append (λ (k : Linked). k.node) (take i steps) (drop i steps)
+      ∙ ap (λ k. done ++ linked_nodes k) at_l in
+      let next : linked_nodes (take (i + 1) steps) ≡ done ++ l.node ∷ [] =
+      ap linked_nodes (take_more steps i l within ∙ ap (λ (k : Linked). take i steps ++ k ∷ []) (sym read))
+      ∙ map-append (λ (k : Linked). k.node) (take i steps) (l ∷ []) in
+      let of_l : l.operands ≡ operands_of is l.node = subst (λ (k : Linked). k.operands ≡ operands_of is k.node) (sym read) (operands i l within) in
+      let image : IsTrue (is_image l.operands.in1) = subst (λ (k : Linked). IsTrue (is_image k.operands.in1)) (sym read) (images i l within) in
+      let learnt_here = learn_more done rest l known known' (ap two_writers (sym split) ∙ one) (subst (InTurn feeds) split turn) of_l image (subst (λ all. AreLearnt all done known) split h) is_known' in
+      subst (λ all. AreLearnt all (linked_nodes (take (i + 1) steps)) known') (sym split) (subst (λ now. AreLearnt (done ++ l.node ∷ rest) now known') (sym next) learnt_here)
+
+  -- ---- all nodes are done
+
+  pub operand_known : (all : List Node) (known : List Known) → Solves all → AreLearnt all all known → (c : Cell) → known_operand known c (is c) ≡ resolved is all c
+  operand_known all known solves h c = by (is c) refl
+    where
+      by : (o : Operand) → is c ≡ o → as_known o (known_outline known c o) ≡ as_known o (outlines is all c)
+      by (Virtual declared) e = ap (as_known (Virtual declared)) (outline_known all all known solves h c (Virtual declared) e refl (λ n i w. i))
+      by (Image d) e = refl
+      by (Lut f) e = refl
+      by (Threshold f) e = refl
+      by Delay e = refl
+      by Convolution e = refl
+      by Distribution e = refl
+      by Extremes e = refl
+      by Graph e = refl
+
+  pub all_known : (steps : List Linked) (i : ℕ) (known : List Known) → length steps ≤ i → AreLearnt (linked_nodes steps) (linked_nodes (take i steps)) known → AreKnown is (linked_nodes steps) known
+  all_known steps i known over h =
+      let all : take i steps ≡ steps = take_all i steps over in
+      record {
+        cells = h.cells ∙ ap (λ l. virtual_outputs is (linked_nodes l)) all;
+        each = (λ k d within. h.each (get_or known k d) (In-at known k d within));
+      }
+
+  -- what is known is what was learnt of all nodes
+  pub learnt_from_known : (all : List Node) (known : List Known) → AreKnown is all known → AreLearnt all all known
+  learnt_from_known all known h = record {
+    cells = h.cells;
+    each = (λ k i. let c = Contains-from_In k known i in subst (λ (j : Known). j.outline ≡ outlines is all j.cell) c.2 (h.each c.0 k c.1));
+  }
+
+  -- the operands of a node
+  pub operands_known : (all : List Node) (known : List Known) → Solves all → AreKnown is all known → (l : Linked) → l.operands ≡ operands_of is l.node → known_operands known l ≡ operands_of (resolved is all) l.node
+  operands_known all known solves h l of_l =
+      let n = l.node in
+      let right = operand_known all known solves (learnt_from_known all known h) in
+      ap (λ (o : Operands). known_operands known (record { node = n; operands = o })) of_l
+      ∙ ap (λ o. record { in1 = o; in2 = known_given known n.in2 (option_map is n.in2); out1 = known_given known n.out1 (option_map is n.out1); out2 = known_given known n.out2 (option_map is n.out2) }) (right n.in1)
+      ∙ ap (λ o. record { in1 = resolved is all n.in1; in2 = o; out1 = known_given known n.out1 (option_map is n.out1); out2 = known_given known n.out2 (option_map is n.out2) }) (each right n.in2)
+      ∙ ap (λ o. record { in1 = resolved is all n.in1; in2 = option_map (resolved is all) n.in2; out1 = o; out2 = known_given known n.out2 (option_map is n.out2) }) (each right n.out1)
+      ∙ ap (λ o. record { in1 = resolved is all n.in1; in2 = option_map (resolved is all) n.in2; out1 = option_map (resolved is all) n.out1; out2 = o }) (each right n.out2)
+    where
+      each : ((c : Cell) → known_operand known c (is c) ≡ resolved is all c) → (cell : Option Cell) → known_given known cell (option_map is cell) ≡ option_map (resolved is all) cell
+      each right None = refl
+      each right (Some c) = ap {B = Option Operand} Some (right c)

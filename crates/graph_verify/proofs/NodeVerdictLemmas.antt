@@ -1,0 +1,124 @@
+-- The nodes of a graph that can run, one by one.
+use Rattle.std.proofs.Common.{◌≡◌, ◌≢◌, ℕ, Bool, true, false, List, [], ◌∷◌, ◌++◌, Option, Some, None, refl, sym, ap, ◌∙◌, inl, inr}
+use Rattle.std.specs.Prelude.{not, if◌then◌else◌}
+use Rattle.std.specs.List.{list_any, list_all, flat_map}
+use Rattle.std.specs.Option.{option_or, option_and_then}
+use Rattle.std.proofs.lemmas.Bool.{cases_Bool, or_parts, or_from, and_parts}
+use Rattle.std.proofs.lemmas.List.Folds.{list_any-append}
+use Rattle.vx_base.specs.declared.format.Format.{Format}
+use Rattle.vx_base.specs.declared.format.Format.TheVariants.{U8, S16, U32}
+use Rattle.vx_base.specs.declared.function.Function.{Function}
+use Rattle.vx_base.specs.declared.function.Function.TheVariants.{AndBits, Histogram, MinMaxLoc}
+use Rattle.vx_base.specs.declared.kind.Kind.TheVariants as kind
+use Rattle.vx_base.specs.declared.node.Node.{Node}
+use Rattle.vx_base.specs.Formats.{takes_formats}
+use Rattle.vx_base.specs.Function.{parameters}
+use Rattle.vx_base.specs.Cell.{Cell, same_cell}
+use Rattle.vx_base.specs.Node.{inputs, outputs}
+use Rattle.graph_verify.specs.declared.operand.Operand.{Operand}
+use Rattle.graph_verify.specs.declared.operand.Operands.{Operands}
+use Rattle.graph_verify.specs.declared.verdict.Verdict.{Verdict}
+use Rattle.graph_verify.specs.declared.verdict.Verdict.TheVariants.{MultipleWriters, InvalidGraph, InvalidFormat, InvalidDimension}
+use Rattle.graph_verify.specs.Members.{In}
+use Rattle.graph_verify.specs.Links.{feeds, has_twice}
+use Rattle.graph_verify.specs.Cycle.{has_cycle}
+use Rattle.graph_verify.specs.Operand.{operand_format, are_of_one_size, written_operands, other_operands, operands_of}
+use Rattle.graph_verify.specs.Outlines.{resolved}
+use Rattle.graph_verify.specs.Verdict.{two_writers, first_fault, node_fault, writes_twice, reads_own_output, verdict_on, takes_first, takes_operands}
+use Rattle.graph_verify.proofs.MemberLemmas.{In-from_any}
+use Rattle.graph_verify.proofs.LinkLemmas.{same-from_In, feeds_is, once_after}
+use Rattle.graph_verify.proofs.CycleLemmas.{has_cycle-from_cycle}
+use Rattle.graph_verify.proofs.VerdictLemmas.{CanRun}
+
+-- in the front of a list in which no cell stands twice none does
+no_twice_before : (xs ys : List Cell) → has_twice (xs ++ ys) ≡ false → has_twice xs ≡ false
+no_twice_before [] ys h = refl
+no_twice_before (x ∷ xs) ys h =
+    let both = or_parts (list_any (same_cell x) (xs ++ ys)) (has_twice (xs ++ ys)) h in
+    or_from (list_any (same_cell x) xs) (has_twice xs)
+    (or_parts (list_any (same_cell x) xs) (list_any (same_cell x) ys) (sym (list_any-append (same_cell x) xs ys) ∙ both.0)).0
+    (no_twice_before xs ys both.1)
+
+-- where no cell has two writers, no node writes one by both of its outputs
+no_twice_each : (nodes : List Node) (n : Node) → two_writers nodes ≡ false → In n nodes → writes_twice n ≡ false
+no_twice_each [] n h member = absurd member
+no_twice_each (m ∷ nodes) n h (inl e) = ap writes_twice e ∙ no_twice_before (outputs m) (flat_map outputs nodes) h
+no_twice_each (m ∷ nodes) n h (inr later) = no_twice_each nodes n (once_after (outputs m) (flat_map outputs nodes) h) later
+
+-- a node that reads what it writes is a cycle
+cycle_of_one : (nodes : List Node) (n : Node) → In n nodes → reads_own_output n ≡ true → has_cycle feeds nodes ≡ true
+cycle_of_one nodes n member own =
+    let cell = In-from_any (λ a. list_any (same_cell a) (outputs n)) (inputs n) own in
+    has_cycle-from_cycle feeds nodes (n ∷ [], feeds_is n n cell.0 cell.2 (same-from_In cell.0 (inputs n) cell.1), λ x i. elim i [ inl e ↦ rw e member | inr k ↦ absurd k ])
+
+-- none of the nodes has a fault where there is no first one
+no_fault_each : (is : Cell → Operand) (nodes : List Node) (n : Node) → first_fault is nodes ≡ None → In n nodes → node_fault n.function (operands_of is n) ≡ None
+no_fault_each is [] n h member = absurd member
+no_fault_each is (m ∷ nodes) n h (inl e) = ap (λ (k : Node). node_fault k.function (operands_of is k)) e ∙ first (node_fault m.function (operands_of is m)) (first_fault is nodes) h
+  where
+    first : (o p : Option Verdict) → option_or o p ≡ None → o ≡ None
+    first None p none = refl
+    first (Some v) p none = absurd (cc none)
+no_fault_each is (m ∷ nodes) n h (inr later) = no_fault_each is nodes n (rest (node_fault m.function (operands_of is m)) (first_fault is nodes) h) later
+  where
+    rest : (o p : Option Verdict) → option_or o p ≡ None → p ≡ None
+    rest None p none = none
+    rest (Some v) p none = absurd (cc none)
+
+-- a node of a graph that can run can run by itself, on what its cells are found to be
+pub runs_alone : (work : ℕ) (is : Cell → Operand) (nodes : List Node) (n : Node) → CanRun work is nodes → In n nodes → verdict_on n (operands_of (resolved is nodes) n) ≡ None
+runs_alone work is nodes n can member =
+    let o = operands_of (resolved is nodes) n in
+    none_applies (writes_twice n) (reads_own_output n) (node_fault n.function o)
+    (no_twice_each nodes n can.one_writer member)
+    (elim (cases_Bool (reads_own_output n)) [ inl own ↦ (let cycle = cycle_of_one nodes n member own in let none = can.no_cycle in absurd (cc)) | inr other ↦ other ])
+    (no_fault_each (resolved is nodes) nodes n can.no_fault member)
+  where
+    none_applies : (twice own : Bool) (fault : Option Verdict) → twice ≡ false → own ≡ false → fault ≡ None
+        → (if twice then Some MultipleWriters else (if own then Some InvalidGraph else fault)) ≡ None
+    none_applies true own fault t o f = absurd (cc t)
+    none_applies false true fault t o f = absurd (cc o)
+    none_applies false false fault t o f = f
+
+-- ---- what a node without a fault writes
+
+-- a function that writes images takes no output without a format
+takes_none : (function : Function) (first : Format) (second : Option Format) → (parameters function).output ≡ kind.Image → takes_formats function first second None ≡ false
+takes_none Histogram first second h = absurd (cc h)
+takes_none MinMaxLoc first second h = absurd (cc h)
+takes_none AndBits first None h = refl
+takes_none AndBits first (Some b) h = refl
+takes_none function U8 None h = refl
+takes_none function U8 (Some U8) h = refl
+takes_none function U8 (Some S16) h = refl
+takes_none function U8 (Some U32) h = refl
+takes_none function S16 None h = refl
+takes_none function S16 (Some U8) h = refl
+takes_none function S16 (Some S16) h = refl
+takes_none function S16 (Some U32) h = refl
+takes_none function U32 None h = refl
+takes_none function U32 (Some b) h = refl
+
+-- what passes for all members passes for each
+all-from_In : {X : Type 0} (p : X → Bool) (xs : List X) → list_all p xs ≡ true → (x : X) → In x xs → p x ≡ true
+all-from_In p [] h x i = absurd i
+all-from_In p (y ∷ ys) h x (inl e) = ap p e ∙ (and_parts (p y) (list_all p ys) h).0
+all-from_In p (y ∷ ys) h x (inr i) = all-from_In p ys (and_parts (p y) (list_all p ys) h).1 x i
+
+-- each image that such a node writes is described
+pub written_described : (function : Function) (o : Operands) → (parameters function).output ≡ kind.Image → node_fault function o ≡ None → (out : Operand) → In out (written_operands o) → operand_format out ≢ None
+written_described function o writes none out member bare =
+    described (operand_format o.in1) (takes_operands function o) refl (takes (takes_operands function o) (list_all (are_of_one_size o.in1) (other_operands o)) none)
+  where
+    takes : (t s : Bool) → (if not t then Some InvalidFormat else (if s then None else Some InvalidDimension)) ≡ None → t ≡ true
+    takes true s h = refl
+    takes false s h = absurd (cc h)
+
+    described : (first : Option Format) (t : Bool) → t ≡ takes_first function first (option_and_then operand_format o.in2) (written_operands o) → t ≡ true → ⊥
+    described None t is takes_all = cc
+    described (Some first) t is takes_all =
+        let each = all-from_In (λ w. takes_formats function first (option_and_then operand_format o.in2) (operand_format w)) (written_operands o) (sym is ∙ takes_all) out member in
+        let never = takes_none function first (option_and_then operand_format o.in2) writes in
+        let same : takes_formats function first (option_and_then operand_format o.in2) (operand_format out) ≡ takes_formats function first (option_and_then operand_format o.in2) None =
+        ap (λ f. takes_formats function first (option_and_then operand_format o.in2) f) bare in
+        cc

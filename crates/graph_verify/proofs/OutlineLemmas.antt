@@ -1,0 +1,65 @@
+-- The outlines of a graph's cells: that nodes give them once and for all, in whatever order.
+use Rattle.std.proofs.Common.{◌≡◌, ℕ, zero, suc, false, List, [], ◌∷◌, length, ap, inl, inr}
+use Rattle.std.proofs.lemmas.Bool.{cases_Bool, or_left}
+use Rattle.std.proofs.lemmas.List.Sorted.{IsPermutation-refl}
+use Rattle.vx_base.specs.declared.node.Node.{Node}
+use Rattle.vx_base.specs.Cell.{Cell, same_cell}
+use Rattle.vx_base.specs.Description.{Description}
+use Rattle.vx_base.specs.Outline.{Outline, outline_of, filled}
+use Rattle.graph_verify.specs.declared.operand.Operand.{Operand}
+use Rattle.graph_verify.specs.declared.operand.Operand.TheVariants.{Image}
+use Rattle.graph_verify.specs.Cycle.{has_cycle}
+use Rattle.graph_verify.specs.Links.{reads, writes, feeds}
+use Rattle.graph_verify.specs.Order.{InTurn, IsOrder}
+use Rattle.graph_verify.specs.Outlines.{operand_outline, given_outline, written_outline, outlines, as_known, resolved}
+use Rattle.graph_verify.specs.Rounds.{round, rounds, IsSolution, ReadsAlone}
+use Rattle.graph_verify.specs.Verdict.{two_writers}
+use Rattle.graph_verify.proofs.LinkLemmas.{same_cell-refl, two_writers-permutation}
+use Rattle.graph_verify.proofs.MemberLemmas.{AllIn-permutation, AllIn-permutation_back}
+use Rattle.graph_verify.proofs.OrderLemmas.{no_cycle_from_order}
+use Rattle.graph_verify.proofs.SolutionLemmas.{rounds_solve, only_solution}
+
+module _ (is : Cell → Operand) where
+  declared_outline : Cell → Outline
+  declared_outline c = operand_outline (is c)
+
+  -- a node gives its outputs what its first input has
+  pub reads_alone : ReadsAlone reads (written_outline is)
+  reads_alone n a b same c =
+      ap (λ o. filled (operand_outline (is c)) (given_outline n.function o)) (same n.in1 (or_left (same_cell n.in1 n.in1) _ (same_cell-refl n.in1)))
+
+  pub outlines_solve : (nodes : List Node) → two_writers nodes ≡ false → has_cycle feeds nodes ≡ false → IsSolution writes (written_outline is) nodes (λ c. operand_outline (is c)) (outlines is nodes)
+  outlines_solve nodes one no_cycle = rounds_solve (written_outline is) nodes (λ c. operand_outline (is c)) reads_alone one no_cycle
+
+  -- steps that are an order have no cycle
+  pub no_cycle_in_steps : (steps : List Node) → InTurn feeds steps → has_cycle feeds steps ≡ false
+  no_cycle_in_steps steps turn = no_cycle_from_order feeds steps steps (record { same_nodes = IsPermutation-refl steps; in_turn = turn })
+
+  -- the order of the nodes has no effect
+  pub outlines-order : (nodes steps : List Node) → two_writers nodes ≡ false → IsOrder feeds nodes steps → (c : Cell) → outlines is nodes c ≡ outlines is steps c
+  outlines-order nodes steps one order =
+      let solves = outlines_solve nodes one (no_cycle_from_order feeds nodes steps order) in
+      only_solution (written_outline is) steps (λ c. operand_outline (is c)) (outlines is nodes) reads_alone
+      (two_writers-permutation nodes steps order.same_nodes one) (no_cycle_in_steps steps order.in_turn)
+      (record {
+        written = (λ n c i w. solves.written n c (AllIn-permutation_back nodes steps order.same_nodes n i) w);
+        others = (λ c unwritten. solves.others c (λ n i. unwritten n (AllIn-permutation nodes steps order.same_nodes n i)));
+      })
+
+  pub resolved-order : (nodes steps : List Node) → two_writers nodes ≡ false → IsOrder feeds nodes steps → (c : Cell) → resolved is nodes c ≡ resolved is steps c
+  resolved-order nodes steps one order c = ap (as_known (is c)) (outlines-order nodes steps one order c)
+
+  -- an image that is there is known, whatever the nodes write
+  round_keeps : (ns : List Node) (held : Cell → Outline) (c : Cell) (d : Description) → is c ≡ Image d → held c ≡ outline_of d → round writes (written_outline is) ns held c ≡ outline_of d
+  round_keeps [] held c d image h = h
+  round_keeps (n ∷ ns) held c d image h = elim (cases_Bool (writes n c)) [
+    | inl w ↦ rw w (ap (λ o. filled (operand_outline o) (given_outline n.function (held n.in1))) image)
+    | inr w ↦ rw w (round_keeps ns held c d image h)
+  ]
+
+  rounds_keep : (nodes : List Node) (k : ℕ) (c : Cell) (d : Description) → is c ≡ Image d → rounds writes (written_outline is) nodes k (λ e. operand_outline (is e)) c ≡ outline_of d
+  rounds_keep nodes zero c d image = ap operand_outline image
+  rounds_keep nodes (suc k) c d image = round_keeps nodes (rounds writes (written_outline is) nodes k (λ e. operand_outline (is e))) c d image (rounds_keep nodes k c d image)
+
+  pub image_outline : (nodes : List Node) (c : Cell) (d : Description) → is c ≡ Image d → outlines is nodes c ≡ outline_of d
+  image_outline nodes c d image = rounds_keep nodes (length nodes) c d image

@@ -1,0 +1,352 @@
+-- Why a graph is found to run, or not, by what is known of its virtual images.
+use Rattle.std.proofs.Common.{◌≡◌, ℕ, ◌+◌, ◌*◌, ◌≤◌, suc, Bool, true, false, not, List, [], ◌∷◌, length, map, get_or, IsTrue, refl, sym, ◌∙◌, ap, subst, inl, inr, arith}
+use Rattle.std.specs.Prelude.{Option, Some, None, All, find, sum_by, ◌&&◌, if◌then◌else◌}
+use Rattle.std.specs.Option.{option_map, option_or, option_and_then}
+use Rattle.std.specs.List.{filter, flat_map, filter_map, list_all, cons_option}
+use Rattle.std.specs.List.Sorted.{IsPermutation}
+use Rattle.std.proofs.lemmas.Bool.{and_from, and_parts, false_from_ne_true}
+use Rattle.std.proofs.lemmas.List.Elements.{filter-append}
+use Rattle.std.proofs.lemmas.List.Sorted.{sum_by-IsPermutation, length_permutation, All-permutation}
+use Rattle.std.proofs.lemmas.List.Sums.{sum_by-cons, sum_by-append}
+use mathlib.Core.Path.{fun_ext}
+use Rattle.vx_base.specs.declared.format.Format.{Format}
+use Rattle.vx_base.specs.declared.function.Function.{Function}
+use Rattle.vx_base.specs.declared.node.Node.{Node}
+use Rattle.vx_base.specs.Cell.{Cell, same_cell}
+use Rattle.vx_base.specs.Description.{Description, byte_count}
+use Rattle.vx_base.specs.Formats.{open_format}
+use Rattle.vx_base.specs.Node.{outputs}
+use Rattle.vx_base.specs.Outline.{Outline, outline_of, filled, closed, described_by}
+use Rattle.graph_verify.specs.declared.known.Known.{Known}
+use Rattle.graph_verify.specs.declared.known.VirtualOutput.{VirtualOutput}
+use Rattle.graph_verify.specs.declared.linked.Linked.{Linked}
+use Rattle.graph_verify.specs.declared.operand.Operand.{Operand}
+use Rattle.graph_verify.specs.declared.operand.Operand.TheVariants.{Image, Lut, Threshold, Delay, Convolution, Distribution, Extremes, Graph, Virtual}
+use Rattle.graph_verify.specs.declared.operand.Operands.{Operands}
+use Rattle.graph_verify.specs.declared.verdict.Verdict.{Verdict}
+use Rattle.graph_verify.specs.declared.verdict.Verdict.TheVariants.{InvalidLink, InvalidFormat, InvalidDimension}
+use Rattle.graph_verify.specs.declared.verified.Verified.{Verified}
+use Rattle.graph_verify.specs.Members.{In}
+use Rattle.graph_verify.specs.Cycle.{has_cycle}
+use Rattle.graph_verify.specs.Known.{described, known_operands, AreKnown}
+use Rattle.graph_verify.specs.Linked.{linked_nodes, AreOperands}
+use Rattle.graph_verify.specs.Links.{writes, feeds, is_written}
+use Rattle.graph_verify.specs.Operand.{is_virtual, is_image, operand_format, operand_bytes, operands_of, operand_description, written_operands, other_operands, are_of_one_size}
+use Rattle.graph_verify.specs.Order.{IsOrder}
+use Rattle.graph_verify.specs.Outlines.{operand_outline, given_outline, written_outline, outlines, as_described, as_known, resolved}
+use Rattle.graph_verify.specs.Rounds.{IsSolution}
+use Rattle.graph_verify.specs.Verdict.{two_writers, reads_loose, node_fault, takes_operands, takes_first, first_fault, virtual_outputs, work_bytes, verdict}
+use Rattle.graph_verify.specs.Verified.{IsVerified, written_description}
+use Rattle.graph_verify.proofs.KnownLemmas.{find_cases, learnt_from_known, operands_known}
+use Rattle.graph_verify.proofs.LinkLemmas.{two_writers-permutation, same-from_In, same_cell-true, same_cell-is, In-outputs}
+use Rattle.graph_verify.proofs.MemberLemmas.{In-at, In-from_any, any-from_In, In-filter, AllIn-permutation, Contains-from_In, In-map, In-from_map, In-from_filter, In-from_flat_map, AllIn-permutation_back}
+use Rattle.graph_verify.proofs.OrderLemmas.{IsOrder-map, no_cycle_from_order}
+use Rattle.graph_verify.proofs.VerdictLemmas.{where_room, loose_end, by_fault}
+use Rattle.graph_verify.proofs.OutlineLemmas.{outlines_solve, no_cycle_in_steps, resolved-order, image_outline}
+
+-- ---- the bytes of the virtual images
+
+module _ (is : Cell → Operand) where
+  sum_of_outputs : (f : Cell → ℕ) (g : List Node) → sum_by f (virtual_outputs is g) ≡ sum_by (λ n. sum_by f (filter (λ c. is_virtual (is c)) (outputs n))) g
+  sum_of_outputs f [] = refl
+  sum_of_outputs f (n ∷ ns) =
+      let virtual : Cell → Bool = λ c. is_virtual (is c) in
+      ap (sum_by f) (filter-append virtual (outputs n) (flat_map outputs ns))
+      ∙ sum_by-append f (filter virtual (outputs n)) (virtual_outputs is ns)
+      ∙ ap (λ k. sum_by f (filter virtual (outputs n)) + k) (sum_of_outputs f ns)
+      ∙ sym (sum_by-cons (λ m. sum_by f (filter virtual (outputs m))) n ns)
+
+  outputs_sum-permutation : (f : Cell → ℕ) (g steps : List Node) → IsPermutation g steps → sum_by f (virtual_outputs is steps) ≡ sum_by f (virtual_outputs is g)
+  outputs_sum-permutation f g steps same =
+      sum_of_outputs f steps ∙ sum_by-IsPermutation (λ n. sum_by f (filter (λ c. is_virtual (is c)) (outputs n))) g steps same ∙ sym (sum_of_outputs f g)
+
+described_bytes : (known : List Known) → sum_by (λ (o : VirtualOutput). byte_count o.desc) (filter_map described known) ≡ sum_by (λ (k : Known). operand_bytes (as_described k.outline (closed k.outline))) known
+described_bytes [] = refl
+described_bytes (k ∷ known) =
+    one_more k.cell k.outline (closed k.outline) (filter_map described known)
+    ∙ ap (λ bytes. operand_bytes (as_described k.outline (closed k.outline)) + bytes) (described_bytes known)
+    ∙ sym (sum_by-cons (λ (j : Known). operand_bytes (as_described j.outline (closed j.outline))) k known)
+  where
+    one_more : (cell : Cell) (o : Outline) (d : Option Description) (rest : List VirtualOutput)
+        → sum_by (λ (v : VirtualOutput). byte_count v.desc) (cons_option (option_map (λ e. record { cell = cell; desc = e }) d) rest) ≡ operand_bytes (as_described o d) + sum_by (λ (v : VirtualOutput). byte_count v.desc) rest
+    one_more cell o None rest = omega arith
+    one_more cell o (Some d) rest = sum_by-cons (λ (v : VirtualOutput). byte_count v.desc) (record { cell = cell; desc = d }) rest
+
+sum_agree : {X : Type 0} (f g : X → ℕ) (xs : List X) → ((x : X) → In x xs → f x ≡ g x) → sum_by f xs ≡ sum_by g xs
+sum_agree f g [] same = refl
+sum_agree f g (x ∷ xs) same =
+    sum_by-cons f x xs ∙ ap (λ k. k + sum_by f xs) (same x (inl refl)) ∙ ap (λ k. g x + k) (sum_agree f g xs (λ y i. same y (inr i))) ∙ sym (sum_by-cons g x xs)
+
+sum_map : {X Y : Type 0} (f : Y → ℕ) (h : X → Y) (xs : List X) → sum_by (λ x. f (h x)) xs ≡ sum_by f (map h xs)
+sum_map f h [] = refl
+sum_map f h (x ∷ xs) = sum_by-cons (λ y. f (h y)) x xs ∙ ap (λ k. f (h x) + k) (sum_map f h xs) ∙ sym (sum_by-cons f (h x) (map h xs))
+
+module _ (is : Cell → Operand) where
+  -- what is known of a cell is a virtual image
+  pub known_virtual : (all : List Node) (known : List Known) → AreKnown is all known → (k : Known) → In k known → is_virtual (is k.cell) ≡ true
+  known_virtual all known h k i = (In-from_filter (λ c. is_virtual (is c)) k.cell (flat_map outputs all) (subst (In k.cell) h.cells (In-map (λ (j : Known). j.cell) k known i))).1
+
+  virtual_resolved : (all : List Node) (c : Cell) (o : Operand) → is_virtual o ≡ true → as_known o (outlines is all c) ≡ as_described (outlines is all c) (closed (outlines is all c))
+  virtual_resolved all c (Virtual declared) e = refl
+  virtual_resolved all c (Image d) e = absurd (cc e)
+  virtual_resolved all c (Lut f) e = absurd (cc e)
+  virtual_resolved all c (Threshold f) e = absurd (cc e)
+  virtual_resolved all c Delay e = absurd (cc e)
+  virtual_resolved all c Convolution e = absurd (cc e)
+  virtual_resolved all c Distribution e = absurd (cc e)
+  virtual_resolved all c Extremes e = absurd (cc e)
+  virtual_resolved all c Graph e = absurd (cc e)
+
+  -- what is known of a virtual image says what it is
+  pub known_resolved : (all : List Node) (known : List Known) → AreKnown is all known → (k : Known) → In k known → as_described k.outline (closed k.outline) ≡ resolved is all k.cell
+  known_resolved all known h k i =
+      ap (λ o. as_described o (closed o)) ((learnt_from_known is all known h).each k i) ∙ sym (virtual_resolved all k.cell (is k.cell) (known_virtual all known h k i))
+
+  pub all_bytes : (nodes steps : List Node) (known : List Known) → two_writers nodes ≡ false → IsOrder feeds nodes steps → AreKnown is steps known
+      → sum_by (λ (o : VirtualOutput). byte_count o.desc) (filter_map described known) ≡ work_bytes is nodes
+  all_bytes nodes steps known one order h =
+      let bytes : Cell → ℕ = λ c. operand_bytes (resolved is steps c) in
+      described_bytes known
+      ∙ sum_agree (λ (k : Known). operand_bytes (as_described k.outline (closed k.outline))) (λ (k : Known). bytes k.cell) known (λ k i. ap operand_bytes (known_resolved steps known h k i))
+      ∙ sum_map bytes (λ (k : Known). k.cell) known
+      ∙ ap (sum_by bytes) h.cells
+      ∙ outputs_sum-permutation is bytes nodes steps order.same_nodes
+      ∙ ap (λ (r : Cell → Operand). sum_by (λ c. operand_bytes (r c)) (virtual_outputs is nodes)) (sym (fun_ext (resolved-order is nodes steps one order)))
+
+-- ---- the fault of a node
+
+first_fault-None : (is : Cell → Operand) (nodes : List Node) → first_fault is nodes ≡ None → (n : Node) → In n nodes → node_fault n.function (operands_of is n) ≡ None
+first_fault-None is [] h n i = absurd i
+first_fault-None is (m ∷ nodes) h n i =
+    let parts = neither (node_fault m.function (operands_of is m)) (first_fault is nodes) h in
+    elim i [ inl same ↦ ap (λ k. node_fault k.function (operands_of is k)) same ∙ parts.0 | inr j ↦ first_fault-None is nodes parts.1 n j ]
+  where
+    neither : (a b : Option Verdict) → option_or a b ≡ None → (a ≡ None) × (b ≡ None)
+    neither None b h = (refl, h)
+    neither (Some a) b h = absurd (cc h)
+
+-- a node without a fault has a first input with a format
+first_format : (function : Function) (o : Operands) → node_fault function o ≡ None → (f : Format) × (operand_format o.in1 ≡ Some f)
+first_format function o h = by (operand_format o.in1) refl (takes (takes_operands function o) (list_all (are_of_one_size o.in1) (other_operands o)) h)
+  where
+    takes : (formats sizes : Bool) → (if not formats then Some InvalidFormat else (if sizes then None else Some InvalidDimension)) ≡ None → formats ≡ true
+    takes true sizes h = refl
+    takes false sizes h = absurd (cc h)
+
+    by : (first : Option Format) → operand_format o.in1 ≡ first → takes_operands function o ≡ true → (f : Format) × (operand_format o.in1 ≡ Some f)
+    by (Some f) e t = (f, e)
+    by None e t =
+        let fails : takes_operands function o ≡ false = ap (λ g. takes_first function g (option_and_then operand_format o.in2) (written_operands o)) e in
+        absurd (cc)
+
+-- an outline of which nothing is open
+closed_is : (o : Outline) (d : Description) → closed o ≡ Some d → o ≡ outline_of d
+closed_is o d h = by o.width o.height o.format h
+  where
+    by : (width height : Option ℕ) (format : Option Format) → described_by width height format ≡ Some d → ◌≡◌ {A = Outline} (record { width = width; height = height; format = format }) (outline_of d)
+    by None h f e = absurd (cc e)
+    by (Some w) None f e = absurd (cc e)
+    by (Some w) (Some h) None e = absurd (cc e)
+    by (Some w) (Some h) (Some f) e = let same : ◌≡◌ {A = Description} (record { width = w; height = h; format = f }) d = cc in ap outline_of same
+
+-- what a node gives to a virtual image leaves nothing of it open, where nothing of the first input is
+filled_closed : (declared : Outline) (function : Function) (d : Description) → (e : Description) × (closed (filled declared (given_outline function (outline_of d))) ≡ Some e)
+filled_closed declared function d = by declared.width declared.height declared.format
+  where
+    by : (width height : Option ℕ) (format : Option Format) → (e : Description) × (closed (filled (record { width = width; height = height; format = format }) (given_outline function (outline_of d))) ≡ Some e)
+    by None None None = (record { width = d.width; height = d.height; format = open_format function d.format }, refl)
+    by None None (Some f) = (record { width = d.width; height = d.height; format = f }, refl)
+    by None (Some h) None = (record { width = d.width; height = h; format = open_format function d.format }, refl)
+    by None (Some h) (Some f) = (record { width = d.width; height = h; format = f }, refl)
+    by (Some w) None None = (record { width = w; height = d.height; format = open_format function d.format }, refl)
+    by (Some w) None (Some f) = (record { width = w; height = d.height; format = f }, refl)
+    by (Some w) (Some h) None = (record { width = w; height = h; format = open_format function d.format }, refl)
+    by (Some w) (Some h) (Some f) = (record { width = w; height = h; format = f }, refl)
+
+module _ (is : Cell → Operand) where
+  -- an image with a format is known
+  image_closed : (all : List Node) (c : Cell) (o : Operand) (f : Format) → is c ≡ o → IsTrue (is_image o) → operand_format (as_known o (outlines is all c)) ≡ Some f → (d : Description) × (outlines is all c ≡ outline_of d)
+  image_closed all c (Image d) f e image has = (d, image_outline is all c d e)
+  image_closed all c (Virtual declared) f e image has = by (closed (outlines is all c)) refl
+    where
+      by : (d : Option Description) → closed (outlines is all c) ≡ d → (d : Description) × (outlines is all c ≡ outline_of d)
+      by (Some d) k = (d, closed_is (outlines is all c) d k)
+      by None k = let fails : operand_format (as_described (outlines is all c) (closed (outlines is all c))) ≡ None = ap (λ (g : Option Description). operand_format (as_described (outlines is all c) g)) k in absurd (cc)
+  image_closed all c (Lut f') f e image has = absurd (cc image)
+  image_closed all c (Threshold f') f e image has = absurd (cc image)
+  image_closed all c Delay f e image has = absurd (cc image)
+  image_closed all c Convolution f e image has = absurd (cc image)
+  image_closed all c Distribution f e image has = absurd (cc image)
+  image_closed all c Extremes f e image has = absurd (cc image)
+  image_closed all c Graph f e image has = absurd (cc image)
+
+  -- what a node without a fault writes is known
+  output_closed : (all : List Node) → IsSolution writes (written_outline is) all (λ c. operand_outline (is c)) (outlines is all) → (n : Node) → In n all → IsTrue (is_image (is n.in1)) → node_fault n.function (operands_of (resolved is all) n) ≡ None
+      → (c : Cell) → writes n c ≡ true → (d : Description) × (closed (outlines is all c) ≡ Some d)
+  output_closed all solves n i image sound c w =
+      let format = first_format n.function (operands_of (resolved is all) n) sound in
+      let first = image_closed all n.in1 (is n.in1) format.0 refl image format.1 in
+      let gives : outlines is all c ≡ filled (operand_outline (is c)) (given_outline n.function (outline_of first.0)) =
+      solves.written n c i w ∙ ap (λ o. filled (operand_outline (is c)) (given_outline n.function o)) first.1 in
+      let d = filled_closed (operand_outline (is c)) n.function first.0 in
+      (d.0, ap closed gives ∙ d.1)
+
+  -- ---- a graph that can run
+
+  -- then nothing is open of the virtual images that are written
+  pub all_closed : (all : List Node) (known : List Known) → IsSolution writes (written_outline is) all (λ c. operand_outline (is c)) (outlines is all) → AreKnown is all known
+      → ((n : Node) → In n all → IsTrue (is_image (is n.in1))) → ((n : Node) → In n all → node_fault n.function (operands_of (resolved is all) n) ≡ None)
+      → (k : Known) → In k known → (d : Description) × (closed k.outline ≡ Some d)
+  all_closed all known solves h images sound k i =
+      let stands = In-from_filter (λ c. is_virtual (is c)) k.cell (flat_map outputs all) (subst (In k.cell) h.cells (In-map (λ (j : Known). j.cell) k known i)) in
+      let writer = In-from_flat_map outputs k.cell all stands.0 in
+      let d = output_closed all solves writer.0 writer.1 (images writer.0 writer.1) (sound writer.0 writer.1) k.cell (same-from_In k.cell (outputs writer.0) writer.2) in
+      (d.0, ap closed ((learnt_from_known is all known h).each k i) ∙ d.1)
+
+described_cells : (known : List Known) → ((k : Known) → In k known → (d : Description) × (closed k.outline ≡ Some d)) → map (λ (o : VirtualOutput). o.cell) (filter_map described known) ≡ map (λ (k : Known). k.cell) known
+described_cells [] all = refl
+described_cells (k ∷ known) all =
+    let d = all k (inl refl) in
+    ap (λ (e : Option Description). map (λ (o : VirtualOutput). o.cell) (cons_option (option_map (λ f. record { cell = k.cell; desc = f }) e) (filter_map described known))) d.1
+    ∙ ap (λ l. k.cell ∷ l) (described_cells known (λ j i. all j (inr i)))
+
+In-described : (known : List Known) (o : VirtualOutput) → In o (filter_map described known) → (k : Known) × In k known × (k.cell ≡ o.cell) × (closed k.outline ≡ Some o.desc)
+In-described [] o i = absurd i
+In-described (k ∷ known) o i = by (closed k.outline) refl i (In-described known o)
+  where
+    by : (d : Option Description) → closed k.outline ≡ d → In o (cons_option (option_map (λ f. record { cell = k.cell; desc = f }) d) (filter_map described known))
+        → (In o (filter_map described known) → (j : Known) × In j known × (j.cell ≡ o.cell) × (closed j.outline ≡ Some o.desc)) → (j : Known) × In j (k ∷ known) × (j.cell ≡ o.cell) × (closed j.outline ≡ Some o.desc)
+    by None e i others = let r = others i in (r.0, inr r.1, r.2, r.3)
+    by (Some d) e i others = elim i [
+      | inl same ↦ (k, inl refl, sym (ap (λ (v : VirtualOutput). v.cell) same), e ∙ ap {B = Option Description} Some (sym (ap (λ (v : VirtualOutput). v.desc) same)))
+      | inr j ↦ (let r = others j in (r.0, inr r.1, r.2, r.3))
+    ]
+
+-- ---- the nodes beside their operands, and the steps
+
+abbrev links : Linked → Linked → Bool
+links a b = feeds a.node b.node
+
+module _ (nodes steps : List Linked) (one : two_writers (linked_nodes nodes) ≡ false) (order : IsOrder links nodes steps) where
+  pub nodes_order : IsOrder feeds (linked_nodes nodes) (linked_nodes steps)
+  nodes_order = IsOrder-map (λ (l : Linked). l.node) feeds nodes steps order
+
+  pub steps_one_writer : two_writers (linked_nodes steps) ≡ false
+  steps_one_writer = two_writers-permutation (linked_nodes nodes) (linked_nodes steps) nodes_order.same_nodes one
+
+  steps_solve : (is : Cell → Operand) → IsSolution writes (written_outline is) (linked_nodes steps) (λ c. operand_outline (is c)) (outlines is (linked_nodes steps))
+  steps_solve is = outlines_solve is (linked_nodes steps) steps_one_writer (no_cycle_in_steps is (linked_nodes steps) nodes_order.in_turn)
+
+  same_resolved : (is : Cell → Operand) → resolved is (linked_nodes nodes) ≡ resolved is (linked_nodes steps)
+  same_resolved is = fun_ext (resolved-order is (linked_nodes nodes) (linked_nodes steps) one nodes_order)
+
+  nodes_no_cycle : has_cycle feeds (linked_nodes nodes) ≡ false
+  nodes_no_cycle = no_cycle_from_order feeds (linked_nodes nodes) (linked_nodes steps) nodes_order
+
+  pub loose_end_found : (work : ℕ) (is : Cell → Operand) → true ≡ reads_loose is (linked_nodes nodes) → verdict work is (linked_nodes nodes) ≡ Some InvalidLink
+  loose_end_found work is loose = loose_end work is (linked_nodes nodes) one nodes_no_cycle loose
+
+  steps_operands : (is : Cell → Operand) → AreOperands is nodes → AreOperands is steps
+  steps_operands is operands = All-permutation (λ (l : Linked). l.operands ≡ operands_of is l.node) nodes steps order.same_nodes operands
+
+  pub steps_images : All (λ (l : Linked). IsTrue (is_image l.operands.in1)) nodes → All (λ (l : Linked). IsTrue (is_image l.operands.in1)) steps
+  steps_images images = All-permutation (λ (l : Linked). IsTrue (is_image l.operands.in1)) nodes steps order.same_nodes images
+
+  -- what is known of the steps' virtual images: of any cells that their operands are
+  abbrev Told : List Known → Type 0
+  Told known = (is : Cell → Operand) → AreOperands is steps → AreKnown is (linked_nodes steps) known
+
+  -- the fault that is found by what is known
+  abbrev Finds : List Known → Option Verdict → Type 0
+  Finds known fault = (is : Cell → Operand) → All (λ l. known_operands known l ≡ operands_of is l.node) nodes → fault ≡ first_fault is (linked_nodes nodes)
+
+  found_fault : (is : Cell → Operand) (known seen : List Known) (fault : Option Verdict) → AreOperands is nodes → Told known → seen ≡ known → Finds seen fault → fault ≡ first_fault (resolved is (linked_nodes nodes)) (linked_nodes nodes)
+  found_fault is known seen fault operands told same finds = finds (resolved is (linked_nodes nodes)) (λ k d within.
+      let l = get_or nodes k d in
+      ap (λ s. known_operands s l) same
+      ∙ operands_known is (linked_nodes steps) known (steps_solve is) (told is (steps_operands is operands)) l (operands k d within)
+      ∙ ap (λ r. operands_of r l.node) (sym (same_resolved is)))
+
+  pub verdict_found : (work : ℕ) (is : Cell → Operand) (known seen : List Known) (fault : Option Verdict) → AreOperands is nodes → Told known → seen ≡ known → Finds seen fault
+      → false ≡ reads_loose is (linked_nodes nodes) → verdict work is (linked_nodes nodes) ≡ option_or fault (where_room work is (linked_nodes nodes))
+  verdict_found work is known seen fault operands told same finds no_loose_end =
+      by_fault work is (linked_nodes nodes) one nodes_no_cycle no_loose_end fault (found_fault is known seen fault operands told same finds)
+
+  pub bytes_found : (is : Cell → Operand) (known : List Known) (outputs : List VirtualOutput) → AreOperands is nodes → Told known → outputs ≡ filter_map described known → sum_by (λ o. byte_count o.desc) outputs ≡ work_bytes is (linked_nodes nodes)
+  bytes_found is known outputs operands told is_outputs =
+      ap (sum_by (λ (o : VirtualOutput). byte_count o.desc)) is_outputs ∙ all_bytes is (linked_nodes nodes) (linked_nodes steps) known one nodes_order (told is (steps_operands is operands))
+
+  pub verified_found : (is : Cell → Operand) (known seen : List Known) (v : Verified) → AreOperands is nodes → Told known → seen ≡ known → Finds seen None → All (λ (l : Linked). IsTrue (is_image l.operands.in1)) nodes
+      → v.steps.items ≡ linked_nodes steps → v.virtual_outputs.items ≡ filter_map described known → IsVerified is (linked_nodes nodes) v
+  verified_found is known seen v operands told same finds images is_steps is_outputs =
+      let ns = linked_nodes nodes in
+      let ss = linked_nodes steps in
+      let h = told is (steps_operands is operands) in
+      let sound = sym (found_fault is known seen None operands told same finds) in
+      let from : (n : Node) → In n ss → In n ns = λ n i. AllIn-permutation_back ns ss nodes_order.same_nodes n i in
+      let image : (n : Node) → In n ss → IsTrue (is_image (is n.in1)) = λ n i.
+      let l = In-from_map (λ (l : Linked). l.node) n nodes (from n i) in
+      let at_l = Contains-from_In l.0 nodes l.1 in
+      let in1 : l.0.operands.in1 ≡ is n.in1 =
+      ap (λ (o : Operands). o.in1) (subst (λ (k : Linked). k.operands ≡ operands_of is k.node) at_l.2 (operands at_l.0 l.0 at_l.1)) ∙ ap (λ (m : Node). is m.in1) (sym l.2) in
+      subst (λ o. IsTrue (is_image o)) in1 (subst (λ (k : Linked). IsTrue (is_image k.operands.in1)) at_l.2 (images at_l.0 l.0 at_l.1)) in
+      let no_fault : (n : Node) → In n ss → node_fault n.function (operands_of (resolved is ss) n) ≡ None = λ n i.
+      ap (λ r. node_fault n.function (operands_of r n)) (sym (same_resolved is)) ∙ first_fault-None (resolved is ns) ns sound n (from n i) in
+      record {
+        order = subst (IsOrder feeds ns) (sym is_steps) nodes_order;
+        cells =
+            ap (map (λ (o : VirtualOutput). o.cell)) is_outputs
+            ∙ described_cells known (all_closed is ss known (steps_solve is) h image no_fault)
+            ∙ h.cells
+            ∙ ap (virtual_outputs is) (sym is_steps);
+        descriptions = (λ k d within.
+            let o = get_or v.virtual_outputs.items k d in
+            let found = In-described known o (subst (In o) is_outputs (In-at v.virtual_outputs.items k d within)) in
+            ap (λ (r : Cell → Operand). r o.cell) (same_resolved is)
+            ∙ ap (resolved is ss) (sym found.2)
+            ∙ sym (known_resolved is ss known h found.0 found.1)
+            ∙ ap (λ (e : Option Description). as_described found.0.outline e) found.3);
+      }
+
+-- no more outputs than two for each node
+pub few_outputs : (nodes steps : List Linked) (known : List Known) (outputs : List VirtualOutput) → length nodes ≤ 256 → IsOrder links nodes steps → length known ≤ 2 * length steps → outputs ≡ filter_map described known → length outputs ≤ 512
+few_outputs nodes steps known outputs few order limit is =
+    let same = length_permutation nodes steps order.same_nodes in
+    let fewer = shorter known in
+    omega (arith, few, same, limit, fewer, ap length is)
+  where
+    shorter : (known : List Known) → length (filter_map described known) ≤ length known
+    shorter [] = omega arith
+    shorter (k ∷ known) = one_more (described k) (filter_map described known) (shorter known)
+      where
+        one_more : (o : Option VirtualOutput) (rest : List VirtualOutput) → length rest ≤ length known → length (cons_option o rest) ≤ suc (length known)
+        one_more None rest h = omega (arith, h)
+        one_more (Some o) rest h = omega (arith, h)
+
+-- ---- the description of a cell
+
+pub description_found : (is : Cell → Operand) (nodes : List Node) (v : Verified) → IsVerified is nodes v → (c : Cell) → (r : Option VirtualOutput) → r ≡ find (λ o. same_cell o.cell c) v.virtual_outputs.items
+    → option_map (λ (o : VirtualOutput). o.desc) r ≡ written_description is nodes c
+description_found is nodes v h c r e = elim (find_cases (λ (o : VirtualOutput). same_cell o.cell c) v.virtual_outputs.items) [
+  | inl found ↦ (
+      let o = found.0 in
+      let same : o.cell ≡ c = same_cell-true o.cell c found.3 in
+      let stands = In-from_filter (λ d. is_virtual (is d)) c (flat_map outputs v.steps.items) (subst (λ l. In c l) h.cells (subst (λ d. In d (map (λ (p : VirtualOutput). p.cell) v.virtual_outputs.items)) same (In-map (λ (p : VirtualOutput). p.cell) o v.virtual_outputs.items found.2))) in
+      let writer = In-from_flat_map outputs c v.steps.items stands.0 in
+      let written : is_written nodes c ≡ true = any-from_In (λ n. writes n c) writer.0 nodes (AllIn-permutation_back nodes v.steps.items h.order.same_nodes writer.0 writer.1) (same-from_In c (outputs writer.0) writer.2) in
+      let at_o = Contains-from_In o v.virtual_outputs.items found.2 in
+      let image : resolved is nodes o.cell ≡ Image o.desc = subst (λ (p : VirtualOutput). resolved is nodes p.cell ≡ Image p.desc) at_o.2 (h.descriptions at_o.0 o at_o.1) in
+      ap (option_map (λ (p : VirtualOutput). p.desc)) (e ∙ found.1)
+      ∙ sym (ap operand_description (ap (resolved is nodes) (sym same) ∙ image))
+      ∙ sym (ap (λ b. if b then operand_description (resolved is nodes c) else None) (and_from (is_virtual (is c)) (is_written nodes c) stands.1 written)))
+  | inr none ↦ (
+      let no_output : (is_virtual (is c) && is_written nodes c) ≡ false = false_from_ne_true (is_virtual (is c) && is_written nodes c) (λ both.
+      let parts = and_parts (is_virtual (is c)) (is_written nodes c) both in
+      let writer = In-from_any (λ n. writes n c) nodes parts.1 in
+      let stands = In-filter (λ d. is_virtual (is d)) c (flat_map outputs v.steps.items) (In-outputs writer.0 c v.steps.items (AllIn-permutation nodes v.steps.items h.order.same_nodes writer.0 writer.1) writer.2) parts.0 in
+      let output = In-from_map (λ (p : VirtualOutput). p.cell) c v.virtual_outputs.items (subst (λ l. In c l) (sym h.cells) stands) in
+      let differs = none.1 output.0 output.1 in
+      let equal = same_cell-is output.0.cell c (sym output.2) in cc) in
+      ap (option_map (λ (p : VirtualOutput). p.desc)) (e ∙ none.0)
+      ∙ sym (ap (λ b. if b then operand_description (resolved is nodes c) else None) no_output))
+]

@@ -1,0 +1,12 @@
+use Rattle.std.proofs.Common.{◌*◌, ◌≤◌, length, take}
+use Rattle.vx_base.specs.Cell.{Cell}
+use Rattle.graph_verify.specs.declared.operand.Operand.{Operand}
+use Rattle.graph_verify.specs.Linked.{linked_nodes, AreOperands}
+use Rattle.graph_verify.proofs.KnownLemmas.{AreLearnt}
+use Rattle.graph_verify.proofs.known.known_after.Given as goal
+
+abbrev pub invariant-loop-linked : goal.invariant-loop-linked
+invariant-loop-linked l = record {
+  learnt : (is : Cell → Operand) → AreOperands is l.steps → AreLearnt is (linked_nodes l.steps) (linked_nodes (take l.linked-index l.steps)) l.known.items;
+  limit : length l.known.items ≤ 2 * l.linked-index;
+}

@@ -1,0 +1,22 @@
+-- Nodes that are still to be put in order.
+use Rattle.std.specs.Prelude.{not, ◌&&◌, List}
+use Rattle.std.specs.List.{list_any}
+use Rattle.vx_base.specs.declared.node.Node.{Node}
+use Rattle.vx_base.specs.Node.{given}
+use Rattle.graph_verify.specs.declared.linked.Linked.{Linked}
+use Rattle.graph_verify.specs.declared.order.Waiting.{Waiting}
+use Rattle.graph_verify.specs.Links.{writes, is_written}
+
+-- a node, and whether its inputs are written by nodes that aren't in the order yet
+abbrev pub waiting_among : List Node → Linked → Waiting
+waiting_among nodes l =
+    record { linked = l; for_in1 = is_written nodes l.node.in1; for_in2 = list_any (is_written nodes) (given l.node.in2) }
+
+-- the same once one of those nodes is in the order: no other writes what that one writes
+abbrev pub once_ordered : Node → Waiting → Waiting
+once_ordered ordered w =
+    record {
+      linked = w.linked;
+      for_in1 = w.for_in1 && not (writes ordered w.linked.node.in1);
+      for_in2 = w.for_in2 && not (list_any (writes ordered) (given w.linked.node.in2));
+    }

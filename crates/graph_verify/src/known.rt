@@ -1,0 +1,213 @@
+//! What is known of the virtual images that nodes write.
+ghost use Rattle.std.specs.Prelude.{◌≡◌, ◌++◌, ◌+◌, ◌*◌, ◌≤◌, false, IsTrue, length, sum_by, All, Some, OnOk, IfOk};
+ghost use Rattle.std.specs.List.{filter_map};
+ghost use Rattle.vx_base.specs.Cell.{Cell};
+ghost use Rattle.vx_base.specs.Description.{byte_count};
+ghost use Rattle.vx_base.specs.Outline.{closed};
+ghost use Rattle.graph_verify.specs.declared.operand.Operand.{Operand};
+ghost use Rattle.graph_verify.specs.Operand.{is_image};
+ghost use Rattle.graph_verify.specs.Linked.{linked_nodes, AreOperands};
+ghost use Rattle.graph_verify.specs.Links.{feeds};
+ghost use Rattle.graph_verify.specs.Order.{InTurn};
+ghost use Rattle.graph_verify.specs.Verdict.{two_writers};
+ghost use Rattle.graph_verify.specs.Outlines.{unknown, given_outline, as_described};
+ghost use Rattle.graph_verify.specs.Known.{known_of, known_outline, learnt, learnt_from, known_operand, known_given, known_operands, described, AreKnown};
+
+use crate::linked::Linked;
+use crate::operand::{Operand, Operands};
+use std::alloc::{AllocError, Global};
+use vx_base::{Desc, Function, ObjRef, Outline};
+
+/// What is known of a virtual image that a node writes.
+#[derive(Clone, Copy)]
+pub struct Known {
+    pub cell: ObjRef,
+    pub outline: Outline,
+}
+
+/// A virtual image that a node writes, and its description.
+#[derive(Clone, Copy, PartialEq, Eq, Debug)]
+pub struct VirtualOutput {
+    pub cell: ObjRef,
+    pub desc: Desc,
+}
+
+impl Known {
+    /// The virtual image with its description. `None` where a part of it is open.
+    pub fn described(self) -> Option<VirtualOutput>
+        ensures { result ≡ described self }
+    {
+        let desc = self.outline.closed()?;
+        Some(VirtualOutput {
+            cell: self.cell,
+            desc,
+        })
+    }
+}
+
+/// What is known of the virtual image that is this cell.
+fn known_of(known: &[Known], cell: ObjRef) -> Option<Outline>
+    ensures { result ≡ known_of known.now cell }
+{
+    known
+        .iter()
+        .find(|known| known.cell == cell)
+        .map(|known| known.outline)
+}
+
+/// What is known of a cell, which is this operand, as an image.
+fn known_outline(known: &[Known], cell: ObjRef, operand: Operand) -> Outline
+    ensures { result ≡ known_outline known.now cell operand }
+{
+    match operand {
+        Operand::Image(desc) => Outline::of(desc),
+        Operand::Virtual(declared) => known_of(known, cell).unwrap_or(declared),
+        _ => unknown(),
+    }
+}
+
+/// Nothing is known.
+fn unknown() -> Outline
+    ensures { result ≡ unknown }
+{
+    Outline::new(None, None, None).unwrap()
+}
+
+/// What a function gives to an image that it writes: the size of its first input, and a format of
+/// its own.
+fn given_outline(function: Function, first: Outline) -> Outline
+    ensures { result ≡ given_outline function first }
+{
+    first.has_sides();
+    let format = first.format().map(|format| function.open_format(format));
+    Outline::new(first.width(), first.height(), format).unwrap()
+}
+
+/// Learns of a cell that a node writes, where it is a virtual image.
+fn learn_cell(
+    known: &mut Vec<Known>,
+    cell: ObjRef,
+    operand: Operand,
+    given: Outline,
+) -> Result<(), AllocError>
+    ensures learnt { OnOk result (known.new.items ≡ known.old.items ++ learnt (Some cell) (Some operand) given) }
+    ensures limit { OnOk result (length known.new.items ≤ length known.old.items + 1) }
+{
+    match operand {
+        Operand::Virtual(declared) => {
+            let outline = declared.filled(given);
+            known.push(Known { cell, outline })?;
+            Ok(())
+        }
+        _ => Ok(()),
+    }
+}
+
+/// Learns of an output, if it is there.
+fn learn_output(
+    known: &mut Vec<Known>,
+    cell: Option<ObjRef>,
+    operand: Option<Operand>,
+    given: Outline,
+) -> Result<(), AllocError>
+    ensures learnt { OnOk result (known.new.items ≡ known.old.items ++ learnt cell operand given) }
+    ensures limit { OnOk result (length known.new.items ≤ length known.old.items + 1) }
+{
+    match (cell, operand) {
+        (Some(cell), Some(operand)) => learn_cell(known, cell, operand, given),
+        _ => Ok(()),
+    }
+}
+
+/// Learns of what a node writes.
+fn learn(known: &mut Vec<Known>, linked: &Linked) -> Result<(), AllocError>
+    ensures learnt { OnOk result (known.new.items ≡ known.old.items ++ learnt_from known.old.items linked.now) }
+    ensures limit { OnOk result (length known.new.items ≤ length known.old.items + 2) }
+{
+    let Linked { node, operands } = linked;
+    let first = known_outline(known, node.in1, operands.in1);
+    let given = given_outline(node.function, first);
+    learn_output(known, node.out1, operands.out1, given)?;
+    learn_output(known, node.out2, operands.out2, given)
+}
+
+/// What a cell, which is this operand, is by what is known.
+fn known_operand(known: &[Known], cell: ObjRef, operand: Operand) -> Operand
+    ensures { result ≡ known_operand known.now cell operand }
+{
+    match operand {
+        Operand::Virtual(_) => as_described(known_outline(known, cell, operand)),
+        operand => operand,
+    }
+}
+
+/// A virtual image of which all is known is an operand like any image.
+fn as_described(known: Outline) -> Operand
+    ensures { result ≡ as_described known (closed known) }
+{
+    match known.closed() {
+        None => Operand::Virtual(known),
+        Some(desc) => Operand::Image(desc),
+    }
+}
+
+/// What a cell, if it is there, is by what is known.
+fn known_given(known: &[Known], cell: Option<ObjRef>, operand: Option<Operand>) -> Option<Operand>
+    ensures { result ≡ known_given known.now cell operand }
+{
+    match (cell, operand) {
+        (Some(cell), Some(operand)) => Some(known_operand(known, cell, operand)),
+        _ => None,
+    }
+}
+
+/// What the cells of a node are by what is known.
+pub fn known_operands(known: &[Known], linked: &Linked) -> Operands
+    ensures { result ≡ known_operands known.now linked.now }
+{
+    let Linked { node, operands } = linked;
+    Operands {
+        in1: known_operand(known, node.in1, operands.in1),
+        in2: known_given(known, node.in2, operands.in2),
+        out1: known_given(known, node.out1, operands.out1),
+        out2: known_given(known, node.out2, operands.out2),
+    }
+}
+
+/// What is known of the virtual images that nodes write, which stand in an order and whose first
+/// inputs are images.
+pub fn known_after(alloc: Global, steps: &[Linked]) -> Result<Vec<Known>, AllocError>
+    requires one_writer { two_writers (linked_nodes steps.now) ≡ false }
+    requires in_turn { InTurn feeds (linked_nodes steps.now) }
+    requires images { All (λ l. IsTrue (is_image l.operands.in1)) steps.now }
+    ensures known { IfOk result (λ known. (is : Cell → Operand) → AreOperands is steps.now → AreKnown is (linked_nodes steps.now) known.items) }
+    ensures limit { IfOk result (λ known. length known.items ≤ 2 * length steps.now) }
+{
+    let mut known = Vec::new(alloc);
+    for linked in steps {
+        learn(&mut known, linked)?;
+    }
+    Ok(known)
+}
+
+/// The virtual images of which all is known.
+pub fn all_described(alloc: Global, known: &[Known]) -> Result<Vec<VirtualOutput>, AllocError>
+    ensures { IfOk result (λ outputs. outputs.items ≡ filter_map described known.now) }
+{
+    known
+        .iter()
+        .filter_map(|known| known.described())
+        .collect(alloc)
+}
+
+/// The bytes of the images' samples.
+pub fn sample_bytes(outputs: &[VirtualOutput]) -> u64
+    requires { length outputs.now ≤ 512 }
+    ensures { result ≡ sum_by (λ o. byte_count o.desc) outputs.now }
+{
+    let mut bytes = 0;
+    for output in outputs {
+        bytes += output.desc.byte_count() as u64;
+    }
+    bytes
+}

@@ -1,0 +1,110 @@
+//! Nodes and the cells by which they are linked.
+ghost use Rattle.std.specs.Prelude.{◌≡◌, ◌||◌};
+ghost use Rattle.std.specs.List.{list_any};
+ghost use Rattle.vx_base.specs.Cell.{Cell};
+ghost use Rattle.vx_base.specs.Node.{given, outputs};
+ghost use Rattle.graph_verify.specs.Links.{writes, is_written};
+ghost use Rattle.graph_verify.specs.declared.operand.Operand.{Operand};
+ghost use Rattle.graph_verify.specs.Linked.{linked_nodes, AreOperands, is_loose_end, is_given_loose, has_loose_input};
+ghost use Rattle.graph_verify.specs.Verdict.{two_writers, writes_twice, reads_loose};
+
+use crate::operand::{Operand, Operands};
+use vx_base::{Node, ObjRef};
+
+/// A node, and what the cells are that it names.
+#[derive(Clone, Copy, PartialEq, Eq, Debug)]
+pub struct Linked {
+    pub node: Node,
+    pub operands: Operands,
+}
+
+/// Whether a node writes a cell.
+pub fn writes(node: &Node, cell: ObjRef) -> bool
+    ensures { result ≡ writes node.now cell }
+{
+    node.out1 == Some(cell) || node.out2 == Some(cell)
+}
+
+/// Whether a node writes a cell, if that is there.
+pub fn writes_given(node: &Node, cell: Option<ObjRef>) -> bool
+    ensures { result ≡ list_any (writes node.now) (given cell) }
+{
+    cell.is_some_and(|cell| writes(node, cell))
+}
+
+/// Whether two outputs of a node are one cell.
+pub fn writes_twice(node: &Node) -> bool
+    ensures { result ≡ writes_twice node.now }
+{
+    match (node.out1, node.out2) {
+        (Some(first), Some(second)) => first == second,
+        _ => false,
+    }
+}
+
+/// Whether one of the nodes writes a cell.
+pub fn is_written(nodes: &[Linked], cell: ObjRef) -> bool
+    ensures { result ≡ is_written (linked_nodes nodes.now) cell }
+{
+    nodes.iter().any(|linked| writes(&linked.node, cell))
+}
+
+/// Whether one of the nodes writes a cell, if that is there.
+pub fn is_given_written(nodes: &[Linked], cell: Option<ObjRef>) -> bool
+    ensures { result ≡ list_any (is_written (linked_nodes nodes.now)) (given cell) }
+{
+    cell.is_some_and(|cell| is_written(nodes, cell))
+}
+
+/// Whether an output of a node is also another of its outputs, or one of other nodes.
+fn shares_output(others: &[Linked], node: &Node) -> bool
+    ensures { result ≡ (writes_twice node.now || list_any (is_written (linked_nodes others.now)) (outputs node.now)) }
+{
+    writes_twice(node) || is_given_written(others, node.out1) || is_given_written(others, node.out2)
+}
+
+/// Whether two outputs, of two nodes or of one, are one cell.
+pub fn has_two_writers(nodes: &[Linked]) -> bool
+    ensures { result ≡ two_writers (linked_nodes nodes.now) }
+{
+    let mut rest = nodes;
+    while let Some((linked, others)) = rest.split_first() {
+        if shares_output(others, &linked.node) {
+            return true;
+        }
+        rest = others;
+    }
+    false
+}
+
+/// Whether a cell, which is this operand, is a virtual image that none of the nodes writes.
+fn is_loose_end(nodes: &[Linked], cell: ObjRef, operand: Operand) -> bool
+    ensures { result ≡ is_loose_end (linked_nodes nodes.now) cell operand }
+{
+    operand.is_virtual() && !is_written(nodes, cell)
+}
+
+/// Whether a cell, if it is there, is a virtual image that none of the nodes writes.
+fn is_given_loose(nodes: &[Linked], cell: Option<ObjRef>, operand: Option<Operand>) -> bool
+    ensures { result ≡ is_given_loose (linked_nodes nodes.now) cell operand }
+{
+    match (cell, operand) {
+        (Some(cell), Some(operand)) => is_loose_end(nodes, cell, operand),
+        _ => false,
+    }
+}
+
+/// Whether a node reads a virtual image that none of the nodes writes.
+fn has_loose_input(nodes: &[Linked], linked: &Linked) -> bool
+    ensures { result ≡ has_loose_input (linked_nodes nodes.now) linked.now }
+{
+    let Linked { node, operands } = linked;
+    is_loose_end(nodes, node.in1, operands.in1) || is_given_loose(nodes, node.in2, operands.in2)
+}
+
+/// Whether a node reads a virtual image that no node writes.
+pub fn reads_loose(nodes: &[Linked]) -> bool
+    ensures { (is : Cell → Operand) → AreOperands is nodes.now → result ≡ reads_loose is (linked_nodes nodes.now) }
+{
+    nodes.iter().any(|linked| has_loose_input(nodes, linked))
+}

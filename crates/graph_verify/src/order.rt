@@ -1,0 +1,104 @@
+//! Orders in which the nodes of a graph can run.
+ghost use Rattle.std.specs.Prelude.{◌≡◌, ◌+◌, ◌<◌, false, not, ◌||◌, length, map, slice_index_or, position, is_none, IfOk, IfSome};
+ghost use Rattle.std.specs.List.{remove};
+ghost use Rattle.graph_verify.specs.declared.order.Waiting.{Waiting};
+ghost use Rattle.graph_verify.specs.Cycle.{has_cycle};
+ghost use Rattle.graph_verify.specs.Links.{feeds};
+ghost use Rattle.graph_verify.specs.Linked.{linked_nodes};
+ghost use Rattle.graph_verify.specs.Order.{IsOrder};
+ghost use Rattle.graph_verify.specs.Verdict.{two_writers};
+ghost use Rattle.graph_verify.specs.Waiting.{waiting_among, once_ordered};
+
+use crate::linked::{Linked, is_given_written, is_written, writes, writes_given};
+use std::alloc::{AllocError, Global};
+use vx_base::Node;
+
+/// A node that isn't in the order yet, and whether nodes that aren't either write its inputs.
+#[derive(Clone, Copy)]
+struct Waiting {
+    linked: Linked,
+    for_in1: bool,
+    for_in2: bool,
+}
+
+impl Waiting {
+    /// A node among those that aren't in the order, itself one of them.
+    fn among(nodes: &[Linked], linked: &Linked) -> Waiting
+        ensures { result ≡ waiting_among (linked_nodes nodes.now) linked.now }
+    {
+        Waiting {
+            linked: *linked,
+            for_in1: is_written(nodes, linked.node.in1),
+            for_in2: is_given_written(nodes, linked.node.in2),
+        }
+    }
+
+    /// This node, once another is in the order. No third writes what that one writes.
+    fn once_ordered(self, ordered: &Node) -> Waiting
+        ensures { result ≡ once_ordered ordered.now self }
+    {
+        let node = &self.linked.node;
+        Waiting {
+            linked: self.linked,
+            for_in1: self.for_in1 && !writes(ordered, node.in1),
+            for_in2: self.for_in2 && !writes_given(ordered, node.in2),
+        }
+    }
+}
+
+/// The nodes, before any is in the order.
+fn all_waiting(alloc: Global, nodes: &[Linked]) -> Result<Vec<Waiting>, AllocError>
+    ensures { IfOk result (λ rest. rest.items ≡ map (waiting_among (linked_nodes nodes.now)) nodes.now) }
+{
+    nodes
+        .iter()
+        .map(|linked| Waiting::among(nodes, linked))
+        .collect(alloc)
+}
+
+/// The index of the first node that waits for none.
+fn first_ready(rest: &[Waiting]) -> Option<usize>
+    ensures { result ≡ position (λ w. not (w.for_in1 || w.for_in2)) rest.now }
+{
+    rest.iter()
+        .position(|waiting| !(waiting.for_in1 || waiting.for_in2))
+}
+
+/// The nodes that are left, once one more is in the order.
+fn settle(rest: &mut [Waiting], ordered: &Node)
+    ensures { rest.new ≡ map (once_ordered ordered.now) rest.old }
+{
+    for waiting in rest.iter_mut() {
+        *waiting = waiting.once_ordered(ordered);
+    }
+}
+
+/// Takes out the node at an index, which comes next in the order.
+fn take_out(rest: &mut Vec<Waiting>, index: usize) -> Linked
+    requires { index < length rest.old.items }
+    ensures ordered { (d : Waiting) → result ≡ (slice_index_or rest.old.items index d).linked }
+    ensures fewer { length rest.new.items + 1 ≡ length rest.old.items }
+    ensures rest { rest.new.items ≡ map (once_ordered result.node) (remove rest.old.items index) }
+{
+    let ordered = rest.remove(index).linked;
+    settle(rest.as_mut_slice(), &ordered.node);
+    ordered
+}
+
+/// The nodes, each after those that feed it. `None` where there is a cycle.
+pub fn put_in_order(alloc: Global, nodes: &[Linked]) -> Result<Option<Vec<Linked>>, AllocError>
+    requires { two_writers (linked_nodes nodes.now) ≡ false }
+    ensures order { IfOk result (λ found. IfSome found (λ steps. IsOrder (λ a b. feeds a.node b.node) nodes.now steps.items)) }
+    ensures cycle { IfOk result (λ found. is_none found ≡ has_cycle feeds (linked_nodes nodes.now)) }
+{
+    let mut rest = all_waiting(alloc, nodes)?;
+    let mut steps = Vec::new(alloc);
+    'ordering: while !rest.is_empty() {
+        let Some(index) = first_ready(&rest) else {
+            return Ok(None);
+        };
+        let ordered = take_out(&mut rest, index);
+        steps.push(ordered)?;
+    }
+    Ok(Some(steps))
+}

@@ -1,0 +1,146 @@
+//! Graphs that can run, and how.
+ghost use Rattle.std.specs.Prelude.{◌≡◌, ◌≤◌, false, IsTrue, length, find, List, All, Some, None, IfOk, IfErr, OnOk};
+ghost use Rattle.vx_base.specs.Cell.{Cell, same_cell};
+ghost use Rattle.vx_base.specs.declared.node.Node.{Node as NodeFields};
+ghost use Rattle.graph_verify.specs.declared.operand.Operand.{Operand};
+ghost use Rattle.graph_verify.specs.Known.{known_operands};
+ghost use Rattle.graph_verify.specs.Linked.{linked_nodes, AreOperands};
+ghost use Rattle.graph_verify.specs.Links.{feeds};
+ghost use Rattle.graph_verify.specs.Order.{IsOrder};
+ghost use Rattle.graph_verify.specs.Operand.{is_image, operands_of};
+ghost use Rattle.graph_verify.specs.Verdict.{two_writers, verdict, first_fault};
+ghost use Rattle.graph_verify.specs.Verified.{IfRefused, IsVerified, written_description};
+
+use crate::known::{
+    Known, VirtualOutput, all_described, known_after, known_operands, sample_bytes,
+};
+use crate::linked::{Linked, has_two_writers, reads_loose};
+use crate::order::put_in_order;
+use crate::verdict::{Verdict, node_fault};
+use std::alloc::{AllocError, Global};
+use vx_base::{Desc, Node, ObjRef};
+
+/// A graph that can run.
+#[derive(Debug, Drop)]
+pub struct Verified {
+    /// Its nodes, each after those that feed it.
+    pub steps: Vec<Node>,
+    /// The virtual images that they write, in the order of writing.
+    pub virtual_outputs: Vec<VirtualOutput>,
+}
+
+/// Why a graph isn't verified.
+#[derive(Clone, Copy, PartialEq, Eq, Debug)]
+pub enum VerifyFault {
+    /// No memory was found.
+    NoMemory,
+    /// The graph can't run.
+    Refused(Verdict),
+}
+
+impl From<AllocError> for VerifyFault {
+    ghost use Rattle.graph_verify.specs.declared.verified.VerifyFault.TheVariants.{NoMemory};
+
+    ghost from_gives = { λ _ fault. fault ≡ NoMemory };
+
+    fn from(_: AllocError) -> VerifyFault {
+        VerifyFault::NoMemory
+    }
+}
+
+impl Verified {
+    /// The description of a virtual image that the nodes write. `None` for every other cell.
+    pub fn desc_of(&self, cell: ObjRef) -> Option<Desc>
+        ensures { (is : Cell → Operand) (nodes : List NodeFields) → IsVerified is nodes self.now → result ≡ written_description is nodes cell }
+    {
+        let output = self.find(cell)?;
+        Some(output.desc)
+    }
+
+    /// The virtual image that the nodes write and that is this cell.
+    fn find(&self, cell: ObjRef) -> Option<VirtualOutput>
+        ensures { result ≡ find (λ o. same_cell o.cell cell) self.now.virtual_outputs.items }
+    {
+        self.virtual_outputs
+            .iter()
+            .copied()
+            .find(|output| output.cell == cell)
+    }
+}
+
+/// The fault of the node that was added first among those that have one. The operands of each node
+/// are what its cells are once the open parts of virtual images are known.
+fn first_fault(nodes: &[Linked], known: &[Known]) -> Option<Verdict>
+    ensures { (is : Cell → Operand) → All (λ l. known_operands known.now l ≡ operands_of is l.node) nodes.now → result ≡ first_fault is (linked_nodes nodes.now) }
+{
+    for linked in nodes {
+        let fault = node_fault(linked.node.function, &known_operands(known, linked));
+        if fault.is_some() {
+            return fault;
+        }
+    }
+    None
+}
+
+/// The nodes alone.
+fn nodes_of(alloc: Global, linked: &[Linked]) -> Result<Vec<Node>, AllocError>
+    ensures { IfOk result (λ nodes. nodes.items ≡ linked_nodes linked.now) }
+{
+    let mut nodes = Vec::new(alloc);
+    for linked in linked {
+        nodes.push(linked.node)?;
+    }
+    Ok(nodes)
+}
+
+/// Verifies a graph whose nodes, of which no two write one cell, are also given in an order.
+fn verify_ordered(
+    alloc: Global,
+    nodes: &[Linked],
+    steps: &[Linked],
+    work: u64,
+) -> Result<Verified, VerifyFault>
+    requires count { length nodes.now ≤ 256 }
+    requires images { All (λ l. IsTrue (is_image l.operands.in1)) nodes.now }
+    requires one_writer { two_writers (linked_nodes nodes.now) ≡ false }
+    requires order { IsOrder (λ a b. feeds a.node b.node) nodes.now steps.now }
+    ensures verified { IfOk result (λ v. (is : Cell → Operand) → AreOperands is nodes.now → IsVerified is (linked_nodes nodes.now) v) }
+    ensures ok { OnOk result ((is : Cell → Operand) → AreOperands is nodes.now → verdict work is (linked_nodes nodes.now) ≡ None) }
+    ensures refused { IfErr result (λ fault. (is : Cell → Operand) → AreOperands is nodes.now → IfRefused fault (λ v. verdict work is (linked_nodes nodes.now) ≡ Some v)) }
+{
+    if reads_loose(nodes) {
+        return Err(VerifyFault::Refused(Verdict::InvalidLink));
+    }
+    let known = known_after(alloc, steps)?;
+    if let Some(fault) = first_fault(nodes, &known) {
+        return Err(VerifyFault::Refused(fault));
+    }
+    let virtual_outputs = all_described(alloc, &known)?;
+    if sample_bytes(&virtual_outputs) > work {
+        return Err(VerifyFault::Refused(Verdict::NoResources));
+    }
+    let steps = nodes_of(alloc, steps)?;
+    Ok(Verified {
+        steps,
+        virtual_outputs,
+    })
+}
+
+/// Verifies a graph: its nodes in the order of adding, each beside what its cells are. The virtual
+/// images that they write may take so many bytes. A graph has at most 256 nodes, and the first
+/// input of each is an image.
+pub fn verify(alloc: Global, nodes: &[Linked], work: u64) -> Result<Verified, VerifyFault>
+    requires count { length nodes.now ≤ 256 }
+    requires images { All (λ l. IsTrue (is_image l.operands.in1)) nodes.now }
+    ensures verified { IfOk result (λ v. (is : Cell → Operand) → AreOperands is nodes.now → IsVerified is (linked_nodes nodes.now) v) }
+    ensures ok { OnOk result ((is : Cell → Operand) → AreOperands is nodes.now → verdict work is (linked_nodes nodes.now) ≡ None) }
+    ensures refused { IfErr result (λ fault. (is : Cell → Operand) → AreOperands is nodes.now → IfRefused fault (λ v. verdict work is (linked_nodes nodes.now) ≡ Some v)) }
+{
+    if has_two_writers(nodes) {
+        return Err(VerifyFault::Refused(Verdict::MultipleWriters));
+    }
+    match put_in_order(alloc, nodes)? {
+        None => Err(VerifyFault::Refused(Verdict::InvalidGraph)),
+        Some(steps) => verify_ordered(alloc, nodes, &steps, work),
+    }
+}

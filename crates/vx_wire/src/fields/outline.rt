@@ -1,0 +1,46 @@
+//! What is known of an image that isn't there: the format, the width and the height. 0 leaves one
+//! open.
+ghost use Rattle.std.specs.Prelude.{◌≡◌, IfOk, IsTrue};
+ghost use Rattle.vx_base.specs.Outline.{may_be_side};
+ghost use Rattle.vx_wire.specs.Fields.{Takes};
+ghost use Rattle.vx_wire.specs.Outline.{take_open_side, take_outline, outline_bytes};
+
+use crate::body_fault::BodyFault;
+use crate::fields::Fields;
+use crate::fields::format::{open_format_number, take_open_format};
+use vx_base::{GREATEST_SIDE, Outline};
+
+/// The width or the height: 0 where it is open, or 1 to 4096.
+fn take_open_side(fields: &mut Fields) -> Result<Option<u16>, BodyFault>
+    ensures taken { Takes take_open_side fields.old fields.new result }
+    ensures allowed { IfOk result (λ side. IsTrue (may_be_side side)) }
+{
+    match fields.short()? {
+        0 => Ok(None),
+        side if side <= GREATEST_SIDE => Ok(Some(side)),
+        _ => Err(BodyFault::InvalidDimension),
+    }
+}
+
+/// An outline.
+pub fn take_outline(fields: &mut Fields) -> Result<Outline, BodyFault>
+    ensures { Takes take_outline fields.old fields.new result }
+{
+    let format = take_open_format(fields)?;
+    let width = take_open_side(fields)?;
+    let height = take_open_side(fields)?;
+    match Outline::new(width, height, format) {
+        Some(outline) => Ok(outline),
+        None => unreachable!(),
+    }
+}
+
+/// The bytes of an outline.
+pub fn outline_bytes(outline: Outline) -> [u8; 5]
+    ensures { result ≡ outline_bytes outline }
+{
+    let format = open_format_number(outline.format());
+    let [a, b] = outline.width().unwrap_or(0).to_be_bytes();
+    let [c, d] = outline.height().unwrap_or(0).to_be_bytes();
+    [format, a, b, c, d]
+}

@@ -1,0 +1,65 @@
+//! The bodies of requests about graphs, their nodes and their virtual images.
+ghost use Rattle.std.specs.Prelude.{◌≡◌};
+ghost use Rattle.vx_wire.specs.Graphs.{create_graph_in, create_virtual_image_in, add_node_in, remove_node_in, verify_graph_in, process_graph_in};
+
+use crate::body_fault::BodyFault;
+use crate::fields::Fields;
+use crate::fields::node::take_node;
+use crate::fields::outline::take_outline;
+use crate::requests::name_alone;
+use client_model::Request;
+
+/// An empty body.
+pub fn create_graph(body: &[u8]) -> Result<Request, BodyFault>
+    ensures { result ≡ create_graph_in body.now }
+{
+    Fields::new(body).end()?;
+    Ok(Request::CreateGraph)
+}
+
+/// The name of the graph, and an outline.
+pub fn create_virtual_image(body: &[u8]) -> Result<Request, BodyFault>
+    ensures { result ≡ create_virtual_image_in body.now }
+{
+    let mut fields = Fields::new(body);
+    let graph = fields.long()?;
+    let declared = take_outline(&mut fields)?;
+    fields.end()?;
+    Ok(Request::CreateVirtualImage(graph, declared))
+}
+
+/// The name of the graph, and a node.
+pub fn add_node(body: &[u8]) -> Result<Request, BodyFault>
+    ensures { result ≡ add_node_in body.now }
+{
+    let mut fields = Fields::new(body);
+    let graph = fields.long()?;
+    let node = take_node(&mut fields)?;
+    fields.end()?;
+    Ok(Request::AddNode(graph, node))
+}
+
+/// The name of the graph, and the number of a node.
+pub fn remove_node(body: &[u8]) -> Result<Request, BodyFault>
+    ensures { result ≡ remove_node_in body.now }
+{
+    let mut fields = Fields::new(body);
+    let graph = fields.long()?;
+    let number = fields.long()?;
+    fields.end()?;
+    Ok(Request::RemoveNode(graph, number))
+}
+
+/// The name of the graph.
+pub fn verify_graph(body: &[u8]) -> Result<Request, BodyFault>
+    ensures { result ≡ verify_graph_in body.now }
+{
+    Ok(Request::VerifyGraph(name_alone(body)?))
+}
+
+/// The name of the graph.
+pub fn process_graph(body: &[u8]) -> Result<Request, BodyFault>
+    ensures { result ≡ process_graph_in body.now }
+{
+    Ok(Request::ProcessGraph(name_alone(body)?))
+}
