@@ -1,0 +1,185 @@
+"""
+Pictures over a cluster of dask.distributed: each worker process has a server of its own.
+
+A server starts when the first picture reaches its worker. It ends with the worker, however that ends: its input, a pipe
+that the worker holds, has ended then.
+"""
+
+from __future__ import annotations
+
+import threading
+import uuid
+from collections import OrderedDict
+from typing import TYPE_CHECKING, Any, Callable, Dict, Iterable, List, NamedTuple, Optional, Tuple
+
+from .context import Context
+from .errors import FeqyldanError, ServerEnded
+from .graphs import Graph
+from .objects import AnyImage
+from .samples import is_array, samples_of
+from .server import Server
+
+if TYPE_CHECKING:
+    from distributed import Client, Future
+
+Build = Callable[[Context, int, int], Tuple[Graph, AnyImage, AnyImage]]
+# How many graphs that no picture uses now a worker keeps for the next ones, each in a context of its own.
+IDLE_GRAPHS = 8
+
+
+def map_pictures(client: Client, graph: Build, pictures: Iterable[Any], *, program: str, quota: Optional[int] = None,
+                 work: Optional[int] = None, **options: Any) -> List[Future]:
+    """
+    Runs a graph on each picture somewhere on the cluster. Gives a future for each, in the order of the pictures, as
+    Client.map does: client.gather(futures) has the outputs, distributed.as_completed(futures) each when it is there.
+
+        def edges(context, width, height):
+            camera = context.image(vx.U8, width, height)
+            out = context.image(vx.U8, width, height)
+            graph = context.graph()
+            smooth = graph.virtual_image()
+            graph.gaussian3x3(camera, smooth)
+            graph.absdiff(camera, smooth, out)
+            return graph, camera, out
+
+        outputs = client.gather(map_pictures(client, edges, pictures, program="/usr/bin/vx_main"))
+
+    `graph` is a function, since an object of a context can't travel while functions do, as everywhere in dask. Called
+    as graph(context, width, height), in samples, it gives the graph, the image that each picture is written to, and the
+    image that is read after the run. A worker calls it once for each size and each graph that it runs at a time, and
+    may use what it made again: so a graph that keeps something from one picture to the next, as by a delay, gives
+    outputs that depend on how dask spreads the pictures. What its nodes don't use is kept by nobody once it returns.
+
+    `pictures` are NumPy arrays of shape (height, width), rows of numbers, or futures of them: a future's picture never
+    passes through the client. Others travel with their task and stay with the scheduler until their future is dropped,
+    so that they are there again where a worker ends. An output is a NumPy array, or rows of numbers on a worker
+    without NumPy.
+
+    `program` is the path of vx_main on the workers, `quota` and `work` are as those of Server. `options` are those of
+    Client.map, such as retries. Where a worker ends before its outputs were gathered, dask runs their tasks elsewhere,
+    up to the cluster's limit (distributed.scheduler.allowed-failures); a future is one output, however often it ran. A
+    refusal comes as the future's exception; so does ServerEnded, and the next picture gets a new server.
+    """
+    job = Job(uuid.uuid4().hex, graph, program, quota, work)
+    # Impure, since equal pictures would share one future.
+    return client.map(job.run, [carried(picture) for picture in pictures], **{"pure": False, **options})
+
+
+class Rows:
+    """Rows of numbers on their way: dask would look for futures among the numbers of a list."""
+
+    def __init__(self, rows: Any) -> None:
+        self.rows = rows
+
+
+def carried(picture: Any) -> Any:
+    """A picture as it travels."""
+    return Rows(picture) if isinstance(picture, (list, tuple)) else picture
+
+
+class Line(NamedTuple):
+    """A graph that was built, in a context of its own."""
+
+    context: Context
+    graph: Graph
+    source: AnyImage
+    target: AnyImage
+
+    def run(self, picture: Any) -> Any:
+        self.source.write(picture)
+        self.graph.process()
+        output = self.target.read()
+        # A memoryview, which is read where there is no NumPy, can't travel.
+        return output if is_array(output) else output.tolist()
+
+
+class Station:
+    """A worker's server, with the graphs that wait there for pictures."""
+
+    def __init__(self, server: Server) -> None:
+        self.server = server
+        self._lock = threading.Lock()
+        # Those idle since longest are first.
+        self._idle: OrderedDict[Line, Tuple[str, int, int]] = OrderedDict()
+
+    def take(self, key: Tuple[str, int, int], build: Build) -> Line:
+        """A line for a job's pictures of this width and height, that nobody else uses."""
+        with self._lock:
+            line = next((line for line, its_key in self._idle.items() if its_key == key), None)
+            if line is not None:
+                del self._idle[line]
+                return line
+        context = self.server.context()
+        try:
+            return Line(context, *build(context, *key[1:]))
+        except BaseException:
+            close(context)
+            raise
+
+    def give_back(self, line: Line, key: Tuple[str, int, int]) -> None:
+        with self._lock:
+            self._idle[line] = key
+            oldest = self._idle.popitem(last=False)[0] if len(self._idle) > IDLE_GRAPHS else None
+        if oldest is not None:
+            close(oldest.context)
+
+
+class Job(NamedTuple):
+    """What a task has besides its picture. Its number tells its graph from those of other calls."""
+
+    number: str
+    build: Build
+    program: str
+    quota: Optional[int]
+    work: Optional[int]
+
+    def run(self, picture: Any) -> Any:
+        """The output for a picture. It runs on a worker, in one of its threads."""
+        picture = picture.rows if isinstance(picture, Rows) else picture
+        height, width = picture.shape if is_array(picture) else samples_of(picture)[2:0:-1]
+        key = self.number, width, height
+        station = station_of(self)
+        line = None
+        try:
+            line = station.take(key, self.build)
+            output = line.run(picture)
+        except BaseException as error:
+            if line is not None:
+                close(line.context)
+            if isinstance(error, ServerEnded):
+                drop(station)
+            raise
+        station.give_back(line, key)
+        return output
+
+
+# Of this process, by the program, the quota and the work bytes.
+STATIONS: Dict[Tuple[str, Optional[int], Optional[int]], Station] = {}
+STATIONS_LOCK = threading.Lock()
+
+
+def station_of(job: Job) -> Station:
+    """The station of this process for a job, whose server is started where there is none."""
+    with STATIONS_LOCK:
+        key = job.program, job.quota, job.work
+        if key not in STATIONS:
+            STATIONS[key] = Station(Server(job.program, quota=job.quota, work=job.work))
+        return STATIONS[key]
+
+
+def drop(station: Station) -> None:
+    """
+    A server has ended: the next picture starts another. It isn't closed here, so that other threads that use it raise
+    how it ended, and not that it was closed.
+    """
+    with STATIONS_LOCK:
+        for key in [key for key, other in STATIONS.items() if other is station]:
+            del STATIONS[key]
+
+
+def close(context: Context) -> None:
+    """Closes a context whose server may have ended."""
+    try:
+        context.close()
+    except FeqyldanError:
+        pass

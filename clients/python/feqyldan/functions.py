@@ -1,0 +1,217 @@
+"""
+The vision functions by their OpenVX names, with the standard's order of parameters. `Context.vxu` runs them at once,
+as vxuAbsDiff does; a `Graph` adds them as nodes, as vxAbsDiffNode does. Each is written here once, for both.
+
+The valid pixels of an output are those that are valid in all input images; where it says so below, less of them. All
+other samples of an output become 0.
+"""
+
+from __future__ import annotations
+
+import inspect
+from enum import IntEnum
+from typing import TYPE_CHECKING, Callable, Dict, Generic, NamedTuple, Optional, TypeVar, Union
+
+from . import wire
+from .objects import AnyImage, Convolution, Distribution, Lut, MinMax, Named, Threshold
+
+if TYPE_CHECKING:
+    from .graphs import VirtualImage
+
+# An image, a slot of a delay, or in a graph a virtual image of it.
+Operand = Union[AnyImage, "VirtualImage"]
+# What each method gives: nothing in immediate mode, the node in a graph.
+Given = TypeVar("Given")
+Method = TypeVar("Method", bound=Callable)
+
+
+class Policy(IntEnum):
+    """What becomes of a result that is no sample of the output: WRAP counts modulo 2^8 or 2^16, SATURATE is nearest."""
+
+    WRAP = wire.WRAP
+    SATURATE = wire.SATURATE
+
+
+class Border(NamedTuple):
+    """
+    What a window sees beside its input's valid pixels. With UNDEFINED the output is valid only where the whole window
+    is; with REPLICATE it sees the nearest valid pixel; with constant(value) that value, from 0 to 255.
+    """
+
+    mode: int
+    value: int = 0
+
+
+UNDEFINED, REPLICATE = Border(wire.UNDEFINED), Border(wire.REPLICATE)
+
+
+def constant(value: int) -> Border:
+    """The border that is a value everywhere, from 0 to 255."""
+    return Border(wire.CONSTANT, value)
+
+
+class Function(NamedTuple):
+    """A function: its number in frames, and the name that OpenVX's function has after vx and vxu."""
+
+    number: int
+    openvx: str
+
+
+# The functions by the names of their methods.
+FUNCTIONS: Dict[str, Function] = {}
+
+
+def function(number: int, openvx: str) -> Callable[[Method], Method]:
+    """Enters a method into FUNCTIONS, and says in its docstring what OpenVX calls it."""
+
+    def entered(method: Method) -> Method:
+        FUNCTIONS[method.__name__] = Function(number, openvx)
+        method.__doc__ = f"{inspect.cleandoc(method.__doc__ or '')}\n\nOpenVX: vxu{openvx}, vx{openvx}Node."
+        return method
+
+    return entered
+
+
+class Functions(Generic[Given]):
+    """The methods that immediate mode and graphs share. All images of one call have one size."""
+
+    def _do(self, name: str, in1: Operand, in2: Optional[Union[Operand, Named]],
+            out1: Optional[Union[Operand, Named]], out2: Optional[Operand] = None, policy: int = wire.WRAP,
+            amount: int = 0, border: Border = UNDEFINED) -> Given:
+        raise NotImplementedError
+
+    @function(wire.AND_BITS, "And")
+    def and_(self, in1: Operand, in2: Operand, output: Operand) -> Given:
+        """The bits that are 1 in both. U8 and U8 to U8."""
+        return self._do("and_", in1, in2, output)
+
+    @function(wire.OR_BITS, "Or")
+    def or_(self, in1: Operand, in2: Operand, output: Operand) -> Given:
+        """The bits that are 1 in either. U8 and U8 to U8."""
+        return self._do("or_", in1, in2, output)
+
+    @function(wire.XOR_BITS, "Xor")
+    def xor(self, in1: Operand, in2: Operand, output: Operand) -> Given:
+        """The bits that differ. U8 and U8 to U8."""
+        return self._do("xor", in1, in2, output)
+
+    @function(wire.NOT_BITS, "Not")
+    def not_(self, input: Operand, output: Operand) -> Given:
+        """255 - a. U8 to U8."""
+        return self._do("not_", input, None, output)
+
+    @function(wire.ADD, "Add")
+    def add(self, in1: Operand, in2: Operand, policy: int, output: Operand) -> Given:
+        """
+        a + b by the policy, WRAP or SATURATE. Each of the inputs U8 or S16, to S16; or U8 and U8 to U8. A virtual
+        output of open format is S16.
+        """
+        return self._do("add", in1, in2, output, policy=policy)
+
+    @function(wire.SUBTRACT, "Subtract")
+    def subtract(self, in1: Operand, in2: Operand, policy: int, output: Operand) -> Given:
+        """a - b by the policy. Formats as for add."""
+        return self._do("subtract", in1, in2, output, policy=policy)
+
+    @function(wire.MULTIPLY, "Multiply")
+    def multiply(self, in1: Operand, in2: Operand, shift: int, policy: int, output: Operand) -> Given:
+        """
+        a * b / 2^shift by the policy, the quotient rounded to zero. Formats as for add.
+
+        The shift, from 0 to 15, stands for the standard's scale 1 / 2^shift: scale 1 is shift 0, 1/256 is shift 8. The
+        scale 1/255 is left out, as is the rounding policy: VX_ROUND_POLICY_TO_ZERO is the only one.
+        """
+        return self._do("multiply", in1, in2, output, policy=policy, amount=shift)
+
+    @function(wire.ABSOLUTE_DIFFERENCE, "AbsDiff")
+    def absdiff(self, in1: Operand, in2: Operand, output: Operand) -> Given:
+        """The distance of a and b, at most 32767. U8 and U8 to U8; S16 and S16 to S16."""
+        return self._do("absdiff", in1, in2, output)
+
+    @function(wire.MIN_PIXEL, "Min")
+    def min(self, in1: Operand, in2: Operand, output: Operand) -> Given:
+        """The smaller of both. U8 and U8 to U8; S16 and S16 to S16."""
+        return self._do("min", in1, in2, output)
+
+    @function(wire.MAX_PIXEL, "Max")
+    def max(self, in1: Operand, in2: Operand, output: Operand) -> Given:
+        """The greater of both. U8 and U8 to U8; S16 and S16 to S16."""
+        return self._do("max", in1, in2, output)
+
+    @function(wire.THRESHOLD, "Threshold")
+    def threshold(self, input: Operand, threshold: Threshold, output: Operand) -> Given:
+        """The threshold's true value where a sample passes, else its false value. Of the threshold's format, to U8."""
+        return self._do("threshold", input, threshold, output)
+
+    @function(wire.TABLE_LOOKUP, "TableLookup")
+    def table_lookup(self, input: Operand, lut: Lut, output: Operand) -> Given:
+        """The table's entry for each sample. U8 to U8 or S16 to S16, as the table is."""
+        return self._do("table_lookup", input, lut, output)
+
+    @function(wire.CONVERT_DEPTH, "ConvertDepth")
+    def convert_depth(self, input: Operand, output: Operand, policy: int, shift: int) -> Given:
+        """
+        U8 to S16: a * 2^shift. S16 to U8: a / 2^shift, rounded down, by the policy. The shift is from 0 to 7.
+        """
+        return self._do("convert_depth", input, None, output, policy=policy, amount=shift)
+
+    @function(wire.BOX, "Box3x3")
+    def box3x3(self, input: Operand, output: Operand, border: Border = UNDEFINED) -> Given:
+        """The mean of the nine pixels around each, rounded down. U8 to U8."""
+        return self._do("box3x3", input, None, output, border=border)
+
+    @function(wire.GAUSSIAN, "Gaussian3x3")
+    def gaussian3x3(self, input: Operand, output: Operand, border: Border = UNDEFINED) -> Given:
+        """The mean of the nine by the weights 1 2 1, 2 4 2, 1 2 1, rounded down. U8 to U8."""
+        return self._do("gaussian3x3", input, None, output, border=border)
+
+    @function(wire.MEDIAN, "Median3x3")
+    def median3x3(self, input: Operand, output: Operand, border: Border = UNDEFINED) -> Given:
+        """The fifth of the nine by size. U8 to U8."""
+        return self._do("median3x3", input, None, output, border=border)
+
+    @function(wire.ERODE, "Erode3x3")
+    def erode3x3(self, input: Operand, output: Operand, border: Border = UNDEFINED) -> Given:
+        """The least of the nine. U8 to U8."""
+        return self._do("erode3x3", input, None, output, border=border)
+
+    @function(wire.DILATE, "Dilate3x3")
+    def dilate3x3(self, input: Operand, output: Operand, border: Border = UNDEFINED) -> Given:
+        """The greatest of the nine. U8 to U8."""
+        return self._do("dilate3x3", input, None, output, border=border)
+
+    @function(wire.SOBEL, "Sobel3x3")
+    def sobel3x3(self, input: Operand, output_x: Optional[Operand], output_y: Optional[Operand],
+                 border: Border = UNDEFINED) -> Given:
+        """
+        The gradients: of the nine by the weights -1 0 1, -2 0 2, -1 0 1, and by -1 -2 -1, 0 0 0, 1 2 1. U8 to S16. One
+        of the outputs may be None.
+        """
+        return self._do("sobel3x3", input, None, output_x, out2=output_y, border=border)
+
+    @function(wire.CONVOLVE, "Convolve")
+    def convolve(self, input: Operand, convolution: Convolution, output: Operand, border: Border = UNDEFINED) -> Given:
+        """
+        The sum of the window by the convolution's coefficients, over its scale, rounded to zero and then saturated; the
+        first coefficient is for the window's last pixel. U8 to U8 or S16; a virtual output of open format is S16.
+        """
+        return self._do("convolve", input, convolution, output, border=border)
+
+    @function(wire.HISTOGRAM, "Histogram")
+    def histogram(self, input: Operand, distribution: Distribution) -> Given:
+        """Counts the valid samples of a U8 image into the bins of a distribution, from 0 on."""
+        return self._do("histogram", input, None, distribution)
+
+    @function(wire.INTEGRAL, "IntegralImage")
+    def integral_image(self, input: Operand, output: Operand) -> Given:
+        """At each valid pixel the sum of the valid samples neither to the right of it nor below it. U8 to U32."""
+        return self._do("integral_image", input, None, output)
+
+    @function(wire.MIN_MAX_LOCATION, "MinMaxLoc")
+    def min_max_loc(self, input: Operand, extremes: MinMax) -> Given:
+        """
+        The least and the greatest valid sample of a U8 or S16 image, how many there are and where the first of each is.
+
+        The standard's six outputs are one object here, which MinMax.read() gives; of each place there is the first.
+        """
+        return self._do("min_max_loc", input, None, extremes)

@@ -1,0 +1,119 @@
+"""Pictures in files: PGM (Netpbm's grey maps) and PNG, which is written with zlib alone."""
+
+from __future__ import annotations
+
+import os
+import re
+import struct
+import zlib
+from typing import Any, NamedTuple, Union
+
+from .objects import AnyImage
+from .samples import Format, Samples, Size, is_array, numpy_module, samples_of
+
+Path = Union[str, "os.PathLike[str]"]
+
+GAP = rb"(?:[ \t\r\n]|#[^\r\n]*[\r\n])+"
+HEADER = re.compile(rb"P[25]" + 3 * (GAP + rb"0*([0-9]{1,9})"))
+# Kinds of pixels in PNG (its chapter 11.2.2).
+GREY, COLOURED = 0, 2
+
+
+class Raster(NamedTuple):
+    """Rows of bytes for PNG: of one or two bytes a pixel where they are grey, of three where they are coloured."""
+
+    width: int
+    height: int
+    pixel_bytes: int
+    content: memoryview
+
+
+def read_bytes(path: Path) -> bytes:
+    with open(path, "rb") as file:
+        return file.read()
+
+
+def size_of_pgm(text: bytes) -> Size:
+    """
+    The format and the sides of the picture in a PGM text. Only the header is looked at: whether the rest is a picture
+    is for the server to say.
+    """
+    header = HEADER.match(text)
+    if not header:
+        raise ValueError("these bytes don't begin with the header of a PGM text, P5 or P2")
+    width, height, maxval = map(int, header.groups())
+    return Size(Format.U8 if maxval < 256 else Format.S16, width, height)
+
+
+def write_pgm(path: Path, picture: Any) -> None:
+    """Writes a PGM file (P5) of an image, an array of shape (height, width) or rows of numbers, of U8."""
+    samples = _samples(picture)
+    if samples.fmt != Format.U8:
+        raise ValueError(f"PGM files are written of U8 samples, and not of {samples.fmt}")
+    with open(path, "wb") as file:
+        file.write(b"P5\n%d %d\n255\n" % (samples.width, samples.height))
+        file.write(samples.content)
+
+
+def write_png(path: Path, picture: Any) -> None:
+    """
+    Writes a PNG file of an image, an array or rows: grey of shape (height, width), U8 or S16 without negative samples;
+    coloured of shape (height, width, 3), red, green and blue from 0 to 255.
+    """
+    with open(path, "wb") as file:
+        file.write(png(picture))
+
+
+def png(picture: Any) -> bytes:
+    """The bytes of a PNG file, as write_png writes them."""
+    raster = _raster(picture)
+    depth, kind = (8, COLOURED) if raster.pixel_bytes == 3 else (8 * raster.pixel_bytes, GREY)
+    header = struct.pack(">IIBBBBB", raster.width, raster.height, depth, kind, 0, 0, 0)
+    row = raster.width * raster.pixel_bytes
+    # A byte before each row says that it is unfiltered.
+    lines = b"".join(b"\0" + raster.content[at : at + row] for at in range(0, len(raster.content), row))
+    chunks = _chunk(b"IHDR", header) + _chunk(b"IDAT", zlib.compress(lines, 6)) + _chunk(b"IEND", b"")
+    return b"\x89PNG\r\n\x1a\n" + chunks
+
+
+def _chunk(kind: bytes, content: bytes) -> bytes:
+    return struct.pack(">I", len(content)) + kind + content + struct.pack(">I", zlib.crc32(kind + content))
+
+
+def _samples(picture: Any) -> Samples:
+    return samples_of(picture.read() if isinstance(picture, AnyImage) else picture)
+
+
+def _raster(picture: Any) -> Raster:
+    if _is_coloured(picture):
+        return _coloured(picture)
+    samples = _samples(picture)
+    if samples.fmt == Format.U32 or samples.fmt == Format.S16 and any(byte > 127 for byte in samples.content[::2]):
+        raise ValueError("PNG has samples from 0 to 65535: convert_depth gives an image of U8")
+    return Raster(samples.width, samples.height, samples.fmt.sample_bytes, samples.content)
+
+
+def _is_coloured(picture: Any) -> bool:
+    """Whether it has three numbers for a pixel."""
+    if isinstance(picture, AnyImage):
+        return False
+    shape = getattr(picture, "shape", None)
+    if shape is not None:
+        return len(shape) == 3
+    try:
+        return len(picture[0][0]) > 0
+    except (TypeError, IndexError):
+        return False
+
+
+def _coloured(picture: Any) -> Raster:
+    if is_array(picture):
+        picture = numpy_module().asarray(picture)
+        if picture.dtype != "uint8":
+            raise TypeError(f"coloured pixels are uint8, and not {picture.dtype}")
+    rows = picture.tolist() if hasattr(picture, "tolist") else picture
+    height, width = len(rows), len(rows[0])
+    content = bytes(value for row in rows for pixel in row for value in pixel)
+    if any(len(row) != width for row in rows) or len(content) != 3 * width * height:
+        raise ValueError("a coloured picture has rows of one length, of three numbers a pixel")
+    return Raster(width, height, 3, memoryview(content))

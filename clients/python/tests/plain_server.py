@@ -1,0 +1,42 @@
+"""A server for tests of the broker: answers each frame SUCCESS, and keeps who asked what. Some ops do what a vision
+server's never would.
+
+    plain_server.py serve
+"""
+
+import struct
+import sys
+import time
+
+# Waits u16 milliseconds; answers so many (u32) bytes; answers who asked what, u16 client and u8 op each; ends with a
+# status (u8); answers another client than the one that asked.
+WAIT, MANY_BYTES, WHO_ASKED, EXIT, MISTAKE = 100, 101, 102, 103, 104
+
+
+def answer(op: int, body: bytes, asked: bytes) -> bytes:
+    if op == WAIT:
+        time.sleep(struct.unpack(">H", body)[0] / 1000)
+    if op == MANY_BYTES:
+        return bytes(struct.unpack(">I", body)[0])
+    if op == EXIT:
+        sys.exit(body[0])
+    return asked if op == WHO_ASKED else b""
+
+
+def main() -> None:
+    source, sink = sys.stdin.buffer, sys.stdout.buffer
+    asked = bytearray()
+    while True:
+        head = source.read(4)
+        if not head:
+            return
+        frame = source.read(int.from_bytes(head, "big"))
+        client, op = struct.unpack_from(">HB", frame)
+        asked += frame[:3]
+        body = answer(op, frame[3:], bytes(asked))
+        sink.write(struct.pack(">IHBB", len(body) + 4, client + (op == MISTAKE), op, 0) + body)
+        sink.flush()
+
+
+if __name__ == "__main__":
+    main()

@@ -1,0 +1,57 @@
+"""
+Where the tests find things: the package beside them, tools/model.py of the repository, and the server's program, whose
+path the environment variable FEQYLDAN_PROGRAM has. Without it the tests that need the program are skipped.
+"""
+
+import faulthandler
+import os
+import sys
+import unittest
+
+sys.dont_write_bytecode = True
+HERE = os.path.dirname(os.path.abspath(__file__))
+TOOLS = os.path.join(HERE, "..", "..", "..", "tools")
+sys.path[:0] = os.path.join(HERE, ".."), TOOLS
+import feqyldan as vx  # noqa: E402
+
+PROGRAM = os.environ.get("FEQYLDAN_PROGRAM")
+needs_program = unittest.skipUnless(PROGRAM, "FEQYLDAN_PROGRAM isn't set to the path of the server's program")
+# A test that waits for ever ends the run, and says where it waited; in seconds.
+faulthandler.dump_traceback_later(280, exit=True)
+
+
+def answering(*replies, end="", said="", status=0):
+    """
+    A server that reads a request for each of these replies, in bytes, and then ends. A number among them has it sleep
+    for so many seconds.
+    """
+    script = (
+        "import os, sys, time\n"
+        "source, target = sys.stdin.buffer, sys.stdout.buffer\n"
+        f"for reply in {replies!r}:\n"
+        "    if isinstance(reply, float):\n"
+        "        time.sleep(reply)\n"
+        "        continue\n"
+        "    source.read(int.from_bytes(source.read(4), 'big'))\n"
+        "    target.write(reply)\n"
+        "    target.flush()\n"
+        f"{end}\n"
+        f"sys.stderr.write({said!r})\n"
+        "sys.stderr.flush()\n"
+        f"os._exit({status})\n")
+    return [sys.executable, "-c", script]
+
+
+@needs_program
+class ProgramTest(unittest.TestCase):
+    """A test with a server and a context of its own."""
+
+    limits = {}
+
+    def setUp(self):
+        self.server = vx.Server(PROGRAM, **self.limits)
+        self.addCleanup(self.server.close)
+        self.context = self.server.context()
+
+    def holds(self, image, rows):
+        self.assertEqual(image.read().tolist(), rows)

@@ -1,0 +1,158 @@
+"""Pictures over a local cluster of two worker processes, one of which is killed in the middle."""
+
+import os
+import pickle
+import signal
+import time
+import unittest
+
+from program import PROGRAM, needs_program, vx
+from feqyldan.dask import map_pictures
+
+try:
+    import distributed
+except ImportError:
+    distributed = None
+
+needs_distributed = unittest.skipUnless(distributed, "distributed isn't installed (Debian's python3-distributed)")
+WIDTH, HEIGHT, PICTURES = 8, 6, 60
+
+
+def inverse(context, width, height):
+    """A graph that turns the bits over, by way of a virtual image."""
+    source, target = context.image(vx.U8, width, height), context.image(vx.U8, width, height)
+    graph = context.graph()
+    between = graph.virtual_image()
+    graph.not_(source, between)
+    graph.or_(between, between, target)
+    return graph, source, target
+
+
+def slow_inverse(context, width, height):
+    """The same, so slowly built that a worker can be killed while tasks wait for it."""
+    time.sleep(0.3)
+    return inverse(context, width, height)
+
+
+def looping(context, width, height):
+    """A graph that can't run."""
+    image = context.image(vx.U8, width, height)
+    graph = context.graph()
+    graph.not_(image, image)
+    return graph, image, image
+
+
+def picture(number, width=WIDTH):
+    return [[(7 * number + 3 * y + x) % 256 for x in range(width)] for y in range(HEIGHT)]
+
+
+def inverted(rows):
+    return [[255 - sample for sample in row] for row in rows]
+
+
+def rows_of(output):
+    return output.tolist() if hasattr(output, "tolist") else output
+
+
+def worker_process():
+    return os.getpid()
+
+
+def servers():
+    """The processes of this worker's servers."""
+    from feqyldan import dask
+    return [station.server._process.pid for station in dask.STATIONS.values()]
+
+
+def is_running(process):
+    """Whether a process is there, and no zombie."""
+    try:
+        with open(f"/proc/{process}/stat") as file:
+            return file.read().rpartition(")")[2].split()[0] != "Z"
+    except FileNotFoundError:
+        return False
+
+
+class TestRefusals(unittest.TestCase):
+    def test_a_refusal_travels(self):
+        refused = vx.InvalidGraph("process graph 3")
+        copy = pickle.loads(pickle.dumps(refused))
+        self.assertEqual((type(copy), str(copy), copy.request), (type(refused), str(refused), refused.request))
+
+
+@needs_distributed
+@needs_program
+class TestCluster(unittest.TestCase):
+    def setUp(self):
+        self.cluster = distributed.LocalCluster(
+            n_workers=2, threads_per_worker=2, processes=True, dashboard_address=None, silence_logs=50)
+        self.addCleanup(self.cluster.close)
+        self.client = distributed.Client(self.cluster)
+        self.addCleanup(self.client.close)
+
+    def map(self, graph, pictures, **options):
+        return map_pictures(self.client, graph, pictures, program=PROGRAM, **options)
+
+    def gathers(self, futures, pictures):
+        outputs = self.client.gather(futures)
+        self.assertEqual([rows_of(output) for output in outputs], [inverted(rows) for rows in pictures])
+
+    def ends(self, processes):
+        until = time.monotonic() + 5
+        while any(map(is_running, processes)) and time.monotonic() < until:
+            time.sleep(0.05)
+        self.assertEqual([process for process in processes if is_running(process)], [])
+
+    def test_order_sizes_and_ends(self):
+        # Two of the pictures are equal, and the sizes change.
+        pictures = [picture(number // 2, 4 + number % 3) for number in range(24)]
+        futures = self.map(inverse, pictures)
+        self.assertEqual(len({future.key for future in futures}), 24)
+        self.gathers(futures, pictures)
+        ours = [process for each in self.client.run(servers).values() for process in each]
+        self.assertTrue(1 <= len(ours) <= 2, ours)
+        # Futures of pictures do as well, and so does a graph that is a lambda.
+        ahead = self.client.map(picture, range(4))
+        self.gathers(self.map(lambda *given: inverse(*given), ahead), [picture(number) for number in range(4)])
+        with self.assertRaises(vx.InvalidGraph) as caught:
+            self.map(looping, [picture(1)])[0].result()
+        self.assertIn("process graph", caught.exception.request)
+        self.gathers(self.map(inverse, pictures[:2]), pictures[:2])
+        self.client.close()
+        self.cluster.close()
+        self.ends(ours)
+
+    def test_a_server_is_killed(self):
+        address = next(iter(self.client.run(worker_process)))
+        for options, ends in (({}, True), ({"retries": 1}, False)):
+            self.gathers(self.map(inverse, [picture(1)], workers=[address]), [picture(1)])
+            killed, = self.client.run(servers, workers=[address])[address]
+            os.kill(killed, signal.SIGKILL)
+            futures = self.map(inverse, [picture(2)], workers=[address], **options)
+            if ends:
+                with self.assertRaises(vx.ServerEnded) as caught:
+                    futures[0].result()
+                self.assertEqual(caught.exception.status, -signal.SIGKILL)
+            else:
+                self.gathers(futures, [picture(2)])
+            self.ends([killed])
+
+    def test_a_worker_is_killed(self):
+        pictures = [picture(number) for number in range(PICTURES)]
+        workers = self.client.run(worker_process)
+        # A picture for each worker, so that both have a server.
+        for address in workers:
+            self.gathers(self.map(inverse, pictures[:1], workers=[address]), pictures[:1])
+        running = self.client.run(servers)
+        victim = next(iter(workers))
+        futures = self.map(slow_inverse, [[row[: 1 + number % WIDTH] for row in rows]
+                                          for number, rows in enumerate(pictures)])
+        next(iter(distributed.as_completed(futures)))
+        os.kill(workers[victim], signal.SIGKILL)
+        self.assertFalse(all(future.done() for future in futures))
+        self.gathers(futures, [[row[: 1 + number % WIDTH] for row in rows] for number, rows in enumerate(pictures)])
+        self.ends(running[victim])
+
+
+if __name__ == "__main__":
+    unittest.main()

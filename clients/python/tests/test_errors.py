@@ -1,0 +1,129 @@
+"""What is raised: a class for each code, and the ends of servers."""
+
+import unittest
+
+from program import ProgramTest, answering, vx
+from feqyldan import errors, wire
+
+OPENED = wire.reply_frame(0, wire.OPEN_CONTEXT)
+
+
+class TestCodes(unittest.TestCase):
+    def test_each_code_has_a_class_and_an_advice(self):
+        self.assertEqual(sorted(errors.CLASSES), list(range(1, len(wire.CODES))))
+        for code, kind in errors.CLASSES.items():
+            self.assertIs(getattr(vx, kind.__name__), kind)
+            self.assertEqual(kind.__name__.upper(), wire.CODES[code].replace("_", ""))
+            refused = errors.refusal(code, "some request", None)
+            self.assertEqual((refused.code, refused.name, refused.request), (code, wire.CODES[code], "some request"))
+            self.assertEqual(str(refused), f"some request: {wire.CODES[code]}. {refused.advice}")
+            self.assertIsInstance(refused, vx.Refused)
+
+    def test_advice_for_a_request(self):
+        for (code, op), advice in errors.ADVICE.items():
+            self.assertIn(advice, str(errors.refusal(code, "some request", op)))
+
+
+class TestRefusals(ProgramTest):
+    limits = {"quota": 1000}
+
+    def test_what_a_refusal_says(self):
+        one, other = self.context.image(vx.U8, 2, 1), self.context.image(vx.U8, 1, 2)
+        with self.assertRaises(vx.InvalidDimension) as caught:
+            self.context.vxu.absdiff(one, one, other)
+        self.assertEqual(caught.exception.request, "absdiff(image 1, image 1, image 2)")
+        self.assertEqual(str(caught.exception), "absdiff(image 1, image 1, image 2): INVALID_DIMENSION. All images of "
+                                                "one call have to be of one size.")
+
+    def test_codes_of_the_program(self):
+        image, byte = self.context.image(vx.U8, 2, 1), self.context.image(vx.S16, 2, 1)
+        closed = self.context.image(vx.U8, 2, 1)
+        closed.close()
+        vxu, graph = self.context.vxu, self.context.graph()
+        for kind, call in (
+                (vx.InvalidReference, lambda: vxu.not_(image, closed)),
+                (vx.InvalidType, lambda: vxu.not_(image, self.context.min_max())),
+                (vx.InvalidType, lambda: vxu.not_(image, self.context.delay(image, 2))),
+                (vx.InvalidFormat, lambda: vxu.not_(image, byte)),
+                (vx.InvalidValue, lambda: vxu.multiply(image, image, 16, vx.WRAP, byte)),
+                (vx.InvalidGraph, lambda: vxu.not_(image, image)),
+                (vx.MultipleWriters, lambda: vxu.sobel3x3(image, byte, byte)),
+                (vx.InvalidParameters, lambda: vxu.sobel3x3(image, None, None)),
+                (vx.InvalidParameters, lambda: vxu.add(image, image, 2, byte)),
+                (vx.OptimizedAway, lambda: vxu.not_(image, graph.virtual_image())),
+                (vx.InvalidDimension, lambda: self.context.image(vx.U8, 0, 1)),
+                (vx.NoResources, lambda: self.context.image(vx.U8, 1001, 1)),
+                (vx.InvalidFormat, byte.read_pgm)):
+            with self.subTest(kind):
+                self.assertRaises(kind, call)
+
+    def test_what_is_wrong_before_it_is_sent(self):
+        image = self.context.image(vx.U8, 2, 1)
+        for call in (lambda: self.context.vxu.not_(b"12", image), lambda: self.context.graph().not_([[1, 2]], image)):
+            self.assertRaises(TypeError, call)
+        for call in (lambda: self.context.image(vx.U8, 70000, 1), lambda: self.context.image(9, 1, 1),
+                     lambda: self.context.vxu.multiply(image, image, 300, vx.WRAP, image),
+                     lambda: self.context.vxu.box3x3(image, image, border=vx.constant(256))):
+            self.assertRaises(ValueError, call)
+        self.holds(image, [[0, 0]])
+
+    def test_objects_of_another_context(self):
+        with self.server.context() as other:
+            mine, foreign = self.context.image(vx.U8, 1, 1), other.image(vx.U8, 1, 1)
+            self.assertEqual(mine.name, foreign.name)
+            for call in (lambda: self.context.vxu.not_(mine, foreign), lambda: self.context.graph().not_(foreign, mine),
+                         lambda: self.context.delay(foreign, 2)):
+                self.assertRaises(vx.InvalidScope, call)
+
+
+class TestEnds(unittest.TestCase):
+    def ends(self, program, kind, words, status=None, said=""):
+        with self.assertRaisesRegex(kind, words) as caught:
+            with vx.Server(program) as server, server.context() as context:
+                context.image(vx.U8, 1, 1)
+        if kind is vx.ServerEnded:
+            self.assertEqual((caught.exception.status, caught.exception.said), (status, said))
+
+    def test_what_a_server_said_at_its_end(self):
+        self.ends(answering(said="NO_MEMORY\n", status=5), vx.ServerEnded, "status 5: NO_MEMORY", 5, "NO_MEMORY")
+        self.ends(answering(OPENED, status=3), vx.ServerEnded, "status 3$", 3)
+
+    def test_an_end_in_the_middle_of_a_reply(self):
+        half = wire.reply_frame(0, wire.CREATE_IMAGE, 0, b"\0\0\0\1")
+        for cut in (1, 4, 9):
+            self.ends(answering(OPENED, half[:cut]), vx.ServerEnded, "middle of a reply with status 0", 0)
+
+    def test_no_reply_to_the_request(self):
+        for reply in (wire.reply_frame(0, wire.CREATE_LUT), wire.reply_frame(1, wire.CREATE_IMAGE),
+                      b"\0\0\0\3\0\0\3", b"\xff\xff\xff\xff\0\0\3\0", wire.reply_frame(0, wire.CREATE_IMAGE, 77)):
+            self.ends(answering(OPENED, reply, end="source.read()"), vx.UnexpectedReply, "")
+
+    def test_no_memory(self):
+        lost = wire.reply_frame(0, wire.CREATE_IMAGE, wire.NO_MEMORY)
+        released = wire.reply_frame(0, wire.RELEASE_CONTEXT)
+        self.ends(answering(OPENED, lost, released), vx.NoMemory, "create a U8 image of 1 by 1: NO_MEMORY")
+
+    def test_after_the_end(self):
+        server = vx.Server(answering(OPENED, status=4, said="write failed"))
+        context = server.context()
+        for _ in range(3):
+            self.assertRaises(vx.ServerEnded, context.graph)
+        self.assertRaises(vx.ServerEnded, server.context)
+        server.close()
+        server.close()
+        self.assertRaises(vx.Closed, server.context)
+        context.close()
+
+    def test_a_status_at_the_close(self):
+        server = vx.Server(answering(OPENED, end="source.read()", status=3, said="truncated"))
+        server.context()
+        self.assertRaisesRegex(vx.ServerEnded, "status 3: truncated", server.close)
+        server.close()
+
+    def test_no_such_program(self):
+        self.assertRaises(FileNotFoundError, vx.Server, "/no/such/program")
+        self.assertRaises(FileNotFoundError, vx.connect, "/no/such/socket")
+
+
+if __name__ == "__main__":
+    unittest.main()

@@ -1,0 +1,116 @@
+"""The examples of the repository on the program, and the first program in README.md."""
+
+import os
+import subprocess
+import sys
+import tempfile
+import unittest
+
+from program import HERE, PROGRAM, needs_program
+from test_pictures import decoded
+
+ROOT = os.path.join(HERE, "..", "..", "..")
+EXAMPLES = os.path.join(ROOT, "examples")
+MADE = "examples/inspection.py $program docs/pictures"
+
+
+def text_of(*path):
+    with open(os.path.join(ROOT, *path), encoding="utf-8") as file:
+        return file.read()
+
+
+def picture_of(*path):
+    """Width, height, and the rows of bytes of a PNG file: one a pixel where it is grey, else three."""
+    with open(os.path.join(*path), "rb") as file:
+        width, height, _, _, rows = decoded(file.read())
+    return width, height, rows
+
+
+def sides_of(*path):
+    return picture_of(*path)[:2]
+
+
+@needs_program
+class Examples(unittest.TestCase):
+    def setUp(self):
+        folder = tempfile.TemporaryDirectory()
+        self.addCleanup(folder.cleanup)
+        self.folder = folder.name
+
+    def run_python(self, *words):
+        """What it prints, run in the folder for pictures."""
+        search = {"PYTHONPATH": os.path.realpath(os.path.join(HERE, "..")), "PYTHONDONTWRITEBYTECODE": "1"}
+        run = subprocess.run([sys.executable, *words], cwd=self.folder, env={**os.environ, **search}, timeout=60,
+                             stdin=subprocess.DEVNULL, stdout=subprocess.PIPE, stderr=subprocess.PIPE, text=True)
+        self.assertEqual((run.returncode, run.stderr), (0, ""))
+        return run.stdout
+
+    def run_example(self, name, *words):
+        return self.run_python(os.path.realpath(os.path.join(EXAMPLES, name)), os.path.realpath(PROGRAM), *words)
+
+    def test_the_first_program_is_readmes(self):
+        shown = text_of("README.md").split("```python\n")[1].split("```")[0]
+        self.assertEqual(shown, text_of("examples", "first.py"))
+        self.assertEqual(len([line for line in shown.splitlines() if line]), 10)
+
+    def test_the_first_program_leaves_a_picture(self):
+        self.run_example("first.py")
+        self.assertEqual(sides_of(self.folder, "outlines.png"), (256, 256))
+
+    def test_two_clients_see_their_own(self):
+        lines = self.run_example("first_stream.py").splitlines()
+        self.assertTrue(lines[5].endswith("255 245 235 225 / 215 205 195 0"), lines[5])
+        self.assertTrue(lines[9].endswith("INVALID_REFERENCE"), lines[9])
+
+    def test_a_scratch_is_found_where_it_was_drawn(self):
+        good, bad = self.run_example("inspection.py", self.folder).splitlines()
+        self.assertIn("nothing found", good)
+        # It was drawn 2.6 pixels wide from (77, 41) to (64, 95).
+        words = bad.replace(",", "").split()
+        x0, x1, y0, y1 = (int(words[words.index(side) + at]) for side in ("columns", "rows") for at in (1, 3))
+        for found, drawn in zip((x0, x1, y0, y1), (64, 77, 41, 95)):
+            self.assertLessEqual(abs(found - drawn), 3, bad)
+        self.assertEqual(sides_of(self.folder, "inspection.png"), (818, 144))
+
+    def test_readme_has_the_picture_of_the_inspection(self):
+        self.assertIn(MADE, text_of("README.md"))
+        stored = os.path.join(ROOT, "docs", "pictures", "inspection.png")
+        self.assertLessEqual(os.path.getsize(stored), 40000)
+        self.run_example("inspection.py", self.folder)
+        *sides, rows = picture_of(stored)
+        *made_sides, made = picture_of(self.folder, "inspection.png")
+        self.assertEqual(sides, made_sides)
+        # Another machine's sines may round a few samples otherwise.
+        differing = sum(a != b for one, other in zip(rows, made) for a, b in zip(one, other))
+        self.assertLessEqual(differing, sides[0] * sides[1] // 1000)
+
+    def test_what_moved_is_where_the_ball_was_and_is(self):
+        lines = self.run_example("camera.py", self.folder).splitlines()
+        self.assertEqual(len(lines), 5)
+        for time, line in enumerate(lines, 1):
+            # The ball's middle is in column 12 + 26 * time; its radius is 9 pixels.
+            words = line.split()
+            x0, x1 = (int(words[words.index("columns") + at]) for at in (1, 3))
+            self.assertLessEqual(abs(x0 - (12 + 26 * (time - 1) - 9)), 3, line)
+            self.assertLessEqual(abs(x1 - (12 + 26 * time + 9)), 3, line)
+        self.assertEqual(sides_of(self.folder, "camera.png"), (5 * 166 - 6, 246))
+
+    def test_a_histogram_counts_each_pixel_and_is_drawn(self):
+        lines = self.run_example("histogram.py", self.folder).splitlines()
+        self.assertEqual(sum(int(line.split()[3]) for line in lines[1:]), 256 * 96)
+        self.assertEqual(sides_of(self.folder, "histogram.png"), (256, 96 + 6 + 128))
+
+    def test_edges_of_a_file_are_drawn(self):
+        path = os.path.join(self.folder, "square.pgm")
+        with open(path, "wb") as file:
+            file.write(b"P5\n20 10\n255\n" + 10 * (bytes(10) + 10 * b"\xff"))
+        self.run_example("edges.py", self.folder, path)
+        width, height, rows = picture_of(self.folder, "edges.png")
+        self.assertEqual((width, height), (3 * 26 - 6, 10))
+        # Edges are in the two columns on both sides of the step, of which the smoothed picture has something.
+        edges = [list(row)[3 * 52::3] for row in rows]
+        self.assertEqual(edges, 10 * [8 * [0] + 4 * [255] + 8 * [0]])
+
+
+if __name__ == "__main__":
+    unittest.main()

@@ -1,0 +1,181 @@
+"""Requests that are sent ahead: much of them both ways, refusals, threads, and interruptions."""
+
+import signal
+import threading
+import time
+import unittest
+
+from program import ProgramTest, answering, vx
+from feqyldan import wire
+
+OPENED = wire.reply_frame(0, wire.OPEN_CONTEXT)
+SIDE, PICTURES = 1024, 12
+
+
+class TestPipelines(ProgramTest):
+    def test_many_megabytes_each_way(self):
+        """Nobody reads a result before all is sent: both pipes are full long before."""
+        image = self.context.image(vx.U8, SIDE, SIDE)
+        results = []
+        with self.context.pipeline() as ahead:
+            for k in range(PICTURES):
+                image.write(bytes([k]) * SIDE * SIDE)
+                results.append(ahead.read(image))
+        for k, result in enumerate(results):
+            self.assertTrue(result.is_there)
+            self.assertEqual(bytes(result.value()), bytes([k]) * SIDE * SIDE)
+
+    def test_many_small_ones(self):
+        image, results = self.context.image(vx.S16, 3, 1), []
+        with self.context.pipeline() as ahead:
+            for k in range(3000):
+                image.write([[k, -k, 7]])
+                results.append(ahead.read(image))
+        self.assertEqual([result.value().tolist() for result in results], [[[k, -k, 7]] for k in range(3000)])
+
+    def test_what_was_written_may_change_at_once(self):
+        image, results = self.context.image(vx.U8, 300, 300), []
+        samples = bytearray(300 * 300)
+        with self.context.pipeline() as ahead:
+            for k in range(20):
+                samples[:] = bytes([k]) * len(samples)
+                image.write(samples)
+                results.append(ahead.read(image))
+                samples[:] = bytes(len(samples))
+        self.assertEqual([bytes(result.value())[-1] for result in results], list(range(20)))
+
+    def test_all_that_can_be_asked_ahead(self):
+        image, out = self.context.image_from([[5, 9, 9]]), self.context.image(vx.U8, 3, 1)
+        counts, found = self.context.distribution(2), self.context.min_max()
+        virtual = self.context.graph().virtual_image(vx.U8)
+        with self.context.pipeline() as ahead:
+            self.context.vxu.histogram(image, counts)
+            self.context.vxu.min_max_loc(image, found)
+            self.context.vxu.not_(image, out)
+            results = [ahead.read(counts), ahead.read(found), ahead.read_pgm(out)]
+            results += [ahead.query(out), ahead.query(virtual)]
+            # What gives something else waits, and comes in its turn.
+            self.assertEqual(out.read().tolist(), [[250, 246, 246]])
+            self.assertTrue(results[-1].is_there)
+        values = [result.value() for result in results]
+        self.assertEqual(values[0], (3, 0))
+        self.assertEqual(values[1], (5, 9, 1, 2, (0, 0), (1, 0)))
+        self.assertEqual(values[2], b"P5\n3 1\n255\n\xfa\xf6\xf6")
+        self.assertEqual(values[3:], [(vx.U8, 3, 1, (0, 0, 3, 1)), (vx.U8, None, None, (0, 0, 0, 0))])
+
+    def test_refusals(self):
+        image, short = self.context.image(vx.U8, 3, 1), self.context.image(vx.S16, 3, 1)
+        with self.assertRaises(vx.InvalidFormat):
+            with self.context.pipeline() as ahead:
+                self.context.vxu.not_(image, short)
+                image.write([[1, 2]])
+                image.write([[1, 2, 3]])
+                result, pgm = ahead.read(image), ahead.read_pgm(short)
+        self.assertEqual([type(refused) for refused in ahead.refusals],
+                         [vx.InvalidFormat, vx.InvalidDimension, vx.InvalidFormat])
+        self.assertEqual(result.value().tolist(), [[1, 2, 3]])
+        self.assertRaisesRegex(vx.InvalidFormat, "read a PGM text of image 2", pgm.value)
+        # Outside each call raises its own again.
+        self.assertRaises(vx.InvalidFormat, self.context.vxu.not_, image, short)
+
+    def test_wait(self):
+        image = self.context.image(vx.U8, 3, 1)
+        with self.context.pipeline() as ahead:
+            image.write([[1, 2]])
+            self.assertRaises(vx.InvalidDimension, ahead.wait)
+            image.write([[1, 2, 3]])
+            ahead.wait()
+        self.assertRaises(vx.InvalidDimension, image.write, [[1, 2]])
+
+    def test_a_create_that_is_refused_within(self):
+        with self.context.pipeline() as ahead:
+            with self.assertRaises(vx.InvalidDimension):
+                self.context.image(vx.U8, 5000, 1)
+        self.assertEqual(ahead.refusals, [])
+
+    def test_one_at_a_time(self):
+        with self.context.pipeline():
+            with self.assertRaises(ValueError):
+                with self.context.pipeline():
+                    pass
+        with self.context.pipeline(), self.server.context() as other, other.pipeline():
+            pass
+
+    def test_an_error_within(self):
+        image = self.context.image(vx.U8, 3, 1)
+        with self.assertRaises(KeyError):
+            with self.context.pipeline():
+                image.write([[1, 2]])
+                raise KeyError
+        image.write([[4, 5, 6]])
+        self.holds(image, [[4, 5, 6]])
+
+    def test_threads(self):
+        """Each with a context of its own, all on one server."""
+        faults = []
+
+        def work(number):
+            with self.server.context() as context:
+                image, out = context.image(vx.U8, 40, 40), context.image(vx.U8, 40, 40)
+                for k in range(20):
+                    with context.pipeline() as ahead:
+                        image.write(bytes([number + k]) * 1600)
+                        context.vxu.not_(image, out)
+                        result = ahead.read(out)
+                    if bytes(result.value()) != bytes([255 - number - k]) * 1600:
+                        faults.append((number, k))
+
+        threads = [threading.Thread(target=work, args=(10 * k,)) for k in range(8)]
+        for thread in threads:
+            thread.start()
+        for thread in threads:
+            thread.join()
+        self.assertEqual(faults, [])
+        self.assertEqual(len({context.number for context in [self.server.context() for _ in range(3)]}), 3)
+
+
+class TestInterruptions(unittest.TestCase):
+    def interrupted(self, call):
+        """A call that SIGALRM interrupts, as SIGINT would."""
+        def interrupt(*_):
+            raise KeyboardInterrupt
+
+        before = signal.signal(signal.SIGALRM, interrupt)
+        try:
+            signal.setitimer(signal.ITIMER_REAL, 0.2)
+            self.assertRaises(KeyboardInterrupt, call)
+        finally:
+            signal.signal(signal.SIGALRM, before)
+
+    def test_a_reply_that_comes_later(self):
+        """What is waited for comes after the interruption, and is taken for no other's."""
+        first, second = (wire.reply_frame(0, wire.CREATE_GRAPH, 0, bytes([0, 0, 0, k])) for k in (1, 2))
+        server = vx.Server(answering(OPENED, b"", first + second, end="source.read()"))
+        context = server.context()
+        self.interrupted(context.graph)
+        self.assertEqual(context.graph().name, 2)
+        server.close()
+
+    def test_an_end_that_waits_for_nothing(self):
+        def hang():
+            with vx.Server(answering(OPENED, end="source.read()")) as server, server.context() as context:
+                context.graph()
+
+        start = time.monotonic()
+        self.interrupted(hang)
+        self.assertLess(time.monotonic() - start, 5)
+
+    def test_samples_that_are_half_sent(self):
+        named, written = wire.reply_frame(0, wire.CREATE_IMAGE, 0, b"\0\0\0\1"), wire.reply_frame(0, wire.WRITE_IMAGE)
+        seen = wire.reply_frame(0, wire.READ_IMAGE_PGM, 0, b"P5 as it was read")
+        server = vx.Server(answering(OPENED, named, 0.6, written, seen))
+        context = server.context()
+        image = context.image(vx.U8, 1000, 1000)
+        self.interrupted(lambda: image.write(bytes(1000 * 1000)))
+        # Its frame goes on to its end with the next request.
+        self.assertEqual(image.read_pgm(), b"P5 as it was read")
+        server.close()
+
+
+if __name__ == "__main__":
+    unittest.main()

@@ -1,0 +1,120 @@
+"""Servers: their limits, client numbers, and those behind a socket."""
+
+import os
+import queue
+import socket
+import subprocess
+import tempfile
+import threading
+import unittest
+
+from program import PROGRAM, ProgramTest, needs_program, vx
+
+
+class TestServers(ProgramTest):
+    def test_contexts_have_numbers_of_their_own(self):
+        others = [self.server.context() for _ in range(3)]
+        self.assertEqual([context.number for context in (self.context, *others)], [0, 1, 2, 3])
+        others[0].close()
+        self.assertEqual(self.server.context().number, 1)
+
+    def test_contexts_see_nothing_of_each_other(self):
+        mine = self.context.image_from([[1, 2]])
+        with self.server.context() as other:
+            self.assertEqual(other.image(vx.U8, 2, 1).name, mine.name)
+        self.holds(mine, [[1, 2]])
+
+    def test_close(self):
+        self.server.close()
+        self.server.close()
+        self.assertTrue(self.server.closed and self.context.closed)
+        self.assertRaises(vx.Closed, self.server.context)
+        self.assertRaises(vx.Closed, self.context.graph)
+        self.context.close()
+
+    def test_limits(self):
+        with vx.Server(PROGRAM, quota=100, work=50) as server, server.context() as context:
+            image = context.image(vx.U8, 10, 10)
+            self.assertRaises(vx.NoResources, context.image, vx.U8, 1, 1)
+            graph = context.graph()
+            graph.not_(image, graph.virtual_image())
+            with self.assertRaisesRegex(vx.NoResources, "work bytes"):
+                graph.verify()
+
+    def test_words_of_a_command(self):
+        with vx.Server(["env", PROGRAM]) as server, server.context() as context:
+            context.image(vx.U8, 1, 1)
+
+    def test_words_that_the_program_refuses(self):
+        with self.assertRaises(vx.ServerEnded) as caught:
+            with vx.Server(["env", "sh", "-c", "echo usage >&2; exit 2"], quota=1) as server:
+                server.context()
+        self.assertEqual((caught.exception.status, caught.exception.said), (2, "usage"))
+
+
+@needs_program
+class TestSockets(unittest.TestCase):
+    """A socket at which each connection gets a program of its own."""
+
+    def setUp(self):
+        folder = tempfile.TemporaryDirectory()
+        self.addCleanup(folder.cleanup)
+        self.path = os.path.join(folder.name, "socket")
+        self.listener = socket.socket(socket.AF_UNIX, socket.SOCK_STREAM)
+        self.listener.bind(self.path)
+        self.listener.listen()
+        # The programs in the order in which they were started: a client may be answered before its own stands here.
+        self.programs = queue.Queue()
+        thread = threading.Thread(target=self.serve)
+        thread.start()
+        self.addCleanup(self.stop, thread)
+
+    def serve(self):
+        while True:
+            try:
+                stream, _ = self.listener.accept()
+            except OSError:
+                return
+            with stream:
+                self.programs.put(subprocess.Popen([PROGRAM, "serve"], stdin=stream, stdout=stream))
+
+    def stop(self, thread):
+        self.listener.shutdown(socket.SHUT_RDWR)
+        thread.join()
+        self.listener.close()
+        while not self.programs.empty():
+            self.programs.get().wait()
+
+    def test_contexts_have_connections_of_their_own(self):
+        with vx.connect(self.path) as server:
+            with server.context() as one, server.context() as other:
+                images = [one.image_from([[1, 2]]), other.image_from([[3, 4]])]
+                self.assertEqual([image.read().tolist() for image in images], [[[1, 2]], [[3, 4]]])
+            with server.context() as again:
+                self.assertEqual(again.image(vx.U8, 1, 1).name, 1)
+            self.assertRaises(vx.Closed, one.graph)
+        self.assertRaises(vx.Closed, server.context)
+        for _ in range(3):
+            self.assertEqual(self.programs.get(timeout=10).wait(), 0)
+        self.assertTrue(self.programs.empty())
+
+    def test_much_both_ways(self):
+        with vx.connect(self.path) as server, server.context() as context:
+            image, results = context.image(vx.U8, 1024, 1024), []
+            with context.pipeline() as ahead:
+                for k in range(8):
+                    image.write(bytes([k]) * 1024 * 1024)
+                    results.append(ahead.read(image))
+            self.assertEqual([result.value()[1023, 1023] for result in results], list(range(8)))
+
+    def test_a_server_that_ends(self):
+        with self.assertRaisesRegex(vx.ServerEnded, "closed the connection"):
+            with vx.connect(self.path) as server, server.context() as context:
+                program = self.programs.get(timeout=10)
+                program.kill()
+                program.wait()
+                context.graph()
+
+
+if __name__ == "__main__":
+    unittest.main()
