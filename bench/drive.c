@@ -1,5 +1,8 @@
 /* Drives a server through pipes and says how many seconds it took.
  *
+ *   drive MODE COUNT PROGRAM [WORD..]       with a server of its own
+ *   drive MODE COUNT --socket PATH          with the one that a Unix socket leads to
+ *
  *   drive lockstep COUNT PROGRAM [WORD..]   COUNT small requests, each after the reply to the last
  *   drive streamed COUNT PROGRAM [WORD..]   COUNT small requests, written ahead of their replies
  *   drive image COUNT PROGRAM [WORD..]      COUNT times a 1920x1080 U8 image in, Not of it, and out
@@ -14,6 +17,8 @@
 #include <stdio.h>
 #include <stdlib.h>
 #include <string.h>
+#include <sys/socket.h>
+#include <sys/un.h>
 #include <sys/wait.h>
 #include <time.h>
 #include <unistd.h>
@@ -47,6 +52,15 @@ static pid_t start(char **words) {
   fcntl(to_server, F_SETFL, O_NONBLOCK);
   fcntl(from_server, F_SETFL, O_NONBLOCK);
   return pid;
+}
+
+static void reach(const char *path) {
+  struct sockaddr_un address = {.sun_family = AF_UNIX};
+  strncpy(address.sun_path, path, sizeof address.sun_path - 1);
+  to_server = from_server = socket(AF_UNIX, SOCK_STREAM, 0);
+  if (to_server < 0 || connect(to_server, (struct sockaddr *)&address, sizeof address))
+    fail(path);
+  fcntl(to_server, F_SETFL, O_NONBLOCK);
 }
 
 /* Writes the requests and reads so many bytes of replies, whichever can go on. */
@@ -158,7 +172,13 @@ int main(int argc, char **argv) {
     return 2;
   signal(SIGPIPE, SIG_IGN);
   long count = atol(argv[2]);
-  pid_t pid = start(argv + 3);
+  pid_t pid = 0;
+  if (strcmp(argv[3], "--socket"))
+    pid = start(argv + 3);
+  else if (argc == 5)
+    reach(argv[4]);
+  else
+    return 2;
   struct timespec begin, end;
   clock_gettime(CLOCK_MONOTONIC, &begin);
   if (!strcmp(argv[1], "lockstep") || !strcmp(argv[1], "streamed"))
@@ -169,8 +189,9 @@ int main(int argc, char **argv) {
     bytes(count);
   clock_gettime(CLOCK_MONOTONIC, &end);
   close(to_server);
-  int status;
-  waitpid(pid, &status, 0);
+  int status = 0;
+  if (pid)
+    waitpid(pid, &status, 0);
   printf("%.6f\n", (double)(end.tv_sec - begin.tv_sec) + 1e-9 * (double)(end.tv_nsec - begin.tv_nsec));
   return status != 0;
 }

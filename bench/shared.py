@@ -7,8 +7,8 @@ import sys
 import time
 
 HERE = os.path.dirname(os.path.abspath(__file__))
-sys.path.insert(0, os.path.join(HERE, "..", "tools"))
-import frames  # noqa: E402
+sys.path.insert(0, os.path.join(HERE, "..", "clients", "python"))
+from feqyldan import wire  # noqa: E402
 
 CLIENT = 7
 ROUNDS = 5
@@ -20,7 +20,7 @@ class Server:
     def __init__(self, program):
         command = [program, "serve", "--quota", str(2**30)]
         self.process = subprocess.Popen(command, stdin=subprocess.PIPE, stdout=subprocess.PIPE)
-        self.run([frames.open_context(CLIENT)])
+        self.run([wire.open_context(CLIENT)])
 
     def run(self, requests):
         """The bodies of the replies to the requests, none of which is a refusal."""
@@ -31,7 +31,7 @@ class Server:
     def body(self):
         head = self.process.stdout.read(8)
         if head[7:] != b"\0":
-            sys.exit(frames.say(head) if head else "the server has ended")
+            sys.exit(wire.say(head) if head else "the server has ended")
         return self.process.stdout.read(int.from_bytes(head[:4], "big") - 4)
 
     def create(self, request):

@@ -1,20 +1,23 @@
-"""Wrong readings of docs/wire.md, each of them names of tools/model.py with what stands for them, for
+"""Wrong readings of docs/wire.md, each of them names of the model's modules with what stands for them, for
 `tools/check_streams --faults`, which shows that its streams tell them from the right one."""
 
 import re
 from collections import namedtuple
 from types import SimpleNamespace
 
-import frames
+from feqyldan import wire
+from feqyldan.wire import CONSTANT, OPEN, REPLICATE, S16, SUCCESS, U8, U32, UNDEFINED
 import model
-from frames import CONSTANT, REPLICATE, S16, U8, U32, UNDEFINED
-from model import EMPTY, IN1, IN2, OUT1, OUT2
+import model_functions
+import model_graph
+from model_functions import EMPTY, IN1, IN2, INPUTS, OUT1, OUT2, OUTPUTS
 
 # What is wrong; the op without which nobody can tell, or None; and what stands for which names of the model.
 Fault = namedtuple("Fault", "words needs changes")
 
 # The model as it is, also while a fault is planted.
-right = SimpleNamespace(**vars(model))
+MODULES = model_functions, model_graph, model
+right = SimpleNamespace(**{name: value for module in MODULES for name, value in vars(module).items()})
 
 QUERY_IMAGE, SET_VALID = right.QUERY_IMAGE, right.SET_VALID
 
@@ -46,7 +49,7 @@ def multiplied(quotient):
     def multiply(a, b, way):
         return right.narrow(quotient(a * b, way.amount), way.fmt, way.policy)
 
-    return with_value(frames.MULTIPLY, multiply)
+    return with_value(wire.MULTIPLY, multiply)
 
 
 def rounded_up(value, exponent):
@@ -100,10 +103,10 @@ FUNCTION_FAULTS = (
     Fault("Multiply rounds to the nearest", None, multiplied(to_the_nearest)),
     Fault("WRAP saturates", None, narrowed_by(right.clamp)),
     Fault("SATURATE wraps", None, narrowed_by(right.wrap)),
-    Fault("Subtract takes in1 from in2", None, with_value(frames.SUBTRACT, difference_turned)),
-    Fault("AbsoluteDifference wraps", None, with_value(frames.ABSOLUTE_DIFFERENCE, difference_wrapped)),
-    Fault("MinPixel compares without the sign", None, with_value(frames.MIN_PIXEL, smaller_without_sign)),
-    Fault("ConvertDepth rounds to zero", None, with_value(frames.CONVERT_DEPTH, converted_to_zero)),
+    Fault("Subtract takes in1 from in2", None, with_value(wire.SUBTRACT, difference_turned)),
+    Fault("AbsoluteDifference wraps", None, with_value(wire.ABSOLUTE_DIFFERENCE, difference_wrapped)),
+    Fault("MinPixel compares without the sign", None, with_value(wire.MIN_PIXEL, smaller_without_sign)),
+    Fault("ConvertDepth rounds to zero", None, with_value(wire.CONVERT_DEPTH, converted_to_zero)),
     Fault("a threshold passes at its limit", None, {"passes": passes_at_limit}),
     Fault("a range ends before its upper limit", None, {"passes": passes_below_upper}),
     Fault("a table of S16 is one entry off", None, {"entry_for": next_entry}),
@@ -139,7 +142,7 @@ def gaussian_by_steps(nine):
 
 
 def with_gradients(gradient_x, gradient_y):
-    return with_row(frames.SOBEL, gives=right.windowed(gradient_x, gradient_y))
+    return with_row(wire.SOBEL, gives=right.windowed(gradient_x, gradient_y))
 
 
 def plain_gradient(nine):
@@ -156,7 +159,7 @@ def size_of(gradient):
 
 def gradients_in_order(node, things):
     """What the first output has is gx, also where it is gy's."""
-    written = [k for k in model.OUTPUTS if things[k] is not None]
+    written = [k for k in OUTPUTS if things[k] is not None]
     values = zip(written, (right.gradient_x, right.gradient_y))
     return {k: right.window_image(things[IN1], node.border, (1, 1), things[k].fmt, value) for k, value in values}
 
@@ -172,7 +175,7 @@ def convolved_to(result):
 
         return {OUT1: right.window_image(things[IN1], node.border, radii, fmt, value)}
 
-    return with_row(frames.CONVOLVE, gives=gives)
+    return with_row(wire.CONVOLVE, gives=gives)
 
 
 def divided_by(quotient):
@@ -252,27 +255,27 @@ def window_of_constant(image, border, radii, fmt, value):
 
 
 WINDOW_FAULTS = (
-    Fault("Box rounds to the nearest", None, with_window(frames.BOX, lambda nine: (sum(nine) + 4) // 9)),
-    Fault("Box rounds up", None, with_window(frames.BOX, lambda nine: -(-sum(nine) // 9))),
-    Fault("Box leaves out the middle", None, with_window(frames.BOX, lambda nine: sum(without_middle(nine)) // 8)),
+    Fault("Box rounds to the nearest", None, with_window(wire.BOX, lambda nine: (sum(nine) + 4) // 9)),
+    Fault("Box rounds up", None, with_window(wire.BOX, lambda nine: -(-sum(nine) // 9))),
+    Fault("Box leaves out the middle", None, with_window(wire.BOX, lambda nine: sum(without_middle(nine)) // 8)),
     Fault("Gaussian rounds to the nearest", None,
-          with_window(frames.GAUSSIAN, lambda nine: (right.weighted(nine, (1, 2, 1, 2, 4, 2, 1, 2, 1)) + 8) // 16)),
-    Fault("Gaussian rounds along rows and again along columns", None, with_window(frames.GAUSSIAN, gaussian_by_steps)),
-    Fault("Median is the median of the rows' medians", None, with_window(frames.MEDIAN, median_of_rows)),
-    Fault("Median is the fourth by size", None, with_window(frames.MEDIAN, lambda nine: sorted(nine)[3])),
-    Fault("Median is the sixth by size", None, with_window(frames.MEDIAN, lambda nine: sorted(nine)[5])),
-    Fault("Erode looks at a cross", None, with_window(frames.ERODE, lambda nine: min(cross_of(nine)))),
-    Fault("Erode leaves out the middle", None, with_window(frames.ERODE, lambda nine: min(without_middle(nine)))),
-    Fault("Erode is the greatest", None, with_window(frames.ERODE, max)),
-    Fault("Dilate looks at a cross", None, with_window(frames.DILATE, lambda nine: max(cross_of(nine)))),
-    Fault("Dilate leaves out the middle", None, with_window(frames.DILATE, lambda nine: max(without_middle(nine)))),
-    Fault("Dilate is the least", None, with_window(frames.DILATE, min)),
+          with_window(wire.GAUSSIAN, lambda nine: (right.weighted(nine, (1, 2, 1, 2, 4, 2, 1, 2, 1)) + 8) // 16)),
+    Fault("Gaussian rounds along rows and again along columns", None, with_window(wire.GAUSSIAN, gaussian_by_steps)),
+    Fault("Median is the median of the rows' medians", None, with_window(wire.MEDIAN, median_of_rows)),
+    Fault("Median is the fourth by size", None, with_window(wire.MEDIAN, lambda nine: sorted(nine)[3])),
+    Fault("Median is the sixth by size", None, with_window(wire.MEDIAN, lambda nine: sorted(nine)[5])),
+    Fault("Erode looks at a cross", None, with_window(wire.ERODE, lambda nine: min(cross_of(nine)))),
+    Fault("Erode leaves out the middle", None, with_window(wire.ERODE, lambda nine: min(without_middle(nine)))),
+    Fault("Erode is the greatest", None, with_window(wire.ERODE, max)),
+    Fault("Dilate looks at a cross", None, with_window(wire.DILATE, lambda nine: max(cross_of(nine)))),
+    Fault("Dilate leaves out the middle", None, with_window(wire.DILATE, lambda nine: max(without_middle(nine)))),
+    Fault("Dilate is the least", None, with_window(wire.DILATE, min)),
     Fault("Sobel's outputs are exchanged", None, with_gradients(right.gradient_y, right.gradient_x)),
     Fault("gx falls to the right", None, with_gradients(opposite(right.gradient_x), right.gradient_y)),
     Fault("gy falls to below", None, with_gradients(right.gradient_x, opposite(right.gradient_y))),
     Fault("gx weighs the three rows alike", None, with_gradients(plain_gradient, right.gradient_y)),
     Fault("Sobel gives no number below 0", None, with_gradients(size_of(right.gradient_x), size_of(right.gradient_y))),
-    Fault("Sobel's only output is gx", None, with_row(frames.SOBEL, gives=gradients_in_order)),
+    Fault("Sobel's only output is gx", None, with_row(wire.SOBEL, gives=gradients_in_order)),
     Fault("Convolve doesn't turn the coefficients", None, {"turned": lambda convolution: convolution.coefficients}),
     Fault("Convolve turns columns alone", None, {"turned": turned_across}),
     Fault("a convolution's coefficients stand by columns", None, {"turned": turned_by_columns}),
@@ -362,7 +365,7 @@ def with_sums(sum_at):
         return {OUT1: right.made(U32, image.width, image.height, image.valid,
                                  lambda place: sum_at(image, place % image.width, place // image.width))}
 
-    return with_row(frames.INTEGRAL, gives=gives)
+    return with_row(wire.INTEGRAL, gives=gives)
 
 
 def sum_of(image, x, y):
@@ -409,7 +412,7 @@ def extremes_of_all_runs(node, things):
     return {OUT1: found}
 
 
-HISTOGRAM, MIN_MAX_LOCATION = frames.HISTOGRAM, frames.MIN_MAX_LOCATION
+HISTOGRAM, MIN_MAX_LOCATION = wire.HISTOGRAM, wire.MIN_MAX_LOCATION
 
 STATISTIC_FAULTS = (
     Fault("Histogram adds to what was counted before", None, with_row(HISTOGRAM, gives=histogram_added)),
@@ -426,7 +429,7 @@ STATISTIC_FAULTS = (
     Fault("a sample below the offset counts in the first bin", None, {"bin_of": bin_of_first}),
     Fault("a range is where the bins end", None, {"bin_of": bin_to_range}),
     Fault("the sample at a range's end counts", None, {"bin_of": bin_with_end}),
-    Fault("Integral has the sums at all places", SET_VALID, with_row(frames.INTEGRAL, gives=of_whole(right.integral))),
+    Fault("Integral has the sums at all places", SET_VALID, with_row(wire.INTEGRAL, gives=of_whole(right.integral))),
     Fault("Integral leaves out a place's row and column", None, with_sums(sum_of)),
     Fault("Integral leaves out a place's row", None, with_sums(lambda image, x, y: sum_of(image, x + 1, y))),
     Fault("Integral begins anew in each row", None, with_sums(sum_of_row)),
@@ -513,7 +516,7 @@ def create_with_last_name(limits, state, thing):
 
 def answer_with_name(limits, state, op, body):
     code, reply = right.answer(limits, state, op, body)
-    if op in frames.CREATES and code not in (model.SUCCESS, model.NO_RESOURCES) and state.context is not None:
+    if op in wire.CREATES and code not in (SUCCESS, model.NO_RESOURCES) and state.context is not None:
         state.context.next_name += 1
     return code, reply
 
@@ -527,9 +530,10 @@ def release_to_give_again(limits, state, name):
 def still_charged():
     """Objects that are gone and charged."""
     def release(limits, state, name):
-        gone = state.context.objects.get(name)
+        before = dict(state.context.objects)
         body = right.release(limits, state, name)
-        state.context.gone = [*getattr(state.context, "gone", ()), gone]
+        gone = [thing for name, thing in before.items() if name not in state.context.objects]
+        state.context.gone = [*getattr(state.context, "gone", ()), *gone]
         return body
 
     def charge(context):
@@ -1335,23 +1339,10 @@ def has_room_for_slots(limits, context, thing):
     return right.has_room(limits._replace(objects=limits.objects - more), context, thing)
 
 
-def reads_own_delay(node, things):
-    operands = [right.present(node, things, among) for among in (model.INPUTS, model.OUTPUTS)]
-    read, written = ({cell.name for cell, _, _ in some} for some in operands)
-    return bool(read & written)
-
-
 def slots_to_17(fields):
     slots = fields.byte()
     model.refuse_if(not 1 <= slots <= 17, model.INVALID_VALUE)
     return slots
-
-
-def node_refusal_at(k, applies=None, code=None):
-    """One of a node's refusals, for something else or with another code."""
-    rows = [*right.NODE_REFUSALS]
-    rows[k] = (applies or rows[k][0], code or rows[k][1])
-    return {"NODE_REFUSALS": rows}
 
 
 DELAY_FAULTS = (
@@ -1366,7 +1357,6 @@ DELAY_FAULTS = (
           with_fields(right.CREATE_DELAY, right.take_cell, slots_to_17)),
     Fault("a delay is charged for one slot", right.CREATE_DELAY, {"object_bytes": bytes_of_one_slot}),
     Fault("a delay is as many objects as it has slots", right.CREATE_DELAY, {"has_room": has_room_for_slots}),
-    Fault("two slots of a delay are one image", right.CREATE_DELAY, node_refusal_at(4, reads_own_delay)),
 )
 
 
@@ -1377,8 +1367,8 @@ def charged_together():
     contexts = []
 
     class Clients(model.Clients):
-        def __init__(self):
-            super().__init__()
+        def __init__(self, limits):
+            super().__init__(limits)
             contexts.clear()
 
     class Context(model.Context):
@@ -1489,22 +1479,51 @@ BODY_FAULTS = (
 
 
 def refusals_in(*order):
-    return {"NODE_REFUSALS": [right.NODE_REFUSALS[k] for k in order]}
+    return {"IMMEDIATE_REFUSALS": [right.IMMEDIATE_REFUSALS[k] for k in order]}
 
 
-def of_one(applies, k):
-    """A refusal for one operand alone."""
-    def applies_there(node, things):
-        return applies(node._replace(cells=[cell if at == k else None for at, cell in enumerate(node.cells)]), things)
+def one_after_another(refusals):
+    """All that is wrong with one operand before the next. A graph is the first."""
+    def of_one(applies, k):
+        return lambda operands: applies([operands[0], *operands[k : k + 1]])
 
-    return applies_there
+    *earlier, last = refusals
+    return [*((of_one(applies, k), code) for k in range(5) for applies, code in earlier), last]
 
 
-def by_operands():
-    """All that is wrong with one operand before the next."""
-    names, kinds, slots, *others = right.NODE_REFUSALS
-    first = [(of_one(applies, k), code) for k in range(4) for applies, code in (names, kinds, slots)]
-    return {"NODE_REFUSALS": [*first, *others]}
+def immediate_with(refusal, code, after):
+    """An Immediate that tries something on its node after so many of its refusals."""
+    def immediate(limits, state, node):
+        right.refuse_first(right.IMMEDIATE_REFUSALS[:after], right.operands_of(state.context, node))
+        model.refuse_if(refusal(node), code)
+        return right.immediate(limits, state, node)
+
+    return with_outcome(right.IMMEDIATE, immediate)
+
+
+def reads_own_output(node):
+    return not {*right.cells_of(node, INPUTS)}.isdisjoint(right.cells_of(node, OUTPUTS))
+
+
+def writes_twice(node):
+    written = right.cells_of(node, OUTPUTS)
+    return len({*written}) < len(written)
+
+
+def verdicts_in(*order):
+    return {"VERDICTS": [right.VERDICTS[k] for k in order]}
+
+
+def verdict_at(k, refusal):
+    """One of the verdicts, for something else."""
+    rows = [*right.VERDICTS]
+    rows[k] = refusal
+    return {"VERDICTS": rows}
+
+
+def without_second(node):
+    """It has no out2."""
+    return node._replace(cells=[*node.cells[:OUT2], None])
 
 
 def write_image_by_size(limits, state, cell, picture):
@@ -1514,18 +1533,13 @@ def write_image_by_size(limits, state, cell, picture):
 
 
 def image_by_kind(context, cell):
-    model.refuse_if(cell.slot != model.NO_SLOT and cell.name not in context.objects, model.INVALID_TYPE)
+    model.refuse_if(cell.slot != model.NO_SLOT and not right.is_live(context, cell.name), model.INVALID_TYPE)
     return right.image_in(context, cell)
-
-
-def of_first_output(applies):
-    """A refusal that doesn't see the second output."""
-    return lambda node, things: applies(node._replace(cells=[*node.cells[:OUT2], None]), [*things[:OUT2], None])
 
 
 def has_formats_but_of_second(node, things):
     taken = {formats[:OUT2] for formats in node.function.formats}
-    return tuple(map(right.format_of, things[:OUT2])) not in taken
+    return tuple(right.format_of(things.get(cell)) for cell in node.cells[:OUT2]) not in taken
 
 
 def window_clamped(image, border, radii, fmt, value):
@@ -1538,32 +1552,42 @@ def is_of_any_kind(thing, kind):
 
 
 REFUSAL_FAULTS = (
-    Fault("a node's kinds are tried before its names", None, refusals_in(1, 0, 2, 3, 4, 5, 6)),
-    Fault("a node's slots are tried before its names", right.CREATE_DELAY, refusals_in(2, 0, 1, 3, 4, 5, 6)),
-    Fault("a node's slots are tried before its kinds", right.CREATE_DELAY, refusals_in(0, 2, 1, 3, 4, 5, 6)),
-    Fault("a node's own output is tried before its kinds", None, refusals_in(0, 4, 1, 2, 3, 5, 6)),
-    Fault("a node's own output is tried before its slots", right.CREATE_DELAY, refusals_in(0, 1, 4, 2, 3, 5, 6)),
-    Fault("a node's formats are tried before its own output", None, refusals_in(0, 1, 2, 3, 5, 4, 6)),
-    Fault("a node's sizes are tried before its formats", None, refusals_in(0, 1, 2, 3, 4, 6, 5)),
-    Fault("a node's operands are tried one after another", None, by_operands()),
-    Fault("two outputs may be one image", None, node_refusal_at(3, lambda *_: False)),
-    Fault("two outputs that are one image answer INVALID_GRAPH", None, node_refusal_at(3, code=model.INVALID_GRAPH)),
-    Fault("two outputs that are one image are told before their kinds", None, refusals_in(0, 3, 1, 2, 4, 5, 6)),
-    Fault("two outputs that are one image are told after one that is read", None, refusals_in(0, 1, 2, 4, 3, 5, 6)),
-    Fault("two outputs that are one image are told after formats", None, refusals_in(0, 1, 2, 4, 5, 3, 6)),
-    Fault("two outputs that are one image are told last", None, refusals_in(0, 1, 2, 4, 5, 6, 3)),
-    Fault("a node may read its second output", None, node_refusal_at(4, of_first_output(right.reads_own_output))),
+    Fault("a node's kinds are tried before its names", None, refusals_in(1, 0, 2, 3)),
+    Fault("a node's slots are tried before its names", right.CREATE_DELAY, refusals_in(2, 0, 1, 3)),
+    Fault("a node's slots are tried before its kinds", right.CREATE_DELAY, refusals_in(0, 2, 1, 3)),
+    Fault("a node's own output is tried before its kinds", None,
+          immediate_with(reads_own_output, model.INVALID_GRAPH, 1)),
+    Fault("a node's own output is tried before its slots", right.CREATE_DELAY,
+          immediate_with(reads_own_output, model.INVALID_GRAPH, 2)),
+    Fault("a node's formats are tried before its own output", None, verdicts_in(0, 2, 3, 1, 4)),
+    Fault("a node's sizes are tried before its formats", None, {"NODE_REFUSALS": right.NODE_REFUSALS[::-1]}),
+    Fault("a node's operands are tried one after another", None,
+          {"IMMEDIATE_REFUSALS": one_after_another(right.IMMEDIATE_REFUSALS)}),
+    Fault("two outputs may be one image", None, verdict_at(0, lambda *_: None)),
+    Fault("two outputs that are one image answer INVALID_GRAPH", None,
+          verdict_at(0, lambda *graph: right.two_writers(*graph) and model.INVALID_GRAPH)),
+    Fault("two outputs that are one image are told before their kinds", None,
+          immediate_with(writes_twice, model.MULTIPLE_WRITERS, 1)),
+    Fault("two outputs that are one image are told after one that is read", None, verdicts_in(1, 0, 2, 3, 4)),
+    Fault("two outputs that are one image are told last", None, verdicts_in(1, 2, 3, 4, 0)),
+    Fault("a node may read its second output", None,
+          verdict_at(1, lambda nodes, *graph: right.cycle([*map(without_second, nodes)], *graph))),
     Fault("the second output may have another format", None,
-          {**node_refusal_at(5, has_formats_but_of_second), "window_image": window_clamped}),
-    Fault("the second output may have another size", None, node_refusal_at(6, of_first_output(right.has_other_size))),
-    Fault("Sobel has both outputs", None, with_row(frames.SOBEL, optional=())),
-    Fault("Sobel has its first output", None, with_row(frames.SOBEL, optional=(OUT2,))),
-    Fault("Sobel has its second output", None, with_row(frames.SOBEL, optional=(OUT1,))),
+          {"NODE_REFUSALS": ((has_formats_but_of_second, model.INVALID_FORMAT), right.NODE_REFUSALS[1]),
+           "window_image": window_clamped}),
+    Fault("the second output may have another size", None,
+          {"NODE_REFUSALS": (right.NODE_REFUSALS[0], (
+              lambda node, things: right.has_other_size(without_second(node), things), model.INVALID_DIMENSION))}),
+    Fault("Sobel has both outputs", None, with_row(wire.SOBEL, optional=())),
+    Fault("Sobel has its first output", None, with_row(wire.SOBEL, optional=(OUT2,))),
+    Fault("Sobel has its second output", None, with_row(wire.SOBEL, optional=(OUT1,))),
     Fault("a slot that isn't there is of any kind", right.CREATE_DELAY, {"is_of_kind": is_of_any_kind}),
-    Fault("an operand of another kind answers INVALID_FORMAT", None, node_refusal_at(1, code=model.INVALID_FORMAT)),
-    Fault("Convolve gives S16 alone", None, with_row(frames.CONVOLVE, formats=right.CONVOLVED[1:])),
-    Fault("MinMaxLoc takes U8 alone", None, with_row(frames.MIN_MAX_LOCATION, formats=right.COUNTED)),
-    Fault("Histogram takes S16 too", None, with_row(frames.HISTOGRAM, formats=right.COMPARED)),
+    Fault("an operand of another kind answers INVALID_FORMAT", None,
+          {"IMMEDIATE_REFUSALS": [(applies, model.INVALID_FORMAT if code == model.INVALID_TYPE else code)
+                                  for applies, code in right.IMMEDIATE_REFUSALS]}),
+    Fault("Convolve gives S16 alone", None, with_row(wire.CONVOLVE, formats=right.CONVOLVED[1:])),
+    Fault("MinMaxLoc takes U8 alone", None, with_row(wire.MIN_MAX_LOCATION, formats=right.COUNTED)),
+    Fault("Histogram takes S16 too", None, with_row(wire.HISTOGRAM, formats=right.COMPARED)),
     Fault("a slot of an object that isn't a delay is passed over", None, with_cells_at(object_without_delay)),
     Fault("a slot is told before a name that is no object's", None, {"image_in": image_by_kind}),
     Fault("WriteImage tries sizes before formats", None, with_outcome(right.WRITE_IMAGE, write_image_by_size)),
