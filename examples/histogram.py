@@ -1,99 +1,65 @@
 #!/usr/bin/env python3
 """How often each sample stands in a picture: its histogram as bars of text, and as a picture of bars.
 
-    examples/histogram.py PROGRAM [[PICTURE] BARS]
+    examples/histogram.py PROGRAM FOLDER [PICTURE]
 
-starts the server, sends it a picture of three bands as PGM, or the PGM file PICTURE, and prints a
-bar for each of 16 bins. Where a file BARS is named, the server also draws a bar for each of the 256
-samples, and that picture is written there as PGM. What it is asked depends on what it has counted,
-so each request waits for its reply. With no PROGRAM the bytes of the requests as far as the counts
-are written to standard output.
+counts the samples of a picture of three bands, or of the PGM file PICTURE, and prints a bar for each of 16 bins. The
+server also draws a bar for each of the 256 samples; FOLDER/histogram.png has these, and the picture above them.
 """
 
 import os
-import subprocess
 import sys
+from typing import Sequence
 
-sys.dont_write_bytecode = True
-sys.path.insert(0, os.path.join(os.path.dirname(os.path.abspath(__file__)), "..", "tools"))
-import frames  # noqa: E402
-import pgm  # noqa: E402
+import feqyldan as vx
+from sheet import panel, sheet
 
-WIDTH, HEIGHT = 48, 32
+WIDTH, HEIGHT = 256, 96
 BINS, LINE = 16, 60
 ROWS = 128
 
 
-def sample(x, y):
+def sample(x: int, y: int) -> int:
     """Three bands, each brighter than the one before, darker above than below, with a little noise."""
-    return 40 + 70 * (3 * x // WIDTH) + y + (x * x * 7 + y * y * 11 + x * y * 3) % 23
+    return 40 + 70 * (3 * x // WIDTH) + y // 3 + (x * x * 7 + y * y * 11 + x * y * 3) % 23
 
 
-CLIENT = 7
-PICTURE, COARSE, FINE = 1, 2, 3
-COLUMNS, HEIGHTS, LEVELS, ABOVE, BARS, TABLE, NOTHING = range(4, 11)
+def count(context: vx.Context, picture: vx.Image, bins: int) -> Sequence[int]:
+    distribution = context.distribution(bins)
+    context.vxu.histogram(picture, distribution)
+    return distribution.read()
 
 
-def counting(text):
-    """The picture, and two distributions of its samples: one for the lines of text, one with a bin for each sample."""
-    yield frames.open_context(CLIENT)
-    yield frames.create_image(CLIENT, frames.U8, *pgm.sides(text))
-    yield frames.create_distribution(CLIENT, BINS, 0, 256)
-    yield frames.create_distribution(CLIENT, 256, 0, 256)
-    yield frames.write_image_pgm(CLIENT, PICTURE, text)
-    yield frames.immediate(CLIENT, frames.HISTOGRAM, PICTURE, None, COARSE)
-    yield frames.immediate(CLIENT, frames.HISTOGRAM, PICTURE, None, FINE)
-    yield frames.read_distribution(CLIENT, COARSE)
-    yield frames.read_distribution(CLIENT, FINE)
-
-
-def drawing(counts):
+def draw(context: vx.Context, counts: Sequence[int]) -> vx.Image:
     """A picture with a column for each sample: a table makes each bar as high as its count asks for, and where that is
     above a row's level, the bar is dark."""
-    for _ in (COLUMNS, HEIGHTS, LEVELS, ABOVE, BARS):
-        yield frames.create_image(CLIENT, frames.U8, 256, ROWS)
-    yield frames.create_lut(CLIENT, frames.U8, [255 * count // max(counts) for count in counts])
-    yield frames.create_threshold(CLIENT, frames.U8, (0,), true_value=0, false_value=255)
-    yield frames.write_image_pgm(CLIENT, COLUMNS, pgm.text(256, ROWS, lambda x, y: x))
-    yield frames.write_image_pgm(CLIENT, LEVELS, pgm.text(256, ROWS, lambda x, y: 255 * (ROWS - 1 - y) // ROWS))
-    yield frames.immediate(CLIENT, frames.TABLE_LOOKUP, COLUMNS, TABLE, HEIGHTS)
-    yield frames.immediate(CLIENT, frames.SUBTRACT, HEIGHTS, LEVELS, ABOVE, frames.SATURATE)
-    yield frames.immediate(CLIENT, frames.THRESHOLD, ABOVE, NOTHING, BARS)
-    yield frames.read_image_pgm(CLIENT, BARS)
+    columns = context.image_from([range(256)] * ROWS)
+    levels = context.image_from([[255 * (ROWS - 1 - row) // ROWS] * 256 for row in range(ROWS)])
+    heights, above, bars = (context.image(vx.U8, 256, ROWS) for _ in range(3))
+    vxu = context.vxu
+    vxu.table_lookup(columns, context.lut(vx.U8, [255 * count // max(counts) for count in counts]), heights)
+    vxu.subtract(heights, levels, vx.SATURATE, above)
+    vxu.threshold(above, context.threshold(vx.U8, above=0, true_value=0, false_value=235), bars)
+    return bars
 
 
-def ask(server, requests):
-    """The replies, each of which is waited for before the next request is sent."""
-    for request in requests:
-        server.stdin.write(request)
-        server.stdin.flush()
-        length = server.stdout.read(4)
-        reply = length + server.stdout.read(int.from_bytes(length, "big"))
-        if frames.code_of(reply) != 0:
-            sys.exit(frames.say(reply))
-        yield reply
-
-
-def show(counts):
+def show(counts: Sequence[int]) -> None:
     print("    samples     count")
     for number, count in enumerate(counts):
         first = number * 256 // BINS
-        bar = "#" * (LINE * count // max(counts))
-        print(f"    {first:3} to {first + 256 // BINS - 1:3} {count:6} {bar}".rstrip())
+        print(f"    {first:3} to {first + 256 // BINS - 1:3} {count:6} {'#' * (LINE * count // max(counts))}".rstrip())
 
 
-def main():
-    paths = sys.argv[2:]
-    text = pgm.read(paths[0]) if len(paths) == 2 else pgm.text(WIDTH, HEIGHT, sample)
-    if len(sys.argv) == 1:
-        sys.stdout.buffer.write(b"".join(counting(text)))
-        return
-    with subprocess.Popen([sys.argv[1], "serve"], stdin=subprocess.PIPE, stdout=subprocess.PIPE) as server:
-        *_, coarse, fine = ask(server, counting(text))
-        show(frames.counts_of(coarse))
-        if paths:
-            *_, bars = ask(server, drawing(frames.counts_of(fine)))
-            pgm.write(paths[-1], frames.text_of(bars))
+def main() -> None:
+    program, folder = sys.argv[1:3]
+    os.makedirs(folder, exist_ok=True)
+    with vx.Server(program) as server, server.context() as context:
+        own = [[sample(x, y) for x in range(WIDTH)] for y in range(HEIGHT)]
+        picture = context.read_pgm(sys.argv[3]) if len(sys.argv) > 3 else context.image_from(own)
+        show(count(context, picture, BINS))
+        bars = draw(context, count(context, picture, 256))
+        pictures = [panel(picture.read())], [panel(bars.read())]
+    vx.write_png(os.path.join(folder, "histogram.png"), sheet(pictures))
 
 
 main()

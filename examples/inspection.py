@@ -1,0 +1,121 @@
+#!/usr/bin/env python3
+"""An inspection station: which parts have a scratch, by comparison with a reference.
+
+    examples/inspection.py PROGRAM FOLDER
+
+inspects two flanges. A graph takes the specks out of a part's picture by a median, takes the absolute difference to the
+reference, keeps what differs by more than 24, takes single pixels out by a median again, and finds the rectangle
+around the rest by extremes. It prints what was found, and writes FOLDER/inspection.png: the reference, the scratched
+part with the rectangle, the difference four times as bright, and what was kept.
+"""
+
+import math
+import os
+import random
+import sys
+from typing import List, NamedTuple, Optional
+
+import feqyldan as vx
+from bounds import add_bounds, rectangle_of
+from sheet import panel, sheet
+
+WIDTH, HEIGHT = 200, 144
+MIDDLE = (100, 72)
+HOLES = [(MIDDLE[0] + 42 * math.cos(k * math.pi / 3), MIDDLE[1] + 42 * math.sin(k * math.pi / 3)) for k in range(6)]
+SCRATCH = ((77, 41), (64, 95))
+
+
+# ---- the pictures
+
+def inside(distance: float) -> float:
+    """How much of a pixel is inside of an edge that is so many pixels away."""
+    return min(1.0, max(0.0, distance + 0.5))
+
+
+def flange(x: int, y: int) -> float:
+    """A turned flange with a bore and six holes on a dark belt."""
+    radius = math.dist((x, y), MIDDLE)
+    metal = inside(63 - radius) * inside(radius - 19)
+    for hole in HOLES:
+        metal *= inside(math.dist((x, y), hole) - 7)
+    shine = 145 + 35 * math.cos(2 * math.atan2(y - MIDDLE[1], x - MIDDLE[0]) - 0.8)
+    return 36 + (shine - 36) * metal
+
+
+def from_scratch(x: int, y: int) -> float:
+    """How far a pixel is from the scratch's middle line."""
+    (ax, ay), (bx, by) = SCRATCH
+    along = ((x - ax) * (bx - ax) + (y - ay) * (by - ay)) / math.dist(*SCRATCH) ** 2
+    along = min(1.0, max(0.0, along))
+    return math.dist((x, y), (ax + along * (bx - ax), ay + along * (by - ay)))
+
+
+def photograph(seed: int, scratched: bool = False) -> List[List[int]]:
+    """A part as a camera sees it: with a little noise, and specks that are black or white."""
+    chance = random.Random(seed)
+
+    def sample(x: int, y: int) -> int:
+        if chance.random() < 0.003:
+            return chance.choice((0, 255))
+        clean = flange(x, y)
+        if scratched:
+            clean += (235 - clean) * inside(1.3 - from_scratch(x, y))
+        return int(clean) + chance.randrange(2)
+
+    return [[sample(x, y) for x in range(WIDTH)] for y in range(HEIGHT)]
+
+
+# ---- the station
+
+class Finding(NamedTuple):
+    pixels: int
+    around: Optional[vx.Rectangle]
+
+
+class Station:
+    """A graph that compares the picture in `part` with a reference, and leaves `difference` and `marks`."""
+
+    def __init__(self, context: vx.Context, reference: vx.Image) -> None:
+        self.part, self.difference, self.marks, clean = (context.image(vx.U8, WIDTH, HEIGHT) for _ in range(4))
+        context.vxu.median3x3(reference, clean, border=vx.REPLICATE)
+        self._graph = graph = context.graph()
+        smooth, differing = graph.virtual_image(), graph.virtual_image()
+        graph.median3x3(self.part, smooth, border=vx.REPLICATE)
+        graph.absdiff(smooth, clean, self.difference)
+        graph.threshold(self.difference, context.threshold(vx.U8, above=24), differing)
+        graph.median3x3(differing, self.marks, border=vx.REPLICATE)
+        self._extremes = add_bounds(graph, self.marks, WIDTH, HEIGHT)
+        graph.verify()
+
+    def inspect(self, picture: List[List[int]]) -> Finding:
+        self.part.write(picture)
+        self._graph.process()
+        extremes = [found.read() for found in self._extremes]
+        around = rectangle_of(extremes)
+        return Finding(extremes[0].max_count if around else 0, around)
+
+
+def in_words(found: Finding) -> str:
+    if not found.around:
+        return "nothing found"
+    x0, y0, x1, y1 = found.around
+    return f"{found.pixels} pixels differ, in columns {x0} to {x1 - 1} and rows {y0} to {y1 - 1}"
+
+
+def main() -> None:
+    program, folder = sys.argv[1:]
+    os.makedirs(folder, exist_ok=True)
+    with vx.Server(program) as server, server.context() as context:
+        reference = context.image_from(photograph(seed=1))
+        station = Station(context, reference)
+        print(f"    the first part: {in_words(station.inspect(photograph(seed=2)))}")
+        found = station.inspect(photograph(seed=3, scratched=True))
+        print(f"    the second part: {in_words(found)}")
+        bright = context.image(vx.U8, WIDTH, HEIGHT)
+        context.vxu.table_lookup(station.difference, context.lut(vx.U8, [min(255, 4 * d) for d in range(256)]), bright)
+        pictures = panel(reference.read()), panel(station.part.read(), found.around), panel(bright.read())
+        marks = panel(station.marks.read(), found.around)
+    vx.write_png(os.path.join(folder, "inspection.png"), sheet([[*pictures, marks]]))
+
+
+main()
