@@ -52,9 +52,8 @@ def main() -> None:
     os.makedirs(folder, exist_ok=True)
     with vx.Server(program) as server, server.context() as context:
         picture = context.read_pgm(sys.argv[3]) if len(sys.argv) > 3 else context.image_from(drawing())
-        width, height = picture.width, picture.height
-        smooth, shown, edges = (context.image(vx.U8, width, height) for _ in range(3))
-        across, down, zero, across_size, down_size, size = (context.image(vx.S16, width, height) for _ in range(6))
+        smooth, shown, edges = (context.image_like(picture) for _ in range(3))
+        across, down, zero, across_size, down_size, size = (context.image_like(picture, vx.S16) for _ in range(6))
         vxu = context.vxu
         vxu.gaussian3x3(picture, smooth, border=vx.REPLICATE)
         vxu.sobel3x3(smooth, across, down, border=vx.REPLICATE)

@@ -35,7 +35,7 @@ def draw(context: vx.Context, counts: Sequence[int]) -> vx.Image:
     above a row's level, the bar is dark."""
     columns = context.image_from([range(256)] * ROWS)
     levels = context.image_from([[255 * (ROWS - 1 - row) // ROWS] * 256 for row in range(ROWS)])
-    heights, above, bars = (context.image(vx.U8, 256, ROWS) for _ in range(3))
+    heights, above, bars = (context.image_like(columns) for _ in range(3))
     vxu = context.vxu
     vxu.table_lookup(columns, context.lut(vx.U8, [255 * count // max(counts) for count in counts]), heights)
     vxu.subtract(heights, levels, vx.SATURATE, above)

@@ -76,7 +76,7 @@ class Station:
     """A graph that compares the picture in `part` with a reference, and leaves `difference` and `marks`."""
 
     def __init__(self, context: vx.Context, reference: vx.Image) -> None:
-        self.part, self.difference, self.marks, clean = (context.image(vx.U8, WIDTH, HEIGHT) for _ in range(4))
+        self.part, self.difference, self.marks, clean = (context.image_like(reference) for _ in range(4))
         context.vxu.median3x3(reference, clean, border=vx.REPLICATE)
         self._graph = graph = context.graph()
         smooth, differing = graph.virtual_image(), graph.virtual_image()
@@ -111,7 +111,7 @@ def main() -> None:
         print(f"    the first part: {in_words(station.inspect(photograph(seed=2)))}")
         found = station.inspect(photograph(seed=3, scratched=True))
         print(f"    the second part: {in_words(found)}")
-        bright = context.image(vx.U8, WIDTH, HEIGHT)
+        bright = context.image_like(station.difference)
         context.vxu.table_lookup(station.difference, context.lut(vx.U8, [min(255, 4 * d) for d in range(256)]), bright)
         pictures = panel(reference.read()), panel(station.part.read(), found.around), panel(bright.read())
         marks = panel(station.marks.read(), found.around)

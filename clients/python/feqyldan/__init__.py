@@ -5,7 +5,7 @@ A client of the vision server Feqyldan.
 
     with vx.Server("crates/vx_main/out/vx_main-default") as server, server.context() as context:
         before, after = context.read_pgm("before.pgm"), context.read_pgm("after.pgm")
-        changed = context.image(vx.U8, before.width, before.height)
+        changed = context.image_like(before)
         context.vxu.absdiff(before, after, changed)
         vx.write_png("changed.png", changed)
 

@@ -59,6 +59,10 @@ class Context:
         name = self.create(words, wire.create_image, fmt, width, height)
         return Image(self, name, Format(fmt), width, height)
 
+    def image_like(self, exemplar: AnyImage, fmt: Optional[int] = None) -> Image:
+        """A new image of the size of this one, and of its format unless another is given. No sample is copied."""
+        return self.image(exemplar.fmt if fmt is None else fmt, exemplar.width, exemplar.height)
+
     def image_from(self, samples: Any, fmt: Optional[int] = None) -> Image:
         """
         An image of these samples: a NumPy array of shape (height, width) and dtype uint8, int16 or uint32, another

@@ -31,6 +31,13 @@ class TestSamples(ProgramTest):
             self.holds(image, rows)
             self.holds(self.context.image_from(rows, fmt), rows)
 
+    def test_images_like_others(self):
+        source = self.context.image_from([[1, 2, 3], [4, 5, 6]])
+        self.holds(self.context.image_like(source), [[0, 0, 0], [0, 0, 0]])
+        for image in (source, self.context.delay(source, 2)[-1]):
+            wide = self.context.image_like(image, vx.S16)
+            self.assertEqual((wide.fmt, wide.shape), (vx.S16, (2, 3)))
+
     def test_buffers_come_back(self):
         for fmt, rows in ROWS.items():
             image = self.context.image(fmt, 3, 2)

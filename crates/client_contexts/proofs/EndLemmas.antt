@@ -17,9 +17,9 @@ use Rattle.object_table.specs.declared.fault.TableFault.{TableFault}
 use Rattle.object_table.specs.declared.fault.TableFault.TheVariants as fault
 use Rattle.object_table.proofs.NamedLemmas.{object-live, increasing-named}
 use Rattle.object_table.proofs.SearchLemmas.{find_first}
-use Rattle.client_model.specs.Context.{Context, context_of, object_named, with_objects}
+use Rattle.client_model.specs.Context.{Context, object_named, with_objects}
 use Rattle.client_model.specs.Holds.{still_held, unnamed}
-use Rattle.client_contexts.specs.Places.{AreInContext}
+use Rattle.client_contexts.specs.Places.{context_of, AreInContext}
 use Rattle.client_contexts.proofs.GraphLemmas.{nodes_end, AreInContext-rest, graph_may_end, named-graph_ends, live_still}
 use Rattle.client_contexts.proofs.ReleaseLemmas.{MayEnd, AreInContext-released, named-ends, other_may_end}
 

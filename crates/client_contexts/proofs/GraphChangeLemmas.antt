@@ -18,10 +18,10 @@ use Rattle.object_table.specs.Table.{TableValue}
 use Rattle.object_table.specs.Uses.{used_names, used_all, unused_all, HaveRoom, HaveUses}
 use Rattle.client_model.specs.declared.refusal.Refusal.{Refusal}
 use Rattle.client_model.specs.declared.refusal.Refusal.TheVariants.{InvalidReference}
-use Rattle.client_model.specs.Context.{Context, context_of, with_objects}
+use Rattle.client_model.specs.Context.{Context, with_objects}
 use Rattle.client_model.specs.Graphs.{with_graph}
 use Rattle.client_model.specs.Holds.{still_held}
-use Rattle.client_contexts.specs.Places.{entry_at, graph_at, HasGraphAt, AreInContext}
+use Rattle.client_contexts.specs.Places.{context_of, entry_at, graph_at, HasGraphAt, AreInContext}
 use Rattle.client_model.specs.States.{stands}
 use Rattle.client_contexts.proofs.ContextLemmas.{entry_there, within_there}
 use Rattle.client_contexts.proofs.GraphLemmas.{graph_is, nodes_found, with_graph-stands, uses_begin, AreInContext-begun, with_graph-named, named-begun, uses_end, AreInContext-left, named-left}

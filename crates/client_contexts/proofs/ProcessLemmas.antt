@@ -48,9 +48,9 @@ use Rattle.graph_run.specs.Operands.{names_cell, StandsFor, CellsStand}
 use Rattle.graph_run.proofs.LinkLaws.{All-from_In, In-from_All}
 use Rattle.graph_run.proofs.OperandLaws.{no_fault, virtual_there, outline_of_virtual, known_kept, virtual_written, stands_after}
 use Rattle.graph_run.proofs.TurnLaws.{each_alone, at_its_turn, run_in_order}
-use Rattle.client_model.specs.Context.{Context, context_of, with_objects}
+use Rattle.client_model.specs.Context.{Context, with_objects}
 use Rattle.client_model.specs.Graphs.{operand_held}
-use Rattle.client_contexts.specs.Places.{graph_at, HasGraphAt, AreInContext}
+use Rattle.client_contexts.specs.Places.{context_of, graph_at, HasGraphAt, AreInContext}
 use Rattle.client_contexts.specs.Turns.{HoldsKind, CanRunNow, CanRunInTurn, AreVirtual, exchanged, cleared, begun_with}
 use Rattle.client_model.proofs.BegunLaws.{begun_stays, virtual_as_operand}
 use Rattle.client_contexts.proofs.CellLemmas.{operands_stand, graph_stands, graph_cells_stand}

@@ -27,9 +27,9 @@ use Rattle.graph_verify.specs.Linked.{linked_nodes, AreOperands}
 use Rattle.graph_verify.specs.Operand.{operand_of, operands_of, is_image}
 use Rattle.graph_verify.specs.Verdict.{verdict}
 use Rattle.graph_verify.specs.Verified.{IfRefused, IsVerified}
-use Rattle.client_model.specs.Context.{Context, context_of}
+use Rattle.client_model.specs.Context.{Context}
 use Rattle.client_model.specs.Graphs.{operand_held}
-use Rattle.client_contexts.specs.Places.{graph_at, HasGraphAt, AreInContext}
+use Rattle.client_contexts.specs.Places.{context_of, graph_at, HasGraphAt, AreInContext}
 use Rattle.client_contexts.specs.Steps.{verify_fault, IfRejected}
 use Rattle.client_contexts.proofs.CellLemmas.{graph_firsts}
 use Rattle.client_contexts.proofs.GraphChangeLemmas.{graph_there, graph_at_there}

@@ -14,10 +14,15 @@ use Rattle.object_table.specs.declared.place.Place.{Place}
 use Rattle.object_table.specs.Delay.{in_slot, object_in, HasImage}
 use Rattle.object_table.specs.Object.{image_value, graph_value}
 use Rattle.object_table.specs.Named.{Named, named, held}
+use Rattle.object_table.specs.Table.{TableValue}
 use Rattle.object_table.specs.Uses.{used_names, times, AreUses}
-use Rattle.client_model.specs.Context.{object_named}
+use Rattle.client_model.specs.Context.{Context, object_named}
 use Rattle.client_model.specs.Operands.{stands_for, image_of}
 use Rattle.client_model.specs.States.{nodes_in, NodesStand}
+
+-- the context whose objects stand in a table
+abbrev pub context_of : TableValue → Context
+context_of t = record { next = t.next; objects = map named t.objects }
 
 -- what is read past the last object
 abbrev pub no_object : Named

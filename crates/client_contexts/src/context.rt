@@ -29,16 +29,16 @@ use std::alloc::Global;
 use std::marker::Model;
 use vx_base::{Kind, Node, Picture, Rect};
 
-/// The objects of a client in the order of their names, and the name that comes next. Each of their
-/// names is live, and each image has all its samples.
+/// The objects of a client in the order of their names, and the name that comes next. The name of
+/// each is live, or a node still uses the object; and each image has all its samples.
 #[derive(Drop)]
 pub struct Context {
     table: Table,
 }
 
 impl Model for Context {
-    ghost use Rattle.client_model.specs.Context.{Context as ContextValue, context_of};
-    ghost use Rattle.client_contexts.specs.Places.{AreInContext};
+    ghost use Rattle.client_model.specs.Context.{Context as ContextValue};
+    ghost use Rattle.client_contexts.specs.Places.{context_of, AreInContext};
 
     ghost Value = { ContextValue };
 

@@ -4,8 +4,8 @@
 //! model, the other clients' states are as they were, and where memory was wanted nothing is
 //! changed; so no client sees or moves what another holds. Each client names its objects by 1, 2,
 //! .. in the order in which it made them, and holds at most 1,024, of which images are charged
-//! against its quota. A node that runs at once reads its inputs where they stand; a request of
-//! one may take memory, though none of today's functions does.
+//! against its quota. Nodes read their inputs where they stand. What a node uses is held for it
+//! after its name has ended, and a run of a graph takes all its memory before it changes anything.
 //!
 //! - `memory`, `fault`: why a request isn't done: it is refused, or finds no memory
 //! - `context`: the objects of a client, with the names and the charge; `context::graphs`,

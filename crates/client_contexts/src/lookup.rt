@@ -234,19 +234,12 @@ pub fn operands_at(context: &Context, places: Places) -> Operands
     }
 }
 
-/// Whether an operand is a virtual image.
-fn is_virtual(operand: Operand) -> bool
-    ensures { result ≡ is_virtual operand }
-{
-    matches!(operand, Operand::Virtual(_))
-}
-
 /// Whether one of a node's operands is a virtual image.
 pub fn has_virtual(operands: &Operands) -> bool
     ensures { result ≡ list_any is_virtual (all_operands operands.now) }
 {
-    is_virtual(operands.in1)
-        || operands.in2.is_some_and(|operand| is_virtual(operand))
-        || operands.out1.is_some_and(|operand| is_virtual(operand))
-        || operands.out2.is_some_and(|operand| is_virtual(operand))
+    operands.in1.is_virtual()
+        || operands.in2.is_some_and(|operand| operand.is_virtual())
+        || operands.out1.is_some_and(|operand| operand.is_virtual())
+        || operands.out2.is_some_and(|operand| operand.is_virtual())
 }

@@ -5,7 +5,8 @@ ghost use Rattle.client_contexts.specs.Steps.{ComesTo};
 use crate::context::Context;
 use client_model::{Refusal, Reply};
 
-/// Drops the object with this name.
+/// Ends an object's name. The object is dropped unless a node uses it; a graph's nodes are dropped
+/// with the graph.
 pub fn release(context: &mut Context, name: u32) -> Result<Reply, Refusal>
     ensures { ComesTo (release context.old name) context.old context.new result }
 {

@@ -12,7 +12,8 @@ ghost use Rattle.client_model.specs.States.{KeepsLimits, state_after};
 
 /// Whatever a client without a context asks for, its objects are then objects: each image has
 /// samples of its format and is 0 outside its valid rectangle; their names are distinct and below
-/// the next; at most 1,024 are held, and their charge is at most the quota.
+/// the next; each has a live name or is used by a node, and nodes find what they name; at most 1,024
+/// are held, and their charge is at most the quota.
 pub fn limits_are_kept()
     ensures { (limits : Allowance) (requests : List Request) → All IsRequest requests →
         IfSome (state_after limits None requests) (KeepsLimits limits) }

@@ -1,22 +1,17 @@
 -- One client's state, and the states of all clients.
-use Rattle.std.specs.Prelude.{ℕ, ◌+◌, ◌==◌, Bool, true, ◌&&◌, nat_le, nat_lt, List, [], ◌∷◌, ◌++◌, length, map, sum_by, find, Option}
+use Rattle.std.specs.Prelude.{ℕ, ◌+◌, ◌==◌, Bool, true, ◌&&◌, nat_le, nat_lt, List, [], ◌∷◌, ◌++◌, length, sum_by, find, Option}
 use Rattle.std.specs.Option.{option_map}
 use Rattle.std.specs.Ordering.{nat_cmp}
 use Rattle.std.specs.Map.{lookup}
 use Rattle.std.specs.BTreeMap.{is_at}
 use Rattle.vx_base.specs.Object.{ObjectValue, object_bytes}
-use Rattle.object_table.specs.Named.{Named, named}
-use Rattle.object_table.specs.Table.{TableValue}
+use Rattle.object_table.specs.Named.{Named}
 use Rattle.client_model.specs.Allowance.{Allowance}
 
 -- the name that comes next, and the objects in the order of their names
 pub record Context : Type 0 where
   pub next : ℕ
   pub objects : List Named
-
--- the context whose objects stand in a table
-abbrev pub context_of : TableValue → Context
-context_of t = record { next = t.next; objects = map named t.objects }
 
 -- a new context: no object, and name 1 next
 abbrev pub new_context : Context

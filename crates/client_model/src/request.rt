@@ -26,7 +26,7 @@ pub enum Request {
     ReadImagePgm(ObjRef),
     /// Makes this the valid rectangle of an image, whose samples outside it become 0.
     SetValid(ObjRef, Rect),
-    /// Drops the object with this name.
+    /// Ends this name. Its object is dropped once no node uses it.
     Release(u32),
     /// Makes a lookup table.
     CreateLut(Lut),

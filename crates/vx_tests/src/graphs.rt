@@ -2,7 +2,7 @@
 ghost use Rattle.std.specs.Prelude.{◌≡◌};
 ghost use Rattle.object_table.specs.Table.{new_table};
 
-use graph_verify::{Graph, GraphFault};
+use graph_verify::{Graph, GraphFault, Linked, Operand, Operands, Verdict, VerifyFault, verify};
 use object_table::{Content, Object, Table};
 use std::alloc::Global;
 use std::test::Fail;
@@ -71,6 +71,39 @@ fn open_parts_are_filled(rt: HostRuntime) -> Result<(), Fail> {
     assert_eq!(rt; Outline::of(desc).closed(), Some(desc));
     assert_eq!(rt; Function::ConvertDepth.open_format(Format::S16), Format::U8);
     assert_eq!(rt; Function::Sobel.open_format(Format::U8), Format::S16);
+    Ok(())
+}
+
+/// A node of one input and one output, beside what these are.
+fn linked(node: NodeSpec, in1: Operand, out1: Operand) -> Linked
+    ensures { result.operands.in1 ≡ in1 }
+{
+    let operands = Operands {
+        in1,
+        in2: None,
+        out1: Some(out1),
+        out2: None,
+    };
+    Linked {
+        node: node.node(),
+        operands,
+    }
+}
+
+#[test]
+fn a_verified_graph_has_an_order_and_descriptions(rt: HostRuntime) -> Result<(), Fail> {
+    let desc = Desc::new(3, 2, Format::U8).ok_or("within the limits")?;
+    let open = Outline::new(None, None, None).ok_or("within the limits")?;
+    let (image, between) = (Operand::Image(desc), Operand::Virtual(open));
+    let (last, first) = (not(2, 3)?, not(1, 2)?);
+    let nodes = [linked(last, between, image), linked(first, image, between)];
+    let verified = verify(rt.alloc(), &nodes, 6).or(Err("it can run"))?;
+    assert_eq!(rt; verified.steps.len(), 2);
+    assert_eq!(rt; (verified.steps[0], verified.steps[1]), (first.node(), last.node()));
+    assert_eq!(rt; verified.desc_of(ObjRef::new(2, None)), Some(desc));
+    assert_eq!(rt; verified.desc_of(ObjRef::new(3, None)), None);
+    let refused = verify(rt.alloc(), &nodes, 5).err();
+    assert_eq!(rt; refused, Some(VerifyFault::Refused(Verdict::NoResources)));
     Ok(())
 }
 

@@ -58,7 +58,7 @@ pub fn over_servers()
     ensures { (limits : Allowance) (start : ℕ → State) (server : ℕ → ℕ)
         (marked : List Received) (client : ℕ) →
         kept_replies client (sent_to server (server client) marked)
-            (served (answer limits) start (sent_to server (server client) marked))
+        (served (answer limits) start (sent_to server (server client) marked))
         ≡ kept_replies client marked (served (answer limits) start marked) }
 {}
 

@@ -3,8 +3,8 @@ use Rattle.object_table.specs.declared.place.Place.{Place}
 use Rattle.object_table.specs.Object.{aged_object}
 use Rattle.object_table.specs.Table as table
 use Rattle.object_table.specs.Named.{Named, with_object}
-use Rattle.client_model.specs.Context.{Context, context_of, with_objects}
-use Rattle.client_contexts.specs.Places.{entry_at, cell_at, AreInContext}
+use Rattle.client_model.specs.Context.{Context, with_objects}
+use Rattle.client_contexts.specs.Places.{context_of, entry_at, cell_at, AreInContext}
 use Rattle.client_contexts.proofs.ContextLemmas.{within_there, entry_there, named_is, AreInContext-replaced}
 use Rattle.client_contexts.proofs.LastingLemmas.{lasting-aged}
 use Rattle.client_contexts.proofs.DelayLemmas.{IsObject-aged}

@@ -10,9 +10,9 @@ use Rattle.object_table.specs.Table as table
 use Rattle.object_table.proofs.NamedLemmas.{position-live}
 use Rattle.client_model.specs.declared.refusal.Refusal.{Refusal}
 use Rattle.client_model.specs.declared.refusal.Refusal.TheVariants.{InvalidReference}
-use Rattle.client_model.specs.Context.{Context, context_of, object_named, with_objects}
+use Rattle.client_model.specs.Context.{Context, object_named, with_objects}
 use Rattle.client_model.specs.Holds.{still_held, unnamed}
-use Rattle.client_contexts.specs.Places.{AreInContext}
+use Rattle.client_contexts.specs.Places.{context_of, AreInContext}
 use Rattle.client_contexts.proofs.EndLemmas.{Ends, not_refused, is_live, other_ends, graph_nodes_end, graph_ends}
 use Rattle.client_contexts.proofs.LookupLemmas.{nothing_named}
 use Rattle.client_contexts.proofs.context.Context.release.Goals as goal

@@ -5,8 +5,8 @@ use Rattle.vx_base.specs.Picture.{pictured}
 use Rattle.object_table.specs.Object.{image_value}
 use Rattle.object_table.specs.Table.{TableValue}
 use Rattle.object_table.specs.Named.{Named, with_object}
-use Rattle.client_model.specs.Context.{Context, context_of, with_objects}
-use Rattle.client_contexts.specs.Places.{cell_at, object_at, HasImageAt, AreInContext}
+use Rattle.client_model.specs.Context.{Context, with_objects}
+use Rattle.client_contexts.specs.Places.{context_of, cell_at, object_at, HasImageAt, AreInContext}
 use Rattle.client_contexts.proofs.ContextLemmas.{image_there, object_there, named_is, AreInContext-written}
 use Rattle.client_contexts.proofs.context.Context.write.Goals as goal
 
