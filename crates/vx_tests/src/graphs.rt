@@ -99,7 +99,10 @@ fn a_verified_graph_has_an_order_and_descriptions(rt: HostRuntime) -> Result<(),
     let nodes = [linked(last, between, image), linked(first, image, between)];
     let verified = verify(rt.alloc(), &nodes, 6).or(Err("it can run"))?;
     assert_eq!(rt; verified.steps.len(), 2);
-    assert_eq!(rt; (verified.steps[0], verified.steps[1]), (first.node(), last.node()));
+    assert_eq!(rt;
+        (verified.steps[0], verified.steps[1]),
+        (first.node(), last.node())
+    );
     assert_eq!(rt; verified.desc_of(ObjRef::new(2, None)), Some(desc));
     assert_eq!(rt; verified.desc_of(ObjRef::new(3, None)), None);
     let refused = verify(rt.alloc(), &nodes, 5).err();
