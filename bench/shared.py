@@ -9,17 +9,19 @@ import time
 HERE = os.path.dirname(os.path.abspath(__file__))
 sys.path.insert(0, os.path.join(HERE, "..", "clients", "python"))
 from feqyldan import wire  # noqa: E402
+from feqyldan.environment import environment  # noqa: E402
 
 CLIENT = 7
 ROUNDS = 5
 
 
 class Server:
-    """The server, and one client's context in it. The quota has room for all images of a benchmark."""
+    """The server as the package starts it, and one client's context in it. The quota has room for all images of a
+    benchmark."""
 
     def __init__(self, program):
         command = [program, "serve", "--quota", str(2**30)]
-        self.process = subprocess.Popen(command, stdin=subprocess.PIPE, stdout=subprocess.PIPE)
+        self.process = subprocess.Popen(command, stdin=subprocess.PIPE, stdout=subprocess.PIPE, env=environment())
         self.run([wire.open_context(CLIENT)])
 
     def run(self, requests):

@@ -42,6 +42,8 @@ from collections import Counter, deque
 from functools import partial
 from typing import Deque, Iterator, List, NamedTuple, Optional, Set, Tuple, Union
 
+from .environment import environment
+
 LEAST_LENGTH, GREATEST_LENGTH = 3, 134_217_728
 RELEASE_CONTEXT = 2
 # The bytes of a reply before its body.
@@ -245,7 +247,8 @@ class Server:
     def __init__(self, command: List[str]) -> None:
         # In a session of its own: what ends the broker from a terminal reaches it by the end of its input alone.
         self.process = subprocess.Popen(
-            command, stdin=subprocess.PIPE, stdout=subprocess.PIPE, bufsize=0, start_new_session=True)
+            command, stdin=subprocess.PIPE, stdout=subprocess.PIPE, bufsize=0, start_new_session=True,
+            env=environment())
         assert self.process.stdin is not None and self.process.stdout is not None
         self.input, self.output = self.process.stdin.fileno(), self.process.stdout.fileno()
         for pipe in (self.input, self.output):

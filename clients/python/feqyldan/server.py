@@ -12,6 +12,7 @@ from typing import Dict, List, Optional, Sequence, Set, Type, Union
 
 from .connection import Connection
 from .context import Context
+from .environment import environment
 from .errors import Closed, FeqyldanError, ServerEnded
 from .pictures import Path
 
@@ -28,6 +29,9 @@ class Server:
     `program` is the path of vx_main, or the words of a command that ends with it. The quota is how many bytes of
     samples the images of each context may take, the work bytes how many the virtual images of each graph may; both are
     2^28 unless told. Several threads may use one server, each with a context of its own.
+
+    The program keeps up to 2^28 bytes of memory that is free, for its next requests; GLIBC_TUNABLES in the environment
+    says otherwise.
     """
 
     def __init__(self, program: Union[Path, Sequence[str]], *, quota: Optional[int] = None,
@@ -39,7 +43,8 @@ class Server:
         self._said = tempfile.TemporaryFile()
         try:
             self._process = subprocess.Popen(command(program, quota, work), stdin=subprocess.PIPE,
-                                             stdout=subprocess.PIPE, stderr=self._said, bufsize=0)
+                                             stdout=subprocess.PIPE, stderr=self._said, bufsize=0,
+                                             env=environment())
         except BaseException:
             self._said.close()
             raise
