@@ -41,7 +41,7 @@ class Refused(FeqyldanError):
 
     def __init__(self, request: str, op: Optional[int] = None, advice: Optional[str] = None) -> None:
         self.request, self.name = request, wire.CODES[self.code]
-        self.advice = advice or ADVICE.get((self.code, op), self.advice)
+        self.advice = ADVICE.get((self.code, op), self.advice) if advice is None else advice
         super().__init__(f"{request}: {self.name}. {self.advice}")
 
     def __reduce__(self) -> Tuple[Type[Refused], Tuple[str, None, str]]:

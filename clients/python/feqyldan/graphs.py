@@ -7,7 +7,7 @@ from typing import TYPE_CHECKING, Any, Optional, Union
 
 from . import wire
 from .functions import FUNCTIONS, UNDEFINED, Border, Functions, Operand
-from .objects import AnyImage, Asked, Description, Named, description_of
+from .objects import AnyImage, Asked, Description, Named, Rectangle, description_of
 from .samples import Format
 
 if TYPE_CHECKING:
@@ -72,7 +72,7 @@ class Graph(Named, Functions[Node]):
         """What one node gives to others. What isn't declared is taken from the node that writes it."""
         name = self.context.create(f"create a virtual image of {self}", wire.create_virtual_image, self.name,
                                    fmt or wire.OPEN, width or wire.OPEN, height or wire.OPEN)
-        declared = Description(Format(fmt) if fmt else None, width, height, (0, 0, 0, 0))
+        declared = Description(Format(fmt) if fmt else None, width, height, Rectangle(0, 0, 0, 0))
         image = VirtualImage(self, name, declared)
         self._virtual_images.add(image)
         return image
@@ -98,8 +98,8 @@ class Graph(Named, Functions[Node]):
         words = node_in_words(name, in1, in2, out1, out2)
         number = self.context.ask(
             f"add {words} to {self}",
-            lambda client: wire.add_node(client, self.name, FUNCTIONS[name].number, *operands[:3], policy, amount,
-                                         *border, operands[3]),
+            lambda client: wire.add_node(client, self.name, FUNCTIONS[name].number, operands[0], operands[1],
+                                         operands[2], policy, amount, border.mode, border.value, operands[3]),
             wire.node_of)
         return Node(self, number, words)
 

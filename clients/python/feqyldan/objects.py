@@ -90,10 +90,14 @@ class AnyImage:
     """
 
     context: Context
-    reference: bytes
 
     def __init__(self, fmt: Format, width: int, height: int) -> None:
         self.fmt, self.width, self.height = fmt, width, height
+
+    @property
+    def reference(self) -> bytes:
+        """By which a frame names the image."""
+        raise NotImplementedError
 
     @property
     def shape(self) -> Tuple[int, int]:
@@ -182,7 +186,10 @@ class Slot(AnyImage):
     def __init__(self, delay: Delay, number: int) -> None:
         super().__init__(delay.fmt, delay.width, delay.height)
         self.context, self.delay, self.number = delay.context, delay, number
-        self.reference = wire.reference(delay.name, -number)
+
+    @property
+    def reference(self) -> bytes:
+        return wire.reference(self.delay.name, -self.number)
 
     def __str__(self) -> str:
         return f"slot {self.number} of {self.delay}"

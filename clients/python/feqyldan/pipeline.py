@@ -21,8 +21,8 @@ class Result(Generic[Value]):
 
     def __init__(self, connection: Connection, request: Request, decode: Callable[[memoryview], Value]) -> None:
         self._connection, self._request, self._decode = connection, request, decode
-        self._value: Optional[Value] = None
-        self._is_decoded = False
+        # The one value, once the reply was decoded.
+        self._decoded: List[Value] = []
 
     @property
     def is_there(self) -> bool:
@@ -31,13 +31,14 @@ class Result(Generic[Value]):
 
     def value(self) -> Value:
         """Waits for the reply and gives what it has, or raises the request's own refusal."""
-        if not self._is_decoded:
+        if not self._decoded:
             self._connection.wait(self._request)
-            error = self._request.error
+            error, reply = self._request.error, self._request.reply
             if error is not None:
                 raise error
-            self._value, self._is_decoded = self._decode(self._request.reply), True
-        return self._value
+            assert reply is not None
+            self._decoded.append(self._decode(reply))
+        return self._decoded[0]
 
 
 class Pipeline:

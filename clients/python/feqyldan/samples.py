@@ -119,7 +119,7 @@ def _of_buffer(view: memoryview, size: Optional[Size]) -> Samples:
     fmt = FORMATS.get(view.format.lstrip("@="))
     if fmt is not None and fmt.sample_bytes != view.itemsize:
         fmt = None
-    if view.ndim == 2 and fmt is not None:
+    if view.ndim == 2 and view.shape is not None and fmt is not None:
         return Samples(fmt, view.shape[1], view.shape[0], _reordered(_bytes_of(view), fmt))
     if size is None:
         raise ValueError("these samples have no width and height: use an array of shape (height, width), or rows")

@@ -48,7 +48,9 @@ class Server:
         except BaseException:
             self._said.close()
             raise
-        self._connection = Connection(self._process.stdin.fileno(), self._process.stdout.fileno(), self._ended)
+        assert self._process.stdin is not None and self._process.stdout is not None
+        self._input, self._output = self._process.stdin, self._process.stdout
+        self._connection = Connection(self._input.fileno(), self._output.fileno(), self._ended)
 
     @property
     def closed(self) -> bool:
@@ -108,8 +110,8 @@ class Server:
     def _end(self) -> ServerEnded:
         """Ends the server's input, and the server if that doesn't. Gives how it ended."""
         self._connection.close()
-        self._process.stdin.close()
-        self._process.stdout.close()
+        self._input.close()
+        self._output.close()
         for end in (None, self._process.terminate, self._process.kill):
             if end is not None:
                 end()

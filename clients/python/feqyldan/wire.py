@@ -104,7 +104,7 @@ def read_image_pgm(client, named):
 
 
 def set_valid(client, named, rectangle):
-    """The rectangle is x0, y0, x1, y1: a start that belongs to it, an end that doesn't; four zeros are the empty one."""
+    """The rectangle is x0, y0, x1, y1: its start belongs to it, its end doesn't; four zeros are the empty one."""
     return frame(client, SET_VALID, operand(named) + struct.pack(">4H", *rectangle))
 
 
