@@ -1,4 +1,5 @@
-"""What bench/functions and bench/pgm share: a server that is asked, the best time of some rounds, OpenCV's times."""
+"""What the benchmarks of functions, graphs and PGM texts share: a server that is asked, the best time of some rounds,
+OpenCV's times."""
 
 import json
 import os

@@ -1,22 +1,28 @@
-use Rattle.std.proofs.Common.{ap, sym, ◌∙◌}
+use Rattle.std.proofs.Common.{◌≡◌, Bool, true, false, List, ◌∷◌, ap, sym, ◌∙◌}
 use Rattle.std.specs.Prelude.{◌||◌}
+use Rattle.std.specs.List.{list_any}
+use Rattle.vx_base.specs.Node.{outputs}
+use Rattle.graph_verify.specs.declared.linked.Linked.{Linked}
 use Rattle.graph_verify.specs.Linked.{linked_nodes}
-use Rattle.graph_verify.specs.Verdict.{two_writers}
+use Rattle.graph_verify.specs.Links.{is_written}
+use Rattle.graph_verify.specs.Verdict.{two_writers, writes_twice}
 use Rattle.graph_verify.proofs.LinkLemmas.{two_writers-cons}
 use Rattle.graph_verify.proofs.linked.has_two_writers.Goals as goal
 
+-- whether the first of the rest shares an output, or there are two writers among the others, is what is asked of the rest
+of_the_rest : {rest : List Linked} {asked : Bool} (first : Linked) (others : List Linked) (shares : Bool)
+    → shares ≡ (writes_twice first.node || list_any (is_written (linked_nodes others)) (outputs first.node)) → rest ≡ first ∷ others
+    → two_writers (linked_nodes rest) ≡ asked → (shares || two_writers (linked_nodes others)) ≡ asked
+of_the_rest {rest} {asked} first others shares is split of_all =
+    ap (λ b. b || two_writers (linked_nodes others)) is
+    ∙ sym (two_writers-cons first.node (linked_nodes others))
+    ∙ ap (λ l. two_writers (linked_nodes l)) (sym split)
+    ∙ of_all
+
 pub returns-then-shares_output : goal.returns-then-shares_output
 returns-then-shares_output c =
-    let others = linked_nodes c.in-Some.others.now in
-    ap (λ b. b || two_writers others) c.if-shares_output.ensures
-    ∙ sym (two_writers-cons c.in-Some.linked.now.node others)
-    ∙ ap (λ l. two_writers (linked_nodes l)) (sym c.in-Some.ensures.cases.0)
-    ∙ c.loop-linked.invariant
+    of_the_rest c.in-Some.linked.now c.in-Some.others.now true c.if-shares_output.ensures c.in-Some.ensures.cases.0 c.loop-linked.invariant
 
 pub loop-linked-preserved : goal.loop-linked-preserved
 loop-linked-preserved c =
-    let others = linked_nodes c.in-Some.others.now in
-    ap (λ b. b || two_writers others) c.if-shares_output.ensures
-    ∙ sym (two_writers-cons c.in-Some.linked.now.node others)
-    ∙ ap (λ l. two_writers (linked_nodes l)) (sym c.in-Some.ensures.cases.0)
-    ∙ c.loop-linked.invariant
+    of_the_rest c.in-Some.linked.now c.in-Some.others.now false c.if-shares_output.ensures c.in-Some.ensures.cases.0 c.loop-linked.invariant
