@@ -1,5 +1,6 @@
-"""The time of OpenCV's calls for the chains of bench/graphs on one thread, as JSON: python3 graph_peer.py WIDTH HEIGHT
-COUNT. Each call writes to an array that is there already; the arrays are as many as a chain has links."""
+"""The time of OpenCV's calls for the chains of bench/graphs on one thread, as JSON: python3
+graph_peer.py WIDTH HEIGHT COUNT. Each call writes to an array that is there already; the arrays are
+as many as a chain has links."""
 
 import json
 import random
@@ -13,7 +14,8 @@ from shared import best_seconds  # noqa: E402
 
 width, height, count = map(int, sys.argv[1:])
 cv2.setNumThreads(1)
-first = numpy.frombuffer(random.Random(1).randbytes(width * height), numpy.uint8).reshape(height, width).copy()
+samples = numpy.frombuffer(random.Random(1).randbytes(width * height), numpy.uint8)
+first = samples.reshape(height, width).copy()
 arrays = [numpy.empty_like(first) for _ in range(16)]
 square = numpy.ones((3, 3), numpy.uint8)
 REPLICATE = cv2.BORDER_REPLICATE

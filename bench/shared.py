@@ -1,5 +1,5 @@
-"""What the benchmarks of functions, graphs and PGM texts share: a server that is asked, the best time of some rounds,
-OpenCV's times."""
+"""What the benchmarks of functions, graphs and PGM texts share: a server that is asked, the best
+time of some rounds, OpenCV's times."""
 
 import json
 import os
@@ -17,12 +17,13 @@ ROUNDS = 5
 
 
 class Server:
-    """The server as the package starts it, and one client's context in it. The quota has room for all images of a
-    benchmark."""
+    """The server as the package starts it, and one client's context in it. The quota has room for
+    all images of a benchmark."""
 
     def __init__(self, program):
         command = [program, "serve", "--quota", str(2**30)]
-        self.process = subprocess.Popen(command, stdin=subprocess.PIPE, stdout=subprocess.PIPE, env=environment())
+        self.process = subprocess.Popen(command, stdin=subprocess.PIPE, stdout=subprocess.PIPE,
+                                        env=environment())
         self.run([wire.open_context(CLIENT)])
 
     def run(self, requests):
@@ -65,14 +66,15 @@ def opencv():
                 return python
         except OSError:
             pass
-    print("No python3 here has OpenCV (Debian's package python3-opencv): the server's times stand alone.\n")
+    print("No python3 here has OpenCV (Debian's package python3-opencv): the server's times stand "
+          "alone.\n")
     return None
 
 
 def opencv_times(python, program, *words):
-    """For each case that OpenCV has, its own name of the function and the seconds, as a program here prints them. Its
-    arrays stand in pages of the usual size, as the server's images and OpenCV's own do; NumPy would ask for huge
-    ones."""
+    """For each case that OpenCV has, its own name of the function and the seconds, as a program
+    here prints them. Its arrays stand in pages of the usual size, as the server's images and
+    OpenCV's own do; NumPy would ask for huge ones."""
     command = [python, os.path.join(HERE, program), *map(str, words)]
     environment = dict(os.environ, NUMPY_MADVISE_HUGEPAGE="0")
     run = subprocess.run(command, capture_output=True, text=True, check=True, env=environment)

@@ -1,29 +1,29 @@
 #!/usr/bin/env python3
 """What moves before a camera, found by a graph that runs once for each picture.
 
-    examples/camera.py PROGRAM FOLDER
+    examples/camera.py FOLDER
 
-makes a graph of a delay's slots: it smooths a picture into slot 0, takes the difference to slot -1, where the picture
-before stands smoothed, keeps what differs by more than 24, widens that by a pixel, and finds the rectangle around it.
-The virtual images between its nodes can be read by nobody, and are forgotten after each run. Pictures of a ball that
-flies past a lamp in a noisy room are sent ahead of the replies. It prints within which rectangle something moved, and
-writes FOLDER/camera.png: the pictures with that rectangle, and below each what moved since the one before.
+makes a graph of a delay's slots: it smooths a picture into slot 0, takes the difference to slot -1,
+where the picture before stands smoothed, keeps what differs by more than 24, widens that by a
+pixel, and finds the rectangle around it. The virtual images between its nodes can be read by
+nobody, and are forgotten after each run. Pictures of a ball that flies past a lamp in a noisy room
+are sent ahead of the replies. It prints within which rectangle something moved, and writes
+FOLDER/camera.png: the pictures with that rectangle, and below each what moved since the one before.
 """
 
-import os
 import random
-import sys
 from typing import List, NamedTuple, Optional
 
 import feqyldan as vx
 from bounds import add_bounds, rectangle_of
-from sheet import panel, sheet
+from sheet import folder_told, panel, sides_in_words, write_sheet
 
 WIDTH, HEIGHT, PICTURES = 160, 120, 6
 
 
 def picture(time: int) -> List[List[int]]:
-    """A room with a lamp and a floor, the ball on its way through it, and noise that is another in each picture."""
+    """A room with a lamp and a floor, the ball on its way through it, and noise that is another in
+    each picture."""
     noise = random.Random(time)
     column, row = 12 + 26 * time, 80 - 30 * time + 6 * time * time
 
@@ -61,29 +61,25 @@ def watch(context: vx.Context) -> List[Seen]:
         for time in range(PICTURES):
             camera.write(picture(time))
             graph.process()
-            asked.append((ahead.read(camera), ahead.read(found), [ahead.read(extremes) for extremes in bounds]))
+            asked.append((ahead.read(camera), ahead.read(found),
+                          [ahead.read(extremes) for extremes in bounds]))
             smooth.age()
-    return [Seen(picture.value(), marks.value(), rectangle_of([found.value() for found in extremes]))
+    return [Seen(picture.value(), marks.value(),
+                 rectangle_of([found.value() for found in extremes], WIDTH))
             for picture, marks, extremes in asked]
 
 
-def in_words(around: Optional[vx.Rectangle]) -> str:
-    if not around:
-        return "nothing moved"
-    x0, y0, x1, y1 = around
-    return f"something moved in columns {x0} to {x1 - 1} and rows {y0} to {y1 - 1}"
-
-
 def main() -> None:
-    program, folder = sys.argv[1:]
-    os.makedirs(folder, exist_ok=True)
-    with vx.Server(program) as server, server.context() as context:
-        # Before the first picture the delay is 0 everywhere, so that all that is bright is new there.
+    folder = folder_told()
+    with vx.Server() as server, server.context() as context:
+        # Before the first picture the delay is 0 everywhere, so that all that is bright is new
+        # there.
         seen = watch(context)[1:]
     for number, (_, _, around) in enumerate(seen, 2):
-        print(f"    picture {number}: {in_words(around)}")
+        print(f"    picture {number}: "
+              f"{f'something moved {sides_in_words(around)}' if around else 'nothing moved'}")
     pictures = [panel(picture, around) for picture, _, around in seen]
-    vx.write_png(os.path.join(folder, "camera.png"), sheet([pictures, [panel(marks) for _, marks, _ in seen]]))
+    write_sheet(folder, "camera.png", [pictures, [panel(marks) for _, marks, _ in seen]])
 
 
 main()

@@ -1,27 +1,20 @@
 #!/usr/bin/env python3
 """Where a picture has edges: its gradients by Sobel after Gaussian, and a threshold on their sizes.
 
-    examples/edges.py PROGRAM FOLDER [PICTURE]
+    examples/edges.py FOLDER [PICTURE]
 
-finds the edges of a nut and a bolt, or of the PGM file PICTURE, and writes FOLDER/edges.png: the picture, how steep it
-is, and its edges.
+finds the edges of a nut and a bolt, or of the PGM file PICTURE, and writes FOLDER/edges.png: the
+picture, how steep it is, and its edges.
 """
 
 import math
-import os
 import random
-import sys
 from typing import List
 
 import feqyldan as vx
-from sheet import panel, sheet
+from sheet import folder_told, inside, panel, picture_told, write_sheet
 
 WIDTH, HEIGHT = 240, 150
-
-
-def inside(distance: float) -> float:
-    """How much of a pixel is inside of an edge that is so many pixels away."""
-    return min(1.0, max(0.0, distance + 0.5))
 
 
 def nut(x: int, y: int) -> float:
@@ -48,23 +41,24 @@ def drawing() -> List[List[int]]:
 
 
 def main() -> None:
-    program, folder = sys.argv[1:3]
-    os.makedirs(folder, exist_ok=True)
-    with vx.Server(program) as server, server.context() as context:
-        picture = context.read_pgm(sys.argv[3]) if len(sys.argv) > 3 else context.image_from(drawing())
+    folder = folder_told()
+    with vx.Server() as server, server.context() as context:
+        picture = picture_told(context, drawing())
         smooth, shown, edges = (context.image_like(picture) for _ in range(3))
-        across, down, zero, across_size, down_size, size = (context.image_like(picture, vx.S16) for _ in range(6))
+        across, down, zero, across_size, down_size, size = (context.image_like(picture, vx.S16)
+                                                            for _ in range(6))
         vxu = context.vxu
         vxu.gaussian3x3(picture, smooth, border=vx.REPLICATE)
         vxu.sobel3x3(smooth, across, down, border=vx.REPLICATE)
-        # A new image is 0 everywhere, so the difference from it is the size of a gradient, whatever its sign.
+        # A new image is 0 everywhere, so the difference from it is the size of a gradient, whatever
+        # its sign.
         vxu.absdiff(across, zero, across_size)
         vxu.absdiff(down, zero, down_size)
         vxu.add(across_size, down_size, vx.SATURATE, size)
         vxu.convert_depth(size, shown, vx.SATURATE, 2)
         vxu.threshold(size, context.threshold(vx.S16, above=240), edges)
         pictures = [panel(image.read()) for image in (picture, shown, edges)]
-    vx.write_png(os.path.join(folder, "edges.png"), sheet([pictures]))
+    write_sheet(folder, "edges.png", [pictures])
 
 
 main()

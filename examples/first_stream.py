@@ -1,24 +1,25 @@
 #!/usr/bin/env python3
 """A first stream: two clients, each with an image of its own, and Not of one of them.
 
-    examples/first_stream.py PROGRAM
+    examples/first_stream.py [--bytes]
 
-starts the server, sends its requests and prints the replies in words. With no PROGRAM it writes the
-stream's bytes to standard output, so that `examples/first_stream.py | PROGRAM serve | xxd` shows the
-reply frames themselves.
+starts the server, sends its requests and prints the replies in words. With --bytes it writes the
+stream's bytes to standard output, so that `examples/first_stream.py --bytes | PROGRAM serve | xxd`
+shows the reply frames themselves.
 """
 
 import subprocess
 import sys
 
-from feqyldan import wire
+from feqyldan import program, wire
 
 SAMPLES = bytes([0, 10, 20, 30, 40, 50, 60, 255])
 REQUESTS = [
     ("client 7 opens a context", wire.open_context(7)),
     ("... makes a U8 image of 4 by 2", wire.create_image(7, wire.U8, 4, 2)),
     ("... and another one", wire.create_image(7, wire.U8, 4, 2)),
-    ("... writes 0 10 20 30 / 40 50 60 255 to the first", wire.write_image(7, 1, wire.U8, 4, 2, SAMPLES)),
+    ("... writes 0 10 20 30 / 40 50 60 255 to the "
+     "first", wire.write_image(7, 1, wire.U8, 4, 2, SAMPLES)),
     ("... computes Not of the first into the second", wire.bitwise_not(7, 1, 2)),
     ("... and reads the second", wire.read_image(7, 2)),
     ("client 8 opens a context", wire.open_context(8)),
@@ -30,10 +31,11 @@ REQUESTS = [
 
 def main() -> None:
     stream = b"".join(request for _, request in REQUESTS)
-    if len(sys.argv) == 1:
+    if sys.argv[1:] == ["--bytes"]:
         sys.stdout.buffer.write(stream)
         return
-    run = subprocess.run([sys.argv[1], "serve"], input=stream, stdout=subprocess.PIPE, check=True)
+    run = subprocess.run([program.find(), "serve"], input=stream, stdout=subprocess.PIPE,
+                         check=True)
     for (words, _), reply in zip(REQUESTS, wire.replies(run.stdout)):
         print(f"{words:55} {wire.say(reply)}")
 

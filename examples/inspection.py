@@ -1,36 +1,31 @@
 #!/usr/bin/env python3
 """An inspection station: which parts have a scratch, by comparison with a reference.
 
-    examples/inspection.py PROGRAM FOLDER
+    examples/inspection.py FOLDER
 
-inspects two flanges. A graph takes the specks out of a part's picture by a median, takes the absolute difference to the
-reference, keeps what differs by more than 24, takes single pixels out by a median again, and finds the rectangle
-around the rest by extremes. It prints what was found, and writes FOLDER/inspection.png: the reference, the scratched
-part with the rectangle, the difference four times as bright, and what was kept.
+inspects two flanges. A graph takes the specks out of a part's picture by a median, takes the
+absolute difference to the reference, keeps what differs by more than 24, takes single pixels out by
+a median again, and finds the rectangle around the rest by extremes. It prints what was found, and
+writes FOLDER/inspection.png: the reference, the scratched part with the rectangle, the difference
+four times as bright, and what was kept.
 """
 
 import math
-import os
 import random
-import sys
 from typing import List, NamedTuple, Optional
 
 import feqyldan as vx
 from bounds import add_bounds, rectangle_of
-from sheet import panel, sheet
+from sheet import folder_told, inside, panel, sides_in_words, write_sheet
 
 WIDTH, HEIGHT = 200, 144
 MIDDLE = (100, 72)
-HOLES = [(MIDDLE[0] + 42 * math.cos(k * math.pi / 3), MIDDLE[1] + 42 * math.sin(k * math.pi / 3)) for k in range(6)]
+HOLES = [(MIDDLE[0] + 42 * math.cos(k * math.pi / 3), MIDDLE[1] + 42 * math.sin(k * math.pi / 3))
+         for k in range(6)]
 SCRATCH = ((77, 41), (64, 95))
 
 
 # ---- the pictures
-
-def inside(distance: float) -> float:
-    """How much of a pixel is inside of an edge that is so many pixels away."""
-    return min(1.0, max(0.0, distance + 0.5))
-
 
 def flange(x: int, y: int) -> float:
     """A turned flange with a bore and six holes on a dark belt."""
@@ -73,10 +68,12 @@ class Finding(NamedTuple):
 
 
 class Station:
-    """A graph that compares the picture in `part` with a reference, and leaves `difference` and `marks`."""
+    """A graph that compares the picture in `part` with a reference, and leaves `difference` and
+    `marks`."""
 
     def __init__(self, context: vx.Context, reference: vx.Image) -> None:
-        self.part, self.difference, self.marks, clean = (context.image_like(reference) for _ in range(4))
+        self.part, self.difference, self.marks, clean = (context.image_like(reference)
+                                                         for _ in range(4))
         context.vxu.median3x3(reference, clean, border=vx.REPLICATE)
         self._graph = graph = context.graph()
         smooth, differing = graph.virtual_image(), graph.virtual_image()
@@ -91,31 +88,31 @@ class Station:
         self.part.write(picture)
         self._graph.process()
         extremes = [found.read() for found in self._extremes]
-        around = rectangle_of(extremes)
+        around = rectangle_of(extremes, WIDTH)
         return Finding(extremes[0].max_count if around else 0, around)
 
 
 def in_words(found: Finding) -> str:
     if not found.around:
         return "nothing found"
-    x0, y0, x1, y1 = found.around
-    return f"{found.pixels} pixels differ, in columns {x0} to {x1 - 1} and rows {y0} to {y1 - 1}"
+    return f"{found.pixels} pixels differ, {sides_in_words(found.around)}"
 
 
 def main() -> None:
-    program, folder = sys.argv[1:]
-    os.makedirs(folder, exist_ok=True)
-    with vx.Server(program) as server, server.context() as context:
+    folder = folder_told()
+    with vx.Server() as server, server.context() as context:
         reference = context.image_from(photograph(seed=1))
         station = Station(context, reference)
         print(f"    the first part: {in_words(station.inspect(photograph(seed=2)))}")
         found = station.inspect(photograph(seed=3, scratched=True))
         print(f"    the second part: {in_words(found)}")
         bright = context.image_like(station.difference)
-        context.vxu.table_lookup(station.difference, context.lut(vx.U8, [min(255, 4 * d) for d in range(256)]), bright)
-        pictures = panel(reference.read()), panel(station.part.read(), found.around), panel(bright.read())
+        context.vxu.table_lookup(station.difference,
+                                 context.lut(vx.U8, [min(255, 4 * d) for d in range(256)]), bright)
+        pictures = panel(reference.read()), panel(station.part.read(),
+                                                  found.around), panel(bright.read())
         marks = panel(station.marks.read(), found.around)
-    vx.write_png(os.path.join(folder, "inspection.png"), sheet([[*pictures, marks]]))
+    write_sheet(folder, "inspection.png", [[*pictures, marks]])
 
 
 main()

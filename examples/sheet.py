@@ -1,6 +1,11 @@
-"""Pictures beside one another on a sheet, in colour, as the examples write them in PNG files."""
+"""
+What the examples share: how they are called, and how they draw pictures beside one another on a
+sheet, in colour, which they write as a PNG file.
+"""
 
-from typing import List, Optional, Sequence, Tuple
+import os
+import sys
+from typing import Any, List, Optional, Sequence, Tuple
 
 import feqyldan as vx
 
@@ -12,8 +17,38 @@ GAP = 6
 WHITE, RED = (255, 255, 255), (230, 30, 30)
 
 
-def panel(picture: vx.Picture, around: Optional[vx.Rectangle] = None) -> Rows:
-    """A grey picture, as Image.read() gives it, in colour; with a red frame two pixels beside a rectangle."""
+# ---- words
+
+def folder_told() -> str:
+    """The folder for pictures, which is the first word of the command line; it is made where it
+    isn't there."""
+    if len(sys.argv) < 2:
+        sys.exit(f"usage: {os.path.basename(sys.argv[0])} FOLDER ..")
+    os.makedirs(sys.argv[1], exist_ok=True)
+    return sys.argv[1]
+
+
+def picture_told(context: vx.Context, own: Sequence[Sequence[int]]) -> vx.Image:
+    """The PGM file that the second word of the command line names; without one, the example's own
+    picture."""
+    return context.read_pgm(sys.argv[2]) if len(sys.argv) > 2 else context.image_from(own)
+
+
+def sides_in_words(around: vx.Rectangle) -> str:
+    x0, y0, x1, y1 = around
+    return f"in columns {x0} to {x1 - 1} and rows {y0} to {y1 - 1}"
+
+
+# ---- drawing
+
+def inside(distance: float) -> float:
+    """How much of a pixel is inside of an edge that is so many pixels away."""
+    return min(1.0, max(0.0, distance + 0.5))
+
+
+def panel(picture: Any, around: Optional[vx.Rectangle] = None) -> Rows:
+    """A grey picture, as Image.read() gives it, in colour; with a red frame two pixels beside a
+    rectangle."""
     rows = [[(sample, sample, sample) for sample in row] for row in picture.tolist()]
     if around:
         frame(rows, vx.Rectangle(around.x0 - 3, around.y0 - 3, around.x1 + 3, around.y1 + 3))
@@ -21,7 +56,8 @@ def panel(picture: vx.Picture, around: Optional[vx.Rectangle] = None) -> Rows:
 
 
 def frame(rows: Rows, outside: vx.Rectangle) -> None:
-    """The frame's outermost pixels are those of the rectangle; what isn't in the picture is left out."""
+    """The frame's outermost pixels are those of the rectangle; what isn't in the picture is left
+    out."""
     x0, y0, x1, y1 = outside
     across = [(x, y) for x in range(x0, x1) for y in (y0, y1 - 1)]
     down = [(x, y) for y in range(y0, y1) for x in (x0, x1 - 1)]
@@ -43,3 +79,8 @@ def sheet(lines: Sequence[Sequence[Rows]]) -> Rows:
                 joined += [WHITE] * GAP + part
             result.append(joined + [WHITE] * (width - len(joined)))
     return result
+
+
+def write_sheet(folder: str, name: str, lines: Sequence[Sequence[Rows]]) -> None:
+    """Writes the PNG file of that name."""
+    vx.write_png(os.path.join(folder, name), sheet(lines))

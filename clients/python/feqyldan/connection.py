@@ -1,8 +1,9 @@
 """
-Request frames out and reply frames in, in order, over two file descriptors: those of a program's pipes, or one socket.
+Request frames out and reply frames in, in order, over two file descriptors: those of a program's
+pipes, or one socket.
 
-Requests may be sent ahead of their replies. Whatever is sent, replies are read meanwhile as they come, so that two full
-pipes never wait for each other.
+Requests may be sent ahead of their replies. Whatever is sent, replies are read meanwhile as they
+come, so that two full pipes never wait for each other.
 """
 
 from __future__ import annotations
@@ -11,31 +12,56 @@ import os
 import select
 import struct
 import threading
+import time
 from collections import deque
-from typing import Callable, Deque, List, Optional, Union
+from typing import Callable, Deque, List, NamedTuple, Optional, Union
 
-from .errors import Closed, FeqyldanError, Refused, ServerEnded, UnexpectedReply, refusal
+from .errors import Closed, FeqyldanError, Refused, ServerEnded, TimedOut, UnexpectedReply, refusal
 from .wire import CODES
 
-# A part of a frame of at most so many bytes is copied, and sent with what follows; a longer one is sent as it stands.
+# A part of a frame of at most so many bytes is copied, and sent with what follows; a longer one is
+# sent as it stands.
 SMALL = 1 << 15
 # So many bytes are read at once.
 CHUNK = 1 << 16
-# A reply stands in its buffer from here on: so its samples, 13 bytes after its start, begin at a multiple of 16.
+# A reply stands in its buffer from here on: so its samples, 13 bytes after its start, begin at a
+# multiple of 16.
 LEAD = 3
 # No reply is longer: 4096 rows of 4096 samples of 4 bytes, a text or counts are shorter than this.
 GREATEST_REPLY = 1 << 27
 
+# No request is longer: the server ends where it reads a greater length. It is told without the four
+# bytes of itself.
+GREATEST_REQUEST = 1 << 27
+
 Part = Union[bytes, memoryview]
+# What of a request's objects is at fault, in words, for the code that the server refused it with;
+# empty if unknown.
+Explain = Callable[[int], str]
+
+
+class Place(NamedTuple):
+    """Which call of a pipeline a request is, and where it is called."""
+
+    number: int
+    file: str
+    line: int
+
+    def __str__(self) -> str:
+        return f"call {self.number} of the pipeline, {os.path.basename(self.file)}:{self.line}"
 
 
 class Request:
-    """A request that was sent or is about to be: itself in words, and its reply as soon as that is there."""
+    """
+    A request that was sent or is about to be: itself in words, its place in its pipeline, and its
+    reply as soon as that is there.
+    """
 
-    __slots__ = ("words", "client", "op", "reply", "on_refusal")
+    __slots__ = ("words", "client", "op", "reply", "on_refusal", "explain", "place")
 
-    def __init__(self, words: str, client: int, op: int) -> None:
-        self.words, self.client, self.op = words, client, op
+    def __init__(self, words: str, client: int, op: int, explain: Optional[Explain] = None) -> None:
+        self.words, self.client, self.op, self.explain = words, client, op, explain
+        self.place: Optional[Place] = None
         # The whole frame, and what is called with this request when the frame is a refusal.
         self.reply: Optional[memoryview] = None
         self.on_refusal: Optional[Callable[[Request], None]] = None
@@ -45,7 +71,11 @@ class Request:
         """What the reply, which is there, refuses; None where it is a success."""
         assert self.reply is not None
         code = self.reply[7]
-        return refusal(code, self.words, self.op) if code else None
+        if code == 0:
+            return None
+        fault = "" if self.explain is None else self.explain(code)
+        return refusal(code, self.words, self.op, "" if self.place is None else str(self.place),
+                       fault)
 
     def arrive(self, reply: memoryview) -> None:
         client, op, code = struct.unpack_from(">HBB", reply, 4)
@@ -64,7 +94,8 @@ class ReplyReader:
     def __init__(self, descriptor: int) -> None:
         self._descriptor = descriptor
         self._chunk = memoryview(bytearray(CHUNK))
-        # How many bytes of the chunk are the start of a frame whose length isn't known yet: at most three.
+        # How many bytes of the chunk are the start of a frame whose length isn't known yet: at most
+        # three.
         self._rest = 0
         # A frame that is known in part, and how much of its buffer is filled.
         self._frame: Optional[memoryview] = None
@@ -107,7 +138,7 @@ class ReplyReader:
         return frames
 
     def _length(self, at: int) -> int:
-        (length,) = struct.unpack_from(">I", self._chunk, at)
+        length: int = struct.unpack_from(">I", self._chunk, at)[0]
         if not 4 <= length <= GREATEST_REPLY:
             raise UnexpectedReply("what was read is no reply frame: its length isn't allowed")
         return 4 + length
@@ -115,12 +146,18 @@ class ReplyReader:
 
 class Connection:
     """
-    What is sent to a server and read from it. Several threads may use it: each call is done before that of another
-    thread begins. `ended` says how the server ended, when it has.
+    What is sent to a server and read from it. Several threads may use it: each call is done before
+    that of another thread begins. `ended` says how the server ended, when it has. Where a reply has
+    been waited for longer than the timeout, in seconds, `give_up` is called, and nothing more is
+    sent or read.
     """
 
-    def __init__(self, writer: int, reader: int, ended: Callable[[bool], ServerEnded]) -> None:
-        self._writer, self._reader, self._ended = writer, reader, ended
+    def __init__(self, writer: int, reader: int, ended: Callable[[bool], ServerEnded],
+                 give_up: Callable[[], None], timeout: Optional[float] = None) -> None:
+        self._writer, self._reader, self._ended, self._give_up = writer, reader, ended, give_up
+        self._timeout = timeout
+        # How long the oldest request without a reply has been waited for, in seconds.
+        self._waited = 0.0
         os.set_blocking(writer, False)
         os.set_blocking(reader, False)
         self._replies = ReplyReader(reader)
@@ -130,10 +167,12 @@ class Connection:
         self._either.register(writer, select.POLLOUT | (select.POLLIN if writer == reader else 0))
         self._lock = threading.RLock()
         self._awaited: Deque[Request] = deque()
-        # Small parts that aren't sent yet; and what is being sent, which an interrupted call leaves to the next one.
+        # Small parts that aren't sent yet; and what is being sent, which an interrupted call leaves
+        # to the next one.
         self._held = bytearray()
         self._outgoing: List[memoryview] = []
-        # Whether a frame is being taken, or a read or a write is under way, of which an interruption would lose a part.
+        # Whether a frame is being taken, or a read or a write is under way, of which an
+        # interruption would lose a part.
         self._is_moving = False
         self._fault: Optional[FeqyldanError] = None
 
@@ -144,8 +183,9 @@ class Connection:
 
     def send(self, request: Request, parts: List[Part]) -> None:
         """
-        Takes the parts of a request's frame. Small ones are sent as far as the server takes them now, and the rest with
-        what follows; a long one has been sent when this returns, so what it was taken from may change then.
+        Takes the parts of a request's frame. Small ones are sent as far as the server takes them
+        now, and the rest with what follows; a long one has been sent when this returns, so what it
+        was taken from may change then.
         """
         with self._lock:
             self._refuse_if_ended()
@@ -178,13 +218,20 @@ class Connection:
         with self._lock:
             self._fault = self._fault or Closed("the connection to the server was closed")
 
+    def lose(self, why: str) -> None:
+        """In the child of a fork, where another thread may have had the lock: nothing more is sent
+        or waited for."""
+        self._lock = threading.RLock()
+        self._fault = Closed(why)
+
     def _refuse_if_ended(self) -> None:
         if self._fault is not None:
             raise self._fault.with_traceback(None)
 
     def _after_interruption(self) -> None:
         if self._is_moving and self._fault is None:
-            self._fault = Closed("a request was interrupted in the middle of its bytes, so the connection is closed")
+            self._fault = Closed("a request was interrupted in the middle of its bytes, so the "
+                                 "connection is closed")
 
     def _take(self, request: Request, parts: List[Part]) -> None:
         """Puts a whole frame after what is to be sent."""
@@ -205,7 +252,8 @@ class Connection:
             self._held = bytearray()
 
     def _offer(self) -> None:
-        """Sends of what is held as much as the server takes without waiting, so that it needn't wait either."""
+        """Sends of what is held as much as the server takes without waiting, so that it needn't
+        wait either."""
         self._is_moving = True
         try:
             del self._held[: os.write(self._writer, self._held)]
@@ -239,9 +287,31 @@ class Connection:
             self._outgoing[0] = self._outgoing[0][count:]
 
     def _receive(self, poll: select.poll) -> None:
-        """Takes in replies that are there. Where none are, waits until one of the things happens that `poll` has."""
+        """Takes in replies that are there. Where none are, waits until one of the things happens
+        that `poll` has."""
         if not self._read():
+            self._await(poll)
+
+    def _await(self, poll: select.poll) -> None:
+        """
+        Only the time that is spent here counts towards the timeout: so replies that came while
+        nobody read them aren't late, and each request has its own time.
+        """
+        if self._timeout is None:
             poll.poll()
+            return
+        start = time.monotonic()
+        poll.poll(max(0.0, self._timeout - self._waited) * 1000 + 1)
+        self._waited += time.monotonic() - start
+        if self._waited >= self._timeout and not self._readable.poll(0):
+            self._time_out()
+
+    def _time_out(self) -> None:
+        words = self._awaited[0].words if self._awaited else "the server's end"
+        self._fault = TimedOut(f"{words}: no answer in {self._timeout:g} seconds, so the "
+                               "connection was closed")
+        self._give_up()
+        raise self._fault
 
     def _read(self) -> bool:
         """Whether something was read."""
@@ -253,6 +323,7 @@ class Connection:
             for frame in frames or ():
                 if not self._awaited:
                     raise UnexpectedReply("there is a reply without a request")
+                self._waited = 0.0
                 self._awaited.popleft().arrive(frame)
         except BlockingIOError:
             frames = None
@@ -265,7 +336,8 @@ class Connection:
         return frames is not None
 
     def _hear_out(self) -> None:
-        """Nobody reads any more what is sent: what was answered before is still to be read, up to its end."""
+        """Nobody reads any more what is sent: what was answered before is still to be read, up to
+        its end."""
         while True:
             self._receive(self._readable)
 

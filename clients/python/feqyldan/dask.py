@@ -1,12 +1,13 @@
 """
 Pictures over a cluster of dask.distributed: each worker process has a server of its own.
 
-A server starts when the first picture reaches its worker. It ends with the worker, however that ends: its input, a pipe
-that the worker holds, has ended then.
+A server starts when the first picture reaches its worker. It ends with the worker, however that
+ends: its input, a pipe that the worker holds, has ended then.
 """
 
 from __future__ import annotations
 
+import socket
 import threading
 import uuid
 from collections import OrderedDict
@@ -23,15 +24,18 @@ if TYPE_CHECKING:
     from distributed import Client, Future
 
 Build = Callable[[Context, int, int], Tuple[Graph, AnyImage, AnyImage]]
-# How many graphs that no picture uses now a worker keeps for the next ones, each in a context of its own.
+# How many graphs that no picture uses now a worker keeps for the next ones, each in a context of
+# its own.
 IDLE_GRAPHS = 8
 
 
-def map_pictures(client: Client, graph: Build, pictures: Iterable[Any], *, program: str, quota: Optional[int] = None,
-                 work: Optional[int] = None, **options: Any) -> List[Future]:
+def map_pictures(client: Client, graph: Build, pictures: Iterable[Any], *,
+                 program: Optional[str] = None, quota: Optional[int] = None,
+                 work: Optional[int] = None, retries: int = 0, **options: Any) -> List[Future]:
     """
-    Runs a graph on each picture somewhere on the cluster. Gives a future for each, in the order of the pictures, as
-    Client.map does: client.gather(futures) has the outputs, distributed.as_completed(futures) each when it is there.
+    Runs a graph on each picture somewhere on the cluster. Gives a future for each, in the order of
+    the pictures, as Client.map does: client.gather(futures) has the outputs,
+    distributed.as_completed(futures) each when it is there.
 
         def edges(context, width, height):
             camera = context.image(vx.U8, width, height)
@@ -44,25 +48,39 @@ def map_pictures(client: Client, graph: Build, pictures: Iterable[Any], *, progr
 
         outputs = client.gather(map_pictures(client, edges, pictures, program="/usr/bin/vx_main"))
 
-    `graph` is a function, since an object of a context can't travel while functions do, as everywhere in dask. Called
-    as graph(context, width, height), in samples, it gives the graph, the image that each picture is written to, and the
-    image that is read after the run. A worker calls it once for each size and each graph that it runs at a time, and
-    may use what it made again: so a graph that keeps something from one picture to the next, as by a delay, gives
-    outputs that depend on how dask spreads the pictures. What its nodes don't use is kept by nobody once it returns.
+    `graph` is a function, since an object of a context can't travel while functions do, as
+    everywhere in dask. Called as graph(context, width, height), in samples, it gives the graph, the
+    image that each picture is written to, and the image that is read after the run. A worker calls
+    it once for each size and each graph that it runs at a time, and may use what it made again: so
+    a graph that keeps something from one picture to the next, as by a delay, gives outputs that
+    depend on how dask spreads the pictures. What its nodes don't use is kept by nobody once it
+    returns.
 
-    `pictures` are NumPy arrays of shape (height, width), rows of numbers, or futures of them: a future's picture never
-    passes through the client. Others travel with their task and stay with the scheduler until their future is dropped,
-    so that they are there again where a worker ends. An output is a NumPy array, or rows of numbers on a worker
-    without NumPy.
+    `pictures` are NumPy arrays of shape (height, width), rows of numbers, or futures of them: a
+    future's picture never passes through the client. Others travel with their task and stay with
+    the scheduler until their future is dropped, so that they are there again where a worker ends.
+    An output is a NumPy array, or rows of numbers on a worker without NumPy.
 
-    `program` is the path of vx_main on the workers, `quota` and `work` are as those of Server. `options` are those of
-    Client.map, such as retries. Where a worker ends before its outputs were gathered, dask runs their tasks elsewhere,
-    up to the cluster's limit (distributed.scheduler.allowed-failures); a future is one output, however often it ran. A
-    refusal comes as the future's exception; so does ServerEnded, and the next picture gets a new server.
+    `program` is the path of vx_main on the workers; where it isn't given each worker finds it as
+    Server does. `quota` and `work` are as those of Server, `options` are those of Client.map.
+
+    Where a worker ends before its outputs were gathered, dask runs their tasks elsewhere, up to the
+    cluster's limit (distributed.scheduler.allowed-failures); a future is one output, however often
+    it ran. What goes wrong on a worker is the future's exception: a refusal, or ServerEnded, after
+    which the next picture gets a new server. `retries` is how often dask tries a picture again that
+    had any of these. One or two are right where servers may be killed: the pictures that were with
+    that server all had ServerEnded. A refusal is the same each time.
     """
+    if not callable(graph):
+        raise TypeError("the graph is a function of a context, a width and a height, not "
+                        f"{graph!r}")
+    if is_array(pictures) and getattr(pictures, "ndim") == 2:
+        raise TypeError("map_pictures takes several pictures, and this is one: give it in a list")
     job = Job(uuid.uuid4().hex, graph, program, quota, work)
+    send: Callable[..., List[Future]] = client.map
     # Impure, since equal pictures would share one future.
-    return client.map(job.run, [carried(picture) for picture in pictures], **{"pure": False, **options})
+    return send(job.run, [carried(picture) for picture in pictures],
+                **{"pure": False, "retries": retries, **options})
 
 
 class Rows:
@@ -93,6 +111,14 @@ class Line(NamedTuple):
         return output if is_array(output) else output.tolist()
 
 
+def line_of(context: Context, built: Any) -> Line:
+    """What a job's function has built."""
+    if not (isinstance(built, tuple) and len(built) == 3 and isinstance(built[0], Graph)):
+        raise TypeError("the function that builds the graph gives a graph, the image that a "
+                        f"picture is written to and the image that is read, and not {built!r}")
+    return Line(context, *built)
+
+
 class Station:
     """A worker's server, with the graphs that wait there for pictures."""
 
@@ -111,7 +137,7 @@ class Station:
                 return line
         context = self.server.context()
         try:
-            return Line(context, *build(context, *key[1:]))
+            return line_of(context, build(context, *key[1:]))
         except BaseException:
             close(context)
             raise
@@ -129,7 +155,7 @@ class Job(NamedTuple):
 
     number: str
     build: Build
-    program: str
+    program: Optional[str]
     quota: Optional[int]
     work: Optional[int]
 
@@ -154,23 +180,36 @@ class Job(NamedTuple):
 
 
 # Of this process, by the program, the quota and the work bytes.
-STATIONS: Dict[Tuple[str, Optional[int], Optional[int]], Station] = {}
+STATIONS: Dict[Tuple[Optional[str], Optional[int], Optional[int]], Station] = {}
 STATIONS_LOCK = threading.Lock()
 
 
 def station_of(job: Job) -> Station:
-    """The station of this process for a job, whose server is started where there is none."""
+    """The station of this process for a job, whose server is started where there is none. In a
+    process that was forked from one with a server that one is closed, and it starts its own."""
     with STATIONS_LOCK:
         key = job.program, job.quota, job.work
-        if key not in STATIONS:
-            STATIONS[key] = Station(Server(job.program, quota=job.quota, work=job.work))
-        return STATIONS[key]
+        station = STATIONS.get(key)
+        if station is None or station.server.closed:
+            station = STATIONS[key] = Station(server_of(job))
+        return station
+
+
+def server_of(job: Job) -> Server:
+    """Starts a server. Who reads that it can't be started may sit at another machine."""
+    try:
+        return Server(job.program, quota=job.quota, work=job.work)
+    except OSError as error:
+        if error.errno is None:
+            raise
+        words = f"{error.strerror}, on the worker's machine {socket.gethostname()}"
+        raise type(error)(error.errno, words, error.filename) from None
 
 
 def drop(station: Station) -> None:
     """
-    A server has ended: the next picture starts another. It isn't closed here, so that other threads that use it raise
-    how it ended, and not that it was closed.
+    A server has ended: the next picture starts another. It isn't closed here, so that other threads
+    that use it raise how it ended, and not that it was closed.
     """
     with STATIONS_LOCK:
         for key in [key for key, other in STATIONS.items() if other is station]:

@@ -17,13 +17,21 @@ class Closed(FeqyldanError, ValueError):
 
 class ServerEnded(FeqyldanError):
     """
-    The server has ended, or closed its connection, and answers nothing more. `status` is its exit status, None where
-    nobody knows it; `said` is what it wrote to standard error.
+    The server has ended, or closed its connection, and answers nothing more. `status` is its exit
+    status, None where nobody knows it; `said` is what it wrote to standard error.
     """
 
     def __init__(self, words: str, status: Optional[int] = None, said: str = "") -> None:
         super().__init__(words)
         self.status, self.said = status, said
+
+
+class TimedOut(FeqyldanError, TimeoutError):
+    """The server didn't answer in the time that it was given. The connection is closed."""
+
+
+class ProgramNotFound(FeqyldanError, FileNotFoundError):
+    """The server's program is in none of the places where it is looked for."""
 
 
 class UnexpectedReply(FeqyldanError):
@@ -32,31 +40,40 @@ class UnexpectedReply(FeqyldanError):
 
 class Refused(FeqyldanError):
     """
-    The server refused a request, which has changed nothing. `code` is the number of the code, `name` its name in
-    docs/wire.md, `request` the request in words, `advice` what to do.
+    The server refused a request, which has changed nothing. `code` is the number of the code,
+    `name` its name in docs/wire.md, `request` the request in words, `advice` what to do. `place` is
+    where the request stands in its pipeline, and `fault` what of a graph is at fault; both are
+    empty where there is nothing to say.
     """
 
     code = -1
     advice = "Nobody knows this code."
 
-    def __init__(self, request: str, op: Optional[int] = None, advice: Optional[str] = None) -> None:
+    def __init__(self, request: str, op: Optional[int] = None, advice: Optional[str] = None,
+                 place: str = "", fault: str = "") -> None:
         self.request, self.name = request, wire.CODES[self.code]
+        self.place, self.fault = place, fault
         self.advice = ADVICE.get((self.code, op), self.advice) if advice is None else advice
-        super().__init__(f"{request}: {self.name}. {self.advice}")
+        where = f" ({place})" if place else ""
+        words = f"{request}{where}: {self.name}.", fault, self.advice
+        super().__init__(" ".join(filter(None, words)))
 
-    def __reduce__(self) -> Tuple[Type[Refused], Tuple[str, None, str]]:
-        # It travels between processes as it was made: by default the words would be taken for the request.
-        return type(self), (self.request, None, self.advice)
+    def __reduce__(self) -> Tuple[Type[Refused], Tuple[str, None, str, str, str]]:
+        # It travels between processes as it was made: by default the words would be taken for the
+        # request.
+        return type(self), (self.request, None, self.advice, self.place, self.fault)
 
 
 class NoMemory(Refused):
     code = wire.NO_MEMORY
-    advice = "The machine had no memory for it; nothing has changed, so release something or send it again."
+    advice = ("The machine had no memory for it; nothing has changed, so release something or send "
+              "it again.")
 
 
 class InvalidParameters(Refused):
     code = wire.INVALID_PARAMETERS
-    advice = "The server doesn't know this request or a field of it: is it of the version that this package is for?"
+    advice = ("The server doesn't know this request or a field of it: is it of the version that "
+              "this package is for?")
 
 
 class InvalidReference(Refused):
@@ -71,7 +88,8 @@ class InvalidScope(Refused):
 
 class InvalidFormat(Refused):
     code = wire.INVALID_FORMAT
-    advice = "The function doesn't take images of these formats together: its docstring says which it takes."
+    advice = ("The function doesn't take images of these formats together: its docstring says "
+              "which it takes.")
 
 
 class InvalidDimension(Refused):
@@ -86,12 +104,14 @@ class InvalidValue(Refused):
 
 class InvalidType(Refused):
     code = wire.INVALID_TYPE
-    advice = "An operand is of another kind than the call takes; of a delay name a slot, as in delay[0]."
+    advice = ("An operand is of another kind than the call takes; of a delay name a slot, as in "
+              "delay[0].")
 
 
 class InvalidGraph(Refused):
     code = wire.INVALID_GRAPH
-    advice = "The nodes go round in a cycle: remove one of them, or let it read an older slot of a delay."
+    advice = ("The nodes go round in a cycle: remove one of them, or let it read an older slot of "
+              "a delay.")
 
 
 class InvalidLink(Refused):
@@ -101,64 +121,94 @@ class InvalidLink(Refused):
 
 class MultipleWriters(Refused):
     code = wire.MULTIPLE_WRITERS
-    advice = "Two outputs are one object: give each an object of its own, a virtual image in between."
+    advice = ("Two outputs are one object: give each an object of its own, a virtual image in "
+              "between.")
 
 
 class OptimizedAway(Refused):
     code = wire.OPTIMIZED_AWAY
-    advice = "A virtual image has samples only while its graph runs: let the node write an image that you can read."
+    advice = ("A virtual image has samples only while its graph runs: let the node write an image "
+              "that you can read.")
 
 
 class NoResources(Refused):
     code = wire.NO_RESOURCES
-    advice = "The client's 1,024 objects or its quota are used up: close what isn't needed, or start the server with " \
-             "a greater quota."
+    advice = ("The client's 1,024 objects or its quota are used up: close what isn't needed, or "
+              "start the server with a greater quota.")
 
 
 CLASSES: Dict[int, Type[Refused]] = {
     kind.code: kind for kind in (
-        NoMemory, InvalidParameters, InvalidReference, InvalidScope, InvalidFormat, InvalidDimension, InvalidValue,
-        InvalidType, InvalidGraph, InvalidLink, MultipleWriters, OptimizedAway, NoResources)}
+        NoMemory, InvalidParameters, InvalidReference, InvalidScope, InvalidFormat,
+        InvalidDimension, InvalidValue, InvalidType, InvalidGraph, InvalidLink, MultipleWriters,
+        OptimizedAway, NoResources)}
 
 # What to do where a request has a reason of its own for a code.
 _SIDES = "An image has from 1 to 4096 columns, and from 1 to 4096 rows."
-_OF_A_NODE = "A node's images are not of one size; what is open in a virtual image is taken from its writer's input."
-_FORMATS_OF_A_NODE = "A node's formats are none that its function takes; what is open in a virtual image is taken " \
-                     "from the node that writes it."
-_NO_NODES = "The virtual images that the nodes write have more bytes than the graph's work bytes: use smaller " \
-            "pictures, or start the server with more work bytes."
+_OF_A_NODE = ("A node's images are not of one size; what is open in a virtual image is taken from "
+              "its writer's input.")
+_FORMATS_OF_A_NODE = ("A node's formats are none that its function takes; what is open in a "
+                      "virtual image is taken from the node that writes it.")
+_OF_A_CALL = ("A policy is vx.WRAP or vx.SATURATE, a border vx.UNDEFINED, vx.REPLICATE or "
+              "vx.constant(value), and one output of sobel3x3 has to be there.")
+_SHIFTS = ("A shift is out of its range: multiply has those from 0 to 15, convert_depth those from "
+           "0 to 7.")
+_NO_NODES = ("The virtual images that the nodes write have more bytes than the graph's work bytes: "
+             "use smaller pictures, or start the server with more work bytes.")
 ADVICE: Dict[Tuple[int, Optional[int]], str] = {
-    (wire.INVALID_VALUE, wire.OPEN_CONTEXT): "Another program uses this client number: it has a context open.",
-    (wire.INVALID_REFERENCE, wire.REMOVE_NODE): "The graph was closed, or has no such node any more.",
+    (wire.INVALID_VALUE, wire.OPEN_CONTEXT):
+        "Another program uses this client number: it has a context open.",
+    (wire.NO_RESOURCES, wire.OPEN_CONTEXT):
+        "The broker has as many connections as it allows, or as many of this process or user: "
+        "close one, or start it with more (--connections, --per-process, --per-user).",
+    (wire.INVALID_REFERENCE, wire.REMOVE_NODE):
+        "The graph was closed, or has no such node any more.",
     (wire.INVALID_DIMENSION, wire.CREATE_IMAGE): _SIDES,
     (wire.INVALID_DIMENSION, wire.CREATE_VIRTUAL_IMAGE): _SIDES,
     (wire.INVALID_DIMENSION, wire.WRITE_IMAGE): "The samples are of another size than the image.",
-    (wire.INVALID_DIMENSION, wire.WRITE_IMAGE_PGM): "The picture is of another size than the image.",
-    (wire.INVALID_DIMENSION, wire.CREATE_CONVOLUTION): "A convolution has 3, 5, 7 or 9 columns and as many rows.",
-    (wire.INVALID_FORMAT, wire.WRITE_IMAGE): "The samples are of another format than the image: uint8 is for U8, "
-                                             "int16 for S16, uint32 for U32.",
-    (wire.INVALID_FORMAT, wire.WRITE_IMAGE_PGM): "The bytes are no PGM text, or one of another format: a maxval up to "
-                                                 "255 is for U8, one up to 32767 for S16.",
+    (wire.INVALID_DIMENSION, wire.WRITE_IMAGE_PGM):
+        "The picture is of another size than the image.",
+    (wire.INVALID_DIMENSION, wire.CREATE_CONVOLUTION):
+        "A convolution has 3, 5, 7 or 9 columns and as many rows.",
+    (wire.INVALID_FORMAT, wire.WRITE_IMAGE):
+        "The samples are of another format than the image: uint8 is for U8, int16 for S16, uint32 "
+        "for U32.",
+    (wire.INVALID_FORMAT, wire.WRITE_IMAGE_PGM):
+        "The bytes are no PGM text, or one of another format: a maxval up to 255 is for U8, one up "
+        "to 32767 for S16.",
     (wire.INVALID_VALUE, wire.WRITE_IMAGE_PGM): "A sample of the PGM text is above its maxval.",
-    (wire.INVALID_FORMAT, wire.READ_IMAGE_PGM): "PGM texts are written of U8 images: convert_depth gives one of S16.",
+    (wire.INVALID_FORMAT, wire.READ_IMAGE_PGM):
+        "PGM texts are written of U8 images: convert_depth gives one of S16.",
     (wire.INVALID_FORMAT, wire.CREATE_LUT): "A table is of U8 or of S16.",
     (wire.INVALID_FORMAT, wire.CREATE_THRESHOLD): "A threshold is of U8 or of S16.",
-    (wire.INVALID_VALUE, wire.CREATE_THRESHOLD): "A limit is no sample of the format, or the upper one is below the "
-                                                 "lower.",
-    (wire.INVALID_VALUE, wire.SET_VALID): "A rectangle has its start below its end and within the image; four zeros "
-                                          "are the empty one.",
+    (wire.INVALID_VALUE, wire.CREATE_THRESHOLD):
+        "A limit is no sample of the format, or the upper one is below the lower.",
+    (wire.INVALID_VALUE, wire.SET_VALID):
+        "A rectangle has its start below its end and within the image; four zeros are the empty "
+        "one.",
     (wire.INVALID_FORMAT, wire.VERIFY_GRAPH): _FORMATS_OF_A_NODE,
     (wire.INVALID_FORMAT, wire.PROCESS_GRAPH): _FORMATS_OF_A_NODE,
     (wire.INVALID_DIMENSION, wire.VERIFY_GRAPH): _OF_A_NODE,
     (wire.INVALID_DIMENSION, wire.PROCESS_GRAPH): _OF_A_NODE,
     (wire.NO_RESOURCES, wire.VERIFY_GRAPH): _NO_NODES,
     (wire.NO_RESOURCES, wire.PROCESS_GRAPH): _NO_NODES,
+    (wire.INVALID_PARAMETERS, wire.ADD_NODE): _OF_A_CALL,
+    (wire.INVALID_PARAMETERS, wire.IMMEDIATE): _OF_A_CALL,
+    (wire.INVALID_VALUE, wire.ADD_NODE): _SHIFTS,
+    (wire.INVALID_VALUE, wire.IMMEDIATE): _SHIFTS,
+    (wire.INVALID_VALUE, wire.CREATE_CONVOLUTION): "The scale is a power of 2 up to 2^31.",
+    (wire.INVALID_VALUE, wire.CREATE_DELAY): "A delay has from 1 to 16 slots.",
+    (wire.INVALID_VALUE, wire.CREATE_DISTRIBUTION):
+        "There are from 1 to 256 bins, the offset is from 0 to 255 and the range from 1 to 256.",
     (wire.NO_RESOURCES, wire.ADD_NODE): "A graph has at most 256 nodes.",
-    (wire.INVALID_GRAPH, wire.IMMEDIATE): "The call reads an image that it writes: give it another output.",
-    (wire.MULTIPLE_WRITERS, wire.IMMEDIATE): "Both outputs are one image: give each an image of its own.",
+    (wire.INVALID_GRAPH, wire.IMMEDIATE):
+        "The call reads an image that it writes: give it another output.",
+    (wire.MULTIPLE_WRITERS, wire.IMMEDIATE):
+        "Both outputs are one image: give each an image of its own.",
 }
 
 
-def refusal(code: int, request: str, op: Optional[int]) -> Refused:
+def refusal(code: int, request: str, op: Optional[int], place: str = "",
+            fault: str = "") -> Refused:
     """What to raise for a reply with a code that isn't 0."""
-    return CLASSES[code](request, op)
+    return CLASSES[code](request, op, place=place, fault=fault)

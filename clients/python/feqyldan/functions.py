@@ -1,19 +1,23 @@
 """
-The vision functions by their OpenVX names, with the standard's order of parameters. `Context.vxu` runs them at once,
-as vxuAbsDiff does; a `Graph` adds them as nodes, as vxAbsDiffNode does. Each is written here once, for both.
+The vision functions by their OpenVX names, with the standard's order of parameters. `Context.vxu`
+runs them at once, as vxuAbsDiff does; a `Graph` adds them as nodes, as vxAbsDiffNode does. Each is
+written here once, for both.
 
-The valid pixels of an output are those that are valid in all input images; where it says so below, less of them. All
-other samples of an output become 0.
+The valid pixels of an output are those that are valid in all input images; where it says so below,
+less of them. All other samples of an output become 0.
 """
 
 from __future__ import annotations
 
 import inspect
 from enum import IntEnum
-from typing import TYPE_CHECKING, Callable, Dict, Generic, NamedTuple, Optional, TypeVar, Union
+from typing import (
+    TYPE_CHECKING, Any, Callable, Dict, Generic, NamedTuple, Optional, Sequence, Tuple, TypeVar,
+    Union)
 
 from . import wire
 from .objects import AnyImage, Convolution, Distribution, Lut, MinMax, Named, Threshold
+from .whole import BYTE, within
 
 if TYPE_CHECKING:
     from .graphs import VirtualImage
@@ -22,11 +26,12 @@ if TYPE_CHECKING:
 Operand = Union[AnyImage, "VirtualImage"]
 # What each method gives: nothing in immediate mode, the node in a graph.
 Given = TypeVar("Given")
-Method = TypeVar("Method", bound=Callable)
+Method = TypeVar("Method", bound=Callable[..., Any])
 
 
 class Policy(IntEnum):
-    """What becomes of a result that is no sample of the output: WRAP counts modulo 2^8 or 2^16, SATURATE is nearest."""
+    """What becomes of a result that is no sample of the output: WRAP counts modulo 2^8 or 2^16,
+    SATURATE is nearest."""
 
     WRAP = wire.WRAP
     SATURATE = wire.SATURATE
@@ -34,8 +39,9 @@ class Policy(IntEnum):
 
 class Border(NamedTuple):
     """
-    What a window sees beside its input's valid pixels. With UNDEFINED the output is valid only where the whole window
-    is; with REPLICATE it sees the nearest valid pixel; with constant(value) that value, from 0 to 255.
+    What a window sees beside its input's valid pixels. With UNDEFINED the output is valid only
+    where the whole window is; with REPLICATE it sees the nearest valid pixel; with constant(value)
+    that value, from 0 to 255.
     """
 
     mode: int
@@ -47,11 +53,13 @@ UNDEFINED, REPLICATE = Border(wire.UNDEFINED), Border(wire.REPLICATE)
 
 def constant(value: int) -> Border:
     """The border that is a value everywhere, from 0 to 255."""
-    return Border(wire.CONSTANT, value)
+    return Border(wire.CONSTANT,
+                  within(value, "a border's value", BYTE, "a whole number from 0 to 255"))
 
 
 class Function(NamedTuple):
-    """A function: its number in frames, and the name that OpenVX's function has after vx and vxu."""
+    """A function: its number in frames, and the name that OpenVX's function has after vx and
+    vxu."""
 
     number: int
     openvx: str
@@ -66,19 +74,56 @@ def function(number: int, openvx: str) -> Callable[[Method], Method]:
 
     def entered(method: Method) -> Method:
         FUNCTIONS[method.__name__] = Function(number, openvx)
-        method.__doc__ = f"{inspect.cleandoc(method.__doc__ or '')}\n\nOpenVX: vxu{openvx}, vx{openvx}Node."
+        words = inspect.cleandoc(method.__doc__ or "")
+        method.__doc__ = f"{words}\n\nOpenVX: vxu{openvx}, vx{openvx}Node."
         return method
 
     return entered
 
 
+class Call(NamedTuple):
+    """A use of a function. The operands are in1, in2, out1 and out2, each None where the function
+    hasn't it."""
+
+    name: str
+    operands: Tuple[Optional[Union[Operand, Named]], ...]
+    policy: int
+    amount: int
+    border: Border
+
+    def __str__(self) -> str:
+        operands = (str(operand) for operand in self.operands if operand is not None)
+        return f"{self.name}({', '.join(operands)})"
+
+    def fields(self, references: Sequence[Optional[bytes]]) -> Tuple[Any, ...]:
+        """What a frame has of it, in the order of wire.immediate; a reference for each operand."""
+        in1, in2, out1, out2 = references
+        return FUNCTIONS[
+            self.name].number, in1, in2, out1, self.policy, self.amount, *self.border, out2
+
+
+def call_of(name: str, operands: Tuple[Optional[Union[Operand, Named]], ...], policy: int,
+            amount: int,
+            border: Border) -> Call:
+    """A call, if a frame can say it."""
+    if not isinstance(border, Border):
+        raise TypeError(f"{name}: a border is vx.UNDEFINED, vx.REPLICATE or vx.constant(value), "
+                        f"and not {border!r}")
+    return Call(name, operands, within(policy, f"{name}: a policy", BYTE, "vx.WRAP or vx.SATURATE"),
+                within(amount, f"{name}: a shift", BYTE,
+                       "a whole number up to 15, of convert_depth up to 7"), border)
+
+
 class Functions(Generic[Given]):
     """The methods that immediate mode and graphs share. All images of one call have one size."""
 
-    def _do(self, name: str, in1: Operand, in2: Optional[Union[Operand, Named]],
-            out1: Optional[Union[Operand, Named]], out2: Optional[Operand] = None, policy: int = wire.WRAP,
-            amount: int = 0, border: Border = UNDEFINED) -> Given:
+    def _run(self, call: Call) -> Given:
         raise NotImplementedError
+
+    def _do(self, name: str, in1: Operand, in2: Optional[Union[Operand, Named]],
+            out1: Optional[Union[Operand, Named]], out2: Optional[Operand] = None,
+            policy: int = wire.WRAP, amount: int = 0, border: Border = UNDEFINED) -> Given:
+        return self._run(call_of(name, (in1, in2, out1, out2), policy, amount, border))
 
     @function(wire.AND_BITS, "And")
     def and_(self, in1: Operand, in2: Operand, output: Operand) -> Given:
@@ -103,8 +148,8 @@ class Functions(Generic[Given]):
     @function(wire.ADD, "Add")
     def add(self, in1: Operand, in2: Operand, policy: int, output: Operand) -> Given:
         """
-        a + b by the policy, WRAP or SATURATE. Each of the inputs U8 or S16, to S16; or U8 and U8 to U8. A virtual
-        output of open format is S16.
+        a + b by the policy, WRAP or SATURATE. Each of the inputs U8 or S16, to S16; or U8 and U8 to
+        U8. A virtual output of open format is S16.
         """
         return self._do("add", in1, in2, output, policy=policy)
 
@@ -114,12 +159,14 @@ class Functions(Generic[Given]):
         return self._do("subtract", in1, in2, output, policy=policy)
 
     @function(wire.MULTIPLY, "Multiply")
-    def multiply(self, in1: Operand, in2: Operand, shift: int, policy: int, output: Operand) -> Given:
+    def multiply(self, in1: Operand, in2: Operand, shift: int, policy: int,
+                 output: Operand) -> Given:
         """
         a * b / 2^shift by the policy, the quotient rounded to zero. Formats as for add.
 
-        The shift, from 0 to 15, stands for the standard's scale 1 / 2^shift: scale 1 is shift 0, 1/256 is shift 8. The
-        scale 1/255 is left out, as is the rounding policy: VX_ROUND_POLICY_TO_ZERO is the only one.
+        The shift, from 0 to 15, stands for the standard's scale 1 / 2^shift: scale 1 is shift 0,
+        1/256 is shift 8. The scale 1/255 is left out, as is the rounding policy:
+        VX_ROUND_POLICY_TO_ZERO is the only one.
         """
         return self._do("multiply", in1, in2, output, policy=policy, amount=shift)
 
@@ -140,7 +187,8 @@ class Functions(Generic[Given]):
 
     @function(wire.THRESHOLD, "Threshold")
     def threshold(self, input: Operand, threshold: Threshold, output: Operand) -> Given:
-        """The threshold's true value where a sample passes, else its false value. Of the threshold's format, to U8."""
+        """The threshold's true value where a sample passes, else its false value. Of the
+        threshold's format, to U8."""
         return self._do("threshold", input, threshold, output)
 
     @function(wire.TABLE_LOOKUP, "TableLookup")
@@ -151,7 +199,8 @@ class Functions(Generic[Given]):
     @function(wire.CONVERT_DEPTH, "ConvertDepth")
     def convert_depth(self, input: Operand, output: Operand, policy: int, shift: int) -> Given:
         """
-        U8 to S16: a * 2^shift. S16 to U8: a / 2^shift, rounded down, by the policy. The shift is from 0 to 7.
+        U8 to S16: a * 2^shift. S16 to U8: a / 2^shift, rounded down, by the policy. The shift is
+        from 0 to 7.
         """
         return self._do("convert_depth", input, None, output, policy=policy, amount=shift)
 
@@ -184,16 +233,18 @@ class Functions(Generic[Given]):
     def sobel3x3(self, input: Operand, output_x: Optional[Operand], output_y: Optional[Operand],
                  border: Border = UNDEFINED) -> Given:
         """
-        The gradients: of the nine by the weights -1 0 1, -2 0 2, -1 0 1, and by -1 -2 -1, 0 0 0, 1 2 1. U8 to S16. One
-        of the outputs may be None.
+        The gradients: of the nine by the weights -1 0 1, -2 0 2, -1 0 1, and by -1 -2 -1, 0 0 0, 1
+        2 1. U8 to S16. One of the outputs may be None.
         """
         return self._do("sobel3x3", input, None, output_x, out2=output_y, border=border)
 
     @function(wire.CONVOLVE, "Convolve")
-    def convolve(self, input: Operand, convolution: Convolution, output: Operand, border: Border = UNDEFINED) -> Given:
+    def convolve(self, input: Operand, convolution: Convolution, output: Operand,
+                 border: Border = UNDEFINED) -> Given:
         """
-        The sum of the window by the convolution's coefficients, over its scale, rounded to zero and then saturated; the
-        first coefficient is for the window's last pixel. U8 to U8 or S16; a virtual output of open format is S16.
+        The sum of the window by the convolution's coefficients, over its scale, rounded to zero and
+        then saturated; the first coefficient is for the window's last pixel. U8 to U8 or S16; a
+        virtual output of open format is S16.
         """
         return self._do("convolve", input, convolution, output, border=border)
 
@@ -204,14 +255,17 @@ class Functions(Generic[Given]):
 
     @function(wire.INTEGRAL, "IntegralImage")
     def integral_image(self, input: Operand, output: Operand) -> Given:
-        """At each valid pixel the sum of the valid samples neither to the right of it nor below it. U8 to U32."""
+        """At each valid pixel the sum of the valid samples neither to the right of it nor below it.
+        U8 to U32."""
         return self._do("integral_image", input, None, output)
 
     @function(wire.MIN_MAX_LOCATION, "MinMaxLoc")
     def min_max_loc(self, input: Operand, extremes: MinMax) -> Given:
         """
-        The least and the greatest valid sample of a U8 or S16 image, how many there are and where the first of each is.
+        The least and the greatest valid sample of a U8 or S16 image, how many there are and where
+        the first of each is.
 
-        The standard's six outputs are one object here, which MinMax.read() gives; of each place there is the first.
+        The standard's six outputs are one object here, which MinMax.read() gives; of each place
+        there is the first.
         """
         return self._do("min_max_loc", input, None, extremes)

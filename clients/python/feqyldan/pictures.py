@@ -8,8 +8,7 @@ import struct
 import zlib
 from typing import Any, NamedTuple, Union
 
-from .objects import AnyImage
-from .samples import Format, Samples, Size, is_array, numpy_module, samples_of
+from .samples import Format, Readable, Samples, Size, is_array, numpy_module, samples_of
 
 Path = Union[str, "os.PathLike[str]"]
 
@@ -17,10 +16,12 @@ GAP = rb"(?:[ \t\r\n]|#[^\r\n]*[\r\n])+"
 HEADER = re.compile(rb"P[25]" + 3 * (GAP + rb"0*([0-9]{1,9})"))
 # Kinds of pixels in PNG (its chapter 11.2.2).
 GREY, COLOURED = 0, 2
+_NO_COLOURS = "a coloured picture has rows of one length, of three numbers a pixel"
 
 
 class Raster(NamedTuple):
-    """Rows of bytes for PNG: of one or two bytes a pixel where they are grey, of three where they are coloured."""
+    """Rows of bytes for PNG: of one or two bytes a pixel where they are grey, of three where they
+    are coloured."""
 
     width: int
     height: int
@@ -35,8 +36,8 @@ def read_bytes(path: Path) -> bytes:
 
 def size_of_pgm(text: bytes) -> Size:
     """
-    The format and the sides of the picture in a PGM text. Only the header is looked at: whether the rest is a picture
-    is for the server to say.
+    The format and the sides of the picture in a PGM text. Only the header is looked at: whether the
+    rest is a picture is for the server to say.
     """
     header = HEADER.match(text)
     if not header:
@@ -46,7 +47,8 @@ def size_of_pgm(text: bytes) -> Size:
 
 
 def write_pgm(path: Path, picture: Any) -> None:
-    """Writes a PGM file (P5) of an image, an array of shape (height, width) or rows of numbers, of U8."""
+    """Writes a PGM file (P5) of an image, an array of shape (height, width) or rows of numbers, of
+    U8."""
     samples = _samples(picture)
     if samples.fmt != Format.U8:
         raise ValueError(f"PGM files are written of U8 samples, and not of {samples.fmt}")
@@ -57,8 +59,9 @@ def write_pgm(path: Path, picture: Any) -> None:
 
 def write_png(path: Path, picture: Any) -> None:
     """
-    Writes a PNG file of an image, an array or rows: grey of shape (height, width), U8 or S16 without negative samples;
-    coloured of shape (height, width, 3), red, green and blue from 0 to 255.
+    Writes a PNG file of an image, an array or rows: grey of shape (height, width), U8 or S16
+    without negative samples; coloured of shape (height, width, 3), red, green and blue from 0 to
+    255.
     """
     with open(path, "wb") as file:
         file.write(png(picture))
@@ -71,35 +74,41 @@ def png(picture: Any) -> bytes:
     header = struct.pack(">IIBBBBB", raster.width, raster.height, depth, kind, 0, 0, 0)
     row = raster.width * raster.pixel_bytes
     # A byte before each row says that it is unfiltered.
-    lines = b"".join(b"\0" + raster.content[at : at + row] for at in range(0, len(raster.content), row))
-    chunks = _chunk(b"IHDR", header) + _chunk(b"IDAT", zlib.compress(lines, 6)) + _chunk(b"IEND", b"")
+    lines = b"".join(b"\0" + raster.content[at : at + row]
+                     for at in range(0, len(raster.content), row))
+    chunks = _chunk(b"IHDR", header) + _chunk(b"IDAT", zlib.compress(lines, 6)) + _chunk(b"IEND",
+                                                                                         b"")
     return b"\x89PNG\r\n\x1a\n" + chunks
 
 
 def _chunk(kind: bytes, content: bytes) -> bytes:
-    return struct.pack(">I", len(content)) + kind + content + struct.pack(">I", zlib.crc32(kind + content))
+    return struct.pack(">I", len(content)) + kind + content + struct.pack(">I",
+                                                                          zlib.crc32(kind
+                                                                                     + content))
 
 
 def _samples(picture: Any) -> Samples:
-    return samples_of(picture.read() if isinstance(picture, AnyImage) else picture)
+    return samples_of(picture.read() if isinstance(picture, Readable) else picture)
 
 
 def _raster(picture: Any) -> Raster:
     if _is_coloured(picture):
         return _coloured(picture)
     samples = _samples(picture)
-    if samples.fmt == Format.U32 or samples.fmt == Format.S16 and any(byte > 127 for byte in samples.content[::2]):
+    # The first byte of a sample has its sign.
+    is_signed = samples.fmt == Format.S16 and max(bytes(samples.content[::2])) > 127
+    if samples.fmt == Format.U32 or is_signed:
         raise ValueError("PNG has samples from 0 to 65535: convert_depth gives an image of U8")
     return Raster(samples.width, samples.height, samples.fmt.sample_bytes, samples.content)
 
 
 def _is_coloured(picture: Any) -> bool:
-    """Whether it has three numbers for a pixel."""
-    if isinstance(picture, AnyImage):
+    """Whether it has several numbers for a pixel."""
+    if isinstance(picture, Readable):
         return False
     shape = getattr(picture, "shape", None)
     if shape is not None:
-        return len(shape) == 3
+        return len(shape) == 3 and shape[2] != 1
     try:
         return len(picture[0][0]) > 0
     except (TypeError, IndexError):
@@ -108,12 +117,20 @@ def _is_coloured(picture: Any) -> bool:
 
 def _coloured(picture: Any) -> Raster:
     if is_array(picture):
-        picture = numpy_module().asarray(picture)
-        if picture.dtype != "uint8":
-            raise TypeError(f"coloured pixels are uint8, and not {picture.dtype}")
+        return _of_coloured_array(numpy_module().asarray(picture))
     rows = picture.tolist() if hasattr(picture, "tolist") else picture
     height, width = len(rows), len(rows[0])
     content = bytes(value for row in rows for pixel in row for value in pixel)
     if any(len(row) != width for row in rows) or len(content) != 3 * width * height:
-        raise ValueError("a coloured picture has rows of one length, of three numbers a pixel")
+        raise ValueError(_NO_COLOURS)
     return Raster(width, height, 3, memoryview(content))
+
+
+def _of_coloured_array(pixels: Any) -> Raster:
+    if pixels.dtype != "uint8":
+        raise TypeError(f"coloured pixels are uint8, and not {pixels.dtype}")
+    if pixels.shape[2] != 3 or pixels.size == 0:
+        raise ValueError(f"{_NO_COLOURS}, and not the shape {pixels.shape}")
+    height, width, _ = pixels.shape
+    return Raster(width, height, 3,
+                  memoryview(numpy_module().ascontiguousarray(pixels).reshape(-1)))

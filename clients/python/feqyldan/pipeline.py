@@ -2,12 +2,14 @@
 
 from __future__ import annotations
 
-from types import TracebackType
+import sys
+from types import FrameType, TracebackType
 from typing import TYPE_CHECKING, Any, Callable, Generic, List, Optional, Type, TypeVar, Union
 
-from .connection import Connection, Request
+from .connection import Connection, Place, Request
 from .errors import Refused
 from .objects import AnyImage, Description, Distribution, MinMax
+from .uncopied import Uncopied
 
 if TYPE_CHECKING:
     from .context import Context
@@ -16,10 +18,11 @@ if TYPE_CHECKING:
 Value = TypeVar("Value")
 
 
-class Result(Generic[Value]):
+class Result(Uncopied, Generic[Value]):
     """What a request that was sent ahead gives."""
 
-    def __init__(self, connection: Connection, request: Request, decode: Callable[[memoryview], Value]) -> None:
+    def __init__(self, connection: Connection, request: Request,
+                 decode: Callable[[memoryview], Value]) -> None:
         self._connection, self._request, self._decode = connection, request, decode
         # The one value, once the reply was decoded.
         self._decoded: List[Value] = []
@@ -41,7 +44,7 @@ class Result(Generic[Value]):
         return self._decoded[0]
 
 
-class Pipeline:
+class Pipeline(Uncopied):
     """
     While it is open, as in
 
@@ -52,17 +55,19 @@ class Pipeline:
                 results.append(ahead.read(out))
         shown = [result.value() for result in results]
 
-    calls of the context that give nothing, such as write() and process(), don't wait for their replies. The pipeline's
-    own read(), read_pgm() and query() give a Result, whose value comes later. All other calls wait as ever, and the
-    server answers everything in the order of the calls.
+    calls of the context that give nothing, such as write() and process(), don't wait for their
+    replies. The pipeline's own read(), read_pgm() and query() give a Result, whose value comes
+    later. All other calls wait as ever, and the server answers everything in the order of the
+    calls.
 
-    At the end all replies are awaited, and the first refusal is raised; `refusals` has all of them. What was sent after
-    a refused request was tried like any other.
+    At the end all replies are awaited, and the first refusal is raised; `refusals` has all of them,
+    and each says which call it was. What was sent after a refused request was tried like any other.
     """
 
     def __init__(self, context: Context) -> None:
         self.refusals: List[Refused] = []
         self._context = context
+        self._calls = 0
 
     def read(self, thing: Union[AnyImage, Distribution, MinMax]) -> Result[Any]:
         """Asks for what thing.read() gives: a picture, counts or extremes."""
@@ -83,6 +88,13 @@ class Pipeline:
             first, self.refusals = self.refusals[0], []
             raise first
 
+    def take(self, request: Request) -> None:
+        """A call that is made within it."""
+        self._calls += 1
+        frame = calling_frame()
+        request.place = Place(self._calls, frame.f_code.co_filename, frame.f_lineno)
+        request.on_refusal = self.note
+
     def note(self, request: Request) -> None:
         """Keeps the refusal of a request that was sent ahead."""
         error = request.error
@@ -101,5 +113,14 @@ class Pipeline:
             if self.refusals:
                 raise self.refusals[0]
 
-    def _ask(self, words: str, make: Callable[[int], bytes], decode: Callable[[memoryview], Value]) -> Result[Value]:
+    def _ask(self, words: str, make: Callable[[int], bytes],
+             decode: Callable[[memoryview], Value]) -> Result[Value]:
         return Result(self._context.connection, self._context.send(words, make), decode)
+
+
+def calling_frame() -> FrameType:
+    """Where this package was called from."""
+    frame = sys._getframe(1)
+    while frame.f_back is not None and frame.f_globals.get("__package__") == __package__:
+        frame = frame.f_back
+    return frame

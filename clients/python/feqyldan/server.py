@@ -4,77 +4,109 @@ from __future__ import annotations
 
 import os
 import socket
+import struct
 import subprocess
 import tempfile
 import threading
+import time
 from types import TracebackType
 from typing import Dict, List, Optional, Sequence, Set, Type, Union
 
 from .connection import Connection
 from .context import Context
 from .environment import environment
-from .errors import Closed, FeqyldanError, ServerEnded
+from .errors import Closed, FeqyldanError, Refused, ServerEnded, TimedOut
+from .forks import FORKED, HELD, OPENING, Forked
 from .pictures import Path
+from .program import find
+from .uncopied import Uncopied
 
 CLIENTS = 65536
-# How long a server may take to end once its input has, in seconds; and how much is told of what it said.
+# How long a server may take to end once its input has, in seconds; and how much is told of what it
+# said.
 PATIENCE = 10.0
 SAID_BYTES = 4096
+# Seconds between two tries to reach a socket at which nobody listens.
+RETRY_PAUSE = 0.1
 
 
-class Server:
+class Server(Forked, Uncopied):
     """
-    A server that this program starts, and that ends with its `with`.
+    A server that this program starts, and that ends with its `with`, or where this program ends.
 
-    `program` is the path of vx_main, or the words of a command that ends with it. The quota is how many bytes of
-    samples the images of each context may take, the work bytes how many the virtual images of each graph may; both are
-    2^28 unless told. Several threads may use one server, each with a context of its own.
+    `program` is the path of vx_main, or the words of a command that ends with it. Where it isn't
+    given, it is what the environment variable FEQYLDAN_PROGRAM says, else `feqyldan` or `vx_main`
+    on PATH, else what tools/build has built in this checkout. The quota is how many bytes of
+    samples the images of each context may take, the work bytes how many the virtual images of each
+    graph may; both are 2^28 unless told. A request that isn't answered within the timeout, in
+    seconds, raises TimedOut and ends the server. Several threads may use one server, each with a
+    context of its own.
 
-    The program keeps up to 2^28 bytes of memory that is free, for its next requests; GLIBC_TUNABLES in the environment
-    says otherwise.
+    The server is in a session of its own, so that Ctrl-C interrupts this program alone. In a
+    process that is forked from this one it is closed. It keeps up to 2^28 bytes of memory that is
+    free, for its next requests; GLIBC_TUNABLES in the environment says otherwise.
     """
 
-    def __init__(self, program: Union[Path, Sequence[str]], *, quota: Optional[int] = None,
-                 work: Optional[int] = None) -> None:
+    def __init__(self, program: Union[Path, Sequence[str], None] = None, *,
+                 quota: Optional[int] = None,
+                 work: Optional[int] = None, timeout: Optional[float] = None) -> None:
+        words = command(find() if program is None else program, quota, work)
         self._lock = threading.Lock()
-        self._numbers: Set[int] = set()
-        self._is_closed = False
+        # The first client number that no context ever had, and those that are free again.
+        self._next_number = 0
+        self._free_numbers: List[int] = []
+        # Why it can't be used any more; None while it can.
+        self.why_closed: Optional[str] = None
+        seconds = seconds_of(timeout)
+        with OPENING:
+            self._start(words)
+            self._connection = Connection(
+                self._input.fileno(), self._output.fileno(), self._ended, self._process.terminate,
+                seconds)
+            HELD.add(self)
+
+    def _start(self, words: List[str]) -> None:
         # A file and no pipe, which could fill up while nobody reads it.
         self._said = tempfile.TemporaryFile()
         try:
-            self._process = subprocess.Popen(command(program, quota, work), stdin=subprocess.PIPE,
-                                             stdout=subprocess.PIPE, stderr=self._said, bufsize=0,
-                                             env=environment())
+            self._process = subprocess.Popen(words, stdin=subprocess.PIPE, stdout=subprocess.PIPE,
+                                             stderr=self._said,
+                                             bufsize=0, env=environment(), start_new_session=True)
         except BaseException:
             self._said.close()
             raise
         assert self._process.stdin is not None and self._process.stdout is not None
         self._input, self._output = self._process.stdin, self._process.stdout
-        self._connection = Connection(self._input.fileno(), self._output.fileno(), self._ended)
 
     @property
     def closed(self) -> bool:
-        return self._is_closed
+        return self.why_closed is not None
 
     def context(self) -> Context:
         """Opens a context under a client number that no other context of this server has."""
-        if self.closed:
-            raise Closed("open a context: the server was closed")
-        return Context(self, self._connection, self._take_number())
+        if self.why_closed is not None:
+            raise Closed(f"open a context: {self.why_closed}")
+        number = self._take_number()
+        try:
+            return Context(self, self._connection, number)
+        except Refused:
+            self._free_numbers.append(number)
+            raise
 
-    def give_back(self, context: Context) -> None:
-        """A context has ended, so its number is free again."""
-        with self._lock:
-            self._numbers.discard(context.number)
+    def give_back(self, context: Context, is_released: bool) -> None:
+        """A context has ended. Where the server has released it, its number is free again."""
+        if is_released:
+            self._free_numbers.append(context.number)
 
     def close(self) -> None:
         """
-        Ends the server with all contexts: it answers what was sent, its input ends, and it is waited for. Raises
-        ServerEnded where it ends otherwise than it should. Nothing happens where that was done before.
+        Ends the server with all contexts: it answers what was sent, its input ends, and it is
+        waited for. Raises ServerEnded where it ends otherwise than it should. Nothing happens where
+        that was done before.
         """
-        if self._is_closed:
+        if self.closed:
             return
-        self._is_closed = True
+        self.why_closed = "the server was closed"
         try:
             if self._connection.fault is None:
                 self._connection.wait()
@@ -84,6 +116,17 @@ class Server:
         if ended.status != 0 and not had_ended:
             raise ended
 
+    def lose(self) -> None:
+        """In the child of a fork: its pipes are closed here, and the server is the parent's."""
+        if not self.closed:
+            self.why_closed = FORKED
+            self._connection.lose(FORKED)
+            self._input.close()
+            self._output.close()
+            self._said.close()
+            # Only the parent can wait for it.
+            self._process.returncode = 0
+
     def __enter__(self) -> Server:
         return self
 
@@ -91,9 +134,10 @@ class Server:
                  trace: Optional[TracebackType]) -> None:
         if error is None:
             self.close()
-        elif not self._is_closed:
+        elif not self.closed:
             # What it still answers is wanted by nobody.
-            self._is_closed = True
+            self.why_closed = "the server was closed"
+            self._process.terminate()
             self._end()
 
     def __repr__(self) -> str:
@@ -101,11 +145,12 @@ class Server:
 
     def _take_number(self) -> int:
         with self._lock:
-            number = next((number for number in range(CLIENTS) if number not in self._numbers), None)
-            if number is None:
+            if self._free_numbers:
+                return self._free_numbers.pop()
+            if self._next_number == CLIENTS:
                 raise FeqyldanError(f"open a context: {CLIENTS} are open on this server")
-            self._numbers.add(number)
-            return number
+            self._next_number += 1
+            return self._next_number - 1
 
     def _end(self) -> ServerEnded:
         """Ends the server's input, and the server if that doesn't. Gives how it ended."""
@@ -137,50 +182,71 @@ class Server:
         self._said.seek(0)
         said = self._said.read()[-SAID_BYTES:].decode(errors="replace").strip()
         where = " in the middle of a reply" if is_within_frame else ""
-        return ServerEnded(f"the server ended{where} with status {status}{': ' if said else ''}{said}", status, said)
+        return ServerEnded(f"the server ended{where} with status "
+                           f"{status}{': ' if said else ''}{said}", status, said)
 
 
 class SocketServer(Server):
     """
-    A server that is reached by a Unix socket, as feqyldan.broker gives it to several programs. Each context has a
-    connection of its own; the server goes on when this is closed.
+    A server that is reached by a Unix socket, as feqyldan.broker gives it to several programs. Each
+    context has a connection of its own; the server goes on when this is closed. Where nobody
+    listens it is tried again for `retry` seconds, also when a context is opened later.
     """
 
-    def __init__(self, path: Path) -> None:
-        self._path = os.fspath(path)
+    def __init__(self, path: Path, *, timeout: Optional[float] = None, retry: float = 0.0) -> None:
+        self._path, self._timeout, self._retry = os.fspath(path), seconds_of(timeout), retry
         self._lock = threading.Lock()
-        self._is_closed = False
-        # The socket of each context; and that of the next one, which shows at once whether somebody listens.
+        self.why_closed: Optional[str] = None
+        # All sockets; that of each context; and that of the next one, which shows at once whether
+        # somebody listens.
+        self._streams: Set[socket.socket] = set()
         self._sockets: Dict[Context, socket.socket] = {}
-        self._next: Optional[socket.socket] = self._connect()
+        self._next: Optional[socket.socket] = None
+        with OPENING:
+            HELD.add(self)
+        self._next = self._connect()
 
     def context(self) -> Context:
         """Opens a context on a connection of its own."""
+        if self.why_closed is not None:
+            raise Closed(f"open a context: {self.why_closed}")
         with self._lock:
-            if self._is_closed:
-                raise Closed("open a context: the connection to the server was closed")
-            stream, self._next = self._next or self._connect(), None
+            waiting, self._next = self._next, None
+        stream = waiting or self._connect()
+        connection = Connection(stream.fileno(), stream.fileno(), socket_ended,
+                                lambda: shut(stream), self._timeout)
         try:
-            context = Context(self, Connection(stream.fileno(), stream.fileno(), socket_ended), 0)
+            context = Context(self, connection, 0)
         except BaseException:
-            stream.close()
+            self._drop(stream)
             raise
         self._sockets[context] = stream
         return context
 
-    def give_back(self, context: Context) -> None:
+    def give_back(self, context: Context, is_released: bool) -> None:
         """A context has ended, and its connection does too."""
         context.connection.close()
-        self._sockets.pop(context).close()
+        stream = self._sockets.pop(context, None)
+        if stream is not None:
+            self._drop(stream)
 
     def close(self) -> None:
         """Closes all connections, on which the server releases their contexts."""
-        self._is_closed = True
+        self.why_closed = self.why_closed or "the connection to the server was closed"
         for context in list(self._sockets):
-            self.give_back(context)
+            self.give_back(context, False)
         if self._next is not None:
-            self._next.close()
+            self._drop(self._next)
             self._next = None
+
+    def lose(self) -> None:
+        """In the child of a fork: its sockets are closed here, and the connections are the
+        parent's."""
+        self.why_closed = self.why_closed or FORKED
+        for context in self._sockets:
+            context.connection.lose(FORKED)
+        for stream in self._streams:
+            stream.close()
 
     def __exit__(self, kind: Optional[Type[BaseException]], error: Optional[BaseException],
                  trace: Optional[TracebackType]) -> None:
@@ -190,26 +256,76 @@ class SocketServer(Server):
         return f"<server at {self._path}{', closed' if self.closed else ''}>"
 
     def _connect(self) -> socket.socket:
-        stream = socket.socket(socket.AF_UNIX, socket.SOCK_STREAM)
+        until = time.monotonic() + self._retry
+        while True:
+            try:
+                return self._reached()
+            except (FileNotFoundError, ConnectionRefusedError):
+                if time.monotonic() >= until:
+                    raise
+            time.sleep(RETRY_PAUSE)
+
+    def _reached(self) -> socket.socket:
+        """A connection to the socket at the path, if somebody listens there now."""
+        with OPENING:
+            stream = socket.socket(socket.AF_UNIX, socket.SOCK_STREAM)
+            self._streams.add(stream)
         try:
+            if self._timeout is not None:
+                # A connect that would wait: by settimeout() it would be refused at once where many
+                # wait.
+                whole, part = divmod(self._timeout, 1)
+                limit = struct.pack("@ll", int(whole), int(part * 1e6))
+                stream.setsockopt(socket.SOL_SOCKET, socket.SO_SNDTIMEO, limit)
             stream.connect(self._path)
-        except BaseException:
-            stream.close()
+        except BaseException as error:
+            self._drop(stream)
+            if isinstance(error, BlockingIOError):
+                raise TimedOut(f"connect to {self._path}: not accepted in {self._timeout:g} "
+                               "seconds") from None
+            if isinstance(error, OSError):
+                raise type(error)(error.errno, error.strerror or str(error), self._path) from None
             raise
         return stream
 
+    def _drop(self, stream: socket.socket) -> None:
+        self._streams.discard(stream)
+        stream.close()
 
-def connect(path: Path) -> SocketServer:
-    """The server that listens at a Unix socket."""
-    return SocketServer(path)
+
+def connect(path: Path, *, timeout: Optional[float] = None, retry: float = 0.0) -> SocketServer:
+    """
+    The server that listens at a Unix socket. Where nobody does, as while it starts, waits up to
+    `retry` seconds. A request that isn't answered within the timeout, in seconds, raises TimedOut
+    and closes the connection of its context.
+    """
+    return SocketServer(path, timeout=timeout, retry=retry)
+
+
+def seconds_of(timeout: Optional[float]) -> Optional[float]:
+    """A timeout that is one; None for none."""
+    if timeout is not None and not 0 < timeout <= 1e6:
+        raise ValueError(f"a timeout is a number of seconds above 0, or None, and not {timeout}")
+    return None if timeout is None else float(timeout)
+
+
+def shut(stream: socket.socket) -> None:
+    """Ends a connection for both sides, also for who reads from it now."""
+    try:
+        stream.shutdown(socket.SHUT_RDWR)
+    except OSError:
+        pass
 
 
 def socket_ended(is_within_frame: bool) -> ServerEnded:
-    return ServerEnded(f"the server closed the connection{' in the middle of a reply' if is_within_frame else ''}")
+    return ServerEnded("the server closed the "
+                       f"connection{' in the middle of a reply' if is_within_frame else ''}")
 
 
-def command(program: Union[Path, Sequence[str]], quota: Optional[int], work: Optional[int]) -> List[str]:
+def command(program: Union[Path, Sequence[str]], quota: Optional[int],
+            work: Optional[int]) -> List[str]:
     """The words that start a server."""
     words = [os.fspath(program)] if isinstance(program, (str, os.PathLike)) else list(program)
     limits = (("--quota", quota), ("--work", work))
-    return [*words, "serve", *(word for name, limit in limits if limit is not None for word in (name, str(limit)))]
+    return [*words, "serve",
+            *(word for name, limit in limits if limit is not None for word in (name, str(limit)))]

@@ -1,211 +1,416 @@
-"""Request frames and reply frames, in bytes and in words."""
+"""Request frames and reply frames, in bytes and in words.
+
+The numbers of ops, functions, codes and so on are members of enumerations, and names of this module
+too: `wire.ADD_NODE` is `wire.Op.ADD_NODE`, which is 20. Where one of them is asked for any number
+will do, also one that stands for nothing, which the server refuses.
+"""
+
+from __future__ import annotations
 
 import struct
-from collections import namedtuple
+from collections.abc import Sequence
+from enum import IntEnum
+from typing import NamedTuple, Optional, Union
 
-(OPEN_CONTEXT, RELEASE_CONTEXT, CREATE_IMAGE, QUERY_IMAGE, WRITE_IMAGE, WRITE_IMAGE_PGM, READ_IMAGE, READ_IMAGE_PGM,
- SET_VALID, RELEASE, CREATE_LUT, CREATE_THRESHOLD, CREATE_CONVOLUTION, CREATE_DISTRIBUTION, READ_DISTRIBUTION,
- CREATE_MIN_MAX, READ_MIN_MAX, CREATE_GRAPH, CREATE_VIRTUAL_IMAGE, ADD_NODE, REMOVE_NODE, VERIFY_GRAPH, PROCESS_GRAPH,
- IMMEDIATE, CREATE_DELAY, AGE_DELAY) = range(1, 27)
+# An image, or another object, by its name or by the bytes of `reference`.
+Reference = Union[int, bytes]
+
+
+class Op(IntEnum):
+    """What a request asks for."""
+
+    OPEN_CONTEXT = 1
+    RELEASE_CONTEXT = 2
+    CREATE_IMAGE = 3
+    QUERY_IMAGE = 4
+    WRITE_IMAGE = 5
+    WRITE_IMAGE_PGM = 6
+    READ_IMAGE = 7
+    READ_IMAGE_PGM = 8
+    SET_VALID = 9
+    RELEASE = 10
+    CREATE_LUT = 11
+    CREATE_THRESHOLD = 12
+    CREATE_CONVOLUTION = 13
+    CREATE_DISTRIBUTION = 14
+    READ_DISTRIBUTION = 15
+    CREATE_MIN_MAX = 16
+    READ_MIN_MAX = 17
+    CREATE_GRAPH = 18
+    CREATE_VIRTUAL_IMAGE = 19
+    ADD_NODE = 20
+    REMOVE_NODE = 21
+    VERIFY_GRAPH = 22
+    PROCESS_GRAPH = 23
+    IMMEDIATE = 24
+    CREATE_DELAY = 25
+    AGE_DELAY = 26
+
+
+class Function(IntEnum):
+    """The vision function of a node."""
+
+    AND_BITS = 1
+    OR_BITS = 2
+    XOR_BITS = 3
+    NOT_BITS = 4
+    ADD = 5
+    SUBTRACT = 6
+    MULTIPLY = 7
+    ABSOLUTE_DIFFERENCE = 8
+    MIN_PIXEL = 9
+    MAX_PIXEL = 10
+    THRESHOLD = 11
+    TABLE_LOOKUP = 12
+    CONVERT_DEPTH = 13
+    BOX = 14
+    GAUSSIAN = 15
+    MEDIAN = 16
+    ERODE = 17
+    DILATE = 18
+    SOBEL = 19
+    CONVOLVE = 20
+    HISTOGRAM = 21
+    INTEGRAL = 22
+    MIN_MAX_LOCATION = 23
+
+
+class Code(IntEnum):
+    """How a request ended."""
+
+    SUCCESS = 0
+    NO_MEMORY = 1
+    INVALID_PARAMETERS = 2
+    INVALID_REFERENCE = 3
+    INVALID_SCOPE = 4
+    INVALID_FORMAT = 5
+    INVALID_DIMENSION = 6
+    INVALID_VALUE = 7
+    INVALID_TYPE = 8
+    INVALID_GRAPH = 9
+    INVALID_LINK = 10
+    MULTIPLE_WRITERS = 11
+    OPTIMIZED_AWAY = 12
+    NO_RESOURCES = 13
+
+
+class Format(IntEnum):
+    """What a sample is."""
+
+    U8 = 1
+    S16 = 2
+    U32 = 3
+
+
+class Policy(IntEnum):
+    """What becomes of a value that the output's format doesn't have."""
+
+    WRAP = 0
+    SATURATE = 1
+
+
+class Border(IntEnum):
+    """What a window sees beside the valid samples."""
+
+    UNDEFINED = 0
+    CONSTANT = 1
+    REPLICATE = 2
+
+
+class Kind(IntEnum):
+    """What a threshold compares with: one limit or two."""
+
+    BINARY = 0
+    RANGE = 1
+
+
+OPEN_CONTEXT = Op.OPEN_CONTEXT
+RELEASE_CONTEXT = Op.RELEASE_CONTEXT
+CREATE_IMAGE = Op.CREATE_IMAGE
+QUERY_IMAGE = Op.QUERY_IMAGE
+WRITE_IMAGE = Op.WRITE_IMAGE
+WRITE_IMAGE_PGM = Op.WRITE_IMAGE_PGM
+READ_IMAGE = Op.READ_IMAGE
+READ_IMAGE_PGM = Op.READ_IMAGE_PGM
+SET_VALID = Op.SET_VALID
+RELEASE = Op.RELEASE
+CREATE_LUT = Op.CREATE_LUT
+CREATE_THRESHOLD = Op.CREATE_THRESHOLD
+CREATE_CONVOLUTION = Op.CREATE_CONVOLUTION
+CREATE_DISTRIBUTION = Op.CREATE_DISTRIBUTION
+READ_DISTRIBUTION = Op.READ_DISTRIBUTION
+CREATE_MIN_MAX = Op.CREATE_MIN_MAX
+READ_MIN_MAX = Op.READ_MIN_MAX
+CREATE_GRAPH = Op.CREATE_GRAPH
+CREATE_VIRTUAL_IMAGE = Op.CREATE_VIRTUAL_IMAGE
+ADD_NODE = Op.ADD_NODE
+REMOVE_NODE = Op.REMOVE_NODE
+VERIFY_GRAPH = Op.VERIFY_GRAPH
+PROCESS_GRAPH = Op.PROCESS_GRAPH
+IMMEDIATE = Op.IMMEDIATE
+CREATE_DELAY = Op.CREATE_DELAY
+AGE_DELAY = Op.AGE_DELAY
+AND_BITS = Function.AND_BITS
+OR_BITS = Function.OR_BITS
+XOR_BITS = Function.XOR_BITS
+NOT_BITS = Function.NOT_BITS
+ADD = Function.ADD
+SUBTRACT = Function.SUBTRACT
+MULTIPLY = Function.MULTIPLY
+ABSOLUTE_DIFFERENCE = Function.ABSOLUTE_DIFFERENCE
+MIN_PIXEL = Function.MIN_PIXEL
+MAX_PIXEL = Function.MAX_PIXEL
+THRESHOLD = Function.THRESHOLD
+TABLE_LOOKUP = Function.TABLE_LOOKUP
+CONVERT_DEPTH = Function.CONVERT_DEPTH
+BOX = Function.BOX
+GAUSSIAN = Function.GAUSSIAN
+MEDIAN = Function.MEDIAN
+ERODE = Function.ERODE
+DILATE = Function.DILATE
+SOBEL = Function.SOBEL
+CONVOLVE = Function.CONVOLVE
+HISTOGRAM = Function.HISTOGRAM
+INTEGRAL = Function.INTEGRAL
+MIN_MAX_LOCATION = Function.MIN_MAX_LOCATION
+SUCCESS = Code.SUCCESS
+NO_MEMORY = Code.NO_MEMORY
+INVALID_PARAMETERS = Code.INVALID_PARAMETERS
+INVALID_REFERENCE = Code.INVALID_REFERENCE
+INVALID_SCOPE = Code.INVALID_SCOPE
+INVALID_FORMAT = Code.INVALID_FORMAT
+INVALID_DIMENSION = Code.INVALID_DIMENSION
+INVALID_VALUE = Code.INVALID_VALUE
+INVALID_TYPE = Code.INVALID_TYPE
+INVALID_GRAPH = Code.INVALID_GRAPH
+INVALID_LINK = Code.INVALID_LINK
+MULTIPLE_WRITERS = Code.MULTIPLE_WRITERS
+OPTIMIZED_AWAY = Code.OPTIMIZED_AWAY
+NO_RESOURCES = Code.NO_RESOURCES
+U8 = Format.U8
+S16 = Format.S16
+U32 = Format.U32
+WRAP = Policy.WRAP
+SATURATE = Policy.SATURATE
+UNDEFINED = Border.UNDEFINED
+CONSTANT = Border.CONSTANT
+REPLICATE = Border.REPLICATE
+BINARY = Kind.BINARY
+RANGE = Kind.RANGE
+
 CREATES = (
-    CREATE_IMAGE, CREATE_LUT, CREATE_THRESHOLD, CREATE_CONVOLUTION, CREATE_DISTRIBUTION, CREATE_MIN_MAX, CREATE_GRAPH,
-    CREATE_VIRTUAL_IMAGE, CREATE_DELAY)
-U8, S16, U32 = 1, 2, 3
+    CREATE_IMAGE, CREATE_LUT, CREATE_THRESHOLD, CREATE_CONVOLUTION, CREATE_DISTRIBUTION,
+    CREATE_MIN_MAX, CREATE_GRAPH, CREATE_VIRTUAL_IMAGE, CREATE_DELAY)
 # A virtual image's format, width or height that isn't declared.
 OPEN = 0
+# The lengths that a request frame can have, which count what comes after them.
+LEAST_LENGTH, GREATEST_LENGTH = 3, 134_217_728
 SAMPLE_LETTERS = {U8: "B", S16: "h", U32: "I"}
-FORMAT_NAMES = {OPEN: "open", U8: "U8", S16: "S16", U32: "U32"}
-(AND_BITS, OR_BITS, XOR_BITS, NOT_BITS, ADD, SUBTRACT, MULTIPLY, ABSOLUTE_DIFFERENCE, MIN_PIXEL, MAX_PIXEL, THRESHOLD,
- TABLE_LOOKUP, CONVERT_DEPTH, BOX, GAUSSIAN, MEDIAN, ERODE, DILATE, SOBEL, CONVOLVE, HISTOGRAM, INTEGRAL,
- MIN_MAX_LOCATION) = range(1, 24)
-WRAP, SATURATE = 0, 1
-UNDEFINED, CONSTANT, REPLICATE = 0, 1, 2
-BINARY, RANGE = 0, 1
+FORMAT_NAMES = {OPEN: "open", **{fmt: fmt.name for fmt in Format}}
 ABSENT = struct.pack(">IB", 0, 255)
-
-(SUCCESS, NO_MEMORY, INVALID_PARAMETERS, INVALID_REFERENCE, INVALID_SCOPE, INVALID_FORMAT, INVALID_DIMENSION,
- INVALID_VALUE, INVALID_TYPE, INVALID_GRAPH, INVALID_LINK, MULTIPLE_WRITERS, OPTIMIZED_AWAY, NO_RESOURCES) = range(14)
-CODES = (
-    "SUCCESS NO_MEMORY INVALID_PARAMETERS INVALID_REFERENCE INVALID_SCOPE INVALID_FORMAT "
-    "INVALID_DIMENSION INVALID_VALUE INVALID_TYPE INVALID_GRAPH INVALID_LINK MULTIPLE_WRITERS "
-    "OPTIMIZED_AWAY NO_RESOURCES"
-).split()
+CODES = [code.name for code in Code]
 
 
-def frame(client, op, body=b""):
+def letter_of(fmt: int) -> str:
+    """How the module struct calls a sample of a format."""
+    return SAMPLE_LETTERS[Format(fmt)]
+
+
+def frame(client: int, op: int, body: bytes = b"") -> bytes:
     return struct.pack(">IHB", len(body) + 3, client, op) + body
 
 
-def frame_head(client, op, length):
+def frame_head(client: int, op: int, length: int) -> bytes:
     """What stands before a request's body of so many bytes."""
     return struct.pack(">IHB", length + 3, client, op)
 
 
-def reply_frame(client, op, code=0, body=b""):
+def reply_frame(client: int, op: int, code: int = Code.SUCCESS, body: bytes = b"") -> bytes:
     return struct.pack(">IHBB", len(body) + 4, client, op, code) + body
 
 
-def reference(name, slot=255):
+def reference(name: int, slot: int = 255) -> bytes:
     """An object, or what is in a slot of a delay: k for slot -k, so that 0 is the newest."""
     return struct.pack(">IB", name, slot)
 
 
-def operand(named):
+def operand(named: Optional[Reference]) -> bytes:
     """A name, the bytes of a reference, or None where a node's operand is absent."""
     if named is None:
         return ABSENT
     return named if isinstance(named, bytes) else reference(named)
 
 
-def open_context(client):
+def open_context(client: int) -> bytes:
     return frame(client, OPEN_CONTEXT)
 
 
-def release_context(client):
+def release_context(client: int) -> bytes:
     return frame(client, RELEASE_CONTEXT)
 
 
-def create_image(client, fmt, width, height):
+def create_image(client: int, fmt: int, width: int, height: int) -> bytes:
     return frame(client, CREATE_IMAGE, struct.pack(">BHH", fmt, width, height))
 
 
-def query_image(client, named):
+def query_image(client: int, named: Reference) -> bytes:
     return frame(client, QUERY_IMAGE, operand(named))
 
 
-def write_image(client, named, fmt, width, height, samples):
-    return frame(client, WRITE_IMAGE, operand(named) + struct.pack(">BHH", fmt, width, height) + samples)
-
-
-def write_image_head(client, named, fmt, width, height):
-    """The frame of WriteImage as far as its samples, which are to follow: width times height of them, by rows."""
+def write_image(
+        client: int, named: Reference, fmt: int, width: int, height: int, samples: bytes) -> bytes:
     described = operand(named) + struct.pack(">BHH", fmt, width, height)
-    length = len(described) + width * height * struct.calcsize(">" + SAMPLE_LETTERS[fmt])
+    return frame(client, WRITE_IMAGE, described + samples)
+
+
+def write_image_head(client: int, named: Reference, fmt: int, width: int, height: int) -> bytes:
+    """The frame of WriteImage as far as its samples, which are to follow: width times height of
+    them, by rows."""
+    described = operand(named) + struct.pack(">BHH", fmt, width, height)
+    length = len(described) + width * height * struct.calcsize(">" + letter_of(fmt))
     return frame_head(client, WRITE_IMAGE, length) + described
 
 
-def write_image_pgm_head(client, named, length):
+def write_image_pgm_head(client: int, named: Reference, length: int) -> bytes:
     """The frame of WriteImagePgm as far as its text of so many bytes, which is to follow."""
     return frame_head(client, WRITE_IMAGE_PGM, 5 + length) + operand(named)
 
 
-def write_image_pgm(client, named, text):
+def write_image_pgm(client: int, named: Reference, text: bytes) -> bytes:
     """The bytes of a PGM text, P5 or P2, whose picture has the image's format and size."""
     return frame(client, WRITE_IMAGE_PGM, operand(named) + text)
 
 
-def read_image(client, named):
+def read_image(client: int, named: Reference) -> bytes:
     return frame(client, READ_IMAGE, operand(named))
 
 
-def read_image_pgm(client, named):
+def read_image_pgm(client: int, named: Reference) -> bytes:
     """Of a U8 image."""
     return frame(client, READ_IMAGE_PGM, operand(named))
 
 
-def set_valid(client, named, rectangle):
-    """The rectangle is x0, y0, x1, y1: its start belongs to it, its end doesn't; four zeros are the empty one."""
+def set_valid(client: int, named: Reference, rectangle: Sequence[int]) -> bytes:
+    """The rectangle is x0, y0, x1, y1: its start belongs to it, its end doesn't; four zeros are the
+    empty one."""
     return frame(client, SET_VALID, operand(named) + struct.pack(">4H", *rectangle))
 
 
-def release(client, name):
+def release(client: int, name: int) -> bytes:
     return frame(client, RELEASE, struct.pack(">I", name))
 
 
-def create_lut(client, fmt, entries):
-    return frame(client, CREATE_LUT, struct.pack(f">B{len(entries)}{SAMPLE_LETTERS[fmt]}", fmt, *entries))
+def create_lut(client: int, fmt: int, entries: Sequence[int]) -> bytes:
+    body = struct.pack(f">B{len(entries)}{letter_of(fmt)}", fmt, *entries)
+    return frame(client, CREATE_LUT, body)
 
 
-def create_lut_of(client, fmt, entries):
+def create_lut_of(client: int, fmt: int, entries: bytes) -> bytes:
     """The bytes of all entries, each of them big-endian."""
     return frame(client, CREATE_LUT, bytes([fmt]) + entries)
 
 
-def create_threshold(client, fmt, limits, true_value=255, false_value=0):
+def create_threshold(
+        client: int, fmt: int, limits: Sequence[int], true_value: int = 255,
+        false_value: int = 0) -> bytes:
     """BINARY with one limit, RANGE with two."""
     kind = RANGE if len(limits) == 2 else BINARY
     body = struct.pack(f">BB{len(limits)}hBB", kind, fmt, *limits, true_value, false_value)
     return frame(client, CREATE_THRESHOLD, body)
 
 
-def create_convolution(client, columns, rows, exponent, coefficients):
+def create_convolution(
+        client: int, columns: int, rows: int, exponent: int, coefficients: Sequence[int]) -> bytes:
     """The coefficients by rows from the top; what they give is divided by 2 to the exponent."""
     body = struct.pack(f">BBB{len(coefficients)}h", columns, rows, exponent, *coefficients)
     return frame(client, CREATE_CONVOLUTION, body)
 
 
-def create_distribution(client, bins, offset, range):
+def create_distribution(client: int, bins: int, offset: int, range: int) -> bytes:
     """So many bins for the samples from the offset on, as far as the range goes."""
     return frame(client, CREATE_DISTRIBUTION, struct.pack(">HHH", bins, offset, range))
 
 
-def read_distribution(client, name):
+def read_distribution(client: int, name: int) -> bytes:
     return frame(client, READ_DISTRIBUTION, struct.pack(">I", name))
 
 
-def create_min_max(client):
+def create_min_max(client: int) -> bytes:
     return frame(client, CREATE_MIN_MAX)
 
 
-def read_min_max(client, name):
+def read_min_max(client: int, name: int) -> bytes:
     return frame(client, READ_MIN_MAX, struct.pack(">I", name))
 
 
-def create_graph(client):
+def create_graph(client: int) -> bytes:
     return frame(client, CREATE_GRAPH)
 
 
-def create_virtual_image(client, graph, fmt=OPEN, width=OPEN, height=OPEN):
+def create_virtual_image(
+        client: int, graph: int, fmt: int = OPEN, width: int = OPEN, height: int = OPEN) -> bytes:
     """Of a graph; what is left open is taken from the node that writes the image."""
     return frame(client, CREATE_VIRTUAL_IMAGE, struct.pack(">IBHH", graph, fmt, width, height))
 
 
-def create_delay(client, exemplar, slots):
+def create_delay(client: int, exemplar: Reference, slots: int) -> bytes:
     return frame(client, CREATE_DELAY, operand(exemplar) + bytes([slots]))
 
 
-def age_delay(client, name):
+def age_delay(client: int, name: int) -> bytes:
     return frame(client, AGE_DELAY, struct.pack(">I", name))
 
 
-def node(function, in1, in2, out1, policy=WRAP, amount=0, border=UNDEFINED, constant=0, out2=None):
-    """The bytes of a node; an operand is None where the function hasn't it, and one of Sobel's outputs may be."""
+def node(
+        function: int, in1: Optional[Reference], in2: Optional[Reference],
+        out1: Optional[Reference], policy: int = WRAP, amount: int = 0, border: int = UNDEFINED,
+        constant: int = 0, out2: Optional[Reference] = None) -> bytes:
+    """The bytes of a node; an operand is None where the function hasn't it, and one of Sobel's
+    outputs may be."""
     fields = bytes([function, border, constant, policy, amount])
     return fields + b"".join(operand(named) for named in (in1, in2, out1, out2))
 
 
-def immediate(client, function, in1, in2, out1, policy=WRAP, amount=0, border=UNDEFINED, constant=0, out2=None):
+def immediate(
+        client: int, function: int, in1: Optional[Reference], in2: Optional[Reference],
+        out1: Optional[Reference], policy: int = WRAP, amount: int = 0, border: int = UNDEFINED,
+        constant: int = 0, out2: Optional[Reference] = None) -> bytes:
     """One node run at once."""
-    return frame(client, IMMEDIATE, node(function, in1, in2, out1, policy, amount, border, constant, out2))
+    run = node(function, in1, in2, out1, policy, amount, border, constant, out2)
+    return frame(client, IMMEDIATE, run)
 
 
-def add_node(client, graph, function, in1, in2, out1, policy=WRAP, amount=0, border=UNDEFINED, constant=0, out2=None):
+def add_node(
+        client: int, graph: int, function: int, in1: Optional[Reference], in2: Optional[Reference],
+        out1: Optional[Reference], policy: int = WRAP, amount: int = 0, border: int = UNDEFINED,
+        constant: int = 0, out2: Optional[Reference] = None) -> bytes:
     """One node more in a graph."""
     added = node(function, in1, in2, out1, policy, amount, border, constant, out2)
     return frame(client, ADD_NODE, struct.pack(">I", graph) + added)
 
 
-def remove_node(client, graph, number):
+def remove_node(client: int, graph: int, number: int) -> bytes:
     """The number is the one that AddNode gave."""
     return frame(client, REMOVE_NODE, struct.pack(">II", graph, number))
 
 
-def verify_graph(client, graph):
+def verify_graph(client: int, graph: int) -> bytes:
     return frame(client, VERIFY_GRAPH, struct.pack(">I", graph))
 
 
-def process_graph(client, graph):
+def process_graph(client: int, graph: int) -> bytes:
     """Runs all nodes of a graph, which is verified first."""
     return frame(client, PROCESS_GRAPH, struct.pack(">I", graph))
 
 
-def bitwise_not(client, source, target):
+def bitwise_not(client: int, source: Reference, target: Reference) -> bytes:
     return immediate(client, NOT_BITS, source, None, target)
 
 
-def split(stream, head):
+def split(stream: bytes, head: int) -> list[bytes]:
     """The frames of a stream: `head` is how many bytes of a frame stand before its body."""
-    frames, at = [], 0
+    frames: list[bytes] = []
+    at = 0
     while at < len(stream):
         (length,) = struct.unpack_from(">I", stream, at)
         assert at + 4 + length <= len(stream) and length + 4 >= head, "a whole frame"
@@ -214,91 +419,108 @@ def split(stream, head):
     return frames
 
 
-def replies(stream):
+def replies(stream: bytes) -> list[bytes]:
     return split(stream, 8)
 
 
-def code_of(reply):
+def code_of(reply: bytes) -> int:
     return reply[7]
 
 
-def size_of(reply):
+def size_of(reply: bytes) -> tuple[int, int, int]:
     """Of an image that was read or asked for: its format, its width and its height."""
-    return struct.unpack_from(">BHH", reply, 8)
+    fmt, width, height = struct.unpack_from(">BHH", reply, 8)
+    return fmt, width, height
 
 
-def rows_of(reply):
+def rows_of(reply: bytes) -> list[tuple[int, ...]]:
     """The samples of an image that was read, row by row."""
     fmt, width, height = size_of(reply)
-    samples = struct.unpack(f">{width * height}{SAMPLE_LETTERS[fmt]}", reply[13:])
+    samples = struct.unpack(f">{width * height}{letter_of(fmt)}", reply[13:])
     return [samples[y * width : (y + 1) * width] for y in range(height)]
 
 
-def description_of(reply):
-    """
-    Of an image that was asked for: its format, its width and its height, and its valid rectangle as x0, y0, x1, y1. Of
-    a virtual image what was declared, and four zeros.
-    """
+def description_of(reply: bytes) -> tuple[int, int, int, tuple[int, ...]]:
+    """Of an image that was asked for: its format, its width and its height, and its valid rectangle
+    as x0, y0, x1, y1. Of a virtual image what was declared, and four zeros."""
     fmt, width, height, *valid = struct.unpack(">BHH4H", reply[8:])
     return fmt, width, height, tuple(valid)
 
 
-def name_of(reply):
+def name_of(reply: bytes) -> int:
     """The name of an object that was made."""
-    return struct.unpack(">I", reply[8:])[0]
+    name: int = struct.unpack(">I", reply[8:])[0]
+    return name
 
 
-def node_of(reply):
+def node_of(reply: bytes) -> int:
     """The number of a node that was added."""
-    return struct.unpack(">I", reply[8:])[0]
+    number: int = struct.unpack(">I", reply[8:])[0]
+    return number
 
 
-def text_of(reply):
+def text_of(reply: bytes) -> bytes:
     """The PGM text of an image that was read as one."""
     return reply[8:]
 
 
-def counts_of(reply):
+def counts_of(reply: bytes) -> tuple[int, ...]:
     """How many samples a distribution that was read has in each of its bins."""
     (bins,) = struct.unpack_from(">H", reply, 8)
     return struct.unpack(f">{bins}I", reply[10:])
 
 
-# The least and the greatest valid sample, how many places hold each, and the first x, y of each by rows from the top.
-Extremes = namedtuple("Extremes", "min max min_count max_count min_at max_at")
+class Extremes(NamedTuple):
+    """The least and the greatest valid sample, how many places hold each, and the first x, y of
+    each by rows from the top."""
+
+    min: int
+    max: int
+    min_count: int
+    max_count: int
+    min_at: tuple[int, ...]
+    max_at: tuple[int, ...]
 
 
-def extremes_of(reply):
+def extremes_of(reply: bytes) -> Extremes:
     """All numbers are 0 where no place was valid, and where nothing was found yet."""
     least, greatest, least_count, greatest_count, *places = struct.unpack(">hhII4H", reply[8:])
-    return Extremes(least, greatest, least_count, greatest_count, tuple(places[:2]), tuple(places[2:]))
+    return Extremes(
+        least, greatest, least_count, greatest_count, tuple(places[:2]), tuple(places[2:]))
 
 
-def say_found(words, sample, count, at):
+def say_found(words: str, sample: int, count: int, at: Sequence[int]) -> str:
     return f"{words} {sample}, {count} time{'' if count == 1 else 's'}, first at {at[0]},{at[1]}"
 
 
-def say(reply):
+def say(reply: bytes) -> str:
     """A reply in a line of words."""
     client, op, code = struct.unpack_from(">HBB", reply, 4)
     line = f"client {client}, op {op}: {CODES[code]}"
-    if code == 0 and op in CREATES:
-        line += f", name {name_of(reply)}"
-    if code == 0 and op == QUERY_IMAGE:
+    return line + say_body(op, reply) if code == SUCCESS else line
+
+
+def say_body(op: int, reply: bytes) -> str:
+    """What the reply to a success brings, in words."""
+    if op in CREATES:
+        return f", name {name_of(reply)}"
+    if op == QUERY_IMAGE:
         fmt, width, height, valid = description_of(reply)
-        line += f", {FORMAT_NAMES[fmt]}, {width or 'open'} by {height or 'open'}, valid {','.join(map(str, valid))}"
-    if code == 0 and op == ADD_NODE:
-        line += f", node {node_of(reply)}"
-    if code == 0 and op == READ_IMAGE:
+        size = f"{width or 'open'} by {height or 'open'}"
+        return f", {FORMAT_NAMES[fmt]}, {size}, valid {','.join(map(str, valid))}"
+    if op == ADD_NODE:
+        return f", node {node_of(reply)}"
+    if op == READ_IMAGE:
         rows = rows_of(reply)
-        line += f", {len(rows[0])} by {len(rows)}: " + " / ".join(" ".join(map(str, row)) for row in rows)
-    if code == 0 and op == READ_IMAGE_PGM:
+        samples = " / ".join(" ".join(map(str, row)) for row in rows)
+        return f", {len(rows[0])} by {len(rows)}: {samples}"
+    if op == READ_IMAGE_PGM:
         *header, raster = text_of(reply).split(b"\n", 3)
-        line += f", {b' '.join(header).decode()}: {' '.join(map(str, raster))}"
-    if code == 0 and op == READ_DISTRIBUTION:
-        line += f", counts {' '.join(map(str, counts_of(reply)))}"
-    if code == 0 and op == READ_MIN_MAX:
+        return f", {b' '.join(header).decode()}: {' '.join(map(str, raster))}"
+    if op == READ_DISTRIBUTION:
+        return f", counts {' '.join(map(str, counts_of(reply)))}"
+    if op == READ_MIN_MAX:
         found = extremes_of(reply)
-        line += f", {say_found('least', found.min, found.min_count, found.min_at)}"
-        line += f"; {say_found('greatest', found.max, found.max_count, found.max_at)}"
-    return line
+        least = say_found("least", found.min, found.min_count, found.min_at)
+        return f", {least}; {say_found('greatest', found.max, found.max_count, found.max_at)}"
+    return ""

@@ -1,5 +1,5 @@
-"""A server for tests of the broker: answers each frame SUCCESS, and keeps who asked what. Some ops do what a vision
-server's never would.
+"""A server for tests of the broker: answers each frame SUCCESS, and keeps who asked what. Some ops
+do what a vision server's never would.
 
     plain_server.py serve
 """
@@ -8,8 +8,8 @@ import struct
 import sys
 import time
 
-# Waits u16 milliseconds; answers so many (u32) bytes; answers who asked what, u16 client and u8 op each; ends with a
-# status (u8); answers another client than the one that asked.
+# Waits u16 milliseconds; answers so many (u32) bytes; answers who asked what, u16 client and u8 op
+# each; ends with a status (u8); answers another client than the one that asked.
 WAIT, MANY_BYTES, WHO_ASKED, EXIT, MISTAKE = 100, 101, 102, 103, 104
 
 

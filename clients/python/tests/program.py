@@ -1,6 +1,7 @@
 """
-Where the tests find things: the package beside them, tools/model.py of the repository, and the server's program, whose
-path the environment variable FEQYLDAN_PROGRAM has. Without it the tests that need the program are skipped.
+Where the tests find things: the package beside them, the model in tools/checks, and the server's
+program, whose path the environment variable FEQYLDAN_PROGRAM has. Without it the tests that need
+the program are skipped.
 """
 
 import faulthandler
@@ -15,15 +16,17 @@ sys.path[:0] = os.path.join(HERE, ".."), TOOLS
 import feqyldan as vx  # noqa: E402
 
 PROGRAM = os.environ.get("FEQYLDAN_PROGRAM")
-needs_program = unittest.skipUnless(PROGRAM, "FEQYLDAN_PROGRAM isn't set to the path of the server's program")
+needs_program = unittest.skipUnless(PROGRAM,
+                                    "FEQYLDAN_PROGRAM isn't set to the path of the server's "
+                                    "program")
 # A test that waits for ever ends the run, and says where it waited; in seconds.
-faulthandler.dump_traceback_later(280, exit=True)
+faulthandler.dump_traceback_later(600, exit=True)
 
 
 def answering(*replies, end="", said="", status=0):
     """
-    A server that reads a request for each of these replies, in bytes, and then ends. A number among them has it sleep
-    for so many seconds.
+    A server that reads a request for each of these replies, in bytes, and then ends. A number among
+    them has it sleep for so many seconds.
     """
     script = (
         "import os, sys, time\n"

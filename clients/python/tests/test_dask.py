@@ -1,5 +1,6 @@
 """Pictures over a local cluster of two worker processes, one of which is killed in the middle."""
 
+import multiprocessing
 import os
 import pickle
 import signal
@@ -7,14 +8,16 @@ import time
 import unittest
 
 from program import PROGRAM, needs_program, vx
-from feqyldan.dask import map_pictures
+from feqyldan.dask import STATIONS, Job, map_pictures
 
 try:
     import distributed
 except ImportError:
     distributed = None
 
-needs_distributed = unittest.skipUnless(distributed, "distributed isn't installed (Debian's python3-distributed)")
+needs_distributed = unittest.skipUnless(distributed,
+                                        "distributed isn't installed (Debian's "
+                                        "python3-distributed)")
 WIDTH, HEIGHT, PICTURES = 8, 6, 60
 
 
@@ -77,7 +80,46 @@ class TestRefusals(unittest.TestCase):
     def test_a_refusal_travels(self):
         refused = vx.InvalidGraph("process graph 3")
         copy = pickle.loads(pickle.dumps(refused))
-        self.assertEqual((type(copy), str(copy), copy.request), (type(refused), str(refused), refused.request))
+        self.assertEqual((type(copy), str(copy), copy.request),
+                         (type(refused), str(refused), refused.request))
+
+
+class NoClient:
+    """A client that nothing reaches."""
+
+    def map(self, *_, **__):
+        raise AssertionError("something was sent")
+
+
+class TestMistakes(unittest.TestCase):
+    def test_what_is_no_graph_and_no_pictures(self):
+        with self.assertRaisesRegex(TypeError, "a function of a context"):
+            map_pictures(NoClient(), None, [picture(1)], program="vx_main")
+        try:
+            import numpy
+        except ImportError:
+            return
+        with self.assertRaisesRegex(TypeError, "give it in a list"):
+            map_pictures(NoClient(), inverse, numpy.zeros((2, 2), numpy.uint8), program="vx_main")
+
+
+def send_output(job, pipe):
+    pipe.send(rows_of(job.run(picture(1))))
+
+
+@needs_program
+class TestForks(unittest.TestCase):
+    def test_a_forked_worker_starts_its_own_server(self):
+        job = Job("one", inverse, PROGRAM, None, None)
+        self.addCleanup(lambda: STATIONS.pop((PROGRAM, None, None)).server.close())
+        self.assertEqual(rows_of(job.run(picture(1))), inverted(picture(1)))
+        ours, theirs = multiprocessing.Pipe()
+        child = multiprocessing.get_context("fork").Process(target=send_output, args=(job, theirs))
+        child.start()
+        self.addCleanup(child.join)
+        self.assertTrue(ours.poll(30))
+        self.assertEqual(ours.recv(), inverted(picture(1)))
+        self.assertEqual(rows_of(job.run(picture(2))), inverted(picture(2)))
 
 
 @needs_distributed
@@ -85,7 +127,8 @@ class TestRefusals(unittest.TestCase):
 class TestCluster(unittest.TestCase):
     def setUp(self):
         self.cluster = distributed.LocalCluster(
-            n_workers=2, threads_per_worker=2, processes=True, dashboard_address=None, silence_logs=50)
+            n_workers=2, threads_per_worker=2, processes=True, dashboard_address=None,
+            silence_logs=50)
         self.addCleanup(self.cluster.close)
         self.client = distributed.Client(self.cluster)
         self.addCleanup(self.client.close)
@@ -95,7 +138,8 @@ class TestCluster(unittest.TestCase):
 
     def gathers(self, futures, pictures):
         outputs = self.client.gather(futures)
-        self.assertEqual([rows_of(output) for output in outputs], [inverted(rows) for rows in pictures])
+        self.assertEqual([rows_of(output) for output in outputs],
+                         [inverted(rows) for rows in pictures])
 
     def ends(self, processes):
         until = time.monotonic() + 5
@@ -113,14 +157,24 @@ class TestCluster(unittest.TestCase):
         self.assertTrue(1 <= len(ours) <= 2, ours)
         # Futures of pictures do as well, and so does a graph that is a lambda.
         ahead = self.client.map(picture, range(4))
-        self.gathers(self.map(lambda *given: inverse(*given), ahead), [picture(number) for number in range(4)])
+        self.gathers(self.map(lambda *given: inverse(*given), ahead),
+                     [picture(number) for number in range(4)])
         with self.assertRaises(vx.InvalidGraph) as caught:
             self.map(looping, [picture(1)])[0].result()
         self.assertIn("process graph", caught.exception.request)
         self.gathers(self.map(inverse, pictures[:2]), pictures[:2])
+        # A worker finds the program by itself, here by FEQYLDAN_PROGRAM.
+        self.gathers(map_pictures(self.client, inverse, pictures[:1]), pictures[:1])
         self.client.close()
         self.cluster.close()
         self.ends(ours)
+
+    def test_mistakes_on_a_worker(self):
+        with self.assertRaisesRegex(FileNotFoundError, "on the worker's machine"):
+            map_pictures(self.client, inverse, [picture(1)], program="/no/such/program")[0].result()
+        with self.assertRaisesRegex(TypeError,
+                                    "gives a graph, the image that a picture is written to"):
+            self.map(lambda *given: inverse(*given)[1:], [picture(1)])[0].result()
 
     def test_a_server_is_killed(self):
         address = next(iter(self.client.run(worker_process)))
@@ -150,7 +204,9 @@ class TestCluster(unittest.TestCase):
         next(iter(distributed.as_completed(futures)))
         os.kill(workers[victim], signal.SIGKILL)
         self.assertFalse(all(future.done() for future in futures))
-        self.gathers(futures, [[row[: 1 + number % WIDTH] for row in rows] for number, rows in enumerate(pictures)])
+        self.gathers(futures,
+                     [[row[: 1 + number % WIDTH] for row in rows]
+                      for number, rows in enumerate(pictures)])
         self.ends(running[victim])
 
 

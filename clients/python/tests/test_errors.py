@@ -1,5 +1,6 @@
 """What is raised: a class for each code, and the ends of servers."""
 
+import pickle
 import unittest
 
 from program import ProgramTest, answering, vx
@@ -15,9 +16,20 @@ class TestCodes(unittest.TestCase):
             self.assertIs(getattr(vx, kind.__name__), kind)
             self.assertEqual(kind.__name__.upper(), wire.CODES[code].replace("_", ""))
             refused = errors.refusal(code, "some request", None)
-            self.assertEqual((refused.code, refused.name, refused.request), (code, wire.CODES[code], "some request"))
+            self.assertEqual((refused.code, refused.name, refused.request),
+                             (code, wire.CODES[code], "some request"))
             self.assertEqual(str(refused), f"some request: {wire.CODES[code]}. {refused.advice}")
             self.assertIsInstance(refused, vx.Refused)
+
+    def test_they_travel(self):
+        one = errors.refusal(wire.INVALID_LINK, "verify graph 1", wire.VERIFY_GRAPH,
+                             "call 2 of the pipeline, a.py:3",
+                             "node 1 reads nothing.")
+        again = pickle.loads(pickle.dumps(one))
+        self.assertEqual((str(again), vars(again)), (str(one), vars(one)))
+        self.assertTrue(str(one).startswith("verify graph 1 (call 2 of the pipeline, a.py:3): "
+                                            "INVALID_LINK. node 1 reads nothing. A node "
+                                            "reads"), one)
 
     def test_advice_for_a_request(self):
         for (code, op), advice in errors.ADVICE.items():
@@ -31,9 +43,49 @@ class TestRefusals(ProgramTest):
         one, other = self.context.image(vx.U8, 2, 1), self.context.image(vx.U8, 1, 2)
         with self.assertRaises(vx.InvalidDimension) as caught:
             self.context.vxu.absdiff(one, one, other)
-        self.assertEqual(caught.exception.request, "absdiff(image 1, image 1, image 2)")
-        self.assertEqual(str(caught.exception), "absdiff(image 1, image 1, image 2): INVALID_DIMENSION. All images of "
-                                                "one call have to be of one size.")
+        request = "absdiff(image 1 (U8, 2 by 1), image 1 (U8, 2 by 1), image 2 (U8, 1 by 2))"
+        self.assertEqual(caught.exception.request, request)
+        self.assertEqual(str(caught.exception),
+                         f"{request}: INVALID_DIMENSION. All images of one call have to be of one "
+                         "size.")
+
+    def test_what_an_operand_is(self):
+        image, deep = self.context.image(vx.U8, 2, 1), self.context.image(vx.S16, 2, 1)
+        threshold, delay = self.context.threshold(vx.S16, above=1), self.context.delay(image, 2)
+        with self.assertRaisesRegex(vx.InvalidFormat,
+                                    r"threshold\(slot -1 of delay 4 \(U8, 2 by 1\), threshold 3 "
+                                    r"\(S16\), image 1 \(U8, 2 by 1\)\)"):
+            self.context.vxu.threshold(delay[-1], threshold, image)
+        deep.close()
+        with self.assertRaisesRegex(vx.InvalidReference,
+                                    r"not_\(image 1 \(U8, 2 by 1\), closed image 2 \(S16, 2 by 1"):
+            self.context.vxu.not_(image, deep)
+        with self.assertRaisesRegex(vx.InvalidDimension,
+                                    r"write 3 by 1 U8 samples to image 1 \(U8, 2 by 1\)"):
+            image.write([[1, 2, 3]])
+        with self.assertRaisesRegex(TypeError,
+                                    "takes images and other objects of its context, and no int"):
+            self.context.vxu.threshold(image, 24, image)
+
+    def test_advice_on_policies_and_borders(self):
+        image, deep = self.context.image(vx.U8, 2, 1), self.context.image(vx.S16, 2, 1)
+        with self.assertRaisesRegex(vx.InvalidParameters, "vx.WRAP or vx.SATURATE"):
+            self.context.vxu.add(image, image, 2, deep)
+        for wrong in (deep, "SATURATE", None, 0.0):
+            with self.assertRaisesRegex(TypeError,
+                                        "add: a policy is vx.WRAP or vx.SATURATE, and not"):
+                self.context.vxu.add(image, image, wrong, deep)
+        for wrong in (2, None, "REPLICATE", (2, 0), vx.constant):
+            with self.assertRaisesRegex(TypeError,
+                                        r"box3x3: a border is vx.UNDEFINED, "
+                                        r".*vx.constant\(value\), and not"):
+                self.context.graph().box3x3(image, image, border=wrong)
+        with self.assertRaisesRegex(ValueError,
+                                    "an image's width is a whole number from 1 to 4096, and not "
+                                    "70000"):
+            self.context.image(vx.U8, 70000, 1)
+        with self.assertRaisesRegex(vx.InvalidValue, "multiply has those from 0 to 15"):
+            self.context.vxu.multiply(image, image, 16, vx.WRAP, deep)
 
     def test_codes_of_the_program(self):
         image, byte = self.context.image(vx.U8, 2, 1), self.context.image(vx.S16, 2, 1)
@@ -59,9 +111,11 @@ class TestRefusals(ProgramTest):
 
     def test_what_is_wrong_before_it_is_sent(self):
         image = self.context.image(vx.U8, 2, 1)
-        for call in (lambda: self.context.vxu.not_(b"12", image), lambda: self.context.graph().not_([[1, 2]], image)):
+        for call in (lambda: self.context.vxu.not_(b"12", image),
+                     lambda: self.context.graph().not_([[1, 2]], image)):
             self.assertRaises(TypeError, call)
-        for call in (lambda: self.context.image(vx.U8, 70000, 1), lambda: self.context.image(9, 1, 1),
+        for call in (lambda: self.context.image(vx.U8, 70000, 1),
+                     lambda: self.context.image(9, 1, 1),
                      lambda: self.context.vxu.multiply(image, image, 300, vx.WRAP, image),
                      lambda: self.context.vxu.box3x3(image, image, border=vx.constant(256))):
             self.assertRaises(ValueError, call)
@@ -71,7 +125,8 @@ class TestRefusals(ProgramTest):
         with self.server.context() as other:
             mine, foreign = self.context.image(vx.U8, 1, 1), other.image(vx.U8, 1, 1)
             self.assertEqual(mine.name, foreign.name)
-            for call in (lambda: self.context.vxu.not_(mine, foreign), lambda: self.context.graph().not_(foreign, mine),
+            for call in (lambda: self.context.vxu.not_(mine, foreign),
+                         lambda: self.context.graph().not_(foreign, mine),
                          lambda: self.context.delay(foreign, 2)):
                 self.assertRaises(vx.InvalidScope, call)
 
@@ -85,23 +140,27 @@ class TestEnds(unittest.TestCase):
             self.assertEqual((caught.exception.status, caught.exception.said), (status, said))
 
     def test_what_a_server_said_at_its_end(self):
-        self.ends(answering(said="NO_MEMORY\n", status=5), vx.ServerEnded, "status 5: NO_MEMORY", 5, "NO_MEMORY")
+        self.ends(answering(said="NO_MEMORY\n", status=5), vx.ServerEnded, "status 5: NO_MEMORY", 5,
+                  "NO_MEMORY")
         self.ends(answering(OPENED, status=3), vx.ServerEnded, "status 3$", 3)
 
     def test_an_end_in_the_middle_of_a_reply(self):
         half = wire.reply_frame(0, wire.CREATE_IMAGE, 0, b"\0\0\0\1")
         for cut in (1, 4, 9):
-            self.ends(answering(OPENED, half[:cut]), vx.ServerEnded, "middle of a reply with status 0", 0)
+            self.ends(answering(OPENED, half[:cut]), vx.ServerEnded,
+                      "middle of a reply with status 0", 0)
 
     def test_no_reply_to_the_request(self):
         for reply in (wire.reply_frame(0, wire.CREATE_LUT), wire.reply_frame(1, wire.CREATE_IMAGE),
-                      b"\0\0\0\3\0\0\3", b"\xff\xff\xff\xff\0\0\3\0", wire.reply_frame(0, wire.CREATE_IMAGE, 77)):
+                      b"\0\0\0\3\0\0\3", b"\xff\xff\xff\xff\0\0\3\0",
+                      wire.reply_frame(0, wire.CREATE_IMAGE, 77)):
             self.ends(answering(OPENED, reply, end="source.read()"), vx.UnexpectedReply, "")
 
     def test_no_memory(self):
         lost = wire.reply_frame(0, wire.CREATE_IMAGE, wire.NO_MEMORY)
         released = wire.reply_frame(0, wire.RELEASE_CONTEXT)
-        self.ends(answering(OPENED, lost, released), vx.NoMemory, "create a U8 image of 1 by 1: NO_MEMORY")
+        self.ends(answering(OPENED, lost, released), vx.NoMemory,
+                  "create a U8 image of 1 by 1: NO_MEMORY")
 
     def test_after_the_end(self):
         server = vx.Server(answering(OPENED, status=4, said="write failed"))
@@ -121,8 +180,10 @@ class TestEnds(unittest.TestCase):
         server.close()
 
     def test_no_such_program(self):
-        self.assertRaises(FileNotFoundError, vx.Server, "/no/such/program")
-        self.assertRaises(FileNotFoundError, vx.connect, "/no/such/socket")
+        self.assertRaisesRegex(FileNotFoundError, "/no/such/program", vx.Server, "/no/such/program")
+        self.assertRaisesRegex(FileNotFoundError, "/no/such/socket", vx.connect, "/no/such/socket")
+        self.assertRaisesRegex(ConnectionRefusedError, __file__, vx.connect, __file__)
+        self.assertRaisesRegex(OSError, 200 * "long", vx.connect, 200 * "long")
 
 
 if __name__ == "__main__":

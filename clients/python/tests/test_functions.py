@@ -1,4 +1,5 @@
-"""Every vision function, in immediate mode and as a node, against the formulas of tools/model_functions.py."""
+"""Every vision function, in immediate mode and as a node, against the formulas of
+tools/checks/model."""
 
 import inspect
 import os
@@ -8,25 +9,27 @@ import unittest
 from collections import namedtuple
 
 from program import HERE, ProgramTest, vx
-import model_functions as formulas
+from checks.model import functions as formulas
 
 WIDTH, HEIGHT = 9, 6
 VALID = (1, 0, 8, 5)
 U8, S16, U32 = vx.U8, vx.S16, vx.U32
 IN1, IN2, OUT1, OUT2, POLICY, AMOUNT = range(6)
 
-# The order of parameters, as the OpenVX 1.3 specification has it in vxuAnd, vxuAdd and so on after the context; the
-# scale of vxuMultiply is the amount, and its rounding policy isn't there.
+# The order of parameters, as the OpenVX 1.3 specification has it in vxuAnd, vxuAdd and so on after
+# the context; the scale of vxuMultiply is the amount, and its rounding policy isn't there.
 ONE, TWO, ARITHMETIC = (IN1, OUT1), (IN1, IN2, OUT1), (IN1, IN2, POLICY, OUT1)
 PARAMETERS = {
     "and_": TWO, "or_": TWO, "xor": TWO, "not_": ONE, "add": ARITHMETIC, "subtract": ARITHMETIC,
-    "multiply": (IN1, IN2, AMOUNT, POLICY, OUT1), "absdiff": TWO, "min": TWO, "max": TWO, "threshold": TWO,
-    "table_lookup": TWO, "convert_depth": (IN1, OUT1, POLICY, AMOUNT), "box3x3": ONE, "gaussian3x3": ONE,
-    "median3x3": ONE, "erode3x3": ONE, "dilate3x3": ONE, "sobel3x3": (IN1, OUT1, OUT2), "convolve": TWO,
-    "histogram": ONE, "integral_image": ONE, "min_max_loc": ONE,
+    "multiply": (IN1, IN2, AMOUNT, POLICY, OUT1), "absdiff": TWO, "min": TWO, "max": TWO,
+    "threshold": TWO, "table_lookup": TWO, "convert_depth": (IN1, OUT1, POLICY, AMOUNT),
+    "box3x3": ONE, "gaussian3x3": ONE, "median3x3": ONE, "erode3x3": ONE, "dilate3x3": ONE,
+    "sobel3x3": (IN1, OUT1, OUT2), "convolve": TWO, "histogram": ONE, "integral_image": ONE,
+    "min_max_loc": ONE,
 }
 
-# The formats of in1 and in2, or what makes another object of in2; those of the outputs, or what makes their object.
+# The formats of in1 and in2, or what makes another object of in2; those of the outputs, or what
+# makes their object.
 Case = namedtuple("Case", "name in1 in2 out1 out2 policy amount border")
 
 
@@ -35,11 +38,15 @@ def case(name, in1, in2, out1, out2=None, policy=0, amount=0, border=None):
 
 
 def threshold(context):
-    return context.threshold(U8, above=99, true_value=200, false_value=7), formulas.Threshold(U8, (99,), 200, 7)
+    return context.threshold(U8, above=99, true_value=200, false_value=7), formulas.Threshold(U8,
+                                                                                              (99,),
+                                                                                              200,
+                                                                                              7)
 
 
 def between(context):
-    return context.threshold(S16, between=(-900, 20000)), formulas.Threshold(S16, (-900, 20000), 255, 0)
+    return context.threshold(S16, between=(-900, 20000)), formulas.Threshold(S16, (-900, 20000),
+                                                                             255, 0)
 
 
 def bytes_table(context):
@@ -54,7 +61,9 @@ def shorts_table(context):
 
 def convolution(context):
     rows = [[1, -2, 3], [4, 50, -6], [7, 8, 9], [-10, 11, 12], [13, 14, -15]]
-    return context.convolution(rows, scale=16), formulas.Convolution(3, 5, 4, [one for row in rows for one in row])
+    return context.convolution(rows, scale=16), formulas.Convolution(3, 5, 4,
+                                                                     [one for row in rows
+                                                                      for one in row])
 
 
 def distribution(context):
@@ -72,18 +81,22 @@ CASES = (
     *(case(name, S16, S16, S16) for name in ("absdiff", "min", "max")),
     case("not_", U8, None, U8),
     *(case(name, in1, in2, out1, policy=policy)
-      for name in ("add", "subtract") for in1, in2, out1 in ((U8, U8, U8), (U8, S16, S16), (S16, S16, S16))
+      for name in ("add", "subtract")
+      for in1, in2, out1 in ((U8, U8, U8), (U8, S16, S16), (S16, S16, S16))
       for policy in (vx.WRAP, vx.SATURATE)),
     *(case("multiply", in1, U8, out1, policy=policy, amount=amount)
-      for in1, out1 in ((U8, U8), (S16, S16)) for policy in (vx.WRAP, vx.SATURATE) for amount in (0, 8)),
+      for in1, out1 in ((U8, U8), (S16, S16)) for policy in (vx.WRAP, vx.SATURATE)
+      for amount in (0, 8)),
     case("threshold", U8, threshold, U8), case("threshold", S16, between, U8),
     case("table_lookup", U8, bytes_table, U8), case("table_lookup", S16, shorts_table, S16),
-    case("convert_depth", U8, None, S16, amount=7), case("convert_depth", S16, None, U8, policy=vx.SATURATE, amount=3),
+    case("convert_depth", U8, None, S16, amount=7),
+    case("convert_depth", S16, None, U8, policy=vx.SATURATE, amount=3),
     case("convert_depth", S16, None, U8, policy=vx.WRAP),
     *(case(name, U8, None, U8, border=border) for name in FILTERS for border in BORDERS),
     *(case("sobel3x3", U8, None, *outputs, border=border)
       for outputs in ((S16, S16), (S16, None), (None, S16)) for border in BORDERS),
-    *(case("convolve", U8, convolution, out1, border=border) for out1 in (U8, S16) for border in BORDERS),
+    *(case("convolve", U8, convolution, out1, border=border) for out1 in (U8, S16)
+      for border in BORDERS),
     case("histogram", U8, None, distribution), case("integral_image", U8, None, U32),
     case("min_max_loc", U8, None, extremes), case("min_max_loc", S16, None, extremes),
 )
@@ -94,7 +107,8 @@ class Operands:
 
     def __init__(self, context, a_case):
         self.context, self.noise = context, random.Random(str(a_case))
-        made = [self.made(of, is_input) for of, is_input in zip(a_case[1:5], (True, True, False, False))]
+        made = [self.made(of, is_input)
+                for of, is_input in zip(a_case[1:5], (True, True, False, False))]
         self.ours, self.theirs = [one for one, _ in made], [other for _, other in made]
 
     def made(self, of, is_input):
@@ -109,14 +123,16 @@ class Operands:
         rows = [[self.noise.randint(least, greatest) for _ in range(WIDTH)] for _ in range(HEIGHT)]
         image.write(rows)
         image.valid = VALID
-        written = formulas.Image(of, WIDTH, HEIGHT, None, [sample for row in rows for sample in row])
+        written = formulas.Image(of, WIDTH, HEIGHT, None,
+                                 [sample for row in rows for sample in row])
         return image, formulas.confined(written, formulas.Rectangle(*VALID))
 
 
 def wanted(a_case, things):
     """What the formulas give to out1 and out2."""
     row = formulas.FUNCTIONS[vx.FUNCTIONS[a_case.name].number]
-    node = formulas.Node(row, formulas.Border(*(a_case.border or vx.UNDEFINED)), a_case.policy, a_case.amount, None)
+    node = formulas.Node(row, formulas.Border(*(a_case.border or vx.UNDEFINED)), a_case.policy,
+                         a_case.amount, None)
     given = row.gives(node, things)
     return [given.get(OUT1), given.get(OUT2)]
 
@@ -132,7 +148,8 @@ class TestFunctions(ProgramTest):
         if output is None:
             self.assertIsNone(thing)
         elif isinstance(thing, formulas.Image):
-            self.assertEqual([sample for row in output.read().tolist() for sample in row], list(thing.samples))
+            self.assertEqual([sample for row in output.read().tolist() for sample in row],
+                             list(thing.samples))
             self.assertEqual(output.valid, tuple(thing.valid))
         elif isinstance(thing, formulas.Extremes):
             self.assertEqual(tuple(output.read()), tuple(thing))
@@ -175,13 +192,15 @@ class TestTable(unittest.TestCase):
         for name, function in vx.FUNCTIONS.items():
             for place in (vx.Vxu, vx.Graph):
                 text = inspect.getdoc(getattr(place, name))
-                self.assertTrue(text.endswith(f"OpenVX: vxu{function.openvx}, vx{function.openvx}Node."), name)
+                self.assertTrue(text.endswith(f"OpenVX: vxu{function.openvx}, "
+                                              f"vx{function.openvx}Node."), name)
 
     def test_the_readme_has_all_of_them(self):
         with open(os.path.join(HERE, "..", "README.md"), encoding="utf-8") as file:
             rows = re.findall(r"^\| `vxu(\w+)`, `vx(\w+)Node` \| `(\w+)\(", file.read(), re.M)
         self.assertEqual(
-            [(function.openvx, function.openvx, name) for name, function in vx.FUNCTIONS.items()], rows)
+            [(function.openvx, function.openvx, name) for name, function in vx.FUNCTIONS.items()],
+            rows)
 
 
 if __name__ == "__main__":

@@ -18,7 +18,8 @@ class TestGraphs(ProgramTest):
         self.graph = self.context.graph()
 
     def marking(self):
-        """The nodes that mark what differs much from what is around it, as the example of docs/wire.md has them."""
+        """The nodes that mark what differs much from what is around it, as the example of
+        docs/wire.md has them."""
         smooth, difference = self.graph.virtual_image(), self.graph.virtual_image(U8, 6, 1)
         return [
             self.graph.threshold(difference, self.context.threshold(U8, above=30), self.target),
@@ -64,7 +65,9 @@ class TestGraphs(ProgramTest):
             vx.InvalidFormat: lambda: self.graph.not_(self.source, self.context.image(S16, 6, 1)),
             vx.InvalidDimension: lambda: self.graph.not_(self.source, self.context.image(U8, 1, 6)),
             vx.InvalidLink: lambda: self.graph.not_(self.graph.virtual_image(), self.target),
-            vx.NoResources: lambda: self.graph.sobel3x3(self.source, *(self.graph.virtual_image() for _ in range(2))),
+            vx.NoResources: lambda: self.graph.sobel3x3(self.source,
+                                                        *(self.graph.virtual_image()
+                                                          for _ in range(2))),
         }
         for kind, add in wrong.items():
             node = add()

@@ -43,7 +43,8 @@ class TestSamples(ProgramTest):
             image = self.context.image(fmt, 3, 2)
             numbers = array.array(samples.LETTERS[fmt], flat(rows))
             shaped = memoryview(numbers).cast("B").cast(samples.LETTERS[fmt], [2, 3])
-            for given in (numbers, numbers.tobytes(), bytearray(numbers.tobytes()), memoryview(numbers), shaped):
+            for given in (numbers, numbers.tobytes(), bytearray(numbers.tobytes()),
+                          memoryview(numbers), shaped):
                 image.write([[0, 0, 0], [0, 0, 0]])
                 image.write(given)
                 self.holds(image, rows)
@@ -75,12 +76,14 @@ class TestSamples(ProgramTest):
             wide = numpy.zeros((4, 6), dtype)
             wide[::2, ::2] = pixels
             swapped = pixels.astype(pixels.dtype.newbyteorder(">"))
-            for given in (pixels, wide[::2, ::2], numpy.asfortranarray(pixels), swapped, pixels.reshape(-1)):
+            for given in (pixels, wide[::2, ::2], numpy.asfortranarray(pixels), swapped,
+                          pixels.reshape(-1)):
                 image.write([[0, 0, 0], [0, 0, 0]])
                 image.write(given)
                 self.holds(image, ROWS[fmt])
             seen = image.read()
-            self.assertEqual((seen.dtype, seen.dtype.isnative, seen.flags.aligned), (numpy.dtype(dtype), True, True))
+            self.assertEqual((seen.dtype, seen.dtype.isnative, seen.flags.aligned),
+                             (numpy.dtype(dtype), True, True))
             self.assertTrue((seen == pixels).all())
             self.holds(self.context.image_from(pixels), ROWS[fmt])
             self.assertEqual(self.context.image_from(pixels).fmt, fmt)
@@ -104,7 +107,8 @@ class TestSamples(ProgramTest):
     @needs_numpy
     def test_what_is_no_grey_array(self):
         image = self.context.image(U8, 3, 2)
-        for wrong in (numpy.zeros((2, 3)), numpy.zeros((2, 3), "uint16"), numpy.zeros((2, 3), bool)):
+        for wrong in (numpy.zeros((2, 3)), numpy.zeros((2, 3), "uint16"),
+                      numpy.zeros((2, 3), bool)):
             self.assertRaises(TypeError, image.write, wrong)
         for wrong in (numpy.zeros((2, 3, 3), "uint8"), numpy.zeros((0, 3), "uint8")):
             self.assertRaises(ValueError, image.write, wrong)
@@ -129,7 +133,8 @@ class TestParameters(ProgramTest):
         for k, slot in enumerate(delay):
             slot.write([[k] * 3] * 2)
         delay.age()
-        self.assertEqual([slot.read()[0, 0] for slot in (delay[0], delay[-1], delay[-2])], [2, 0, 1])
+        self.assertEqual([slot.read()[0, 0] for slot in (delay[0], delay[-1], delay[-2])],
+                         [2, 0, 1])
         self.assertEqual((len(delay), delay[-1].shape, delay[-1].valid), (3, (2, 3), (0, 0, 3, 2)))
         for wrong in (1, -3):
             self.assertRaises(IndexError, delay.__getitem__, wrong)

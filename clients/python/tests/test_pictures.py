@@ -28,7 +28,8 @@ def chunks_of(png):
 
 
 def decoded(png):
-    """Width, height, bits of a sample, kind of pixels, and the rows of bytes, all of them unfiltered."""
+    """Width, height, bits of a sample, kind of pixels, and the rows of bytes, all of them
+    unfiltered."""
     (_, header), (_, content), (last, _) = chunks_of(png)
     assert last == b"IEND"
     width, height, depth, kind, *rest = struct.unpack(">IIBBBBB", header)
@@ -50,7 +51,8 @@ class TestPng(unittest.TestCase):
     def test_two_bytes(self):
         shaped = memoryview(struct.pack("=3h", 0, 256, 32767)).cast("B").cast("h", [1, 3])
         self.assertEqual(decoded(vx.png(shaped)), (3, 1, 16, 0, [b"\0\0\1\0\x7f\xff"]))
-        self.assertRaises(ValueError, vx.png, memoryview(struct.pack("=2h", 0, -1)).cast("B").cast("h", [1, 2]))
+        self.assertRaises(ValueError, vx.png,
+                          memoryview(struct.pack("=2h", 0, -1)).cast("B").cast("h", [1, 2]))
 
     def test_coloured(self):
         rows = [[(255, 0, 0), (0, 255, 0)], [(0, 0, 255), (1, 2, 3)], [(4, 5, 6), (7, 8, 9)]]
@@ -73,7 +75,8 @@ class TestPng(unittest.TestCase):
             path = os.path.join(folder, "picture.png")
             vx.write_png(path, ROWS)
             with Image.open(path) as picture:
-                self.assertEqual((picture.mode, picture.size, list(picture.getdata())), ("L", (3, 2), sum(ROWS, [])))
+                self.assertEqual((picture.mode, picture.size, list(picture.getdata())),
+                                 ("L", (3, 2), sum(ROWS, [])))
 
 
 class TestFiles(ProgramTest):
@@ -100,7 +103,8 @@ class TestFiles(ProgramTest):
             self.holds(image, rows)
 
     def test_pgm_files_that_are_none(self):
-        for text, kind in ((b"P6 1 1 255 ", ValueError), (b"", ValueError), (b"P5 0 1 255 ", vx.InvalidDimension),
+        for text, kind in ((b"P6 1 1 255 ", ValueError), (b"", ValueError),
+                           (b"P5 0 1 255 ", vx.InvalidDimension),
                            (b"P5 9999999999 1 255 ", ValueError), (b"P5 1 1 0 1", vx.InvalidFormat),
                            (b"P5 2 2 255 1", vx.InvalidFormat), (b"P2 1 1 9 10", vx.InvalidValue)):
             self.write(text)

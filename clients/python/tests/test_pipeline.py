@@ -31,7 +31,8 @@ class TestPipelines(ProgramTest):
             for k in range(3000):
                 image.write([[k, -k, 7]])
                 results.append(ahead.read(image))
-        self.assertEqual([result.value().tolist() for result in results], [[[k, -k, 7]] for k in range(3000)])
+        self.assertEqual([result.value().tolist() for result in results],
+                         [[[k, -k, 7]] for k in range(3000)])
 
     def test_what_was_written_may_change_at_once(self):
         image, results = self.context.image(vx.U8, 300, 300), []
@@ -61,7 +62,8 @@ class TestPipelines(ProgramTest):
         self.assertEqual(values[0], (3, 0))
         self.assertEqual(values[1], (5, 9, 1, 2, (0, 0), (1, 0)))
         self.assertEqual(values[2], b"P5\n3 1\n255\n\xfa\xf6\xf6")
-        self.assertEqual(values[3:], [(vx.U8, 3, 1, (0, 0, 3, 1)), (vx.U8, None, None, (0, 0, 0, 0))])
+        self.assertEqual(values[3:],
+                         [(vx.U8, 3, 1, (0, 0, 3, 1)), (vx.U8, None, None, (0, 0, 0, 0))])
 
     def test_refusals(self):
         image, short = self.context.image(vx.U8, 3, 1), self.context.image(vx.S16, 3, 1)
@@ -75,6 +77,11 @@ class TestPipelines(ProgramTest):
                          [vx.InvalidFormat, vx.InvalidDimension, vx.InvalidFormat])
         self.assertEqual(result.value().tolist(), [[1, 2, 3]])
         self.assertRaisesRegex(vx.InvalidFormat, "read a PGM text of image 2", pgm.value)
+        line = self.test_refusals.__code__.co_firstlineno
+        self.assertEqual([refused.place for refused in ahead.refusals],
+                         [f"call {call} of the pipeline, test_pipeline.py:{line + below}"
+                          for call, below in ((1, 4), (2, 5), (5, 7))])
+        self.assertIn("(call 5 of the pipeline, test_pipeline.py:", str(ahead.refusals[-1]))
         # Outside each call raises its own again.
         self.assertRaises(vx.InvalidFormat, self.context.vxu.not_, image, short)
 
@@ -131,7 +138,8 @@ class TestPipelines(ProgramTest):
         for thread in threads:
             thread.join()
         self.assertEqual(faults, [])
-        self.assertEqual(len({context.number for context in [self.server.context() for _ in range(3)]}), 3)
+        self.assertEqual(len({context.number
+                              for context in [self.server.context() for _ in range(3)]}), 3)
 
 
 class TestInterruptions(unittest.TestCase):
@@ -149,7 +157,8 @@ class TestInterruptions(unittest.TestCase):
 
     def test_a_reply_that_comes_later(self):
         """What is waited for comes after the interruption, and is taken for no other's."""
-        first, second = (wire.reply_frame(0, wire.CREATE_GRAPH, 0, bytes([0, 0, 0, k])) for k in (1, 2))
+        first, second = (wire.reply_frame(0, wire.CREATE_GRAPH, 0, bytes([0, 0, 0, k]))
+                         for k in (1, 2))
         server = vx.Server(answering(OPENED, b"", first + second, end="source.read()"))
         context = server.context()
         self.interrupted(context.graph)
@@ -158,7 +167,8 @@ class TestInterruptions(unittest.TestCase):
 
     def test_an_end_that_waits_for_nothing(self):
         def hang():
-            with vx.Server(answering(OPENED, end="source.read()")) as server, server.context() as context:
+            with vx.Server(answering(OPENED,
+                                     end="source.read()")) as server, server.context() as context:
                 context.graph()
 
         start = time.monotonic()
@@ -166,7 +176,8 @@ class TestInterruptions(unittest.TestCase):
         self.assertLess(time.monotonic() - start, 5)
 
     def test_samples_that_are_half_sent(self):
-        named, written = wire.reply_frame(0, wire.CREATE_IMAGE, 0, b"\0\0\0\1"), wire.reply_frame(0, wire.WRITE_IMAGE)
+        named = wire.reply_frame(0, wire.CREATE_IMAGE, 0, b"\0\0\0\1")
+        written = wire.reply_frame(0, wire.WRITE_IMAGE)
         seen = wire.reply_frame(0, wire.READ_IMAGE_PGM, 0, b"P5 as it was read")
         server = vx.Server(answering(OPENED, named, 0.6, written, seen))
         context = server.context()

@@ -74,7 +74,8 @@ class TestSockets(unittest.TestCase):
         self.listener = socket.socket(socket.AF_UNIX, socket.SOCK_STREAM)
         self.listener.bind(self.path)
         self.listener.listen()
-        # The programs in the order in which they were started: a client may be answered before its own stands here.
+        # The programs in the order in which they were started: a client may be answered before its
+        # own stands here.
         self.programs = queue.Queue()
         thread = threading.Thread(target=self.serve)
         thread.start()

@@ -1,1 +1,1 @@
-mod SeenLaws
+pub mod SeenLaws

@@ -1,8 +1,8 @@
 -- What is seen along rows.
-use Rattle.std.proofs.Common.{◌≡◌, ℕ, ℤ, pos, ◌+◌, ◌-◌, ◌<◌, ◌≤◌, ◌-ℤ◌, ◌<ℤ◌, ◌≤ℤ◌, ◌&&◌, Bool, true, false, cond, List, ◌++◌, length, map, replicate, min, max, get_or, refl, ap, ◌∙◌, sym, arith, zero-add}
-use Rattle.std.specs.Prelude.{Some, None, int_lt, int_le, unsigned_abs}
+use Rattle.std.proofs.Common.{◌≡◌, ℕ, ℤ, pos, ◌+◌, ◌-◌, ◌<◌, ◌≤◌, ◌-ℤ◌, ◌<ℤ◌, ◌≤ℤ◌, ◌&&◌, Bool, true, false, cond, List, ◌++◌, length, map, replicate, min, max, take, get_or, refl, ap, ◌∙◌, sym, arith, zero-add}
+use Rattle.std.specs.Prelude.{Option, Some, None, int_lt, int_le, unsigned_abs}
 use Rattle.std.proofs.lemmas.Int.{ints, by_lt_z}
-use Rattle.std.proofs.lemmas.List.{map-append}
+use Rattle.std.proofs.lemmas.List.{map-append, take-map, take-replicate}
 use Rattle.std.proofs.Math.ListN.{get_or-map}
 use Rattle.vx_base.specs.declared.border.Border.{Border}
 use Rattle.vx_base.specs.declared.border.Border.TheVariants.{Undefined, Constant, Replicate}
@@ -42,7 +42,7 @@ nearest_above low high v some h = grind (arith, ints)
 -- ---- runs
 
 -- a run that is constant before its middle and after it
-run_in_three : (g : ℕ → ℤ) (start b m r : ℕ) (left right : ℤ) (middle : List ℤ)
+pub run_in_three : (g : ℕ → ℤ) (start b m r : ℕ) (left right : ℤ) (middle : List ℤ)
     → ((c : ℕ) → c < start + b → start ≤ c → g c ≡ left) → run (start + b) m g ≡ middle → ((c : ℕ) → start + b + m ≤ c → c < start + b + m + r → g c ≡ right)
     → run start (b + (m + r)) g ≡ replicate b left ++ (middle ++ replicate r right)
 run_in_three g start b m r left right middle before between after =
@@ -185,3 +185,49 @@ seen_in_three image border line start radius n b m first left right samples some
 pub item_of_row : (row : List ℕ) (g : ℕ → ℤ) (w i : ℕ) → map pos row ≡ run 0 w g → length row ≡ w → i < w → pos (get_or row i 0) ≡ g i
 item_of_row row g w i same long below =
     sym (get_or-map pos row i 0) ∙ ap (λ l. get_or l i (pos 0)) same ∙ get_or-run g 0 w i (pos 0) below ∙ ap g (zero-add i)
+
+-- ---- rows that are read in place
+
+-- at valid columns of a row in which a valid row is seen
+pub seen_there : (image : ImageValue) (border : Border) (x line count : ℕ) (y : ℤ) → row_seen image.valid border y ≡ Some line → image.valid.x0 ≤ x → x + count ≤ image.valid.x1
+    → run x count (λ k. at image k line) ≡ run x count (λ c. look image border (pos c) y)
+seen_there image border x line count y seen left right =
+    run-same (λ k. at image k line) (λ c. look image border (pos c) y) x count
+    (λ k a b. sym (look_inside image border (pos k) y line seen (omega (arith, ints)) (omega (arith, ints))))
+
+-- in a row in which none is seen
+pub seen_nowhere : (image : ImageValue) (border : Border) (x count : ℕ) (y : ℤ) (all : List ℕ) → row_seen image.valid border y ≡ None → map pos all ≡ replicate (length all) (value_beside border (pos 0)) → count ≤ length all
+    → map pos (take count all) ≡ run x count (λ c. look image border (pos c) y)
+seen_nowhere image border x count y all off same room =
+    sym (take-map pos count all)
+    ∙ ap (take count) same
+    ∙ take-replicate count (length all) (value_beside border (pos 0)) room
+    ∙ sym (run-constant (value_beside border (pos 0)) x count)
+    ∙ run-same (λ _. value_beside border (pos 0)) (λ c. look image border (pos c) y) x count (λ k a b. sym (look_off image border (pos k) y off))
+
+-- ---- beside the valid columns the border counts for the nearest one
+
+beside_again : (border : Border) (z : ℤ) → value_beside border (value_beside border z) ≡ value_beside border z
+beside_again Undefined z = refl
+beside_again (Constant value) z = refl
+beside_again Replicate z = refl
+
+-- column x beside them, of which column e is the nearest
+look_from_edge : (image : ImageValue) (border : Border) (x y : ℤ) (e : ℕ) (seen : Option ℕ) → row_seen image.valid border y ≡ seen → image.valid.x0 < image.valid.x1
+    → ((line : ℕ) → seen_along image border line x ≡ value_beside border (at image e line)) → image.valid.x0 ≤ e → e < image.valid.x1 → look image border x y ≡ value_beside border (look image border (pos e) y)
+look_from_edge image border x y e (Some line) is some along left right =
+    look_along image border x y line some is
+    ∙ along line
+    ∙ ap (value_beside border) (sym (look_inside image border (pos e) y line is (omega (arith, ints)) (omega (arith, ints))))
+look_from_edge image border x y e None is some along left right =
+    look_off image border x y is
+    ∙ sym (beside_again border (pos 0))
+    ∙ ap (value_beside border) (sym (look_off image border (pos e) y is))
+
+pub look_left : (image : ImageValue) (border : Border) (x y : ℤ) → image.valid.x0 < image.valid.x1 → x <ℤ pos image.valid.x0 → look image border x y ≡ value_beside border (look image border (pos image.valid.x0) y)
+look_left image border x y some h =
+    look_from_edge image border x y image.valid.x0 (row_seen image.valid border y) refl some (λ line. seen_left image border x line h) (omega arith) some
+
+pub look_right : (image : ImageValue) (border : Border) (x y : ℤ) → image.valid.x0 < image.valid.x1 → pos image.valid.x1 ≤ℤ x → look image border x y ≡ value_beside border (look image border (pos (image.valid.x1 - 1)) y)
+look_right image border x y some h =
+    look_from_edge image border x y (image.valid.x1 - 1) (row_seen image.valid border y) refl some (λ line. seen_right image border x line (omega (arith, ints)) h) (omega arith) (omega arith)

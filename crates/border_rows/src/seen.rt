@@ -9,7 +9,7 @@ use image_core::Image;
 use vx_base::{Border, Rect};
 
 /// The sample that counts beside the valid places, where the nearest of them has this one.
-fn value_beside(border: Border, edge: u8) -> u8
+pub fn value_beside(border: Border, edge: u8) -> u8
     ensures { pos result ≡ value_beside border (pos edge) }
 {
     match border {
@@ -81,5 +81,29 @@ pub fn load_row(image: &Image<'_>, start: u16, radius: u16, y: i32, border: Bord
     match row_seen(image.valid(), border, y) {
         Some(line) => load_line(image, start, radius, line, border, out),
         None => out.fill(value_beside(border, 0)),
+    }
+}
+
+/// What a window sees in row y of a U8 image at valid columns, so many from column x on: the
+/// image's own samples, where they stand, or the row that is given for those beside all valid rows.
+pub fn row_in_place<'a>(
+    image: &'a Image<'_>,
+    x: u16,
+    y: i32,
+    count: usize,
+    border: Border,
+    off_rows: &'a [u8],
+) -> &'a [u8]
+    requires format { image.now.format ≡ U8 }
+    requires rows { image.now.valid.y0 < image.now.valid.y1 }
+    requires columns { (image.now.valid.x0 ≤ x) × (x + count ≤ image.now.valid.x1) }
+    requires off_rows { map pos off_rows.now ≡ replicate (length off_rows.now) (value_beside border (pos 0)) }
+    requires room { count ≤ length off_rows.now }
+    ensures value { map pos result.now ≡ run x count (λ c. look image.now border (pos c) y) }
+    ensures len { length result.now ≡ count }
+{
+    match row_seen(image.valid(), border, y) {
+        Some(line) => image.part_of_row::<u8>(x, line, count),
+        None => &off_rows[..count],
     }
 }

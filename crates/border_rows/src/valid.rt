@@ -23,6 +23,7 @@ fn shrunk(valid: Rect, rx: u16, ry: u16) -> Rect
 pub fn window_valid(border: Border, rx: u16, ry: u16, valid: Rect) -> Rect
     ensures value { result ≡ window_valid border rx ry valid }
     ensures columns { (result.x1 ≤ valid.x1) × (result.x0 < result.x1 → valid.x0 < valid.x1) }
+    ensures inside { result.x0 < result.x1 → valid.x0 ≤ result.x0 }
     ensures rows { (result.y1 ≤ valid.y1) × (result.y0 < result.y1 → valid.y0 < valid.y1) }
 {
     match border {

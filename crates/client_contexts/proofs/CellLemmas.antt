@@ -11,10 +11,9 @@ use Rattle.vx_base.specs.Cell.{Cell}
 use Rattle.vx_base.specs.Function.{parameters}
 use Rattle.vx_base.specs.Graph.{nodes_of}
 use Rattle.vx_base.specs.Node.{given, inputs, outputs, operands}
-use Rattle.vx_base.specs.Object.{ObjectValue, GraphObject, VirtualObject, object_kind}
+use Rattle.vx_base.specs.Object.{ObjectValue, VirtualObject, object_kind}
 use Rattle.object_table.specs.declared.names.Entry.{Entry}
 use Rattle.object_table.specs.Named.{Named, named, held}
-use Rattle.object_table.specs.Object.{graph_value}
 use Rattle.object_table.specs.Table as table
 use Rattle.graph_verify.specs.declared.operand.Operand.{Operand}
 use Rattle.graph_verify.specs.declared.operand.Operand.TheVariants.{Image, Delay, Virtual}
@@ -23,15 +22,19 @@ use Rattle.graph_verify.specs.Members.{In}
 use Rattle.graph_verify.specs.Operand.{operand_of, is_image}
 use Rattle.graph_verify.proofs.LinkLemmas.{In-from_same}
 use Rattle.graph_verify.proofs.MemberLemmas.{In-append}
-use Rattle.graph_run.specs.Operands.{names_cell, StandsFor, CellsStand}
+use Rattle.graph_run.specs.Operands.{names_cell, StandsFor, CellsStand, operand_held}
 use Rattle.graph_run.proofs.LinkLaws.{In-from_All}
-use Rattle.client_model.specs.Graphs.{operand_held}
 use Rattle.client_model.specs.Operands.{is_kind, stands_for}
 use Rattle.client_contexts.specs.Places.{AreInContext}
-use Rattle.client_model.specs.States.{kind_held, stands, nodes_in, NodesStand}
+use Rattle.client_model.specs.States.{kind_held, stands, NodesStand}
+use Rattle.graph_run.specs.Lasting.{nodes_in}
 use Rattle.client_model.proofs.HoldLaws.{OperandsStand, stands_parts, is_taken, kinds_taken}
-use Rattle.client_model.proofs.NamedLaws.{All-from_map, held_kind}
-use Rattle.client_model.proofs.NodeStepLaws.{OfOperands, of_operands, kind_as_operand, stands_for_equal}
+use Rattle.object_table.proofs.HeldLemmas.{All-from_map}
+use Rattle.client_model.proofs.NamedLaws.{held_kind}
+use Rattle.graph_run.proofs.FoundLemmas.{OfOperands, of_operands}
+use Rattle.graph_run.proofs.OperandLaws.{kind-operand}
+use Rattle.client_model.proofs.NodeStepLaws.{stands_for_equal}
+use Rattle.object_table.proofs.SlotLemmas.{graph_of_kind}
 
 -- ---- the operand of a cell that a node names
 
@@ -68,7 +71,7 @@ operand_stands (VirtualObject image) wanted taken h = as_image wanted taken h
     as_image kind.Image t s = refl
     as_image kind.VirtualImage t s = cc
     as_image other t s = cc
-operand_stands other wanted taken h = kind_as_operand other ∙ sym (stands_for_equal (object_kind other) wanted h (λ e. absurd (cc)))
+operand_stands other wanted taken h = kind-operand other ∙ sym (stands_for_equal (object_kind other) wanted h (λ e. absurd (cc)))
 
 module _ (objects : List Named) (cell : Cell) where
   holds : (found : Option ObjectValue) → is_none found ≡ false → option_map operand_of found ≡ Some (unwrap_or (option_map operand_of found) Delay)
@@ -126,12 +129,8 @@ module _ (entries : List (Entry ObjectValue)) (index : ℕ) (h : AreInContext en
 
   pub graph_stands : All (OperandsStand (map named entries) e.name) (nodes_of (table.graph_at entries index))
   graph_stands =
-      subst (λ object. All (OperandsStand (map named entries) e.name) (nodes_in object)) (graph_object e.object there.kind)
+      subst (λ object. All (OperandsStand (map named entries) e.name) (nodes_in object)) (graph_of_kind e.object there.kind)
       (All-from_map (NodesStand (map named entries)) named entries h.nodes index table.no_object there.within)
-    where
-      graph_object : (object : ObjectValue) → object_kind object ≡ kind.Graph → object ≡ GraphObject (graph_value object)
-      graph_object (GraphObject g) is = refl
-      graph_object object is = cc
 
   pub graph_cells_stand : CellsStand (operand_held (map named entries)) (nodes_of (table.graph_at entries index)) (map named entries)
   graph_cells_stand = cells_stand (map named entries) e.name (nodes_of (table.graph_at entries index)) graph_stands

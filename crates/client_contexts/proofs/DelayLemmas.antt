@@ -16,7 +16,8 @@ use Rattle.client_model.specs.Allowance.{Allowance}
 use Rattle.client_model.specs.Context.{Context, has_room, with_new}
 use Rattle.client_model.specs.Refusal.{Outcome}
 use Rattle.client_model.specs.Delays.{create_like, create_delay}
-use Rattle.client_contexts.specs.Places.{image_at, ImageAt}
+use Rattle.graph_run.specs.Places.{image_at}
+use Rattle.client_contexts.specs.Places.{ImageAt}
 use Rattle.client_model.proofs.DelayStepLaws.{aged_is}
 
 -- ---- a delay that is created

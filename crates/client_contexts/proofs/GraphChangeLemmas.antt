@@ -21,13 +21,14 @@ use Rattle.client_model.specs.declared.refusal.Refusal.TheVariants.{InvalidRefer
 use Rattle.client_model.specs.Context.{Context, with_objects}
 use Rattle.client_model.specs.Graphs.{with_graph}
 use Rattle.client_model.specs.Holds.{still_held}
-use Rattle.client_contexts.specs.Places.{context_of, entry_at, graph_at, HasGraphAt, AreInContext}
+use Rattle.client_contexts.specs.Places.{context_of, graph_at, HasGraphAt, AreInContext}
+use Rattle.graph_run.specs.Places.{entry_at}
 use Rattle.client_model.specs.States.{stands}
-use Rattle.client_contexts.proofs.ContextLemmas.{entry_there, within_there}
+use Rattle.graph_run.proofs.ByNameLemmas.{entry_there, within_there}
 use Rattle.client_contexts.proofs.GraphLemmas.{graph_is, nodes_found, with_graph-stands, uses_begin, AreInContext-begun, with_graph-named, named-begun, uses_end, AreInContext-left, named-left}
 use Rattle.client_model.proofs.HoldLaws.{OperandsStand}
 use Rattle.client_contexts.proofs.HoldLemmas.{IsThere, node_there}
-use Rattle.client_model.proofs.NamedLaws.{All-from_map}
+use Rattle.object_table.proofs.HeldLemmas.{All-from_map}
 use Rattle.client_contexts.proofs.UsedLemmas.{times-without_node}
 
 -- what holds of each element holds of the one that is found

@@ -23,24 +23,24 @@ use Rattle.graph_verify.proofs.GraphLemmas.{IsGraph-with_node}
 use Rattle.object_table.specs.declared.names.Entry.{Entry}
 use Rattle.object_table.specs.Names.{is_live_as, is_held as is_entry_held, object_named as table_named, released, IsNames}
 use Rattle.object_table.specs.Named.{Named, named, object_held}
-use Rattle.object_table.specs.Object.{graph_value}
 use Rattle.object_table.specs.Uses.{used_names, times, with_uses, used_all, unused_all, HaveRoom, HaveUses, AreUses}
 use Rattle.object_table.specs.Table as table
 use Rattle.object_table.proofs.NamedLemmas.{ended, held_by, named-replaced, named-used_all, named-unused_all, named-released, increasing-named, held_by-ended, held_by-replaced, AreUses-replaced}
-use Rattle.object_table.proofs.UseLemmas.{HaveRoom-from, HaveUses-from, AreUses-used_all, AreUses-unused_all, All-used_all, All-unused_all}
+use Rattle.object_table.proofs.UseLemmas.{times-each, HaveRoom-from, HaveUses-from, AreUses-used_all, AreUses-unused_all, All-used_all, All-unused_all}
 use Rattle.client_model.specs.Graphs.{with_graph}
 use Rattle.client_model.specs.Holds.{is_used, is_held, still_held, unnamed}
-use Rattle.client_model.specs.Frame.{frame}
-use Rattle.client_contexts.specs.Lasting.{framed_entry}
+use Rattle.graph_run.specs.Frame.{frame}
+use Rattle.graph_run.specs.Lasting.{framed_entry, nodes_in}
 use Rattle.client_contexts.specs.Places.{names_used, AreInContext}
-use Rattle.client_model.specs.States.{stands, nodes_in, NodesStand}
+use Rattle.client_model.specs.States.{stands, NodesStand}
 use Rattle.client_model.proofs.GraphStepLaws.{new_graph_is}
 use Rattle.client_model.proofs.HoldLaws.{OperandsStand, nodes_stand, nodes_still, graph_unused}
 use Rattle.client_contexts.proofs.HoldLemmas.{IsThere, node_there, nodes_there, AreLive, live_or_bare, graphs_live, names-held_of, names-with_uses, same_held, AreUses-agree}
 use Rattle.client_contexts.proofs.LastingLemmas.{same_stands}
-use Rattle.client_model.proofs.NamedLaws.{names_of, All-from_map, held_by_name}
+use Rattle.object_table.proofs.HeldLemmas.{names_of, All-from_map, held_by_name}
 use Rattle.client_contexts.proofs.ReleaseLemmas.{MayEnd, same_object, unlive, named-unlive, names-unlive, same_ended, used-unnamed, live_left, live_alike}
-use Rattle.client_contexts.proofs.UsedLemmas.{names_in, four_names, All-times, times-set, times-with_node, is_used_there, uses_limit}
+use Rattle.client_contexts.proofs.UsedLemmas.{names_in, four_names, times-set, times-with_node, is_used_there, uses_limit}
+use Rattle.object_table.proofs.SlotLemmas.{graph_of_kind}
 
 -- ---- a graph that is another
 
@@ -58,11 +58,7 @@ module _ (next : ℕ) (entries : List (Entry ObjectValue)) (names : IsNames next
   other = record old { object = GraphObject new }
 
   pub is_graph : old.object ≡ GraphObject graph
-  is_graph = of_kind old.object there.kind
-    where
-      of_kind : (object : ObjectValue) → object_kind object ≡ kind.Graph → object ≡ GraphObject (graph_value object)
-      of_kind (GraphObject g) is = refl
-      of_kind object is = cc
+  is_graph = graph_of_kind old.object there.kind
 
   pub graph_is : IsGraph graph
   graph_is = subst IsObject is_graph (h.objects index table.no_object there.within)
@@ -131,7 +127,7 @@ module _ (next : ℕ) (entries : List (Entry ObjectValue)) (names : IsNames next
     pub uses_begin : HaveRoom (used_names n) changed_graph
     uses_begin =
         HaveRoom-from (λ name. times name (names_used entries)) (used_names n) changed_graph with_graph-uses
-        (λ name more. All-times (IsThere changed_graph) (used_names n) name (node_there changed_graph old.name n stands_there) more)
+        (λ name more. times-each (IsThere changed_graph) (used_names n) (node_there changed_graph old.name n stands_there) name more)
         (λ name. omega (arith, uses_limit entries name names.named.count h.objects, count_by-le-length (λ other. name == other) (used_names n), four_names n))
 
     pub AreInContext-begun : AreInContext begun
@@ -175,7 +171,7 @@ module _ (next : ℕ) (entries : List (Entry ObjectValue)) (names : IsNames next
     pub uses_end : HaveUses gone changed_graph
     uses_end =
         HaveUses-from (λ name. times name (names_used entries)) gone changed_graph with_graph-uses
-        (λ name more. All-times (IsThere changed_graph) gone name gone_there more) (λ name. omega (arith, times_less name))
+        (λ name more. times-each (IsThere changed_graph) gone gone_there name more) (λ name. omega (arith, times_less name))
 
     counted_graphs : All (λ e. object_kind e.object ≡ kind.Graph → e.live ≡ true) counted
     counted_graphs = All-map (λ (e : Entry ObjectValue). object_kind e.object ≡ kind.Graph → e.live ≡ true) (λ e. with_uses (e.uses - times e.name gone) e) changed_graph with_graph-graphs

@@ -23,9 +23,10 @@ use Rattle.object_table.proofs.NamedLemmas.{held_by, named-any, named-with_new}
 use Rattle.object_table.proofs.UseLemmas.{AreUses-with_entry}
 use Rattle.client_model.specs.Holds.{is_held, still_held}
 use Rattle.client_contexts.specs.Places.{names_used, AreInContext}
-use Rattle.client_model.specs.States.{stands, nodes_in, NodesStand}
+use Rattle.client_model.specs.States.{stands, NodesStand}
+use Rattle.graph_run.specs.Lasting.{nodes_in}
 use Rattle.client_model.proofs.HoldLaws.{OperandsStand, stands_parts, stands_more, nodes_stand}
-use Rattle.client_model.proofs.NamedLaws.{All-from_map}
+use Rattle.object_table.proofs.HeldLemmas.{All-from_map}
 use Rattle.client_contexts.proofs.UsedLemmas.{names_in, All-flat_map, All-used_names, times_none, is_used_there}
 
 -- ---- names that nodes use are held

@@ -21,7 +21,7 @@ use Rattle.graph_verify.specs.Verdict.{verdict_on}
 use Rattle.graph_run.specs.Graph.{is_virtual as is_virtual_object}
 use Rattle.object_table.specs.declared.place.Place.{Place}
 use Rattle.object_table.specs.Named.{held, with_written}
-use Rattle.client_contexts.specs.declared.places.Places.{Places}
+use Rattle.graph_run.specs.declared.places.Places.{Places}
 use Rattle.client_model.specs.declared.refusal.Refusal.{Refusal}
 use Rattle.client_model.specs.declared.refusal.Refusal.TheVariants.{OptimizedAway, Rejected}
 use Rattle.client_model.specs.declared.reply.Reply.TheVariants.{Empty}
@@ -29,8 +29,10 @@ use Rattle.client_model.specs.Context.{Context, with_objects}
 use Rattle.client_model.specs.Refusal.{unless}
 use Rattle.client_model.specs.Operands.{stands_for, operands_refusal}
 use Rattle.client_model.specs.Immediate.{operand_if, operands_in, is_some_virtual, away_refusal, node_refusal, immediate}
-use Rattle.client_contexts.specs.Places.{object_at, object_if_at, StandsAt, StandsIf, FoundAt, FoundIf}
-use Rattle.client_contexts.specs.Steps.{AreFound, StandAt, operands_at, all_operands}
+use Rattle.graph_run.specs.Places.{object_at, object_if_at, StandsAt, StandsIf}
+use Rattle.client_contexts.specs.Places.{FoundAt, FoundIf}
+use Rattle.client_contexts.specs.Steps.{AreFound, all_operands}
+use Rattle.graph_run.specs.Steps.{StandAt, operands_at}
 
 -- an operand is a virtual image where the object is
 same_virtual : (object : ObjectValue) → is_virtual_object object ≡ is_virtual (operand_of object)

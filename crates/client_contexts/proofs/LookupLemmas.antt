@@ -27,7 +27,8 @@ use Rattle.client_model.specs.declared.refusal.Refusal.{Refusal}
 use Rattle.client_model.specs.declared.refusal.Refusal.TheVariants.{InvalidReference, InvalidType, InvalidScope, InvalidValue, OptimizedAway}
 use Rattle.client_model.specs.Context.{object_named}
 use Rattle.client_model.specs.Operands.{is_unknown, is_empty, is_beyond, kind_of, is_kind, stands_for, is_of_other_kind, operands_refusal, as_image, image_of}
-use Rattle.client_contexts.specs.Places.{no_object, entry_at, object_at, FoundAt, NamedAt, ImageAt}
+use Rattle.graph_run.specs.Places.{no_object, entry_at, object_at}
+use Rattle.client_contexts.specs.Places.{FoundAt, NamedAt, ImageAt}
 use Rattle.client_contexts.specs.Steps.{name_refusal, is_outside, slot_refusal, first_class}
 
 or_false : (b : Bool) → (b || false) ≡ b

@@ -19,10 +19,11 @@ use Rattle.object_table.proofs.UseLemmas.{AreUses-released, All-released}
 use Rattle.client_model.specs.Holds.{uses, is_used, still_held, unnamed}
 use Rattle.client_model.specs.Graphs.{cell_of}
 use Rattle.client_contexts.specs.Places.{names_used, AreInContext}
-use Rattle.client_model.specs.States.{nodes_in, NodesStand}
+use Rattle.graph_run.specs.Lasting.{nodes_in}
+use Rattle.client_model.specs.States.{NodesStand}
 use Rattle.client_model.proofs.HoldLaws.{nodes_stand, stands_still, nodes_still}
 use Rattle.client_contexts.proofs.HoldLemmas.{AreLive, live_or_bare, names-held_of, same_held, AreUses-agree}
-use Rattle.client_model.proofs.NamedLaws.{names_of, All-from_map, held_by_name}
+use Rattle.object_table.proofs.HeldLemmas.{names_of, All-from_map, held_by_name}
 use Rattle.client_contexts.proofs.UsedLemmas.{names_in}
 
 -- ---- a name that isn't live

@@ -11,7 +11,7 @@ use Rattle.vx_base.specs.Node.{operands, second_kind, with_kind}
 use Rattle.vx_base.specs.Object.{object_kind}
 use Rattle.object_table.specs.declared.place.Place.{Place}
 use Rattle.object_table.specs.Named.{Named}
-use Rattle.client_contexts.specs.declared.places.Places.{Places}
+use Rattle.graph_run.specs.declared.places.Places.{Places}
 use Rattle.client_model.specs.declared.refusal.Refusal.{Refusal}
 use Rattle.client_model.specs.Graphs.{cell_of}
 use Rattle.client_model.specs.Operands.{is_kind, operands_refusal}
@@ -21,7 +21,8 @@ use Rattle.client_contexts.specs.Steps.{refusal_in, first_class, AreFound}
 use Rattle.client_model.proofs.HoldLaws.{OperandsStand, stands_from}
 use Rattle.client_contexts.proofs.LookupLemmas.{refusal-append}
 use Rattle.client_model.proofs.NamedLaws.{held_kind}
-use Rattle.client_model.proofs.NodeStepLaws.{Passes, operands_pass, OfOperands, of_operands}
+use Rattle.client_model.proofs.NodeStepLaws.{Passes, operands_pass}
+use Rattle.graph_run.proofs.FoundLemmas.{OfOperands, of_operands}
 
 -- what holds of each operand of a node holds of all
 to_operands : (P : Cell × Kind → Type 0) (n : Node) → OfOperands P n → All P (operands n)

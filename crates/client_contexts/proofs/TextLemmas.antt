@@ -12,7 +12,8 @@ use Rattle.client_model.specs.declared.refusal.Refusal.{Refusal}
 use Rattle.client_model.specs.Context.{Context}
 use Rattle.client_model.specs.Operands.{image_of}
 use Rattle.client_model.specs.Images.{write_to, write_image, write_text_to, write_text}
-use Rattle.client_contexts.specs.Places.{image_at, ImageAt}
+use Rattle.graph_run.specs.Places.{image_at}
+use Rattle.client_contexts.specs.Places.{ImageAt}
 use Rattle.client_contexts.specs.Steps.{SaysWhy, text_fault}
 
 written_to : (image : Result ImageValue Refusal) (c : Context) (cell : Cell) (p : PictureValue) → write_text_to image c cell (Ok p) ≡ write_to image c cell p

@@ -8,7 +8,7 @@ use Rattle.std.proofs.lemmas.List.{map-append, length-map}
 use Rattle.std.proofs.lemmas.List.Concat.{length-flat_map}
 use Rattle.std.proofs.lemmas.List.Elements.{All-nil, All-head, All-tail, All-append, All-map, All-weaker}
 use Rattle.std.proofs.lemmas.List.Folds.{flat_map-map, list_any-append}
-use Rattle.std.proofs.lemmas.List.Sums.{sum_by-append, sum_by-cons, sum_by-set, sum_by-le, count_by-le-length}
+use Rattle.std.proofs.lemmas.List.Sums.{sum_by-cons, sum_by-set, sum_by-le, count_by-le-length}
 use Rattle.vx_base.specs.declared.kind.Kind.{Kind}
 use Rattle.vx_base.specs.declared.kind.Kind.TheVariants as kind
 use Rattle.vx_base.specs.declared.node.Node.{Node}
@@ -23,24 +23,13 @@ use Rattle.object_table.specs.Named.{Named, named}
 use Rattle.object_table.specs.Uses.{used_names, times}
 use Rattle.client_model.specs.Holds.{names_it, uses, is_used}
 use Rattle.client_contexts.specs.Places.{names_used}
-use Rattle.client_model.specs.States.{nodes_in}
+use Rattle.graph_run.specs.Lasting.{nodes_in}
+use Rattle.object_table.proofs.UseLemmas.{times-append}
 
 -- ---- how often a name stands in a list
 
-times-append : (name : ℕ) (names others : List ℕ) → times name (names ++ others) ≡ times name names + times name others
-times-append name names others = sum_by-append (λ other. cond (name == other) 1 0) names others
-
 times-cons : (name other : ℕ) (names : List ℕ) → times name (other ∷ names) ≡ cond (name == other) 1 0 + times name names
 times-cons name other names = sum_by-cons (λ other. cond (name == other) 1 0) other names
-
--- a name that stands there is one of which is true what is of all
-pub All-times : (P : ℕ → Type 0) (names : List ℕ) (name : ℕ) → All P names → 0 < times name names → P name
-All-times P [] name h some = absurd (omega (arith, some))
-All-times P (other ∷ names) name h some = either (name == other) refl (All-times P names name (All-tail P other names h))
-  where
-    either : (b : Bool) → (name == other) ≡ b → (0 < times name names → P name) → P name
-    either true same later = subst P (sym (eqb-true name other same)) (All-head P other names h)
-    either false apart later = later (omega (arith, some, times-cons name other names, ap (λ b. let n : ℕ = cond b 1 0 in n) apart))
 
 -- a name that differs from all doesn't stand there
 pub times_none : (names : List ℕ) (name : ℕ) → All (λ other. name ≢ other) names → times name names ≡ 0

@@ -1,5 +1,3 @@
-pub mod Lasting
-pub mod Turns
 pub mod Applies
 pub mod Places
 pub mod Steps

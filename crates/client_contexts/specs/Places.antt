@@ -1,61 +1,26 @@
--- Where a context's objects stand, and what its table holds.
-use Rattle.std.specs.Prelude.{ℕ, true, ◌≡◌, ◌<◌, IsTrue, is_some, ⊤, List, Option, Some, None, Ok, length, map, All, slice_index_or}
+-- Where a context finds its objects, and what its table holds.
+use Rattle.std.specs.Prelude.{ℕ, true, ◌≡◌, ◌<◌, IsTrue, ⊤, List, Option, Some, None, Ok, length, map, All}
 use Rattle.std.specs.List.{flat_map}
-use Rattle.std.specs.Option.{option_map}
-use Rattle.vx_base.specs.declared.format.Format.TheVariants.{U8}
 use Rattle.vx_base.specs.declared.kind.Kind.{Kind}
 use Rattle.vx_base.specs.declared.kind.Kind.TheVariants as kind
 use Rattle.vx_base.specs.Cell.{Cell}
 use Rattle.vx_base.specs.Graph.{GraphValue}
-use Rattle.vx_base.specs.Image.{ImageValue, new_image}
-use Rattle.vx_base.specs.Object.{ObjectValue, ImageObject, IsObject, object_kind}
+use Rattle.vx_base.specs.Object.{ObjectValue, IsObject, object_kind}
 use Rattle.object_table.specs.declared.names.Entry.{Entry}
 use Rattle.object_table.specs.declared.place.Place.{Place}
-use Rattle.object_table.specs.Delay.{in_slot, object_in, HasImage}
-use Rattle.object_table.specs.Object.{image_value, graph_value}
+use Rattle.object_table.specs.Object.{graph_value}
 use Rattle.object_table.specs.Named.{Named, named, held}
 use Rattle.object_table.specs.Table.{TableValue}
 use Rattle.object_table.specs.Uses.{used_names, times, AreUses}
+use Rattle.graph_run.specs.Places.{entry_at, object_at, image_at, cell_at, IsPlace, HasImageAt}
 use Rattle.client_model.specs.Context.{Context, object_named}
 use Rattle.client_model.specs.Operands.{stands_for, image_of}
-use Rattle.client_model.specs.States.{nodes_in, NodesStand}
+use Rattle.graph_run.specs.Lasting.{nodes_in}
+use Rattle.client_model.specs.States.{NodesStand}
 
 -- the context whose objects stand in a table
 abbrev pub context_of : TableValue → Context
 context_of t = record { next = t.next; objects = map named t.objects }
-
--- what is read past the last object
-abbrev pub no_object : Named
-no_object = record { name = 0; live = true; object = ImageObject (new_image 0 0 U8) }
-
--- the object at an index, with its name
-abbrev pub entry_at : List Named → ℕ → Named
-entry_at objects index = slice_index_or objects index no_object
-
--- the object at a place
-abbrev pub object_at : List Named → Place → ObjectValue
-object_at objects place = object_in place.slot (entry_at objects place.index).object
-
--- the object at a place, if there is a place
-abbrev pub object_if_at : List Named → Option Place → Option ObjectValue
-object_if_at objects place = option_map (object_at objects) place
-
-abbrev pub image_at : List Named → Place → ImageValue
-image_at objects place = image_value (object_at objects place)
-
--- the cell that a place stands for
-abbrev pub cell_at : List Named → Place → Cell
-cell_at objects place = record { name = (entry_at objects place.index).name; slot = place.slot }
-
--- a place at which an object stands
-pub record IsPlace (objects : List Named) (place : Place) : Type 0 where
-  pub within : place.index < length objects
-  pub there : IsTrue (is_some (in_slot place.slot (entry_at objects place.index).object))
-
--- a place at which an image stands
-pub record HasImageAt (objects : List Named) (place : Place) : Type 0 where
-  pub within : place.index < length objects
-  pub image : HasImage place.slot (entry_at objects place.index).object
 
 -- the graph at an index
 abbrev pub graph_at : List Named → ℕ → GraphValue
@@ -65,19 +30,6 @@ graph_at objects index = graph_value (entry_at objects index).object
 pub record HasGraphAt (objects : List Named) (index : ℕ) : Type 0 where
   pub within : index < length objects
   pub kind : object_kind (entry_at objects index).object ≡ kind.Graph
-
--- an object of the kind stands at the place, and the cell holds it
-pub record StandsAt (objects : List Named) (cell : Cell) (wanted : Kind) (place : Place) : Type 0 where
-  pub stands : IsPlace objects place
-  pub named : cell_at objects place ≡ cell
-  pub object : held objects cell ≡ Some (object_at objects place)
-  pub kind : object_kind (object_at objects place) ≡ wanted
-
--- the same of a cell that may be left out
-abbrev pub StandsIf : List Named → Option Cell → Kind → Option Place → Type 0
-StandsIf objects None wanted None = ⊤
-StandsIf objects (Some cell) wanted (Some place) = StandsAt objects cell wanted place
-StandsIf objects cell wanted place = ⊥
 
 -- the object whose live name a cell has stands at the place; where an image is wanted, it may be a virtual one
 pub record FoundAt (objects : List Named) (cell : Cell) (wanted : Kind) (place : Place) : Type 0 where

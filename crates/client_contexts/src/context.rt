@@ -12,18 +12,15 @@ ghost use Rattle.client_model.specs.declared.refusal.Refusal.TheVariants.{Invali
 ghost use Rattle.object_table.specs.Named.{held, with_object, with_written};
 ghost use Rattle.client_model.specs.Context.{new_context, has_room, object_named, with_objects, with_new};
 ghost use Rattle.client_model.specs.Holds.{still_held, unnamed};
-ghost use Rattle.client_contexts.specs.Places.{entry_at, image_at, cell_at, HasImageAt};
-ghost use Rattle.client_model.specs.States.{nodes_in};
-ghost use Rattle.client_contexts.specs.Steps.{Runs};
+ghost use Rattle.graph_run.specs.Places.{entry_at, image_at, cell_at, HasImageAt};
+ghost use Rattle.graph_run.specs.Lasting.{nodes_in};
+ghost use Rattle.graph_run.specs.Steps.{Runs};
 
 mod graphs;
-mod running;
-mod verifying;
 
 use crate::memory::NoMemory;
-use crate::places::Places;
-use crate::run::run_on;
 use client_model::{Limits, Refusal};
+use graph_run::{Places, run_once};
 use object_table::{Object, Place, Stored, Table};
 use std::alloc::Global;
 use std::marker::Model;
@@ -171,6 +168,6 @@ impl Context {
         requires { Runs self.old.objects node.now places }
         ensures { self.new ≡ with_objects self.old (with_written self.old.objects (written_by node.now (held self.old.objects))) }
     {
-        run_on(&mut self.table, node, places);
+        run_once(&mut self.table, node, places);
     }
 }

@@ -8,10 +8,9 @@
 //! after its name has ended, and a run of a graph takes all its memory before it changes anything.
 //!
 //! - `memory`, `fault`: why a request isn't done: it is refused, or finds no memory
-//! - `context`: the objects of a client, with the names and the charge; `context::graphs`,
-//!   `context::verifying`, `context::running`: its graphs, the verdicts on them, and their runs
-//! - `operand`, `places`, `lookup`, `run`: objects as operands, where those of a node stand, how
-//!   they are found, and how the node runs on them
+//! - `context`: the objects of a client, with the names and the charge; `context::graphs`: its
+//!   graphs, the verdicts on them, and their runs
+//! - `lookup`: where the objects stand that references and the operands of nodes name
 //! - the requests by family: `images` (to create, query, write and read them, and to make a part
 //!   valid), `objects` (to release any), `tables` (to create lookup tables, thresholds and
 //!   convolutions), `statistics` (to create and read distributions and extremes), `graphs` (to
@@ -29,9 +28,6 @@ mod immediate;
 mod lookup;
 mod memory;
 mod objects;
-mod operand;
-mod places;
-mod run;
 mod runtime;
 mod statistics;
 mod tables;

@@ -2,4 +2,4 @@ pub mod RefusalLaws
 mod StatisticStepLaws
 mod RoundLaws
 mod RunStepLaws
-mod StepLaws
+pub mod StepLaws

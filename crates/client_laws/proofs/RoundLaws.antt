@@ -15,7 +15,8 @@ use Rattle.graph_verify.specs.Operand.{operand_of}
 use Rattle.graph_run.specs.Graph.{rounds}
 use Rattle.client_model.specs.Immediate.{operand_in}
 use Rattle.client_model.proofs.WriteLaws.{bare, operand_of-bare}
-use Rattle.client_model.proofs.NamedLaws.{names_of, bares, held-bares}
+use Rattle.object_table.proofs.HeldLemmas.{names_of}
+use Rattle.client_model.proofs.NamedLaws.{bares, held-bares}
 use Rattle.client_model.proofs.StateLaws.{IsReplacement, names_alike, with_written_alike}
 use Rattle.client_model.proofs.NodeStepLaws.{CanRunOn, written_by_fits}
 

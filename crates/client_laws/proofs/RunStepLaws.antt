@@ -32,19 +32,24 @@ use Rattle.client_model.specs.declared.refusal.Refusal.TheVariants.{Rejected}
 use Rattle.client_model.specs.declared.reply.Reply.TheVariants.{Empty}
 use Rattle.client_model.specs.Allowance.{Allowance}
 use Rattle.client_model.specs.Context.{Context, object_named, with_objects}
-use Rattle.client_model.specs.Graphs.{as_graph, operand_held, graph_verdict, process_found, process_graph}
+use Rattle.client_model.specs.Graphs.{as_graph, graph_verdict, process_found, process_graph}
+use Rattle.graph_run.specs.Operands.{operand_held}
 use Rattle.client_model.specs.Immediate.{operand_in}
 use Rattle.client_model.specs.Operands.{is_kind, stands_for}
-use Rattle.client_model.specs.States.{KeepsLimits, kind_held, stands, nodes_in}
-use Rattle.client_model.proofs.NamedLaws.{names_of, bare_named, bares, held_by_name, held_is, held_kind, object_held-map}
+use Rattle.client_model.specs.States.{KeepsLimits, kind_held, stands}
+use Rattle.graph_run.specs.Lasting.{nodes_in}
+use Rattle.object_table.proofs.HeldLemmas.{names_of, held_by_name, held_is, object_held-map}
+use Rattle.client_model.proofs.NamedLaws.{bare_named, bares, held_kind}
 use Rattle.client_model.proofs.HoldLaws.{each_fails, is_taken, kinds_taken, OperandsStand, stands_parts}
 use Rattle.client_model.proofs.StateLaws.{alike_keeps}
-use Rattle.client_model.proofs.VerdictLaws.{Suits, no_fault_suits}
-use Rattle.client_model.proofs.NodeStepLaws.{CanGive, CanGiveTo, CanRunOn, neither, of_operands, second_there, not_rejected}
+use Rattle.graph_verify.proofs.SuitLemmas.{Suits, no_fault_suits}
+use Rattle.client_model.proofs.NodeStepLaws.{CanGive, CanGiveTo, CanRunOn, neither, second_there, not_rejected}
+use Rattle.graph_run.proofs.FoundLemmas.{of_operands}
 use Rattle.client_model.proofs.OutcomeLaws.{Keeps, unless_keeps}
 use Rattle.client_model.proofs.GraphStepLaws.{graph_is, graph_stands}
 use Rattle.client_laws.proofs.RoundLaws.{rounds_keep}
-use Rattle.client_model.proofs.BegunLaws.{IsSmall, object_small, rounds_small, begun_if, begun_is_object, slot_as_begun, image_as_begun, begun_stays, virtual_as_operand, Taken, taken_as_begun, kind_as_begun, SecondTaken, give_as_taken}
+use Rattle.client_model.proofs.BegunLaws.{IsSmall, object_small, rounds_small, begun_is_object, slot_as_begun, image_as_begun, Taken, taken_as_begun, kind_as_begun, SecondTaken, give_as_taken}
+use Rattle.graph_run.proofs.BegunLaws.{begun_if, begun_stays, virtual_as_operand}
 
 -- ---- the cells of a node
 

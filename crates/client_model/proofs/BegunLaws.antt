@@ -1,5 +1,5 @@
 -- What an object is as a run begins, and what the verdict took it for.
-use Rattle.std.proofs.Common.{◌≡◌, ◌⊎◌, inl, inr, ℕ, zero, suc, ◌≤◌, Bool, true, false, List, [], ◌∷◌, Option, Some, None, IfSome, if◌then◌else◌, refl, sym, ap, subst}
+use Rattle.std.proofs.Common.{◌≡◌, ◌⊎◌, inl, inr, ℕ, zero, suc, ◌≤◌, Bool, true, false, List, [], ◌∷◌, Option, Some, None, IfSome, refl, sym, ap, subst}
 use Rattle.std.specs.Prelude.{is_some, unwrap_or, slice_get}
 use Rattle.std.specs.Option.{option_map, option_and_then, option_or}
 use Rattle.std.proofs.lemmas.Bool.{and_parts, cond_both}
@@ -30,8 +30,10 @@ use Rattle.graph_verify.specs.Rounds.{round as round_of, rounds as rounds_of}
 use Rattle.graph_run.specs.Graph.{begun_as, is_virtual}
 use Rattle.client_model.specs.Operands.{stands_for}
 use Rattle.client_model.proofs.HoldLaws.{is_taken}
-use Rattle.client_model.proofs.VerdictLaws.{Suits}
-use Rattle.client_model.proofs.NodeStepLaws.{CanGive, stands_for_equal, kind_as_operand}
+use Rattle.graph_verify.proofs.SuitLemmas.{Suits}
+use Rattle.graph_run.proofs.OperandLaws.{kind-operand}
+use Rattle.client_model.proofs.NodeStepLaws.{CanGive, stands_for_equal}
+use Rattle.graph_run.proofs.BegunLaws.{begun_if}
 
 -- ---- sizes of virtual images
 
@@ -83,10 +85,6 @@ closed_small o h = all_known o.width o.height o.format h.width h.height
 
 -- ---- an object as a run begins
 
--- what an object becomes that is found to be this, if a node writes it
-abbrev pub begun_if : Bool → ObjectValue → Operand → ObjectValue
-begun_if written object operand = if written then begun_as object operand else object
-
 pub begun_is_object : (object : ObjectValue) (known : Outline) (written : Bool) → IsObject object → IsSmall known → IsObject (begun_if written object (as_known (operand_of object) known))
 begun_is_object (VirtualObject image) known true is small = of_closed (closed known) (closed_small known small)
   where
@@ -113,16 +111,6 @@ image_as_begun k (DelayObject images) written operand = each written (slice_get 
     each true (Some image) = refl
     each false (Some image) = refl
 image_as_begun k other written operand = refl
-
--- what stays as it was if it is no virtual image
-pub begun_stays : (object : ObjectValue) (written : Bool) (operand : Operand) → is_virtual object ≡ false → begun_if written object operand ≡ object
-begun_stays (VirtualObject image) written operand h = absurd (cc)
-begun_stays other true operand h = refl
-begun_stays other false operand h = refl
-
-pub virtual_as_operand : (object : ObjectValue) → is_virtual object ≡ true → is_virtual_operand (operand_of object) ≡ true
-virtual_as_operand (VirtualObject image) h = refl
-virtual_as_operand other h = absurd (cc)
 
 -- ---- what the verdict takes an object for
 
@@ -151,8 +139,8 @@ kind_as_begun (VirtualObject image) true (Image d) wanted taken h = as_image wan
     as_image kind.VirtualImage t s = cc
     as_image other t s = cc
 kind_as_begun (VirtualObject image) true operand wanted taken h = h
-kind_as_begun other true operand wanted taken h = subst (λ k. stands_for k wanted ≡ true) (sym (kind_as_operand other)) h
-kind_as_begun other false operand wanted taken h = subst (λ k. stands_for k wanted ≡ true) (sym (kind_as_operand other)) h
+kind_as_begun other true operand wanted taken h = subst (λ k. stands_for k wanted ≡ true) (sym (kind-operand other)) h
+kind_as_begun other false operand wanted taken h = subst (λ k. stands_for k wanted ≡ true) (sym (kind-operand other)) h
 
 -- ---- nodes whose operands suit as the verdict takes them
 

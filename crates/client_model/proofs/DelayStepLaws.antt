@@ -23,7 +23,8 @@ use Rattle.client_model.specs.Operands.{image_of}
 use Rattle.client_model.specs.Delays.{create_like, create_delay, age_named, age_delay}
 use Rattle.client_model.specs.States.{KeepsLimits}
 use Rattle.client_model.proofs.WriteLaws.{bare_image, bare, equal_to_one}
-use Rattle.client_model.proofs.NamedLaws.{Fits, held_fits, live_has, object_held_has}
+use Rattle.client_model.proofs.NamedLaws.{Fits, held_fits, live_has}
+use Rattle.object_table.proofs.HeldLemmas.{object_held_has}
 use Rattle.client_model.proofs.StateLaws.{with_object_keeps}
 use Rattle.client_model.proofs.OutcomeLaws.{Keeps, create_keeps}
 use Rattle.client_model.proofs.ImageStepLaws.{image_of_is}

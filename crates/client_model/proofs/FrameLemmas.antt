@@ -12,7 +12,7 @@ use Rattle.vx_base.specs.Image.{ImageValue, new_image}
 use Rattle.vx_base.specs.Object.{ObjectValue, ImageObject, DelayObject, VirtualObject, object_kind}
 use Rattle.object_table.specs.Delay.{in_slot, slot_kind}
 use Rattle.object_table.specs.Named.{Named, object_held}
-use Rattle.client_model.specs.Frame.{frame}
+use Rattle.graph_run.specs.Frame.{frame}
 use Rattle.client_model.specs.Operands.{is_kind, is_of_other_graph}
 use Rattle.client_model.specs.States.{stands}
 

@@ -30,10 +30,12 @@ use Rattle.client_model.specs.Graphs.{as_graph, graph_named, cell_of, with_graph
 use Rattle.client_model.specs.Holds.{names_it, uses, is_used, is_held, still_held, unnamed}
 use Rattle.client_model.specs.Objects.{release}
 use Rattle.client_model.specs.Operands.{is_kind, kind_of, operands_refusal}
-use Rattle.client_model.specs.States.{stands, nodes_in, NodesStand, KeepsLimits}
-use Rattle.client_model.specs.Frame.{frame}
+use Rattle.client_model.specs.States.{stands, NodesStand, KeepsLimits}
+use Rattle.graph_run.specs.Lasting.{nodes_in}
+use Rattle.graph_run.specs.Frame.{frame}
 use Rattle.client_model.proofs.FrameLemmas.{stands-alike}
-use Rattle.client_model.proofs.NamedLaws.{names_of, All-from_map, named_has, HasObject, held_alone, object_held-map, object_held_has, live_has, kind_if_live, All-with_object, map-with_object, names-with_object}
+use Rattle.object_table.proofs.HeldLemmas.{names_of, All-from_map, named_has, HasObject, held_alone, object_held-map, object_held_has, All-with_object, map-with_object, names-with_object}
+use Rattle.client_model.proofs.NamedLaws.{live_has, kind_if_live}
 use Rattle.client_model.proofs.HoldLaws.{OperandsStand, stands_from, nodes_stand, stands_still}
 use Rattle.client_model.proofs.StateLaws.{KeepsRest, held_too, still_held_keeps}
 use Rattle.client_model.proofs.NodeStepLaws.{Passes, operands_pass}

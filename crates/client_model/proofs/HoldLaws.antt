@@ -22,10 +22,11 @@ use Rattle.object_table.specs.Delay.{in_slot, slot_kind}
 use Rattle.object_table.specs.Named.{Named, object_held, held}
 use Rattle.client_model.specs.Holds.{names_it, uses, is_used, is_held, still_held}
 use Rattle.client_model.specs.Operands.{is_kind, is_empty, is_of_other_graph}
-use Rattle.client_model.specs.States.{kind_held, stands, nodes_in, NodesStand}
-use Rattle.client_model.specs.Frame.{frame}
+use Rattle.client_model.specs.States.{kind_held, stands, NodesStand}
+use Rattle.graph_run.specs.Lasting.{nodes_in}
+use Rattle.graph_run.specs.Frame.{frame}
 use Rattle.client_model.proofs.FrameLemmas.{stands-alike}
-use Rattle.client_model.proofs.NamedLaws.{names_of, All-from_map, held_by_name}
+use Rattle.object_table.proofs.HeldLemmas.{names_of, All-from_map, held_by_name}
 
 -- ---- lists of which some elements are kept
 

@@ -30,9 +30,12 @@ use Rattle.pgm_images.proofs.PictureLaws.{read_picture}
 use Rattle.client_model.specs.Images.{described_in, query_of, query_image, picture_refusal, write_to, write_image, write_text_to, write_text, read_from, read_image, read_text_from, read_text, valid_refusal, set_valid_of, set_valid}
 use Rattle.client_model.specs.States.{KeepsLimits}
 use Rattle.client_model.proofs.WriteLaws.{bare, same_bare_image}
-use Rattle.client_model.proofs.NamedLaws.{Fits, held_fits, held_is}
+use Rattle.client_model.proofs.NamedLaws.{Fits, held_fits}
+use Rattle.object_table.proofs.HeldLemmas.{held_is}
 use Rattle.client_model.proofs.StateLaws.{with_object_keeps}
-use Rattle.client_model.proofs.OutcomeLaws.{Keeps, unless_keeps, passed, met, same_description}
+use Rattle.client_model.proofs.OutcomeLaws.{Keeps, unless_keeps}
+use Rattle.graph_run.proofs.OutputLemmas.{same_description}
+use Rattle.graph_verify.proofs.SuitLemmas.{passed, met}
 
 -- formats that pass the test are one
 same_format_equal : (a b : Format) → same_format a b ≡ true → a ≡ b

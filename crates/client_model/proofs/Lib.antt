@@ -6,8 +6,6 @@ pub mod StateLaws
 pub mod OutcomeLaws
 pub mod ImageStepLaws
 pub mod DelayStepLaws
-pub mod VerdictLaws
 pub mod NodeStepLaws
 pub mod GraphStepLaws
 pub mod BegunLaws
-pub mod CountLaws

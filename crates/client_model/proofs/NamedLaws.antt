@@ -1,14 +1,12 @@
 -- Objects under their names, when one is added, some are no longer held, or others are written.
-use Rattle.std.proofs.Common.{◌≡◌, ℕ, ◌+◌, ◌<◌, Bool, true, false, cond, List, [], ◌∷◌, length, map, get_or, zero, suc, refl, sym, ap, subst, ◌∙◌, arith, Option, Some, None, IfSome}
-use Rattle.std.specs.Prelude.{All, ◌==◌, ◌&&◌, ◌||◌, if◌then◌else◌, find, slice_get}
+use Rattle.std.proofs.Common.{◌≡◌, ℕ, ◌<◌, Bool, true, false, cond, List, [], ◌∷◌, length, map, get_or, refl, sym, ap, subst, ◌∙◌, arith, Option, Some, None, IfSome}
+use Rattle.std.specs.Prelude.{All, ◌==◌, ◌&&◌, ◌||◌, find, slice_get}
 use Rattle.std.specs.List.Sorted.{IsStrictlyIncreasing}
-use Rattle.std.specs.List.{AllPairs}
 use Rattle.std.specs.Option.{option_map, option_and_then}
 use Rattle.std.proofs.Math.ListN.{get_or-map as get_or-map_default}
-use Rattle.std.proofs.lemmas.Bool.{cond_both, eqb-true, eqb-false, eq-eqb, ne_eqb}
+use Rattle.std.proofs.lemmas.Bool.{eqb-true, ne_eqb}
 use Rattle.std.proofs.lemmas.List.{length-map, get_or-map}
-use Rattle.std.proofs.lemmas.List.Elements.{All-nil, All-cons, All-head, All-tail, All-weaker}
-use Rattle.std.proofs.lemmas.List.Kept.{AllPairs-from_increasing}
+use Rattle.std.proofs.lemmas.List.Elements.{All-head, All-tail, All-weaker}
 use Rattle.std.proofs.lemmas.List.Sums.{sum_by-cons}
 use Rattle.std.proofs.lemmas.Option.{IfSome_then, get_or_from_slice_get, slice_get_within}
 use Rattle.std.proofs.lemmas.Simd.{map-map}
@@ -17,104 +15,14 @@ use Rattle.vx_base.specs.declared.kind.Kind.{Kind}
 use Rattle.vx_base.specs.declared.kind.Kind.TheVariants as kind
 use Rattle.vx_base.specs.Image.{ImageValue, description_of}
 use Rattle.vx_base.specs.Object.{ObjectValue, ImageObject, DelayObject, IsObject, IsDelay, object_bytes, object_kind}
-use Rattle.object_table.proofs.SlotLemmas.{IsObject-in_slot}
 use Rattle.object_table.specs.Delay.{in_slot, with_slot, slot_kind}
 use Rattle.object_table.specs.Named.{Named, object_held, held, with_object}
 use Rattle.client_model.specs.Context.{object_named, charge_of}
 use Rattle.client_model.specs.Holds.{uses, is_used}
 use Rattle.client_model.specs.Operands.{is_kind, kind_of}
 use Rattle.client_model.specs.States.{kind_held}
+use Rattle.object_table.proofs.HeldLemmas.{names_of, above_first, later_increase, HasObject, held_alone, object_held_has, object_held-map, slot_has, All-with_object, map-with_object}
 use Rattle.client_model.proofs.WriteLaws.{bare_image, bare, same_bare_image, equal_to_one, object_bytes-bare, uses-bare, in_slot-bare, MaySlot, bare-with_slot}
-
--- ---- names that increase
-
-abbrev pub names_of : List Named → List ℕ
-names_of objects = map (λ o. o.name) objects
-
--- numbers that increase, each below all later ones
-increasing_from_pairs : (names : List ℕ) → AllPairs (λ x y. x < y) names → IsStrictlyIncreasing names
-increasing_from_pairs names pairs k h = pairs k (k + 1) 0 (omega arith) h
-
--- the first is below the others
-increasing_head : (name : ℕ) (names : List ℕ) → IsStrictlyIncreasing (name ∷ names) → All (λ other. name < other) names
-increasing_head name names h k d below = AllPairs-from_increasing (name ∷ names) h zero (suc k) d (omega arith) (omega arith)
-
--- the others increase
-increasing_tail : (name : ℕ) (names : List ℕ) → IsStrictlyIncreasing (name ∷ names) → IsStrictlyIncreasing names
-increasing_tail name names h = increasing_from_pairs names (λ i j d a b. AllPairs-from_increasing (name ∷ names) h (suc i) (suc j) d (omega arith) (omega arith))
-
--- what holds of the image of each element holds of each element through it
-pub All-from_map : {X Y : Type 0} (P : Y → Type 0) (f : X → Y) (xs : List X) → All P (map f xs) → All (λ x. P (f x)) xs
-All-from_map P f xs h k d below = subst P (get_or-map_default f xs k d) (h k (f d) (omega (arith, below, length-map xs f)))
-
--- ---- the object of a name
-
--- the later objects have higher names than the first
-above_first : (o : Named) (objects : List Named) → IsStrictlyIncreasing (names_of (o ∷ objects)) → All (λ p. o.name < p.name) objects
-above_first o objects h = All-from_map (λ other. o.name < other) (λ (p : Named). p.name) objects (increasing_head o.name (names_of objects) h)
-
-later_increase : (o : Named) (objects : List Named) → IsStrictlyIncreasing (names_of (o ∷ objects)) → IsStrictlyIncreasing (names_of objects)
-later_increase o objects h = increasing_tail o.name (names_of objects) h
-
--- what holds of each object under its name holds of the one of this name
-pub named_has : (P : ℕ → ObjectValue → Type 0) (objects : List Named) (name : ℕ) → All (λ o. P o.name o.object) objects → IfSome (object_held objects name) (P name)
-named_has P [] name h = tt
-named_has P (o ∷ objects) name h =
-    let Has : Option Named → Type 0 = λ found. IfSome (option_map (λ p. p.object) found) (P name) in
-    cond_both (o.name == name) (Some o) (find (λ p. p.name == name) objects) Has
-    (λ t. subst (λ k. P k o.object) (eqb-true o.name name t) (All-head (λ p. P p.name p.object) o objects h))
-    (λ t. named_has P objects name (All-tail (λ p. P p.name p.object) o objects h))
-
--- what holds of each object holds of the one of this name
-pub object_held_has : (P : ObjectValue → Type 0) (objects : List Named) (name : ℕ) → All (λ o. P o.object) objects → IfSome (object_held objects name) P
-object_held_has P objects name h = named_has (λ _. P) objects name h
-
--- each object of this name is this one
-abbrev pub HasObject : ℕ → ObjectValue → Named → Type 0
-HasObject name is o = o.name ≡ name → o.object ≡ is
-
--- where names increase, the object of a name is the only one
-pub held_alone : (objects : List Named) (name : ℕ) → IsStrictlyIncreasing (names_of objects) → IfSome (object_held objects name) (λ object. All (HasObject name object) objects)
-held_alone [] name h = tt
-held_alone (o ∷ objects) name h =
-    let IsOnly : List Named → ObjectValue → Type 0 = λ all object. All (HasObject name object) all in
-    let Is : Option Named → Type 0 = λ found. IfSome (option_map (λ p. p.object) found) (IsOnly (o ∷ objects)) in
-    let rest : IfSome (object_held objects name) (IsOnly objects) = held_alone objects name (later_increase o objects h) in
-    cond_both (o.name == name) (Some o) (find (λ p. p.name == name) objects) Is
-    (λ t. let same = eqb-true o.name name t in
-    All-cons (HasObject name o.object) o objects (λ e. refl)
-    (All-weaker (λ p. o.name < p.name) (HasObject name o.object) (λ p less e. absurd (omega arith)) objects (above_first o objects h)))
-    (λ t. IfSome_then (object_held objects name) rest
-    (λ object others. All-cons (HasObject name object) o objects (λ e. absurd (eqb-false o.name name t e)) others))
-
--- and each object is that of its name
-pub held_by_name : (objects : List Named) → IsStrictlyIncreasing (names_of objects) → All (λ o. object_held objects o.name ≡ Some o.object) objects
-held_by_name [] h = All-nil (λ o. object_held [] o.name ≡ Some o.object)
-held_by_name (o ∷ objects) h =
-    let object_of : Option Named → Option ObjectValue = option_map (λ p. p.object) in
-    let above = above_first o objects h in
-    let rest = held_by_name objects (later_increase o objects h) in
-    let Is : Named → Type 0 = λ p. object_held (o ∷ objects) p.name ≡ Some p.object in
-    All-cons Is o objects
-    (ap (λ b. object_of (cond b (Some o) (find (λ p. p.name == o.name) objects))) (eq-eqb o.name o.name refl))
-    (λ k d below.
-    let p : Named = get_or objects k d in
-    let less = above k d below in
-    ap (λ b. object_of (cond b (Some o) (find (λ q. q.name == p.name) objects))) (ne_eqb o.name p.name (λ e. omega arith)) ∙ rest k d below)
-
--- of objects that are changed under their names, the one of a name is so changed
-pub object_held-map : (f : Named → Named) (change : ObjectValue → ObjectValue) (objects : List Named) (name : ℕ) → ((o : Named) → (f o).name ≡ o.name)
-    → ((o : Named) → o.name ≡ name → (f o).object ≡ change o.object) → object_held (map f objects) name ≡ option_map change (object_held objects name)
-object_held-map f change [] name same changed = refl
-object_held-map f change (o ∷ objects) name same changed =
-    ap (λ k. option_map (λ (p : Named). p.object) (cond (k == name) (Some (f o)) (find (λ p. p.name == name) (map f objects)))) (same o)
-    ∙ either (o.name == name) refl (object_held-map f change objects name same changed)
-  where
-    either : (b : Bool) → (o.name == name) ≡ b → object_held (map f objects) name ≡ option_map change (object_held objects name)
-        → option_map (λ (p : Named). p.object) (cond b (Some (f o)) (find (λ p. p.name == name) (map f objects)))
-        ≡ option_map change (option_map (λ (p : Named). p.object) (cond b (Some o) (find (λ p. p.name == name) objects)))
-    either true t others = ap Some (changed o (eqb-true o.name name t))
-    either false t others = others
 
 -- a live name is held, by the same object
 pub held_if_live : (objects : List Named) (name : ℕ) → IsStrictlyIncreasing (names_of objects) → IfSome (object_named objects name) (λ object. object_held objects name ≡ Some object)
@@ -153,22 +61,6 @@ live_has objects name P names h =
     IfSome_then (object_named objects name) (held_if_live objects name names) (λ object found. subst (λ (o : Option ObjectValue). IfSome o P) found h)
 
 -- ---- what a cell holds
-
--- what holds of each image that stands in a slot holds of what stands there
-slot_has : (P : ObjectValue → Type 0) (images : List ImageValue) (k : ℕ) → ((image : ImageValue) → slice_get images k ≡ Some image → P (ImageObject image)) → IfSome (in_slot (Some k) (DelayObject images)) P
-slot_has P images k h = if_there (slice_get images k) h
-  where
-    if_there : (found : Option ImageValue) → ((image : ImageValue) → found ≡ Some image → P (ImageObject image)) → IfSome (option_map ImageObject found) P
-    if_there None h = tt
-    if_there (Some image) h = h image refl
-
--- what a cell holds is an object
-pub held_is : (objects : List Named) (cell : Cell) → All (λ o. IsObject o.object) objects → IfSome (held objects cell) IsObject
-held_is objects cell h = in_its_slot (object_held objects cell.name) (object_held_has IsObject objects cell.name h)
-  where
-    in_its_slot : (object : Option ObjectValue) → IfSome object IsObject → IfSome (option_and_then (in_slot cell.slot) object) IsObject
-    in_its_slot None is = tt
-    in_its_slot (Some object) is = IsObject-in_slot cell.slot object is
 
 -- what a cell holds is of the kind that the cell is for
 pub held_kind : (objects : List Named) (cell : Cell) → IfSome (held objects cell) (λ object. kind_held objects cell ≡ Some (object_kind object))
@@ -260,38 +152,6 @@ held-bares objects cell = ap (option_and_then (in_slot cell.slot)) (object_held-
     in_its_slot (Some object) = in_slot-bare cell.slot object
 
 -- ---- one object is written
-
--- an object once this one is written to the cell, if it has the cell's name
-abbrev written : Named → Cell → ObjectValue → Named
-written o cell object = if o.name == cell.name then record o { object = with_slot cell.slot object o.object } else o
-
--- what holds of both holds of it
-written_or_kept : (P : Named → Type 0) (o : Named) (cell : Cell) (object : ObjectValue) → (o.name ≡ cell.name → P (record o { object = with_slot cell.slot object o.object })) → P o → P (written o cell object)
-written_or_kept P o cell object named kept =
-    cond_both (o.name == cell.name) (record o { object = with_slot cell.slot object o.object }) o P (λ e. named (eqb-true o.name cell.name e)) (λ e. kept)
-
--- what holds of each object holds after a write that keeps it
-pub All-with_object : (P Q : Named → Type 0) (objects : List Named) (cell : Cell) (object : ObjectValue)
-    → ((o : Named) → Q o → P o → o.name ≡ cell.name → P (record o { object = with_slot cell.slot object o.object })) → All Q objects → All P objects → All P (with_object objects cell object)
-All-with_object P Q [] cell object keeps also h = All-nil P
-All-with_object P Q (o ∷ objects) cell object keeps also h =
-    let here : P o = All-head P o objects h in
-    All-cons P (written o cell object) (with_object objects cell object)
-    (written_or_kept P o cell object (keeps o (All-head Q o objects also) here) here)
-    (All-with_object P Q objects cell object keeps (All-tail Q o objects also) (All-tail P o objects h))
-
--- what is the same of each object that is written is the same of all
-pub map-with_object : {X : Type 0} (f : Named → X) (objects : List Named) (cell : Cell) (object : ObjectValue)
-    → All (λ o. o.name ≡ cell.name → f (record o { object = with_slot cell.slot object o.object }) ≡ f o) objects → map f (with_object objects cell object) ≡ map f objects
-map-with_object f [] cell object same = refl
-map-with_object {X} f (o ∷ objects) cell object same =
-    let Same : Named → Type 0 = λ p. p.name ≡ cell.name → f (record p { object = with_slot cell.slot object p.object }) ≡ f p in
-    ap (λ (x : X). x ∷ map f (with_object objects cell object)) (written_or_kept (λ p. f p ≡ f o) o cell object (All-head Same o objects same) refl)
-    ∙ ap (λ (xs : List X). f o ∷ xs) (map-with_object f objects cell object (All-tail Same o objects same))
-
--- a write keeps the names
-pub names-with_object : (objects : List Named) (cell : Cell) (object : ObjectValue) → names_of (with_object objects cell object) ≡ names_of objects
-names-with_object objects cell object = map-with_object (λ o. o.name) objects cell object (λ k d below e. refl)
 
 -- a write of what may be written keeps what is bare
 pub bares-with_object : (objects : List Named) (cell : Cell) (object : ObjectValue) → All (Fits cell (bare object)) objects → bares (with_object objects cell object) ≡ bares objects

@@ -1,12 +1,12 @@
 -- A node that runs at once keeps the limits: each output becomes an object of the kind, the size and the format that it had.
-use Rattle.std.proofs.Common.{◌≡◌, ℕ, true, false, IsTrue, List, get_or, [], ◌++◌, Option, Some, None, IfSome, if◌then◌else◌, refl, sym, ap, subst, ◌∙◌}
+use Rattle.std.proofs.Common.{◌≡◌, ℕ, true, false, IsTrue, List, get_or, [], Option, Some, None, IfSome, if◌then◌else◌, refl, sym, ap, subst, ◌∙◌}
 use Rattle.std.specs.Prelude.{All, ◌&&◌, is_some, is_none, unwrap_or}
 use Rattle.std.specs.List.{list_any}
 use Rattle.std.specs.List.Sorted.{IsStrictlyIncreasing}
 use Rattle.std.specs.Option.{option_map, option_and_then, option_or}
 use Rattle.std.proofs.lemmas.Bool.{and_parts, not-false}
 use Rattle.std.proofs.lemmas.Option.{IfSome_then}
-use Rattle.std.proofs.lemmas.List.Elements.{All-nil, All-cons, All-head, All-tail, All-append}
+use Rattle.std.proofs.lemmas.List.Elements.{All-nil, All-cons, All-append}
 use Rattle.vx_base.specs.declared.format.Format.{Format}
 use Rattle.vx_base.specs.declared.function.Function.{Function}
 use Rattle.vx_base.specs.declared.kind.Kind.{Kind}
@@ -17,8 +17,8 @@ use Rattle.vx_base.specs.Description.{Description, same_size}
 use Rattle.vx_base.specs.Formats.{takes_formats}
 use Rattle.vx_base.specs.Function.{parameters}
 use Rattle.vx_base.specs.Image.{description_of}
-use Rattle.vx_base.specs.Node.{IsNode, is_node, has_amount, has_operands, all_named, operands, with_kind, second_kind}
-use Rattle.vx_base.specs.Object.{ObjectValue, ImageObject, DistributionObject, ExtremesObject, VirtualObject, IsObject, object_kind, object_format}
+use Rattle.vx_base.specs.Node.{IsNode, is_node, has_amount, has_operands, all_named, operands, second_kind}
+use Rattle.vx_base.specs.Object.{ObjectValue, ImageObject, DistributionObject, ExtremesObject, VirtualObject, IsObject, object_kind}
 use Rattle.vx_base.specs.declared.output.Output.{Output}
 use Rattle.vx_base.specs.declared.output.Output.TheVariants.{First, Second}
 use Rattle.vx_base.specs.Outputs.{node_image, node_output, written_to, written_in, written_by}
@@ -37,13 +37,16 @@ use Rattle.client_model.specs.Operands.{is_unknown, is_empty, is_beyond, is_kind
 use Rattle.client_model.specs.Immediate.{operand_in, operand_if, operands_in, is_some_virtual, away_refusal, node_refusal, immediate}
 use Rattle.client_model.specs.States.{KeepsLimits, kind_held}
 use Rattle.client_model.proofs.WriteLaws.{bare, same_bare_image}
-use Rattle.client_model.proofs.NamedLaws.{names_of, Fits, held_is, held_kind, held_fits, kind_if_live}
+use Rattle.object_table.proofs.HeldLemmas.{names_of, held_is}
+use Rattle.client_model.proofs.NamedLaws.{Fits, held_kind, held_fits, kind_if_live}
 use Rattle.client_model.proofs.HoldLaws.{each_fails}
 use Rattle.client_model.proofs.StateLaws.{IsReplacement, with_written_keeps}
-use Rattle.client_model.proofs.VerdictLaws.{Suits, BothSuit, verdict_suits}
-use Rattle.graph_run.proofs.OperandLaws.{described_node}
-use Rattle.client_model.proofs.CountLaws.{length-histogram}
-use Rattle.client_model.proofs.OutcomeLaws.{Keeps, unless_keeps, passed, same_description}
+use Rattle.graph_verify.proofs.SuitLemmas.{Suits, BothSuit, verdict_suits, passed}
+use Rattle.graph_run.proofs.OperandLaws.{described_node, kind-operand}
+use Rattle.graph_run.proofs.RunLemmas.{same_formats}
+use Rattle.graph_run.proofs.OutputLemmas.{length-histogram, same_description}
+use Rattle.client_model.proofs.OutcomeLaws.{Keeps, unless_keeps}
+use Rattle.graph_run.proofs.FoundLemmas.{of_operands}
 
 -- ---- what a node can give
 
@@ -75,18 +78,6 @@ suits_give function first out second suits right = tt
 
 -- ---- objects as operands
 
-format_as_operand : (object : ObjectValue) → operand_format (operand_of object) ≡ object_format object
-format_as_operand (ImageObject image) = refl
-format_as_operand other = refl
-
-pub kind_as_operand : (object : ObjectValue) → operand_kind (operand_of object) ≡ object_kind object
-kind_as_operand (ImageObject image) = refl
-kind_as_operand other = refl
-
-formats_as_operands : (object : Option ObjectValue) → option_and_then operand_format (option_map operand_of object) ≡ option_and_then object_format object
-formats_as_operands None = refl
-formats_as_operands (Some object) = format_as_operand object
-
 -- a cell that may not be given, as an operand
 operand_if_held : (objects : List Named) (cell : Option Cell) → operand_if objects cell ≡ option_map operand_of (option_and_then (held objects) cell)
 operand_if_held objects None = refl
@@ -104,13 +95,13 @@ module _ (objects : List Named) (n : Node) (node : IsNode n) (second : Option Ob
       let May : ObjectValue → Type 0 = λ o. All (Fits cell o) objects in
       let Taken : Option Format → Type 0 = λ format. IsTrue (takes_formats n.function a.format format (Some out.format)) in
       record {
-        is_object = node_image_is n out.format a node is_first output second is (right second can.kind) (subst Taken (formats_as_operands second) can.formats);
+        is_object = node_image_is n out.format a node is_first output second is (right second can.kind) (subst Taken (same_formats second) can.formats);
         fits = subst May (sym (same_bare_image (node_image n output out.format a second) out e)) fits;
       }
     where
       right : (object : Option ObjectValue) → IfSome (option_map operand_of object) (λ o. (parameters n.function).second_input ≡ Some (operand_kind o)) → IfSome object (λ o. (parameters n.function).second_input ≡ Some (object_kind o))
       right None h = tt
-      right (Some object) h = h ∙ ap Some (kind_as_operand object)
+      right (Some object) h = h ∙ ap Some (kind-operand object)
   output_fits output cell (ImageObject a) (DistributionObject d) is_first is_out fits can = record { is_object = record { bins = is_out.bins; size = length-histogram d.bins a }; fits = fits }
   output_fits output cell (ImageObject a) (ExtremesObject e) is_first is_out fits can = record { is_object = tt; fits = fits }
   output_fits output cell first out is_first is_out fits can = record { is_object = is_out; fits = fits }
@@ -169,29 +160,6 @@ operands_pass scope objects all h =
 
 -- ---- the operands of a node
 
--- what holds of a node's operands, each beside the kind that its function has there
-pub record OfOperands (P : Cell × Kind → Type 0) (n : Node) : Type 0 where
-  pub in1 : P (n.in1, kind.Image)
-  pub in2 : IfSome n.in2 (λ cell. P (cell, second_kind n))
-  pub out1 : IfSome n.out1 (λ cell. P (cell, (parameters n.function).output))
-  pub out2 : IfSome n.out2 (λ cell. P (cell, (parameters n.function).output))
-
-pub of_operands : (P : Cell × Kind → Type 0) (n : Node) → All P (operands n) → OfOperands P n
-of_operands P n h =
-    let output = (parameters n.function).output in
-    let others = All-tail P (n.in1, kind.Image) _ h in
-    let second = apart (second_kind n) n.in2 (with_kind output n.out1 ++ with_kind output n.out2) others in
-    let first = apart output n.out1 (with_kind output n.out2) second.1 in
-    record { in1 = All-head P (n.in1, kind.Image) _ h; in2 = second.0; out1 = first.0; out2 = alone output n.out2 first.1 }
-  where
-    apart : (k : Kind) (cell : Option Cell) (rest : List (Cell × Kind)) → All P (with_kind k cell ++ rest) → IfSome cell (λ x. P (x, k)) × All P rest
-    apart k None rest all = (tt, all)
-    apart k (Some x) rest all = (All-head P (x, k) rest all, All-tail P (x, k) rest all)
-
-    alone : (k : Kind) (cell : Option Cell) → All P (with_kind k cell) → IfSome cell (λ x. P (x, k))
-    alone k None all = tt
-    alone k (Some x) all = All-head P (x, k) [] all
-
 -- a node has a second input where its function has one
 pub second_there : (n : Node) → IsTrue (is_node n) → IsTrue (if is_some (parameters n.function).second_input then is_some n.in2 else is_none n.in2)
 second_there n shape =
@@ -236,7 +204,7 @@ of_wanted objects operand h = of_found (held objects operand.0) (held_kind objec
     of_found None is real = tt
     of_found (Some (VirtualObject image)) is real = absurd (cc)
     of_found (Some x) is real =
-        stands_for_equal (object_kind x) operand.1 (subst (λ k. is_kind operand.1 k ≡ true) is h.kind) (λ e. absurd (cc)) ∙ sym (kind_as_operand x)
+        stands_for_equal (object_kind x) operand.1 (subst (λ k. is_kind operand.1 k ≡ true) is h.kind) (λ e. absurd (cc)) ∙ sym (kind-operand x)
 
 -- where both suit, both can be given to
 both_give : (function : Function) (first : Option ObjectValue) (second out1 out2 : Option Operand) → IfSome second (λ o. (parameters function).second_input ≡ Some (operand_kind o))

@@ -1,8 +1,6 @@
 -- Outcomes that keep the limits.
-use Rattle.std.proofs.Common.{◌≡◌, Bool, true, false, cond, [], Option, Some, None, Ok, Err, IfOk, IfSome, refl}
-use Rattle.std.specs.Prelude.{◌==◌}
-use Rattle.std.proofs.lemmas.Bool.{cond_both, and_parts, eqb-true}
-use Rattle.vx_base.specs.Description.{Description, same_size}
+use Rattle.std.proofs.Common.{◌≡◌, [], Option, Some, None, Ok, Err, IfOk, IfSome, refl}
+use Rattle.std.proofs.lemmas.Bool.{cond_both}
 use Rattle.vx_base.specs.Object.{ObjectValue, IsObject, object_bytes}
 use Rattle.client_model.specs.declared.refusal.Refusal.{Refusal}
 use Rattle.client_model.specs.declared.refusal.Refusal.TheVariants.{NoResources}
@@ -12,7 +10,8 @@ use Rattle.client_model.specs.Allowance.{Allowance}
 use Rattle.client_model.specs.Context.{Context, State, with_new, has_room}
 use Rattle.client_model.specs.Refusal.{Outcome, refused_or, unless}
 use Rattle.client_model.specs.Images.{create}
-use Rattle.client_model.specs.States.{KeepsLimits, nodes_in}
+use Rattle.client_model.specs.States.{KeepsLimits}
+use Rattle.graph_run.specs.Lasting.{nodes_in}
 use Rattle.client_model.proofs.StateLaws.{with_new_keeps}
 
 -- the state of a client, where a context keeps the limits
@@ -38,22 +37,3 @@ pub create_keeps : (limits : Allowance) (c : Context) (object : ObjectValue) →
 create_keeps limits c object h is none =
     cond_both (has_room limits c (object_bytes object)) (Ok (Name c.next, Some (with_new c object))) (Err NoResources) (Keeps limits)
     (λ room. with_new_keeps limits c object h is none room) (λ full. tt)
-
--- where nothing refuses, the first reason doesn't hold, and no later one refuses
-pub passed : {R : Type 0} (b : Bool) (refusal : R) (rest : Option R) → cond b (Some refusal) rest ≡ None → (b ≡ false) × (rest ≡ None)
-passed true refusal rest h = cc
-passed false refusal rest h = (refl, h)
-
--- and where a last condition has to hold, it does
-pub met : {R : Type 0} (b : Bool) (refusal : R) → cond b None (Some refusal) ≡ None → b ≡ true
-met true refusal h = refl
-met false refusal h = cc
-
--- descriptions of one size and format are one
-pub same_description : (a b : Description) → same_size a b ≡ true → a.format ≡ b.format → a ≡ b
-same_description a b size format =
-    let both = and_parts (a.width == b.width) (a.height == b.height) size in
-    let w = eqb-true a.width b.width both.0 in
-    let h = eqb-true a.height b.height both.1 in
-    let e : record { width = a.width; height = a.height; format = a.format } ≡ record { width = b.width; height = b.height; format = b.format } = cc in
-    e

@@ -16,11 +16,13 @@ use Rattle.object_table.specs.Named.{Named, object_held, with_object, with_writt
 use Rattle.client_model.specs.Allowance.{Allowance}
 use Rattle.client_model.specs.Context.{Context, new_context, with_new, with_objects, has_room, charge_of}
 use Rattle.client_model.specs.Holds.{uses, is_used, is_held, still_held}
-use Rattle.client_model.specs.States.{nodes_in, NodesStand, KeepsLimits}
-use Rattle.client_model.specs.Frame.{frame}
+use Rattle.graph_run.specs.Lasting.{nodes_in}
+use Rattle.client_model.specs.States.{NodesStand, KeepsLimits}
+use Rattle.graph_run.specs.Frame.{frame}
 use Rattle.client_model.proofs.FrameLemmas.{stands-alike, All-alike}
 use Rattle.client_model.proofs.WriteLaws.{bare, frame-bare, nodes_in-bare, IsObject-with_slot}
-use Rattle.client_model.proofs.NamedLaws.{names_of, Fits, bare_named, bares, names-bares, charge-bares, is_used-bares, object_held-bares, All-with_object, bares-with_object, fits-with_object}
+use Rattle.object_table.proofs.HeldLemmas.{names_of, All-with_object}
+use Rattle.client_model.proofs.NamedLaws.{Fits, bare_named, bares, names-bares, charge-bares, is_used-bares, object_held-bares, bares-with_object, fits-with_object}
 use Rattle.client_model.proofs.HoldLaws.{OperandsStand, nodes_stand, stands_more, held_still, nodes_still}
 
 -- a new context keeps the limits

@@ -20,8 +20,8 @@ use Rattle.object_table.specs.Delay.{in_slot, with_slot}
 use Rattle.object_table.specs.Object.{image_value}
 use Rattle.graph_verify.specs.Operand.{operand_of}
 use Rattle.client_model.specs.Holds.{uses}
-use Rattle.client_model.specs.States.{nodes_in}
-use Rattle.client_model.specs.Frame.{frame}
+use Rattle.graph_run.specs.Lasting.{nodes_in}
+use Rattle.graph_run.specs.Frame.{frame}
 
 -- ---- bare objects
 

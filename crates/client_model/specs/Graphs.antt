@@ -1,6 +1,6 @@
 -- Requests on graphs. OpenVX 1.3, "Object: Graph", vxCreateGraph, vxVerifyGraph and vxProcessGraph, "Object: Node", vxRemoveNode,
 -- and "Object: Image", vxCreateVirtualImage.
-use Rattle.std.specs.Prelude.{ℕ, List, ◌∷◌, Option, Some, None, Result, Ok, Err, if◌then◌else◌, unwrap_or}
+use Rattle.std.specs.Prelude.{ℕ, List, ◌∷◌, Option, Some, None, Result, Ok, Err, if◌then◌else◌}
 use Rattle.std.specs.Option.{option_map}
 use Rattle.vx_base.specs.declared.kind.Kind.TheVariants as kind
 use Rattle.vx_base.specs.declared.node.Node.{Node}
@@ -9,14 +9,12 @@ use Rattle.vx_base.specs.Graph.{GraphValue, nodes_of, can_add, with_node, has_no
 use Rattle.vx_base.specs.Node.{operands}
 use Rattle.vx_base.specs.Object.{ObjectValue, GraphObject, VirtualObject}
 use Rattle.vx_base.specs.Outline.{Outline}
-use Rattle.object_table.specs.Named.{Named, held, with_object}
-use Rattle.graph_verify.specs.declared.operand.Operand.{Operand}
-use Rattle.graph_verify.specs.declared.operand.Operand.TheVariants.{Delay}
+use Rattle.object_table.specs.Named.{Named, with_object}
 use Rattle.graph_verify.specs.declared.verdict.Verdict.{Verdict}
-use Rattle.graph_verify.specs.Operand.{operand_of}
 use Rattle.graph_verify.specs.Outlines.{resolved}
 use Rattle.graph_verify.specs.Verdict.{verdict}
 use Rattle.graph_run.specs.Graph.{run}
+use Rattle.graph_run.specs.Operands.{operand_held}
 use Rattle.client_model.specs.declared.refusal.Refusal.{Refusal}
 use Rattle.client_model.specs.declared.refusal.Refusal.TheVariants.{InvalidReference, InvalidType, NoResources, Rejected}
 use Rattle.client_model.specs.declared.reply.Reply.TheVariants.{Empty}
@@ -72,10 +70,6 @@ remove_from (Ok graph) c name number =
 
 abbrev pub remove_node : Context → ℕ → ℕ → Outcome
 remove_node c name number = remove_from (graph_named c.objects name) c name number
-
--- what a cell is to a graph whose node names it
-abbrev pub operand_held : List Named → Cell → Operand
-operand_held objects cell = unwrap_or (option_map operand_of (held objects cell)) Delay
 
 -- VerifyGraph: the verdict
 abbrev pub graph_verdict : Allowance → List Named → GraphValue → Option Verdict

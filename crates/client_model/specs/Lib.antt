@@ -12,4 +12,3 @@ pub mod Immediate
 pub mod Delays
 pub mod Answer
 pub mod States
-pub mod Frame

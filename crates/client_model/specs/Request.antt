@@ -68,6 +68,6 @@ TakesMemory (AddNode graph node) = ⊤
 TakesMemory (RemoveNode graph number) = ⊥
 TakesMemory (VerifyGraph graph) = ⊤
 TakesMemory (ProcessGraph graph) = ⊤
-TakesMemory (Immediate node) = ⊤
+TakesMemory (Immediate node) = ⊥
 TakesMemory (CreateDelay cell slots) = ⊤
 TakesMemory (AgeDelay name) = ⊥

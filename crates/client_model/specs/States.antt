@@ -3,13 +3,12 @@ use Rattle.std.specs.Prelude.{ℕ, ◌<◌, ◌≤◌, Bool, not, ◌&&◌, IsTr
 use Rattle.std.specs.Option.{option_and_then}
 use Rattle.std.specs.List.Sorted.{IsStrictlyIncreasing}
 use Rattle.vx_base.specs.declared.kind.Kind.{Kind}
-use Rattle.vx_base.specs.declared.node.Node.{Node}
 use Rattle.vx_base.specs.Cell.{Cell}
-use Rattle.vx_base.specs.Graph.{nodes_of}
 use Rattle.vx_base.specs.Node.{operands}
-use Rattle.vx_base.specs.Object.{ObjectValue, GraphObject, IsObject}
+use Rattle.vx_base.specs.Object.{IsObject}
 use Rattle.object_table.specs.Delay.{slot_kind}
 use Rattle.object_table.specs.Named.{Named, object_held, held as object_in_cell}
+use Rattle.graph_run.specs.Lasting.{nodes_in}
 use Rattle.client_model.specs.declared.request.Request.{Request}
 use Rattle.client_model.specs.Allowance.{Allowance}
 use Rattle.client_model.specs.Context.{Context, State, charge_of}
@@ -26,11 +25,6 @@ abbrev pub stands : List Named → ℕ → Cell × Kind → Bool
 stands objects graph operand =
     is_kind operand.1 (kind_held objects operand.0)
     && (not (is_of_other_graph graph (object_in_cell objects operand.0)) && not (is_empty objects operand.0))
-
--- the nodes of an object that is a graph
-abbrev pub nodes_in : ObjectValue → List Node
-nodes_in (GraphObject graph) = nodes_of graph
-nodes_in other = []
 
 -- each cell that a node of a graph names holds what its function has there
 abbrev pub NodesStand : List Named → Named → Type 0

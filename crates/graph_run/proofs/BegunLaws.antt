@@ -1,8 +1,8 @@
 -- What virtual images are as a run begins and ends.
-use Rattle.std.proofs.Common.{◌≡◌, ◌≢◌, ℕ, true, false, if◌then◌else◌, eqb, List, [], ◌∷◌, map, refl, sym, ap, subst, ◌∙◌, inl, inr, Option, Some, None}
+use Rattle.std.proofs.Common.{◌≡◌, ◌≢◌, ℕ, true, false, if◌then◌else◌, eqb, List, [], ◌∷◌, map, refl, sym, ap, subst, ◌∙◌, inl, inr, Option, Some, None, ◌⊎◌, Bool}
 use Rattle.std.specs.Prelude.{◌⊎◌}
 use Rattle.std.specs.Option.{option_map, option_and_then}
-use Rattle.std.proofs.lemmas.Bool.{cases_Bool, eqb-true, eq-eqb}
+use Rattle.std.proofs.lemmas.Bool.{cases_Bool}
 use Rattle.vx_base.specs.declared.kind.Kind.TheVariants as kind
 use Rattle.vx_base.specs.declared.node.Node.{Node}
 use Rattle.vx_base.specs.Cell.{Cell}
@@ -17,6 +17,9 @@ use Rattle.graph_run.specs.Graph.{begun_as, begun, is_virtual, forgotten}
 use Rattle.graph_run.specs.Solution.{WritesNo, label_of}
 use Rattle.graph_run.proofs.HeldLaws.{object_held-with_object}
 use Rattle.graph_run.proofs.NameLaws.{Rising, by_names}
+use Rattle.vx_base.specs.declared.kind.Kind.TheVariants as kind
+use Rattle.graph_verify.specs.Operand.{operand_of, is_virtual as is_virtual_operand}
+use Rattle.object_table.proofs.HeldLemmas.{object_held-map}
 
 -- ---- the begin
 
@@ -26,19 +29,11 @@ begun_under is nodes name x = if is_written nodes (record { name = name; slot = 
 
 pub object_held-begun : (is : Cell → Operand) (nodes : List Node) (objects : List Named) (name : ℕ)
     → object_held (map (begun is nodes) objects) name ≡ option_map (begun_under is nodes name) (object_held objects name)
-object_held-begun is nodes [] name = refl
-object_held-begun is nodes (o ∷ objects) name = elim (cases_Bool (is_written nodes (record { name = o.name; slot = None }))) [
-  | inl w ↦ elim (cases_Bool (eqb o.name name)) [
-    | inl e ↦ subst (λ z. object_held (map (begun is nodes) (o ∷ objects)) z ≡ option_map (begun_under is nodes z) (object_held (o ∷ objects) z)) (eqb-true o.name name e)
-        (let own : eqb o.name o.name ≡ true = eq-eqb o.name o.name refl in rw (begun_under, w, own) refl)
-    | inr e ↦ rw (w, e) (object_held-begun is nodes objects name)
-  ]
-  | inr w ↦ elim (cases_Bool (eqb o.name name)) [
-    | inl e ↦ subst (λ z. object_held (map (begun is nodes) (o ∷ objects)) z ≡ option_map (begun_under is nodes z) (object_held (o ∷ objects) z)) (eqb-true o.name name e)
-        (let own : eqb o.name o.name ≡ true = eq-eqb o.name o.name refl in rw (begun_under, w, own) refl)
-    | inr e ↦ rw (w, e) (object_held-begun is nodes objects name)
-  ]
-]
+object_held-begun is nodes objects name =
+    object_held-map (begun is nodes) (begun_under is nodes name) objects name
+    (λ o. elim (cases_Bool (is_written nodes (record { name = o.name; slot = None }))) [ inl w ↦ rw w refl | inr w ↦ rw w refl ])
+    (λ o same. subst (λ z. (begun is nodes o).object ≡ begun_under is nodes z o.object) same
+    (elim (cases_Bool (is_written nodes (record { name = o.name; slot = None }))) [ inl w ↦ rw w refl | inr w ↦ rw w refl ]))
 
 pub labels-begun : (is : Cell → Operand) (nodes : List Node) (objects : List Named) → map label_of (map (begun is nodes) objects) ≡ map label_of objects
 labels-begun is nodes [] = refl
@@ -167,3 +162,17 @@ nothing_forgotten before after up labels stays =
     ]
     kept (Some x) None h = refl
     kept None p h = refl
+
+-- what an object becomes that is found to be this, if a node writes it
+abbrev pub begun_if : Bool → ObjectValue → Operand → ObjectValue
+begun_if written object operand = if written then begun_as object operand else object
+
+-- what stays as it was if it is no virtual image
+pub begun_stays : (object : ObjectValue) (written : Bool) (operand : Operand) → is_virtual object ≡ false → begun_if written object operand ≡ object
+begun_stays (VirtualObject image) written operand h = absurd (cc)
+begun_stays other true operand h = refl
+begun_stays other false operand h = refl
+
+pub virtual_as_operand : (object : ObjectValue) → is_virtual object ≡ true → is_virtual_operand (operand_of object) ≡ true
+virtual_as_operand (VirtualObject image) h = refl
+virtual_as_operand other h = absurd (cc)

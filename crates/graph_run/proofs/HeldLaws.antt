@@ -9,7 +9,7 @@ use Rattle.vx_base.specs.Object.{ObjectValue, ImageObject, DelayObject, object_k
 use Rattle.object_table.specs.Delay.{in_slot, with_slot}
 use Rattle.object_table.specs.Object.{image_value}
 use Rattle.object_table.specs.Named.{Named, object_held, held, with_object, with_written}
-use Rattle.object_table.proofs.SlotLemmas.{slot_has_image, with_slot_there, with_slot_beside}
+use Rattle.object_table.proofs.SlotLemmas.{image_of_kind, slot_has_image, with_slot_there, with_slot_beside}
 use Rattle.graph_verify.specs.Members.{In}
 use Rattle.graph_run.specs.Solution.{form_of, form_held, label_of}
 use Rattle.graph_verify.proofs.LinkLemmas.{same_cell-true}
@@ -43,10 +43,6 @@ kind-form_seen (Some x) = ap Some (kind-form x)
 pub record IsWrite (objects : List Named) (cell : Cell) (object : ObjectValue) : Type 0 where
   pub form : form_held objects cell ≡ Some (form_of object)
   pub whole : is_delay object ≡ false
-
-image_of_kind : (object : ObjectValue) → object_kind object ≡ kind.Image → object ≡ ImageObject (image_value object)
-image_of_kind (ImageObject image) h = refl
-image_of_kind other h = absurd (cc h)
 
 kind_of_form : (o : Option ObjectValue) (new : ObjectValue) → option_map form_of o ≡ Some (form_of new) → option_map object_kind o ≡ Some (object_kind new)
 kind_of_form o new f = sym (kind-form_seen o) ∙ ap (option_map object_kind) f ∙ ap Some (kind-form new)

@@ -12,3 +12,12 @@ pub mod AloneLaws
 pub mod AddingLaws
 pub mod OperandLaws
 pub mod TurnLaws
+pub mod LastingLemmas
+pub mod PlaceLemmas
+pub mod ByNameLemmas
+pub mod FoundLemmas
+pub mod OutputLemmas
+pub mod RunLemmas
+pub mod ExchangeLemmas
+pub mod StandInLemmas
+pub mod VerifiedLemmas

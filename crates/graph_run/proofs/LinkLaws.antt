@@ -1,14 +1,12 @@
 -- The cells that nodes read and write, and lists of them.
-use Rattle.std.proofs.Common.{◌≡◌, true, false, List, [], ◌∷◌, ◌++◌, get_or, refl, sym, ap, subst, ◌∙◌, inl, inr, Some}
-use Rattle.std.specs.List.{list_any, All, flat_map}
-use Rattle.std.proofs.lemmas.Bool.{or_left, or_right, or_parts, or_from, false_from_ne_true}
-use Rattle.std.proofs.lemmas.List.Folds.{list_any-append}
+use Rattle.std.proofs.Common.{◌≡◌, true, false, List, get_or, ap, subst, ◌∙◌, Some}
+use Rattle.std.specs.List.{list_any, All}
+use Rattle.std.proofs.lemmas.Bool.{or_left, or_right, false_from_ne_true}
 use Rattle.vx_base.specs.declared.node.Node.{Node}
 use Rattle.vx_base.specs.Cell.{Cell, same_cell}
-use Rattle.vx_base.specs.Node.{given, outputs}
+use Rattle.vx_base.specs.Node.{given}
 use Rattle.graph_verify.specs.Members.{In}
-use Rattle.graph_verify.specs.Links.{reads, writes, has_twice, is_written}
-use Rattle.graph_verify.specs.Verdict.{two_writers}
+use Rattle.graph_verify.specs.Links.{reads, writes, is_written}
 use Rattle.graph_verify.proofs.LinkLemmas.{same_cell-refl}
 use Rattle.graph_verify.proofs.MemberLemmas.{In-from_any, any-from_In, In-at, Contains-from_In}
 
@@ -30,23 +28,6 @@ pub reads_second : (n : Node) (c : Cell) → n.in2 ≡ Some c → reads n c ≡ 
 reads_second n c e =
     or_right (same_cell c n.in1) (list_any (same_cell c) (given n.in2))
     (ap (λ z. list_any (same_cell c) (given z)) e ∙ or_left (same_cell c c) false (same_cell-refl c))
-
-once_after : (xs ys : List Cell) → has_twice (xs ++ ys) ≡ false → has_twice ys ≡ false
-once_after [] ys h = h
-once_after (x ∷ xs) ys h = once_after xs ys (or_parts (list_any (same_cell x) (xs ++ ys)) (has_twice (xs ++ ys)) h).1
-
-once_before : (xs ys : List Cell) → has_twice (xs ++ ys) ≡ false → has_twice xs ≡ false
-once_before [] ys h = refl
-once_before (x ∷ xs) ys h =
-    let parts = or_parts (list_any (same_cell x) (xs ++ ys)) (has_twice (xs ++ ys)) h in
-    let none = or_parts (list_any (same_cell x) xs) (list_any (same_cell x) ys) (sym (list_any-append (same_cell x) xs ys) ∙ parts.0) in
-    or_from (list_any (same_cell x) xs) (has_twice xs) none.0 (once_before xs ys parts.1)
-
--- where no cell has two writers, no node writes one by both of its outputs
-pub writes_once : (nodes : List Node) → two_writers nodes ≡ false → (n : Node) → In n nodes → has_twice (outputs n) ≡ false
-writes_once [] h n i = absurd i
-writes_once (m ∷ nodes) h n (inl e) = ap (λ z. has_twice (outputs z)) e ∙ once_before (outputs m) (flat_map outputs nodes) h
-writes_once (m ∷ nodes) h n (inr i) = writes_once nodes (once_after (outputs m) (flat_map outputs nodes) h) n i
 
 -- a cell that no node of the list writes
 pub unwritten : (nodes : List Node) (c : Cell) → is_written nodes c ≡ false → (n : Node) → In n nodes → writes n c ≡ false

@@ -192,11 +192,11 @@ module _ (work : ℕ) (is : Cell → Operand) (nodes : List Node) (can : CanRun 
 
 -- ---- as nodes write
 
-kind-operand : (x : ObjectValue) → operand_kind (operand_of x) ≡ object_kind x
+pub kind-operand : (x : ObjectValue) → operand_kind (operand_of x) ≡ object_kind x
 kind-operand (ImageObject image) = refl
 kind-operand x = refl
 
-no_delay_written : (function : Function) → (parameters function).output ≢ kind.Delay
+pub no_delay_written : (function : Function) → (parameters function).output ≢ kind.Delay
 no_delay_written Histogram e = cc
 no_delay_written MinMaxLoc e = cc
 no_delay_written function e = cc

@@ -15,14 +15,15 @@ use Rattle.graph_verify.specs.Members.{In}
 use Rattle.graph_verify.specs.Links.{writes, feeds}
 use Rattle.graph_verify.specs.Cycle.{has_cycle}
 use Rattle.graph_verify.specs.Rounds as cells
-use Rattle.graph_verify.specs.Rounds.{OneWriter, IsSolution}
+use Rattle.graph_verify.specs.Rounds.{IsSolution}
 use Rattle.graph_verify.specs.Verdict.{two_writers}
 use Rattle.graph_run.specs.Graph.{rounds}
 use Rattle.graph_run.specs.Solution.{WritesNo, ReadImages, Solves, kind_held, form_of}
 use Rattle.graph_verify.proofs.MemberLemmas.{any-from_In}
 use Rattle.graph_verify.proofs.SolutionLemmas as cell_solutions
 use Rattle.graph_verify.proofs.LinkLemmas.{one_writer}
-use Rattle.graph_run.proofs.LinkLaws.{All-from_In, In-from_All, writes_once, unwritten, is_unwritten}
+use Rattle.graph_run.proofs.LinkLaws.{All-from_In, In-from_All, unwritten, is_unwritten}
+use Rattle.graph_verify.proofs.NodeVerdictLemmas.{no_twice_each}
 use Rattle.graph_run.proofs.ObjectLaws.{is_delay, shown, shown_whole, is_delay-shown, not_delay, delay_kind, delay_shown, is_delay-form, node_output-form}
 use Rattle.graph_run.proofs.HeldLaws.{seen, kind-form_seen}
 use Rattle.graph_run.proofs.NameLaws.{Rising, rising, same_objects}
@@ -78,7 +79,7 @@ module _ (nodes : List Node) (objects : List Named) (one : two_writers nodes ≡
     forms = form-rounds nodes (length nodes) objects whole;
     written = All-from_In (λ n. All (λ w. held after w.0 ≡ Some w.1) (written_by n (held after))) nodes
         (λ n i. All-from_In (λ w. held after w.0 ≡ Some w.1) (written_by n (held after))
-        (given_holds n (held after) (writes_once nodes one n i) (λ c w. holds n c i w)));
+        (given_holds n (held after) (no_twice_each nodes n one i) (λ c w. holds n c i w)));
     others = (λ c h plain. unshown (held after c) (held objects c) plain
         (ap (λ f. f c) seen_values ∙ values_solve.others c (unwritten nodes c h)));
   }

@@ -1,16 +1,31 @@
 //! Nodes and graphs that are run.
 //!
 //! `run_node` chooses the kernel that a node's function names, and writes its output: each sample,
-//! and the rectangle. It stands above the crates of all kernels. What a run of a graph means is
-//! defined in rounds of all its nodes at once.
+//! and the rectangle. It stands above the crates of all kernels. `run_once` runs a node on the
+//! objects of a table, `verify_in` verifies a graph whose nodes name what a table holds, and `run`
+//! runs it there. What a run of a graph means is defined in rounds of all its nodes at once.
 //!
-//! - `run`: the kernel of each function
+//! - `kernel`: the kernel of each function
+//! - `operand`, `places`: objects as operands, and where those of a node stand
+//! - `step`: a node that runs on the objects at the places of its operands
+//! - `verify`: the verdict on a graph, and the order in which its nodes run
+//! - `runs`: a graph that runs
 //! - `laws`: what the definitions of runs mean
 //! - `examples`: runs of small graphs
 #![tactic(auto)]
 
 pub mod examples;
+mod kernel;
 pub mod laws;
-mod run;
+mod operand;
+mod places;
+mod runs;
+mod step;
+mod verify;
 
-pub use run::run_node;
+pub use kernel::run_node;
+pub use operand::operand_of;
+pub use places::Places;
+pub use runs::run;
+pub use step::run_once;
+pub use verify::verify_in;

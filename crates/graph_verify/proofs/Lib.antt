@@ -12,4 +12,5 @@ pub mod LooseLemmas
 pub mod VerdictLemmas
 pub mod NodeVerdictLemmas
 pub mod SingleLemmas
+pub mod SuitLemmas
 mod VerifyLemmas

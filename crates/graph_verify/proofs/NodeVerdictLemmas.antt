@@ -40,7 +40,7 @@ no_twice_before (x ∷ xs) ys h =
     (no_twice_before xs ys both.1)
 
 -- where no cell has two writers, no node writes one by both of its outputs
-no_twice_each : (nodes : List Node) (n : Node) → two_writers nodes ≡ false → In n nodes → writes_twice n ≡ false
+pub no_twice_each : (nodes : List Node) (n : Node) → two_writers nodes ≡ false → In n nodes → writes_twice n ≡ false
 no_twice_each [] n h member = absurd member
 no_twice_each (m ∷ nodes) n h (inl e) = ap writes_twice e ∙ no_twice_before (outputs m) (flat_map outputs nodes) h
 no_twice_each (m ∷ nodes) n h (inr later) = no_twice_each nodes n (once_after (outputs m) (flat_map outputs nodes) h) later

@@ -6,6 +6,7 @@ ghost use Rattle.vx_base.specs.Description.{sample_count};
 ghost use Rattle.vx_base.specs.Image.{made, at, image_over};
 
 use crate::formula::Formula;
+use crate::row_formula::{RowFormula, Unaided};
 use crate::rows::clear_rows;
 use crate::sample::Sample;
 use crate::whole::Whole;
@@ -79,8 +80,24 @@ impl<'a> ImageMut<'a> {
         requires room { IsWithin (F.area formula.now) (written self.old).width (written self.old).height }
         ensures { Writes (made (written self.old).width (written self.old).height T.format (F.area formula.now) (F.at formula.now)) self.old self.new }
     {
+        self.write_by_rows::<T, u8, _>(&Unaided { formula }, &mut []);
+    }
+
+    /// Writes a whole image: the formula's samples in its area, 0 elsewhere. The scratch memory is
+    /// the formula's.
+    pub fn write_by_rows<T: Sample, S, F: RowFormula<T, S>>(
+        &mut self,
+        formula: &F,
+        scratch: &mut [S],
+    )
+        requires target { IsTarget self.old }
+        requires format { (written self.old).format ≡ T.format }
+        requires room { IsWithin (F.area formula.now) (written self.old).width (written self.old).height }
+        requires scratch { F.room formula.now ≤ length scratch.old }
+        ensures { Writes (made (written self.old).width (written self.old).height T.format (F.area formula.now) (F.at formula.now)) self.old self.new }
+    {
         self.valid = formula.area();
-        T::write_samples(self, formula);
+        T::write_samples(self, formula, scratch);
     }
 
     /// Writes all samples of a U32 image at once, and its rectangle.

@@ -4,9 +4,10 @@
 //! An `Image` lends the samples of an image to who reads it: its rows are those of an image value,
 //! 0 outside the valid rectangle. An `ImageMut` lends the samples of an image to who writes it.
 //! Both are read and written by the number type of the format, a `Sample`. What is computed place
-//! by place is a `Formula`; `ImageMut::write` writes a whole image of one: each sample, and 0
-//! outside the rectangle. `Second` is what a kernel reads beside its first image, `Overflow` a
-//! policy as a type.
+//! by place is a `Formula`, and one that needs scratch memory for that a `RowFormula`;
+//! `ImageMut::write` and `write_by_rows` write a whole image of one: each sample, and 0 outside the
+//! rectangle. `Second` is what a kernel reads beside its first image, `Overflow` a policy as a
+//! type.
 #![tactic(auto)]
 
 mod formula;
@@ -14,6 +15,7 @@ mod image;
 mod image_mut;
 mod number;
 mod overflow;
+mod row_formula;
 mod rows;
 mod sample;
 mod second;
@@ -25,6 +27,7 @@ pub use image::Image;
 pub use image_mut::ImageMut;
 pub use number::Number;
 pub use overflow::{Overflow, Saturated, Wrapped};
+pub use row_formula::RowFormula;
 pub use rows::clear_rows;
 pub use sample::Sample;
 pub use second::Second;

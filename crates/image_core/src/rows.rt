@@ -4,8 +4,8 @@ ghost use Rattle.vx_base.specs.Rectangle.{IsWithin};
 ghost use Rattle.vx_base.specs.Image.{run, table, within};
 ghost use Rattle.image_core.specs.Rows.{sample_at, sample_in};
 
-use crate::formula::Formula;
 use crate::number::Number;
+use crate::row_formula::RowFormula;
 use vx_base::Rect;
 
 /// Writes one sample to each place.
@@ -18,21 +18,35 @@ pub fn set_all<T: Number>(out: &mut [T], sample: T)
 }
 
 /// Writes a row that goes through the formula's area, which is in the columns from x0 to x1 - 1.
-fn write_across<T: Number, F: Formula<T>>(formula: &F, y: u16, x0: u16, x1: u16, out: &mut [T])
+fn write_across<T: Number, S, F: RowFormula<T, S>>(
+    formula: &F,
+    y: u16,
+    x0: u16,
+    x1: u16,
+    scratch: &mut [S],
+    out: &mut [T],
+)
     requires in_rows { ((F.area formula.now).y0 ≤ y) × (y < (F.area formula.now).y1) }
     requires columns { ((F.area formula.now).x0 ≡ x0) × ((F.area formula.now).x1 ≡ x1) }
     requires ordered { x0 ≤ x1 }
+    requires scratch { F.room formula.now ≤ length scratch.old }
     requires room { x1 ≤ length out.old }
     ensures { map T.value out.new ≡ run 0 (length out.old) (λ x. within (F.area formula.now) (F.at formula.now) x y) }
 {
     let (left, others) = out.split_at_mut(usize::from(x0));
     let (middle, right) = others.split_at_mut(usize::from(x1 - x0));
     set_all(left, T::zero());
-    formula.fill(x0, y, middle);
+    formula.fill(x0, y, scratch, middle);
     set_all(right, T::zero());
 }
 
-fn write_row<T: Number, F: Formula<T>>(formula: &F, y: u16, out: &mut [T])
+fn write_row<T: Number, S, F: RowFormula<T, S>>(
+    formula: &F,
+    y: u16,
+    scratch: &mut [S],
+    out: &mut [T],
+)
+    requires scratch { F.room formula.now ≤ length scratch.old }
     requires room { (F.area formula.now).x1 ≤ length out.old }
     ensures { map T.value out.new ≡ run 0 (length out.old) (λ x. within (F.area formula.now) (F.at formula.now) x y) }
 {
@@ -40,12 +54,19 @@ fn write_row<T: Number, F: Formula<T>>(formula: &F, y: u16, out: &mut [T])
     if y < area.y0() || area.y1() <= y {
         set_all(out, T::zero());
     } else {
-        write_across(formula, y, area.x0(), area.x1(), out);
+        write_across(formula, y, area.x0(), area.x1(), scratch, out);
     }
 }
 
 /// Writes all samples of an image by rows from the top: the formula's in its area, 0 elsewhere.
-pub fn write_rows<T: Number, F: Formula<T>>(formula: &F, width: u16, height: u16, out: &mut [T])
+pub fn write_rows<T: Number, S, F: RowFormula<T, S>>(
+    formula: &F,
+    width: u16,
+    height: u16,
+    scratch: &mut [S],
+    out: &mut [T],
+)
+    requires scratch { F.room formula.now ≤ length scratch.old }
     requires size { length out.old ≡ height * width }
     requires room { (F.area formula.now).x1 ≤ width }
     ensures { map T.value out.new ≡ table width height (within (F.area formula.now) (F.at formula.now)) }
@@ -53,7 +74,7 @@ pub fn write_rows<T: Number, F: Formula<T>>(formula: &F, width: u16, height: u16
     let step = usize::from(width);
     for y in 0..height {
         let start = usize::from(y) * step;
-        write_row(formula, y, &mut out[start..start + step]);
+        write_row(formula, y, scratch, &mut out[start..start + step]);
     }
 }
 

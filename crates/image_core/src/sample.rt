@@ -7,9 +7,9 @@ ghost use Rattle.vx_base.specs.Description.{sample_count};
 ghost use Rattle.vx_base.specs.Image.{image_over, table, within};
 ghost use Rattle.image_core.specs.Slices.{slice_format, slice_values};
 
-use crate::formula::Formula;
 use crate::image_mut::ImageMut;
 use crate::number::Number;
+use crate::row_formula::RowFormula;
 use crate::rows::write_rows;
 use crate::slice::Slice;
 use vx_base::{Desc, Rect};
@@ -45,10 +45,15 @@ pub trait Sample: Number {
         ensures same_slice { slice_name result ≡ samples.entry.ghost_name };
 
     /// Writes the samples of an image: the formula's in its area, 0 elsewhere.
-    fn write_samples<F: Formula<Self>>(output: &mut ImageMut<'_>, formula: &F)
+    fn write_samples<S, F: RowFormula<Self, S>>(
+        output: &mut ImageMut<'_>,
+        formula: &F,
+        scratch: &mut [S],
+    )
         requires target { IsTarget output.old }
         requires format { (written output.old).format ≡ format }
         requires room { (F.area formula.now).x1 ≤ (written output.old).width }
+        requires scratch { F.room formula.now ≤ length scratch.old }
         ensures { Writes (image_over output.old.desc output.old.valid (table (written output.old).width (written output.old).height (within (F.area formula.now) (F.at formula.now)))) output.old output.new };
 }
 
@@ -85,9 +90,13 @@ impl Sample for u8 {
         image_mut!(desc, samples, &mut [], &mut [])
     }
 
-    fn write_samples<F: Formula<u8>>(output: &mut ImageMut<'_>, formula: &F) {
-        let desc = output.desc;
-        write_rows(formula, desc.width(), desc.height(), output.bytes);
+    fn write_samples<S, F: RowFormula<u8, S>>(
+        output: &mut ImageMut<'_>,
+        formula: &F,
+        scratch: &mut [S],
+    ) {
+        let (width, height) = (output.desc.width(), output.desc.height());
+        write_rows(formula, width, height, scratch, output.bytes);
     }
 }
 
@@ -111,9 +120,13 @@ impl Sample for i16 {
         image_mut!(desc, &mut [], samples, &mut [])
     }
 
-    fn write_samples<F: Formula<i16>>(output: &mut ImageMut<'_>, formula: &F) {
-        let desc = output.desc;
-        write_rows(formula, desc.width(), desc.height(), output.shorts);
+    fn write_samples<S, F: RowFormula<i16, S>>(
+        output: &mut ImageMut<'_>,
+        formula: &F,
+        scratch: &mut [S],
+    ) {
+        let (width, height) = (output.desc.width(), output.desc.height());
+        write_rows(formula, width, height, scratch, output.shorts);
     }
 }
 
@@ -137,8 +150,12 @@ impl Sample for u32 {
         image_mut!(desc, &mut [], &mut [], samples)
     }
 
-    fn write_samples<F: Formula<u32>>(output: &mut ImageMut<'_>, formula: &F) {
-        let desc = output.desc;
-        write_rows(formula, desc.width(), desc.height(), output.words);
+    fn write_samples<S, F: RowFormula<u32, S>>(
+        output: &mut ImageMut<'_>,
+        formula: &F,
+        scratch: &mut [S],
+    ) {
+        let (width, height) = (output.desc.width(), output.desc.height());
+        write_rows(formula, width, height, scratch, output.words);
     }
 }

@@ -37,7 +37,7 @@ held_by uses objects = filter (λ o. o.live || nat_lt 0 (uses o.name)) objects
 
 -- ---- objects that are replaced, and that are added
 
-changed_object : (objects : Objects) (cell : Cell) (object : ObjectValue) → map named (changed cell.name (λ e. record e { object = with_slot cell.slot object e.object }) objects) ≡ with_object (map named objects) cell object
+pub changed_object : (objects : Objects) (cell : Cell) (object : ObjectValue) → map named (changed cell.name (λ e. record e { object = with_slot cell.slot object e.object }) objects) ≡ with_object (map named objects) cell object
 changed_object [] cell object = refl
 changed_object (e ∷ objects) cell object = ap (λ o. o ∷ map named (changed cell.name (λ e. record e { object = with_slot cell.slot object e.object }) objects)) (either (e.name == cell.name))
     ∙ ap (λ l. cond (e.name == cell.name) (record (named e) { object = with_slot cell.slot object e.object }) (named e) ∷ l) (changed_object objects cell object)

@@ -12,9 +12,9 @@ use Rattle.vx_base.specs.declared.format.Format.TheVariants.{U8}
 use Rattle.vx_base.specs.declared.kind.Kind.TheVariants as kind
 use Rattle.vx_base.specs.Description.{Description}
 use Rattle.vx_base.specs.Image.{ImageValue, IsImage, new_image, description_of}
-use Rattle.vx_base.specs.Object.{ObjectValue, ImageObject, DelayObject, IsObject, IsDelay, object_kind}
+use Rattle.vx_base.specs.Object.{ObjectValue, ImageObject, GraphObject, DelayObject, IsObject, IsDelay, object_kind}
 use Rattle.object_table.specs.Delay.{in_slot, object_in, with_slot, HasImage}
-use Rattle.object_table.specs.Object.{image_value}
+use Rattle.object_table.specs.Object.{graph_value, image_value}
 
 -- ---- what is there
 
@@ -39,9 +39,13 @@ slot_has_image k other h = cc
 pub has_image : (slot : Option ℕ) (object : ObjectValue) → IsTrue (is_some (in_slot slot object)) → object_kind (object_in slot object) ≡ kind.Image → HasImage slot object
 has_image slot object h is = ap (option_map object_kind) (there_is slot object h) ∙ ap Some is
 
-image_of_kind : (object : ObjectValue) → object_kind object ≡ kind.Image → object ≡ ImageObject (image_value object)
+pub image_of_kind : (object : ObjectValue) → object_kind object ≡ kind.Image → object ≡ ImageObject (image_value object)
 image_of_kind (ImageObject image) h = refl
 image_of_kind other h = cc
+
+pub graph_of_kind : (object : ObjectValue) → object_kind object ≡ kind.Graph → object ≡ GraphObject (graph_value object)
+graph_of_kind (GraphObject graph) h = refl
+graph_of_kind other h = cc
 
 -- where an image stands, something is there, and it is one
 pub image_there : (slot : Option ℕ) (object : ObjectValue) → HasImage slot object → IsTrue (is_some (in_slot slot object)) × (object_in slot object ≡ ImageObject (image_value (object_in slot object)))

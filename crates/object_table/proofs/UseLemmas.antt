@@ -10,7 +10,7 @@ use Rattle.object_table.specs.Names.{is_held, held_of, changed, with_entry, rele
 use Rattle.object_table.specs.Uses.{times, with_uses, used_all, unused_all, HaveRoom, HaveUses, AreUses}
 use Rattle.object_table.proofs.NamesLemmas.{All-changed}
 
-times-append : (name : ℕ) (names others : List ℕ) → times name (names ++ others) ≡ times name names + times name others
+pub times-append : (name : ℕ) (names others : List ℕ) → times name (names ++ others) ≡ times name names + times name others
 times-append name names others = sum_by-append (λ other. cond (name == other) 1 0) names others
 
 times-one : (name other : ℕ) → times name (other ∷ []) ≡ cond (name == other) 1 0

@@ -5,14 +5,10 @@ use Rattle.std.specs.Char.{is_ascii_digit}
 use Rattle.std.specs.List.{flat_map}
 use Rattle.std.proofs.lemmas.Bool.Decides.{nat_tests}
 use Rattle.std.proofs.lemmas.List.Elements.{All-head, All-tail, All-nil, All-cons}
-use Rattle.pgm_images.specs.Marks.{ends_line, is_space, begins_comment, begins_gap, past_blanks, ends}
+use Rattle.pgm_images.specs.Marks.{begins_digit, ends_line, is_space, begins_comment, begins_gap, past_blanks, ends}
 use Rattle.pgm_images.specs.Grammar.{IsTail, IsBlank, IsBlanks}
 
 -- ---- what a text begins with
-
-abbrev pub begins_digit : List ℕ → Bool
-begins_digit [] = false
-begins_digit (b ∷ text) = is_ascii_digit b
 
 pub space_is : (b : ℕ) → is_space b ≡ true → (begins_comment b ≡ false) × (is_ascii_digit b ≡ false)
 space_is b is = grind (arith, nat_tests)

@@ -6,4 +6,5 @@ pub mod WrittenBack
 pub mod GapLemmas
 pub mod SpacedLemmas
 pub mod StandsLemmas
+pub mod HeaderLemmas
 pub mod PictureLaws

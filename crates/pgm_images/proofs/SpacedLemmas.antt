@@ -4,12 +4,12 @@ use Rattle.std.specs.Char.{is_ascii_digit}
 use Rattle.std.specs.Option.{option_and_then, option_map}
 use Rattle.std.specs.Str.{all_ascii_digits}
 use Rattle.std.specs.Str.Parse.{digits_value}
-use Rattle.pgm_images.specs.Marks.{and_then, begins_gap, past_blanks, digits_after, take_number, take_next, ends}
+use Rattle.pgm_images.specs.Marks.{and_then, begins_digit, begins_gap, past_blanks, digits_after, take_number, take_next, ends}
 use Rattle.pgm_images.specs.Raster.{so_many}
 use Rattle.pgm_images.specs.Grammar.{IsBlanks, IsSpaced, AreSpaced}
 use Rattle.pgm_images.proofs.ReadingLemmas.{then_some, map_some, if_some}
 use Rattle.pgm_images.proofs.DigitLemmas.{value_after, value_more, digits_model, first_digit, digit_begins}
-use Rattle.pgm_images.proofs.GapLemmas.{begins_digit, gap_begins, no_digit, skip_blanks, blanks_of, blanks_no_digit, ends_of}
+use Rattle.pgm_images.proofs.GapLemmas.{gap_begins, no_digit, skip_blanks, blanks_of, blanks_no_digit, ends_of}
 
 -- ---- digits
 
@@ -75,6 +75,13 @@ number_of (c ∷ text) n rest e =
     let (first, behind) = pair_same (value_after 0 digits) n others rest (sym value ∙ same) in
     (digits, are, some_digits digits others c text spelled is none, sym (value_is digits are) ∙ first, spelled ∙ ap (λ l. digits ++ l) behind)
 
+number_end : (text : List ℕ) (n : ℕ) (rest : List ℕ) → take_number text ≡ Some (n, rest) → begins_digit rest ≡ false
+number_end [] n rest e = cc
+number_end (c ∷ text) n rest e =
+    let (is, same) = if_some (is_ascii_digit c) (digits_after 0 (c ∷ text)) (pair n rest) e in
+    let (digits, others, are, spelled, value, none) = split (c ∷ text) 0 in
+    ap begins_digit (sym (pair_same (value_after 0 digits) n others rest (sym value ∙ same)).1) ∙ none
+
 number_then : (digits rest : List ℕ) → all_ascii_digits digits ≡ true → 0 < length digits → begins_digit rest ≡ false
     → (take_number (digits ++ rest) ≡ Some (pair (digits_value 10 digits) rest)) × (begins_digit (digits ++ rest) ≡ true) × (past_blanks false (digits ++ rest) ≡ Some (digits ++ rest))
 number_then [] rest are some none = absurd (omega arith)
@@ -116,6 +123,13 @@ spaced_of text n rest e =
       record { gap = gap; digits = digits; spelled = refl; blanks = are_blanks; some = some; decimal = are; one = one; value = value },
       spelled ∙ ap (λ l. gap ++ l) is ∙ sym (append_assoc gap digits rest),
     )
+
+-- and no digit follows it
+pub spaced_end : (text : List ℕ) (n : ℕ) (rest : List ℕ) → take_next text ≡ Some (n, rest) → begins_digit rest ≡ false
+spaced_end text n rest e =
+    let (begins, taken) = if_taken (begins_gap text) (option_and_then take_number (past_blanks false text)) (pair n rest) e in
+    let (middle, blanks, number) = and_then_some (past_blanks false text) (pair n rest) taken in
+    number_end middle n rest number
 
 pub spaced_next : (first rest : List ℕ) (n : ℕ) → IsSpaced first n → begins_digit rest ≡ false → take_next (first ++ rest) ≡ Some (n, rest)
 spaced_next first rest n is none =

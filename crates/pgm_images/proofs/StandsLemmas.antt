@@ -8,15 +8,15 @@ use Rattle.pgm_images.specs.declared.fault.PgmFault.{PgmFault}
 use Rattle.pgm_images.specs.declared.fault.PgmFault.TheVariants.{NoMemory, InvalidFormat, InvalidDimension, InvalidValue}
 use Rattle.pgm_images.specs.declared.header.Encoding.{Encoding}
 use Rattle.pgm_images.specs.declared.header.Encoding.TheVariants.{Plain, Raw}
-use Rattle.pgm_images.specs.Marks.{Taken, and_then, is_space, take_next}
+use Rattle.pgm_images.specs.Marks.{Taken, and_then, is_space, begins_digit, take_next}
 use Rattle.pgm_images.specs.Header.{HeaderValue, take_magic, past_header, take_numbers, take_header, is_maxval, format_up_to, described}
 use Rattle.pgm_images.specs.Raster.{so_many, take_byte, take_pair, take_raw, nothing_left, numbers_in, samples_up_to, all_up_to}
 use Rattle.pgm_images.specs.Reading.{with_samples, picture_under, picture_after, reading, fault_of, fault}
-use Rattle.pgm_images.specs.Grammar.{IsSpaced, AreSpaced, ArePairs, IsRaster, IsPlainText, IsRawText, Stands}
+use Rattle.pgm_images.specs.Grammar.{IsSpaced, AreSpaced, ArePairs, IsRaster, magic, IsPlainText, IsRawText, Stands}
 use Rattle.pgm_images.proofs.RasterLemmas.{bytes-many}
 use Rattle.pgm_images.proofs.ReadingLemmas.{then_some, map_some, if_some, samples_of, numbers_size}
-use Rattle.pgm_images.proofs.GapLemmas.{begins_digit, space_is, blanks_no_digit}
-use Rattle.pgm_images.proofs.SpacedLemmas.{spaced_of, spaced_next, spaced_no_digit, many_spaced, spaced_many}
+use Rattle.pgm_images.proofs.GapLemmas.{space_is, blanks_no_digit}
+use Rattle.pgm_images.proofs.SpacedLemmas.{spaced_of, spaced_end, spaced_next, spaced_no_digit, many_spaced, spaced_many}
 
 -- ---- rasters
 
@@ -47,13 +47,13 @@ raw_many : (maxval count : ℕ) (bytes : List ℕ) (narrow : Bool) → nat_lt ma
     → so_many (take_raw maxval) nothing_left count bytes ≡ so_many (λ text. if narrow then take_byte text else take_pair text) nothing_left count bytes
 raw_many maxval count bytes narrow e = ap (λ b. so_many (λ text. if b then take_byte text else take_pair text) nothing_left count bytes) e
 
-raster_of : (maxval count : ℕ) (bytes numbers : List ℕ) → so_many (take_raw maxval) nothing_left count bytes ≡ Some numbers → IsRaster maxval bytes numbers
+pub raster_of : (maxval count : ℕ) (bytes numbers : List ℕ) → so_many (take_raw maxval) nothing_left count bytes ≡ Some numbers → IsRaster maxval bytes numbers
 raster_of maxval count bytes numbers e = elim (cases_lt maxval 256) [
   | inl low ↦ inl (low, bytes_of count bytes numbers (sym (raw_many maxval count bytes true (lt-ltb maxval 256 low)) ∙ e))
   | inr high ↦ inr (high, pairs_of count bytes numbers (sym (raw_many maxval count bytes false (le-ltb maxval 256 high)) ∙ e))
 ]
 
-raster_many : (maxval : ℕ) (bytes numbers : List ℕ) → IsRaster maxval bytes numbers → so_many (take_raw maxval) nothing_left (length numbers) bytes ≡ Some numbers
+pub raster_many : (maxval : ℕ) (bytes numbers : List ℕ) → IsRaster maxval bytes numbers → so_many (take_raw maxval) nothing_left (length numbers) bytes ≡ Some numbers
 raster_many maxval bytes numbers (inl (low, same)) =
     raw_many maxval (length numbers) bytes true (lt-ltb maxval 256 low) ∙ ap (so_many take_byte nothing_left (length numbers)) same ∙ bytes-many (length numbers) numbers refl
 raster_many maxval bytes numbers (inr (high, are)) =
@@ -71,12 +71,12 @@ ended encoding w h m rest = option_map (λ rest. (header encoding w h m, rest)) 
 abbrev pub HasNumbers : Encoding → List ℕ → HeaderValue → List ℕ → Type 0
 HasNumbers encoding text value rest =
     (a b c middle : List ℕ) × IsSpaced a value.width × IsSpaced b value.height × IsSpaced c value.maxval × (text ≡ a ++ (b ++ (c ++ middle)))
-    × (past_header encoding middle ≡ Some rest) × (value.encoding ≡ encoding)
+    × (past_header encoding middle ≡ Some rest) × (value.encoding ≡ encoding) × (begins_digit middle ≡ false)
 
 header_same : (x y : HeaderValue) (r s : List ℕ) → ◌≡◌ {A = HeaderValue × List ℕ} (x, r) (y, s) → (x ≡ y) × (r ≡ s)
 header_same x y r s e = (ap (λ (t : HeaderValue × List ℕ). t.0) e, ap (λ (t : HeaderValue × List ℕ). t.1) e)
 
-numbers_of : (encoding : Encoding) (text : List ℕ) (value : HeaderValue) (rest : List ℕ) → take_numbers encoding text ≡ Some (value, rest) → HasNumbers encoding text value rest
+pub numbers_of : (encoding : Encoding) (text : List ℕ) (value : HeaderValue) (rest : List ℕ) → take_numbers encoding text ≡ Some (value, rest) → HasNumbers encoding text value rest
 numbers_of encoding text value rest e =
     let after_height : ℕ → ℕ → List ℕ → Taken HeaderValue = λ w h rest. and_then (take_next rest) (ended encoding w h) in
     let after_width : ℕ → List ℕ → Taken HeaderValue = λ w rest. and_then (take_next rest) (after_height w) in
@@ -89,9 +89,9 @@ numbers_of encoding text value rest e =
     let (b, spaced_b, at_b) = spaced_of rest1 h rest2 is_h in
     let (c, spaced_c, at_c) = spaced_of rest2 m rest3 is_m in
     subst (λ v. HasNumbers encoding text v rest) is
-    (a, b, c, rest3, spaced_a, spaced_b, spaced_c, at_a ∙ ap (λ l. a ++ l) (at_b ∙ ap (λ l. b ++ l) at_c), past ∙ ap Some behind, refl)
+    (a, b, c, rest3, spaced_a, spaced_b, spaced_c, at_a ∙ ap (λ l. a ++ l) (at_b ∙ ap (λ l. b ++ l) at_c), past ∙ ap Some behind, refl, spaced_end rest2 m rest3 is_m)
 
-numbers_back : (encoding : Encoding) (w h m : ℕ) (samples body rest : List ℕ) → AreSpaced body (w ∷ h ∷ m ∷ samples) → begins_digit rest ≡ false
+pub numbers_back : (encoding : Encoding) (w h m : ℕ) (samples body rest : List ℕ) → AreSpaced body (w ∷ h ∷ m ∷ samples) → begins_digit rest ≡ false
     → (more : List ℕ) × AreSpaced more samples × (take_numbers encoding (body ++ rest) ≡ ended encoding w h m (more ++ rest))
 numbers_back encoding w h m samples body rest (a, body1, is_a, are1, at_a) none =
     let (b, body2, is_b, are2, at_b) = are1 in
@@ -106,11 +106,6 @@ numbers_back encoding w h m samples body rest (a, body1, is_a, are1, at_a) none 
     let taken3 : take_next (body2 ++ rest) ≡ Some (m, more ++ rest) = ap (λ l. take_next (l ++ rest)) at_c ∙ ap take_next (append_assoc c more rest) ∙ spaced_next c (more ++ rest) m is_c none3 in
     (more, are, ap (λ t. and_then t after_width) taken1 ∙ ap (λ t. and_then t (after_height w)) taken2 ∙ ap (λ t. and_then t (ended encoding w h)) taken3)
 
--- the magic number
-abbrev pub magic : Encoding → ℕ
-magic Plain = 50
-magic Raw = 53
-
 both_of : (a b : Bool) → (a && b) ≡ true → (a ≡ true) × (b ≡ true)
 both_of true b e = (refl, e)
 both_of false b e = cc
@@ -123,7 +118,7 @@ magic_same x y r s e =
     let same : ◌≡◌ {A = Encoding × List ℕ} (x, r) (y, s) = cc in
     (ap (λ (t : Encoding × List ℕ). t.0) same, ap (λ (t : Encoding × List ℕ). t.1) same)
 
-magic_of : (text : List ℕ) (encoding : Encoding) (rest : List ℕ) → take_magic text ≡ Some (encoding, rest) → text ≡ 80 ∷ magic encoding ∷ rest
+pub magic_of : (text : List ℕ) (encoding : Encoding) (rest : List ℕ) → take_magic text ≡ Some (encoding, rest) → text ≡ 80 ∷ magic encoding ∷ rest
 magic_of [] encoding rest e = cc
 magic_of (a ∷ []) encoding rest e = cc
 magic_of (a ∷ b ∷ text) encoding rest e = plain ((a == 80) && (b == 50)) refl e
@@ -176,14 +171,14 @@ sampled d (Err fault) p e = cc
 
 -- ---- what is read stands in the text
 
-past_raw : (middle rest : List ℕ) → past_header Raw middle ≡ Some rest → (space : ℕ) × (is_space space ≡ true) × (middle ≡ space ∷ rest)
+pub past_raw : (middle rest : List ℕ) → past_header Raw middle ≡ Some rest → (space : ℕ) × (is_space space ≡ true) × (middle ≡ space ∷ rest)
 past_raw [] rest e = cc
 past_raw (b ∷ middle) rest e = let (is, same) = if_some (is_space b) middle rest e in (b, is, ap (λ l. b ∷ l) same)
 
 encoded_of : (encoding : Encoding) (text t : List ℕ) (value : HeaderValue) (rest numbers : List ℕ) (count : ℕ) → text ≡ 80 ∷ magic encoding ∷ t → HasNumbers encoding t value rest
     → numbers_in encoding value.maxval count rest ≡ Some numbers
     → IsPlainText text value.width value.height value.maxval numbers ⊎ IsRawText text value.width value.height value.maxval numbers
-encoded_of Plain text t value rest numbers count spelled (a, b, c, middle, is_a, is_b, is_c, at, past, same) e =
+encoded_of Plain text t value rest numbers count spelled (a, b, c, middle, is_a, is_b, is_c, at, past, same, none) e =
     let (body, end, are, blanks, behind) = spaced_many count rest numbers e in
     let whole : middle ≡ body ++ end = cc in
     let long : t ≡ (a ++ (b ++ (c ++ body))) ++ end = at ∙ ap (λ l. a ++ (b ++ (c ++ l))) whole ∙ simp append_assoc in
@@ -194,7 +189,7 @@ encoded_of Plain text t value rest numbers count spelled (a, b, c, middle, is_a,
       blanks = blanks;
       spelled = spelled ∙ ap (λ l. 80 ∷ 50 ∷ l) long;
     })
-encoded_of Raw text t value rest numbers count spelled (a, b, c, middle, is_a, is_b, is_c, at, past, same) e =
+encoded_of Raw text t value rest numbers count spelled (a, b, c, middle, is_a, is_b, is_c, at, past, same, none) e =
     let (space, white, whole) = past_raw middle rest past in
     let long : t ≡ (a ++ (b ++ (c ++ []))) ++ space ∷ rest = at ∙ ap (λ l. a ++ (b ++ (c ++ l))) whole ∙ simp append_assoc in
     inr (record {
@@ -216,7 +211,7 @@ stands_read text p e =
     let (numbers, is_numbers, below, are) = samples_of value.maxval (numbers_in value.encoding value.maxval (sample_count d) rest) samples is_samples in
     let (encoding, t, is_magic, e3) = then_some (take_magic text) take_numbers (value, rest) is_header in
     let has = numbers_of encoding t value rest e3 in
-    let (a, b, c, middle, is_a, is_b, is_c, at, past, same) = has in
+    let (a, b, c, middle, is_a, is_b, is_c, at, past, same, none) = has in
     let found : numbers_in encoding value.maxval (sample_count d) rest ≡ Some numbers = ap (λ x. numbers_in x value.maxval (sample_count d) rest) (sym same) ∙ is_numbers in
     let made : Stands text (record { description = sized value.width value.height value.maxval; samples = samples }) = record {
       maxval = value.maxval;

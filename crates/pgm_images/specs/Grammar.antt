@@ -5,8 +5,10 @@ use Rattle.std.specs.Str.{all_ascii_digits}
 use Rattle.std.specs.Str.Parse.{digits_value}
 use Rattle.vx_base.specs.Description.{IsDescription, sample_count}
 use Rattle.vx_base.specs.Picture.{PictureValue}
-use Rattle.pgm_images.specs.Marks.{ends_line, is_space, begins_comment}
-use Rattle.pgm_images.specs.Header.{is_maxval, format_up_to}
+use Rattle.pgm_images.specs.declared.header.Encoding.{Encoding}
+use Rattle.pgm_images.specs.declared.header.Encoding.TheVariants.{Plain, Raw}
+use Rattle.pgm_images.specs.Marks.{ends_line, is_space, begins_comment, begins_digit}
+use Rattle.pgm_images.specs.Header.{HeaderValue, is_maxval, format_up_to}
 use Rattle.pgm_images.specs.Raster.{all_up_to}
 
 -- ---- gaps and numbers
@@ -43,7 +45,7 @@ abbrev pub AreSpaced : List ℕ → List ℕ → Type 0
 AreSpaced text [] = text ≡ []
 AreSpaced text (n ∷ numbers) = (first rest : List ℕ) × IsSpaced first n × AreSpaced rest numbers × (text ≡ first ++ rest)
 
--- ---- texts
+-- ---- rasters
 
 -- two bytes for each number, the most significant first
 abbrev pub ArePairs : List ℕ → List ℕ → Type 0
@@ -53,6 +55,33 @@ ArePairs bytes (n ∷ numbers) = (a b : ℕ) × (rest : List ℕ) × (bytes ≡ 
 -- a byte for each number where the maxval is below 256, else two
 abbrev pub IsRaster : (maxval : ℕ) → List ℕ → List ℕ → Type 0
 IsRaster maxval bytes numbers = ((maxval < 256) × (bytes ≡ numbers)) ⊎ ((256 ≤ maxval) × ArePairs bytes numbers)
+
+-- ---- a header, and what follows it
+
+-- the second byte of a text, after `P`: `2` of a plain one, `5` of a raw one
+abbrev pub magic : Encoding → ℕ
+magic Plain = 50
+magic Raw = 53
+
+-- how a header ends after its maxval: a plain one where no digit follows, a raw one with a whitespace byte
+abbrev pub EndsHeader : Encoding → (after rest : List ℕ) → Type 0
+EndsHeader Plain after rest = (after ≡ rest) × (begins_digit rest ≡ false)
+EndsHeader Raw after rest = (space : ℕ) × (is_space space ≡ true) × (after ≡ space ∷ rest)
+
+-- the text begins with this header, and the rest follows it
+pub record IsHeader (text : List ℕ) (header : HeaderValue) (rest : List ℕ) : Type 0 where
+  pub body : List ℕ
+  pub after : List ℕ
+  pub numbers : AreSpaced body (header.width ∷ header.height ∷ header.maxval ∷ [])
+  pub end : EndsHeader header.encoding after rest
+  pub spelled : text ≡ 80 ∷ magic header.encoding ∷ (body ++ after)
+
+-- what follows a header has these samples, and nothing else
+abbrev pub HasSamples : Encoding → (maxval : ℕ) → List ℕ → List ℕ → Type 0
+HasSamples Plain maxval rest samples = (body end : List ℕ) × AreSpaced body samples × IsBlanks end × (rest ≡ body ++ end)
+HasSamples Raw maxval rest samples = IsRaster maxval rest samples
+
+-- ---- whole texts
 
 -- `P2`, the width, the height, the maxval and the samples, and perhaps whitespace and comments
 pub record IsPlainText (text : List ℕ) (width height maxval : ℕ) (samples : List ℕ) : Type 0 where

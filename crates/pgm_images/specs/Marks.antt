@@ -43,6 +43,11 @@ abbrev pub take_number : List ℕ → Taken ℕ
 take_number [] = None
 take_number (b ∷ text) = if is_ascii_digit b then Some (digits_after 0 (b ∷ text)) else None
 
+-- whether a digit stands at the front
+abbrev pub begins_digit : List ℕ → Bool
+begins_digit [] = false
+begins_digit (b ∷ text) = is_ascii_digit b
+
 -- whether whitespace or a comment stands at the front
 abbrev pub begins_gap : List ℕ → Bool
 begins_gap [] = false

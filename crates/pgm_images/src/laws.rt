@@ -1,9 +1,12 @@
 //! What the definitions mean: functions that do nothing, whose contracts are facts.
-ghost use Rattle.std.specs.Prelude.{◌≡◌, ◌≢◌, ℕ, List, None, Some, Ok};
+ghost use Rattle.std.specs.Prelude.{◌≡◌, ◌≢◌, ◌*◌, ◌&&◌, true, false, ℕ, List, length, None, Some, Ok};
 ghost use Rattle.vx_base.specs.declared.format.Format.TheVariants.{U8};
+ghost use Rattle.vx_base.specs.Description.{is_side};
 ghost use Rattle.vx_base.specs.Picture.{PictureValue, IsPicture};
-ghost use Rattle.pgm_images.specs.declared.fault.PgmFault.TheVariants.{NoMemory};
-ghost use Rattle.pgm_images.specs.Grammar.{Stands};
+ghost use Rattle.pgm_images.specs.declared.fault.PgmFault.TheVariants.{NoMemory, InvalidFormat, InvalidDimension, InvalidValue};
+ghost use Rattle.pgm_images.specs.Header.{HeaderValue, take_header, is_maxval};
+ghost use Rattle.pgm_images.specs.Raster.{all_up_to};
+ghost use Rattle.pgm_images.specs.Grammar.{Stands, IsHeader, HasSamples};
 ghost use Rattle.pgm_images.specs.Reading.{reading, fault};
 ghost use Rattle.pgm_images.specs.Writing.{written};
 
@@ -21,6 +24,42 @@ pub fn faultless()
     ensures stands { (text : List ℕ) → fault text ≡ None → (p : PictureValue) × Stands text p }
     ensures none { (text : List ℕ) (p : PictureValue) → Stands text p → fault text ≡ None }
     ensures memory { (text : List ℕ) → fault text ≢ Some NoMemory }
+{}
+
+/// The header that is read is the one with which the text begins by the grammar, and what is left is
+/// what follows it; so a text begins with one header at most.
+pub fn headers()
+    ensures found { (text : List ℕ) (header : HeaderValue) (rest : List ℕ) →
+        take_header text ≡ Some (header, rest) → IsHeader text header rest }
+    ensures only { (text : List ℕ) (header : HeaderValue) (rest : List ℕ) →
+        IsHeader text header rest → take_header text ≡ Some (header, rest) }
+{}
+
+/// Which fault a text has that stands for no picture: it begins with no header; its header has a
+/// width or height that isn't allowed; or a maxval that isn't; what follows the header isn't as many
+/// samples as it says, and nothing else; or one of these is above the maxval. The first of these is
+/// told.
+pub fn first_faults()
+    ensures header { (text : List ℕ) →
+        ((header : HeaderValue) (rest : List ℕ) → IsHeader text header rest → ⊥) →
+        fault text ≡ Some InvalidFormat }
+    ensures sides { (text : List ℕ) (header : HeaderValue) (rest : List ℕ) →
+        IsHeader text header rest → (is_side header.width && is_side header.height) ≡ false →
+        fault text ≡ Some InvalidDimension }
+    ensures maxval { (text : List ℕ) (header : HeaderValue) (rest : List ℕ) →
+        IsHeader text header rest → (is_side header.width && is_side header.height) ≡ true →
+        is_maxval header.maxval ≡ false → fault text ≡ Some InvalidFormat }
+    ensures samples { (text : List ℕ) (header : HeaderValue) (rest : List ℕ) →
+        IsHeader text header rest → (is_side header.width && is_side header.height) ≡ true →
+        is_maxval header.maxval ≡ true →
+        ((samples : List ℕ) → length samples ≡ header.height * header.width →
+        HasSamples header.encoding header.maxval rest samples → ⊥) →
+        fault text ≡ Some InvalidFormat }
+    ensures high { (text : List ℕ) (header : HeaderValue) (rest samples : List ℕ) →
+        IsHeader text header rest → (is_side header.width && is_side header.height) ≡ true →
+        is_maxval header.maxval ≡ true → length samples ≡ header.height * header.width →
+        HasSamples header.encoding header.maxval rest samples →
+        all_up_to header.maxval samples ≡ false → fault text ≡ Some InvalidValue }
 {}
 
 /// What is written of a picture of U8 stands for that picture, and is read back as it.

@@ -1,4 +1,1 @@
-mod RowLaws
 mod WriteLaws
-mod DepthLaws
-mod ThresholdLaws

@@ -1,16 +1,16 @@
 //! Functions of two U8 or S16 images, at the formats that they may have.
-ghost use Rattle.std.specs.Prelude.{◌≡◌, ℤ, pos, IsTrue};
+ghost use Rattle.std.specs.Prelude.{◌≡◌, ℤ, pos, IsTrue, map, length};
+ghost use Rattle.std.specs.Simd.Lanes.{zip2};
 ghost use Rattle.vx_base.specs.declared.format.Format.{Format as FormatValue};
 ghost use Rattle.vx_base.specs.declared.format.Format.TheVariants.{U8, S16};
-ghost use Rattle.vx_base.specs.Sample.{IsSample};
 ghost use Rattle.vx_base.specs.Formats.{are_arithmetic};
 ghost use Rattle.vx_base.specs.Pixelwise.{from_two};
 ghost use Rattle.image_core.specs.Fits.{HaveSameSize};
 ghost use Rattle.image_core.specs.Target.{written, IsTarget, Writes};
 
-use crate::short_sample::ShortSample;
 use crate::two::{OfTwo, write_two};
 use image_core::{Image, ImageMut};
+use lane_rows::Short;
 use vx_base::Format;
 
 /// What a function of two U8 or S16 images gives at a place.
@@ -18,15 +18,17 @@ pub trait Arithmetic {
     /// The sample of a format, from those of the two images.
     ghost formula: { Self → FormatValue → ℤ → ℤ → ℤ };
 
-    /// The U8 sample, from two of U8.
-    fn byte(&self, a: u8, b: u8) -> u8
-        ensures { pos result ≡ formula self.now U8 (pos a) (pos b) };
+    /// Writes the U8 samples of a row, from two of U8.
+    fn bytes(&self, first: &[u8], second: &[u8], out: &mut [u8])
+        requires first_len { length first.now ≡ length out.old }
+        requires second_len { length second.now ≡ length out.old }
+        ensures { map pos out.new ≡ zip2 (formula self.now U8) (map pos first.now) (map pos second.now) };
 
-    /// The S16 sample, from two of U8 or S16.
-    fn short(&self, a: i32, b: i32) -> i16
-        requires first { IsSample S16 a }
-        requires second { IsSample S16 b }
-        ensures { result ≡ formula self.now S16 a b };
+    /// Writes the S16 samples of a row, from two of U8 or S16.
+    fn shorts<A: Short, B: Short>(&self, first: &[A], second: &[B], out: &mut [i16])
+        requires first_len { length first.now ≡ length out.old }
+        requires second_len { length second.now ≡ length out.old }
+        ensures { out.new ≡ zip2 (formula self.now S16) (map A.value first.now) (map B.value second.now) };
 }
 
 /// A function at U8 images.
@@ -38,8 +40,8 @@ struct Bytes<'a, K> {
 impl<K: Arithmetic> OfTwo<u8, u8, u8> for Bytes<'_, K> {
     ghost formula = { λ s. K.formula s.kernel.now U8 };
 
-    fn sample(&self, a: u8, b: u8) -> u8 {
-        self.kernel.byte(a, b)
+    fn row(&self, first: &[u8], second: &[u8], out: &mut [u8]) {
+        self.kernel.bytes(first, second, out);
     }
 }
 
@@ -49,11 +51,35 @@ struct Shorts<'a, K> {
     kernel: &'a K,
 }
 
-impl<A: ShortSample, B: ShortSample, K: Arithmetic> OfTwo<A, B, i16> for Shorts<'_, K> {
+impl<K: Arithmetic> OfTwo<u8, u8, i16> for Shorts<'_, K> {
     ghost formula = { λ s. K.formula s.kernel.now S16 };
 
-    fn sample(&self, a: A, b: B) -> i16 {
-        self.kernel.short(a.widen(), b.widen())
+    fn row(&self, first: &[u8], second: &[u8], out: &mut [i16]) {
+        self.kernel.shorts(first, second, out);
+    }
+}
+
+impl<K: Arithmetic> OfTwo<u8, i16, i16> for Shorts<'_, K> {
+    ghost formula = { λ s. K.formula s.kernel.now S16 };
+
+    fn row(&self, first: &[u8], second: &[i16], out: &mut [i16]) {
+        self.kernel.shorts(first, second, out);
+    }
+}
+
+impl<K: Arithmetic> OfTwo<i16, u8, i16> for Shorts<'_, K> {
+    ghost formula = { λ s. K.formula s.kernel.now S16 };
+
+    fn row(&self, first: &[i16], second: &[u8], out: &mut [i16]) {
+        self.kernel.shorts(first, second, out);
+    }
+}
+
+impl<K: Arithmetic> OfTwo<i16, i16, i16> for Shorts<'_, K> {
+    ghost formula = { λ s. K.formula s.kernel.now S16 };
+
+    fn row(&self, first: &[i16], second: &[i16], out: &mut [i16]) {
+        self.kernel.shorts(first, second, out);
     }
 }
 

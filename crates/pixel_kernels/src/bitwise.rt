@@ -10,14 +10,15 @@ ghost use Rattle.image_core.specs.Target.{Writes};
 use crate::one::{OfOne, write_one};
 use crate::two::{OfTwo, write_two};
 use image_core::{Image, ImageMut};
+use lane_rows::{and_u8, not_u8, or_u8, xor_u8};
 
 struct And;
 
 impl OfTwo<u8, u8, u8> for And {
     ghost formula = { λ s. and_bits };
 
-    fn sample(&self, a: u8, b: u8) -> u8 {
-        a & b
+    fn row(&self, first: &[u8], second: &[u8], out: &mut [u8]) {
+        and_u8(first, second, out);
     }
 }
 
@@ -26,8 +27,8 @@ struct Or;
 impl OfTwo<u8, u8, u8> for Or {
     ghost formula = { λ s. or_bits };
 
-    fn sample(&self, a: u8, b: u8) -> u8 {
-        a | b
+    fn row(&self, first: &[u8], second: &[u8], out: &mut [u8]) {
+        or_u8(first, second, out);
     }
 }
 
@@ -36,8 +37,8 @@ struct Xor;
 impl OfTwo<u8, u8, u8> for Xor {
     ghost formula = { λ s. xor_bits };
 
-    fn sample(&self, a: u8, b: u8) -> u8 {
-        a ^ b
+    fn row(&self, first: &[u8], second: &[u8], out: &mut [u8]) {
+        xor_u8(first, second, out);
     }
 }
 
@@ -46,8 +47,8 @@ struct Not;
 impl OfOne<u8, u8> for Not {
     ghost formula = { λ s. not_bits };
 
-    fn sample(&self, a: u8) -> u8 {
-        !a
+    fn row(&self, row: &[u8], out: &mut [u8]) {
+        not_u8(row, out);
     }
 }
 

@@ -7,8 +7,9 @@ ghost use Rattle.image_core.specs.Fits.{Fits};
 ghost use Rattle.image_core.specs.Target.{written, Writes};
 
 use crate::one::{OfOne, write_one};
-use image_core::{Image, ImageMut, Overflow, Saturated, Wrapped, with_overflow};
-use vx_base::{Format, Policy, narrow_u8};
+use image_core::{Image, ImageMut};
+use lane_rows::{narrow, shift_up};
+use vx_base::{Format, Policy};
 
 /// To S16: times 2^amount.
 #[derive(Drop)]
@@ -20,24 +21,24 @@ struct Deepened {
 impl OfOne<u8, i16> for Deepened {
     ghost formula = { λ s a. a *ℤ pos (2 ^ s.amount) };
 
-    fn sample(&self, a: u8) -> i16 {
-        (u16::from(a) << self.amount) as i16
+    fn row(&self, row: &[u8], out: &mut [i16]) {
+        shift_up(row, self.amount, out);
     }
 }
 
 /// To U8: over 2^amount, rounded down and narrowed.
 #[derive(Drop)]
-struct Narrowed<P> {
+struct Narrowed {
     amount: u8,
-    overflow: P,
+    policy: Policy,
     ghost small: { amount ≤ 7 },
 }
 
-impl<P: Overflow> OfOne<i16, u8> for Narrowed<P> {
-    ghost formula = { λ s. converted U8 (P.policy s.overflow) s.amount };
+impl OfOne<i16, u8> for Narrowed {
+    ghost formula = { λ s. converted U8 s.policy s.amount };
 
-    fn sample(&self, a: i16) -> u8 {
-        narrow_u8(i32::from(a) >> self.amount, self.overflow.policy())
+    fn row(&self, row: &[i16], out: &mut [u8]) {
+        narrow(row, self.amount, self.policy, out);
     }
 }
 
@@ -50,8 +51,6 @@ pub fn convert_depth(image: &Image<'_>, output: &mut ImageMut<'_>, policy: Polic
 {
     match image.desc().format() {
         Format::U8 => write_one::<u8, i16, _>(&Deepened { amount }, image, output),
-        _ => with_overflow!(policy, overflow => {
-            write_one::<i16, u8, _>(&Narrowed { amount, overflow }, image, output)
-        }),
+        _ => write_one::<i16, u8, _>(&Narrowed { amount, policy }, image, output),
     }
 }

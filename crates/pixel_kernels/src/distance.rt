@@ -8,18 +8,19 @@ ghost use Rattle.image_core.specs.Target.{written, Writes};
 
 use crate::arithmetic::{Arithmetic, write_arithmetic};
 use image_core::{Image, ImageMut};
+use lane_rows::{Short, absdiff_s16, absdiff_u8};
 
 struct Distance;
 
 impl Arithmetic for Distance {
     ghost formula = { λ _ format. absolute_difference format };
 
-    fn byte(&self, a: u8, b: u8) -> u8 {
-        a.abs_diff(b)
+    fn bytes(&self, first: &[u8], second: &[u8], out: &mut [u8]) {
+        absdiff_u8(first, second, out);
     }
 
-    fn short(&self, a: i32, b: i32) -> i16 {
-        (a - b).unsigned_abs().min(32_767) as i16
+    fn shorts<A: Short, B: Short>(&self, first: &[A], second: &[B], out: &mut [i16]) {
+        absdiff_s16(first, second, out);
     }
 }
 

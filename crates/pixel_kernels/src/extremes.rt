@@ -8,18 +8,19 @@ ghost use Rattle.image_core.specs.Target.{written, Writes};
 
 use crate::arithmetic::{Arithmetic, write_arithmetic};
 use image_core::{Image, ImageMut};
+use lane_rows::{Short, max_s16, max_u8, min_s16, min_u8};
 
 struct Smaller;
 
 impl Arithmetic for Smaller {
     ghost formula = { λ _ _. smaller };
 
-    fn byte(&self, a: u8, b: u8) -> u8 {
-        a.min(b)
+    fn bytes(&self, first: &[u8], second: &[u8], out: &mut [u8]) {
+        min_u8(first, second, out);
     }
 
-    fn short(&self, a: i32, b: i32) -> i16 {
-        a.min(b) as i16
+    fn shorts<A: Short, B: Short>(&self, first: &[A], second: &[B], out: &mut [i16]) {
+        min_s16(first, second, out);
     }
 }
 
@@ -28,12 +29,12 @@ struct Greater;
 impl Arithmetic for Greater {
     ghost formula = { λ _ _. greater };
 
-    fn byte(&self, a: u8, b: u8) -> u8 {
-        a.max(b)
+    fn bytes(&self, first: &[u8], second: &[u8], out: &mut [u8]) {
+        max_u8(first, second, out);
     }
 
-    fn short(&self, a: i32, b: i32) -> i16 {
-        a.max(b) as i16
+    fn shorts<A: Short, B: Short>(&self, first: &[A], second: &[B], out: &mut [i16]) {
+        max_s16(first, second, out);
     }
 }
 

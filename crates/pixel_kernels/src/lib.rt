@@ -1,10 +1,10 @@
 //! Functions that give each sample of an image from the samples at the same place.
 //!
 //! Each writes a whole output: the formula of OpenVX 1.3 where the inputs are valid, 0 elsewhere,
-//! and their rectangle, or that in which two meet. A kernel is a type with a `sample` at a place,
-//! `OfOne` or `OfTwo`; that it gives a whole image is proved once for all, in `write_one` and
-//! `write_two`. Formats and policies are type parameters, so that the loop over a row asks for
-//! neither.
+//! and their rectangle, or that in which two meet. A kernel is a type that writes a row, `OfOne` or
+//! `OfTwo`, by the kernels of lane_rows; that it gives a whole image is proved once for all, in
+//! `write_one` and `write_two`. Formats are type parameters, so that the loop over a row asks for
+//! none.
 #![tactic(auto)]
 
 mod arithmetic;
@@ -14,7 +14,6 @@ mod distance;
 mod extremes;
 mod one;
 mod product;
-mod short_sample;
 mod sum;
 mod tables;
 mod thresholds;

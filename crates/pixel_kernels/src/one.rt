@@ -15,18 +15,10 @@ pub trait OfOne<A: Sample, T: Sample> {
     /// The sample, from that of the image.
     ghost formula: { Self → ℤ → ℤ };
 
-    fn sample(&self, a: A) -> T
-        ensures { T.value result ≡ formula self.now (A.value a) };
-}
-
-/// Writes what the kernel gives at each place of a row.
-fn map_row<A: Sample, T: Sample, K: OfOne<A, T>>(kernel: &K, row: &[A], out: &mut [T])
-    requires { length row.now ≡ length out.old }
-    ensures { map T.value out.new ≡ map (K.formula kernel.now) (map A.value row.now) }
-{
-    for (i, sample) in out.iter_mut().enumerate() {
-        *sample = kernel.sample(row[i]);
-    }
+    /// Writes what the kernel gives at each place of a row.
+    fn row(&self, row: &[A], out: &mut [T])
+        requires { length row.now ≡ length out.old }
+        ensures { map T.value out.new ≡ map (formula self.now) (map A.value row.now) };
 }
 
 /// What a kernel gives of an image, where it is valid.
@@ -51,7 +43,7 @@ impl<A: Sample, T: Sample, K: OfOne<A, T>> Formula<T> for FromOne<'_, '_, A, K> 
 
     fn fill(&self, x: u16, y: u16, out: &mut [T]) {
         let row = self.image.part_of_row::<A>(x, y, out.len());
-        map_row(self.kernel, row, out);
+        self.kernel.row(row, out);
     }
 }
 

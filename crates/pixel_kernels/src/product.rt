@@ -1,54 +1,32 @@
 //! Products.
-ghost use Rattle.std.specs.Prelude.{◌≡◌, ◌≤◌, ◌^◌, ◌*ℤ◌, pos, unsigned_abs, int_div, Some};
-ghost use Rattle.vx_base.specs.declared.format.Format.TheVariants.{S16};
+ghost use Rattle.std.specs.Prelude.{◌≡◌, ◌≤◌, Some};
 ghost use Rattle.vx_base.specs.declared.function.Function.TheVariants.{Multiply};
-ghost use Rattle.vx_base.specs.Sample.{IsSample};
 ghost use Rattle.vx_base.specs.Object.{ImageObject};
 ghost use Rattle.vx_base.specs.Pixelwise.{product, from_two};
 ghost use Rattle.image_core.specs.Fits.{Fits};
 ghost use Rattle.image_core.specs.Target.{written, Writes};
 
 use crate::arithmetic::{Arithmetic, write_arithmetic};
-use image_core::{Image, ImageMut, Overflow, Saturated, Wrapped, with_overflow};
-use vx_base::{Policy, narrow_s16, narrow_u8};
+use image_core::{Image, ImageMut};
+use lane_rows::{Short, mul_s16, mul_u8};
+use vx_base::Policy;
 
 #[derive(Drop)]
-struct Product<P> {
+struct Product {
     amount: u8,
-    overflow: P,
+    policy: Policy,
     ghost small: { amount ≤ 15 },
 }
 
-/// A number over 2^amount, rounded to zero.
-fn scaled(number: i32, amount: u8) -> i32
-    requires size { unsigned_abs number ≤ 1073741824 }
-    requires amount { amount ≤ 15 }
-    ensures { result ≡ int_div number (pos (2 ^ amount)) }
-{
-    let magnitude = (number.unsigned_abs() >> amount) as i32;
-    if number < 0 { -magnitude } else { magnitude }
-}
+impl Arithmetic for Product {
+    ghost formula = { λ s format. product format s.policy s.amount };
 
-/// The product of two samples over 2^amount, rounded to zero.
-fn scaled_product(a: i32, b: i32, amount: u8) -> i32
-    requires first { IsSample S16 a }
-    requires second { IsSample S16 b }
-    requires amount { amount ≤ 15 }
-    ensures { result ≡ int_div (a *ℤ b) (pos (2 ^ amount)) }
-{
-    scaled(a * b, amount)
-}
-
-impl<P: Overflow> Arithmetic for Product<P> {
-    ghost formula = { λ s format. product format (P.policy s.overflow) s.amount };
-
-    fn byte(&self, a: u8, b: u8) -> u8 {
-        let number = scaled_product(i32::from(a), i32::from(b), self.amount);
-        narrow_u8(number, self.overflow.policy())
+    fn bytes(&self, first: &[u8], second: &[u8], out: &mut [u8]) {
+        mul_u8(first, second, self.amount, self.policy, out);
     }
 
-    fn short(&self, a: i32, b: i32) -> i16 {
-        narrow_s16(scaled_product(a, b, self.amount), self.overflow.policy())
+    fn shorts<A: Short, B: Short>(&self, first: &[A], second: &[B], out: &mut [i16]) {
+        mul_s16(first, second, self.amount, self.policy, out);
     }
 }
 
@@ -65,7 +43,5 @@ pub fn multiply(
     requires amount { amount ≤ 15 }
     ensures { Writes (from_two (written output.old).format (product (written output.old).format policy amount) first.now second.now) output.old output.new }
 {
-    with_overflow!(policy, overflow => {
-        write_arithmetic(&Product { amount, overflow }, first, second, output)
-    })
+    write_arithmetic(&Product { amount, policy }, first, second, output);
 }

@@ -7,26 +7,24 @@ ghost use Rattle.image_core.specs.Fits.{Fits};
 ghost use Rattle.image_core.specs.Target.{written, Writes};
 
 use crate::arithmetic::{Arithmetic, write_arithmetic};
-use image_core::{Image, ImageMut, Overflow, Saturated, Wrapped, with_overflow};
-use vx_base::{Policy, narrow_s16};
+use image_core::{Image, ImageMut};
+use lane_rows::{Short, add_s16, add_u8, sub_s16, sub_u8};
+use vx_base::Policy;
 
 #[derive(Drop)]
-struct Sum<P> {
-    overflow: P,
+struct Sum {
+    policy: Policy,
 }
 
-impl<P: Overflow> Arithmetic for Sum<P> {
-    ghost formula = { λ s format. sum format (P.policy s.overflow) };
+impl Arithmetic for Sum {
+    ghost formula = { λ s format. sum format s.policy };
 
-    fn byte(&self, a: u8, b: u8) -> u8 {
-        match self.overflow.policy() {
-            Policy::Wrap => a.wrapping_add(b),
-            Policy::Saturate => a.saturating_add(b),
-        }
+    fn bytes(&self, first: &[u8], second: &[u8], out: &mut [u8]) {
+        add_u8(first, second, self.policy, out);
     }
 
-    fn short(&self, a: i32, b: i32) -> i16 {
-        narrow_s16(a + b, self.overflow.policy())
+    fn shorts<A: Short, B: Short>(&self, first: &[A], second: &[B], out: &mut [i16]) {
+        add_s16(first, second, self.policy, out);
     }
 }
 
@@ -36,26 +34,23 @@ pub fn add(first: &Image<'_>, second: &Image<'_>, output: &mut ImageMut<'_>, pol
     requires { Fits Add first.now (Some (ImageObject second.now)) output.old }
     ensures { Writes (from_two (written output.old).format (sum (written output.old).format policy) first.now second.now) output.old output.new }
 {
-    with_overflow!(policy, overflow => write_arithmetic(&Sum { overflow }, first, second, output))
+    write_arithmetic(&Sum { policy }, first, second, output);
 }
 
 #[derive(Drop)]
-struct Difference<P> {
-    overflow: P,
+struct Difference {
+    policy: Policy,
 }
 
-impl<P: Overflow> Arithmetic for Difference<P> {
-    ghost formula = { λ s format. difference format (P.policy s.overflow) };
+impl Arithmetic for Difference {
+    ghost formula = { λ s format. difference format s.policy };
 
-    fn byte(&self, a: u8, b: u8) -> u8 {
-        match self.overflow.policy() {
-            Policy::Wrap => a.wrapping_sub(b),
-            Policy::Saturate => a.saturating_sub(b),
-        }
+    fn bytes(&self, first: &[u8], second: &[u8], out: &mut [u8]) {
+        sub_u8(first, second, self.policy, out);
     }
 
-    fn short(&self, a: i32, b: i32) -> i16 {
-        narrow_s16(a - b, self.overflow.policy())
+    fn shorts<A: Short, B: Short>(&self, first: &[A], second: &[B], out: &mut [i16]) {
+        sub_s16(first, second, self.policy, out);
     }
 }
 
@@ -65,5 +60,5 @@ pub fn subtract(first: &Image<'_>, second: &Image<'_>, output: &mut ImageMut<'_>
     requires { Fits Subtract first.now (Some (ImageObject second.now)) output.old }
     ensures { Writes (from_two (written output.old).format (difference (written output.old).format policy) first.now second.now) output.old output.new }
 {
-    with_overflow!(policy, overflow => write_arithmetic(&Difference { overflow }, first, second, output))
+    write_arithmetic(&Difference { policy }, first, second, output);
 }

@@ -9,6 +9,7 @@ ghost use Rattle.image_core.specs.Target.{written, Writes};
 
 use crate::one::{OfOne, write_one};
 use image_core::{Image, ImageMut};
+use lane_rows::{OfItem, map_row};
 use vx_base::{Lut, Samples};
 
 /// The entry of a U8 sample.
@@ -18,11 +19,19 @@ struct ByteTable<'a> {
     ghost full: { length entries.now ≡ 256 },
 }
 
+impl OfItem<u8, u8> for ByteTable<'_> {
+    ghost formula = { λ s. looked_up (record { format = U8; entries = map pos s.entries.now }) };
+
+    fn item(&self, a: u8) -> u8 {
+        self.entries[usize::from(a)]
+    }
+}
+
 impl OfOne<u8, u8> for ByteTable<'_> {
     ghost formula = { λ s. looked_up (record { format = U8; entries = map pos s.entries.now }) };
 
-    fn sample(&self, a: u8) -> u8 {
-        self.entries[usize::from(a)]
+    fn row(&self, row: &[u8], out: &mut [u8]) {
+        map_row(self, row, out);
     }
 }
 
@@ -33,11 +42,19 @@ struct ShortTable<'a> {
     ghost full: { length entries.now ≡ 65536 },
 }
 
+impl OfItem<i16, i16> for ShortTable<'_> {
+    ghost formula = { λ s. looked_up (record { format = S16; entries = s.entries.now }) };
+
+    fn item(&self, a: i16) -> i16 {
+        self.entries[(i32::from(a) + 32_768) as usize]
+    }
+}
+
 impl OfOne<i16, i16> for ShortTable<'_> {
     ghost formula = { λ s. looked_up (record { format = S16; entries = s.entries.now }) };
 
-    fn sample(&self, a: i16) -> i16 {
-        self.entries[(i32::from(a) + 32_768) as usize]
+    fn row(&self, row: &[i16], out: &mut [i16]) {
+        map_row(self, row, out);
     }
 }
 

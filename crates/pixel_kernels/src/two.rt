@@ -16,24 +16,11 @@ pub trait OfTwo<A: Sample, B: Sample, T: Sample> {
     /// The sample, from those of the two images.
     ghost formula: { Self → ℤ → ℤ → ℤ };
 
-    fn sample(&self, a: A, b: B) -> T
-        ensures { T.value result ≡ formula self.now (A.value a) (B.value b) };
-}
-
-/// Writes what the kernel gives at each place of a row.
-fn zip_rows<A: Sample, B: Sample, T: Sample, K: OfTwo<A, B, T>>(
-    kernel: &K,
-    first: &[A],
-    second: &[B],
-    out: &mut [T],
-)
-    requires first_len { length first.now ≡ length out.old }
-    requires second_len { length second.now ≡ length out.old }
-    ensures { map T.value out.new ≡ zip2 (K.formula kernel.now) (map A.value first.now) (map B.value second.now) }
-{
-    for (i, sample) in out.iter_mut().enumerate() {
-        *sample = kernel.sample(first[i], second[i]);
-    }
+    /// Writes what the kernel gives at each place of two rows.
+    fn row(&self, first: &[A], second: &[B], out: &mut [T])
+        requires first_len { length first.now ≡ length out.old }
+        requires second_len { length second.now ≡ length out.old }
+        ensures { map T.value out.new ≡ zip2 (formula self.now) (map A.value first.now) (map B.value second.now) };
 }
 
 /// What a kernel gives of two images of one size, where both are valid.
@@ -62,7 +49,7 @@ impl<A: Sample, B: Sample, T: Sample, K: OfTwo<A, B, T>> Formula<T> for FromTwo<
     fn fill(&self, x: u16, y: u16, out: &mut [T]) {
         let first = self.first.part_of_row::<A>(x, y, out.len());
         let second = self.second.part_of_row::<B>(x, y, out.len());
-        zip_rows(self.kernel, first, second, out);
+        self.kernel.row(first, second, out);
     }
 }
 

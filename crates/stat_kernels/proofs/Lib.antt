@@ -1,5 +1,6 @@
 mod Rows
 mod PlaceLaws
+mod CountLaws
 mod TallyLaws
 mod LocatedLaws
 mod SumLaws

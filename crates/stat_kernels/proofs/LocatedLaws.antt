@@ -1,14 +1,13 @@
--- Extremes of one more sample.
-use Rattle.std.proofs.Common.{◌≡◌, ◌⊎◌, inl, inr, ℕ, ℤ, pos, ◌+◌, ◌<◌, ◌≤◌, List, [], ◌∷◌, ◌++◌, length, map, cond, Bool, true, false, ap, ◌∙◌, sym, refl, arith, Some, None}
+-- Extremes of one more row.
+use Rattle.std.proofs.Common.{◌≡◌, ◌⊎◌, inl, inr, ℕ, ℤ, pos, ◌+◌, ◌<◌, ◌≤◌, List, [], ◌∷◌, ◌++◌, length, map, cond, Bool, true, false, ap, ◌∙◌, sym, refl, arith, Some, None, ◌-◌, take, get_or, add-one}
 use Rattle.std.specs.List.{fold, find, All}
 use Rattle.std.specs.Option.{unwrap_or, option_or}
 use Rattle.std.specs.Ordering.{int_eq}
 use Rattle.std.specs.Int.{int_min, int_max}
 use Rattle.std.specs.Prelude.{int_lt}
 use Rattle.std.proofs.lemmas.Int.{ints}
-use Rattle.std.proofs.lemmas.Bool.Decides.{Decides-int_eq}
 use Rattle.std.proofs.lemmas.List.{map-append, length-map}
-use Rattle.std.proofs.lemmas.List.Sums.{fold_push, sum_by_push, sum_by-cons, count_by-le-length}
+use Rattle.std.proofs.lemmas.List.Sums.{fold-append, sum_by-append, sum_by-cons, count_by-le-length}
 use Rattle.std.proofs.lemmas.List.Elements.{All-nil, All-cons, All-head, All-tail}
 use Rattle.std.proofs.lemmas.List.Folds.{find-append}
 use Rattle.vx_base.specs.Image.{ImageValue, at, run}
@@ -17,7 +16,10 @@ use Rattle.stat_kernels.specs.declared.part.Part.{Part}
 use Rattle.stat_kernels.specs.declared.located.Found.{Found}
 use Rattle.stat_kernels.specs.Part.{IsValidPart}
 use Rattle.stat_kernels.proofs.Rows.{above}
-use Rattle.stat_kernels.proofs.PlaceLaws.{next_places}
+use Rattle.vx_base.proofs.TableLaws.{get_or-run}
+use Rattle.std.proofs.lemmas.List.FromFn.{take-map-range_with_len}
+use Rattle.stat_kernels.proofs.CountLaws.{bool_cases, test_same, test_other}
+use Rattle.stat_kernels.proofs.PlaceLaws.{next_places, row_samples, row_places-append}
 use Rattle.stat_kernels.specs.declared.located.Located.{Located}
 use Rattle.stat_kernels.specs.Located.{IsDirection, located, found_in}
 
@@ -27,6 +29,8 @@ downwards = record {
   keeps = λ v z h. grind (arith, ints);
   irreflexive = λ z. grind (arith, ints);
   transitive = λ w z v a b. grind (arith, ints);
+  total = λ z v not other. grind (arith, ints);
+  associative = λ v z w. grind (arith, ints);
 }
 
 pub upwards : IsDirection int_max (λ z v. int_lt v z)
@@ -35,33 +39,18 @@ upwards = record {
   keeps = λ v z h. grind (arith, ints);
   irreflexive = λ z. grind (arith, ints);
   transitive = λ w z v a b. grind (arith, ints);
+  total = λ z v not other. grind (arith, ints);
+  associative = λ v z w. grind (arith, ints);
 }
-
-bool_cases : (b : Bool) → (b ≡ true) ⊎ (b ≡ false)
-bool_cases true = inl refl
-bool_cases false = inr refl
 
 not_both : (b : Bool) {P : Type 0} → b ≡ true → b ≡ false → P
 not_both b holds fails = absurd (cc)
 
-eq_from_test : (w z : ℤ) → int_eq w z ≡ true → w ≡ z
-eq_from_test w z h = (Decides-int_eq w z).0 h
-
-test_same : (z : ℤ) → int_eq z z ≡ true
-test_same z = (Decides-int_eq z z).1 refl
-
-test_other : (w z : ℤ) → (w ≡ z → ⊥) → int_eq w z ≡ false
-test_other w z other = cases (bool_cases (int_eq w z))
-  where
-    cases : (int_eq w z ≡ true) ⊎ (int_eq w z ≡ false) → int_eq w z ≡ false
-    cases (inl holds) = absurd (other (eq_from_test w z holds))
-    cases (inr fails) = fails
-
 count_cons : (v a : ℤ) (zs : List ℤ) → count_of v (a ∷ zs) ≡ cond (int_eq a v) 1 0 + count_of v zs
 count_cons v a zs = sum_by-cons (λ s. cond (int_eq s v) 1 0) a zs
 
-count_push : (v a : ℤ) (zs : List ℤ) → count_of v (zs ++ a ∷ []) ≡ count_of v zs + cond (int_eq a v) 1 0
-count_push v a zs = sum_by_push (λ s. cond (int_eq s v) 1 0) zs a
+count_append : (v : ℤ) (zs ws : List ℤ) → count_of v (zs ++ ws) ≡ count_of v zs + count_of v ws
+count_append v zs ws = sum_by-append (λ s. cond (int_eq s v) 1 0) zs ws
 
 -- what a sample adds to the count of v
 abbrev adds : ℤ → ℤ → ℕ
@@ -69,9 +58,6 @@ adds a v = cond (int_eq a v) 1 0
 
 one_more : (a v : ℤ) → a ≡ v → adds a v ≡ 1
 one_more a v same = ap (λ b. let n : ℕ = cond b 1 0 in n) (ap (λ w. int_eq w v) same ∙ test_same v)
-
-none_more : (a v : ℤ) → (a ≡ v → ⊥) → adds a v ≡ 0
-none_more a v other = ap (λ b. let n : ℕ = cond b 1 0 in n) (test_other a v other)
 
 count_here : (v a : ℤ) (zs : List ℤ) → a ≡ v → 0 < count_of v (a ∷ zs)
 count_here v a zs same = omega (arith, count_cons v a zs, one_more a v same)
@@ -133,13 +119,28 @@ module _ (choose : ℤ → ℤ → ℤ) (beyond : ℤ → ℤ → Bool) (d : IsD
       let other : int_eq a z ≡ false = test_other a z (λ same. not_both (beyond z v) is (ap (λ w. beyond w v) (sym same) ∙ All-head (λ w. beyond w v ≡ false) a zs below)) in
       omega (arith, count_cons z a zs, ap (λ b. let n : ℕ = cond b 1 0 in n) other, count_beyond v z zs is (All-tail (λ w. beyond w v ≡ false) a zs below))
 
-  chosen_next : (zs : List ℤ) (z : ℤ) → 0 < count_of (chosen choose zs) zs → chosen choose (zs ++ z ∷ []) ≡ choose (chosen choose zs) z
-  chosen_next [] z some = absurd (omega (arith, some))
-  chosen_next (a ∷ zs) z some = fold_push choose a zs z
+  fold_joined : (a z : ℤ) (zs : List ℤ) → fold choose (choose a z) zs ≡ choose a (fold choose z zs)
+  fold_joined a z [] = refl
+  fold_joined a z (w ∷ zs) = ap (λ b. fold choose b zs) (d.associative a z w) ∙ fold_joined a (choose z w) zs
 
-  chosen_beyond : (zs : List ℤ) (z : ℤ) → beyond z (chosen choose zs) ≡ true → chosen choose (zs ++ z ∷ []) ≡ z
-  chosen_beyond [] z is = refl
-  chosen_beyond (a ∷ zs) z is = fold_push choose a zs z ∙ d.takes (fold choose a zs) z is
+  -- the choice from two lists is the choice between those from each
+  chosen_joined : (zs ws : List ℤ) → 0 < length zs → 0 < length ws → chosen choose (zs ++ ws) ≡ choose (chosen choose zs) (chosen choose ws)
+  chosen_joined [] ws some more = absurd (omega arith)
+  chosen_joined (a ∷ zs) [] some more = absurd (omega arith)
+  chosen_joined (a ∷ zs) (w ∷ ws) some more = fold-append choose a zs (w ∷ ws) ∙ fold_joined (fold choose a zs) w ws
+
+  chosen_beyond : (zs ws : List ℤ) → 0 < length ws → beyond (chosen choose ws) (chosen choose zs) ≡ true → chosen choose (zs ++ ws) ≡ chosen choose ws
+  chosen_beyond [] ws some is = refl
+  chosen_beyond (a ∷ zs) ws some is = chosen_joined (a ∷ zs) ws (omega arith) some ∙ d.takes (fold choose a zs) (chosen choose ws) is
+
+  chosen_kept : (zs ws : List ℤ) → 0 < count_of (chosen choose zs) zs → 0 < length ws → beyond (chosen choose ws) (chosen choose zs) ≡ false → chosen choose (zs ++ ws) ≡ chosen choose zs
+  chosen_kept [] ws among some not = absurd (omega (arith, among))
+  chosen_kept (a ∷ zs) ws among some not = chosen_joined (a ∷ zs) ws (omega arith) some ∙ d.keeps (fold choose a zs) (chosen choose ws) not
+
+  -- the one that is chosen is among those that it is chosen from
+  pub chosen_among : (zs : List ℤ) (v : ℤ) → 0 < length zs → v ≡ chosen choose zs → 0 < count_of v zs
+  chosen_among [] v some is = absurd (omega (arith, some))
+  chosen_among (a ∷ zs) v some is = omega (arith, fold_counted a zs, ap (λ w. count_of w (a ∷ zs)) is)
 
 -- ---- the first place
 
@@ -174,14 +175,21 @@ found_kept f v (p ∷ ps) qs some = cases (bool_cases (int_eq (f p.0 p.1) v)) (f
     cases (inr not) rest =
         ap (λ b. cond b (Some p) (find (holds f v) (ps ++ qs))) not ∙ rest (omega (arith, some, count, ap (λ b. let n : ℕ = cond b 1 0 in n) not)) ∙ sym (ap (λ b. cond b (Some p) (find (holds f v) ps)) not)
 
-found_here : (f : ℕ → ℕ → ℤ) (v : ℤ) (ps : List (ℕ × ℕ)) (p : ℕ × ℕ) → count_of v (samples f ps) ≡ 0 → f p.0 p.1 ≡ v → find (holds f v) (ps ++ p ∷ []) ≡ Some p
+found_behind : (f : ℕ → ℕ → ℤ) (v : ℤ) (ps qs : List (ℕ × ℕ)) → count_of v (samples f ps) ≡ 0 → find (holds f v) (ps ++ qs) ≡ find (holds f v) qs
 unfolding holds samples
-found_here f v ps p none is =
-    find-append (holds f v) ps (p ∷ [])
-    ∙ ap (λ o. option_or o (find (holds f v) (p ∷ []))) (found_none f v ps none)
-    ∙ ap (λ b. cond b (Some p) None) (ap (λ w. int_eq w v) is ∙ test_same v)
+found_behind f v ps qs none = find-append (holds f v) ps qs ∙ ap (λ o. option_or o (find (holds f v) qs)) (found_none f v ps none)
 
--- ---- one more place
+-- where a row holds it first
+first_in_row : (f : ℕ → ℕ → ℤ) (v : ℤ) (x n y i m : ℕ) → n ≡ i + (m + 1) → count_of v (samples f (row_places x i y)) ≡ 0 → f (x + i) y ≡ v → find (holds f v) (row_places x n y) ≡ Some (x + i, y)
+unfolding holds samples
+first_in_row f v x n y i m split none is =
+    ap (λ k. find (holds f v) (row_places x k y)) split
+    ∙ ap (find (holds f v)) (row_places-append x i (m + 1) y)
+    ∙ found_behind f v (row_places x i y) (row_places (x + i) (m + 1) y) none
+    ∙ ap (λ k. find (holds f v) (row_places (x + i) k y)) (add-one m)
+    ∙ ap (λ b. cond b (Some (x + i, y)) (find (holds f v) (row_places (x + i + 1) m y))) (ap (λ w. int_eq w v) is ∙ test_same v)
+
+-- ---- one more row
 
 abbrev pub parts : ℤ → ℕ → ℕ × ℕ → Located
 parts value count place = record { value = value; count = count; at = place }
@@ -194,83 +202,83 @@ is_located choose f ps v n p value count place =
     ∙ ap (parts v (count_of v (samples f ps))) place
     ∙ ap (λ w. parts w (count_of w (samples f ps)) (first_of f w ps)) value
 
-samples_push : (f : ℕ → ℕ → ℤ) (ps : List (ℕ × ℕ)) (p : ℕ × ℕ) (z : ℤ) → z ≡ f p.0 p.1 → samples f (ps ++ p ∷ []) ≡ samples f ps ++ z ∷ []
-unfolding samples
-samples_push f ps p z is = map-append (λ p. f p.0 p.1) ps (p ∷ []) ∙ ap (λ w. samples f ps ++ w ∷ []) (sym is)
+module _ (choose : ℤ → ℤ → ℤ) (beyond : ℤ → ℤ → Bool) (d : IsDirection choose beyond) (f : ℕ → ℕ → ℤ) (ws : List ℤ) (x n y : ℕ) (wide : length ws ≡ n) (some : 0 < n) (row : ws ≡ run x n (λ k. f k y)) (v : ℤ) (is : v ≡ chosen choose ws) where
+  next : List (ℕ × ℕ) → List (ℕ × ℕ)
+  next ps = ps ++ row_places x n y
 
--- the first sample
-located_alone : (choose : ℤ → ℤ → ℤ) (f : ℕ → ℕ → ℤ) (p : ℕ × ℕ) (z : ℤ) → z ≡ f p.0 p.1 → parts z 1 p ≡ located choose f (p ∷ [])
-unfolding samples
-located_alone choose f p z is =
-    is_located choose f (p ∷ []) z 1 p is
-    (omega (arith, count_cons z (f p.0 p.1) [], one_more (f p.0 p.1) z (sym is)))
-    (ap (λ o. unwrap_or o (0, 0)) (sym (found_here f z [] p refl (sym is))))
+  next_samples : (ps : List (ℕ × ℕ)) → samples f (next ps) ≡ samples f ps ++ ws
+  unfolding samples next
+  next_samples ps = map-append (λ p. f p.0 p.1) ps (row_places x n y) ∙ ap (λ l. samples f ps ++ l) (row_samples f x n y ∙ sym row)
 
-module _ (choose : ℤ → ℤ → ℤ) (beyond : ℤ → ℤ → Bool) (d : IsDirection choose beyond) (f : ℕ → ℕ → ℤ) (ps : List (ℕ × ℕ)) (p : ℕ × ℕ) (z : ℤ) (is : z ≡ f p.0 p.1) where
-  -- a sample beyond all before
-  located_beyond : beyond z (chosen choose (samples f ps)) ≡ true → parts z 1 p ≡ located choose f (ps ++ p ∷ [])
-  located_beyond above =
-      let zs = samples f ps in
-      let none = count_beyond choose beyond d (chosen choose zs) z zs above (none_beyond choose beyond d zs) in
-      let push = samples_push f ps p z is in
-      is_located choose f (ps ++ p ∷ []) z 1 p
-      (sym (ap (chosen choose) push ∙ chosen_beyond choose beyond d zs z above))
-      (omega (arith, ap (count_of z) push, count_push z z zs, one_more z z refl, none))
-      (ap (λ o. unwrap_or o (0, 0)) (sym (found_here f z ps p none (sym is))))
+  next_count : (ps : List (ℕ × ℕ)) (w : ℤ) → count_of w (samples f (next ps)) ≡ count_of w (samples f ps) + count_of w ws
+  next_count ps w = ap (count_of w) (next_samples ps) ∙ count_append w (samples f ps) ws
 
-  kept_value : 0 < count_of (chosen choose (samples f ps)) (samples f ps) → beyond z (chosen choose (samples f ps)) ≡ false → chosen choose (samples f ps) ≡ chosen choose (samples f (ps ++ p ∷ []))
-  kept_value some below =
-      sym (ap (chosen choose) (samples_push f ps p z is) ∙ chosen_next choose beyond d (samples f ps) z some ∙ d.keeps (chosen choose (samples f ps)) z below)
+  -- the row's extreme takes the place of another
+  row_taken : (ps : List (ℕ × ℕ)) (m i : ℕ) → v ≡ chosen choose (samples f (next ps)) → count_of v (samples f ps) ≡ 0 → m ≡ count_of v ws → i < n → get_or ws i (pos 0) ≡ v → count_of v (take i ws) ≡ 0 → parts v m (x + i, y) ≡ located choose f (next ps)
+  unfolding samples next
+  row_taken ps m i value none count below here before =
+      let left : samples f (row_places x i y) ≡ take i ws = row_samples f x i y ∙ sym (ap (take i) row ∙ take-map-range_with_len (λ k. f k y) x n i (omega (arith, below))) in
+      let at_place : f (x + i) y ≡ v = sym (ap (λ l. get_or l i (pos 0)) row ∙ get_or-run (λ k. f k y) x n i (pos 0) below) ∙ here in
+      is_located choose f (next ps) v m (x + i, y) value
+      (omega (arith, next_count ps v, none, count))
+      (ap (λ o. unwrap_or o (0, 0)) (sym (found_behind f v ps (row_places x n y) none ∙ first_in_row f v x n y i (n - (i + 1)) (omega (arith, below)) (ap (count_of v) left ∙ before) at_place)))
 
-  -- a sample that is not beyond those before
-  located_kept : (n : ℕ) → 0 < count_of (chosen choose (samples f ps)) (samples f ps) → beyond z (chosen choose (samples f ps)) ≡ false → n ≡ count_of (chosen choose (samples f ps)) (samples f ps) + cond (int_eq z (chosen choose (samples f ps))) 1 0
-      → parts (chosen choose (samples f ps)) n (first_of f (chosen choose (samples f ps)) ps) ≡ located choose f (ps ++ p ∷ [])
-  unfolding holds
-  located_kept n some below count =
-      let v = chosen choose (samples f ps) in
-      is_located choose f (ps ++ p ∷ []) v n (first_of f v ps)
-      (kept_value some below)
-      (count ∙ sym (ap (count_of v) (samples_push f ps p z is) ∙ count_push v z (samples f ps)))
-      (ap (λ o. unwrap_or o (0, 0)) (sym (found_kept f v ps (p ∷ []) some)))
+  -- an extreme is kept
+  row_passed : (ps : List (ℕ × ℕ)) (m : ℕ) → let w = chosen choose (samples f ps) in 0 < count_of w (samples f ps) → beyond v w ≡ false → m ≡ count_of w (samples f ps) + count_of w ws → parts w m (first_of f w ps) ≡ located choose f (next ps)
+  unfolding holds samples next
+  row_passed ps m among not count =
+      let w = chosen choose (samples f ps) in
+      is_located choose f (next ps) w m (first_of f w ps)
+      (sym (ap (chosen choose) (next_samples ps) ∙ chosen_kept choose beyond d (samples f ps) ws among (omega (arith, wide, some)) (ap (λ z. beyond z w) (sym is) ∙ not)))
+      (omega (arith, next_count ps w, count))
+      (ap (λ o. unwrap_or o (0, 0)) (sym (found_kept f w ps (row_places x n y) among)))
 
-first_place : (choose : ℤ → ℤ → ℤ) (beyond : ℤ → ℤ → Bool) → IsDirection choose beyond → (f : ℕ → ℕ → ℤ) (ps : List (ℕ × ℕ)) (p : ℕ × ℕ) (z : ℤ) → count_of (chosen choose (samples f ps)) (samples f ps) ≡ 0 → z ≡ f p.0 p.1 → parts z 1 p ≡ located choose f (ps ++ p ∷ [])
-unfolding samples
-first_place choose beyond d f [] p z none is = located_alone choose f p z is
-first_place choose beyond d f (q ∷ ps) p z none is = absurd (omega (arith, none, fold_counted choose beyond d (f q.0 q.1) (samples f ps)))
+  -- the old extreme and the row's, at each way through the code
+  module _ (ps : List (ℕ × ℕ)) (old : Located) (same : old ≡ located choose f ps) where
+    same_value : old.value ≡ chosen choose (samples f ps)
+    unfolding samples
+    same_value = ap (λ (l : Located). l.value) same
 
--- one more place, at each way through the code
-module _ (choose : ℤ → ℤ → ℤ) (beyond : ℤ → ℤ → Bool) (d : IsDirection choose beyond) (f : ℕ → ℕ → ℤ) (ps : List (ℕ × ℕ)) (p : ℕ × ℕ) (z : ℤ) (old : Located) (same : old ≡ located choose f ps) (is : z ≡ f p.0 p.1) where
-  same_value : old.value ≡ chosen choose (samples f ps)
-  unfolding samples
-  same_value = ap (λ (l : Located). l.value) same
+    same_count : old.count ≡ count_of (chosen choose (samples f ps)) (samples f ps)
+    unfolding samples
+    same_count = ap (λ (l : Located). l.count) same
 
-  same_count : old.count ≡ count_of (chosen choose (samples f ps)) (samples f ps)
-  unfolding samples
-  same_count = ap (λ (l : Located). l.count) same
+    same_place : old.at ≡ first_of f (chosen choose (samples f ps)) ps
+    unfolding samples
+    same_place = ap (λ (l : Located). l.at) same
 
-  same_place : old.at ≡ first_of f (chosen choose (samples f ps)) ps
-  unfolding samples
-  same_place = ap (λ (l : Located). l.at) same
+    pub joins_first : old.count ≡ 0 → (m i : ℕ) → m ≡ count_of v ws → i < n → get_or ws i (pos 0) ≡ v → count_of v (take i ws) ≡ 0 → parts v m (x + i, y) ≡ located choose f (ps ++ row_places x n y)
+    unfolding next
+    joins_first none m i =
+        let empty : samples f ps ≡ [] = nothing_counted choose beyond d (samples f ps) (sym same_count ∙ none) in
+        row_taken ps m i (is ∙ sym (ap (chosen choose) (next_samples ps ∙ ap (λ l. l ++ ws) empty))) (ap (count_of v) empty)
 
-  pub joins_first : old.count ≡ 0 → parts z 1 p ≡ located choose f (ps ++ p ∷ [])
-  joins_first none = first_place choose beyond d f ps p z (sym same_count ∙ none) is
+    pub joins_beyond : beyond v old.value ≡ true → (m i : ℕ) → m ≡ count_of v ws → i < n → get_or ws i (pos 0) ≡ v → count_of v (take i ws) ≡ 0 → parts v m (x + i, y) ≡ located choose f (ps ++ row_places x n y)
+    unfolding next
+    joins_beyond above m i =
+        let zs = samples f ps in
+        let here : beyond v (chosen choose zs) ≡ true = ap (beyond v) (sym same_value) ∙ above in
+        row_taken ps m i
+        (is ∙ sym (ap (chosen choose) (next_samples ps) ∙ chosen_beyond choose beyond d zs ws (omega (arith, wide, some)) (ap (λ z. beyond z (chosen choose zs)) (sym is) ∙ here)))
+        (count_beyond choose beyond d (chosen choose zs) v zs here (none_beyond choose beyond d zs))
 
-  pub joins_beyond : beyond z old.value ≡ true → parts z 1 p ≡ located choose f (ps ++ p ∷ [])
-  joins_beyond above = located_beyond choose beyond d f ps p z is (ap (beyond z) (sym same_value) ∙ above)
+    joins_kept : (m : ℕ) → 0 < old.count → beyond v old.value ≡ false → m ≡ old.count + count_of old.value ws → parts old.value m old.at ≡ located choose f (ps ++ row_places x n y)
+    unfolding next
+    joins_kept m among below count =
+        ap (λ q. parts old.value m q) same_place
+        ∙ ap (λ w. parts w m (first_of f (chosen choose (samples f ps)) ps)) same_value
+        ∙ row_passed ps m (omega (arith, among, same_count)) (ap (beyond v) (sym same_value) ∙ below)
+        (count ∙ ap (λ w. old.count + count_of w ws) same_value ∙ ap (λ k. k + count_of (chosen choose (samples f ps)) ws) same_count)
 
-  joins_kept : (n : ℕ) → 0 < old.count → beyond z old.value ≡ false → n ≡ old.count + adds z old.value → parts old.value n old.at ≡ located choose f (ps ++ p ∷ [])
-  joins_kept n some below count =
-      ap (λ q. parts old.value n q) same_place
-      ∙ ap (λ w. parts w n (first_of f (chosen choose (samples f ps)) ps)) same_value
-      ∙ located_kept choose beyond d f ps p z is n (omega (arith, some, same_count)) (ap (beyond z) (sym same_value) ∙ below)
-      (count ∙ ap (λ w. old.count + adds z w) same_value ∙ ap (λ m. m + adds z (chosen choose (samples f ps))) same_count)
+    pub joins_equal : (m : ℕ) → 0 < old.count → beyond v old.value ≡ false → v ≡ old.value → m ≡ count_of v ws → parts v (old.count + m) old.at ≡ located choose f (ps ++ row_places x n y)
+    joins_equal m among below equal count =
+        ap (λ w. parts w (old.count + m) old.at) equal
+        ∙ joins_kept (old.count + m) among below (omega (arith, count, ap (λ w. count_of w ws) equal))
 
-  pub joins_equal : 0 < old.count → beyond z old.value ≡ false → z ≡ old.value → parts z (old.count + 1) old.at ≡ located choose f (ps ++ p ∷ [])
-  joins_equal some below equal =
-      ap (λ w. parts w (old.count + 1) old.at) equal ∙ joins_kept (old.count + 1) some below (omega (arith, one_more z old.value equal))
-
-  pub joins_other : 0 < old.count → beyond z old.value ≡ false → (z ≡ old.value → ⊥) → old ≡ located choose f (ps ++ p ∷ [])
-  joins_other some below other = joins_kept old.count some below (omega (arith, none_more z old.value other))
+    pub joins_other : 0 < old.count → beyond v old.value ≡ false → (v ≡ old.value → ⊥) → old ≡ located choose f (ps ++ row_places x n y)
+    joins_other among below other =
+        let above : beyond old.value (chosen choose ws) ≡ true = ap (beyond old.value) (sym is) ∙ d.total v old.value below other in
+        joins_kept old.count among below (omega (arith, count_beyond choose beyond d (chosen choose ws) old.value ws above (none_beyond choose beyond d ws)))
 
 -- no count is above the number of places
 pub least_at_most : (f : ℕ → ℕ → ℤ) (ps : List (ℕ × ℕ)) → (found_in f ps).least.count ≤ length ps

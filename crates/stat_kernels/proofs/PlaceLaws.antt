@@ -1,14 +1,13 @@
 -- The places of a rectangle and their samples, row by row.
-use Rattle.std.proofs.Common.{◌≡◌, ℕ, ℤ, ◌+◌, ◌-◌, ◌*◌, ◌<◌, ◌≤◌, List, [], ◌++◌, ◌∷◌, get_or, length, map, zero, suc, ap, ◌∙◌, sym, refl, arith}
+use Rattle.std.proofs.Common.{◌≡◌, ℕ, ℤ, ◌+◌, ◌-◌, ◌*◌, ◌<◌, ◌≤◌, List, [], ◌++◌, length, map, zero, suc, ap, ◌∙◌, sym, arith}
 use Rattle.std.specs.List.{range_with_len, flat_map}
-use Rattle.std.proofs.lemmas.List.{append-nil, append_assoc, map-append, get_or-map, length-append, length-map}
-use Rattle.std.proofs.lemmas.List.FromFn.{map-range_with_len_more}
+use Rattle.std.proofs.lemmas.List.{append-nil, map-append, length-append, length-map}
 use Rattle.std.proofs.lemmas.List.Concat.{flat_map-append}
 use Rattle.std.proofs.lemmas.Simd.{map-map}
 use Rattle.vx_base.specs.Rectangle.{Rectangle}
 use Rattle.vx_base.specs.Image.{ImageValue, at, run}
 use Rattle.vx_base.specs.Statistics.{row_places, places, samples_in}
-use Rattle.vx_base.proofs.TableLaws.{range-append, length-range, get_or-run}
+use Rattle.vx_base.proofs.TableLaws.{range-append, length-range}
 use Rattle.stat_kernels.specs.declared.part.Part.{Part}
 use Rattle.stat_kernels.specs.Part.{IsValidPart}
 use Rattle.stat_kernels.proofs.Rows.{above}
@@ -75,14 +74,13 @@ module _ (image : ImageValue) (part : Part) (is : IsValidPart image part) where
   pub places_fit : (y : ℕ) → part.top ≤ y → y < part.bottom → length (places (above image.valid y)) + part.count < 4294967296
   places_fit y ordered below = omega (arith, length-places (above image.valid y), is.count, is.top, rows_fit (y - image.valid.y0) (image.valid.x1 - image.valid.x0) (omega (arith, is.rows_fit, is.top)) (omega (arith, is.count, is.columns_fit)))
 
--- one more place of a row
-pub row_places_more : (before : List (ℕ × ℕ)) (x i y : ℕ) → (before ++ row_places x i y) ++ (x + i, y) ∷ [] ≡ before ++ row_places x (i + 1) y
-row_places_more before x i y =
-    append_assoc before (row_places x i y) ((x + i, y) ∷ []) ∙ ap (λ l. before ++ l) (sym (map-range_with_len_more (λ k. (k, y)) x i (x + i) refl))
+  -- so many samples are counted in 32 bits
+  pub samples_fit : length (samples_in image.valid image) < 4294967296
+  samples_fit = omega (arith, length-samples image.valid image, all_fit (image.valid.y1 - image.valid.y0) (image.valid.x1 - image.valid.x0) (omega (arith, is.rows_fit, is.bottom)) (omega (arith, is.count, is.columns_fit)))
+    where
+      all_fit : (m n : ℕ) → m < 65536 → n < 65536 → m * n < 4294967296
+      all_fit m n rows columns = grind arith
 
--- the sample of a row that is read
-pub sample_of_row : {T : Type 0} (value : T → ℤ) (row : List T) (f : ℕ → ℕ → ℤ) (x y i : ℕ) (r : T) → i < length row → r ≡ get_or row i r → map value row ≡ run x (length row) (λ k. f k y) → value r ≡ f (x + i) y
-sample_of_row value row f x y i r below read is =
-    ap value read ∙ sym (get_or-map value row i r (value r) below)
-    ∙ ap (λ l. get_or l i (value r)) is
-    ∙ get_or-run (λ k. f k y) x (length row) i (value r) below
+-- the places of a row, cut in two
+pub row_places-append : (x m n y : ℕ) → row_places x (m + n) y ≡ row_places x m y ++ row_places (x + m) n y
+row_places-append x m n y = ap (map (λ k. (k, y))) (range-append x m n) ∙ map-append (λ k. (k, y)) (range_with_len x m) (range_with_len (x + m) n)

@@ -52,17 +52,13 @@ sum_at image x y a b d e = ap (λ r. pos (sum_by unsigned_abs (samples_in r imag
 
 -- ---- a row of bytes is added
 
-pub sums_before : (old sums row : List ℕ) (k total : ℕ) → k < length sums → total ≡ sum (take (k + 1) row) → ((j : ℕ) → j < k → get_or sums j 0 ≡ get_or old j 0 + sum (take (j + 1) row)) → get_or sums k 0 ≡ get_or old k 0
-    → (j : ℕ) → j < k + 1 → get_or (set sums k (get_or sums k 0 + total)) j 0 ≡ get_or old j 0 + sum (take (j + 1) row)
-sums_before old sums row k total room is before here j below = cases (cases_eq j k)
+-- one more item is set to what g gives
+pub set_before : (xs : List ℕ) (k v : ℕ) (g : ℕ → ℕ) → k < length xs → v ≡ g k → ((j : ℕ) → j < k → get_or xs j 0 ≡ g j) → (j : ℕ) → j < k + 1 → get_or (set xs k v) j 0 ≡ g j
+set_before xs k v g room is before j below = cases (cases_eq j k)
   where
-    cases : (j ≡ k) ⊎ (j ≢ k) → get_or (set sums k (get_or sums k 0 + total)) j 0 ≡ get_or old j 0 + sum (take (j + 1) row)
-    cases (inl same) =
-        ap (λ i. get_or (set sums k (get_or sums k 0 + total)) i 0) same
-        ∙ get_or-set_same sums k (get_or sums k 0 + total) 0 room
-        ∙ ap (λ n. n + total) here ∙ ap (λ n. get_or old k 0 + n) is
-        ∙ ap (λ i. get_or old i 0 + sum (take (i + 1) row)) (sym same)
-    cases (inr other) = get_or-set_other sums k j (get_or sums k 0 + total) 0 other ∙ before j (omega (arith, other))
+    cases : (j ≡ k) ⊎ (j ≢ k) → get_or (set xs k v) j 0 ≡ g j
+    cases (inl same) = ap (λ i. get_or (set xs k v) i 0) same ∙ get_or-set_same xs k v 0 room ∙ is ∙ ap g (sym same)
+    cases (inr other) = get_or-set_other xs k j v 0 other ∙ before j (omega (arith, other))
 
 pub sums_after : (old sums : List ℕ) (k v : ℕ) → ((j : ℕ) → k ≤ j → get_or sums j 0 ≡ get_or old j 0) → (j : ℕ) → k + 1 ≤ j → get_or (set sums k v) j 0 ≡ get_or old j 0
 sums_after old sums k v after j above = get_or-set_other sums k j v 0 (λ same. absurd (omega (arith, same, above))) ∙ after j (omega arith)
@@ -153,10 +149,16 @@ zero_sums image zeros n count y are room first = record {
         zero_in (inl below) = get_or-replicate {A = ℕ} count k 0 0 below
         zero_in (inr past) = get_or_past (replicate {A = ℕ} count 0) k 0 (omega (arith, length-replicate {A = ℕ} count 0))
 
+-- the sum of a row's first samples
+pub sum_of_first : (row : List ℕ) (k n : ℕ) → ((i : ℕ) → get_or row i 0 < 256) → n ≡ sum (slice_range row 0 k) → k ≤ length row → n ≤ 255 * k
+sum_of_first row k n small is within =
+    let e : k - 0 ≡ k = omega arith in
+    omega (arith, is ∙ ap (λ m. sum (take m row)) e, bytes_at_most row k small within)
+
 -- how much a row adds
-pub added_at_most : (old sums row : List ℕ) (k n : ℕ) → length row ≤ n → n ≤ length row → ((i : ℕ) → get_or row i 0 < 256) → ((j : ℕ) → j < n → get_or sums j 0 ≡ get_or old j 0 + sum (take (j + 1) row)) → ((j : ℕ) → n ≤ j → get_or sums j 0 ≡ get_or old j 0) → get_or sums k 0 ≤ get_or old k 0 + 255 * length row
-added_at_most old sums row k n at_least at_most small before after = cases (cases_lt k n)
+pub added_at_most : (old sums added row : List ℕ) (k : ℕ) → length sums ≡ length row → ((i : ℕ) → get_or row i 0 < 256) → ((j : ℕ) → j < length row → get_or sums j 0 ≡ get_or old j 0 + get_or added j 0) → ((j : ℕ) → j < length row → get_or added j 0 ≡ sum (slice_range row 0 (j + 1))) → get_or sums k 0 ≤ get_or old k 0 + 255 * length row
+added_at_most old sums added row k long small more are = cases (cases_lt k (length row))
   where
-    cases : (k < n) ⊎ (n ≤ k) → get_or sums k 0 ≤ get_or old k 0 + 255 * length row
-    cases (inl below) = omega (arith, before k below, bytes_at_most row (k + 1) small (omega arith))
-    cases (inr past) = omega (arith, after k past)
+    cases : (k < length row) ⊎ (length row ≤ k) → get_or sums k 0 ≤ get_or old k 0 + 255 * length row
+    cases (inl below) = omega (arith, more k below, sum_of_first row (k + 1) (get_or added k 0) small (are k below) (omega (arith, below)))
+    cases (inr past) = omega (arith, get_or_past sums k 0 (omega (arith, long, past)))

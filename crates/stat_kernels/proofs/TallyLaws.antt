@@ -1,97 +1,216 @@
--- Counts in bins, sample by sample.
-use Rattle.std.proofs.Common.{◌≡◌, ◌≢◌, ◌⊎◌, inl, inr, ℕ, ℤ, pos, ◌+◌, ◌<◌, ◌≤◌, List, [], ◌∷◌, ◌++◌, length, map, take, get_or, set, replicate, cond, ap, ◌∙◌, sym, arith, Some, None}
-use Rattle.std.specs.List.{count_by}
-use Rattle.std.specs.Prelude.{unsigned_abs, ◌==◌}
+-- Counts by value, and those in bins.
+use Rattle.std.proofs.Common.{◌≡◌, ◌≢◌, ◌⊎◌, inl, inr, ℕ, ℤ, pos, ◌+◌, ◌*◌, ◌<◌, ◌≤◌, List, [], ◌∷◌, ◌++◌, length, map, take, get_or, set, replicate, cond, Bool, true, false, ◌&&◌, suc, refl, ap, ◌∙◌, sym, arith, Some, None}
+use Rattle.std.specs.List.{count_by, range_with_len, All}
+use Rattle.std.specs.Prelude.{unsigned_abs, ◌==◌, nat_lt}
 use Rattle.std.proofs.lemmas.Bool.{cases_eq, cases_lt}
 use Rattle.std.proofs.lemmas.Bool.Decides.{nat_tests}
-use Rattle.std.proofs.lemmas.List.{length-set, same_lists, get_or-set_same, get_or-set_other, get_or_past, append_assoc, map_more, set_past, length-replicate, get_or-replicate}
-use Rattle.std.proofs.lemmas.List.Sums.{sum_by_push, count_by-le-length}
+use Rattle.std.proofs.lemmas.List.{length-set, same_lists, get_or-set_same, get_or-set_other, get_or_past, get_or-map, length-map, length-take, length-replicate, get_or-replicate}
+use Rattle.std.proofs.lemmas.List.Elements.{All-nil, All-cons, All-head, All-tail}
+use Rattle.std.proofs.lemmas.List.Sums.{sum_by-cons, sum_by-append, sum_by_more, count_by-le-length}
 use Rattle.std.proofs.lemmas.List.FromFn.{length-map-range_with_len, get_or-map-range_with_len}
 use Rattle.vx_base.specs.Statistics.{BinsValue, bin_of, is_bin, tallies}
+use Rattle.stat_kernels.specs.Counts.{count_at, count_in_all}
 
-count_in : BinsValue → List ℤ → ℕ → ℕ
-count_in b zs k = count_by (λ z. is_bin k (bin_of b (unsigned_abs z))) zs
+-- of these samples how many are below v and fall into bin k
+count_below : BinsValue → ℕ → List ℤ → ℕ → ℕ
+count_below b v zs k = count_by (λ z. nat_lt (unsigned_abs z) v && is_bin k (bin_of b (unsigned_abs z))) zs
 
-tally_at : (b : BinsValue) (zs : List ℤ) (k d : ℕ) → k < b.bins → get_or (tallies b zs) k d ≡ count_in b zs k
-unfolding count_in
-tally_at b zs k d below = get_or-map-range_with_len (count_in b zs) 0 b.bins k k d below (omega arith)
+-- of the samples below v how many fall into each bin
+pub tallies_below : BinsValue → ℕ → List ℤ → List ℕ
+tallies_below b v zs = map (count_below b v zs) (range_with_len 0 b.bins)
 
-pub length-tallies : (b : BinsValue) (zs : List ℤ) → length (tallies b zs) ≡ b.bins
-unfolding count_in
-length-tallies b zs = length-map-range_with_len (count_in b zs) 0 b.bins
+tally_at : (b : BinsValue) (v : ℕ) (zs : List ℤ) (k d : ℕ) → k < b.bins → get_or (tallies_below b v zs) k d ≡ count_below b v zs k
+unfolding tallies_below
+tally_at b v zs k d below = get_or-map-range_with_len (count_below b v zs) 0 b.bins k k d below (omega arith)
 
-count_more : (b : BinsValue) (zs : List ℤ) (z : ℤ) (k : ℕ) → count_in b (zs ++ z ∷ []) k ≡ count_in b zs k + cond (is_bin k (bin_of b (unsigned_abs z))) 1 0
-unfolding count_in
-count_more b zs z k = sum_by_push (λ s. cond (is_bin k (bin_of b (unsigned_abs s))) 1 0) zs z
+pub length-tallies : (b : BinsValue) (v : ℕ) (zs : List ℤ) → length (tallies_below b v zs) ≡ b.bins
+unfolding tallies_below
+length-tallies b v zs = length-map-range_with_len (count_below b v zs) 0 b.bins
 
 -- nothing is counted yet
-pub tallies_none : (b : BinsValue) (n : ℕ) → n ≡ b.bins → replicate n 0 ≡ tallies b []
-unfolding count_in
-tallies_none b n size =
-    same_lists (replicate n 0) (tallies b []) (length-replicate n 0 ∙ size ∙ sym (length-tallies b []))
+none_below : (b : BinsValue) (zs : List ℤ) (k : ℕ) → count_below b 0 zs k ≡ 0
+unfolding count_below
+none_below b [] k = refl
+none_below b (z ∷ zs) k =
+    let not : nat_lt (unsigned_abs z) 0 ≡ false = grind (arith, nat_tests) in
+    omega (
+      arith,
+      sum_by-cons (λ s. cond (nat_lt (unsigned_abs s) 0 && is_bin k (bin_of b (unsigned_abs s))) 1 0) z zs,
+      ap (λ t. let m : ℕ = cond (t && is_bin k (bin_of b (unsigned_abs z))) 1 0 in m) not,
+      none_below b zs k,
+    )
+
+pub tallies_none : (b : BinsValue) (zs : List ℤ) (n : ℕ) → n ≡ b.bins → replicate n 0 ≡ tallies_below b 0 zs
+tallies_none b zs n size =
+    same_lists (replicate n 0) (tallies_below b 0 zs) (length-replicate n 0 ∙ size ∙ sym (length-tallies b 0 zs))
     (λ k d h. let below : k < n = omega (arith, length-replicate {A = ℕ} n 0) in
-    get_or-replicate n k 0 d below ∙ sym (tally_at b [] k d (omega arith)))
+    get_or-replicate n k 0 d below ∙ sym (tally_at b 0 zs k d (omega arith) ∙ none_below b zs k))
 
--- one more sample, which falls into no bin
-pub tallies_same : (b : BinsValue) (zs : List ℤ) (z : ℤ) → bin_of b (unsigned_abs z) ≡ None → tallies b zs ≡ tallies b (zs ++ z ∷ [])
-tallies_same b zs z outside =
-    same_lists (tallies b zs) (tallies b (zs ++ z ∷ [])) (length-tallies b zs ∙ sym (length-tallies b (zs ++ z ∷ [])))
-    (λ k d h. let below : k < b.bins = omega (arith, length-tallies b zs) in
-    tally_at b zs k d below ∙ omega (arith, count_more b zs z k, ap (λ o. count_in b zs k + cond (is_bin k o) 1 0) outside) ∙ sym (tally_at b (zs ++ z ∷ []) k d below))
+-- what one sample adds
+module _ (q : ℕ → Bool) (v : ℕ) where
+  abbrev item : ℕ → ℕ → ℕ
+  item v x = cond (nat_lt x v && q x) 1 0
 
--- one more sample, which falls into a bin
-pub tallies_more : (b : BinsValue) (zs : List ℤ) (z : ℤ) (bin : ℕ) → bin_of b (unsigned_abs z) ≡ Some bin → bin < b.bins → set (tallies b zs) bin (get_or (tallies b zs) bin 0 + 1) ≡ tallies b (zs ++ z ∷ [])
-tallies_more b zs z bin is room =
-    same_lists (set (tallies b zs) bin (get_or (tallies b zs) bin 0 + 1)) (tallies b (zs ++ z ∷ []))
-    (length-set (tallies b zs) bin (get_or (tallies b zs) bin 0 + 1) ∙ length-tallies b zs ∙ sym (length-tallies b (zs ++ z ∷ [])))
-    (λ k d h. let below : k < b.bins = omega (arith, length-tallies b zs, length-set (tallies b zs) bin (get_or (tallies b zs) bin 0 + 1)) in
-    at k d below (cases_eq bin k) ∙ sym (tally_at b (zs ++ z ∷ []) k d below))
+  item_more : (x : ℕ) → q v ≡ true → item (v + 1) x ≡ item v x + cond (x == v) 1 0
+  item_more x is = cases (cases_eq x v)
+    where
+      cases : (x ≡ v) ⊎ (x ≢ v) → item (v + 1) x ≡ item v x + cond (x == v) 1 0
+      cases (inl same) = grind (arith, nat_tests, same, ap q same ∙ is)
+      cases (inr other) = cases_lt_of (cases_lt x v)
+        where
+          cases_lt_of : (x < v) ⊎ (v ≤ x) → item (v + 1) x ≡ item v x + cond (x == v) 1 0
+          cases_lt_of (inl below) = grind (arith, nat_tests)
+          cases_lt_of (inr past) = grind (arith, nat_tests)
+
+  item_same : (x : ℕ) → q v ≡ false → item (v + 1) x ≡ item v x
+  item_same x not = cases (cases_eq x v)
+    where
+      cases : (x ≡ v) ⊎ (x ≢ v) → item (v + 1) x ≡ item v x
+      cases (inl same) = grind (arith, nat_tests, same, ap q same ∙ not)
+      cases (inr other) = cases_lt_of (cases_lt x v)
+        where
+          cases_lt_of : (x < v) ⊎ (v ≤ x) → item (v + 1) x ≡ item v x
+          cases_lt_of (inl below) = grind (arith, nat_tests)
+          cases_lt_of (inr past) = grind (arith, nat_tests)
+
+-- the samples of one more value fall into a bin, or into none
+count_more : (b : BinsValue) (v k : ℕ) (zs : List ℤ) → is_bin k (bin_of b v) ≡ true → count_below b (v + 1) zs k ≡ count_below b v zs k + count_at v zs
+unfolding count_below
+count_more b v k [] is = refl
+count_more b v k (z ∷ zs) is =
+    omega (
+      arith,
+      sum_by-cons (λ s. cond (nat_lt (unsigned_abs s) (v + 1) && is_bin k (bin_of b (unsigned_abs s))) 1 0) z zs,
+      sum_by-cons (λ s. cond (nat_lt (unsigned_abs s) v && is_bin k (bin_of b (unsigned_abs s))) 1 0) z zs,
+      sum_by-cons (λ s. cond (unsigned_abs s == v) 1 0) z zs,
+      item_more (λ x. is_bin k (bin_of b x)) v (unsigned_abs z) is,
+      count_more b v k zs is,
+    )
+
+count_same : (b : BinsValue) (v k : ℕ) (zs : List ℤ) → is_bin k (bin_of b v) ≡ false → count_below b (v + 1) zs k ≡ count_below b v zs k
+unfolding count_below
+count_same b v k [] not = refl
+count_same b v k (z ∷ zs) not =
+    omega (
+      arith,
+      sum_by-cons (λ s. cond (nat_lt (unsigned_abs s) (v + 1) && is_bin k (bin_of b (unsigned_abs s))) 1 0) z zs,
+      sum_by-cons (λ s. cond (nat_lt (unsigned_abs s) v && is_bin k (bin_of b (unsigned_abs s))) 1 0) z zs,
+      item_same (λ x. is_bin k (bin_of b x)) v (unsigned_abs z) not,
+      count_same b v k zs not,
+    )
+
+-- one more value, whose samples fall into no bin
+pub tallies_same : (b : BinsValue) (v : ℕ) (zs : List ℤ) → bin_of b v ≡ None → tallies_below b v zs ≡ tallies_below b (v + 1) zs
+tallies_same b v zs outside =
+    same_lists (tallies_below b v zs) (tallies_below b (v + 1) zs) (length-tallies b v zs ∙ sym (length-tallies b (v + 1) zs))
+    (λ k d h. let below : k < b.bins = omega (arith, length-tallies b v zs) in
+    tally_at b v zs k d below ∙ sym (count_same b v k zs (ap (is_bin k) outside)) ∙ sym (tally_at b (v + 1) zs k d below))
+
+-- one more value, whose samples fall into a bin
+pub tallies_more : (b : BinsValue) (v : ℕ) (zs : List ℤ) (bin : ℕ) → bin_of b v ≡ Some bin → bin < b.bins → set (tallies_below b v zs) bin (get_or (tallies_below b v zs) bin 0 + count_at v zs) ≡ tallies_below b (v + 1) zs
+tallies_more b v zs bin is room =
+    same_lists (set (tallies_below b v zs) bin (get_or (tallies_below b v zs) bin 0 + count_at v zs)) (tallies_below b (v + 1) zs)
+    (length-set (tallies_below b v zs) bin (get_or (tallies_below b v zs) bin 0 + count_at v zs) ∙ length-tallies b v zs ∙ sym (length-tallies b (v + 1) zs))
+    (λ k d h. let below : k < b.bins = omega (arith, length-tallies b v zs, length-set (tallies_below b v zs) bin (get_or (tallies_below b v zs) bin 0 + count_at v zs)) in
+    at k d below (cases_eq bin k) ∙ sym (tally_at b (v + 1) zs k d below))
   where
-    counted : (k : ℕ) → count_in b (zs ++ z ∷ []) k ≡ count_in b zs k + cond (bin == k) 1 0
-    counted k = count_more b zs z k ∙ ap (λ o. count_in b zs k + cond (is_bin k o) 1 0) is
-
-    at : (k d : ℕ) → k < b.bins → (bin ≡ k) ⊎ (bin ≢ k) → get_or (set (tallies b zs) bin (get_or (tallies b zs) bin 0 + 1)) k d ≡ count_in b (zs ++ z ∷ []) k
+    at : (k d : ℕ) → k < b.bins → (bin ≡ k) ⊎ (bin ≢ k) → get_or (set (tallies_below b v zs) bin (get_or (tallies_below b v zs) bin 0 + count_at v zs)) k d ≡ count_below b (v + 1) zs k
     at k d below (inl same) =
-        ap (λ j. get_or (set (tallies b zs) bin (get_or (tallies b zs) bin 0 + 1)) j d) (sym same)
-        ∙ get_or-set_same (tallies b zs) bin (get_or (tallies b zs) bin 0 + 1) d (omega (arith, length-tallies b zs))
-        ∙ ap (λ n. n + 1) (tally_at b zs bin 0 room)
-        ∙ grind (arith, nat_tests, counted bin)
-        ∙ ap (count_in b (zs ++ z ∷ [])) same
+        ap (λ j. get_or (set (tallies_below b v zs) bin (get_or (tallies_below b v zs) bin 0 + count_at v zs)) j d) (sym same)
+        ∙ get_or-set_same (tallies_below b v zs) bin (get_or (tallies_below b v zs) bin 0 + count_at v zs) d (omega (arith, length-tallies b v zs))
+        ∙ ap (λ n. n + count_at v zs) (tally_at b v zs bin 0 room)
+        ∙ sym (count_more b v bin zs (ap (is_bin bin) is ∙ grind (arith, nat_tests)))
+        ∙ ap (count_below b (v + 1) zs) same
     at k d below (inr other) =
-        get_or-set_other (tallies b zs) bin k (get_or (tallies b zs) bin 0 + 1) d (λ e. other (sym e))
-        ∙ tally_at b zs k d below
-        ∙ grind (arith, nat_tests, counted k)
+        get_or-set_other (tallies_below b v zs) bin k (get_or (tallies_below b v zs) bin 0 + count_at v zs) d (λ e. other (sym e))
+        ∙ tally_at b v zs k d below
+        ∙ sym (count_same b v k zs (ap (is_bin k) is ∙ grind (arith, nat_tests, other)))
+
+-- one more value, at each way through the code
+pub value_some : (b : BinsValue) (v : ℕ) (zs : List ℤ) (counts next : List ℕ) (i bin total : ℕ) → counts ≡ tallies_below b v zs → next ≡ set counts i (get_or counts i 0 + total) → i ≡ bin → bin_of b v ≡ Some bin → bin < b.bins → total ≡ count_at v zs → next ≡ tallies_below b (v + 1) zs
+value_some b v zs counts next i bin total are is at falls below counted =
+    is
+    ∙ ap (λ j. set counts j (get_or counts j 0 + total)) at
+    ∙ ap (λ l. set l bin (get_or l bin 0 + total)) are
+    ∙ ap (λ n. set (tallies_below b v zs) bin (get_or (tallies_below b v zs) bin 0 + n)) counted
+    ∙ tallies_more b v zs bin falls below
+
+pub value_none : (b : BinsValue) (v : ℕ) (zs : List ℤ) (counts next : List ℕ) → counts ≡ tallies_below b v zs → next ≡ counts → bin_of b v ≡ None → next ≡ tallies_below b (v + 1) zs
+value_none b v zs counts next are is outside = is ∙ are ∙ tallies_same b v zs outside
 
 -- no count is above the number of samples
-pub tallies_at_most : (b : BinsValue) (zs : List ℤ) (k : ℕ) → get_or (tallies b zs) k 0 ≤ length zs
-unfolding count_in
-tallies_at_most b zs k = bound (cases_lt k b.bins)
+pub tallies_at_most : (b : BinsValue) (v : ℕ) (zs : List ℤ) (bin : ℕ) → bin_of b v ≡ Some bin → bin < b.bins → get_or (tallies_below b v zs) bin 0 + count_at v zs ≤ length zs
+unfolding count_below
+tallies_at_most b v zs bin is room =
+    omega (
+      arith,
+      tally_at b v zs bin 0 room,
+      count_more b v bin zs (ap (is_bin bin) is ∙ grind (arith, nat_tests)),
+      count_by-le-length (λ z. nat_lt (unsigned_abs z) (v + 1) && is_bin bin (bin_of b (unsigned_abs z))) zs,
+    )
+
+-- all values are counted
+all_below : (b : BinsValue) (k : ℕ) (zs : List ℤ) → All (λ z. unsigned_abs z < 256) zs → count_below b 256 zs k ≡ count_by (λ z. is_bin k (bin_of b (unsigned_abs z))) zs
+unfolding count_below
+all_below b k [] small = refl
+all_below b k (z ∷ zs) small =
+    let here : nat_lt (unsigned_abs z) 256 ≡ true = grind (arith, nat_tests, All-head (λ z. unsigned_abs z < 256) z zs small) in
+    sum_by-cons (λ s. cond (nat_lt (unsigned_abs s) 256 && is_bin k (bin_of b (unsigned_abs s))) 1 0) z zs
+    ∙ ap (λ t. cond (t && is_bin k (bin_of b (unsigned_abs z))) 1 0 + count_below b 256 zs k) here
+    ∙ ap (λ n. cond (is_bin k (bin_of b (unsigned_abs z))) 1 0 + n) (all_below b k zs (All-tail (λ z. unsigned_abs z < 256) z zs small))
+    ∙ sym (sum_by-cons (λ s. cond (is_bin k (bin_of b (unsigned_abs s))) 1 0) z zs)
+
+pub tallies_all : (b : BinsValue) (zs : List ℤ) → All (λ z. unsigned_abs z < 256) zs → tallies_below b 256 zs ≡ tallies b zs
+unfolding tallies_below
+tallies_all b zs small = map-same (count_below b 256 zs) (λ k. count_by (λ z. is_bin k (bin_of b (unsigned_abs z))) zs) (range_with_len 0 b.bins) (λ k. all_below b k zs small)
   where
-    bound : (k < b.bins) ⊎ (b.bins ≤ k) → get_or (tallies b zs) k 0 ≤ length zs
-    bound (inr past) = omega (arith, get_or_past (tallies b zs) k 0 (omega (arith, length-tallies b zs)))
-    bound (inl below) = omega (arith, tally_at b zs k 0 below, count_by-le-length (λ z. is_bin k (bin_of b (unsigned_abs z))) zs)
+    map-same : (f g : ℕ → ℕ) (xs : List ℕ) → ((k : ℕ) → f k ≡ g k) → map f xs ≡ map g xs
+    map-same f g [] same = refl
+    map-same f g (x ∷ xs) same = cc (same x, map-same f g xs same)
 
--- the samples so far, and the next of the row
-pub row_more : (before : List ℤ) (row : List ℕ) (i : ℕ) → i < length row → (before ++ map pos (take i row)) ++ pos (get_or row i 0) ∷ [] ≡ before ++ map pos (take (i + 1) row)
-row_more before row i below =
-    append_assoc before (map pos (take i row)) (pos (get_or row i 0) ∷ []) ∙ ap (λ l. before ++ l) (sym (map_more pos row i 0 below))
+-- ---- four tables
 
-pub counted_some : (b : BinsValue) (zs ys : List ℤ) (counts next : List ℕ) (sample i bin : ℕ) → counts ≡ tallies b zs → zs ++ pos sample ∷ [] ≡ ys → next ≡ set counts i (get_or counts i 0 + 1) → i ≡ bin → bin_of b sample ≡ Some bin → bin < b.bins → next ≡ tallies b ys
-counted_some b zs ys counts next sample i bin are then is at falls below =
-    is
-    ∙ ap (λ j. set counts j (get_or counts j 0 + 1)) at
-    ∙ ap (λ l. set l bin (get_or l bin 0 + 1)) are
-    ∙ tallies_more b zs (pos sample) bin falls below
-    ∙ ap (tallies b) then
-
-pub counted_none : (b : BinsValue) (zs ys : List ℤ) (counts next : List ℕ) (sample : ℕ) → counts ≡ tallies b zs → zs ++ pos sample ∷ [] ≡ ys → next ≡ counts → bin_of b sample ≡ None → next ≡ tallies b ys
-counted_none b zs ys counts next sample are then is outside = is ∙ are ∙ tallies_same b zs (pos sample) outside ∙ ap (tallies b) then
-
--- a count grows by one at most
-pub grows_by_one : (counts : List ℕ) (i k : ℕ) → get_or (set counts i (get_or counts i 0 + 1)) k 0 ≤ get_or counts k 0 + 1
-grows_by_one counts i k = cases (cases_lt i (length counts)) (cases_eq k i)
+zero_at : (n v : ℕ) → get_or (replicate {A = ℕ} n 0) v 0 ≡ 0
+zero_at n v = cases (cases_lt v n)
   where
-    cases : (i < length counts) ⊎ (length counts ≤ i) → (k ≡ i) ⊎ (k ≢ i) → get_or (set counts i (get_or counts i 0 + 1)) k 0 ≤ get_or counts k 0 + 1
-    cases (inl within) (inl same) = omega (arith, ap (λ j. get_or (set counts i (get_or counts i 0 + 1)) j 0) same, get_or-set_same counts i (get_or counts i 0 + 1) 0 within, ap (λ j. get_or counts j 0) same)
-    cases (inl within) (inr other) = omega (arith, get_or-set_other counts i k (get_or counts i 0 + 1) 0 other)
-    cases (inr past) other = omega (arith, ap (λ l. get_or l k 0) (set_past counts i (get_or counts i 0 + 1) past))
+    cases : (v < n) ⊎ (n ≤ v) → get_or (replicate {A = ℕ} n 0) v 0 ≡ 0
+    cases (inl below) = get_or-replicate {A = ℕ} n v 0 0 below
+    cases (inr past) = get_or_past (replicate {A = ℕ} n 0) v 0 (omega (arith, length-replicate {A = ℕ} n 0))
+
+-- nothing is counted yet
+pub zeros_counted : (v : ℕ) → count_in_all (replicate 256 0) (replicate 256 0) (replicate 256 0) (replicate 256 0) v ≡ 0
+zeros_counted v = omega (arith, zero_at 256 v)
+
+-- one sample more
+one_at : (v : ℕ) (row : List ℕ) (i j : ℕ) → i < length row → j ≡ i + 1 → count_at v (take j (map pos row)) ≡ count_at v (take i (map pos row)) + cond (get_or row i 0 == v) 1 0
+one_at v row i j below next =
+    ap (λ n. count_at v (take n (map pos row))) next
+    ∙ sum_by_more (λ z. cond (unsigned_abs z == v) 1 0) (map pos row) i (pos 0) (omega (arith, length-map row pos))
+    ∙ ap (λ z. count_at v (take i (map pos row)) + cond (unsigned_abs z == v) 1 0) (get_or-map pos row i 0 (pos 0) below)
+
+pub one_more : (v : ℕ) (row : List ℕ) (i : ℕ) → i < length row → count_at v (take (i + 1) (map pos row)) ≡ count_at v (take i (map pos row)) + cond (get_or row i 0 == v) 1 0
+one_more v row i below = one_at v row i (i + 1) below refl
+
+pub four_more : (v : ℕ) (row : List ℕ) (k : ℕ) → 4 * k + 3 < length row → count_at v (take (4 * (k + 1)) (map pos row))
+    ≡ count_at v (take (4 * k) (map pos row)) + (((cond (get_or row (4 * k) 0 == v) 1 0 + cond (get_or row (4 * k + 1) 0 == v) 1 0) + cond (get_or row (4 * k + 2) 0 == v) 1 0) + cond (get_or row (4 * k + 3) 0 == v) 1 0)
+four_more v row k room =
+    omega (
+      arith,
+      one_at v row (4 * k) (4 * k + 1) (omega arith) refl,
+      one_at v row (4 * k + 1) (4 * k + 2) (omega arith) (omega arith),
+      one_at v row (4 * k + 2) (4 * k + 3) (omega arith) (omega arith),
+      one_at v row (4 * k + 3) (4 * (k + 1)) (omega arith) (omega arith),
+    )
+
+-- so many are counted among the first samples at most
+pub few_of_first : (v : ℕ) (row : List ℕ) (i : ℕ) → i ≤ length row → count_at v (take i (map pos row)) ≤ i
+few_of_first v row i room =
+    omega (arith, count_by-le-length (λ z. unsigned_abs z == v) (take i (map pos row)), length-take i (map pos row), length-map row pos)
+
+pub all_bytes : (row : List ℕ) → ((i : ℕ) → get_or row i 0 < 256) → All (λ z. unsigned_abs z < 256) (map pos row)
+all_bytes [] small = All-nil (λ z. unsigned_abs z < 256)
+all_bytes (x ∷ row) small = All-cons (λ z. unsigned_abs z < 256) (pos x) (map pos row) (small 0) (all_bytes row (λ i. small (suc i)))
+
+-- the samples of the rows above, and those of one more
+pub row_counted : (v : ℕ) (zs ws : List ℤ) (old new : ℕ) → old ≡ count_at v zs → new ≡ old + count_at v ws → new ≡ count_at v (zs ++ ws)
+row_counted v zs ws old new before here = omega (arith, before, here, sum_by-append (λ z. cond (unsigned_abs z == v) 1 0) zs ws)

@@ -1,3 +1,4 @@
+pub mod Counts
 pub mod Located
 pub mod Part
 pub mod Sums

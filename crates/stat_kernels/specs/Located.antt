@@ -10,6 +10,8 @@ pub record IsDirection (choose : ℤ → ℤ → ℤ) (beyond : ℤ → ℤ → 
   pub takes : (v z : ℤ) → beyond z v ≡ true → choose v z ≡ z
   pub keeps : (v z : ℤ) → beyond z v ≡ false → choose v z ≡ v
   pub irreflexive : (z : ℤ) → beyond z z ≡ false
+  pub total : (z v : ℤ) → beyond z v ≡ false → (z ≡ v → ⊥) → beyond v z ≡ true
+  pub associative : (v z w : ℤ) → choose (choose v z) w ≡ choose v (choose z w)
   pub transitive : (w z v : ℤ) → beyond w z ≡ true → beyond z v ≡ true → beyond w v ≡ true
 
 -- of what f gives at these places the chosen one, how many places hold it, and the first of them

@@ -1,22 +1,65 @@
 //! Histograms.
-ghost use Rattle.std.specs.Prelude.{◌≡◌, ◌+◌, ◌<◌, ◌^◌, ◌++◌, ℕ, ℤ, pos, List, map, length, slice_index};
+ghost use Rattle.std.specs.Prelude.{◌≡◌, ◌==◌, ◌+◌, ◌<◌, ◌^◌, ℕ, pos, if◌then◌else◌, map, length, slice_index, unsigned_abs};
+ghost use Rattle.std.specs.List.{All};
 ghost use Rattle.vx_base.specs.declared.format.Format.TheVariants.{U8};
-ghost use Rattle.vx_base.specs.Statistics.{tallies, histogram};
+ghost use Rattle.vx_base.specs.Statistics.{valid_samples, histogram};
+ghost use Rattle.stat_kernels.specs.Counts.{count_at, count_in_all};
 
 use crate::part::Part;
 use image_core::Image;
 use vx_base::Bins;
 
-/// Counts the samples of a row beside those before it.
-fn count_row(row: &[u8], bins: Bins, counts: &mut [u32])
-    requires size { length counts.old ≡ bins.bins }
-    requires room { (k : ℕ) → slice_index counts.old k + length row.now < 2 ^ 32 }
-    ensures { (before : List ℤ) → counts.old ≡ tallies bins before → counts.new ≡ tallies bins (before ++ map pos row.now) }
+/// Counts one more sample of this value.
+fn count_one(counts: &mut [u32; 256], value: u8)
+    requires { slice_index counts.old value + 1 < 2 ^ 32 }
+    ensures { (v : ℕ) → slice_index counts.new v ≡ slice_index counts.old v + (if value == v then 1 else 0) }
 {
-    for sample in row {
-        if let Some(bin) = bins.bin_of(*sample) {
-            counts[usize::from(bin)] += 1;
-        }
+    counts[usize::from(value)] += 1;
+}
+
+/// Counts the samples of a row, each in the next of four tables, so that equal samples one after
+/// another don't wait for each other.
+fn count_row(
+    row: &[u8],
+    first: &mut [u32; 256],
+    second: &mut [u32; 256],
+    third: &mut [u32; 256],
+    fourth: &mut [u32; 256],
+)
+    requires room { (v : ℕ) → count_in_all first.old second.old third.old fourth.old v + length row.now < 2 ^ 32 }
+    ensures counted { (v : ℕ) → count_in_all first.new second.new third.new fourth.new v ≡ count_in_all first.old second.old third.old fourth.old v + count_at v (map pos row.now) }
+    ensures bytes { All (λ z. unsigned_abs z < 256) (map pos row.now) }
+{
+    let fours = row.len() / 4;
+    for k in 0..fours {
+        count_one(first, row[4 * k]);
+        count_one(second, row[4 * k + 1]);
+        count_one(third, row[4 * k + 2]);
+        count_one(fourth, row[4 * k + 3]);
+    }
+    for i in 4 * fours..row.len() {
+        count_one(first, row[i]);
+    }
+}
+
+/// Counts the valid samples of a U8 image by their values.
+fn count_values(
+    image: &Image<'_>,
+    first: &mut [u32; 256],
+    second: &mut [u32; 256],
+    third: &mut [u32; 256],
+    fourth: &mut [u32; 256],
+)
+    requires format { image.now.format ≡ U8 }
+    requires zeros { (v : ℕ) → count_in_all first.old second.old third.old fourth.old v ≡ 0 }
+    ensures counted { (v : ℕ) → count_in_all first.new second.new third.new fourth.new v ≡ count_at v (valid_samples image.now) }
+    ensures bytes { All (λ z. unsigned_abs z < 256) (valid_samples image.now) }
+    ensures few { length (valid_samples image.now) < 2 ^ 32 }
+{
+    let part = Part::of(image);
+    for y in part.top..part.bottom {
+        let row = image.part_of_row::<u8>(part.x, y, part.count);
+        count_row(row, first, second, third, fourth);
     }
 }
 
@@ -27,9 +70,14 @@ pub fn histogram(image: &Image<'_>, bins: Bins, counts: &mut [u32])
     requires size { length counts.old ≡ bins.bins }
     ensures { counts.new ≡ histogram bins image.now }
 {
-    let part = Part::of(image);
+    let (mut first, mut second) = ([0; 256], [0; 256]);
+    let (mut third, mut fourth) = ([0; 256], [0; 256]);
+    count_values(image, &mut first, &mut second, &mut third, &mut fourth);
     counts.fill(0);
-    for y in part.top..part.bottom {
-        count_row(image.part_of_row::<u8>(part.x, y, part.count), bins, counts);
+    for value in 0..256 {
+        if let Some(bin) = bins.bin_of(value as u8) {
+            let count = first[value] + second[value] + third[value] + fourth[value];
+            counts[usize::from(bin)] += count;
+        }
     }
 }

@@ -1,8 +1,8 @@
 //! The least and the greatest sample.
-ghost use Rattle.std.specs.Prelude.{◌≡◌, ◌≢◌, ◌+◌, ◌<◌, ◌^◌, ◌++◌, ℕ, ℤ, List, map, length};
+ghost use Rattle.std.specs.Prelude.{◌≡◌, ◌≢◌};
 ghost use Rattle.vx_base.specs.declared.format.Format.TheVariants.{U32};
-ghost use Rattle.vx_base.specs.Image.{run, at};
-ghost use Rattle.vx_base.specs.Statistics.{row_places, places, extremes};
+ghost use Rattle.vx_base.specs.Image.{at};
+ghost use Rattle.vx_base.specs.Statistics.{places, extremes};
 ghost use Rattle.stat_kernels.specs.Located.{found_in};
 
 use crate::located::Found;
@@ -10,21 +10,6 @@ use crate::part::Part;
 use crate::short::Short;
 use image_core::Image;
 use vx_base::{Extremes, Format};
-
-/// What is found in the samples of a row and in those before it.
-fn locate_in_row<T: Short>(found: Found, x: u16, y: u16, row: &[T]) -> Found
-    requires columns { x + length row.now < 2 ^ 16 }
-    requires least_room { found.least.count + length row.now < 2 ^ 32 }
-    requires greatest_room { found.greatest.count + length row.now < 2 ^ 32 }
-    ensures { (f : ℕ → ℕ → ℤ) (before : List (ℕ × ℕ)) → found ≡ found_in f before → map T.value row.now ≡ run x (length row.now) (λ k. f k y) →
-        result ≡ found_in f (before ++ row_places x (length row.now) y) }
-{
-    let mut found_so_far = found;
-    for (i, sample) in row.iter().enumerate() {
-        found_so_far = found_so_far.joined(sample.short(), (x + i as u16, y));
-    }
-    found_so_far
-}
 
 /// What is found in the valid samples.
 fn locate<T: Short>(image: &Image<'_>) -> Found
@@ -35,7 +20,7 @@ fn locate<T: Short>(image: &Image<'_>) -> Found
     let mut found = Found::nowhere();
     for y in part.top..part.bottom {
         let row = (&*image).part_of_row::<T>(part.x, y, part.count);
-        found = locate_in_row(found, part.x, y, row);
+        found = found.joined(part.x, y, row);
     }
     found
 }

@@ -1,17 +1,19 @@
 //! What the valid samples of an image come to.
 //!
-//! `histogram` counts the samples in bins, `min_max` finds the least and the greatest, and where
-//! they stand first, `integral` sums them up to each place. All go over the valid part of the rows
-//! from the top; a loop over a row says what the row adds to those above it, whatever they were.
-//! None takes memory. `laws` states what the extremes mean, and `examples` works the definitions
-//! out.
+//! `histogram` counts the samples by value and then in bins, `min_max` finds the least and the
+//! greatest, and where they stand first, `integral` sums them up to each place. All go over the
+//! valid part of the rows from the top; what is done with a row says what the row adds to those
+//! above it, whatever they were. None takes memory. `laws` states what the extremes mean, and
+//! `examples` works the definitions out.
 #![tactic(auto)]
 
 mod counts;
 pub mod examples;
+mod extent;
 mod extremes;
 pub mod laws;
 mod located;
+mod occurrences;
 mod part;
 mod short;
 mod sums;

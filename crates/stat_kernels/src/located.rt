@@ -1,5 +1,11 @@
 //! The least and the greatest of samples, and where they stand.
-ghost use Rattle.std.specs.Prelude.{◌≡◌, ◌+◌, ◌<◌, ◌≤◌, ◌^◌, ◌++◌, [], ◌∷◌, ℕ, ℤ, Bool, List};
+ghost use Rattle.std.specs.Prelude.{◌≡◌, ◌+◌, ◌<◌, ◌^◌, ◌++◌, [], ℕ, ℤ, Bool, List, map, length};
+ghost use Rattle.vx_base.specs.Image.{run};
+ghost use Rattle.vx_base.specs.Statistics.{row_places, chosen, count_of};
+
+use crate::extent::{greatest_of, least_of};
+use crate::occurrences::{count_of, first_of};
+use crate::short::Short;
 
 /// The least or the greatest of some samples, how many places hold it, and the first of them; all
 /// numbers are 0 where there are no samples.
@@ -13,25 +19,29 @@ pub struct Located {
 impl Located {
     ghost use Rattle.stat_kernels.specs.Located.{located, IsDirection};
 
-    /// The same of these samples and of one more, at a place behind theirs. The caller says whether
-    /// it is beyond the value: below the least, above the greatest.
-    fn joined(self, is_beyond: bool, value: i16, at: (u16, u16)) -> Located
-        requires room { self.count + 1 < 2 ^ 32 }
-        ensures located { (choose : ℤ → ℤ → ℤ) (beyond : ℤ → ℤ → Bool) (f : ℕ → ℕ → ℤ) (before : List (ℕ × ℕ)) →
-            IsDirection choose beyond → self ≡ located choose f before → is_beyond ≡ beyond value self.value → value ≡ f at.0 at.1 →
-            result ≡ located choose f (before ++ at ∷ []) }
-        ensures count { result.count ≤ self.count + 1 }
+    /// The same of these samples and of a row's, at places behind theirs, of which this one is the
+    /// least or the greatest. The caller says whether it is beyond the value: below the least, above
+    /// the greatest.
+    fn joined<T: Short>(self, is_beyond: bool, sample: T, x: u16, y: u16, row: &[T]) -> Located
+        requires among { 0 < count_of (T.value sample) (map T.value row.now) }
+        requires columns { x + length row.now < 2 ^ 16 }
+        requires room { self.count + length row.now < 2 ^ 32 }
+        ensures { (choose : ℤ → ℤ → ℤ) (beyond : ℤ → ℤ → Bool) (f : ℕ → ℕ → ℤ) (before : List (ℕ × ℕ)) →
+            IsDirection choose beyond → self ≡ located choose f before → is_beyond ≡ beyond (T.value sample) self.value →
+            T.value sample ≡ chosen choose (map T.value row.now) → map T.value row.now ≡ run x (length row.now) (λ k. f k y) →
+            result ≡ located choose f (before ++ row_places x (length row.now) y) }
     {
+        let value = sample.short();
         if self.count == 0 || is_beyond {
             Located {
                 value,
-                count: 1,
-                at,
+                count: count_of(row, sample),
+                at: (x + first_of(row, sample) as u16, y),
             }
         } else if value == self.value {
             Located {
                 value,
-                count: self.count + 1,
+                count: self.count + count_of(row, sample),
                 at: self.at,
             }
         } else {
@@ -65,17 +75,23 @@ impl Found {
         }
     }
 
-    /// What is found in these samples and in one more, at a place behind theirs.
-    pub fn joined(self, value: i16, at: (u16, u16)) -> Found
-        requires least_room { self.least.count + 1 < 2 ^ 32 }
-        requires greatest_room { self.greatest.count + 1 < 2 ^ 32 }
-        ensures found { (f : ℕ → ℕ → ℤ) (before : List (ℕ × ℕ)) → self ≡ found_in f before → value ≡ f at.0 at.1 → result ≡ found_in f (before ++ at ∷ []) }
-        ensures least_count { result.least.count ≤ self.least.count + 1 }
-        ensures greatest_count { result.greatest.count ≤ self.greatest.count + 1 }
+    /// What is found in these samples and in a row's, at places behind theirs.
+    pub fn joined<T: Short>(self, x: u16, y: u16, row: &[T]) -> Found
+        requires columns { x + length row.now < 2 ^ 16 }
+        requires least_room { self.least.count + length row.now < 2 ^ 32 }
+        requires greatest_room { self.greatest.count + length row.now < 2 ^ 32 }
+        ensures { (f : ℕ → ℕ → ℤ) (before : List (ℕ × ℕ)) → self ≡ found_in f before → map T.value row.now ≡ run x (length row.now) (λ k. f k y) →
+            result ≡ found_in f (before ++ row_places x (length row.now) y) }
     {
+        if row.is_empty() {
+            return self;
+        }
+        let (low, high) = (least_of(row), greatest_of(row));
+        let is_below = low.short() < self.least.value;
+        let is_above = high.short() > self.greatest.value;
         Found {
-            least: self.least.joined(value < self.least.value, value, at),
-            greatest: self.greatest.joined(value > self.greatest.value, value, at),
+            least: self.least.joined(is_below, low, x, y, row),
+            greatest: self.greatest.joined(is_above, high, x, y, row),
         }
     }
 }

@@ -13,6 +13,34 @@ use crate::part::Part;
 use image_core::{Image, ImageMut, Whole};
 use vx_base::Rect;
 
+/// Writes for each place of a row the sum of its samples up to that place.
+fn sum_up(row: &[u8], out: &mut [u32])
+    requires len { length out.old ≡ length row.now }
+    requires room { 255 * length row.now < 2 ^ 32 }
+    ensures { (k : ℕ) → k < length row.now → slice_index out.new k ≡ sum (slice_range row.now 0 (k + 1)) }
+{
+    let mut total = 0;
+    for (k, sample) in row.iter().enumerate() {
+        total += u32::from(*sample);
+        out[k] = total;
+    }
+}
+
+/// Adds to each sum what is given for it, and writes the new sum in its place. The compiler runs
+/// the loop in lanes.
+fn add_up(sums: &mut [u32], out: &mut [u32])
+    requires len { length out.old ≡ length sums.old }
+    requires room { (k : ℕ) → k < length sums.old → slice_index sums.old k + slice_index out.old k < 2 ^ 32 }
+    ensures sums { (k : ℕ) → k < length sums.old → slice_index sums.new k ≡ slice_index sums.old k + slice_index out.old k }
+    ensures written { out.new ≡ sums.new }
+{
+    for k in 0..sums.len() {
+        let total = out[k];
+        sums[k] += total;
+        out[k] = sums[k];
+    }
+}
+
 /// Adds to the sum above each place of a row the samples of the row up to that place, and writes
 /// these sums.
 fn add_row(row: &[u8], sums: &mut [u32], out: &mut [u32])
@@ -23,12 +51,8 @@ fn add_row(row: &[u8], sums: &mut [u32], out: &mut [u32])
     ensures bound { (k : ℕ) → slice_index sums.new k ≤ slice_index sums.old k + 255 * length row.now }
     ensures written { out.new ≡ sums.new }
 {
-    let mut total = 0;
-    for (k, sample) in row.iter().enumerate() {
-        total += u32::from(*sample);
-        sums[k] += total;
-        out[k] = sums[k];
-    }
+    sum_up(row, out);
+    add_up(sums, out);
 }
 
 /// Writes row y of the integral image, which goes through the valid part.

@@ -1,6 +1,7 @@
 pub mod TableLaws
 pub mod SampleLaws
 pub mod RectangleLaws
+pub mod FormatLaws
 pub mod ImageLaws
 pub mod PixelLaws
 pub mod ZeroLaws

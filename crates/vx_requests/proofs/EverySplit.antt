@@ -3,7 +3,7 @@ use Rattle.std.proofs.Common.{◌≡◌, ℕ, ◌+◌, ◌-◌, ◌<◌, ◌≤�
 use Rattle.std.specs.Prelude.{All}
 use Rattle.std.specs.Int.{w16, w32, to_be_bytes, from_be_bytes}
 use Rattle.std.proofs.lemmas.Bool.{cases_lt}
-use Rattle.std.proofs.lemmas.List.Elements.{All-cons, All-drop}
+use Rattle.std.proofs.lemmas.List.Elements.{All-cons, All-drop, All-take}
 use Rattle.std.proofs.lemmas.Nat.{be_bytes_2, be_bytes_4}
 use Rattle.vx_requests.specs.Frame.Frames.{Frame, IsFrame, IsLength, IsRest, Splits, said_length, frame_bytes, joined}
 
@@ -67,16 +67,17 @@ first_frame (a ∷ b ∷ c ∷ d ∷ e ∷ g ∷ op ∷ tail) bytes four ok whol
     let rest : body ++ later ≡ tail = take-append-drop (said - 3) tail in
     let fifth : e < 256 = byte 4 (omega arith) in
     let sixth : g < 256 = byte 5 (omega arith) in
+    let tail_bytes : IsBytes tail = All-drop (λ x. x < 256) 7 (a ∷ b ∷ c ∷ d ∷ e ∷ g ∷ op ∷ tail) bytes in
     let whole_frame : (to_be_bytes w32 (length body + 3) ++ (to_be_bytes w16 client ++ op ∷ body)) ++ later ≡ a ∷ b ∷ c ∷ d ∷ e ∷ g ∷ op ∷ tail =
     ap (λ l. (l ++ (to_be_bytes w16 client ++ op ∷ body)) ++ later) front
     ∙ ap (λ l. ((a ∷ b ∷ c ∷ d ∷ []) ++ (l ++ op ∷ body)) ++ later) sender
     ∙ ap (λ l. a ∷ b ∷ c ∷ d ∷ e ∷ g ∷ op ∷ l) rest in (
       record { client = client; op = op; body = body },
       later,
-      record { client = omega arith; op = byte 6 (omega arith); len = omega (arith, ok.1, long) },
+      record { client = omega arith; op = byte 6 (omega arith); bytes = All-take (λ x. x < 256) (said - 3) tail tail_bytes; len = omega (arith, ok.1, long) },
       sym whole_frame,
       omega (arith, length-drop (said - 3) tail),
-      All-drop (λ x. x < 256) (said - 3) tail (All-drop (λ x. x < 256) 7 (a ∷ b ∷ c ∷ d ∷ e ∷ g ∷ op ∷ tail) bytes),
+      All-drop (λ x. x < 256) (said - 3) tail tail_bytes,
     )
 
 -- by the number of bytes that are left

@@ -11,5 +11,6 @@ pub mod Progress
 pub mod OneSplit
 pub mod EverySplit
 pub mod AnswerCodes
+pub mod KeptStates
 pub mod RequestFrames
 pub mod RequestSizes

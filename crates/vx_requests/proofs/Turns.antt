@@ -35,9 +35,9 @@ breaks_off ReaderWouldNotEnd len part left ok fewer breaks = begun len part ok f
 pub lost_payload : (limits : Allowance) (a b c : Option (List ℕ)) (states : ℕ → State) (client op len : ℕ) → client < 2 ^ 16 → op < 2 ^ 8 → IsLength len → 67 < len
     → Consumes a b (to_be_bytes w16 client ++ op ∷ []) → ReadsSome b c (len - 3)
     → AnswersPayload limits a c states states len (Ok (record { client = client; op = op; reply = Refused NoMemory }))
-lost_payload limits a b c states client op len fits fits' ok long front (body, read, size) = (
+lost_payload limits a b c states client op len fits fits' ok long front (body, read, size, bytes) = (
   frame_of client op body,
-  record { client = fits; op = fits'; len = omega arith },
+  record { client = fits; op = fits'; bytes = bytes; len = omega arith },
   omega arith,
   Consumes-trans a b c _ body front read,
   record {

@@ -13,6 +13,7 @@
 //! - `graphs`: graphs and the numbers of their nodes
 //! - `values`: rectangles, codes and tables
 //! - `images`: images that are valid in a part
+//! - `rows`: the kernels of lane_rows, at lengths around that of a block
 //! - `kernels`, `texts`: windows, statistics and PGM texts, by the calls of their crates
 #![tactic(auto)]
 
@@ -30,6 +31,8 @@ mod images;
 mod kernels;
 #[cfg(test)]
 mod requests;
+#[cfg(test)]
+mod rows;
 #[cfg(test)]
 mod streams;
 #[cfg(test)]

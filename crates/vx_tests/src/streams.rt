@@ -208,3 +208,24 @@ fn how_far_it_reads(rt: HostRuntime) {
         assert_eq!(rt; served.left, left, "{stream:?}");
     }
 }
+
+/// Streams that end well, one after the other to the same runtime: an empty one, one that opens a
+/// context, and one that finds it open.
+#[test]
+fn goes_on_after_a_good_end(rt: HostRuntime) {
+    let mut runtime = Runtime::new(rt.alloc(), Limits::default());
+    let open = b"\x00\x00\x00\x03\x00\x07\x01";
+    for (stream, written, requests, refused) in [
+        (&b""[..], &b""[..], 0, 0),
+        (open, b"\x00\x00\x00\x04\x00\x07\x01\x00", 1, 0),
+        (open, b"\x00\x00\x00\x04\x00\x07\x01\x07", 1, 1),
+    ] {
+        let served = serve_bytes(rt.alloc(), &mut runtime, stream, ALL_AT_ONCE);
+        assert_eq!(rt;
+            served.result,
+            Ok(Summary { requests, refused }),
+            "{stream:?}"
+        );
+        assert_eq!(rt; served.written.as_slice(), written, "{stream:?}");
+    }
+}

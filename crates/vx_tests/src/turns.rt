@@ -1,4 +1,5 @@
-//! A reply is flushed before a byte of the next frame is asked for: a source that watches the sink.
+//! A reply is written and flushed before a byte of the next frame is asked for: a source that watches
+//! the sink.
 ghost use Rattle.std.specs.Prelude.{None};
 
 use crate::devices::NEVER;
@@ -9,7 +10,7 @@ use std::cell::Cell;
 use vx_requests::{Failed, Sink, Source, Summary, serve};
 
 /// Gives frames, and fails where it is asked for a byte past a frame before the reply to it was
-/// flushed.
+/// flushed, or while the sink holds a byte that was written since.
 #[derive(Drop)]
 struct InTurns<'a> {
     stream: &'a [u8],
@@ -17,6 +18,7 @@ struct InTurns<'a> {
     frame: usize,
     begun: u64,
     flushed: &'a Cell<u64>,
+    holds: &'a Cell<bool>,
     reads: u64,
     failures: u64,
 }
@@ -25,7 +27,7 @@ impl InTurns<'_> {
     /// The bytes of the next frame, or 0 where it may not be asked for.
     fn next_frame(&self) -> usize {
         match self.stream {
-            [a, b, c, d, ..] if self.flushed.get() == self.begun => {
+            [a, b, c, d, ..] if self.flushed.get() == self.begun && !self.holds.get() => {
                 4 + u32::from_be_bytes([*a, *b, *c, *d]) as usize
             }
             _ => 0,
@@ -63,11 +65,13 @@ impl Source for InTurns<'_> {
     }
 }
 
-/// Takes bytes, and counts its flushes where the source sees them.
+/// Takes bytes, counts its flushes, and says whether it holds bytes that were written since the
+/// last, where the source sees both.
 #[derive(Drop)]
 struct Flushed<'a> {
     bytes: Vec<u8>,
     flushed: &'a Cell<u64>,
+    holds: &'a Cell<bool>,
     failures: u64,
 }
 
@@ -77,6 +81,7 @@ impl Sink for Flushed<'_> {
     ghost failures = { λ s. s.failures };
 
     fn write(&mut self, bytes: &[u8]) -> Result<usize, Failed> {
+        self.holds.set(true);
         match self.bytes.extend_from_slice(bytes) {
             Ok(()) => Ok(bytes.len()),
             Err(_) => {
@@ -88,6 +93,7 @@ impl Sink for Flushed<'_> {
 
     fn flush(&mut self) -> Result<(), Failed> {
         self.flushed.set(self.flushed.get().wrapping_add(1));
+        self.holds.set(false);
         Ok(())
     }
 }
@@ -95,17 +101,20 @@ impl Sink for Flushed<'_> {
 #[test]
 fn replies_before_it_reads_on(rt: HostRuntime) {
     let flushed = Cell::new(0);
+    let holds = Cell::new(false);
     let mut source = InTurns {
         stream: TURNS,
         frame: 0,
         begun: 0,
         flushed: &flushed,
+        holds: &holds,
         reads: 0,
         failures: 0,
     };
     let mut sink = Flushed {
         bytes: Vec::new(rt.alloc()),
         flushed: &flushed,
+        holds: &holds,
         failures: 0,
     };
     let mut runtime = Runtime::new(rt.alloc(), Limits::default());
@@ -119,4 +128,5 @@ fn replies_before_it_reads_on(rt: HostRuntime) {
     );
     assert_eq!(rt; sink.bytes.as_slice(), REPLIES);
     assert_eq!(rt; flushed.get(), 8);
+    assert!(rt; !holds.get());
 }

@@ -6,6 +6,7 @@ pub mod TableSizes
 pub mod SampleBytes
 pub mod SampleLoops
 pub mod SpelledSizes
+pub mod SpelledBytes
 pub mod SpelledFields
 pub mod SpelledNode
 pub mod SpelledObjects

@@ -1,7 +1,5 @@
-mod NineLaws
+mod ColumnLaws
 mod WriteLaws
 mod ProductLaws
 mod MatrixLaws
-mod GradientLaws
-mod ExtremeLaws
 mod MedianLaws

@@ -1,27 +1,36 @@
 -- The median of nine.
-use Rattle.std.proofs.Common.{◌≡◌, ℕ, ℤ, pos, ◌+◌, ◌<◌, ◌≤◌, ◌<ℤ◌, Bool, true, false, ◌&&◌, ◌||◌, List, [], ◌∷◌, length, nat_le, min, max, refl, ap, ◌∙◌, sym, arith, cond, zero, suc, subst}
+use Rattle.std.proofs.Common.{◌≡◌, ℕ, ℤ, pos, ◌+◌, ◌<◌, ◌≤◌, ◌<ℤ◌, Bool, true, false, ◌&&◌, ◌||◌, List, [], ◌∷◌, length, map, get_or, ◌+ℤ◌, ◌-ℤ◌, nat_le, min, max, refl, ap, ◌∙◌, sym, arith, cond, zero, suc, subst}
 use Rattle.std.specs.Prelude.{int_lt, int_le, unwrap_or, Option, Some, None, Contains}
 use Rattle.std.specs.Int.{int_min, int_max}
 use Rattle.std.specs.List.{count_by, find}
 use Rattle.std.proofs.lemmas.Bool.Decides.{nat_tests}
 use Rattle.std.proofs.lemmas.Int.{ints, by_lt_z}
 use Rattle.std.proofs.lemmas.List.Sums.{sum_by-cons}
-use Rattle.vx_base.specs.Window.{is_middle, median}
+use Rattle.std.proofs.Math.ListN.{get_or-map}
+use Rattle.vx_base.specs.Image.{run}
+use Rattle.vx_base.specs.Window.{is_middle, median, nine_around}
+use Rattle.vx_base.proofs.TableLaws.{get_or-run}
+use Rattle.window_kernels.specs.Nine.{column_seen, three_at, median_of_sorted}
 
-abbrev least_of_three : {A : Type 0} → (A → A → A) → A → A → A → A
+abbrev pub least_of_three : {A : Type 0} → (A → A → A) → A → A → A → A
 least_of_three lo x y z = lo (lo x y) z
 
 -- the middle one of three, by the lesser and the greater of two
-abbrev middle_of_three : {A : Type 0} → (A → A → A) → (A → A → A) → A → A → A → A
+abbrev pub middle_of_three : {A : Type 0} → (A → A → A) → (A → A → A) → A → A → A → A
 middle_of_three lo hi x y z = hi (lo x y) (lo (hi x y) z)
 
--- the middle one of nine: of the greatest least, the least greatest and the middle middle of three threes
+-- of three columns the least, the middle and the greatest ones: the middle one of the greatest least, the least greatest and the middle middle
+abbrev pub of_sorted : {A : Type 0} → (A → A → A) → (A → A → A) → A → A → A → A → A → A → A → A → A → A
+of_sorted lo hi l m n p q r s t u =
+    middle_of_three lo hi (least_of_three hi l m n) (least_of_three lo s t u) (middle_of_three lo hi p q r)
+
+-- the middle one of nine, which stand by rows: column a d g is the left one
 abbrev pub middle_of_nine : {A : Type 0} → (A → A → A) → (A → A → A) → A → A → A → A → A → A → A → A → A → A
 middle_of_nine lo hi a b c d e f g h i =
-    middle_of_three lo hi
-    (least_of_three hi (least_of_three lo a b c) (least_of_three lo d e f) (least_of_three lo g h i))
-    (least_of_three lo (least_of_three hi a b c) (least_of_three hi d e f) (least_of_three hi g h i))
-    (middle_of_three lo hi (middle_of_three lo hi a b c) (middle_of_three lo hi d e f) (middle_of_three lo hi g h i))
+    of_sorted lo hi
+    (least_of_three lo a d g) (least_of_three lo b e h) (least_of_three lo c f i)
+    (middle_of_three lo hi a d g) (middle_of_three lo hi b e h) (middle_of_three lo hi c f i)
+    (least_of_three hi a d g) (least_of_three hi b e h) (least_of_three hi c f i)
 
 -- a function that looks through the lesser and the greater of two
 record Splits {A B : Type 0} (t : A → B) (lo hi : A → A → A) (low high : B → B → B) : Type 0 where
@@ -250,8 +259,62 @@ median_is_among a b c d e f g h i =
     let h = median_is_middle a b c d e f g h i in
     among (is_middle zs) v zs (found (is_middle zs) v zs (is_middle_test zs v h) (λ z e. same_middle zs z v (omega arith) (from_middle_test zs z e) h) (omega (arith, h.fewer, h.more)))
 
--- of numbers from 0 on
-pub middle_byte : (a b c d e f g h i : ℕ) → pos (middle_of_nine min max a b c d e f g h i) ≡ median (pos a ∷ pos b ∷ pos c ∷ pos d ∷ pos e ∷ pos f ∷ pos g ∷ pos h ∷ pos i ∷ [])
-middle_byte a b c d e f g h i =
-    through pos min max int_min int_max as_numbers a b c d e f g h i
-    ∙ sym (median_of_nine (pos a) (pos b) (pos c) (pos d) (pos e) (pos f) (pos g) (pos h) (pos i))
+-- of numbers from 0 on, each as one of a column
+through_sorted : {A B : Type 0} (t : A → B) (lo hi : A → A → A) (low high : B → B → B) → Splits t lo hi low high → (l m n p q r s u v : A)
+    → t (of_sorted lo hi l m n p q r s u v) ≡ of_sorted low high (t l) (t m) (t n) (t p) (t q) (t r) (t s) (t u) (t v)
+through_sorted t lo hi low high k l m n p q r s u v = simp (k.lesser, k.greater)
+
+-- ---- three columns
+
+same_nine : {A : Type 0} (g : ℤ → ℤ → ℤ → ℤ → ℤ → ℤ → ℤ → ℤ → ℤ → A) (a b c d e f h i j k l m n o p q r s : ℤ) → a ≡ k → b ≡ l → c ≡ m → d ≡ n → e ≡ o → f ≡ p → h ≡ q → i ≡ r → j ≡ s → g a b c d e f h i j ≡ g k l m n o p q r s
+same_nine g a b c d e f h i j k l m n o p q r s aa bb cc1 dd ee ff hh ii jj = cc
+
+-- what stands at a place of a row of columns
+column_at : (g : ℤ → ℤ → ℤ → ℤ) (f : ℤ → ℤ → ℤ) (x n i : ℕ) (u y : ℤ) (row : List ℕ) → map pos row ≡ run x n (λ c. column_seen g f (pos c -ℤ pos 1) y) → i < n → pos (x + i) -ℤ pos 1 ≡ u → pos (get_or row i 0) ≡ column_seen g f u y
+column_at g f x n i u y row same below at =
+    sym (get_or-map pos row i 0)
+    ∙ ap (λ l. get_or l i (pos 0)) same
+    ∙ get_or-run (λ c. column_seen g f (pos c -ℤ pos 1) y) x n i (pos 0) below
+    ∙ ap (λ v. column_seen g f v y) at
+
+-- the median of three sorted columns is that of the nine samples
+pub median_seen : (f : ℤ → ℤ → ℤ) (x l m n i : ℕ) (y : ℤ) (low center high : List ℕ)
+    → map pos low ≡ run x l (λ c. column_seen (λ a b d. int_min (int_min a b) d) f (pos c -ℤ pos 1) y)
+    → map pos center ≡ run x m (λ c. column_seen (λ a b d. int_max (int_min a b) (int_min (int_max a b) d)) f (pos c -ℤ pos 1) y)
+    → map pos high ≡ run x n (λ c. column_seen (λ a b d. int_max (int_max a b) d) f (pos c -ℤ pos 1) y)
+    → i + 2 < l → i + 2 < m → i + 2 < n
+    → pos (median_of_sorted (three_at low i) (three_at center i) (three_at high i)) ≡ median (nine_around f (pos (x + i)) y)
+median_seen f x l m n i y low center high is_low is_center is_high a b c =
+    through_sorted pos min max int_min int_max as_numbers (get_or low i 0) (get_or low (i + 1) 0) (get_or low (i + 2) 0) (get_or center i 0) (get_or center (i + 1) 0) (get_or center (i + 2) 0) (get_or high i 0) (get_or high (i + 1) 0) (get_or high (i + 2) 0)
+    ∙ same_nine (of_sorted int_min int_max) _ _ _ _ _ _ _ _ _ _ _ _ _ _ _ _ _ _
+    (column_at lowest f x l i u0 y low is_low (omega arith) left) (column_at lowest f x l (i + 1) u1 y low is_low (omega arith) here) (column_at lowest f x l (i + 2) u2 y low is_low a right)
+    (column_at central f x m i u0 y center is_center (omega arith) left) (column_at central f x m (i + 1) u1 y center is_center (omega arith) here) (column_at central f x m (i + 2) u2 y center is_center b right)
+    (column_at highest f x n i u0 y high is_high (omega arith) left) (column_at highest f x n (i + 1) u1 y high is_high (omega arith) here) (column_at highest f x n (i + 2) u2 y high is_high c right)
+    ∙ sym (median_of_nine (f u0 (y -ℤ pos 1)) (f u1 (y -ℤ pos 1)) (f u2 (y -ℤ pos 1)) (f u0 y) (f u1 y) (f u2 y) (f u0 (y +ℤ pos 1)) (f u1 (y +ℤ pos 1)) (f u2 (y +ℤ pos 1)))
+  where
+    lowest : ℤ → ℤ → ℤ → ℤ
+    lowest = λ a b d. int_min (int_min a b) d
+
+    central : ℤ → ℤ → ℤ → ℤ
+    central = λ a b d. int_max (int_min a b) (int_min (int_max a b) d)
+
+    highest : ℤ → ℤ → ℤ → ℤ
+    highest = λ a b d. int_max (int_max a b) d
+
+    u0 : ℤ
+    u0 = pos (x + i) -ℤ pos 1
+
+    u1 : ℤ
+    u1 = pos (x + i)
+
+    u2 : ℤ
+    u2 = pos (x + i) +ℤ pos 1
+
+    left : pos (x + i) -ℤ pos 1 ≡ u0
+    left = refl
+
+    here : pos (x + (i + 1)) -ℤ pos 1 ≡ u1
+    here = omega (arith, ints)
+
+    right : pos (x + (i + 2)) -ℤ pos 1 ≡ u2
+    right = omega (arith, ints)

@@ -95,12 +95,6 @@ up_to_more limit more zs h are = λ k d below. let a = are k d below in omega ar
 pub zeros_up_to : (limit n : ℕ) (zs : List ℤ) → zs ≡ replicate n (pos 0) → AreUpTo limit zs
 zeros_up_to limit n zs are = All-same (λ z. unsigned_abs z ≤ limit) zs (replicate n (pos 0)) are (All-replicate (λ z. unsigned_abs z ≤ limit) n (pos 0) (omega arith))
 
--- the first of many zeros
-pub zeros_taken : (n m : ℕ) (zs : List ℤ) → zs ≡ replicate m (pos 0) → n ≤ m → take n zs ≡ replicate (length (take n zs)) (pos 0)
-zeros_taken n m zs are room =
-    let same : take n zs ≡ replicate n (pos 0) = ap (take n) are ∙ take-replicate n m (pos 0) room in
-    same ∙ ap (λ k. replicate k (pos 0)) (sym (ap length same ∙ length-replicate n (pos 0)))
-
 -- one more sum is scaled
 pub scaled_written : {T : Type 0} (value : T → ℤ) (f : ℤ → ℤ) (sums : List ℤ) (out : List T) (i : ℕ) (z : T) → map value (take i out) ≡ map f (take i sums) → i < length out → i < length sums → value z ≡ f (get_or sums i (pos 0)) → map value (take (i + 1) (set out i z)) ≡ map f (take (i + 1) sums)
 scaled_written value f sums out i z before room below is =

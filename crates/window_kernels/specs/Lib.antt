@@ -1,3 +1,4 @@
 pub mod Nine
 pub mod Fits
 pub mod Products
+pub mod ByColumns

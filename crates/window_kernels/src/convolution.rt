@@ -9,9 +9,10 @@ ghost use Rattle.image_core.specs.Target.{written, IsTarget, Writes};
 ghost use Rattle.window_kernels.specs.Fits.{ConvolutionFits};
 ghost use Rattle.window_kernels.specs.Products.{AreUpTo, row_along};
 
+use crate::nine::with_scratch;
 use crate::products::add_row_products;
 use border_rows::{load_row, window_valid};
-use image_core::{Formula, Image, ImageMut, Sample};
+use image_core::{Image, ImageMut, RowFormula, Sample};
 use vx_base::{Border, Convolution, Format, GREATEST_SIDE, Policy, Rect, narrow_s16, narrow_u8};
 
 /// U8 and S16 samples, to which numbers are clamped.
@@ -131,16 +132,18 @@ impl FromMatrix<'_, '_> {
     }
 }
 
-impl<T: Clamped> Formula<T> for FromMatrix<'_, '_> {
+impl<T: Clamped> RowFormula<T, i32> for FromMatrix<'_, '_> {
     ghost at = { λ s x y. convolved s.convolution.now T.format (look s.image.now s.border) (pos x) (pos y) };
 
     ghost area = { λ s. s.area };
+
+    ghost room = { λ s. s.image.now.width };
 
     fn area(&self) -> Rect {
         self.area
     }
 
-    fn fill(&self, x: u16, y: u16, out: &mut [T]) {
+    fn fill(&self, x: u16, y: u16, scratch: &mut [i32], out: &mut [T]) {
         // Where nothing is written, there may be no valid place that the rows could show.
         if out.is_empty() {
             return;
@@ -148,28 +151,27 @@ impl<T: Clamped> Formula<T> for FromMatrix<'_, '_> {
         let _limits = (self.image.valid(), self.image.desc().width());
         let count = out.len();
         let around = usize::from(self.convolution.columns()) - 1;
-        let (mut samples, mut sums) = ([0; ROW_ROOM], [0; GREATEST_SIDE as usize]);
-        self.write_along(
-            x,
-            y,
-            &mut samples[..count + around],
-            &mut sums[..count],
-            out,
-        );
+        let mut samples = [0; ROW_ROOM];
+        let sums = &mut scratch[..count];
+        sums.fill(0);
+        self.write_along(x, y, &mut samples[..count + around], sums, out);
     }
 }
 
-/// Writes what the matrix gives of a U8 image to another of its size.
+/// Writes what the matrix gives of a U8 image to another of its size, with scratch memory for the
+/// sums of a row.
 fn write_convolved<T: Clamped>(
     image: &Image<'_>,
     convolution: &Convolution,
     output: &mut ImageMut<'_>,
     border: Border,
+    sums: &mut [i32],
 )
     requires target { IsTarget output.old }
     requires size { HaveSameSize (written output.old) image.now }
     requires input_format { image.now.format ≡ U8 }
     requires format { (written output.old).format ≡ T.format }
+    requires sums { image.now.width ≤ length sums.old }
     ensures { Writes (from_matrix T.format convolution.now border image.now) output.old output.new }
 {
     let (columns, rows) = (convolution.columns() / 2, convolution.rows() / 2);
@@ -180,7 +182,7 @@ fn write_convolved<T: Clamped>(
         border,
         area,
     };
-    output.write::<T, _>(&formula);
+    output.write_by_rows::<T, i32, _>(&formula, sums);
 }
 
 /// Writes the sums of the samples around each place, each times the coefficient at the opposite
@@ -195,9 +197,10 @@ pub fn convolve(
     requires { ConvolutionFits image.now output.old }
     ensures { Writes (from_matrix (written output.old).format convolution.now border image.now) output.old output.new }
 {
-    match output.desc().format() {
-        Format::U8 => write_convolved::<u8>(image, convolution, output, border),
-        Format::S16 => write_convolved::<i16>(image, convolution, output, border),
+    let _limits = image.valid();
+    with_scratch!(image.desc().width(), 0, sums => match output.desc().format() {
+        Format::U8 => write_convolved::<u8>(image, convolution, output, border, sums),
+        Format::S16 => write_convolved::<i16>(image, convolution, output, border, sums),
         Format::U32 => unreachable!(),
-    }
+    })
 }

@@ -1,34 +1,88 @@
 //! How the samples around a place change along a row and from row to row.
-ghost use Rattle.std.specs.Prelude.{◌≡◌};
+ghost use Rattle.std.specs.Prelude.{◌≡◌, pos, ◌+ℤ◌, ◌-ℤ◌, ◌*ℤ◌};
 ghost use Rattle.vx_base.specs.declared.format.Format.TheVariants.{S16};
 ghost use Rattle.vx_base.specs.Window.{gradient_x, gradient_y, from_nine};
 ghost use Rattle.image_core.specs.Target.{Writes};
 ghost use Rattle.window_kernels.specs.Fits.{WindowFits};
+ghost use Rattle.window_kernels.specs.ByColumns.{x_is_x, y_is_y};
 
-use crate::nine::{OfNine, Three, write_nine};
-use crate::sums::weighted_sum_of;
+use crate::columns::{OfColumn, Window};
+use crate::nine::{AcrossColumns, OfNine, with_scratch, write_by_columns, write_nine};
+use crate::sums::{Change, WeightedSum, change_of, weighted_sum_of};
 use image_core::{Image, ImageMut};
 use vx_base::Border;
 
 struct GradientX;
 
-impl OfNine<i16> for GradientX {
+impl OfColumn<WeightedSum> for GradientX {
+    ghost gives = { λ _ a b c. a +ℤ pos 2 *ℤ b +ℤ c };
+
+    fn of_column(&self, above: u8, here: u8, below: u8) -> WeightedSum {
+        weighted_sum_of(above, here, below)
+    }
+}
+
+impl AcrossColumns<i16, WeightedSum> for GradientX {
+    ghost joined = { λ _ a b c. c -ℤ a };
+
+    ghost of_nine = { λ _. gradient_x };
+
+    fn join(&self, left: WeightedSum, _middle: WeightedSum, right: WeightedSum) -> i16 {
+        right.sum as i16 - left.sum as i16
+    }
+
+    ghost is_of_nine = { λ _. x_is_x };
+}
+
+impl OfNine<i16, WeightedSum> for GradientX {
     ghost formula = { λ _. gradient_x };
 
-    fn sample(&self, above: Three, here: Three, below: Three) -> i16 {
-        let right = weighted_sum_of((above.2, here.2, below.2));
-        let left = weighted_sum_of((above.0, here.0, below.0));
-        right as i16 - left as i16
+    fn write_row(
+        &self,
+        window: &Window<'_, '_>,
+        x: u16,
+        y: u16,
+        scratch: &mut [WeightedSum],
+        out: &mut [i16],
+    ) {
+        write_by_columns(self, window, x, y, scratch, out);
     }
 }
 
 struct GradientY;
 
-impl OfNine<i16> for GradientY {
+impl OfColumn<Change> for GradientY {
+    ghost gives = { λ _ a b c. c -ℤ a };
+
+    fn of_column(&self, above: u8, _here: u8, below: u8) -> Change {
+        change_of(above, below)
+    }
+}
+
+impl AcrossColumns<i16, Change> for GradientY {
+    ghost joined = { λ _ a b c. a +ℤ pos 2 *ℤ b +ℤ c };
+
+    ghost of_nine = { λ _. gradient_y };
+
+    fn join(&self, left: Change, middle: Change, right: Change) -> i16 {
+        left.change + 2 * middle.change + right.change
+    }
+
+    ghost is_of_nine = { λ _. y_is_y };
+}
+
+impl OfNine<i16, Change> for GradientY {
     ghost formula = { λ _. gradient_y };
 
-    fn sample(&self, above: Three, _here: Three, below: Three) -> i16 {
-        weighted_sum_of(below) as i16 - weighted_sum_of(above) as i16
+    fn write_row(
+        &self,
+        window: &Window<'_, '_>,
+        x: u16,
+        y: u16,
+        scratch: &mut [Change],
+        out: &mut [i16],
+    ) {
+        write_by_columns(self, window, x, y, scratch, out);
     }
 }
 
@@ -37,7 +91,11 @@ pub fn sobel_x3(image: &Image<'_>, output: &mut ImageMut<'_>, border: Border)
     requires { WindowFits S16 image.now output.old }
     ensures { Writes (from_nine S16 gradient_x border image.now) output.old output.new }
 {
-    write_nine::<i16, _>(&GradientX, image, output, border);
+    let _limits = image.valid();
+    let none = weighted_sum_of(0, 0, 0);
+    with_scratch!(image.desc().width(), none, rows => {
+        write_nine::<i16, WeightedSum, _>(&GradientX, image, output, border, rows)
+    })
 }
 
 /// Writes the change from above to below (OpenVX 1.3, "Sobel 3x3"): of U8 to S16.
@@ -45,7 +103,11 @@ pub fn sobel_y3(image: &Image<'_>, output: &mut ImageMut<'_>, border: Border)
     requires { WindowFits S16 image.now output.old }
     ensures { Writes (from_nine S16 gradient_y border image.now) output.old output.new }
 {
-    write_nine::<i16, _>(&GradientY, image, output, border);
+    let _limits = image.valid();
+    let none = change_of(0, 0);
+    with_scratch!(image.desc().width(), none, rows => {
+        write_nine::<i16, Change, _>(&GradientY, image, output, border, rows)
+    })
 }
 
 /// Writes the changes from left to right and from above to below (OpenVX 1.3, "Sobel 3x3"), each

@@ -1,14 +1,15 @@
 //! Functions that give each sample of an image from the samples around its place.
 //!
 //! Each writes a whole output: the formula of OpenVX 1.3 where the border mode makes the output
-//! valid, 0 elsewhere. A kernel of nine samples is a type with a `sample` of those around a place,
-//! `OfNine`; that it gives a whole image is proved once for all, in `write_nine`. `convolve` sums
-//! up a row of products for each coefficient of a matrix. The rows that a window touches are
-//! loaded with what counts beside them, so that no kernel asks for a border. No function takes
-//! memory. `examples` works the definitions out in numbers, and `laws` states what the median
-//! means.
+//! valid, 0 elsewhere. A kernel of nine samples is a type that writes a row of them, `OfNine`; that
+//! it gives a whole image is proved once for all, in `write_nine`. Most of them go down the columns
+//! of three rows, which are read where they stand, and then across three columns: `OfColumn` and
+//! `AcrossColumns`. `convolve` sums up a row of products for each coefficient of a matrix, of rows
+//! that are loaded with what counts beside them. No function takes memory. `examples` works the
+//! definitions out in numbers, and `laws` states what the median means.
 #![tactic(auto)]
 
+mod columns;
 mod convolution;
 pub mod examples;
 mod extremes;

@@ -1,13 +1,21 @@
 //! The middle one of the nine samples around a place.
-ghost use Rattle.std.specs.Prelude.{◌≡◌, min, max};
+ghost use Rattle.std.specs.Prelude.{◌≡◌, ◌+◌, min, max, pos, map, length};
+ghost use Rattle.std.specs.Int.{int_min, int_max};
 ghost use Rattle.vx_base.specs.declared.format.Format.TheVariants.{U8};
+ghost use Rattle.vx_base.specs.Image.{run};
 ghost use Rattle.vx_base.specs.Window.{median, from_nine};
 ghost use Rattle.image_core.specs.Target.{Writes};
 ghost use Rattle.window_kernels.specs.Fits.{WindowFits};
+ghost use Rattle.window_kernels.specs.Nine.{three_at, median_of_sorted};
 
-use crate::nine::{OfNine, Three, write_nine};
+use crate::columns::{OfColumn, Window};
+use crate::extremes::{Greatest, Least};
+use crate::nine::{OfNine, with_scratch, write_nine};
 use image_core::{Image, ImageMut};
 use vx_base::Border;
+
+/// What three columns give, from left to right.
+type Three = (u8, u8, u8);
 
 fn least(samples: Three) -> u8
     ensures { result ≡ min (min samples.0 samples.1) samples.2 }
@@ -28,17 +36,63 @@ fn middle(samples: Three) -> u8
     a.min(b).max(a.max(b).min(c))
 }
 
+/// The middle one of a column.
+struct MiddleOne;
+
+impl OfColumn<u8> for MiddleOne {
+    ghost gives = { λ _ a b c. int_max (int_min a b) (int_min (int_max a b) c) };
+
+    fn of_column(&self, above: u8, here: u8, below: u8) -> u8 {
+        middle((above, here, below))
+    }
+}
+
+/// The median of three columns, of which the least, the middle and the greatest samples are given:
+/// the middle one of the greatest least, the middle middle and the least greatest.
+fn median_of(low: Three, center: Three, high: Three) -> u8
+    ensures { result ≡ median_of_sorted low center high }
+{
+    let (lowest, highest) = (greatest(low), least(high));
+    middle((lowest, highest, middle(center)))
+}
+
+/// Writes the medians of each three columns.
+fn write_medians(low: &[u8], center: &[u8], high: &[u8], out: &mut [u8])
+    requires low { length low.now ≡ length out.old + 2 }
+    requires center { length center.now ≡ length out.old + 2 }
+    requires high { length high.now ≡ length out.old + 2 }
+    ensures { map pos out.new ≡ run 0 (length out.old) (λ i. pos (median_of_sorted (three_at low.now i) (three_at center.now i) (three_at high.now i))) }
+{
+    for (i, sample) in out.iter_mut().enumerate() {
+        *sample = median_of(
+            (low[i], low[i + 1], low[i + 2]),
+            (center[i], center[i + 1], center[i + 2]),
+            (high[i], high[i + 1], high[i + 2]),
+        );
+    }
+}
+
 struct Median;
 
-impl OfNine<u8> for Median {
+impl OfNine<u8, u8> for Median {
     ghost formula = { λ _. median };
 
-    // The middle one of the greatest least, the middle middle and the least greatest of the rows.
-    fn sample(&self, above: Three, here: Three, below: Three) -> u8 {
-        let low = greatest((least(above), least(here), least(below)));
-        let high = least((greatest(above), greatest(here), greatest(below)));
-        let center = middle((middle(above), middle(here), middle(below)));
-        middle((low, high, center))
+    fn write_row(
+        &self,
+        window: &Window<'_, '_>,
+        x: u16,
+        y: u16,
+        scratch: &mut [u8],
+        out: &mut [u8],
+    ) {
+        let count = out.len() + 2;
+        let (low, others) = scratch.split_at_mut(count);
+        let (center, others) = others.split_at_mut(count);
+        let (high, _) = others.split_at_mut(count);
+        window.write_columns(&Least, x, y, low);
+        window.write_columns(&MiddleOne, x, y, center);
+        window.write_columns(&Greatest, x, y, high);
+        write_medians(low, center, high, out);
     }
 }
 
@@ -47,5 +101,8 @@ pub fn median3(image: &Image<'_>, output: &mut ImageMut<'_>, border: Border)
     requires { WindowFits U8 image.now output.old }
     ensures { Writes (from_nine U8 median border image.now) output.old output.new }
 {
-    write_nine::<u8, _>(&Median, image, output, border);
+    let _limits = image.valid();
+    with_scratch!(image.desc().width(), 0, rows => {
+        write_nine::<u8, u8, _>(&Median, image, output, border, rows)
+    })
 }

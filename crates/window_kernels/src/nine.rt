@@ -1,142 +1,186 @@
 //! Images of the nine samples around each place.
-ghost use Rattle.std.specs.Prelude.{◌≡◌, ◌+◌, ◌<◌, ◌≤◌, ℤ, pos, List, map, length};
+ghost use Rattle.std.specs.Prelude.{◌≡◌, ◌+◌, ◌*◌, ◌<◌, ◌≤◌, ◌-ℤ◌, ℕ, ℤ, pos, List, [], ◌∷◌, map, length, replicate};
 ghost use Rattle.vx_base.specs.declared.format.Format.TheVariants.{U8};
 ghost use Rattle.vx_base.specs.Image.{run};
 ghost use Rattle.vx_base.specs.Window.{look, nine_around, window_valid, from_nine};
 ghost use Rattle.image_core.specs.Fits.{HaveSameSize};
 ghost use Rattle.image_core.specs.Target.{written, IsTarget, Writes};
-ghost use Rattle.window_kernels.specs.Nine.{nine_of, nine_in};
+ghost use Rattle.border_rows.specs.Seen.{value_beside};
+ghost use Rattle.window_kernels.specs.Nine.{column_seen};
 
-use border_rows::{load_row, window_valid};
-use image_core::{Formula, Image, ImageMut, Sample};
-use vx_base::{Border, GREATEST_SIDE, Rect};
-
-/// Samples of a row, from left to right.
-pub type Three = (u8, u8, u8);
+use crate::columns::{OfColumn, Window};
+use border_rows::{value_beside, window_valid};
+use image_core::{Image, ImageMut, Number, RowFormula, Sample};
+use vx_base::{Border, Rect};
 
 /// What a function of the nine samples around a place gives there.
-pub trait OfNine<T: Sample> {
+pub trait OfNine<T: Sample, S: Number> {
     /// The sample, from the nine by rows from above to below.
     ghost formula: { Self → List ℤ → ℤ };
 
-    fn sample(&self, above: Three, here: Three, below: Three) -> T
-        ensures { T.value result ≡ formula self.now (nine_of above here below) };
+    /// Writes row y from column x on. The scratch memory has three rows, each two items longer than
+    /// the image's, and what it holds means nothing.
+    fn write_row(&self, window: &Window<'_, '_>, x: u16, y: u16, scratch: &mut [S], out: &mut [T])
+        requires rows { window.now.image.now.valid.y0 < window.now.image.now.valid.y1 }
+        requires columns { (window.now.image.now.valid.x0 ≤ x) × (x + length out.old ≤ window.now.image.now.valid.x1) }
+        requires some { 1 ≤ length out.old }
+        requires scratch { 3 * (length out.old + 2) ≤ length scratch.old }
+        ensures { map T.value out.new ≡ run x (length out.old) (λ k. formula self.now (nine_around (look window.now.image.now window.now.border) (pos k) (pos y))) };
 }
 
-/// Writes what the kernel gives along three rows, whose samples begin one column to the left.
-fn write_row<T: Sample, K: OfNine<T>>(
+/// A function of nine samples that goes down the columns and then across three of them.
+pub trait AcrossColumns<T: Sample, S: Number>: OfColumn<S> {
+    /// What three columns give, from what each of them gives.
+    ghost joined: { Self → ℤ → ℤ → ℤ → ℤ };
+
+    /// The sample, from the nine by rows from above to below.
+    ghost of_nine: { Self → List ℤ → ℤ };
+
+    fn join(&self, left: S, middle: S, right: S) -> T
+        ensures { T.value result ≡ joined self.now (S.value left) (S.value middle) (S.value right) };
+
+    ghost is_of_nine: { (k : Self) (a b c d e f g h i : ℤ) →
+        joined k (Self.gives k a d g) (Self.gives k b e h) (Self.gives k c f i) ≡ of_nine k (a ∷ b ∷ c ∷ d ∷ e ∷ f ∷ g ∷ h ∷ i ∷ []) };
+}
+
+/// Writes what each three columns give.
+fn write_across<T: Sample, S: Number, K: AcrossColumns<T, S>>(
     kernel: &K,
-    above: &[u8],
-    here: &[u8],
-    below: &[u8],
+    columns: &[S],
     out: &mut [T],
 )
-    requires above { length above.now ≡ length out.old + 2 }
-    requires here { length here.now ≡ length out.old + 2 }
-    requires below { length below.now ≡ length out.old + 2 }
-    ensures { map T.value out.new ≡ run 0 (length out.old) (λ i. K.formula kernel.now (nine_in above.now here.now below.now i)) }
+    requires { length columns.now ≡ length out.old + 2 }
+    ensures { (g : ℕ → ℤ) → map S.value columns.now ≡ run 0 (length columns.now) g → map T.value out.new ≡ run 0 (length out.old) (λ i. K.joined kernel.now (g i) (g (i + 1)) (g (i + 2))) }
 {
     for (i, sample) in out.iter_mut().enumerate() {
-        *sample = kernel.sample(
-            (above[i], above[i + 1], above[i + 2]),
-            (here[i], here[i + 1], here[i + 2]),
-            (below[i], below[i + 1], below[i + 2]),
-        );
+        *sample = kernel.join(columns[i], columns[i + 1], columns[i + 2]);
     }
 }
 
-/// The samples of the widest image's row, with one to either side.
-const ROW_ROOM: usize = GREATEST_SIDE as usize + 2;
+/// Writes row y from column x on, down the columns and then across.
+pub fn write_by_columns<T: Sample, S: Number, K: AcrossColumns<T, S>>(
+    kernel: &K,
+    window: &Window<'_, '_>,
+    x: u16,
+    y: u16,
+    scratch: &mut [S],
+    out: &mut [T],
+)
+    requires rows { window.now.image.now.valid.y0 < window.now.image.now.valid.y1 }
+    requires columns { (window.now.image.now.valid.x0 ≤ x) × (x + length out.old ≤ window.now.image.now.valid.x1) }
+    requires some { 1 ≤ length out.old }
+    requires scratch { 3 * (length out.old + 2) ≤ length scratch.old }
+    ensures { map T.value out.new ≡ run x (length out.old) (λ k. K.of_nine kernel.now (nine_around (look window.now.image.now window.now.border) (pos k) (pos y))) }
+{
+    let columns = &mut scratch[..out.len() + 2];
+    window.write_columns(kernel, x, y, columns);
+    write_across(kernel, columns, out);
+}
 
 /// What a kernel gives of a U8 image under a border.
 #[derive(Drop)]
 struct FromNine<'a, 'b, K> {
     kernel: &'a K,
-    image: &'a Image<'b>,
-    border: Border,
-    area: Rect,
-    ghost format: { image.now.format ≡ U8 },
-    ghost columns: { (area.x1 ≤ image.now.valid.x1) × (area.x0 < area.x1 → image.now.valid.x0 < image.now.valid.x1) },
-    ghost rows: { (area.y1 ≤ image.now.valid.y1) × (area.y0 < area.y1 → image.now.valid.y0 < image.now.valid.y1) },
+    window: &'a Window<'a, 'b>,
 }
 
-impl<K> FromNine<'_, '_, K> {
-    /// Loads the rows around row y into room that is two samples longer than `out`, and writes
-    /// row y from column x on.
-    fn write_along<T: Sample>(
-        &self,
-        x: u16,
-        y: u16,
-        above: &mut [u8],
-        here: &mut [u8],
-        below: &mut [u8],
-        out: &mut [T],
-    )
-    where
-        K: OfNine<T>,
-        requires columns { self.now.image.now.valid.x0 < self.now.image.now.valid.x1 }
-        requires rows { self.now.image.now.valid.y0 < self.now.image.now.valid.y1 }
-        requires above { length above.old ≡ length out.old + 2 }
-        requires here { length here.old ≡ length out.old + 2 }
-        requires below { length below.old ≡ length out.old + 2 }
-        ensures { map T.value out.new ≡ run x (length out.old) (λ k. K.formula self.now.kernel.now (nine_around (look self.now.image.now self.now.border) (pos k) (pos y))) }
-    {
-        let row = i32::from(y);
-        load_row(self.image, x, 1, row - 1, self.border, above);
-        load_row(self.image, x, 1, row, self.border, here);
-        load_row(self.image, x, 1, row + 1, self.border, below);
-        write_row(self.kernel, above, here, below, out);
-    }
-}
+impl<T: Sample, S: Number, K: OfNine<T, S>> RowFormula<T, S> for FromNine<'_, '_, K> {
+    ghost at = { λ s x y. K.formula s.kernel.now (nine_around (look s.window.now.image.now s.window.now.border) (pos x) (pos y)) };
 
-impl<T: Sample, K: OfNine<T>> Formula<T> for FromNine<'_, '_, K> {
-    ghost at = { λ s x y. K.formula s.kernel.now (nine_around (look s.image.now s.border) (pos x) (pos y)) };
+    ghost area = { λ s. s.window.now.area };
 
-    ghost area = { λ s. s.area };
+    ghost room = { λ s. 3 * (s.window.now.image.now.width + 2) };
 
     fn area(&self) -> Rect {
-        self.area
+        self.window.area
     }
 
-    fn fill(&self, x: u16, y: u16, out: &mut [T]) {
+    fn fill(&self, x: u16, y: u16, scratch: &mut [S], out: &mut [T]) {
         // Where nothing is written, there may be no valid place that the rows could show.
         if out.is_empty() {
             return;
         }
-        // A formula is only read here, so the rows stand on the stack, and each is loaded anew.
-        let _limits = (self.image.valid(), self.image.desc().width());
-        let count = out.len() + 2;
-        let (mut above, mut here, mut below) = ([0; ROW_ROOM], [0; ROW_ROOM], [0; ROW_ROOM]);
-        self.write_along(
-            x,
-            y,
-            &mut above[..count],
-            &mut here[..count],
-            &mut below[..count],
-            out,
-        );
+        let _valid = self.window.image.valid();
+        self.kernel.write_row(self.window, x, y, scratch, out);
     }
 }
 
-/// Writes what the kernel gives of a U8 image to another of its size.
-pub fn write_nine<T: Sample, K: OfNine<T>>(
+/// Writes what the kernel gives, with a row as it is seen where no valid row is.
+fn write_with_rows<T: Sample, S: Number, K: OfNine<T, S>>(
     kernel: &K,
     image: &Image<'_>,
     output: &mut ImageMut<'_>,
     border: Border,
+    off_rows: &[u8],
+    scratch: &mut [S],
 )
     requires target { IsTarget output.old }
     requires size { HaveSameSize (written output.old) image.now }
     requires input_format { image.now.format ≡ U8 }
     requires format { (written output.old).format ≡ T.format }
+    requires off_rows { map pos off_rows.now ≡ replicate (length off_rows.now) (value_beside border (pos 0)) }
+    requires room { image.now.width ≤ length off_rows.now }
+    requires scratch { 3 * (image.now.width + 2) ≤ length scratch.old }
     ensures { Writes (from_nine T.format (K.formula kernel.now) border image.now) output.old output.new }
 {
     let area = window_valid(border, 1, 1, image.valid());
-    let formula = FromNine {
-        kernel,
+    let window = Window {
         image,
         border,
+        off_rows,
         area,
     };
-    output.write::<T, _>(&formula);
+    let formula = FromNine {
+        kernel,
+        window: &window,
+    };
+    output.write_by_rows::<T, S, _>(&formula, scratch);
 }
+
+/// Writes what the kernel gives of a U8 image to another of its size, with scratch memory for three
+/// rows that are two items longer than the image's.
+pub fn write_nine<T: Sample, S: Number, K: OfNine<T, S>>(
+    kernel: &K,
+    image: &Image<'_>,
+    output: &mut ImageMut<'_>,
+    border: Border,
+    scratch: &mut [S],
+)
+    requires target { IsTarget output.old }
+    requires size { HaveSameSize (written output.old) image.now }
+    requires input_format { image.now.format ≡ U8 }
+    requires format { (written output.old).format ≡ T.format }
+    requires scratch { 3 * (image.now.width + 2) ≤ length scratch.old }
+    ensures { Writes (from_nine T.format (K.formula kernel.now) border image.now) output.old output.new }
+{
+    let _limits = image.valid();
+    let width = image.desc().width();
+    let off = value_beside(border, 0);
+    if width <= 62 {
+        write_with_rows(kernel, image, output, border, &[off; 62], scratch);
+    } else if width <= 510 {
+        write_with_rows(kernel, image, output, border, &[off; 510], scratch);
+    } else {
+        write_with_rows(kernel, image, output, border, &[off; 4096], scratch);
+    }
+}
+
+/// `with_scratch!(width, item, scratch => call)` makes the call with `scratch` on the stack, for
+/// three rows that are two items longer than those of an image of this width. It is cleared once,
+/// and a small image needs little of it.
+macro_rules! with_scratch {
+    ($width:expr, $item:expr, $scratch:ident => $call:expr) => {
+        if $width <= 62 {
+            let $scratch = &mut [$item; 3 * 64];
+            $call
+        } else if $width <= 510 {
+            let $scratch = &mut [$item; 3 * 512];
+            $call
+        } else {
+            let $scratch = &mut [$item; 3 * 4098];
+            $call
+        }
+    };
+}
+
+pub(crate) use with_scratch;

@@ -12,7 +12,9 @@ fn with_product(sum: i32, sample: u8, coefficient: i16) -> i32
     sum + i32::from(sample) * i32::from(coefficient)
 }
 
-/// Adds to each sum the sample at its place times the coefficient.
+/// Adds to each sum the sample at its place times the coefficient. Inlined into the loops around
+/// it, it would not become vector instructions.
+#[inline(never)]
 fn add_products(coefficient: i16, samples: &[u8], sums: &mut [i32])
     requires len { length samples.now ≡ length sums.old }
     requires room { AreUpTo (80 * 8355840) sums.old }

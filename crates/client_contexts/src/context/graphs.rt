@@ -1,19 +1,28 @@
-//! The graphs of a context.
-ghost use Rattle.std.specs.Prelude.{◌≡◌, if◌then◌else◌, IsTrue, All, Ok, Err, IfOk, IfErr, OnOk, OnErr};
-ghost use Rattle.vx_base.specs.Graph.{can_add, with_node, has_node, without_node};
+//! The graphs of a context: their nodes, the verdicts on them, and their runs.
+ghost use Rattle.std.specs.Prelude.{◌≡◌, if◌then◌else◌, IsTrue, All, None, Some, Ok, Err, IfOk, IfErr, OnOk, OnErr};
+ghost use Rattle.vx_base.specs.Graph.{nodes_of, can_add, with_node, has_node, without_node};
 ghost use Rattle.vx_base.specs.Node.{operands};
+ghost use Rattle.graph_verify.specs.Outlines.{resolved};
+ghost use Rattle.graph_verify.specs.Verdict.{verdict};
+ghost use Rattle.graph_verify.specs.Verified.{IsVerified};
+ghost use Rattle.graph_run.specs.Graph.{run};
+ghost use Rattle.graph_run.specs.Operands.{operand_held};
+ghost use Rattle.client_contexts.specs.Steps.{IfRejected};
 ghost use Rattle.client_contexts.specs.declared.fault.RequestFault.TheVariants.{Refused, NoMemory};
 ghost use Rattle.client_model.specs.declared.refusal.Refusal.TheVariants.{InvalidReference, NoResources};
 ghost use Rattle.client_model.specs.Context.{with_objects};
 ghost use Rattle.client_model.specs.Graphs.{with_graph};
 ghost use Rattle.client_model.specs.Holds.{still_held};
-ghost use Rattle.client_contexts.specs.Places.{entry_at, graph_at, HasGraphAt};
+ghost use Rattle.graph_run.specs.Places.{entry_at};
+ghost use Rattle.client_contexts.specs.Places.{graph_at, HasGraphAt};
 ghost use Rattle.client_model.specs.States.{stands};
 
 use crate::context::Context;
 use crate::fault::RequestFault;
 use client_model::Refusal;
-use graph_verify::Graph;
+use graph_run::{run, verify_in};
+use graph_verify::{Graph, Verified};
+use std::alloc::Global;
 use vx_base::NodeSpec;
 
 impl Context {
@@ -54,6 +63,31 @@ impl Context {
             return Err(Refusal::InvalidReference);
         };
         self.table.unuse_operands(&node.node());
+        Ok(())
+    }
+
+    /// Verifies the graph at an index, of which the virtual images that it writes may take so many
+    /// bytes: its nodes in an order in which they can run, in memory of the allocator.
+    pub fn verify(&self, alloc: Global, index: usize, work: u64) -> Result<Verified, RequestFault>
+        requires { HasGraphAt self.now.objects index }
+        ensures verified { IfOk result (IsVerified (operand_held self.now.objects) (nodes_of (graph_at self.now.objects index))) }
+        ensures ok { OnOk result (verdict work (operand_held self.now.objects) (nodes_of (graph_at self.now.objects index)) ≡ None) }
+        ensures refused { IfErr result (λ fault. IfRejected fault (λ v. verdict work (operand_held self.now.objects) (nodes_of (graph_at self.now.objects index)) ≡ Some v)) }
+    {
+        Ok(verify_in(alloc, &self.table, self.graph(index), work)?)
+    }
+
+    /// Runs the graph at an index, of which the virtual images that it writes may take so many
+    /// bytes, if it can run.
+    pub fn process(&mut self, alloc: Global, index: usize, work: u64) -> Result<(), RequestFault>
+        requires { HasGraphAt self.old.objects index }
+        ensures verdict { OnOk result (verdict work (operand_held self.old.objects) (nodes_of (graph_at self.old.objects index)) ≡ None) }
+        ensures ok { OnOk result (self.new ≡ with_objects self.old (run (resolved (operand_held self.old.objects) (nodes_of (graph_at self.old.objects index))) (nodes_of (graph_at self.old.objects index)) self.old.objects)) }
+        ensures refused { IfErr result (λ fault. IfRejected fault (λ v. verdict work (operand_held self.old.objects) (nodes_of (graph_at self.old.objects index)) ≡ Some v)) }
+        ensures err { OnErr result (self.new ≡ self.old) }
+    {
+        let verified = self.verify(alloc, index, work)?;
+        run(alloc, &verified, &mut self.table)?;
         Ok(())
     }
 }

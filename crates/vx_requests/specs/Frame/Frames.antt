@@ -54,10 +54,11 @@ joined_replies replies = flat_map reply_bytes replies
 abbrev pub IsLength : ℕ → Type 0
 IsLength n = (3 ≤ n) × (n ≤ 134217728)
 
--- what can be sent as a frame
+-- what can be sent as a frame: a body of bytes that is not too long
 pub record IsFrame (f : Frame) : Type 0 where
   pub client : f.client < 2 ^ 16
   pub op : f.op < 2 ^ 8
+  pub bytes : All (λ b. b < 2 ^ 8) f.body
   pub len : length f.body + 3 ≤ 134217728
 
 -- the length that the four bytes at the front say

@@ -1,5 +1,5 @@
 -- What reading the parts of a frame does.
-use Rattle.std.specs.Prelude.{◌≡◌, ℕ, ◌+◌, ◌<◌, ◌^◌, List, [], length, Option, Some, None, Result, Ok, Err}
+use Rattle.std.specs.Prelude.{◌≡◌, ℕ, ◌+◌, ◌<◌, ◌^◌, List, [], length, All, Option, Some, None, Result, Ok, Err}
 use Rattle.std.specs.Int.{w32, to_be_bytes}
 use Rattle.std.specs.Io.KnownBytes.{Consumes, IsAtEnd}
 use Rattle.vx_requests.specs.declared.stream.fault.StreamFault.{StreamFault}
@@ -31,7 +31,7 @@ ReadsPart old new len e = (part : List ℕ) × Consumes old new part × (length 
 
 -- len bytes were read
 abbrev pub ReadsSome : Option (List ℕ) → Option (List ℕ) → ℕ → Type 0
-ReadsSome old new len = (bytes : List ℕ) × Consumes old new bytes × (length bytes ≡ len)
+ReadsSome old new len = (bytes : List ℕ) × Consumes old new bytes × (length bytes ≡ len) × All (λ b. b < 2 ^ 8) bytes
 
 -- the length of the next frame was read, or the end was there
 abbrev pub ReadsLength : Option (List ℕ) → Option (List ℕ) → Result (Option ℕ) StreamFault → Type 0

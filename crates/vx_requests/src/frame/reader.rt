@@ -1,5 +1,5 @@
 //! The parts of a frame, read from a source.
-ghost use Rattle.std.specs.Prelude.{◌≡◌, ◌<◌, [], ◌∷◌, ◌++◌, length, OnOk, IfOk, IfErr};
+ghost use Rattle.std.specs.Prelude.{◌≡◌, ◌<◌, ◌^◌, [], ◌∷◌, ◌++◌, length, All, OnOk, IfOk, IfErr};
 ghost use Rattle.std.specs.Int.{w16, w32, to_be_bytes};
 ghost use Rattle.std.specs.Io.KnownBytes.{Consumes};
 ghost use Rattle.vx_requests.specs.Frame.Reading.{ReadsPart, ReadsSome, ReadsLength, CanRead, KeepsCount};
@@ -54,6 +54,7 @@ impl<S: Source> Reader<'_, S> {
             (S.left self.old.source.now) (S.left self.new.source.now) buf.new) }
         ensures err { IfErr result (ReadsPart
             (S.left self.old.source.now) (S.left self.new.source.now) (length buf.new)) }
+        ensures bytes { All (λ b. b < 2 ^ 8) buf.new }
         ensures counted { KeepsCount S.reads S.failures self.old self.new result }
     {
         let count = fill(self.source, &mut self.budget, buf)?;

@@ -1,11 +1,15 @@
 //! Laws of streams and of their clients.
-ghost use Rattle.std.specs.Prelude.{◌≡◌, ℕ, ◌<◌, false, List, [], ◌++◌, ◌==◌, map, All, Option, Some, Result};
+ghost use Rattle.std.specs.Prelude.{◌≡◌, ℕ, ◌<◌, false, List, [], ◌++◌, ◌==◌, map, All, Option, Some, IfSome, IfOk, Result};
+ghost use Rattle.vx_base.specs.Cell.{Cell};
+ghost use Rattle.vx_base.specs.Image.{IsImage};
 ghost use Rattle.client_model.specs.Allowance.{Allowance};
 ghost use Rattle.client_model.specs.Context.{State};
+ghost use Rattle.client_model.specs.Operands.{image_of};
+ghost use Rattle.client_model.specs.States.{KeepsLimits};
 ghost use Rattle.vx_requests.specs.declared.stream.fault.StreamFault.{StreamFault};
 ghost use Rattle.vx_requests.specs.declared.serving.summary.Summary.{Summary};
 ghost use Rattle.vx_requests.specs.Frame.Frames.{Frame, IsFrame, frame_bytes, Splits};
-ghost use Rattle.vx_requests.specs.Serving.Clients.{Received, mine, sent_to, kept_replies, alone, served, frames_of};
+ghost use Rattle.vx_requests.specs.Serving.Clients.{Received, mine, sent_to, kept_replies, alone, after, served, frames_of};
 ghost use Rattle.vx_requests.specs.Serving.Answer.{answer};
 ghost use Rattle.vx_requests.specs.Serving.Ends.{ReadsToARest};
 ghost use Rattle.vx_requests.specs.Serving.Session.{Session};
@@ -75,4 +79,26 @@ pub fn session_splits()
         (old new : ℕ → State) (result : Result Summary StreamFault) →
         (session : Session limits (Some input) (Some more) taken_old taken_new old new result) →
         ReadsToARest result → Splits input (frames_of session.marked) (session.rest ++ more) }
+{}
+
+/// Whatever frames a client sends, its state keeps the limits if it did before, as no context does;
+/// and each image that a cell then names is one: it has samples of its format, and is 0 outside its
+/// valid rectangle.
+pub fn states_keep()
+    ensures limits { (limits : Allowance) (state : State) (frames : List Frame) →
+        All IsFrame frames → IfSome state (KeepsLimits limits) →
+        IfSome (after (answer limits) state frames) (KeepsLimits limits) }
+    ensures images { (limits : Allowance) (state : State) (frames : List Frame) (cell : Cell) →
+        All IsFrame frames → IfSome state (KeepsLimits limits) →
+        IfSome (after (answer limits) state frames)
+        (λ c. IfOk (image_of c.objects cell) IsImage) }
+{}
+
+/// A call of `serve` that began where a client's state kept the limits, as no context does, ends
+/// where it does, however it ends.
+pub fn session_keeps()
+    ensures { (limits : Allowance) (left_old left_new taken_old taken_new : Option (List ℕ))
+        (old new : ℕ → State) (result : Result Summary StreamFault) (client : ℕ) →
+        Session limits left_old left_new taken_old taken_new old new result →
+        IfSome (old client) (KeepsLimits limits) → IfSome (new client) (KeepsLimits limits) }
 {}

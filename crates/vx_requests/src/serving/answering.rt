@@ -1,5 +1,5 @@
 //! A frame, once its length is known: its payload is read, and answered by the runtime.
-ghost use Rattle.std.specs.Prelude.{◌≡◌, ℕ, ◌<◌, ◌≤◌, IfOk, length};
+ghost use Rattle.std.specs.Prelude.{◌≡◌, ℕ, ◌<◌, ◌≤◌, ◌^◌, All, IfOk, length};
 ghost use Rattle.client_model.specs.Allowance.{Allowance};
 ghost use Rattle.client_model.specs.Context.{State};
 ghost use Rattle.vx_requests.specs.Frame.Frames.{IsLength, frame_of, payload};
@@ -109,7 +109,8 @@ fn lose_payload<S: Source>(reader: &mut Reader<S>, count: usize) -> Result<Answe
 /// The frame that the bytes after its length spell.
 fn frame_in(bytes: &[u8]) -> RequestFrame<'_>
     requires { 3 ≤ length bytes.now }
-    ensures { bytes.now ≡ payload (frame_of result.client result.op result.body.now) }
+    ensures spelled { bytes.now ≡ payload (frame_of result.client result.op result.body.now) }
+    ensures bytes { All (λ b. b < 2 ^ 8) result.body.now }
 {
     RequestFrame {
         client: number_of_two(&bytes[..2]),

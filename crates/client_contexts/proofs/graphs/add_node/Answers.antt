@@ -1,5 +1,5 @@
 use Rattle.std.proofs.Common.{subst, sym}
-use Rattle.client_contexts.specs.Places.{entry_at}
+use Rattle.graph_run.specs.Places.{entry_at}
 use Rattle.client_model.proofs.HoldLaws.{OperandsStand}
 use Rattle.client_contexts.proofs.graphs.add_node.Goals as goal
 

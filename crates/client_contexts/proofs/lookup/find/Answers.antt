@@ -1,6 +1,7 @@
 use Rattle.std.proofs.Common.{◌==◌, ◌∙◌, ap, subst, sym}
 use Rattle.std.specs.Prelude.{◌&&◌, position}
-use Rattle.client_contexts.specs.Places.{entry_at, FoundAt}
+use Rattle.graph_run.specs.Places.{entry_at}
+use Rattle.client_contexts.specs.Places.{FoundAt}
 use Rattle.client_contexts.specs.Steps.{slot_refusal}
 use Rattle.client_contexts.proofs.LookupLemmas.{refused_unknown, refusal_is, found_there}
 use Rattle.client_contexts.proofs.lookup.find.Goals as goal

@@ -7,8 +7,8 @@ use Rattle.image_core.proofs.rows.write_across.Goals as goal
 pub returns : goal.returns
 returns g c =
     let value = g.T.Number.value in
-    let f = g.F.Formula.at c.args.formula.now in
-    let r = g.F.Formula.area c.args.formula.now in
+    let f = g.F.RowFormula.at c.args.formula.now in
+    let r = g.F.RowFormula.area c.args.formula.now in
     let x0 = c.args.x0 in
     let x1 = c.args.x1 in
     let n = length c.args.out.now in

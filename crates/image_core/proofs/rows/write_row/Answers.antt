@@ -7,8 +7,8 @@ use Rattle.image_core.proofs.rows.write_row.Goals.{then-y-y0, else-y-y0}
 
 pub returns-then-y1-y : goal.returns-then-y1-y
 returns-then-y1-y g c =
-    let f = g.F.Formula.at c.args.formula.now in
-    let r = g.F.Formula.area c.args.formula.now in
+    let f = g.F.RowFormula.at c.args.formula.now in
+    let r = g.F.RowFormula.area c.args.formula.now in
     let top : c.y0.result ≡ r.y0 = c.y0.ensures.value ∙ ap (λ (s : Rectangle). s.y0) c.area-area.ensures in
     elim c.if-y-y0.branch [
       | then-y-y0 w ↦

@@ -6,7 +6,7 @@ use Rattle.image_core.proofs.rows.write_rows.Goals as goal
 pub loop-y-preserved : goal.loop-y-preserved
 loop-y-preserved g c =
     let start : c.from.result * c.from-step.result ≡ c.loop-y.y * c.args.width = ap (λ n. n * c.from-step.result) c.from.ensures ∙ ap (λ n. c.loop-y.y * n) c.from-step.ensures in
-    let f = within (g.F.Formula.area c.args.formula.now) (g.F.Formula.at c.args.formula.now) in
+    let f = within (g.F.RowFormula.area c.args.formula.now) (g.F.RowFormula.at c.args.formula.now) in
     let size = c.loop-y.auto.out ∙ c.requires.size in
     let part = length_part c.loop-y.out (c.from.result * c.from-step.result) c.from-step.result c.args.width c.args.height c.loop-y.y size c.loop-y-test.true start c.from-step.ensures in
     row_written g.T.Number.value c.args.width c.args.height c.loop-y.y (c.from.result * c.from-step.result) _ f c.loop-y.out c.write_row.new.out

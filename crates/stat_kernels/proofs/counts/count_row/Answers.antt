@@ -1,28 +1,59 @@
-use Rattle.std.proofs.Common.{◌∙◌, sym, ap, ◌++◌, pos, map, take, get_or, arith}
-use Rattle.stat_kernels.proofs.TallyLaws.{row_more, counted_some, counted_none, grows_by_one}
+use Rattle.std.proofs.Common.{◌+◌, ◌*◌, get_or, ap, pos, map, arith}
+use Rattle.std.proofs.lemmas.List.{take_all, length-map}
+use Rattle.stat_kernels.specs.Counts.{count_at}
+use Rattle.stat_kernels.proofs.TallyLaws.{one_more, four_more, few_of_first, all_bytes}
 use Rattle.stat_kernels.proofs.counts.count_row.Goals as goal
-use Rattle.stat_kernels.proofs.counts.count_row.Goals.{in-Some, in_default}
 
-pub loop-sample-preserved : goal.loop-sample-preserved
-loop-sample-preserved c =
+pub count_one-requires-in-loop-k : goal.count_one-requires-in-loop-k
+count_one-requires-in-loop-k c =
     let row = c.args.row.now in
-    let i = c.loop-sample.sample-index in
-    let sample = get_or row i 0 in
-    elim c.match-bin_of.branch [
-      | in-Some w ↦
-          record {
-            room = λ k. omega (arith, ap (λ l. get_or l k 0) w.counts-is, grows_by_one c.loop-sample.counts w.from.result k, c.loop-sample.invariant.room k);
-            counted = λ before start.
-                counted_some c.args.bins (before ++ map pos (take i row)) _ c.loop-sample.counts _ sample w.from.result w.in-Some.bin
-                (c.loop-sample.invariant.counted before start) (row_more before row i c.loop-sample-test.true) w.counts-is w.from.ensures
-                (sym c.bin_of.ensures.value ∙ w.in-Some.is) w.in-Some.ensures.below;
-          }
-      | in_default w ↦
-          record {
-            room = λ k. omega (arith, ap (λ l. get_or l k 0) w.counts-is, c.loop-sample.invariant.room k);
-            counted = λ before start.
-                counted_none c.args.bins (before ++ map pos (take i row)) _ c.loop-sample.counts _ sample
-                (c.loop-sample.invariant.counted before start) (row_more before row i c.loop-sample-test.true) w.counts-is
-                (sym c.bin_of.ensures.value ∙ w.in_default.is);
-          }
-    ]
+    let k = c.loop-k.k in
+    let v = get_or row (4 * k + 1) 0 in
+    omega (arith, c.loop-k.invariant v, c.requires.room v, few_of_first v row (4 * k) (omega (arith, c.loop-k-test.true)), c.loop-k-test.true)
+
+pub count_one-requires-in-loop-k-2 : goal.count_one-requires-in-loop-k-2
+count_one-requires-in-loop-k-2 c =
+    let row = c.args.row.now in
+    let k = c.loop-k.k in
+    let v = get_or row (4 * k + 2) 0 in
+    omega (arith, c.loop-k.invariant v, c.requires.room v, few_of_first v row (4 * k) (omega (arith, c.loop-k-test.true)), c.loop-k-test.true)
+
+pub count_one-requires-in-loop-k-3 : goal.count_one-requires-in-loop-k-3
+count_one-requires-in-loop-k-3 c =
+    let row = c.args.row.now in
+    let k = c.loop-k.k in
+    let v = get_or row (4 * k + 3) 0 in
+    omega (arith, c.loop-k.invariant v, c.requires.room v, few_of_first v row (4 * k) (omega (arith, c.loop-k-test.true)), c.loop-k-test.true)
+
+pub loop-k-preserved : goal.loop-k-preserved
+loop-k-preserved c v =
+    let row = c.args.row.now in
+    let k = c.loop-k.k in
+    omega (
+      arith,
+      c.loop-k.invariant v,
+      c.count_one.ensures v,
+      c.count_one-in-loop-k.ensures v,
+      c.count_one-in-loop-k-2.ensures v,
+      c.count_one-in-loop-k-3.ensures v,
+      four_more v row k (omega (arith, c.loop-k-test.true)),
+    )
+
+pub count_one-requires-in-loop-i : goal.count_one-requires-in-loop-i
+count_one-requires-in-loop-i c =
+    let row = c.args.row.now in
+    let i = c.loop-i.i in
+    let v = get_or row i 0 in
+    omega (arith, c.loop-i.invariant v, c.requires.room v, few_of_first v row i (omega (arith, c.loop-i-test.true)), c.loop-i-test.true)
+
+pub loop-i-preserved : goal.loop-i-preserved
+loop-i-preserved c v =
+    omega (arith, c.loop-i.invariant v, c.count_one-in-loop-i.ensures v, one_more v c.args.row.now c.loop-i.i c.loop-i-test.true)
+
+pub returns-clause-counted : goal.returns-clause-counted
+returns-clause-counted c v =
+    let row = c.args.row.now in
+    omega (arith, c.loop-i.invariant v, ap (count_at v) (take_all c.loop-i.i (map pos row) (omega (arith, length-map row pos, c.loop-i-test.false))))
+
+pub returns-clause-bytes : goal.returns-clause-bytes
+returns-clause-bytes c = all_bytes c.args.row.now (λ i. (c.type_inv.row i).fits)

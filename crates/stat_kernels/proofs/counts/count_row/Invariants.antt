@@ -1,10 +1,11 @@
-use Rattle.std.proofs.Common.{◌≡◌, ◌+◌, ◌≤◌, ◌++◌, ℕ, ℤ, pos, List, map, take, get_or}
-use Rattle.vx_base.specs.Statistics.{tallies}
+use Rattle.std.proofs.Common.{◌≡◌, ◌+◌, ◌*◌, ℕ, pos, map, take}
+use Rattle.stat_kernels.specs.Counts.{count_at, count_in_all}
 use Rattle.stat_kernels.proofs.counts.count_row.Given as goal
 
-abbrev pub invariant-loop-sample : goal.invariant-loop-sample
-invariant-loop-sample l =
-    record {
-      room : (k : ℕ) → get_or l.counts k 0 ≤ get_or l.fn.counts k 0 + l.sample-index;
-      counted : (before : List ℤ) → l.fn.counts ≡ tallies l.bins before → l.counts ≡ tallies l.bins (before ++ map pos (take l.sample-index l.row));
-    }
+abbrev pub invariant-loop-k : goal.invariant-loop-k
+invariant-loop-k l =
+    (v : ℕ) → count_in_all l.first l.second l.third l.fourth v ≡ count_in_all l.fn.first l.fn.second l.fn.third l.fn.fourth v + count_at v (take (4 * l.k) (map pos l.row))
+
+abbrev pub invariant-loop-i : goal.invariant-loop-i
+invariant-loop-i l =
+    (v : ℕ) → count_in_all l.first l.second l.third l.fourth v ≡ count_in_all l.fn.first l.fn.second l.fn.third l.fn.fourth v + count_at v (take l.i (map pos l.row))

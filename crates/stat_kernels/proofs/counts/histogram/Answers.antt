@@ -1,39 +1,40 @@
-use Rattle.std.proofs.Common.{◌≡◌, ◌∙◌, sym, ap, pos, map, length, get_or, arith}
-use Rattle.vx_base.specs.Statistics.{tallies, samples_in}
-use Rattle.stat_kernels.proofs.Rows.{above}
-use Rattle.stat_kernels.proofs.PlaceLaws.{samples_none, next_row, places_fit, length-samples, length-places}
-use Rattle.stat_kernels.proofs.TallyLaws.{tallies_none, tallies_at_most}
+use Rattle.std.proofs.Common.{◌≡◌, ◌∙◌, sym, ap, length, get_or, arith}
+use Rattle.vx_base.specs.Statistics.{valid_samples}
+use Rattle.stat_kernels.proofs.TallyLaws.{tallies_below, tallies_none, tallies_at_most, value_some, value_none, tallies_all, zeros_counted}
 use Rattle.stat_kernels.proofs.counts.histogram.Goals as goal
+use Rattle.stat_kernels.proofs.counts.histogram.Goals.{in-Some, in_default}
 
-pub loop-y-init : goal.loop-y-init
-loop-y-init c =
-    let image = c.args.image.now in
-    c.fill.ensures.after (λ y same. same)
-    ∙ tallies_none c.args.bins (length c.args.counts.now) c.requires.size
-    ∙ ap (tallies c.args.bins) (sym (samples_none image.valid image) ∙ ap (λ y. samples_in (above image.valid y) image) (sym c.of-part.ensures.top))
+pub count_values-requires-clause-zeros : goal.count_values-requires-clause-zeros
+count_values-requires-clause-zeros c v = zeros_counted v
 
-pub count_row-requires-clause-room : goal.count_row-requires-clause-room
-count_row-requires-clause-room c k =
-    let image = c.args.image.now in
-    let above_it = above image.valid c.loop-y.y in
+pub loop-value-init : goal.loop-value-init
+loop-value-init c =
+    c.fill.ensures.after (λ y same. same) ∙ tallies_none c.args.bins (valid_samples c.args.image.now) (length c.args.counts.now) c.requires.size
+
+pub overflow_add-counts : goal.overflow_add-counts
+overflow_add-counts c =
+    let zs = valid_samples c.args.image.now in
+    let value = c.loop-value.value in
     omega (
       arith,
-      ap (λ l. get_or l k 0) c.loop-y.invariant,
-      tallies_at_most c.args.bins (samples_in above_it image) k,
-      length-samples above_it image,
-      length-places above_it,
-      places_fit image c.of-part.result c.of-part.ensures c.loop-y.y c.loop-y.auto.y c.loop-y-test.true,
-      c.part_of_row.ensures.len,
+      ap (λ l. get_or l c.from.result 0) c.loop-value.invariant,
+      ap (λ i. get_or (tallies_below c.args.bins value zs) i 0) c.from.ensures,
+      tallies_at_most c.args.bins value zs c.in-Some.bin (sym c.bin_of.ensures.value ∙ c.in-Some.is) c.in-Some.ensures.below,
+      c.count_values.ensures.counted value,
+      c.count_values.ensures.few,
     )
 
-pub loop-y-preserved : goal.loop-y-preserved
-loop-y-preserved c =
-    let image = c.args.image.now in
-    c.count_row.ensures (samples_in (above image.valid c.loop-y.y) image) c.loop-y.invariant
-    ∙ ap (tallies c.args.bins) (next_row image c.of-part.result c.of-part.ensures c.loop-y.y (map pos c.part_of_row.result.now) c.loop-y.auto.y c.part_of_row.ensures.value)
+pub loop-value-preserved : goal.loop-value-preserved
+loop-value-preserved c =
+    let zs = valid_samples c.args.image.now in
+    let value = c.loop-value.value in
+    elim c.match-bin_of.branch [
+      | in-Some w ↦ value_some c.args.bins value zs c.loop-value.counts _ w.from.result w.in-Some.bin _ c.loop-value.invariant w.counts-is w.from.ensures (sym c.bin_of.ensures.value ∙ w.in-Some.is) w.in-Some.ensures.below (c.count_values.ensures.counted value)
+      | in_default w ↦ value_none c.args.bins value zs c.loop-value.counts _ c.loop-value.invariant w.counts-is (sym c.bin_of.ensures.value ∙ w.in_default.is)
+    ]
 
 pub returns : goal.returns
 returns c =
-    let image = c.args.image.now in
-    let last : c.loop-y.y ≡ image.valid.y1 = omega (arith, c.of-part.ensures.bottom, c.of-part.ensures.ordered, c.loop-y-test.false, c.loop-y.auto.y-end) in
-    c.loop-y.invariant ∙ ap (λ y. tallies c.args.bins (samples_in (above image.valid y) image)) last
+    let zs = valid_samples c.args.image.now in
+    let last : c.loop-value.value ≡ 256 = omega (arith, c.loop-value-test.false, c.loop-value.auto.value-end) in
+    c.loop-value.invariant ∙ ap (λ v. tallies_below c.args.bins v zs) last ∙ tallies_all c.args.bins zs c.count_values.ensures.bytes

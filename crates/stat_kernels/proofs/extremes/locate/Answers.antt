@@ -14,8 +14,8 @@ loop-y-init g c =
     c.nowhere-found.ensures (at image)
     ∙ ap (found_in (at image)) (sym (places_none image.valid) ∙ ap (λ y. places (above image.valid y)) (sym c.of-part.ensures.top))
 
-pub locate_in_row-found-requires-clause-least_room : goal.locate_in_row-found-requires-clause-least_room
-locate_in_row-found-requires-clause-least_room g c =
+pub joined-found-requires-clause-least_room : goal.joined-found-requires-clause-least_room
+joined-found-requires-clause-least_room g c =
     let image = c.args.image.now in
     omega (
       arith,
@@ -25,8 +25,8 @@ locate_in_row-found-requires-clause-least_room g c =
       c.part_of_row-row.ensures.len,
     )
 
-pub locate_in_row-found-requires-clause-greatest_room : goal.locate_in_row-found-requires-clause-greatest_room
-locate_in_row-found-requires-clause-greatest_room g c =
+pub joined-found-requires-clause-greatest_room : goal.joined-found-requires-clause-greatest_room
+joined-found-requires-clause-greatest_room g c =
     let image = c.args.image.now in
     omega (
       arith,
@@ -38,8 +38,8 @@ locate_in_row-found-requires-clause-greatest_room g c =
 
 pub loop-y-preserved : goal.loop-y-preserved
 loop-y-preserved g c =
-    next_found c.args.image.now c.of-part.result c.of-part.ensures c.loop-y.y (length c.part_of_row-row.result.now) (map g.T.Number.value c.part_of_row-row.result.now) c.loop-y.found c.locate_in_row-found.result
-    c.loop-y.auto.y c.part_of_row-row.ensures.len c.part_of_row-row.ensures.value c.locate_in_row-found.ensures c.loop-y.invariant
+    next_found c.args.image.now c.of-part.result c.of-part.ensures c.loop-y.y (length c.part_of_row-row.result.now) (map g.T.Number.value c.part_of_row-row.result.now) c.loop-y.found c.joined-found.result
+    c.loop-y.auto.y c.part_of_row-row.ensures.len c.part_of_row-row.ensures.value c.joined-found.ensures c.loop-y.invariant
 
 pub returns : goal.returns
 returns g c =

@@ -15,7 +15,7 @@ returns g c =
     let wide : c.from.result ≡ m.columns / 2 = omega (arith, c.from.ensures, c.columns.ensures.value) in
     let high : c.from-2.result ≡ m.rows / 2 = omega (arith, c.from-2.ensures, c.rows.ensures.value) in
     written_alike desc.width desc.height image.width image.height g.T.Sample.format c.window_valid-area.result (window_valid border (m.columns / 2) (m.rows / 2) image.valid)
-    (λ x y. convolved m g.T.Sample.format (look image border) (pos x) (pos y)) c.args.output.now c.write.new.self
+    (λ x y. convolved m g.T.Sample.format (look image border) (pos x) (pos y)) c.args.output.now c.write_by_rows.new.self
     sides.0 sides.1
     (c.window_valid-area.ensures.value ∙ ap (λ n. window_valid border n c.from-2.result c.valid.result) wide ∙ ap (λ n. window_valid border (m.columns / 2) n c.valid.result) high ∙ ap (window_valid border (m.columns / 2) (m.rows / 2)) c.valid.ensures.value)
-    c.write.ensures
+    c.write_by_rows.ensures

@@ -1,16 +1,5 @@
-use Rattle.std.proofs.Common.{pos, ◌∙◌, ap}
-use Rattle.vx_base.specs.Window.{look, nine_around, window_valid}
-use Rattle.image_core.specs.Target.{written}
-use Rattle.image_core.proofs.SizeLaws.{same_sides}
-use Rattle.window_kernels.proofs.WriteLaws.{written_alike}
+use Rattle.window_kernels.proofs.ColumnLaws.{off_are}
 use Rattle.window_kernels.proofs.nine.write_nine.Goals as goal
 
-pub returns : goal.returns
-returns g c =
-    let image = c.args.image.now in
-    let border = c.args.border in
-    let desc = c.args.output.now.desc in
-    let sides = same_sides (written c.args.output.now) image c.requires.size in
-    written_alike desc.width desc.height image.width image.height g.T.Sample.format c.window_valid-area.result (window_valid border 1 1 image.valid)
-    (λ x y. g.K.OfNine.formula c.args.kernel.now (nine_around (look image border) (pos x) (pos y))) c.args.output.now c.write.new.self
-    sides.0 sides.1 (c.window_valid-area.ensures.value ∙ ap (window_valid border 1 1) c.valid.ensures.value) c.write.ensures
+pub write_with_rows-requires-else-width-le510-clause-off_rows : goal.write_with_rows-requires-else-width-le510-clause-off_rows
+write_with_rows-requires-else-width-le510-clause-off_rows g c = off_are 4096 c.value_beside-off.result _ c.value_beside-off.ensures

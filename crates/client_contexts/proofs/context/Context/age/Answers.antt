@@ -4,9 +4,11 @@ use Rattle.object_table.specs.Object.{aged_object}
 use Rattle.object_table.specs.Table as table
 use Rattle.object_table.specs.Named.{Named, with_object}
 use Rattle.client_model.specs.Context.{Context, with_objects}
-use Rattle.client_contexts.specs.Places.{context_of, entry_at, cell_at, AreInContext}
-use Rattle.client_contexts.proofs.ContextLemmas.{within_there, entry_there, named_is, AreInContext-replaced}
-use Rattle.client_contexts.proofs.LastingLemmas.{lasting-aged}
+use Rattle.client_contexts.specs.Places.{context_of, AreInContext}
+use Rattle.graph_run.specs.Places.{entry_at, cell_at}
+use Rattle.graph_run.proofs.ByNameLemmas.{within_there, entry_there, named_is}
+use Rattle.client_contexts.proofs.LastingLemmas.{AreInContext-replaced}
+use Rattle.graph_run.proofs.LastingLemmas.{lasting-aged}
 use Rattle.client_contexts.proofs.DelayLemmas.{IsObject-aged}
 use Rattle.client_contexts.proofs.context.Context.age.Goals as goal
 

@@ -3,7 +3,7 @@ use Rattle.std.specs.Prelude.{◌==◌, ◌&&◌, position}
 use Rattle.std.specs.List.{AllPairs}
 use Rattle.client_model.specs.Context.{Context}
 use Rattle.object_table.proofs.NamedLemmas.{position-live}
-use Rattle.client_contexts.proofs.ContextLemmas.{order_there}
+use Rattle.graph_run.proofs.ByNameLemmas.{order_there}
 use Rattle.client_contexts.proofs.context.Context.index_of.Goals as goal
 
 pub returns-clause-index : goal.returns-clause-index

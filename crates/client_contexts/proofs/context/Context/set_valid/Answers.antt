@@ -8,8 +8,10 @@ use Rattle.object_table.specs.Object.{image_value}
 use Rattle.object_table.specs.Table as table
 use Rattle.object_table.specs.Named.{Named, with_object}
 use Rattle.client_model.specs.Context.{Context, with_objects}
-use Rattle.client_contexts.specs.Places.{context_of, cell_at, image_at, HasImageAt, AreInContext}
-use Rattle.client_contexts.proofs.ContextLemmas.{table_image_is, image_there, object_there, named_is, AreInContext-written}
+use Rattle.client_contexts.specs.Places.{context_of, AreInContext}
+use Rattle.graph_run.specs.Places.{cell_at, image_at, HasImageAt}
+use Rattle.client_contexts.proofs.LastingLemmas.{table_image_is, AreInContext-written}
+use Rattle.graph_run.proofs.ByNameLemmas.{image_there, object_there, named_is}
 use Rattle.client_contexts.proofs.context.Context.set_valid.Goals as goal
 
 pub invariant_of-self : goal.invariant_of-self

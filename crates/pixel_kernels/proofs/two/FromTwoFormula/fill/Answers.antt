@@ -7,4 +7,4 @@ pub returns : goal.returns
 returns g c =
     let s = c.args.self.now in
     zip2_of_runs (g.K.OfTwo.formula s.kernel.now) (λ k. at s.first.now k c.args.y) (λ k. at s.second.now k c.args.y) c.args.x (length c.args.out.now) _ _ _
-    c.part_of_row-first.ensures.value c.part_of_row-second.ensures.value c.zip_rows.ensures
+    c.part_of_row-first.ensures.value c.part_of_row-second.ensures.value c.row.ensures

@@ -1,0 +1,95 @@
+/* Delays. A slot is an object of the library that stands for the image which is in it when it is
+   used. */
+#include "internal.h"
+
+enum { GREATEST_SLOTS = 16 };
+
+static vx_reference make_delay(vx_context context, vx_image exemplar, vx_size slots) {
+    uint8_t body[6];
+    if (exemplar->scope != 0)
+        return error_of(context, VX_ERROR_OPTIMIZED_AWAY);
+    if (slots == 0 || slots > GREATEST_SLOTS)
+        return error_of(context, VX_ERROR_INVALID_VALUE);
+    vx_delay made = make(context, VX_TYPE_DELAY, sizeof *made);
+    if (made == NULL)
+        return error_of(context, VX_ERROR_NO_MEMORY);
+    made->width = exemplar->width;
+    made->height = exemplar->height;
+    made->format = exemplar->format;
+    put8(put_image(body, exemplar), (unsigned)slots);
+    vx_status status = create(context, CREATE_DELAY, body, sizeof body, &made->base.name);
+    if (status == VX_SUCCESS) {
+        made->slots = slots;
+        return REFERENCE(made);
+    }
+    release(&made, VX_TYPE_DELAY);
+    return error_of(context, status);
+}
+
+PUBLIC vx_delay VX_API_CALL vxCreateDelay(vx_context context, vx_reference exemplar,
+                                          vx_size num_slots) {
+    if (enter(context, VX_TYPE_CONTEXT) == NULL)
+        return NULL;
+    vx_status status = check(context, exemplar, VX_TYPE_REFERENCE);
+    if (status == VX_SUCCESS && exemplar->type != VX_TYPE_IMAGE)
+        status = VX_ERROR_NOT_SUPPORTED;
+    vx_reference made = status == VX_SUCCESS ? make_delay(context, (vx_image)exemplar, num_slots)
+                                             : error_of(context, status);
+    leave(context, VX_SUCCESS);
+    return (vx_delay)made;
+}
+
+PUBLIC vx_status VX_API_CALL vxReleaseDelay(vx_delay *delay) {
+    return release(delay, VX_TYPE_DELAY);
+}
+
+/* The image of a slot, which nobody holds but the delay; NULL where there is no memory. */
+static vx_image slot_of(vx_delay delay, vx_size number) {
+    vx_image image = delay->images[number];
+    if (image != NULL)
+        return image;
+    image = make(delay->base.context, VX_TYPE_IMAGE, sizeof *image);
+    if (image == NULL)
+        return NULL;
+    image->base.count = 0;
+    image->width = delay->width;
+    image->height = delay->height;
+    image->format = delay->format;
+    image->delay = delay;
+    image->slot = (uint8_t)number;
+    delay->images[number] = image;
+    return image;
+}
+
+PUBLIC vx_reference VX_API_CALL vxGetReferenceFromDelay(vx_delay delay, vx_int32 index) {
+    vx_context context = enter(delay, VX_TYPE_DELAY);
+    if (context == NULL)
+        return NULL;
+    vx_reference slot = error_of(context, VX_ERROR_INVALID_PARAMETERS);
+    if (index <= 0 && index > -(vx_int32)delay->slots) {
+        vx_image image = slot_of(delay, (vx_size)-index);
+        slot = image != NULL ? REFERENCE(image) : error_of(context, VX_ERROR_NO_MEMORY);
+    }
+    leave(context, VX_SUCCESS);
+    return slot;
+}
+
+PUBLIC vx_status VX_API_CALL vxAgeDelay(vx_delay delay) {
+    vx_context context = enter(delay, VX_TYPE_DELAY);
+    if (context == NULL)
+        return VX_ERROR_INVALID_REFERENCE;
+    return leave(context, ask_named(context, AGE_DELAY, delay->base.name));
+}
+
+PUBLIC vx_status VX_API_CALL vxQueryDelay(vx_delay delay, vx_enum attribute, void *ptr,
+                                          vx_size size) {
+    const vx_enum item = VX_TYPE_IMAGE;
+    vx_context context = enter(delay, VX_TYPE_DELAY);
+    if (context == NULL)
+        return VX_ERROR_INVALID_REFERENCE;
+    if (attribute == VX_DELAY_TYPE)
+        return leave(context, give(ptr, size, &item, sizeof item));
+    if (attribute == VX_DELAY_SLOTS)
+        return leave(context, give(ptr, size, &delay->slots, sizeof delay->slots));
+    return leave(context, VX_ERROR_NOT_SUPPORTED);
+}

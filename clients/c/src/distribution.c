@@ -1,0 +1,82 @@
+/* Distributions, whose counts the server has. */
+#include "internal.h"
+
+#include <string.h>
+
+static vx_reference make_distribution(vx_context context, vx_size bins, vx_int32 offset,
+                                      vx_uint32 range) {
+    uint8_t body[6];
+    if (bins > 256 || offset < 0 || offset > 255 || range > 256)
+        return error_of(context, VX_ERROR_INVALID_VALUE);
+    vx_distribution made = make(context, VX_TYPE_DISTRIBUTION, sizeof *made);
+    if (made == NULL)
+        return error_of(context, VX_ERROR_NO_MEMORY);
+    made->bins = bins;
+    made->offset = offset;
+    made->range = range;
+    put16(put16(put16(body, (unsigned)bins), (unsigned)offset), range);
+    vx_status status = create(context, CREATE_DISTRIBUTION, body, sizeof body, &made->base.name);
+    if (status == VX_SUCCESS)
+        return REFERENCE(made);
+    release(&made, VX_TYPE_DISTRIBUTION);
+    return error_of(context, status);
+}
+
+PUBLIC vx_distribution VX_API_CALL vxCreateDistribution(vx_context context, vx_size numBins,
+                                                        vx_int32 offset, vx_uint32 range) {
+    if (enter(context, VX_TYPE_CONTEXT) == NULL)
+        return NULL;
+    vx_reference made = make_distribution(context, numBins, offset, range);
+    leave(context, VX_SUCCESS);
+    return (vx_distribution)made;
+}
+
+PUBLIC vx_status VX_API_CALL vxReleaseDistribution(vx_distribution *distribution) {
+    return release(distribution, VX_TYPE_DISTRIBUTION);
+}
+
+PUBLIC vx_status VX_API_CALL vxCopyDistribution(vx_distribution distribution, void *user_ptr,
+                                                vx_enum usage, vx_enum user_mem_type) {
+    uint8_t body[4], reply[2 + 4 * 256];
+    vx_context context = enter(distribution, VX_TYPE_DISTRIBUTION);
+    if (context == NULL)
+        return VX_ERROR_INVALID_REFERENCE;
+    if (user_ptr == NULL || !is_copy(usage, user_mem_type))
+        return leave(context, VX_ERROR_INVALID_PARAMETERS);
+    if (usage == VX_WRITE_ONLY)
+        return leave(context, VX_ERROR_NOT_SUPPORTED);
+    put32(body, distribution->base.name);
+    vx_status status = ask(context, READ_DISTRIBUTION, body, sizeof body, reply,
+                           2 + 4 * distribution->bins);
+    for (vx_size bin = 0; status == VX_SUCCESS && bin < distribution->bins; bin++) {
+        vx_uint32 count = get32(reply + 2 + 4 * bin);
+        memcpy((uint8_t *)user_ptr + bin * sizeof count, &count, sizeof count);
+    }
+    return leave(context, status);
+}
+
+PUBLIC vx_status VX_API_CALL vxQueryDistribution(vx_distribution distribution, vx_enum attribute,
+                                                 void *ptr, vx_size size) {
+    const vx_size dimensions = 1;
+    vx_context context = enter(distribution, VX_TYPE_DISTRIBUTION);
+    if (context == NULL)
+        return VX_ERROR_INVALID_REFERENCE;
+    const vx_size length = distribution->bins * sizeof(vx_uint32);
+    const vx_uint32 range = distribution->range, bins = (vx_uint32)distribution->bins;
+    /* 0 where the bins aren't of one length, as the standard has it. */
+    const vx_uint32 window = range % bins == 0 ? range / bins : 0;
+    vx_status status = VX_ERROR_NOT_SUPPORTED;
+    if (attribute == VX_DISTRIBUTION_DIMENSIONS)
+        status = give(ptr, size, &dimensions, sizeof dimensions);
+    if (attribute == VX_DISTRIBUTION_OFFSET)
+        status = give(ptr, size, &distribution->offset, sizeof distribution->offset);
+    if (attribute == VX_DISTRIBUTION_RANGE)
+        status = give(ptr, size, &range, sizeof range);
+    if (attribute == VX_DISTRIBUTION_BINS)
+        status = give(ptr, size, &distribution->bins, sizeof distribution->bins);
+    if (attribute == VX_DISTRIBUTION_WINDOW)
+        status = give(ptr, size, &window, sizeof window);
+    if (attribute == VX_DISTRIBUTION_SIZE)
+        status = give(ptr, size, &length, sizeof length);
+    return leave(context, status);
+}

@@ -1,0 +1,55 @@
+/* Log entries, which a function of the program is told. */
+#include "internal.h"
+
+#include <stdarg.h>
+
+static void tell_list(vx_reference reference, vx_status status, const char *words, va_list list) {
+    vx_context context = reference->context;
+    if (context->callback == NULL || !context->is_logging || context->is_in_callback)
+        return;
+    char message[VX_MAX_LOG_MESSAGE_LEN];
+    vsnprintf(message, sizeof message, words, list);
+    /* What the callback does is told to nobody: else it might never end. */
+    context->is_in_callback = true;
+    context->callback(context, reference, status, message);
+    context->is_in_callback = false;
+}
+
+void tell(vx_reference reference, vx_status status, const char *words, ...) {
+    va_list list;
+    va_start(list, words);
+    tell_list(reference, status, words, list);
+    va_end(list);
+}
+
+PUBLIC void VX_API_CALL vxRegisterLogCallback(vx_context context, vx_log_callback_f callback,
+                                              vx_bool reentrant) {
+    (void)reentrant;
+    if (enter(context, VX_TYPE_CONTEXT) == NULL)
+        return;
+    context->callback = callback;
+    context->is_logging = callback != NULL;
+    leave(context, VX_SUCCESS);
+}
+
+PUBLIC void VX_API_CALL vxAddLogEntry(vx_reference ref, vx_status status, const char *message,
+                                      ...) {
+    vx_context context = message == NULL ? NULL : enter(ref, VX_TYPE_REFERENCE);
+    if (context == NULL)
+        return;
+    va_list list;
+    va_start(list, message);
+    tell_list(ref, status, message, list);
+    va_end(list);
+    leave(context, VX_SUCCESS);
+}
+
+PUBLIC vx_status VX_API_CALL vxDirective(vx_reference reference, vx_enum directive) {
+    vx_context context = enter(reference, VX_TYPE_REFERENCE);
+    if (context == NULL)
+        return VX_ERROR_INVALID_REFERENCE;
+    if (directive != VX_DIRECTIVE_ENABLE_LOGGING && directive != VX_DIRECTIVE_DISABLE_LOGGING)
+        return leave(context, VX_ERROR_NOT_SUPPORTED);
+    context->is_logging = directive == VX_DIRECTIVE_ENABLE_LOGGING;
+    return leave(context, VX_SUCCESS);
+}

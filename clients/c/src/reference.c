@@ -1,0 +1,279 @@
+/* References: which are live, who holds them, and what goes with the last one. */
+#include "internal.h"
+
+#include <stdlib.h>
+#include <string.h>
+
+/* All live references of the process, so that what was released or never was one is told without
+   looking at it. */
+enum { BUCKETS = 4096 };
+static struct {
+    pthread_mutex_t mutex;
+    vx_reference buckets[BUCKETS];
+} registry = {.mutex = PTHREAD_MUTEX_INITIALIZER};
+
+static vx_reference *bucket_of(const void *reference) {
+    return &registry.buckets[((uintptr_t)reference >> 4) * 2654435761u % BUCKETS];
+}
+
+static vx_reference find(const void *reference) {
+    vx_reference found = *bucket_of(reference);
+    while (found != NULL && (const void *)found != reference)
+        found = found->chain;
+    return found;
+}
+
+void register_reference(vx_reference reference) {
+    pthread_mutex_lock(&registry.mutex);
+    vx_reference *bucket = bucket_of(reference);
+    reference->chain = *bucket;
+    *bucket = reference;
+    reference->is_live = true;
+    pthread_mutex_unlock(&registry.mutex);
+}
+
+void unregister_reference(vx_reference reference) {
+    if (!reference->is_live)
+        return;
+    pthread_mutex_lock(&registry.mutex);
+    vx_reference *place = bucket_of(reference);
+    while (*place != reference)
+        place = &(*place)->chain;
+    *place = reference->chain;
+    reference->is_live = false;
+    pthread_mutex_unlock(&registry.mutex);
+}
+
+static bool is_a(vx_reference found, vx_enum type) {
+    return found != NULL && (type == VX_TYPE_REFERENCE || found->type == type);
+}
+
+vx_context enter(const void *reference, vx_enum type) {
+    pthread_mutex_lock(&registry.mutex);
+    vx_reference found = find(reference);
+    vx_context context = is_a(found, type) ? found->context : NULL;
+    if (context != NULL)
+        context->users++;
+    pthread_mutex_unlock(&registry.mutex);
+    if (context == NULL)
+        return NULL;
+    pthread_mutex_lock(&context->mutex);
+    /* Another thread may have released it meanwhile. */
+    if (check(context, reference, type) == VX_SUCCESS)
+        return context;
+    leave(context, VX_SUCCESS);
+    return NULL;
+}
+
+vx_status leave(vx_context context, vx_status status) {
+    pthread_mutex_unlock(&context->mutex);
+    pthread_mutex_lock(&registry.mutex);
+    bool is_over = --context->users == 0 && context->is_closed;
+    pthread_mutex_unlock(&registry.mutex);
+    if (is_over)
+        free_context(context);
+    return status;
+}
+
+vx_status check(vx_context context, const void *reference, vx_enum type) {
+    pthread_mutex_lock(&registry.mutex);
+    vx_reference found = find(reference);
+    vx_status status = VX_SUCCESS;
+    if (!is_a(found, type))
+        status = VX_ERROR_INVALID_REFERENCE;
+    else if (found->context != context)
+        status = VX_ERROR_INVALID_SCOPE;
+    pthread_mutex_unlock(&registry.mutex);
+    return status;
+}
+
+void *make(vx_context context, vx_enum type, size_t size) {
+    vx_reference made = calloc(1, size);
+    if (made == NULL)
+        return NULL;
+    made->type = type;
+    made->context = context;
+    made->count = 1;
+    made->next = context->first;
+    if (made->next != NULL)
+        made->next->previous = made;
+    context->first = made;
+    register_reference(made);
+    return made;
+}
+
+vx_reference error_of(vx_context context, vx_status status) {
+    return &context->errors[-status];
+}
+
+void free_memory(vx_reference reference) {
+    unregister_reference(reference);
+    if (reference->type == VX_TYPE_IMAGE)
+        free_maps((vx_image)reference);
+    if (reference->type == VX_TYPE_LUT)
+        free(((vx_lut)reference)->entries);
+    if (reference->type == VX_TYPE_ARRAY)
+        free(((vx_array)reference)->items);
+    free(reference);
+}
+
+static void unlink_object(vx_reference reference) {
+    if (reference->previous != NULL)
+        reference->previous->next = reference->next;
+    else
+        reference->context->first = reference->next;
+    if (reference->next != NULL)
+        reference->next->previous = reference->previous;
+}
+
+/* What goes with an object that nobody has any more: slots, nodes, and what the node held. */
+static void destroy_parts(vx_reference reference) {
+    if (reference->type == VX_TYPE_DELAY)
+        for (vx_size slot = 0; slot < ((vx_delay)reference)->slots; slot++) {
+            vx_reference image = REFERENCE(((vx_delay)reference)->images[slot]);
+            if (image != NULL) {
+                unlink_object(image);
+                free_memory(image);
+            }
+        }
+    if (reference->type == VX_TYPE_GRAPH) {
+        settle((vx_graph)reference);
+        while (((vx_graph)reference)->first != NULL)
+            detach(((vx_graph)reference)->first);
+    }
+    if (reference->type == VX_TYPE_NODE)
+        forget(reference->context, ((vx_node)reference)->call.extremes);
+}
+
+static void destroy_if_unused(vx_reference reference) {
+    if (reference->count > 0 || reference->holds > 0)
+        return;
+    forget(reference->context, reference->name);
+    /* The server drops a graph's nodes with it. */
+    reference->name = 0;
+    destroy_parts(reference);
+    unlink_object(reference);
+    free_memory(reference);
+}
+
+/* A slot is its delay's, and holds it. */
+static vx_reference owner_of(vx_reference reference) {
+    bool is_slot = reference->type == VX_TYPE_IMAGE && ((vx_image)reference)->delay != NULL;
+    return is_slot ? REFERENCE(((vx_image)reference)->delay) : reference;
+}
+
+void hold(vx_reference reference) { owner_of(reference)->holds++; }
+
+void drop(vx_reference reference) {
+    vx_reference owner = owner_of(reference);
+    owner->holds--;
+    destroy_if_unused(owner);
+}
+
+/* With its last reference a delay takes those of its slots along. */
+static void unregister_with_slots(vx_reference reference) {
+    unregister_reference(reference);
+    if (reference->type == VX_TYPE_DELAY)
+        for (vx_size slot = 0; slot < ((vx_delay)reference)->slots; slot++)
+            if (((vx_delay)reference)->images[slot] != NULL)
+                unregister_reference(REFERENCE(((vx_delay)reference)->images[slot]));
+}
+
+vx_status release(void *pointer, vx_enum type) {
+    if (pointer == NULL)
+        return VX_ERROR_INVALID_REFERENCE;
+    vx_reference reference;
+    memcpy(&reference, pointer, sizeof reference);
+    vx_context context = enter(reference, type);
+    if (context == NULL)
+        return VX_ERROR_INVALID_REFERENCE;
+    vx_reference owner = owner_of(reference);
+    if (owner != reference && reference->count == 0)
+        return leave(context, VX_ERROR_INVALID_REFERENCE);
+    vx_reference none = NULL;
+    memcpy(pointer, &none, sizeof none);
+    if (reference->type == VX_TYPE_ERROR)
+        return leave(context, VX_SUCCESS);
+    reference->count--;
+    if (owner != reference)
+        drop(reference);
+    else if (reference->count == 0) {
+        unregister_with_slots(reference);
+        destroy_if_unused(reference);
+    }
+    return leave(context, VX_SUCCESS);
+}
+
+vx_status give(void *ptr, vx_size size, const void *value, vx_size length) {
+    if (ptr == NULL || size != length)
+        return VX_ERROR_INVALID_PARAMETERS;
+    memcpy(ptr, value, length);
+    return VX_SUCCESS;
+}
+
+bool is_copy(vx_enum usage, vx_enum memory) {
+    return (usage == VX_READ_ONLY || usage == VX_WRITE_ONLY) && memory == VX_MEMORY_TYPE_HOST;
+}
+
+PUBLIC vx_status VX_API_CALL vxGetStatus(vx_reference reference) {
+    if (reference == NULL)
+        return VX_ERROR_NO_RESOURCES;
+    vx_context context = enter(reference, VX_TYPE_REFERENCE);
+    if (context == NULL)
+        return VX_ERROR_INVALID_REFERENCE;
+    return leave(context, reference->status);
+}
+
+PUBLIC vx_context VX_API_CALL vxGetContext(vx_reference reference) {
+    vx_context context = enter(reference, VX_TYPE_REFERENCE);
+    if (context != NULL)
+        leave(context, VX_SUCCESS);
+    return context;
+}
+
+PUBLIC vx_status VX_API_CALL vxQueryReference(vx_reference ref, vx_enum attribute, void *ptr,
+                                              vx_size size) {
+    vx_context context = enter(ref, VX_TYPE_REFERENCE);
+    if (context == NULL)
+        return VX_ERROR_INVALID_REFERENCE;
+    const char *name = ref->label;
+    switch (attribute) {
+    case VX_REFERENCE_COUNT:
+        return leave(context, give(ptr, size, &ref->count, sizeof ref->count));
+    case VX_REFERENCE_TYPE:
+        return leave(context, give(ptr, size, &ref->type, sizeof ref->type));
+    case VX_REFERENCE_NAME:
+        return leave(context, give(ptr, size, &name, sizeof name));
+    default:
+        return leave(context, VX_ERROR_NOT_SUPPORTED);
+    }
+}
+
+PUBLIC vx_status VX_API_CALL vxRetainReference(vx_reference ref) {
+    vx_context context = enter(ref, VX_TYPE_REFERENCE);
+    if (context == NULL)
+        return VX_ERROR_INVALID_REFERENCE;
+    if (ref->count == UINT32_MAX)
+        return leave(context, VX_ERROR_NO_RESOURCES);
+    if (ref->type != VX_TYPE_ERROR)
+        ref->count++;
+    if (owner_of(ref) != ref)
+        hold(ref);
+    return leave(context, VX_SUCCESS);
+}
+
+PUBLIC vx_status VX_API_CALL vxReleaseReference(vx_reference *ref_ptr) {
+    if (ref_ptr != NULL && *ref_ptr != NULL && vxGetContext(*ref_ptr) == (vx_context)*ref_ptr)
+        return vxReleaseContext((vx_context *)(void *)ref_ptr);
+    return release(ref_ptr, VX_TYPE_REFERENCE);
+}
+
+PUBLIC vx_status VX_API_CALL vxSetReferenceName(vx_reference ref, const vx_char *name) {
+    vx_context context = enter(ref, VX_TYPE_REFERENCE);
+    if (context == NULL)
+        return VX_ERROR_INVALID_REFERENCE;
+    if (name == NULL || strlen(name) >= sizeof ref->label)
+        return leave(context, VX_ERROR_INVALID_PARAMETERS);
+    strcpy(ref->label, name);
+    return leave(context, VX_SUCCESS);
+}

@@ -1,0 +1,241 @@
+"""
+The tests of the C library: builds its sources and each test program under the sanitizers of
+addresses and of undefined behaviour, and runs them on the program that FEQYLDAN_PROGRAM names.
+"""
+
+import os
+import shutil
+import subprocess
+import sys
+import tempfile
+import unittest
+
+sys.dont_write_bytecode = True
+HERE = os.path.dirname(os.path.abspath(__file__))
+HOME = os.path.join(HERE, "..")
+sys.path.insert(0, os.path.join(HOME, "..", "python"))
+import feqyldan as vx  # noqa: E402
+
+FLAGS = ["-std=c11", "-Wall", "-Wextra", "-Werror", "-pedantic", "-D_POSIX_C_SOURCE=200809L", "-g",
+         "-O1", "-fsanitize=address,undefined", "-fno-sanitize-recover=all", "-pthread",
+         "-I" + os.path.join(HOME, "include")]
+WIDTH, HEIGHT = 13, 9
+# Longer than any test program runs, in seconds.
+PATIENCE = 300
+folder = ""
+# Answers two requests, reads a little more and ends.
+ENDING_SERVER = """#!/usr/bin/env python3
+import os, sys
+for name in (b"", bytes((0, 0, 0, 1))):
+    length = int.from_bytes(os.read(0, 4), "big")
+    op = os.read(0, length)[2]
+    os.write(1, (4 + len(name)).to_bytes(4, "big") + bytes((0, 0, op, 0)) + name)
+os.read(0, 100000)
+print("lost", file=sys.stderr)
+"""
+FIRST_CXX = """#include <VX/vx.h>
+#include <VX/vxu.h>
+int main() {
+    vx_context context = vxCreateContext();
+    vx_image a = vxCreateImage(context, 2, 2, VX_DF_IMAGE_U8);
+    vx_image b = vxCreateImage(context, 2, 2, VX_DF_IMAGE_U8);
+    vx_imagepatch_addressing_t addr = VX_IMAGEPATCH_ADDR_INIT;
+    return addr.dim_x + vxuNot(context, a, b) + vxReleaseContext(&context);
+}
+"""
+
+
+def setUpModule():
+    global folder
+    folder = tempfile.mkdtemp()
+    sources = os.path.join(HOME, "src")
+    objects = []
+    for name in sorted(os.listdir(sources)):
+        if name.endswith(".c"):
+            objects.append(os.path.join(folder, name[:-2] + ".o"))
+            subprocess.run(["cc", *FLAGS, "-c", os.path.join(sources, name), "-o", objects[-1]],
+                           check=True)
+    subprocess.run(["ar", "rcs", os.path.join(folder, "library.a"), *objects], check=True)
+
+
+def tearDownModule():
+    shutil.rmtree(folder)
+
+
+def build(name):
+    """The path of a test program."""
+    path = os.path.join(folder, name)
+    subprocess.run(["cc", *FLAGS, os.path.join(HERE, name + ".c"),
+                    os.path.join(folder, "library.a"), "-o", path], check=True)
+    return path
+
+
+def run(name, *words, env=None):
+    """What a test program prints, which ends with status 0 and says nothing of a fault."""
+    ended = subprocess.run([build(name), *words], capture_output=True, text=True, timeout=PATIENCE,
+                           env={**os.environ, **(env or {})}, check=False)
+    assert ended.returncode == 0, f"{name}: status {ended.returncode}\n{ended.stderr}"
+    return ended.stdout
+
+
+def numbers(seed):
+    """As next_number of the test programs."""
+    for _ in range(WIDTH * HEIGHT):
+        seed = (seed * 1664525 + 1013904223) & 0xFFFFFFFF
+        yield seed >> 8
+
+
+def image(context, fmt, seed):
+    made = context.image(fmt, WIDTH, HEIGHT)
+    wide = fmt == vx.S16
+    found = [number & (0xFFFF if wide else 0xFF) for number in numbers(seed)]
+    found = [number - 0x10000 if wide and number >= 0x8000 else number for number in found]
+    made.write([found[y * WIDTH:(y + 1) * WIDTH] for y in range(HEIGHT)])
+    return made
+
+
+def line_of(word, border, out):
+    """As the test program prints an image."""
+    digits = {vx.U8: 2, vx.S16: 4, vx.U32: 8}[out.fmt]
+    samples = "".join(f"{int(sample) & (1 << 4 * digits) - 1:0{digits}x}"
+                      for row in out.read().tolist() for sample in row)
+    return f"{word} {border} {','.join(map(str, out.valid))} {samples}"
+
+
+def expected_lines(context):
+    """What each function gives from Python, twice, as the program prints it."""
+    a, b = image(context, vx.U8, 1), image(context, vx.U8, 2)
+    s, t = image(context, vx.S16, 3), image(context, vx.S16, 4)
+    b.valid = (1, 1, WIDTH, HEIGHT - 1)
+    above = context.threshold(vx.U8, above=99)
+    between = context.threshold(vx.S16, between=(-900, 20000))
+    short = context.lut(vx.U8, [(7 * i + 3) & 255 for i in range(256)])
+    words = context.lut(vx.S16, [((31 * i + 0x8000) & 0xFFFF) - 0x8000 for i in range(65536)])
+    kernel = context.convolution([[3 * y + x - 6 for x in range(3)] for y in range(5)], scale=4)
+    f, wrap, near, lines = context.vxu, vx.WRAP, vx.SATURATE, []
+
+    def add(word, fmt, function, border=0):
+        out = context.image(fmt, WIDTH, HEIGHT)
+        function(out)
+        lines.extend([line_of(word, border, out)] * 2)
+
+    add("and_", vx.U8, lambda out: f.and_(a, b, out))
+    add("or_", vx.U8, lambda out: f.or_(a, b, out))
+    add("xor", vx.U8, lambda out: f.xor(a, b, out))
+    add("not_", vx.U8, lambda out: f.not_(a, out))
+    add("add", vx.U8, lambda out: f.add(a, b, wrap, out))
+    add("add16", vx.S16, lambda out: f.add(s, b, near, out))
+    add("subtract", vx.S16, lambda out: f.subtract(a, t, near, out))
+    add("multiply", vx.S16, lambda out: f.multiply(s, a, 8, wrap, out))
+    add("absdiff", vx.U8, lambda out: f.absdiff(a, b, out))
+    add("absdiff16", vx.S16, lambda out: f.absdiff(s, t, out))
+    add("min", vx.S16, lambda out: f.min(s, t, out))
+    add("max", vx.U8, lambda out: f.max(a, b, out))
+    add("threshold", vx.U8, lambda out: f.threshold(a, above, out))
+    add("threshold16", vx.U8, lambda out: f.threshold(s, between, out))
+    add("table_lookup", vx.U8, lambda out: f.table_lookup(a, short, out))
+    add("table_lookup16", vx.S16, lambda out: f.table_lookup(s, words, out))
+    add("convert_depth", vx.U8, lambda out: f.convert_depth(s, out, near, 3))
+    for number, border in enumerate((vx.UNDEFINED, vx.constant(77), vx.REPLICATE)):
+        for name in ("box3x3", "gaussian3x3", "median3x3", "erode3x3", "dilate3x3"):
+            add(name, vx.U8, lambda out: getattr(f, name)(a, out, border=border), number)
+        add("sobel_x", vx.S16, lambda out: f.sobel3x3(a, out, None, border=border), number)
+        add("sobel_y", vx.S16, lambda out: f.sobel3x3(a, None, out, border=border), number)
+        add("convolve", vx.S16, lambda out: f.convolve(a, kernel, out, border=border), number)
+        add("integral_image", vx.U32, lambda out: f.integral_image(a, out), number)
+    counts, extremes = context.distribution(10, 20, 200), context.min_max()
+    f.histogram(a, counts)
+    f.min_max_loc(s, extremes)
+    least, greatest, leasts, greatests, first, last = extremes.read()
+    lines += [" ".join(map(str, ("histogram", 0, *counts.read())))] * 2
+    lines += [" ".join(map(str, ("min_max_loc", 0, least, greatest, leasts, greatests, *first,
+                                 *last)))] * 2
+    return lines
+
+
+class Library(unittest.TestCase):
+
+    def test_functions_at_once_and_in_graphs_give_what_they_give_in_python(self):
+        with vx.Server() as server, server.context() as context:
+            expected = expected_lines(context)
+        self.assertEqual(run("functions").splitlines(), expected)
+
+    def test_programs_of_the_standards_introduction(self):
+        run("programs")
+
+    def test_random_sequences_of_wrong_calls_end_in_a_status(self):
+        run("wrong")
+
+    def test_each_mistake_has_its_status(self):
+        run("statuses")
+
+    def test_each_object_tells_its_attributes(self):
+        run("queries")
+
+    def test_a_server_that_ends_makes_each_call_fail(self):
+        server = os.path.join(folder, "ending_server")
+        with open(server, "w", encoding="utf-8") as script:
+            script.write(ENDING_SERVER)
+        os.chmod(server, 0o755)
+        said = run("ending", env={"FEQYLDAN_PROGRAM": server})
+        self.assertEqual(said, "the server has ended: lost\n" * 3)
+
+    def test_without_a_server_there_is_no_context(self):
+        path = build("ending")
+        for variable in ("FEQYLDAN_PROGRAM", "FEQYLDAN_SOCKET"):
+            ended = subprocess.run([path], env={**os.environ, variable: "/nowhere"},
+                                   stderr=subprocess.PIPE, text=True, check=False)
+            self.assertEqual(ended.returncode, 3)
+            self.assertIn("vxCreateContext: ", ended.stderr)
+            self.assertIn("/nowhere: No such file or directory", ended.stderr)
+
+    def test_a_program_that_is_no_server_gives_no_context(self):
+        path = build("ending")
+        for program in ("true", "echo", "cat"):
+            ended = subprocess.run([path], env={**os.environ, "FEQYLDAN_PROGRAM": program},
+                                   stderr=subprocess.PIPE, text=True, timeout=PATIENCE, check=False)
+            self.assertEqual(ended.returncode, 3, program)
+            self.assertIn("vxCreateContext: the server has ended", ended.stderr)
+
+    def test_a_broker_answers_as_a_server_of_ones_own(self):
+        path = os.path.join(folder, "socket")
+        words = [sys.executable, "-m", "feqyldan.broker", "--socket", path, "--",
+                 os.environ["FEQYLDAN_PROGRAM"], "serve"]
+        package = os.path.join(HOME, "..", "python")
+        broker = subprocess.Popen(words, env={**os.environ, "PYTHONPATH": package})
+        try:
+            vx.connect(path, retry=30).close()
+            run("programs", env={"FEQYLDAN_SOCKET": path, "FEQYLDAN_PROGRAM": "/nowhere"})
+        finally:
+            broker.terminate()
+            broker.wait()
+
+    def test_installed_it_serves_c_and_cxx(self):
+        prefix = os.path.join(folder, "installed")
+        home = os.path.join(folder, "copy")
+        shutil.copytree(os.path.join(HOME, ".."), home, ignore=shutil.ignore_patterns("out"))
+        subprocess.run(["make", "-s", "-C", os.path.join(home, "c"), "install",
+                        "PREFIX=" + prefix], check=True)
+        source = os.path.join(folder, "first.cc")
+        with open(source, "w", encoding="utf-8") as text:
+            text.write(FIRST_CXX)
+        with open(os.path.join(prefix, "lib/pkgconfig/feqyldan.pc"), encoding="utf-8") as text:
+            described = text.read()
+        self.assertIn(f"prefix={prefix}\n", described)
+        self.assertIn(f"Version: {vx.__version__}\n", described)
+        program = os.path.join(folder, "first")
+        library = os.path.join(prefix, "lib")
+        subprocess.run(["g++", "-Wall", "-Wextra", "-Werror", "-I" + os.path.join(
+            prefix, "include"), source, "-L" + library, "-lfeqyldan", "-o", program], check=True)
+        subprocess.run([program], env={**os.environ, "LD_LIBRARY_PATH": library}, check=True)
+
+    def test_the_example_writes_a_picture(self):
+        subprocess.run(["make", "-s", "-C", HOME, "out/edges"], check=True)
+        text = subprocess.run([os.path.join(HOME, "out/edges")], stdout=subprocess.PIPE,
+                              check=True).stdout
+        self.assertTrue(text.startswith(b"P5\n256 256\n255\n"))
+        self.assertEqual(set(text[15:]), {0, 255})
+
+
+if __name__ == "__main__":
+    unittest.main()

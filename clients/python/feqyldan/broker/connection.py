@@ -1,0 +1,167 @@
+"""A program's connection to the broker."""
+
+import socket
+import struct
+from typing import TYPE_CHECKING, NamedTuple, Optional
+
+from .events import READ, WRITE
+from .incoming import AHEAD, CHUNK, Frames, Incoming, release_of
+
+if TYPE_CHECKING:
+    from .server import Server, Turn
+
+# The most seconds that a turn of requests that may take long is expected to take.
+TURN_SECONDS = 0.001
+# How many requests that may take long are at most in a turn, where those before them were quick.
+LONG_AT_ONCE = 4
+
+
+class Limits(NamedTuple):
+    """How many connections there are at once, of one process and of one user; bytes of the longest
+    frame and reply; seconds without a byte within a frame or a reply, without a request, for what
+    is asked once the broker stops, and between two lines of counts."""
+
+    connections: int
+    per_process: int
+    per_user: int
+    bytes_held: int
+    patience: float
+    idle: Optional[float]
+    grace: float
+    report: float
+
+
+class Owner(NamedTuple):
+    """The process that made a connection, and its user."""
+
+    process: int
+    user: int
+
+    def __str__(self) -> str:
+        return f"process {self.process} of user {self.user}"
+
+
+def owner_of(sock: socket.socket) -> Owner:
+    process, user, _group = struct.unpack("iII",
+                                          sock.getsockopt(socket.SOL_SOCKET, socket.SO_PEERCRED,
+                                                          12))
+    return Owner(process, user)
+
+
+class Connection:
+    """One program's connection, from when it is accepted until its number is free again."""
+
+    def __init__(self, sock: socket.socket, number: int, owner: Owner, limits: Limits,
+                 now: float) -> None:
+        self.sock, self.number, self.owner, self.limits = sock, number, owner, limits
+        self.incoming = Incoming(limits.bytes_held)
+        # What is left of its replies.
+        self.outgoing = bytearray()
+        # The server that has its context, once it has asked anything; and its turn that is with it.
+        self.server: Optional["Server"] = None
+        self.turn: Optional["Turn"] = None
+        # Whether the server has heard of it, so that it may have a context.
+        self.is_known = False
+        # Whether it waits for its next turn.
+        self.is_in_line = False
+        # The seconds of the server's time that it has had, those that its last turn took, and those
+        # that a request that may take long is expected to take.
+        self.used, self.took, self.pace = 0.0, 0.0, TURN_SECONDS
+        # Whether more may come from it; whether it is still there; whether its context is being
+        # released.
+        self.reads, self.is_open, self.is_leaving = True, True, False
+        # What it is watched for.
+        self.interest = 0
+        # When it last sent a byte that was wanted, when it last took one that was there, and when
+        # it was last served.
+        self.received_at = self.taken_at = self.served_at = now
+
+    def __str__(self) -> str:
+        return f"connection {self.number} of {self.owner}"
+
+    # ---- what it sends
+
+    def wanted(self) -> int:
+        """It isn't read from while a long frame of it waits here, so that it can't have more than
+        one."""
+        is_held_up = self.turn is not None and self.turn.is_long_and_unwritten
+        reads = self.reads and not is_held_up and self.incoming.has_room
+        return (READ if reads else 0) | (WRITE if self.outgoing else 0)
+
+    def may_ask(self) -> bool:
+        return self.turn is None and self.incoming.is_whole and len(self.outgoing) <= AHEAD
+
+    def next_frames(self) -> Optional[Frames]:
+        """Those of its next turn, if it is still there; then that its context be released."""
+        self.is_in_line = False
+        if self.is_leaving:
+            return release_of(self.number)
+        if not self.is_open:
+            return None
+        return self.incoming.take(self.number,
+                                  min(LONG_AT_ONCE, max(1, int(TURN_SECONDS / self.pace))))
+
+    def has_taken(self, seconds: float, long: int) -> None:
+        """A turn of it took so much of the server's time, and had so many requests that may take
+        long."""
+        self.used += seconds
+        self.took = seconds
+        if long:
+            self.pace = max(seconds / long, self.pace / 2)
+
+    def has_finished(self) -> bool:
+        """Whether it sends no more, and has all of its replies."""
+        return not (self.reads or self.turn or self.outgoing or self.incoming.is_whole)
+
+    def fault(self) -> Optional[str]:
+        """What is wrong with the last that it sent, in words."""
+        is_cut_short = not self.reads and self.incoming.has_part
+        return self.incoming.fault or ("its end within a frame" if is_cut_short else None)
+
+    # ---- what it is sent
+
+    def send(self, data: memoryview, now: float) -> int:
+        """How many bytes the connection took."""
+        try:
+            sent = self.sock.send(data)
+        except BlockingIOError:
+            return 0
+        self.taken_at = now
+        return sent
+
+    def put_reply(self, piece: memoryview, now: float) -> None:
+        sent = 0
+        if not self.outgoing:
+            sent, self.taken_at = self.send(piece, now), now
+        if sent < len(piece):
+            self.outgoing += piece[sent:]
+
+    @property
+    def most_waiting(self) -> int:
+        """The bytes of replies that may wait for it."""
+        return self.limits.bytes_held + 2 * AHEAD
+
+    def send_waiting(self, now: float) -> None:
+        with memoryview(self.outgoing) as waiting, waiting[:CHUNK] as first:
+            sent = self.send(first, now)
+        del self.outgoing[:sent]
+
+    # ---- the clock
+
+    def stall(self, now: float) -> Optional[str]:
+        """What it has kept waiting for too long, in words."""
+        patience, idle = self.limits.patience, self.limits.idle
+        if self.outgoing and now - self.taken_at > patience:
+            return f"took none of its {len(self.outgoing)} bytes of replies for {patience:g} s"
+        if self.interest & READ and self.incoming.has_part and now - self.received_at > patience:
+            return f"sent nothing of the rest of a frame for {patience:g} s"
+        if idle is not None and self.is_idle() and now - self.served_at > idle:
+            return f"asked nothing for {idle:g} s"
+        return None
+
+    def is_idle(self) -> bool:
+        return self.turn is None and not self.outgoing and not self.incoming.is_whole
+
+    def clear(self) -> None:
+        self.incoming.clear()
+        self.outgoing = bytearray()

@@ -1,0 +1,163 @@
+"""Request frames, as they come from a connection and as they are passed on."""
+
+import socket
+import struct
+from typing import List, Optional
+
+from .. import wire
+
+LEAST_LENGTH, GREATEST_LENGTH = 3, 134_217_728
+# A frame's length, its client and its op; the least bytes of a frame.
+HEAD, CLIENT = struct.Struct(">IHB"), struct.Struct(">H")
+LEAST_FRAME = 7
+# How many bytes of frames are read ahead of a connection: about what a pipe would hold. A longer
+# frame is a long one.
+AHEAD = 65_536
+# How many bytes of a long frame are moved at once, so that others get their turn.
+CHUNK = 262_144
+# How many bytes of small frames are a turn: the server takes a millisecond or two for them.
+TURN_BYTES = 16_384
+
+# A request that takes as long as its frame is, and has a short reply; one that may take long, with
+# a short reply; and one of which nothing is known, not even how long its reply is.
+LIGHT, LONG, UNKNOWN = 0, 1, 2
+KINDS = bytearray([UNKNOWN]) * 256
+for _op in (wire.OPEN_CONTEXT, wire.QUERY_IMAGE, wire.WRITE_IMAGE, wire.CREATE_LUT,
+            wire.CREATE_THRESHOLD,
+            wire.CREATE_CONVOLUTION, wire.CREATE_DISTRIBUTION, wire.CREATE_MIN_MAX,
+            wire.READ_MIN_MAX, wire.CREATE_GRAPH, wire.CREATE_VIRTUAL_IMAGE, wire.ADD_NODE,
+            wire.REMOVE_NODE, wire.AGE_DELAY):
+    KINDS[_op] = LIGHT
+for _op in (wire.RELEASE_CONTEXT, wire.CREATE_IMAGE, wire.WRITE_IMAGE_PGM, wire.SET_VALID,
+            wire.RELEASE,
+            wire.READ_DISTRIBUTION, wire.VERIFY_GRAPH, wire.PROCESS_GRAPH, wire.IMMEDIATE,
+            wire.CREATE_DELAY):
+    KINDS[_op] = LONG
+
+
+class Frames:
+    """Whole frames of one connection, with its number in them: the bytes, and the client (u16) and
+    the op (u8) of each as one number, as the connection sent them."""
+
+    __slots__ = ("pieces", "size", "asked", "long")
+
+    def __init__(self, pieces: List[bytearray], size: int, asked: List[int], long: int) -> None:
+        self.pieces, self.size, self.asked, self.long = pieces, size, asked, long
+
+
+def release_of(number: int) -> Frames:
+    """The request that a connection's context be released."""
+    return Frames([bytearray(wire.release_context(number))], LEAST_FRAME,
+                  [number << 8 | wire.RELEASE_CONTEXT], 1)
+
+
+class Incoming:
+    """What a connection has sent and isn't passed on yet: small frames, or a long one, the last of
+    them in part."""
+
+    def __init__(self, most: int) -> None:
+        self.most = most
+        self.held = bytearray()
+        # The bytes of the first frame, once its length is there; or what is wrong with that.
+        self.size: Optional[int] = None
+        self.fault: Optional[str] = None
+        # The pieces of a long frame, how much of the last of them is filled, and how many bytes are
+        # to come. They are taken one by one, as the bytes come.
+        self.pieces: List[bytearray] = []
+        self.filled, self.left = 0, 0
+
+    @property
+    def has_room(self) -> bool:
+        return self.left > 0 if self.pieces else len(self.held) < AHEAD
+
+    @property
+    def is_whole(self) -> bool:
+        """Whether the first frame is all here."""
+        return not self.left if self.pieces else self.size is not None and len(
+            self.held) >= self.size
+
+    @property
+    def has_part(self) -> bool:
+        """Whether there is something of a frame that isn't whole, and nothing before it."""
+        return bool(self.pieces or self.held) and not self.is_whole
+
+    def receive(self, sock: socket.socket) -> int:
+        """Reads what is there, as far as there is room; how many bytes that was."""
+        if self.pieces:
+            return self.receive_long(sock)
+        data = sock.recv(AHEAD - len(self.held))
+        self.held += data
+        if self.size is None or self.size > AHEAD:
+            self.look()
+        return len(data)
+
+    def receive_long(self, sock: socket.socket) -> int:
+        if self.filled == len(self.pieces[-1]):
+            self.pieces.append(bytearray(min(CHUNK, self.left)))
+            self.filled = 0
+        with memoryview(self.pieces[-1]) as piece, piece[self.filled :] as room:
+            count = sock.recv_into(room)
+        self.filled += count
+        self.left -= count
+        return count
+
+    def look(self) -> None:
+        """Looks at the length of the first frame, if it is there."""
+        self.size = None
+        if len(self.held) < 4:
+            return
+        length = int.from_bytes(self.held[:4], "big")
+        if not LEAST_LENGTH <= length <= GREATEST_LENGTH:
+            self.fault = f"bad length {length}"
+        elif 4 + length > self.most:
+            self.fault = (f"a frame of {4 + length} bytes, and at most {self.most} are held "
+                          "(--bytes-held)")
+        else:
+            self.size = 4 + length
+            if self.size > AHEAD and len(self.held) >= LEAST_FRAME:
+                self.pieces, self.held = [self.held], bytearray()
+                self.filled = len(self.pieces[0])
+                self.left = self.size - self.filled
+
+    def take(self, number: int, long_at_once: int) -> Frames:
+        """A turn's frames, the first of which is whole, with this client number put in. At most so
+        many of them may take long, and nothing follows one of which nothing is known."""
+        frames = self.take_long(number) if self.pieces else self.take_small(number, long_at_once)
+        self.look()
+        return frames
+
+    def take_long(self, number: int) -> Frames:
+        length, client, op = HEAD.unpack_from(self.pieces[0])
+        CLIENT.pack_into(self.pieces[0], 4, number)
+        frames = Frames(self.pieces, 4 + length, [client << 8 | op], int(KINDS[op] != LIGHT))
+        self.pieces = []
+        return frames
+
+    def take_small(self, number: int, long_at_once: int) -> Frames:
+        held, at, kind = self.held, 0, LIGHT
+        end, most = len(held), self.most
+        asked: List[int] = []
+        long = 0
+        while kind != UNKNOWN and end - at >= LEAST_FRAME:
+            length, client, op = HEAD.unpack_from(held, at)
+            after = at + 4 + length
+            if after > end or not LEAST_LENGTH <= length <= most - 4 or (asked
+                                                                         and after > TURN_BYTES):
+                break
+            kind = KINDS[op]
+            if kind:
+                if long == long_at_once:
+                    break
+                long += 1
+            CLIENT.pack_into(held, at + 4, number)
+            asked.append(client << 8 | op)
+            at = after
+        if at < end:
+            held = self.held[:at]
+            del self.held[:at]
+        else:
+            self.held = bytearray()
+        return Frames([held], at, asked, long)
+
+    def clear(self) -> None:
+        self.held, self.size, self.pieces, self.left = bytearray(), None, [], 0

@@ -1,0 +1,573 @@
+"""The loop over the connections, the servers' pipes, new connections and signals."""
+
+import contextlib
+import signal
+import socket
+import time
+from collections import Counter, deque
+from functools import partial
+from typing import Any, Deque, Dict, Iterator, List, NamedTuple, Optional, Set
+
+from .connection import Connection, Limits, Owner, owner_of
+from .counts import Counts, memory_of
+from .events import READ, WRITE, Events
+from .lines import Lines
+from .listener import Listener, tell_manager
+from .server import Piece, Server, ServerFault, Turn
+from .visitors import StatusSocket, turned_away
+
+# How many connections are accepted at once; the seconds until that is tried again when the system
+# had no room for one.
+ACCEPTED_AT_ONCE, ACCEPT_PAUSE = 4, 1.0
+# A server that ends within so many seconds and has answered nothing has failed. So many such ends
+# in a row are one of the broker; in between there is a pause.
+EARLY_SECONDS, FAILURES, RESTART_PAUSE = 1.0, 3, 0.25
+# The seconds that a server which has closed its output may take to end.
+END_SECONDS = 1.0
+# Seconds between two looks at the clock while the broker stops, and while a turn is put off.
+STOP_LOOKS, PUT_OFF_LOOKS = 0.1, 0.001
+SIGNALS = (signal.SIGTERM, signal.SIGINT, signal.SIGHUP, signal.SIGCHLD)
+
+
+class Plan(NamedTuple):
+    """Which program is started, how often, and how many bytes of addresses each server may have."""
+
+    command: List[str]
+    servers: int
+    memory: Optional[int]
+
+
+class Broker:
+    """The connections and the servers, and who waits for what."""
+
+    def __init__(self, listener: Listener, status: Optional[Listener], plan: Plan,
+                 limits: Limits) -> None:
+        self.listener, self.plan, self.limits = listener, plan, limits
+        self.lines, self.counts, self.events = Lines(), Counts(), Events()
+        self.numbers: Deque[int] = deque(range(limits.connections))
+        self.open: Set[Connection] = set()
+        # Those that have asked while there was no server.
+        self.homeless: Set[Connection] = set()
+        # How many connections each process and each user has, those among them whose context is
+        # being released; and which processes were turned away, which is said once a minute.
+        self.processes: "Counter[Owner]" = Counter()
+        self.users: "Counter[int]" = Counter()
+        self.told: Set[Owner] = set()
+        self.turned_away = turned_away(self.events)
+        self.look_seconds = min(1.0, limits.patience / 4, limits.report)
+        self.now = self.began_at = time.monotonic()
+        self.looked_at = self.reported_at = self.accepts_from = self.now
+        self.reported = self.counts.told()
+        self.status = StatusSocket(status, self.events, self.state) if status else None
+        # All whose processes aren't gone. How often in a row one has failed; when the next may be
+        # started; what went wrong.
+        self.servers: List[Server] = []
+        self.failures, self.starts_from, self.failure = 0, self.now, 0
+        self.is_listening = self.is_over = False
+        # When the last replies and the servers are waited for no longer, once the broker is to end.
+        self.stops_at: Optional[float] = None
+        self.was_told = False
+        self.signals, self.signalled = socket.socketpair()
+        self.signalled.setblocking(False)
+        self.events.watch(self.signals.fileno(), READ, self.take_signals)
+
+    # ---- the loop
+
+    def run(self) -> int:
+        """Serves until a signal, or until the servers fail; the exit status. Raises OSError where
+        the first server can't be started."""
+        with self.signals_caught():
+            self.begin_servers()
+            most = self.plan.memory
+            memory = "" if most is None else f" of at most {most} bytes each"
+            self.lines.say(f"listening at {self.listener.path}, with {self.plan.servers} "
+                           f"servers{memory}")
+            tell_manager()
+            while not self.is_over:
+                self.listen_or_not()
+                ready = self.events.ready(self.timeout())
+                self.now = time.monotonic()
+                for handler, mask in ready:
+                    handler(mask)
+                for server in self.servers:
+                    self.pass_on(server)
+                self.look_at_clock()
+        return self.finish()
+
+    def timeout(self) -> Optional[float]:
+        """Until the clock is looked at: for ever where nothing can be late."""
+        if any(server.puts_off for server in self.servers):
+            return PUT_OFF_LOOKS
+        if self.stops_at is not None:
+            return STOP_LOOKS
+        has_nobody = not (self.open or self.status
+                          or self.turned_away.present) and self.is_listening
+        has_all = self.has_servers() and len(self.servers) == self.plan.servers
+        has_told = self.reported == self.counts.told()
+        return None if has_nobody and has_all and has_told else self.look_seconds
+
+    def has_servers(self) -> bool:
+        return sum(server.takes_connections for server in self.servers) >= self.plan.servers
+
+    @contextlib.contextmanager
+    def signals_caught(self) -> Iterator[None]:
+        """Makes the signals readable that the broker takes."""
+        before = signal.set_wakeup_fd(self.signalled.fileno())
+        handlers = {which: signal.signal(which, lambda *_: None) for which in SIGNALS}
+        try:
+            yield
+        finally:
+            signal.set_wakeup_fd(before)
+            for which, handler in handlers.items():
+                signal.signal(which, handler)
+
+    # ---- new connections
+
+    def listen_or_not(self) -> None:
+        """Newcomers wait while a number is about to be free, and while there is no server; where
+        all connections are there they are turned away."""
+        has_answer = bool(self.numbers) or len(self.open) >= self.limits.connections
+        can_serve = any(server.takes_connections for server in self.servers)
+        is_time = self.now >= self.accepts_from and self.stops_at is None
+        wanted = has_answer and can_serve and is_time
+        if wanted != self.is_listening:
+            self.is_listening = wanted
+            self.events.watch(self.listener.sock.fileno(), READ if wanted else 0, self.accept)
+
+    def accept(self, _mask: int) -> None:
+        for _ in range(ACCEPTED_AT_ONCE if self.is_listening else 0):
+            if not self.numbers and len(self.open) < self.limits.connections:
+                return
+            try:
+                sock, _ = self.listener.sock.accept()
+                owner = owner_of(sock)
+            except BlockingIOError:
+                return
+            except OSError as error:
+                self.lines.say(f"no connection is accepted for {ACCEPT_PAUSE:g} s: {error}")
+                self.accepts_from = self.now + ACCEPT_PAUSE
+                return
+            reason = self.reason_against(owner)
+            if reason is None:
+                self.begin(sock, owner)
+            else:
+                self.turn_away(sock, owner, reason)
+
+    def begin(self, sock: socket.socket, owner: Owner) -> None:
+        sock.setblocking(False)
+        connection = Connection(sock, self.numbers.popleft(), owner, self.limits, self.now)
+        self.counts.accepted += 1
+        self.processes[owner] += 1
+        self.users[owner.user] += 1
+        self.open.add(connection)
+        self.settle(connection)
+
+    def reason_against(self, owner: Owner) -> Optional[str]:
+        """Why a process gets no connection, in words."""
+        if self.processes[owner] >= self.limits.per_process:
+            return f"it has {self.processes[owner]} connections (--per-process)"
+        if self.users[owner.user] >= self.limits.per_user:
+            return f"its user has {self.users[owner.user]} connections (--per-user)"
+        return None if self.numbers else f"{len(self.open)} connections are there (--connections)"
+
+    def turn_away(self, sock: socket.socket, owner: Owner, reason: str) -> None:
+        if owner not in self.told:
+            self.lines.say(f"{owner} is turned away: {reason}")
+        self.told.add(owner)
+        self.counts.turned_away += 1
+        self.turned_away.add(sock)
+
+    def free(self, connection: Connection) -> None:
+        """Its number may be given to another one: no server has a context of it."""
+        owner, server = connection.owner, connection.server
+        self.numbers.append(connection.number)
+        self.processes[owner] -= 1
+        self.users[owner.user] -= 1
+        if not self.processes[owner]:
+            del self.processes[owner]
+        if not self.users[owner.user]:
+            del self.users[owner.user]
+        if server is not None:
+            server.members.discard(connection)
+            self.close_if_left(server)
+
+    # ---- connections
+
+    def serve(self, connection: Connection, mask: int) -> None:
+        """Moves what one connection has ready."""
+        if not connection.is_open:
+            return
+        try:
+            if mask & WRITE and connection.outgoing:
+                connection.send_waiting(self.now)
+            if mask & READ and connection.interest & READ:
+                self.receive(connection)
+        except BlockingIOError:
+            pass
+        except OSError:
+            connection.reads = False
+            self.end(connection, connection.fault())
+            return
+        except MemoryError:
+            self.end(connection, "the broker has no memory for its frame")
+            return
+        self.settle(connection)
+
+    def receive(self, connection: Connection) -> None:
+        if connection.incoming.receive(connection.sock):
+            connection.received_at = self.now
+            return
+        connection.reads = False
+        # Fails where the connection is closed both ways: then nobody waits for replies.
+        connection.sock.send(b"")
+
+    def settle(self, connection: Connection) -> None:
+        """Has the connection wait for its next turn, or ends it, where that can be now; and watches
+        it for what it wants next. Replies to the frames before its end, or before a length that
+        isn't allowed, are still sent."""
+        if connection.may_ask() and self.stops_at is None:
+            self.wait_for_turn(connection)
+        if connection.incoming.fault:
+            connection.reads = False
+        if connection.has_finished():
+            self.end(connection, connection.fault())
+        else:
+            self.watch(connection)
+
+    def wait_for_turn(self, connection: Connection) -> None:
+        """Has it wait for its server, which is the one with the fewest connections where it has
+        asked nothing yet."""
+        if connection.server is None:
+            servers = [server for server in self.servers if server.takes_connections]
+            if not servers:
+                self.homeless.add(connection)
+                return
+            min(servers, key=lambda server: len(server.members)).add(connection)
+        assert connection.server is not None
+        connection.server.line.add(connection)
+
+    def watch(self, connection: Connection) -> None:
+        wanted = connection.wanted()
+        before, connection.interest = connection.interest, wanted
+        if wanted == before:
+            return
+        if wanted & READ and not before & READ:
+            connection.received_at = self.now
+        self.events.watch(connection.sock.fileno(), wanted, partial(self.serve, connection))
+
+    def end(self, connection: Connection, words: Optional[str] = None) -> None:
+        """Closes a connection. Its context is released once the reply that it is owed has come."""
+        if not connection.is_open:
+            return
+        if words:
+            self.lines.say(f"{connection} is ended: {words}")
+        connection.is_open = connection.reads = False
+        self.open.discard(connection)
+        self.homeless.discard(connection)
+        self.events.forget(connection.sock.fileno())
+        connection.interest = 0
+        connection.sock.close()
+        connection.clear()
+        if connection.turn is None:
+            self.release(connection)
+
+    def release(self, connection: Connection) -> None:
+        """Has the context of a connection that has ended released, or frees its number where that
+        is done."""
+        server = connection.server
+        has_context = connection.is_known and not connection.is_leaving
+        if server is not None and has_context and server.lost_at is None and self.stops_at is None:
+            connection.is_leaving = True
+            server.line.add(connection)
+        else:
+            self.free(connection)
+
+    # ---- what servers are asked, and answer
+
+    def pass_on(self, server: Server) -> None:
+        """Begins the turns that can be begun, and writes what the server takes."""
+        for connection in server.begin_turns(self.now):
+            if connection.is_open:
+                self.watch(connection)
+        if not server.waiting or server.closed_at is not None:
+            return
+        try:
+            written = server.write()
+        except OSError:
+            # It is about to end; what it has answered is still read.
+            self.close_input(server)
+            return
+        for connection in written:
+            if connection.is_open:
+                self.watch(connection)
+        self.watch_input(server)
+
+    def watch_input(self, server: Server) -> None:
+        is_blocked = bool(server.waiting)
+        if is_blocked != server.is_blocked:
+            server.is_blocked = is_blocked
+            self.events.watch(server.input, WRITE if is_blocked else 0, lambda _: None)
+
+    def read_replies(self, server: Server, _mask: int) -> None:
+        if server.lost_at is not None:
+            return
+        try:
+            for piece in server.replies(self.now):
+                self.deliver(piece)
+                if piece.is_last:
+                    self.complete(server, piece.turn)
+        except BlockingIOError:
+            pass
+        except EOFError:
+            self.lose(server)
+        except ServerFault as fault:
+            self.lines.say(f"{server} wrote {fault}")
+            server.process.kill()
+            self.lose(server)
+
+    def deliver(self, piece: Piece) -> None:
+        connection = piece.turn.connection
+        if not connection.is_open:
+            return
+        self.counts.bytes_out += len(piece.bytes)
+        try:
+            connection.put_reply(piece.bytes, self.now)
+        except OSError:
+            self.end(connection)
+        except MemoryError:
+            self.end(connection, "the broker has no memory for its replies")
+        else:
+            if len(connection.outgoing) > connection.most_waiting:
+                self.end(connection,
+                         f"{len(connection.outgoing)} bytes of replies wait for it (--bytes-held)")
+            elif connection.outgoing:
+                self.watch(connection)
+
+    def complete(self, server: Server, turn: Turn) -> None:
+        """A server has answered a connection's turn."""
+        server.complete(turn, self.now)
+        if turn.connection.is_open:
+            self.settle(turn.connection)
+        else:
+            self.release(turn.connection)
+
+    # ---- servers that begin and end
+
+    def begin_servers(self) -> None:
+        """Starts as many servers as are wanted. Raises OSError where one can't be started."""
+        while not self.has_servers():
+            server = Server(self.plan.command, self.plan.memory, self.counts, self.now)
+            self.servers.append(server)
+            self.events.watch(server.output, READ, partial(self.read_replies, server))
+        for connection in [*self.homeless]:
+            self.homeless.discard(connection)
+            self.settle(connection)
+
+    def begin_again(self) -> None:
+        try:
+            self.begin_servers()
+        except OSError as error:
+            self.lines.say(f"no server is started for {ACCEPT_PAUSE:g} s: {error}")
+            self.starts_from = self.now + ACCEPT_PAUSE
+
+    def reload(self) -> None:
+        """Starts new servers for new connections. The ones that are there end when their last
+        connection does."""
+        before = [server for server in self.servers if server.takes_connections]
+        for server in before:
+            server.is_retiring = True
+        try:
+            self.begin_servers()
+        except OSError as error:
+            self.lines.say(f"the servers that are there go on: {error}")
+            for server in before:
+                server.is_retiring = False
+            return
+        for server in before:
+            self.close_if_left(server)
+
+    def close_if_left(self, server: Server) -> None:
+        if server.is_retiring and not server.members:
+            server.is_told = True
+            self.close_input(server)
+
+    def close_input(self, server: Server) -> None:
+        if server.is_blocked:
+            self.events.forget(server.input)
+        server.is_blocked = False
+        server.close_input(self.now)
+
+    def lose(self, server: Server) -> None:
+        """A server has closed its output. Its connections get the replies that have come, and
+        end."""
+        server.lost_at = self.now
+        self.close_input(server)
+        self.events.forget(server.output)
+        server.close(self.now)
+        for connection in [*server.members]:
+            connection.turn = None
+            connection.is_in_line = False
+            if connection.is_open:
+                self.cut(connection)
+            else:
+                self.free(connection)
+        self.bury()
+
+    def cut(self, connection: Connection) -> None:
+        """Nothing more that it sends is wanted; it is sent what is owed."""
+        connection.reads = False
+        connection.incoming.clear()
+        self.settle(connection)
+
+    def bury(self) -> None:
+        """Forgets the servers whose processes have ended, and starts others."""
+        for server in [*self.servers]:
+            if self.is_overdue(server):
+                server.process.kill()
+            status = server.status() if server.lost_at is not None else None
+            if status is not None:
+                self.servers.remove(server)
+                self.note_end(server, status)
+        if self.stops_at is None and self.now >= self.starts_from:
+            self.begin_again()
+
+    def is_overdue(self, server: Server) -> bool:
+        """Whether a server runs on that has closed its output, or whose input has ended."""
+        if server.lost_at is not None:
+            return self.now > server.lost_at + END_SECONDS
+        return server.closed_at is not None and self.now > server.closed_at + self.limits.grace
+
+    def note_end(self, server: Server, status: int) -> None:
+        if server.is_told and status == 0:
+            return
+        self.lines.say(f"{server} has ended with status {status}")
+        self.counts.servers_ended += 1
+        self.failure = status or 1
+        has_failed = not server.answers and self.now < server.began_at + EARLY_SECONDS
+        self.failures = self.failures + 1 if has_failed else 0
+        if has_failed:
+            self.starts_from = self.now + RESTART_PAUSE
+        if self.failures >= FAILURES:
+            self.give_up()
+
+    def give_up(self) -> None:
+        """Ends where no server is left that has ever answered; else goes on with those, and tries
+        again later."""
+        left = [server for server in self.servers if server.closed_at is None and server.answers]
+        if not left:
+            self.stop()
+        for server in left:
+            server.is_retiring = False
+        self.starts_from = self.now + ACCEPT_PAUSE
+
+    # ---- the clock, and the end
+
+    def look_at_clock(self) -> None:
+        if self.stops_at is not None:
+            self.go_on_stopping()
+        if self.now - self.looked_at < self.look_seconds:
+            return
+        self.looked_at = self.now
+        self.bury()
+        self.turned_away.end_late(self.now)
+        if self.status:
+            self.status.visitors.end_late(self.now)
+        for connection in [*self.open]:
+            words = connection.stall(self.now)
+            if words:
+                self.end(connection, words)
+        self.report()
+
+    def report(self) -> None:
+        """Says what has happened since it was said last, once a minute unless told otherwise."""
+        if self.now - self.reported_at < self.limits.report:
+            return
+        if self.counts.told() != self.reported:
+            self.lines.say(f"{len(self.open)} connections are open; in "
+                           f"{self.now - self.reported_at:.0f} s "
+                           f"{self.counts.as_words(self.reported)}")
+        self.reported_at, self.reported = self.now, self.counts.told()
+        self.counts.longest_lately = 0.0
+        self.told.clear()
+
+    def state(self) -> Dict[str, Any]:
+        """What the status socket tells."""
+        counts = self.counts
+        return {
+            "uptime_seconds": round(self.now - self.began_at, 3),
+            "connections": {
+                "open": len(self.open), "releasing": sum(self.processes.values()) - len(self.open),
+                "accepted": counts.accepted, "turned_away": counts.turned_away},
+            "requests": counts.requests, "bytes_in": counts.bytes_in, "bytes_out": counts.bytes_out,
+            "refusals": counts.refusals_by_name(),
+            "longest_request_seconds": round(counts.longest, 6),
+            "servers_ended": counts.servers_ended,
+            "servers": [self.state_of(server) for server in self.servers]}
+
+    def state_of(self, server: Server) -> Dict[str, Any]:
+        memory, peak = memory_of(server.process.pid)
+        return {
+            "process": server.process.pid, "connections": len(server.members),
+            "requests": server.answers, "waiting": len(server.line),
+            "busy_seconds": round(self.now - server.moved_at, 6) if server.owed else 0.0,
+            "memory_bytes": memory, "peak_memory_bytes": peak, "is_retiring": server.is_retiring}
+
+    def take_signals(self, _mask: int) -> None:
+        for which in self.signals.recv(64):
+            if which == signal.SIGCHLD:
+                self.bury()
+            elif which == signal.SIGHUP:
+                if self.stops_at is None:
+                    self.lines.say("begins with new servers by SIGHUP")
+                    self.reload()
+            elif self.was_told:
+                # Whoever asks twice doesn't wait.
+                self.stops_at = self.now
+            else:
+                self.lines.say(f"ends by {signal.Signals(which).name}")
+                self.was_told = True
+                self.stop()
+
+    def stop(self) -> None:
+        """Accepts nothing more. Requests that are with the servers are still answered, and others
+        are not passed on."""
+        if self.stops_at is not None:
+            return
+        self.stops_at = self.now + self.limits.grace
+        self.listen_or_not()
+        self.listener.close()
+        self.turned_away.end_all()
+        for server in self.servers:
+            server.line.clear()
+        for connection in [*self.open]:
+            connection.is_in_line = False
+            self.cut(connection)
+        self.go_on_stopping()
+
+    def go_on_stopping(self) -> None:
+        for server in self.servers:
+            if not server.owed:
+                server.is_told = True
+                self.close_input(server)
+        is_late = self.now > (self.stops_at or 0.0)
+        self.is_over = is_late or not (self.servers or any(connection.outgoing
+                                                           for connection in self.open))
+
+    def finish(self) -> int:
+        """Ends what is left; the exit status."""
+        for connection in [*self.open]:
+            self.end(connection)
+        for server in self.servers:
+            if server.owed:
+                self.lines.say(f"{server} is killed: its request takes longer than "
+                               f"{self.limits.grace:g} s (--grace)")
+            server.process.kill()
+            server.close(self.now)
+            server.process.wait()
+        self.listener.close()
+        if self.status:
+            self.status.close()
+        self.events.close()
+        self.signals.close()
+        self.signalled.close()
+        return 0 if self.was_told else self.failure

@@ -1,0 +1,66 @@
+"""What the machine has, and what it allows this program."""
+
+import contextlib
+import os
+import resource
+from typing import Iterator, Optional
+
+from .lines import Unusable
+
+# Files of the broker's own: its sockets and pipes, and those of who is answered once.
+OWN_FILES = 256
+GROUPS = "/sys/fs/cgroup"
+
+
+def processors() -> int:
+    """How many processors this program may use."""
+    return len(os.sched_getaffinity(0))
+
+
+def memory_bytes() -> int:
+    """The bytes of memory that the machine has, or fewer where a control group of this program
+    allows fewer."""
+    return min([os.sysconf("SC_PAGE_SIZE") * os.sysconf("SC_PHYS_PAGES"), *group_limits()])
+
+
+def group_limits() -> Iterator[int]:
+    """The limits on memory of this program's control groups and of those above them, of both
+    versions."""
+    try:
+        with open("/proc/self/cgroup") as file:
+            groups = [line.rstrip("\n").split(":", 2) for line in file]
+    except OSError:
+        return
+    for _, kinds, path in groups:
+        if kinds == "" or "memory" in kinds.split(","):
+            root, name = (GROUPS, "memory.max") if kinds == "" else (f"{GROUPS}/memory",
+                                                                     "memory.limit_in_bytes")
+            for folder in folders_up(path):
+                limit = number_in(f"{root}{folder}/{name}")
+                if limit is not None:
+                    yield limit
+
+
+def folders_up(path: str) -> Iterator[str]:
+    """A group's path, those above it, and the root, which is its own in a container."""
+    while path.strip("/"):
+        yield path
+        path = os.path.dirname(path)
+    yield ""
+
+
+def number_in(path: str) -> Optional[int]:
+    with contextlib.suppress(OSError, ValueError), open(path) as file:
+        return int(file.read())
+    return None
+
+
+def raise_file_limit(connections: int) -> None:
+    """Sees to it that so many connections can be open, beside the broker's own files."""
+    wanted = connections + OWN_FILES
+    soft, hard = resource.getrlimit(resource.RLIMIT_NOFILE)
+    if hard != resource.RLIM_INFINITY and hard < wanted:
+        raise Unusable(f"{connections} connections need {wanted} open files, and {hard} are "
+                       "allowed (ulimit -Hn)")
+    if soft != resource.RLIM_INFINITY and soft < wanted:
+        resource.setrlimit(resource.RLIMIT_NOFILE, (wanted, hard))

@@ -1,0 +1,317 @@
+"""A server's process, with the connections that wait for it, what is written to it and the replies
+that it owes."""
+
+import contextlib
+import fcntl
+import heapq
+import itertools
+import os
+import resource
+import struct
+import subprocess
+from collections import deque
+from typing import Deque, Iterator, List, NamedTuple, Optional, Set, Tuple
+
+from ..environment import environment
+from .connection import TURN_SECONDS, Connection
+from .counts import Counts
+from .incoming import AHEAD, CHUNK, CLIENT, Frames
+
+# A reply's length, its client, its op and its code; the bytes of a reply before its body, and the
+# least length.
+REPLY = struct.Struct(">IHBB")
+REPLY_HEAD, LEAST_REPLY = 8, 4
+PIPE_BYTES = 1_048_576
+# How many buffers are written at once.
+PIECES_AT_ONCE = 64
+# What a request and a byte of it are expected to take by themselves, in seconds.
+REQUEST_SECONDS, BYTE_SECONDS = 1e-6, 1e-9
+# What a connection counts as having had of a server's time when it comes: so those who wait for a
+# turn get it, however many come and go.
+ARRIVAL_SECONDS = 0.01
+
+
+# Where a connection's last turn took so long, its next one is put off for a part of that, at most
+# some milliseconds, where one that had less was just answered: who asks one request after another
+# waits for one long turn, and not for one each time.
+LONG_TURN, PART_PUT_OFF, MOST_PUT_OFF = 0.02, 0.05, 0.02
+
+
+class ServerFault(Exception):
+    """The server's program wrote what isn't the reply to what it was asked."""
+
+
+class Turn:
+    """The requests of one connection that are with the server."""
+
+    __slots__ = ("connection", "asked", "long", "size", "began", "least", "expected", "answered",
+                 "unwritten")
+
+    def __init__(self, connection: Connection, frames: Frames, now: float) -> None:
+        self.connection, self.asked, self.long = connection, frames.asked, frames.long
+        self.size, self.began = frames.size, now
+        self.least = len(frames.asked) * REQUEST_SECONDS + self.size * BYTE_SECONDS
+        self.expected = self.least + frames.long * connection.pace
+        # How many of the replies have begun, and how many bytes of the requests aren't written yet.
+        self.answered, self.unwritten = 0, self.size
+
+    @property
+    def is_long_and_unwritten(self) -> bool:
+        return self.unwritten > 0 and self.size > AHEAD
+
+
+class Line:
+    """The connections that wait for a turn. Next is the one that has had least of the server's
+    time, where who was away doesn't get what it left to others: so a short request goes before
+    those of connections that take much."""
+
+    def __init__(self) -> None:
+        self.waiting: List[Tuple[float, int, Connection]] = []
+        self.ticks = itertools.count()
+        # The time that the connection had had whose turn came last.
+        self.now = 0.0
+
+    def __len__(self) -> int:
+        return len(self.waiting)
+
+    def add(self, connection: Connection) -> None:
+        if not connection.is_in_line:
+            connection.is_in_line = True
+            connection.used = max(connection.used, self.now)
+            heapq.heappush(self.waiting, (connection.used, next(self.ticks), connection))
+
+    @property
+    def first(self) -> Connection:
+        return self.waiting[0][2]
+
+    def take(self) -> Connection:
+        self.now, _, connection = heapq.heappop(self.waiting)
+        return connection
+
+    def clear(self) -> None:
+        self.waiting.clear()
+
+
+class Piece(NamedTuple):
+    """A part of the replies to a turn; and whether it is the last part."""
+
+    turn: Turn
+    bytes: memoryview
+    is_last: bool
+
+
+class Server:
+    """One process of the server's program."""
+
+    def __init__(self, command: List[str], memory: Optional[int], counts: Counts,
+                 now: float) -> None:
+        # In a session of its own: what ends the broker from a terminal reaches it by the end of its
+        # input alone.
+        self.process = subprocess.Popen(
+            command, stdin=subprocess.PIPE, stdout=subprocess.PIPE, bufsize=0,
+            start_new_session=True, env=environment())
+        if memory is not None:
+            limit_memory(self.process.pid, memory)
+        assert self.process.stdin is not None and self.process.stdout is not None
+        self.input, self.output = self.process.stdin.fileno(), self.process.stdout.fileno()
+        for pipe in (self.input, self.output):
+            os.set_blocking(pipe, False)
+            # Greater pipes are woken up for less often. The system may not allow it.
+            with contextlib.suppress(OSError):
+                fcntl.fcntl(pipe, getattr(fcntl, "F_SETPIPE_SZ", 1031), PIPE_BYTES)
+        # What the broker itself asks isn't counted.
+        self.counts, self.uncounted = counts, Counts()
+        # The connections whose contexts it has, those that are being released among them.
+        self.members: Set[Connection] = set()
+        self.line = Line()
+        # What isn't written yet, each piece with its turn; and the turns that are owed replies,
+        # with the seconds that these are expected to take.
+        self.waiting: Deque[Tuple[memoryview, Turn]] = deque()
+        self.owed: Deque[Turn] = deque()
+        self.expected = 0.0
+        # What it wrote last: the beginning of a reply whose head isn't whole stays in it. How many
+        # bytes of the reply that has begun are to come.
+        self.buffer = bytearray(CHUNK)
+        self.view = memoryview(self.buffer)
+        self.rest, self.left = 0, 0
+        self.answers = 0
+        self.began_at = self.moved_at = self.turned_at = now
+        # Whose turn was the last, and whether a long turn is put off since that one may ask again.
+        self.last: Optional[Connection] = None
+        self.puts_off = False
+        # Whether it gets no new connections; whether it is told to end; whether its input takes
+        # nothing now.
+        self.is_retiring = self.is_told = self.is_blocked = False
+        # When its input was ended; since when it is of no use.
+        self.closed_at: Optional[float] = None
+        self.lost_at: Optional[float] = None
+
+    def __str__(self) -> str:
+        return f"the server of process {self.process.pid}"
+
+    @property
+    def takes_connections(self) -> bool:
+        return not self.is_retiring and self.closed_at is None
+
+    def add(self, connection: Connection) -> None:
+        """A connection that has asked nothing yet is this server's from now on."""
+        connection.server, connection.used = self, self.line.now + ARRIVAL_SECONDS
+        self.members.add(connection)
+
+    # ---- requests
+
+    def begin_turns(self, now: float) -> List[Connection]:
+        """Begins turns, while those that have begun aren't expected to take long; the connections
+        whose they are."""
+        begun: List[Connection] = []
+        self.puts_off = False
+        while self.line and (not self.owed
+                             or self.expected < TURN_SECONDS) and self.closed_at is None:
+            self.puts_off = self.may_be_asked_first(now)
+            if self.puts_off:
+                break
+            connection = self.line.take()
+            frames = connection.next_frames()
+            if frames is not None:
+                self.ask(Turn(connection, frames, now), frames)
+                begun.append(connection)
+        return begun
+
+    def may_be_asked_first(self, now: float) -> bool:
+        """Whether the connection that was answered last may in a moment be before the first in
+        line, which takes long."""
+        last, first = self.last, self.line.first
+        if last is None or self.owed or first.took < LONG_TURN:
+            return False
+        if now > self.turned_at + min(first.took * PART_PUT_OFF, MOST_PUT_OFF):
+            return False
+        return last.reads and last.server is self and not last.is_in_line and last.used < first.used
+
+    def counts_of(self, turn: Turn) -> Counts:
+        return self.uncounted if turn.connection.is_leaving else self.counts
+
+    def ask(self, turn: Turn, frames: Frames) -> None:
+        turn.connection.turn, turn.connection.is_known = turn, True
+        if not self.owed:
+            self.moved_at = self.turned_at = turn.began
+        self.waiting.extend((memoryview(piece), turn) for piece in frames.pieces)
+        self.owed.append(turn)
+        self.expected += turn.expected
+        self.counts_of(turn).bytes_in += turn.size
+
+    def write(self) -> List[Connection]:
+        """Writes what the server takes; the connections whose turns are written to their ends by
+        that."""
+        written: List[Connection] = []
+        while self.waiting:
+            try:
+                count = os.writev(self.input,
+                                  [piece
+                                   for piece, _ in itertools.islice(self.waiting, PIECES_AT_ONCE)])
+            except BlockingIOError:
+                break
+            while count:
+                first, turn = self.waiting.popleft()
+                taken = min(count, len(first))
+                if taken < len(first):
+                    self.waiting.appendleft((first[taken:], turn))
+                count -= taken
+                turn.unwritten -= taken
+                if not turn.unwritten:
+                    written.append(turn.connection)
+        return written
+
+    # ---- replies
+
+    def replies(self, now: float) -> Iterator[Piece]:
+        """What the server wrote, cut where one turn ends: with the clients in it that the
+        connections sent. Each piece stands until the next is asked for. Raises EOFError at the
+        end."""
+        with self.view[self.rest :] as room:
+            count = os.readv(self.output, [room])
+        if not count:
+            raise EOFError
+        self.counts.note_gap(now - self.moved_at)
+        self.moved_at = now
+        at, end = 0, self.rest + count
+        if self.left:
+            at = min(self.left, end)
+            self.left -= at
+            yield self.piece(0, at)
+        while end - at >= REPLY_HEAD:
+            start, after = at, self.scan(at, end)
+            at = min(after, end)
+            self.left = after - at
+            yield self.piece(start, at)
+        self.rest = end - at
+        self.buffer[: self.rest] = self.buffer[at:end]
+
+    def piece(self, start: int, end: int) -> Piece:
+        turn = self.owed[0]
+        return Piece(turn, self.view[start:end], not self.left and turn.answered == len(turn.asked))
+
+    def scan(self, at: int, end: int) -> int:
+        """Puts the clients that its connection sent into the replies to the first turn, as far as
+        they have come; where the last of them ends that has begun."""
+        if not self.owed:
+            raise ServerFault("a reply that nobody is owed")
+        turn, buffer = self.owed[0], self.buffer
+        counts = self.counts_of(turn)
+        number, asked, answered = turn.connection.number, turn.asked, turn.answered
+        for sent in asked[answered:] if answered else asked:
+            if end - at < REPLY_HEAD:
+                break
+            length, client, op, code = REPLY.unpack_from(buffer, at)
+            if client != number or op != sent & 0xFF or length < LEAST_REPLY:
+                raise ServerFault("a reply to another request than the next")
+            CLIENT.pack_into(buffer, at + 4, sent >> 8)
+            if code:
+                counts.refusals[code] += 1
+            at += 4 + length
+            answered += 1
+        counts.requests += answered - turn.answered
+        self.answers += answered - turn.answered
+        turn.answered = answered
+        return at
+
+    def complete(self, turn: Turn, now: float) -> None:
+        """The first turn that is owed has its replies."""
+        self.owed.popleft()
+        self.expected = self.expected - turn.expected if self.owed else 0.0
+        turn.connection.has_taken(max(now - max(self.turned_at, turn.began), turn.least), turn.long)
+        turn.connection.turn = None
+        self.last = turn.connection
+        turn.connection.served_at = self.turned_at = now
+
+    # ---- its end
+
+    def close_input(self, now: float) -> None:
+        """Ends its input, so that it ends."""
+        if self.closed_at is None:
+            self.closed_at = now
+            assert self.process.stdin is not None
+            self.process.stdin.close()
+
+    def close(self, now: float) -> None:
+        """Nothing more is asked of it or read from it."""
+        self.close_input(now)
+        assert self.process.stdout is not None
+        self.process.stdout.close()
+        self.waiting.clear()
+        self.owed.clear()
+        self.line.clear()
+
+    def status(self) -> Optional[int]:
+        """Its exit status, as a shell says it where a signal ended it; None while it runs."""
+        status = self.process.poll()
+        return status if status is None or status >= 0 else 128 - status
+
+
+def limit_memory(process: int, memory: int) -> None:
+    """Limits the address space of a process that was started, at most to what this one is
+    allowed."""
+    hard = resource.getrlimit(resource.RLIMIT_AS)[1]
+    limit = memory if hard == resource.RLIM_INFINITY else min(memory, hard)
+    # It may have ended.
+    with contextlib.suppress(ProcessLookupError):
+        resource.prlimit(process, resource.RLIMIT_AS, (limit, limit))

@@ -1,0 +1,123 @@
+"""Those who connect and get a short answer: who is turned away, and who asks for the broker's
+state."""
+
+import contextlib
+import json
+import socket
+import time
+from typing import Any, Callable, Dict, List, Optional
+
+from .. import wire
+from .counts import as_metrics
+from .events import READ, Events
+from .incoming import HEAD, LEAST_FRAME
+from .listener import Listener
+
+# How many there are at once of each kind, and how many seconds they have for what they ask.
+VISITORS_AT_ONCE, VISIT_SECONDS = 64, 5.0
+# The longest first line of who asks for the state.
+LINE_BYTES = 4096
+PAGE = "HTTP/1.0 {}\r\nContent-Type: {}\r\nContent-Length: {}\r\nConnection: close\r\n\r\n"
+
+# Gives the answer to what has come so far, or None where more is wanted. No bytes more come where
+# the second is True.
+Answer = Callable[[bytes, bool], Optional[bytes]]
+
+
+class Visitors:
+    """Connections that are each answered once and closed."""
+
+    def __init__(self, events: Events, most: int, answer: Answer) -> None:
+        self.events, self.most, self.answer = events, most, answer
+        # Who came first is first.
+        self.present: Dict[socket.socket, bytes] = {}
+        self.until: Dict[socket.socket, float] = {}
+
+    def add(self, sock: socket.socket) -> None:
+        """Who came first leaves where too many are there."""
+        if len(self.present) >= VISITORS_AT_ONCE:
+            self.end(next(iter(self.present)))
+        sock.setblocking(False)
+        self.present[sock], self.until[sock] = b"", time.monotonic() + VISIT_SECONDS
+        self.events.watch(sock.fileno(), READ, lambda _: self.hear(sock))
+
+    def hear(self, sock: socket.socket) -> None:
+        if sock not in self.present:
+            return
+        try:
+            data = sock.recv(self.most - len(self.present[sock]))
+            self.present[sock] += data
+            answer = self.answer(self.present[sock],
+                                 not data or len(self.present[sock]) >= self.most)
+            if answer:
+                sock.send(answer)
+        except BlockingIOError:
+            return
+        except OSError:
+            answer = b""
+        if answer is not None:
+            self.end(sock)
+
+    def end(self, sock: socket.socket) -> None:
+        self.events.forget(sock.fileno())
+        del self.present[sock], self.until[sock]
+        sock.close()
+
+    def end_late(self, now: float) -> None:
+        for sock in [sock for sock, until in self.until.items() if now > until]:
+            self.end(sock)
+
+    def end_all(self) -> None:
+        for sock in [*self.present]:
+            self.end(sock)
+
+
+def turned_away(events: Events) -> Visitors:
+    """Those whose first frame is answered NO_RESOURCES."""
+
+    def answer(data: bytes, is_all: bool) -> Optional[bytes]:
+        if len(data) < LEAST_FRAME:
+            return b"" if is_all else None
+        _length, client, op = HEAD.unpack(data)
+        return wire.reply_frame(client, op, wire.NO_RESOURCES)
+
+    return Visitors(events, LEAST_FRAME, answer)
+
+
+class StatusSocket:
+    """A second socket, at which the broker tells its state: as JSON, or as Prometheus' text by
+    HTTP's GET /metrics."""
+
+    def __init__(self, listener: Listener, events: Events,
+                 state: Callable[[], Dict[str, Any]]) -> None:
+        self.listener, self.events, self.state = listener, events, state
+        self.visitors = Visitors(events, LINE_BYTES, self.answer)
+        events.watch(listener.sock.fileno(), READ, self.accept)
+
+    def accept(self, _mask: int) -> None:
+        with contextlib.suppress(OSError):
+            self.visitors.add(self.listener.sock.accept()[0])
+
+    def answer(self, data: bytes, is_all: bool) -> Optional[bytes]:
+        line, newline, _ = data.partition(b"\n")
+        if not newline and not is_all:
+            return None
+        words: List[bytes] = line.split()
+        if words[:1] != [b"GET"]:
+            return json.dumps(self.state()).encode() + b"\n"
+        return page(words[1] if len(words) > 1 else b"/", self.state())
+
+    def close(self) -> None:
+        self.events.forget(self.listener.sock.fileno())
+        self.visitors.end_all()
+        self.listener.close()
+
+
+def page(path: bytes, state: Dict[str, Any]) -> bytes:
+    """HTTP's answer to GET."""
+    status, kind, body = "200 OK", "application/json", json.dumps(state) + "\n"
+    if path == b"/metrics":
+        kind, body = "text/plain; version=0.0.4", as_metrics(state)
+    elif path not in (b"/", b"/status"):
+        status, kind, body = "404 Not Found", "text/plain", "There are /status and /metrics.\n"
+    return PAGE.format(status, kind, len(body)).encode() + body.encode()

@@ -1,0 +1,72 @@
+"""Where the server's program is, for those who don't say."""
+
+from __future__ import annotations
+
+import os
+import shutil
+from typing import List, Set
+
+from .errors import ProgramNotFound
+
+VARIABLE = "FEQYLDAN_PROGRAM"
+# What the program may be called on PATH.
+NAMES = ("feqyldan", "vx_main")
+HERE = os.path.dirname(os.path.abspath(__file__))
+# Where a wheel has it that was built with the server inside (tools/package).
+INSIDE = os.path.join(HERE, "programs")
+# The crate where tools/build leaves it, if this package stands in a checkout.
+CRATE = os.path.normpath(os.path.join(HERE, "../../../crates/vx_main"))
+# The faster build asks for this in the words of /proc/cpuinfo, as tools/build does; the other is
+# for all processors.
+FASTER, FASTER_FLAGS = "vx_main-x86-64-v3", set("abm avx avx2 bmi1 bmi2 f16c fma movbe "
+                                                "xsave".split())
+PLAIN = "vx_main-default"
+
+
+def find() -> str:
+    """The path of the program: what FEQYLDAN_PROGRAM says, else on PATH, else inside this package,
+    else as built in this checkout."""
+    told = os.environ.get(VARIABLE)
+    if told:
+        if not os.path.isfile(told):
+            raise ProgramNotFound(f"the server's program isn't at {told}, which {VARIABLE} says")
+        return told
+    on_path = (shutil.which(name) for name in NAMES)
+    found = next((path for path in (*on_path, *inside(), *built())
+                  if path and os.access(path, os.X_OK)), None)
+    if found is None:
+        checkout = "this package stands in no checkout"
+        if built():
+            checkout = f"{' and '.join(built())} isn't there"
+        raise ProgramNotFound(f"the server's program wasn't found: {VARIABLE} isn't set, "
+                              f"{' and '.join(NAMES)} aren't on PATH, {checkout}. Build it by "
+                              "tools/build, or give its path, as in vx.Server(path)")
+    return found
+
+
+def inside() -> List[str]:
+    """Where this package itself has the program; nowhere where it was installed without one."""
+    return _in(INSIDE) if os.path.isdir(INSIDE) else []
+
+
+def built() -> List[str]:
+    """Where builds are that this machine's processor runs, the fastest first; nowhere outside a
+    checkout."""
+    return _in(os.path.join(CRATE, "out")) if os.path.isdir(CRATE) else []
+
+
+def _in(folder: str) -> List[str]:
+    """The paths in a folder that this machine's processor runs, the fastest first."""
+    names = [FASTER, PLAIN] if FASTER_FLAGS <= _flags() else [PLAIN]
+    return [os.path.join(folder, name) for name in names]
+
+
+def _flags() -> Set[str]:
+    """What every processor of the machine has."""
+    try:
+        with open("/proc/cpuinfo", encoding="utf-8") as text:
+            found = [set(line.split(":", 1)[1].split())
+                     for line in text if line.startswith("flags")]
+    except OSError:
+        return set()
+    return set.intersection(*found) if found else set()

@@ -1,0 +1,17 @@
+"""What stands for something on a server, of which a copy in Python would be none."""
+
+from __future__ import annotations
+
+from typing import Any, NoReturn
+
+
+class Uncopied:
+    """
+    Refuses copy.copy(), copy.deepcopy() and pickle: two Python objects would release one object of
+    the server, and in another process there is no connection to it.
+    """
+
+    def __reduce_ex__(self, protocol: Any) -> NoReturn:
+        raise TypeError(f"{self!r} is on its server, so it is neither copied nor pickled. read() "
+                        "gives what an image has, context.image_like() another image; another "
+                        "process opens a context of its own")

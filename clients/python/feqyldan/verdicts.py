@@ -1,0 +1,233 @@
+"""
+What of a graph is at fault. The server says why a graph can't run by a code alone; here the same is
+worked out from what the nodes name, as docs/wire.md has it under "Verdicts". Where that gives
+another code, or none, nothing is said.
+"""
+
+from __future__ import annotations
+
+from typing import Any, Dict, FrozenSet, List, NamedTuple, Optional, Sequence, Set, Tuple
+
+from . import wire
+from .functions import Call
+from .objects import in_words
+from .samples import Format
+
+U8, S16, U32 = Format.U8, Format.S16, Format.U32
+# The formats of in1, of in2 and of an output; None for what has no format, or isn't there.
+Formats = Tuple[Optional[Format], Optional[Format], Optional[Format]]
+_BITS: FrozenSet[Formats] = frozenset({(U8, U8, U8)})
+_ALIKE: FrozenSet[Formats] = frozenset({(U8, U8, U8), (S16, S16, S16)})
+_SUMS: FrozenSet[Formats] = frozenset({(U8, U8, U8),
+                                       *((one, other, S16) for one in (U8, S16)
+                                         for other in (U8, S16))})
+_BYTES: FrozenSet[Formats] = frozenset({(U8, None, U8)})
+# What each function takes together.
+TAKEN: Dict[str, FrozenSet[Formats]] = {
+    **dict.fromkeys(("and_", "or_", "xor"), _BITS),
+    **dict.fromkeys(("absdiff", "min", "max", "table_lookup"), _ALIKE),
+    **dict.fromkeys(("add", "subtract", "multiply"), _SUMS),
+    **dict.fromkeys(("not_", "box3x3", "gaussian3x3", "median3x3", "erode3x3", "dilate3x3"),
+                    _BYTES),
+    "threshold": frozenset({(U8, U8, U8), (S16, S16, U8)}),
+    "convert_depth": frozenset({(U8, None, S16), (S16, None, U8)}),
+    "sobel3x3": frozenset({(U8, None, S16)}),
+    "convolve": frozenset({(U8, None, U8), (U8, None, S16)}),
+    "histogram": frozenset({(U8, None, None)}), "integral_image": frozenset({(U8, None, U32)}),
+    "min_max_loc": frozenset({(U8, None, None), (S16, None, None)}),
+}
+# The format of a virtual output that leaves it open. Of the functions that aren't here it is in1's.
+OPENED = {
+    **dict.fromkeys(("and_", "or_", "xor", "not_", "threshold", "box3x3", "gaussian3x3",
+                     "median3x3", "erode3x3",
+                     "dilate3x3"), U8),
+    **dict.fromkeys(("add", "subtract", "multiply", "sobel3x3", "convolve"), S16),
+    "integral_image": U32,
+}
+
+
+class Cell(NamedTuple):
+    """
+    What a node names: an object, or the image in a slot of a delay. The reference tells it from all
+    others; the format and the sides are None where it hasn't any, or where a virtual image leaves
+    them open.
+    """
+
+    reference: bytes
+    words: str
+    is_virtual: bool
+    is_image: bool
+    fmt: Optional[Format]
+    width: Optional[int]
+    height: Optional[int]
+
+
+class Member(NamedTuple):
+    """A node of a graph by what it names; None for an operand that it hasn't."""
+
+    number: int
+    function: str
+    words: str
+    in1: Cell
+    in2: Optional[Cell]
+    outputs: Tuple[Cell, ...]
+
+    @property
+    def inputs(self) -> List[Cell]:
+        return [cell for cell in (self.in1, self.in2) if cell is not None]
+
+    def __str__(self) -> str:
+        return f"node {self.number}, {self.words}"
+
+
+class Verdict(NamedTuple):
+    code: int
+    fault: str
+
+
+def member_of(number: int, call: Call) -> Member:
+    in1, in2, *outputs = (None if operand is None else _cell_of(operand)
+                          for operand in call.operands)
+    assert in1 is not None
+    return Member(number, call.name, str(call), in1, in2,
+                  tuple(cell for cell in outputs if cell is not None))
+
+
+def _cell_of(operand: Any) -> Cell:
+    width, height = getattr(operand, "width", None), getattr(operand, "height", None)
+    is_virtual = operand.is_virtual
+    return Cell(operand.reference, str(operand), is_virtual, is_virtual or width is not None,
+                getattr(operand, "fmt", None), width, height)
+
+
+def explained(code: int, members: Sequence[Member]) -> str:
+    """What is at fault in a graph of these nodes, which the server refused with a code; empty where
+    it isn't known."""
+    verdict = verdict_on(members, code)
+    return verdict.fault if verdict is not None and verdict.code == code else ""
+
+
+def verdict_on(members: Sequence[Member], refused_with: int = wire.SUCCESS) -> Optional[Verdict]:
+    """
+    The first fault of a graph; None where there is none. That it has too many bytes is the server's
+    to say, which knows how many it may have: so this is a fault where the server refused it with
+    that.
+    """
+    fault = _two_writers(members)
+    if fault:
+        return Verdict(wire.MULTIPLE_WRITERS, fault)
+    ordered, cycle = _in_order(members)
+    if cycle:
+        return Verdict(wire.INVALID_GRAPH, f"They go round: {'; '.join(map(str, cycle))}.")
+    fault = _loose_end(members)
+    if fault:
+        return Verdict(wire.INVALID_LINK, fault)
+    known = _descriptions(ordered)
+    for member in members:
+        verdict = _fault_of(member, known)
+        if verdict is not None:
+            return verdict
+    if refused_with == wire.NO_RESOURCES:
+        return Verdict(wire.NO_RESOURCES, f"They have {_virtual_bytes(known):,} bytes.")
+    return None
+
+
+def _two_writers(members: Sequence[Member]) -> str:
+    """Which nodes write one object; empty where none do."""
+    writers: Dict[bytes, Member] = {}
+    for member, cell in ((member, cell) for member in members for cell in member.outputs):
+        other = writers.setdefault(cell.reference, member)
+        if other is not member:
+            return f"{cell.words} is written by {other}, and by {member}."
+        if sum(output.reference == cell.reference for output in member.outputs) > 1:
+            return f"{cell.words} is written twice by {member}."
+    return ""
+
+
+def _in_order(members: Sequence[Member]) -> Tuple[List[Member], List[Member]]:
+    """The nodes, each after those whose outputs it reads; or, where they have none, a cycle of
+    them."""
+    writers = {cell.reference: member for member in members for cell in member.outputs}
+    ordered: List[Member] = []
+    done: Set[int] = set()
+    left = list(members)
+    while left:
+        ready = [member for member in left
+                 if all(writers[cell.reference].number in done
+                        for cell in member.inputs if cell.reference in writers)]
+        if not ready:
+            return [], _cycle_among(left, writers)
+        ordered += ready
+        done.update(member.number for member in ready)
+        left = [member for member in left if member.number not in done]
+    return ordered, []
+
+
+def _cycle_among(left: Sequence[Member], writers: Dict[bytes, Member]) -> List[Member]:
+    """A cycle of nodes, each of which reads what another of them writes, in the order of
+    writing."""
+    numbers = {member.number for member in left}
+    path = [left[0]]
+    while path[-1] not in path[:-1]:
+        path.append(next(writers[cell.reference] for cell in path[-1].inputs
+                         if cell.reference in writers
+                         and writers[cell.reference].number in numbers))
+    return path[:path.index(path[-1]):-1]
+
+
+def _loose_end(members: Sequence[Member]) -> str:
+    """Which virtual image is read and not written; empty where none is."""
+    written = {cell.reference for member in members for cell in member.outputs}
+    return next((f"{cell.words} is read by {member}, and written by none."
+                 for member in members for cell in member.inputs
+                 if cell.is_virtual and cell.reference not in written), "")
+
+
+def _descriptions(ordered: Sequence[Member]) -> Dict[bytes, Cell]:
+    """What each cell is, with what virtual images take from their writers."""
+    known: Dict[bytes, Cell] = {}
+    for member in ordered:
+        in1 = known.setdefault(member.in1.reference, member.in1)
+        if member.in2 is not None:
+            known.setdefault(member.in2.reference, member.in2)
+        for cell in member.outputs:
+            known[cell.reference] = _closed(cell, member.function, in1) if cell.is_virtual else cell
+    return known
+
+
+def _closed(cell: Cell, function: str, in1: Cell) -> Cell:
+    """A virtual image that a function writes, with nothing open."""
+    opened = OPENED.get(function, in1.fmt)
+    if function == "convert_depth":
+        opened = U8 if in1.fmt == S16 else S16
+    return cell._replace(fmt=cell.fmt or opened, width=cell.width or in1.width,
+                         height=cell.height or in1.height)
+
+
+def _fault_of(member: Member, known: Dict[bytes, Cell]) -> Optional[Verdict]:
+    """The fault of a node by itself."""
+    in1, *others = (known[cell.reference] for cell in (*member.inputs, *member.outputs))
+    in2 = None if member.in2 is None else known[member.in2.reference]
+    found = f"{str(member)[0].upper()}{str(member)[1:]}, {_found(member, known)}"
+    for output in member.outputs:
+        formats = in1.fmt, None if in2 is None else in2.fmt, known[output.reference].fmt
+        if formats not in TAKEN[member.function]:
+            return Verdict(wire.INVALID_FORMAT, f"{found}takes no such formats.")
+    if any((cell.width, cell.height) != (in1.width, in1.height)
+           for cell in others if cell.is_image):
+        return Verdict(wire.INVALID_DIMENSION, f"{found}has images of several sizes.")
+    return None
+
+
+def _found(member: Member, known: Dict[bytes, Cell]) -> str:
+    """What virtual images of a node have that was open in them."""
+    cells = [(cell, known[cell.reference]) for cell in (*member.inputs, *member.outputs)]
+    closed = dict.fromkeys(f"{cell.words} is "
+                           f"{in_words(*now[4:])[1:-1]}" for cell, now in cells if cell != now)
+    return f"in which {' and '.join(closed)}, " if closed else ""
+
+
+def _virtual_bytes(known: Dict[bytes, Cell]) -> int:
+    """How many bytes of samples the virtual images have together."""
+    return sum(cell.fmt.sample_bytes * cell.width * cell.height for cell in known.values()
+               if cell.is_virtual and cell.fmt and cell.width and cell.height)

@@ -1,0 +1,43 @@
+"""Whole numbers on their way into frames. What isn't one is refused: nothing is cut off unseen."""
+
+from __future__ import annotations
+
+import operator
+from typing import Any, Iterable, NamedTuple
+
+
+class Field(NamedTuple):
+    """The least and the greatest number that a field of a frame can say."""
+
+    least: int
+    greatest: int
+
+
+BYTE, UNSIGNED, SIGNED = Field(0, 255), Field(0, 65535), Field(-32768, 32767)
+
+
+def whole(value: Any, what: str, allowed: str = "a whole number") -> int:
+    """The number itself. Neither 0.5 nor 2.0 is a whole number here."""
+    try:
+        return operator.index(value)
+    except TypeError:
+        raise TypeError(f"{what} is {allowed}, and not {value!r}") from None
+
+
+def within(value: Any, what: str, field: Field, allowed: str) -> int:
+    """A whole number that the field can say. Whether it is one of those that are allowed is for the
+    server to tell."""
+    number: int = value if value.__class__ is int else whole(value, what, allowed)
+    if not field.least <= number <= field.greatest:
+        raise ValueError(f"{what} is {allowed}, and not {number}")
+    return number
+
+
+def first_that_is_none(values: Iterable[Any]) -> Any:
+    """The first value that isn't a whole number."""
+    for value in values:
+        try:
+            operator.index(value)
+        except TypeError:
+            return value
+    return None

@@ -1,0 +1,219 @@
+"""What the tests of the broker share: a broker that runs, connections to it, and frames of the
+plain server (plain_server.py)."""
+
+import os
+import select
+import socket
+import struct
+import subprocess
+import sys
+import tempfile
+import time
+import unittest
+from typing import Callable, List, Optional, Tuple
+
+HERE = os.path.dirname(os.path.abspath(__file__))
+PACKAGE = os.path.join(HERE, "..")
+sys.path[:0] = [HERE, PACKAGE, os.path.join(HERE, "..", "..", "..", "tools")]
+
+from feqyldan import wire  # noqa: E402
+from plain_server import WHO_ASKED  # noqa: E402
+
+PROGRAM = os.environ.get("FEQYLDAN_PROGRAM")
+PLAIN = [sys.executable, os.path.join(HERE, "plain_server.py"), "serve"]
+# Seconds after which what should have come has not.
+LATE = 20.0
+# What all programs here call themselves, unless a test says otherwise.
+CLIENT = 7
+
+
+class Program:
+    """A program's connection to the broker, in whole frames."""
+
+    def __init__(self, path: str) -> None:
+        self.sock = socket.socket(socket.AF_UNIX, socket.SOCK_STREAM)
+        # With a time limit connect fails at once where many others are about to connect.
+        self.sock.connect(path)
+        self.sock.settimeout(LATE)
+
+    def __enter__(self) -> "Program":
+        return self
+
+    def __exit__(self, *_: object) -> None:
+        self.sock.close()
+
+    def send(self, data: bytes) -> None:
+        self.sock.sendall(data)
+
+    def bytes(self, count: int) -> bytes:
+        """So many bytes, or fewer where the connection ends before."""
+        got = bytearray()
+        while len(got) < count:
+            try:
+                data = self.sock.recv(count - len(got))
+            except ConnectionResetError:
+                break
+            if not data:
+                break
+            got += data
+        return bytes(got)
+
+    def reply(self) -> bytes:
+        """The next reply, or nothing at the connection's end."""
+        head = self.bytes(4)
+        return head + self.bytes(int.from_bytes(head, "big"))
+
+    def ask(self, frame: bytes) -> bytes:
+        self.send(frame)
+        return self.reply()
+
+    def ask_ahead(self, frames: List[bytes]) -> List[bytes]:
+        """The replies to frames that are all sent as soon as they can be, while replies are
+        read."""
+        waiting, got, replies = memoryview(b"".join(frames)), b"", []
+        while len(replies) < len(frames):
+            readable, writable, _ = select.select([self.sock], [self.sock] if waiting else [], [],
+                                                  LATE)
+            if writable:
+                waiting = waiting[self.sock.send(waiting[:65536]) :]
+            if readable:
+                data = self.sock.recv(65536)
+                if not data:
+                    break
+                got += data
+                while len(got) >= 8 and len(got) >= 4 + int.from_bytes(got[:4], "big"):
+                    end = 4 + int.from_bytes(got[:4], "big")
+                    replies.append(got[:end])
+                    got = got[end:]
+            if not readable and not writable:
+                break
+        return replies
+
+    def who_asked(self) -> List[Tuple[int, int]]:
+        """The clients and ops of the frames that the plain server has had so far."""
+        return [struct.unpack_from(">HB", entry)
+                for entry in cut(self.ask(plain(WHO_ASKED))[8:], 3)]
+
+    def has_ended(self) -> bool:
+        """Whether the broker ends the connection, with no byte before."""
+        return self.bytes(1) == b""
+
+    def is_turned_away(self) -> bool:
+        """Whether the first request is answered NO_RESOURCES, and nothing after it."""
+        return self.ask(plain(1)) == wire.reply_frame(CLIENT, 1,
+                                                      wire.NO_RESOURCES) and self.has_ended()
+
+
+def cut(data: bytes, size: int) -> List[bytes]:
+    return [data[at : at + size] for at in range(0, len(data), size)]
+
+
+def plain(op: int, body: bytes = b"", client: int = CLIENT) -> bytes:
+    """A request frame of the plain server."""
+    return wire.frame(client, op, body)
+
+
+def success(op: int, body: bytes = b"", client: int = CLIENT) -> bytes:
+    return wire.reply_frame(client, op, 0, body)
+
+
+class Broker:
+    """A broker that runs, in a folder of its own."""
+
+    def __init__(self, *options: str, command: Optional[List[str]] = None,
+                 path: Optional[str] = None,
+                 environment: Optional[dict] = None, tells_state: bool = False) -> None:
+        self.folder = tempfile.TemporaryDirectory()
+        self.status_path = os.path.join(self.folder.name, "status")
+        if tells_state:
+            options = ("--status", self.status_path, *options)
+        self.path = path or os.path.join(self.folder.name, "socket")
+        self.log = open(os.path.join(self.folder.name, "log"), "w+")
+        words = [sys.executable, "-m", "feqyldan.broker", "--socket", self.path, "--per-process",
+                 "64",
+                 "--servers", "1", *options, "--"]
+        paths = [PACKAGE, *filter(None, [os.environ.get("PYTHONPATH")])]
+        environment = {**os.environ, "PYTHONPATH": os.pathsep.join(paths),
+                       "PYTHONDONTWRITEBYTECODE": "1",
+                       **(environment or {})}
+        self.process = subprocess.Popen([*words, *(command or PLAIN)], stderr=self.log,
+                                        env=environment)
+
+    def words(self) -> str:
+        """What it has written to standard error so far."""
+        with open(self.log.name) as log:
+            return log.read()
+
+    def wait_for(self, condition: Callable[[], bool]) -> bool:
+        """Whether something becomes so in time, while the broker runs or right after."""
+        end = time.monotonic() + LATE
+        while time.monotonic() < end:
+            if condition():
+                return True
+            if self.process.poll() is not None:
+                return condition()
+            time.sleep(0.01)
+        return False
+
+    def listens(self) -> bool:
+        return self.wait_for(lambda: "listening at" in self.words())
+
+    def says(self, words: str) -> bool:
+        return self.wait_for(lambda: words in self.words())
+
+    def program(self) -> Program:
+        return Program(self.path)
+
+    def status(self) -> int:
+        return self.process.wait(LATE)
+
+    def stop(self) -> int:
+        self.process.terminate()
+        return self.status()
+
+    def close(self) -> None:
+        if self.process.poll() is None:
+            self.process.terminate()
+            try:
+                self.process.wait(LATE)
+            except subprocess.TimeoutExpired:
+                self.process.kill()
+                self.process.wait()
+        self.log.close()
+        self.folder.cleanup()
+
+
+class BrokerTest(unittest.TestCase):
+    def begin(self, *options: str, **keywords: object) -> Broker:
+        """A broker, as soon as it listens."""
+        broker = self.begin_any(*options, **keywords)
+        self.assertTrue(broker.listens(), broker.words())
+        return broker
+
+    def begin_any(self, *options: str, **keywords: object) -> Broker:
+        broker = Broker(*options, **keywords)  # type: ignore[arg-type]
+        self.addCleanup(broker.close)
+        return broker
+
+    def connect(self, broker: Broker) -> Program:
+        program = broker.program()
+        self.addCleanup(program.sock.close)
+        return program
+
+    def asked_of(self, broker: Broker, wanted: List[Tuple[int, int]]) -> bool:
+        """Whether the plain server comes to have been asked just this, beside what this program
+        asks."""
+
+        def is_so() -> bool:
+            with broker.program() as program:
+                asked = program.who_asked()
+            own = asked[-1][0]
+            return [entry for entry in asked if entry[0] != own] == wanted
+
+        return broker.wait_for(is_so)
+
+
+def peak_bytes(pid: int) -> int:
+    """The most memory that a process has had at once."""
+    with open(f"/proc/{pid}/status") as status:
+        return next(int(line.split()[1]) * 1024 for line in status if line.startswith("VmHWM"))

@@ -1,0 +1,163 @@
+"""Images where Python has arrays, pictures and copies: NumPy, notebooks, copy and pickle."""
+
+import array
+import copy
+import pickle
+import sys
+import threading
+import unittest
+from unittest import mock
+
+from program import ProgramTest, vx
+from feqyldan import samples
+from test_pictures import decoded
+
+U8, S16, U32 = vx.U8, vx.S16, vx.U32
+numpy = samples.numpy_module()
+needs_numpy = unittest.skipUnless(numpy, "NumPy isn't installed")
+
+
+@needs_numpy
+class TestArrays(ProgramTest):
+    def test_asarray(self):
+        for fmt, dtype in ((U8, "uint8"), (S16, "int16"), (U32, "uint32")):
+            image = self.context.image_from([[1, 2, 3], [4, 5, 6]], fmt)
+            for thing in (image, self.context.delay(image, 2)[-1]):
+                thing.write([[1, 2, 3], [4, 5, 6]])
+                for pixels in (numpy.asarray(thing), numpy.array(thing)):
+                    self.assertEqual((pixels.dtype, pixels.tolist()),
+                                     (numpy.dtype(dtype), [[1, 2, 3], [4, 5, 6]]))
+                self.assertEqual(numpy.asarray(thing, "float64").tolist(),
+                                 [[1.0, 2.0, 3.0], [4.0, 5.0, 6.0]])
+        self.assertEqual(int(numpy.sum(image)), 21)
+
+    def test_both_signatures(self):
+        """NumPy 1 calls it with nothing or a type; NumPy 2 says too whether a copy may be made."""
+        image = self.context.image_from([[1, 2]])
+        for pixels in (image.__array__(), image.__array__(None), image.__array__("int32"),
+                       image.__array__(copy=True),
+                       image.__array__(dtype=None, copy=None)):
+            self.assertEqual(pixels.tolist(), [[1, 2]])
+        self.assertEqual(image.__array__("int32").dtype, numpy.dtype("int32"))
+        with self.assertRaisesRegex(ValueError, r"image 1 \(U8, 2 by 1\) come from its server"):
+            image.__array__(copy=False)
+        if int(numpy.__version__.split(".")[0]) >= 2:
+            self.assertRaises(ValueError, numpy.asarray, image, copy=False)
+
+    def test_what_is_asked_is_the_callers_own(self):
+        image = self.context.image_from([[1, 2]])
+        numpy.asarray(image)[0, 0] = 9
+        self.holds(image, [[1, 2]])
+
+    def test_one_channel(self):
+        image = self.context.image(S16, 3, 2)
+        pixels = numpy.arange(6, dtype="int16").reshape(2, 3, 1)
+        wide = numpy.zeros((4, 6, 1), "int16")
+        wide[::2, ::2] = pixels
+        for given in (pixels, wide[::2, ::2]):
+            image.write([[0] * 3] * 2)
+            image.write(given)
+            self.holds(image, [[0, 1, 2], [3, 4, 5]])
+            self.holds(self.context.image_from(given), [[0, 1, 2], [3, 4, 5]])
+        self.assertEqual(decoded(vx.png(pixels)), decoded(vx.png(pixels[:, :, 0])))
+
+    def test_one_image_into_another(self):
+        image, other = self.context.image_from([[1, 2]]), self.context.image(U8, 2, 1)
+        other.write(image)
+        self.holds(other, [[1, 2]])
+
+
+class TestWithoutNumpy(ProgramTest):
+    def test_one_channel(self):
+        image = self.context.image(S16, 3, 2)
+        shaped = memoryview(array.array("h", range(6))).cast("B").cast("h", [2, 3, 1])
+        with mock.patch.object(samples, "numpy_module", return_value=None):
+            image.write(shaped)
+            self.holds(image, [[0, 1, 2], [3, 4, 5]])
+
+
+class TestNotebooks(ProgramTest):
+    def test_pictures(self):
+        image = self.context.image_from([[1, 2, 3]])
+        for thing in (image, self.context.delay(image, 1)[0]):
+            self.assertEqual(decoded(thing._repr_png_())[:4], (3, 1, 8, 0))
+        self.assertEqual(decoded(self.context.image_from([[1, 256]], S16)._repr_png_())[4],
+                         [b"\0\1\1\0"])
+
+    def test_what_is_no_picture(self):
+        closed = self.context.image(U8, 1, 1)
+        closed.close()
+        for thing in (self.context.image_from([[-1]], S16), self.context.image(U32, 1, 1), closed):
+            self.assertIsNone(thing._repr_png_())
+
+
+class TestCopies(ProgramTest):
+    def test_they_are_refused(self):
+        image, graph = self.context.image_from([[7, 8]]), self.context.graph()
+        things = [image, self.context.delay(image, 2), self.context.delay(image, 2)[0], graph,
+                  graph.virtual_image(),
+                  graph.not_(image, image), self.context.threshold(U8, above=1),
+                  self.context.min_max(), self.context.distribution(2), self.context, self.server,
+                  self.context.pipeline()]
+        with self.context.pipeline() as ahead:
+            things.append(ahead.read(image))
+        for thing in things:
+            for call in (copy.copy, copy.deepcopy, pickle.dumps,
+                         lambda thing: copy.deepcopy([thing])):
+                with self.assertRaisesRegex(TypeError,
+                                            "is on its server, so it is neither copied nor "
+                                            "pickled"):
+                    call(thing)
+        del thing, things
+        # A copy's end would have released it.
+        self.holds(image, [[7, 8]])
+
+    def test_what_may_be_copied(self):
+        for thing in (vx.U8, vx.WRAP, vx.REPLICATE, vx.constant(3),
+                      self.context.image(U8, 1, 1).valid):
+            for again in (copy.copy(thing), copy.deepcopy(thing),
+                          pickle.loads(pickle.dumps(thing))):
+                self.assertEqual(again, thing)
+
+
+class TestManyContexts(ProgramTest):
+    def test_numbers_are_found_without_a_search(self):
+        """So that a thousand contexts take a thousand steps, and no number is had twice."""
+        contexts = [self.server.context() for _ in range(1000)]
+        self.assertEqual({context.number for context in contexts}, set(range(1, 1001)))
+        for context in contexts[::2]:
+            context.close()
+        again = [self.server.context() for _ in range(501)]
+        self.assertEqual({context.number for context in again}, {1001, *range(1, 1001, 2)})
+        steps = []
+        taking = self.server._take_number
+        sys.setprofile(lambda *event: steps.append(event[1]))
+        try:
+            taking()
+        finally:
+            sys.setprofile(None)
+        self.assertLess(len(steps), 20)
+
+    def test_numbers_of_threads(self):
+        found, lock = [], threading.Lock()
+
+        def work():
+            for _ in range(50):
+                with self.server.context() as context:
+                    with lock:
+                        self.assertNotIn(context.number, found)
+                        found.append(context.number)
+                    context.graph()
+                    with lock:
+                        found.remove(context.number)
+
+        threads = [threading.Thread(target=work) for _ in range(4)]
+        for thread in threads:
+            thread.start()
+        for thread in threads:
+            thread.join()
+        self.assertEqual(found, [])
+
+
+if __name__ == "__main__":
+    unittest.main()

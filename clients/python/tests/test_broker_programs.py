@@ -1,0 +1,272 @@
+"""50 programs at once at the broker, some of them hostile, with the vision server: each reply is
+compared with the model's in tools/checks/model.
+
+The program is the one that the environment variable FEQYLDAN_PROGRAM names; without it the tests
+are skipped.
+"""
+
+import contextlib
+import json
+import multiprocessing
+import os
+import random
+import select
+import signal
+import socket
+import struct
+import threading
+import time
+import traceback
+import unittest
+from typing import Callable, List
+
+from broker_tools import CLIENT, LATE, PROGRAM, BrokerTest, Broker, Program
+from feqyldan import wire
+import feqyldan as vx
+
+BAD_LENGTHS = (0, 1, 2, 134_217_729, 4_294_967_295)
+
+
+def well_behaved(path: str, seed: int, _: object) -> None:
+    """Random requests, good and bad, each of whose replies is the model's of this program alone."""
+    from checks.streams.stream import Stream
+    stream = Stream(seed, False)
+    while len(stream.frames) < 150:
+        stream.ask_something(CLIENT)
+    # Another number than the one that the broker gives; the others have it too.
+    with Program(path) as program:
+        if seed % 2:
+            replies = [program.ask(frame) for frame in stream.frames]
+        else:
+            replies = program.ask_ahead(stream.frames)
+    for frame, reply, wanted in zip(stream.frames, replies, stream.replies):
+        if reply != wanted:
+            raise AssertionError(f"{frame.hex(' ')} is answered {reply.hex(' ')} and not "
+                                 f"{wanted.hex(' ')}")
+    if len(replies) != len(stream.frames):
+        raise AssertionError(f"{len(replies)} replies to {len(stream.frames)} requests")
+
+
+def write_of(side: int) -> bytes:
+    return wire.write_image(CLIENT, 1, wire.U8, side, side, bytes(side * side))
+
+
+def half_frame_and_end(path: str, seed: int, is_over: "multiprocessing.Event") -> None:
+    """Again and again, at any byte."""
+    frames = wire.open_context(CLIENT) + wire.create_image(CLIENT, wire.U8, 8, 8) + write_of(8)
+    rng = random.Random(seed)
+    while not is_over.wait(0.02):
+        with contextlib.suppress(BrokenPipeError, ConnectionResetError), Program(path) as program:
+            program.send(frames[: rng.randrange(1, len(frames))])
+
+
+def half_frame_and_wait(path: str, _: int, is_over: "multiprocessing.Event") -> None:
+    """It is ended by the broker's patience; then it comes again."""
+    while not is_over.is_set():
+        with Program(path) as program:
+            program.send(wire.open_context(CLIENT) + write_of(200)[:-1])
+            if program.reply() != wire.reply_frame(CLIENT,
+                                                   wire.OPEN_CONTEXT) or not program.has_ended():
+                raise AssertionError("half a frame was taken")
+
+
+def bad_lengths(path: str, _: int, is_over: "multiprocessing.Event") -> None:
+    while not is_over.is_set():
+        for length in BAD_LENGTHS:
+            with Program(path) as program:
+                program.send(wire.open_context(CLIENT) + struct.pack(">I", length) + bytes(100))
+                opened = program.reply() == wire.reply_frame(CLIENT, wire.OPEN_CONTEXT)
+                if not (opened and program.has_ended()):
+                    raise AssertionError("a bad length was taken")
+        is_over.wait(0.02)
+
+
+def takes_no_replies(path: str, _: int, is_over: "multiprocessing.Event") -> None:
+    """Reads an image again and again and takes none of the replies, until it is ended; then it
+    comes again."""
+    is_first = True
+    while is_first or not is_over.is_set():
+        with contextlib.suppress(BrokenPipeError, ConnectionResetError), Program(path) as program:
+            program.send(wire.open_context(CLIENT) + wire.create_image(CLIENT, wire.U8, 200, 200))
+            program.sock.settimeout(0.1)
+            while is_first or not is_over.is_set():
+                with contextlib.suppress(socket.timeout):
+                    program.sock.send(wire.read_image(CLIENT, 1) * 1000)
+        is_first = False
+
+
+def floods(path: str, _: int, is_over: "multiprocessing.Event") -> None:
+    """Sends as fast as it can, and takes its replies."""
+    with Program(path) as program:
+        program.send(wire.open_context(CLIENT) + wire.create_image(CLIENT, wire.U8, 8, 8))
+        waiting = b""
+        while not is_over.is_set():
+            waiting = waiting or wire.bitwise_not(CLIENT, 1, 1) * 1000
+            readable, writable, _ = select.select([program.sock], [program.sock], [], 0.1)
+            if writable:
+                waiting = waiting[program.sock.send(waiting) :]
+            if readable and not program.sock.recv(65536):
+                raise AssertionError("a flood was ended")
+
+
+def comes_and_goes(path: str, _: int, is_over: "multiprocessing.Event") -> None:
+    """Ends before its replies come, as fast as it can."""
+    while not is_over.is_set():
+        with contextlib.suppress(BrokenPipeError, ConnectionResetError), Program(path) as program:
+            program.send(wire.open_context(CLIENT) + wire.create_image(CLIENT, wire.U8, 8, 8) * 5)
+
+
+def looks_for_others(path: str, seed: int, is_over: "multiprocessing.Event") -> None:
+    """Asks under all numbers for what others may have: it finds nothing, and can release nobody's
+    context."""
+    rng = random.Random(seed)
+    with Program(path) as program:
+        while not is_over.is_set():
+            client, name = rng.choice((rng.randrange(64), rng.randrange(65_536))), rng.randrange(8)
+            asked = rng.choice((
+                wire.read_image(client, name), wire.query_image(client, name),
+                wire.release(client, name), wire.release_context(client)))
+            wanted = wire.reply_frame(client, asked[6], wire.INVALID_REFERENCE)
+            reply = program.ask(asked)
+            if reply != wanted:
+                raise AssertionError(f"{asked.hex(' ')} is answered {reply.hex(' ')}")
+
+
+HOSTILE = {
+    half_frame_and_end: 2, half_frame_and_wait: 2, bad_lengths: 2, takes_no_replies: 2, floods: 3,
+    comes_and_goes: 2, looks_for_others: 1}
+
+
+def run_and_exit(role: Callable, *words: object) -> None:
+    """What a child process does; its status says whether it found a fault."""
+    try:
+        role(*words)
+    except BaseException:  # noqa: B902
+        traceback.print_exc()
+        os._exit(1)
+    os._exit(0)
+
+
+@unittest.skipUnless(PROGRAM, "FEQYLDAN_PROGRAM doesn't name the server's program")
+class ManyPrograms(BrokerTest):
+    """50 programs at once, of which 14 are hostile."""
+
+    def test_each_gets_what_it_would_get_alone(self) -> None:
+        self.serve_all("1")
+
+    def test_each_gets_it_of_several_servers(self) -> None:
+        self.serve_all("4")
+
+    def serve_all(self, servers: str) -> None:
+        # So many that no process can take another's: 36 of one connection, and 14 of at most 4.
+        options = ("--patience", "1", "--connections", "100", "--per-process", "4", "--servers",
+                   servers)
+        broker = self.begin(*options, command=[str(PROGRAM), "serve"])
+        processes = multiprocessing.get_context("fork")
+        is_over = processes.Event()
+        roles = [role for role, count in HOSTILE.items() for _ in range(count)]
+        hostile = [processes.Process(target=run_and_exit, args=(role, broker.path, seed, is_over))
+                   for seed, role in enumerate(roles)]
+        honest = [processes.Process(target=run_and_exit,
+                                    args=(well_behaved, broker.path, seed, is_over))
+                  for seed in range(50 - len(hostile))]
+        start = time.monotonic()
+        for process in hostile + honest:
+            process.start()
+        end = time.monotonic() + LATE
+        for process in honest:
+            process.join(max(0.0, end - time.monotonic()))
+        unfinished = [process for process in honest if process.exitcode is None]
+        took = time.monotonic() - start
+        is_over.set()
+        for process in hostile:
+            process.join(8)
+        for process in hostile + honest:
+            if process.exitcode is None:
+                process.kill()
+                process.join()
+        self.assertEqual(len(unfinished), 0, f"of {len(honest)} after {took:.1f} s")
+        self.assertEqual([process.exitcode for process in honest], [0] * len(honest))
+        self.assertEqual({role.__name__
+                          for role, process in zip(roles, hostile) if process.exitcode}, set())
+        self.check_after(broker)
+
+    def check_after(self, broker: Broker) -> None:
+        """All contexts are released: a newcomer has none, whatever number it gets."""
+        for _ in range(100):
+            with broker.program() as program:
+                self.assertEqual(wire.code_of(program.ask(wire.read_image(CLIENT, 1))),
+                                 wire.INVALID_REFERENCE)
+                self.assertEqual(wire.code_of(program.ask(wire.open_context(CLIENT))), wire.SUCCESS)
+        self.assertEqual(broker.stop(), 0)
+
+
+@unittest.skipUnless(PROGRAM, "FEQYLDAN_PROGRAM doesn't name the server's program")
+class ThePackage(BrokerTest):
+    """The package's own connections to the broker."""
+
+    def test_connect_waits_for_a_broker_that_begins(self) -> None:
+        broker = self.begin(command=[str(PROGRAM), "serve"])
+        path = broker.path
+        self.assertEqual(broker.stop(), 0)
+        with self.assertRaises(FileNotFoundError):
+            vx.connect(path)
+        found: List[vx.Context] = []
+        waiting = threading.Thread(target=lambda: found.append(vx.connect(path,
+                                                                          retry=LATE).context()))
+        waiting.start()
+        time.sleep(0.5)
+        self.assertEqual(found, [])
+        again = self.begin(command=[str(PROGRAM), "serve"], path=path)
+        waiting.join(LATE)
+        self.assertEqual(found[0].image(vx.U8, 2, 1).read_bytes(), bytes(2))
+        found[0].close()
+        self.assertEqual(again.stop(), 0)
+
+    def test_a_context_that_is_built_again(self) -> None:
+        broker = self.begin(command=[str(PROGRAM), "serve"], tells_state=True)
+        ends, sums = 0, []
+        while len(sums) < 4:
+            try:
+                with vx.connect(broker.path, retry=LATE) as server, server.context() as context:
+                    image = context.image(vx.U8, 2, 2)
+                    while len(sums) < 4:
+                        image.write(bytes([len(sums)] * 4))
+                        sums.append(sum(image.read_bytes()))
+                        if len(sums) == 2 and not ends:
+                            self.kill_server(broker)
+            except vx.ServerEnded:
+                ends += 1
+        self.assertEqual((ends, sums), (1, [0, 4, 8, 12]))
+
+    def kill_server(self, broker: Broker) -> None:
+        with socket.socket(socket.AF_UNIX, socket.SOCK_STREAM) as sock:
+            sock.connect(broker.status_path)
+            sock.sendall(b"\n")
+            os.kill(json.loads(sock.recv(65536))["servers"][0]["process"], signal.SIGKILL)
+
+    def test_who_is_turned_away_is_told_why(self) -> None:
+        broker = self.begin("--connections", "1", command=[str(PROGRAM), "serve"])
+        with vx.connect(broker.path) as server, server.context() as context:
+            context.image(vx.U8, 1, 1)
+            with self.assertRaises(vx.NoResources) as caught:
+                server.context()
+            self.assertIn("--connections", str(caught.exception))
+
+    def test_contexts_of_one_program_and_the_server_s_end(self) -> None:
+        broker = self.begin(command=[str(PROGRAM), "serve"])
+        with self.assertRaises(vx.ServerEnded), vx.connect(broker.path) as server:
+            pictures = []
+            for sample in (10, 20):
+                context = server.context()
+                source, target = context.image(vx.U8, 4, 2), context.image(vx.U8, 4, 2)
+                source.write(bytes([sample] * 8))
+                context.vxu.not_(source, target)
+                pictures.append(target.read_bytes())
+            self.assertEqual(pictures, [bytes([245] * 8), bytes([235] * 8)])
+            self.assertEqual(broker.stop(), 0)
+            context.image(vx.U8, 1, 1)
+
+
+if __name__ == "__main__":
+    unittest.main()

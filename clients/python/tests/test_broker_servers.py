@@ -1,0 +1,432 @@
+"""The broker's servers, how it begins and ends, and what it tells an operator: with a plain server
+(plain_server.py), and where the environment variable FEQYLDAN_PROGRAM has the path of the server's
+program with that."""
+
+import json
+import os
+import re
+import signal
+import socket
+import stat
+import struct
+import subprocess
+import sys
+import tempfile
+import time
+import unittest
+from typing import Any, Dict
+
+from broker_tools import (
+    CLIENT, LATE, PACKAGE, PLAIN, PROGRAM, Broker, BrokerTest, Program, plain, success)
+from feqyldan import wire
+from feqyldan.broker.command_line import memory_each
+from plain_server import EXIT, MANY_BYTES, MISTAKE, WAIT, WHO_ASKED
+
+needs_program = unittest.skipUnless(PROGRAM, "FEQYLDAN_PROGRAM doesn't name the server's program")
+
+
+def state_of(broker: Broker) -> Dict[str, Any]:
+    """What the broker's status socket tells."""
+    with socket.socket(socket.AF_UNIX, socket.SOCK_STREAM) as sock:
+        sock.settimeout(LATE)
+        sock.connect(broker.status_path)
+        sock.shutdown(socket.SHUT_WR)
+        return dict(json.loads(all_of(sock)))
+
+
+def all_of(sock: socket.socket) -> bytes:
+    got = b""
+    while True:
+        data = sock.recv(65536)
+        if not data:
+            return got
+        got += data
+
+
+class TheServer(BrokerTest):
+    """A server's end is that of its connections alone."""
+
+    def test_its_end_is_told_to_its_connections_and_another_begins(self) -> None:
+        broker = self.begin()
+        for status in (0, 3):
+            programs = [self.connect(broker) for _ in range(3)]
+            for program in programs:
+                self.assertEqual(program.ask(plain(1)), success(1))
+            programs[0].send(plain(EXIT, bytes([status])))
+            self.assertTrue(all(program.has_ended() for program in programs))
+            self.assertTrue(broker.says(f"has ended with status {status}"))
+        self.assertEqual(self.connect(broker).ask(plain(1)), success(1))
+        self.assertEqual(broker.stop(), 0)
+        self.assertFalse(os.path.exists(broker.path))
+
+    def test_its_end_is_nobody_else_s(self) -> None:
+        broker = self.begin("--servers", "3")
+        programs = [self.connect(broker) for _ in range(6)]
+        for program in programs:
+            self.assertEqual(program.ask(plain(1)), success(1))
+        programs[1].send(plain(EXIT, b"\3"))
+        self.assertTrue(programs[1].has_ended() and programs[4].has_ended())
+        for k in (0, 2, 3, 5):
+            self.assertEqual(programs[k].ask(plain(50)), success(50))
+        # The new one has no connection yet, so it gets the next two.
+        newcomers = [self.connect(broker) for _ in range(2)]
+        self.assertTrue(broker.says("has ended with status 3"))
+        self.assertEqual([program.ask(plain(1)) for program in newcomers], [success(1)] * 2)
+        self.assertEqual([op for _, op in newcomers[0].who_asked()], [1, 1, WHO_ASKED])
+
+    def test_replies_that_came_before_its_end_are_sent(self) -> None:
+        broker = self.begin()
+        program, other = self.connect(broker), self.connect(broker)
+        program.send(plain(MANY_BYTES, struct.pack(">I", 3_000_000)))
+        time.sleep(0.5)
+        other.send(plain(EXIT, b"\3"))
+        self.assertTrue(other.has_ended())
+        self.assertEqual(program.reply(), success(MANY_BYTES, bytes(3_000_000)))
+        self.assertTrue(program.has_ended())
+
+    def test_connections_go_to_the_server_with_the_fewest(self) -> None:
+        broker = self.begin("--servers", "4")
+        programs = [self.connect(broker) for _ in range(8)]
+        for program in programs:
+            self.assertEqual(program.ask(plain(1)), success(1))
+        opened = [[client for client, op in program.who_asked() if op == 1] for program in programs]
+        self.assertEqual(opened, [[k % 4, k % 4 + 4] for k in range(8)])
+
+    def test_servers_that_cant_be_kept_up_are_the_broker_s_end(self) -> None:
+        broker = self.begin("--servers", "2", command=["/bin/sh", "-c", "exit 7"])
+        self.assertEqual(broker.status(), 7)
+        self.assertIn("has ended with status 7", broker.words())
+
+    def test_new_servers_by_a_signal(self) -> None:
+        broker = self.begin("--servers", "2")
+        before = [self.connect(broker) for _ in range(2)]
+        for program in before:
+            self.assertEqual(program.ask(plain(1)), success(1))
+        broker.process.send_signal(signal.SIGHUP)
+        self.assertTrue(broker.says("by SIGHUP"))
+        after = self.connect(broker)
+        self.assertEqual(after.ask(plain(51)), success(51))
+        self.assertEqual([op for _, op in after.who_asked()], [51, WHO_ASKED])
+        # The ones before go on, and end with their last connection.
+        for program in before:
+            self.assertEqual([op for _, op in program.who_asked()], [1, WHO_ASKED])
+        self.assertEqual(self.servers_of(broker), 4)
+        for program in before:
+            program.sock.close()
+        self.assertTrue(broker.wait_for(lambda: self.servers_of(broker) == 2))
+        self.assertNotIn("has ended", broker.words())
+        self.assertEqual(after.ask(plain(51)), success(51))
+        self.assertEqual(broker.stop(), 0)
+
+    def test_a_new_program_that_cant_run_is_not_the_old_one_s_end(self) -> None:
+        with tempfile.TemporaryDirectory() as folder:
+            path = os.path.join(folder, "program")
+            self.write_script(path, f'exec {" ".join(PLAIN)}')
+            broker = self.begin("--servers", "2", command=[path])
+            program = self.connect(broker)
+            self.assertEqual(program.ask(plain(1)), success(1))
+            self.write_script(path, "exit 7")
+            broker.process.send_signal(signal.SIGHUP)
+            self.assertTrue(
+                broker.wait_for(lambda: broker.words().count("has ended with status 7") >= 3))
+            self.assertEqual(program.ask(plain(50)), success(50))
+            other = self.connect(broker)
+            self.assertEqual(other.ask(plain(50)), success(50))
+            self.write_script(path, f'exec {" ".join(PLAIN)}')
+            self.assertTrue(broker.wait_for(lambda: self.servers_of(broker) == 2))
+            self.assertEqual(program.ask(plain(50)), success(50))
+            self.assertEqual(broker.stop(), 0)
+
+    def write_script(self, path: str, words: str) -> None:
+        with open(path + ".new", "w") as file:
+            file.write(f"#!/bin/sh\n{words}\n")
+        os.chmod(path + ".new", 0o755)
+        os.replace(path + ".new", path)
+
+    def servers_of(self, broker: Broker) -> int:
+        pid = broker.process.pid
+        with open(f"/proc/{pid}/task/{pid}/children") as children:
+            return len(children.read().split())
+
+    def test_one_that_a_signal_ends(self) -> None:
+        broker = self.begin(command=["/bin/sh", "-c", "kill -9 $$"])
+        self.assertEqual(broker.status(), 128 + 9)
+
+    def test_one_that_answers_another_client_is_ended(self) -> None:
+        broker = self.begin()
+        program, other = self.connect(broker), self.connect(broker)
+        self.assertEqual(other.ask(plain(1)), success(1))
+        program.send(plain(MISTAKE))
+        self.assertTrue(program.has_ended() and other.has_ended())
+        self.assertTrue(broker.says("a reply to another request than the next"))
+        self.assertEqual(self.connect(broker).ask(plain(1)), success(1))
+
+    def test_one_that_writes_unasked_is_ended(self) -> None:
+        broker = self.begin(command=["/bin/sh", "-c",
+                                     "printf '\\0\\0\\0\\4\\0\\0\\1\\0'; cat >/dev/null"])
+        self.assertNotEqual(broker.status(), 0)
+        self.assertIn("a reply that nobody is owed", broker.words())
+
+    def test_one_that_reads_no_more(self) -> None:
+        broker = self.begin(command=["/bin/sh", "-c", "exec 0<&-; sleep 0.5"])
+        program = self.connect(broker)
+        program.send(plain(1))
+        self.assertTrue(program.has_ended())
+        self.assertEqual(broker.status(), 1)
+
+    def test_signals_end_it_after_what_was_asked(self) -> None:
+        for which in (signal.SIGTERM, signal.SIGINT):
+            broker = self.begin()
+            busy, idle = self.connect(broker), self.connect(broker)
+            self.assertEqual(idle.ask(plain(1)), success(1))
+            busy.send(plain(WAIT, struct.pack(">H", 300)) + plain(50))
+            time.sleep(0.1)
+            broker.process.send_signal(which)
+            self.assertEqual(busy.reply(), success(WAIT))
+            self.assertTrue(busy.has_ended() and idle.has_ended())
+            self.assertEqual(broker.status(), 0)
+            self.assertFalse(os.path.exists(broker.path))
+
+    def test_a_frame_that_is_half_written_is_ended_whole(self) -> None:
+        broker = self.begin(command=["/bin/sh", "-c", 'sleep 0.7; exec "$@"', "sh", *PLAIN])
+        great = self.connect(broker)
+        great.send(plain(50, bytes(5_000_000)))
+        time.sleep(0.2)
+        self.assertEqual(broker.stop(), 0)
+        self.assertEqual(great.reply(), success(50))
+
+    def test_it_ends_in_time_beside_a_long_request(self) -> None:
+        for command in (PLAIN, ["/bin/sh", "-c", "trap '' TERM; sleep 1000 & wait; sleep 1000"]):
+            broker = self.begin("--grace", "1", "--servers", "2", command=command)
+            busy, other = self.connect(broker), self.connect(broker)
+            busy.send(plain(WAIT, struct.pack(">H", 60_000)))
+            other.send(plain(50))
+            time.sleep(0.2)
+            start = time.monotonic()
+            self.assertEqual(broker.stop(), 0)
+            self.assertLess(time.monotonic() - start, 6)
+            self.assertIn("is killed: its request takes longer than 1 s", broker.words())
+            self.assertTrue(busy.has_ended())
+
+    def test_a_second_signal_ends_it_at_once(self) -> None:
+        broker = self.begin("--grace", "60")
+        self.connect(broker).send(plain(WAIT, struct.pack(">H", 60_000)))
+        time.sleep(0.2)
+        for _ in range(2):
+            broker.process.send_signal(signal.SIGINT)
+            time.sleep(0.2)
+        start = time.monotonic()
+        self.assertEqual(broker.status(), 0)
+        self.assertLess(time.monotonic() - start, 6)
+
+
+class Memory(BrokerTest):
+    """A server under a limit answers NO_MEMORY, and lives."""
+
+    LIMIT = 100_000_000
+
+    @needs_program
+    def test_a_server_under_a_limit(self) -> None:
+        command = [str(PROGRAM), "serve"]
+        broker = self.begin("--memory", str(self.LIMIT), "--servers", "2", command=command,
+                            tells_state=True)
+        great, other = self.connect(broker), self.connect(broker)
+        for program in (great, other):
+            self.assertEqual(wire.code_of(program.ask(wire.open_context(CLIENT))), wire.SUCCESS)
+            self.assertEqual(wire.code_of(program.ask(wire.create_image(CLIENT, wire.U8, 8, 8))),
+                             wire.SUCCESS)
+        codes = [wire.code_of(great.ask(wire.create_image(CLIENT, wire.U8, 4096, 4096)))
+                 for _ in range(12)]
+        self.assertEqual({*codes}, {wire.SUCCESS, wire.NO_MEMORY})
+        # What was there before still is, and there is memory for what is small.
+        for program in (great, other):
+            self.assertEqual(program.ask(wire.read_image(CLIENT, 1))[13:], bytes(64))
+            self.assertEqual(wire.code_of(program.ask(wire.create_image(CLIENT, wire.U8, 8, 8))),
+                             wire.SUCCESS)
+        state = state_of(broker)
+        self.assertEqual(state["refusals"], {"NO_MEMORY": codes.count(wire.NO_MEMORY)})
+        for server in state["servers"]:
+            self.assertTrue(0 < server["memory_bytes"] <= server["peak_memory_bytes"] <= self.LIMIT)
+        self.assertEqual(broker.stop(), 0)
+
+    def test_each_server_has_the_limit(self) -> None:
+        unless_told = str(memory_each(1))
+        for words, limit in ((["--memory", "123456789"], "123456789"),
+                             (["--memory", "unlimited"], "unlimited"),
+                             ([], unless_told)):
+            broker = self.begin(*words, tells_state=True)
+            server, = state_of(broker)["servers"]
+            with open(f"/proc/{server['process']}/limits") as limits:
+                line = next(line for line in limits if line.startswith("Max address space"))
+            self.assertEqual(line.split()[3], limit)
+
+
+class Status(BrokerTest):
+    """What an operator is told."""
+
+    def test_the_state(self) -> None:
+        broker = self.begin("--servers", "2", tells_state=True)
+        self.assertEqual(stat.S_IMODE(os.lstat(broker.status_path).st_mode), 0o600)
+        program, other = self.connect(broker), self.connect(broker)
+        self.assertEqual(program.ask(plain(1)), success(1))
+        self.assertEqual(other.ask(plain(50, bytes(93))), success(50))
+        other.sock.close()
+        self.assertTrue(broker.wait_for(lambda: state_of(broker)["connections"]["open"] == 1))
+        program.send(plain(WAIT, struct.pack(">H", 400)))
+        time.sleep(0.2)
+        state = state_of(broker)
+        self.assertEqual(state["connections"],
+                         {"open": 1, "releasing": 0, "accepted": 2, "turned_away": 0})
+        # What the broker asks itself, as the release of a context, isn't among them.
+        self.assertEqual((state["requests"], state["bytes_in"], state["bytes_out"]),
+                         (2, 7 + 100 + 9, 16))
+        self.assertEqual([server["connections"] for server in state["servers"]], [1, 0])
+        self.assertGreater(state["servers"][0]["busy_seconds"], 0.05)
+        self.assertEqual(program.reply(), success(WAIT))
+        self.assertGreater(state_of(broker)["longest_request_seconds"], 0.3)
+        self.assertEqual(broker.stop(), 0)
+        self.assertFalse(os.path.exists(broker.status_path))
+
+    def test_pages(self) -> None:
+        broker = self.begin(tells_state=True)
+        self.assertEqual(self.connect(broker).ask(plain(1)), success(1))
+        head, _, body = self.page(broker, "/metrics").partition("\r\n\r\n")
+        self.assertTrue(head.startswith("HTTP/1.0 200 OK\r\n"), head)
+        self.assertIn("\nfeqyldan_requests_total 1\n", body)
+        self.assertIn("\n# TYPE feqyldan_requests_total counter\n", body)
+        self.assertRegex(body, r'\nfeqyldan_server_memory_bytes\{process="\d+"\} [1-9]\d*\n')
+        head, _, body = self.page(broker, "/status").partition("\r\n\r\n")
+        self.assertEqual(json.loads(body)["requests"], 1)
+        self.assertTrue(self.page(broker, "/other").startswith("HTTP/1.0 404 "))
+
+    def page(self, broker: Broker, path: str) -> str:
+        with socket.socket(socket.AF_UNIX, socket.SOCK_STREAM) as sock:
+            sock.settimeout(LATE)
+            sock.connect(broker.status_path)
+            sock.sendall(f"GET {path} HTTP/1.1\r\nHost: here\r\n\r\n".encode())
+            return all_of(sock).decode()
+
+    def test_who_asks_and_says_nothing_is_ended(self) -> None:
+        broker = self.begin(tells_state=True)
+        silent = []
+        for _ in range(70):
+            sock = socket.socket(socket.AF_UNIX, socket.SOCK_STREAM)
+            self.addCleanup(sock.close)
+            sock.connect(broker.status_path)
+            sock.settimeout(LATE)
+            silent.append(sock)
+        self.assertEqual(state_of(broker)["requests"], 0)
+        self.assertEqual({sock.recv(1) for sock in silent}, {b""})
+
+    def test_lines_say_who_and_how_much(self) -> None:
+        broker = self.begin("--report", "1")
+        program = self.connect(broker)
+        self.assertEqual(program.ask(plain(1)), success(1))
+        program.send(b"\0\0\0\0")
+        owner = f"process {os.getpid()} of user {os.getuid()}"
+        self.assertTrue(broker.says(f"connection 0 of {owner} is ended: bad length"))
+        # One line or two tell it, by when they come.
+        told = (("accepted", 1), ("requests", 1), ("bytes in", 7), ("bytes out", 8))
+        for words, count in told:
+            self.assertTrue(broker.wait_for(lambda: sum(map(
+                int, re.findall(rf"(\d+) {words}", broker.words()))) == count),
+                            (words, broker.words()))
+
+
+class Beginning(BrokerTest):
+    """The socket's file, the command line, and what a service manager is told."""
+
+    def test_the_socket_is_its_owner_s_alone_unless_asked(self) -> None:
+        for options, mode in (((), 0o600), (("--mode", "0660"), 0o660), (("--mode", "666"), 0o666)):
+            broker = self.begin(*options)
+            status = os.lstat(broker.path)
+            self.assertTrue(stat.S_ISSOCK(status.st_mode))
+            self.assertEqual(stat.S_IMODE(status.st_mode), mode)
+
+    def test_a_file_that_a_broker_left_is_replaced(self) -> None:
+        broker = self.begin()
+        server_ended = self.connect(broker)
+        broker.process.kill()
+        broker.process.wait()
+        self.assertTrue(server_ended.has_ended())
+        self.assertTrue(os.path.exists(broker.path))
+        again = self.begin(path=broker.path)
+        self.assertEqual(self.connect(again).ask(plain(50)), success(50))
+
+    def test_a_socket_that_is_used_is_not(self) -> None:
+        broker = self.begin()
+        other = self.begin_any(path=broker.path)
+        self.assertEqual(other.status(), 2)
+        self.assertIn("another program listens", other.words())
+        self.assertEqual(self.connect(broker).ask(plain(50)), success(50))
+
+    def test_another_file_is_not(self) -> None:
+        with tempfile.NamedTemporaryFile() as file:
+            broker = self.begin_any(path=file.name)
+            self.assertEqual(broker.status(), 2)
+            self.assertIn("is no socket", broker.words())
+            self.assertTrue(os.path.exists(file.name))
+
+    def test_what_cant_begin_ends_with_status_2(self) -> None:
+        wrong = (
+            ("--mode", "0800"), ("--mode", "1777"), ("--connections", "0"),
+            ("--connections", "65537"), ("--bytes-held", "-1"), ("--bytes-held", "134217733"),
+            ("--patience", "0"), ("--patience", "nan"), ("--servers", "0"), ("--memory", "1000"),
+            ("--grace", "0"), ("--idle", "0"), ("--per-user", "0"),
+            ("--status", "/no/such/folder/socket"))
+        for options in (*wrong, ("--no-such-option",)):
+            with self.subTest(options=options):
+                self.assertEqual(self.begin_any(*options).status(), 2)
+        self.assertEqual(self.begin_any(command=["/no/such/program"]).status(), 2)
+        self.assertEqual(self.begin_any("--servers", "3", command=["/no/such/program"]).status(), 2)
+        self.assertEqual(self.begin_any(path="/no/such/folder/socket").status(), 2)
+        self.assertEqual(self.begin_any(path="/tmp/" + "x" * 200).status(), 2)
+
+    def test_a_service_manager_is_told_when_it_listens(self) -> None:
+        with tempfile.TemporaryDirectory() as folder, socket.socket(socket.AF_UNIX,
+                                                                    socket.SOCK_DGRAM) as manager:
+            manager.bind(os.path.join(folder, "notify"))
+            manager.settimeout(LATE)
+            self.begin(environment={"NOTIFY_SOCKET": os.path.join(folder, "notify")})
+            self.assertEqual(manager.recv(100), b"READY=1")
+
+    def test_a_socket_that_is_handed_over(self) -> None:
+        with tempfile.TemporaryDirectory() as folder, socket.socket(socket.AF_UNIX,
+                                                                    socket.SOCK_STREAM) as held:
+            path = os.path.join(folder, "socket")
+            held.bind(path)
+            held.listen(5)
+            for _ in range(2):
+                # Who connects while there is no broker waits for the next one.
+                program = Program(path)
+                self.addCleanup(program.sock.close)
+                program.send(plain(50))
+                broker = self.hand_over(held)
+                self.assertEqual(program.reply(), success(50))
+                broker.terminate()
+                self.assertEqual(broker.wait(LATE), 0)
+                self.assertTrue(program.has_ended())
+                self.assertTrue(os.path.exists(path))
+
+    def hand_over(self, held: socket.socket) -> "subprocess.Popen[bytes]":
+        """A broker with a socket as its descriptor 3, as a service manager starts it."""
+        script = f'exec 3<&{held.fileno()}; LISTEN_FDS=1 LISTEN_PID=$$ exec "$@"'
+        words = [sys.executable, "-m", "feqyldan.broker", "--servers", "1", "--", *PLAIN]
+        process = subprocess.Popen(["/bin/bash", "-c", script, "sh", *words],
+                                   pass_fds=[held.fileno()],
+                                   stderr=subprocess.DEVNULL,
+                                   env={**os.environ, "PYTHONPATH": PACKAGE})
+        self.addCleanup(process.wait)
+        self.addCleanup(process.kill)
+        return process
+
+    def test_where_to_listen_has_to_be_told(self) -> None:
+        words = [sys.executable, "-m", "feqyldan.broker", "--", *PLAIN]
+        ended = subprocess.run(words, stderr=subprocess.PIPE,
+                               env={**os.environ, "PYTHONPATH": PACKAGE}, timeout=LATE)
+        self.assertEqual(ended.returncode, 2)
+        self.assertIn(b"--socket", ended.stderr)
+
+
+if __name__ == "__main__":
+    unittest.main()

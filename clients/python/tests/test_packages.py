@@ -1,0 +1,245 @@
+"""The packages that tools/package builds, installed where nothing else is: the first program runs,
+and their removal leaves nothing. And versions, which agree everywhere."""
+
+import gzip
+import os
+import re
+import shutil
+import subprocess
+import sys
+import tempfile
+import unittest
+
+from program import PROGRAM, TOOLS, vx
+from feqyldan import program
+from feqyldan.broker import command_line
+from test_packaging import files_of, missing
+
+ROOT = os.path.realpath(os.path.join(TOOLS, ".."))
+FIRST = os.path.join(ROOT, "examples", "first.py")
+# What these tests need that not every machine has.
+ABSENT = [*missing("pip", "setuptools", "wheel", "venv"),
+          *(name for name in ("dpkg", "dpkg-deb") if shutil.which(name) is None),
+          *(["FEQYLDAN_PROGRAM"] * (not PROGRAM))]
+
+
+def text_of(*path):
+    with open(os.path.join(ROOT, *path), encoding="utf-8") as file:
+        return file.read()
+
+
+def folder_for(test):
+    folder = tempfile.TemporaryDirectory()
+    test.addCleanup(folder.cleanup)
+    return folder.name
+
+
+class TestVersions(unittest.TestCase):
+    def test_the_tree_has_one(self):
+        said = text_of("crates", "vx_main", "src", "command_line.rt")
+        self.assertEqual(re.search(r'VERSION: &str = "(.*)";', said)[1], vx.__version__)
+        self.assertEqual(re.search(r"\d+\.\d+\.\d+", text_of("CHANGELOG.md"))[0], vx.__version__)
+
+
+class TestStarter(unittest.TestCase):
+    def setUp(self):
+        self.folder = folder_for(self)
+        self.cpuinfo = os.path.join(self.folder, "cpuinfo")
+        self.starter = self.put("bin/feqyldan", text_of("deploy", "starter").replace(
+            "/proc/cpuinfo", self.cpuinfo))
+        for name in (program.PLAIN, program.FASTER):
+            self.put(f"lib/feqyldan/{name}", f"#!/bin/sh\nprintf '<%s>' {name} \"$@\"\nexit 3\n")
+
+    def put(self, name, text):
+        path = os.path.join(self.folder, name)
+        os.makedirs(os.path.dirname(path), exist_ok=True)
+        with open(path, "w", encoding="utf-8") as file:
+            file.write(text)
+        os.chmod(path, 0o755)
+        return path
+
+    def started(self, *processors, starter=None, words=()):
+        """Which program is started where the processors have these flags."""
+        self.put("cpuinfo", "".join(f"processor\t: 0\nflags\t\t: {' '.join(sorted(flags))}\n\n"
+                                    for flags in processors))
+        run = subprocess.run([starter or self.starter, *words], stdout=subprocess.PIPE, text=True,
+                             check=False)
+        self.assertEqual(run.returncode, 3)
+        return re.findall("<(.*?)>", run.stdout, re.DOTALL)
+
+    def test_the_rule_is_that_of_the_python_package(self):
+        every = program.FASTER_FLAGS | {"sse2", "avx512f"}
+        self.assertEqual(self.started(every, every), [program.FASTER])
+        self.assertEqual(self.started(), [program.PLAIN])
+        for flag in program.FASTER_FLAGS:
+            self.assertEqual(self.started(every, every - {flag} | {flag + "_"}), [program.PLAIN])
+
+    def test_words_pass_through(self):
+        words = ("serve", "--quota", "", "two words", "*", "line\nline")
+        self.assertEqual(self.started(set(), words=words), [program.PLAIN, *words])
+
+    def test_by_another_name(self):
+        link = os.path.join(self.folder, "link")
+        os.symlink(self.starter, link)
+        self.assertEqual(self.started(set(), starter=link), [program.PLAIN])
+
+
+@unittest.skipIf(ABSENT, f"not there: {', '.join(ABSENT)}")
+class TestPackages(unittest.TestCase):
+    @classmethod
+    def setUpClass(cls):
+        folder = tempfile.TemporaryDirectory()
+        cls.addClassCleanup(folder.cleanup)
+        cls.wheel, cls.debian = cls.packages(folder.name)
+
+    @staticmethod
+    def packages(folder):
+        """Their paths. The program of these tests stands for both kinds."""
+        run = subprocess.run([sys.executable, os.path.join(TOOLS, "package"), folder,
+                              f"--default={PROGRAM}", f"--x86-64-v3={PROGRAM}"],
+                             stdout=subprocess.PIPE, text=True, check=True)
+        return run.stdout.splitlines()
+
+    def setUp(self):
+        self.folder = folder_for(self)
+        self.root = os.path.join(self.folder, "root")
+        # Nothing of the checkout is found by these.
+        self.environment = {"PATH": "/usr/bin:/bin:/usr/sbin:/sbin", "HOME": self.folder,
+                            "PYTHONDONTWRITEBYTECODE": "1"}
+
+    def run_there(self, *words):
+        run = subprocess.run(words, cwd=self.folder, env=self.environment, timeout=120,
+                             stdin=subprocess.DEVNULL, stdout=subprocess.PIPE,
+                             stderr=subprocess.STDOUT, text=True, check=False)
+        self.assertEqual(run.returncode, 0, run.stdout)
+        return run.stdout
+
+    def unpack(self):
+        """The package for Debian in a folder of its own, found before all else."""
+        self.run_there("dpkg", "-x", self.debian, self.root)
+        self.environment["PATH"] = f"{self.root}/usr/bin:{self.environment['PATH']}"
+        self.environment["PYTHONPATH"] = f"{self.root}/usr/lib/python3/dist-packages"
+
+    def first_program_runs(self, python, found):
+        """The first program draws its picture, with the server that is at this path."""
+        shutil.copy(FIRST, self.folder)
+        self.run_there(python, "first.py")
+        with open(os.path.join(self.folder, "outlines.png"), "rb") as file:
+            self.assertEqual(file.read(8), b"\x89PNG\r\n\x1a\n")
+        where = self.run_there(python, "-c", "from feqyldan.program import find; print(find())")
+        self.assertEqual(where.strip(), found)
+
+    def test_the_wheel(self):
+        venv = os.path.join(self.folder, "venv")
+        self.run_there(sys.executable, "-m", "venv", "--system-site-packages", "--without-pip",
+                       venv)
+        python, before = os.path.join(venv, "bin", "python"), files_of(venv)
+        self.run_there(python, "-m", "pip", "install", "--no-index", self.wheel)
+        where = self.run_there(python, "-c", "import feqyldan; print(feqyldan.__path__[0])").strip()
+        self.assertTrue(where.startswith(venv), where)
+        names = {os.path.basename(path) for path in program.built()}
+        faster = program.FASTER if program.FASTER in names else program.PLAIN
+        self.first_program_runs(python, os.path.join(where, "programs", faster))
+        self.run_there(python, "-m", "pip", "uninstall", "--yes", "feqyldan")
+        self.assertEqual(files_of(venv), before)
+
+    def test_the_first_program_with_the_debian_package(self):
+        self.unpack()
+        self.first_program_runs(sys.executable, f"{self.root}/usr/bin/feqyldan")
+        documents = f"{self.root}/usr/share/doc/feqyldan"
+        for name in ("README.md", "copyright", "changelog.gz", "docs/wire.md", "examples/first.py"):
+            self.assertTrue(os.path.isfile(os.path.join(documents, name)), name)
+
+    def test_the_broker_of_the_debian_package(self):
+        self.unpack()
+        socket = os.path.join(self.folder, "socket")
+        broker = subprocess.Popen(
+            [sys.executable, f"{self.root}/usr/bin/feqyldan-broker", "--servers", "1", "--socket",
+             socket, "--", "feqyldan", "serve"], env=self.environment, stderr=subprocess.PIPE)
+        try:
+            with vx.connect(socket, retry=30) as server, server.context() as context:
+                self.assertEqual(context.image_from([[1, 2]]).read().tolist(), [[1, 2]])
+        finally:
+            broker.terminate()
+            said = broker.communicate(timeout=30)[1]
+        self.assertEqual(broker.returncode, 0, said)
+
+    def test_the_service_names_what_the_package_has(self):
+        self.unpack()
+        units = f"{self.root}/usr/lib/systemd/system"
+        with open(os.path.join(units, "feqyldan.service"), encoding="utf-8") as file:
+            service = file.read()
+        self.assertIn("-- /usr/bin/feqyldan serve", service)
+        self.assertNotIn("/opt", service)
+        self.assertTrue(os.path.isfile(os.path.join(units, "feqyldan.socket")))
+
+    @unittest.skipIf(os.geteuid(), "dpkg installs for root alone")
+    def test_an_install_and_a_purge(self):
+        kept = os.path.join(self.root, "var", "lib", "dpkg")
+        for name in ("info", "updates", "triggers"):
+            os.makedirs(os.path.join(kept, name))
+        for name in ("status", "available"):
+            with open(os.path.join(kept, name), "w", encoding="utf-8"):
+                pass
+        dpkg = ("dpkg", f"--root={self.root}", f"--log={self.folder}/log",
+                "--force-script-chrootless", "--force-depends")
+        self.run_there(*dpkg, "--install", self.debian)
+        library = os.path.join(self.root, "usr/lib/python3/dist-packages/feqyldan")
+        # What Python would have left there.
+        os.mkdir(os.path.join(library, "__pycache__"))
+        self.run_there(*dpkg, "--purge", "feqyldan")
+        self.assertEqual(os.listdir(self.root), ["var"])
+        self.assertEqual(os.listdir(os.path.join(self.root, "var")), ["lib"])
+        self.assertFalse([path for path in files_of(kept) if "feqyldan" in path])
+
+    def test_versions_agree(self):
+        self.assertEqual(self.run_there(PROGRAM, "--version").split()[1], vx.__version__)
+        said = self.run_there("dpkg-deb", "--field", self.debian, "Version")
+        self.assertEqual(said.strip(), vx.__version__)
+        for path in (self.wheel, self.debian):
+            self.assertRegex(os.path.basename(path), rf"^feqyldan[-_]{vx.__version__}[-_]")
+        self.unpack()
+        for name in ("feqyldan.1", "feqyldan-broker.1"):
+            self.assertIn(f'"feqyldan {vx.__version__}"', self.manual(name))
+        library = f"{self.root}/usr/lib/pkgconfig/feqyldan.pc"
+        if os.path.exists(library):
+            with open(library, encoding="utf-8") as file:
+                self.assertIn(f"Version: {vx.__version__}\n", file.read())
+
+    def manual(self, name):
+        path = f"{self.root}/usr/share/man/man1/{name}.gz"
+        with gzip.open(path, "rt", encoding="utf-8") as file:
+            return file.read().replace("\\-", "-")
+
+    def test_the_manual_pages_have_every_option(self):
+        self.unpack()
+        helps = [self.run_there(PROGRAM, *words, "--help")
+                 for words in ((), ("serve",), ("apply",))]
+        options = {"feqyldan.1": re.findall("--[a-z]+", "".join(helps)),
+                   "feqyldan-broker.1": re.findall(r"^  (?:-h, )?(--[a-z-]+)",
+                                                   command_line.parser().format_help(), re.M)}
+        for name, words in options.items():
+            self.assertGreater(len(words), 5)
+            for word in words:
+                self.assertIn(word, self.manual(name))
+
+    def test_the_same_tree_gives_the_same_bytes(self):
+        for path, again in zip((self.wheel, self.debian), self.packages(self.folder)):
+            with open(path, "rb") as first, open(again, "rb") as second:
+                self.assertEqual(first.read(), second.read(), path)
+
+    def test_a_program_of_another_version_is_refused(self):
+        other = os.path.join(self.folder, "other")
+        with open(other, "w", encoding="utf-8") as file:
+            file.write("#!/bin/sh\necho vx_main 9.9.9\n")
+        os.chmod(other, 0o755)
+        run = subprocess.run([sys.executable, os.path.join(TOOLS, "package"), self.folder,
+                              f"--default={other}", f"--x86-64-v3={PROGRAM}"],
+                             stderr=subprocess.PIPE, text=True, check=False)
+        self.assertEqual(run.returncode, 1)
+        self.assertIn("is vx_main 9.9.9, and the Python package", run.stderr)
+        self.assertEqual(os.listdir(self.folder), ["other"])
+
+
+if __name__ == "__main__":
+    unittest.main()

@@ -1,0 +1,133 @@
+"""Requests that aren't answered in time, by a server of this program's and by one behind a
+socket."""
+
+import os
+import socket
+import tempfile
+import threading
+import time
+import unittest
+
+from program import answering, vx
+from feqyldan import wire
+
+OPENED = wire.reply_frame(0, wire.OPEN_CONTEXT)
+NAMED = wire.reply_frame(0, wire.CREATE_IMAGE, 0, b"\0\0\0\1")
+GRAPH = wire.reply_frame(0, wire.CREATE_GRAPH, 0, b"\0\0\0\2")
+RELEASED = wire.reply_frame(0, wire.RELEASE_CONTEXT)
+# In seconds: enough for a server to start in on a busy machine, and for one that is there already.
+TIMEOUT, SHORT = 2.5, 0.5
+
+
+class TestOwnServers(unittest.TestCase):
+    def test_a_reply_that_is_late(self):
+        start = time.monotonic()
+        with vx.Server(answering(OPENED, 60.0, NAMED), timeout=TIMEOUT) as server:
+            context = server.context()
+            with self.assertRaisesRegex(vx.TimedOut,
+                                        "create a U8 image of 1 by 1: no answer in 2.5 "
+                                        "seconds") as caught:
+                context.image(vx.U8, 1, 1)
+            self.assertIsInstance(caught.exception, TimeoutError)
+            self.assertIsInstance(caught.exception, vx.FeqyldanError)
+            # Nothing more is asked, and nothing more waits.
+            for call in (context.graph, server.context, lambda: context.image(vx.U8, 1, 1)):
+                self.assertRaises(vx.TimedOut, call)
+        self.assertLess(time.monotonic() - start, 20)
+
+    def test_samples_that_nobody_takes(self):
+        with vx.Server(answering(OPENED, NAMED, 60.0), timeout=TIMEOUT) as server:
+            image = server.context().image(vx.U8, 2000, 2000)
+            with self.assertRaisesRegex(vx.TimedOut, "write 2000 by 2000 U8 samples to image 1"):
+                image.write(bytes(4_000_000))
+
+    def test_each_request_has_its_own_time(self):
+        replies = [OPENED, *6 * [0.6, GRAPH], RELEASED]
+        with vx.Server(answering(*replies), timeout=TIMEOUT) as server, server.context() as context:
+            graphs = [context.graph() for _ in range(6)]
+            self.assertEqual(len(graphs), 6)
+
+    def test_a_reply_that_came_while_nobody_read_it_is_in_time(self):
+        with vx.Server(answering(OPENED, NAMED, wire.reply_frame(0, wire.WRITE_IMAGE), RELEASED),
+                       timeout=TIMEOUT) as server, server.context() as context:
+            image = context.image(vx.U8, 1, 1)
+            with context.pipeline():
+                image.write(b"1")
+                time.sleep(TIMEOUT + 0.3)
+
+    def test_no_timeout(self):
+        with vx.Server(answering(OPENED, 0.5, GRAPH,
+                                 RELEASED)) as server, server.context() as context:
+            graph = context.graph()
+            self.assertEqual(graph.name, 2)
+
+    def test_what_is_no_timeout(self):
+        for wrong in (0, -1, float("nan"), float("inf")):
+            self.assertRaises(ValueError, vx.Server, answering(), timeout=wrong)
+            self.assertRaises(ValueError, vx.connect, "/no/such/socket", timeout=wrong)
+        self.assertRaises(TypeError, vx.Server, answering(), timeout="1")
+
+
+class TestSockets(unittest.TestCase):
+    def setUp(self):
+        folder = tempfile.TemporaryDirectory()
+        self.addCleanup(folder.cleanup)
+        self.path = os.path.join(folder.name, "socket")
+        self.listener = socket.socket(socket.AF_UNIX, socket.SOCK_STREAM)
+        self.addCleanup(self.listener.close)
+        self.listener.bind(self.path)
+
+    def serve(self, *replies):
+        """Answers a frame by each of these; then waits until the client ends its connection, and
+        notes that."""
+        self.ended = threading.Event()
+
+        def run():
+            stream, _ = self.listener.accept()
+            with stream, stream.makefile("rb") as source:
+                for reply in replies:
+                    source.read(int.from_bytes(source.read(4), "big"))
+                    stream.sendall(reply)
+                source.read()
+                self.ended.set()
+
+        self.listener.listen()
+        thread = threading.Thread(target=run)
+        thread.start()
+        self.addCleanup(thread.join)
+
+    def test_a_reply_that_is_late(self):
+        self.serve(OPENED)
+        with vx.connect(self.path, timeout=SHORT) as server:
+            context = server.context()
+            with self.assertRaisesRegex(vx.TimedOut, "create a graph: no answer in 0.5 seconds"):
+                context.graph()
+            # The other side learns at once that nobody waits any more.
+            self.assertTrue(self.ended.wait(10))
+            self.assertRaises(vx.TimedOut, context.graph)
+            self.assertRaises(vx.TimedOut, context.close)
+            self.assertTrue(context.closed)
+
+    def test_a_socket_that_is_there_later(self):
+        self.assertRaisesRegex(FileNotFoundError, "/socket.late", vx.connect, self.path + ".late",
+                               retry=0.2)
+        starting = threading.Timer(0.3, self.listener.listen)
+        starting.start()
+        self.addCleanup(starting.join)
+        # Until it listens, connections are refused.
+        self.assertRaises(ConnectionRefusedError, vx.connect, self.path)
+        vx.connect(self.path, retry=30).close()
+
+    def test_a_connection_that_nobody_accepts(self):
+        self.listener.listen(0)
+        waiting = []
+        self.addCleanup(lambda: [server.close() for server in waiting])
+        start = time.monotonic()
+        with self.assertRaisesRegex(vx.TimedOut, "not accepted in 0.5 seconds"):
+            for _ in range(5):
+                waiting.append(vx.connect(self.path, timeout=SHORT))
+        self.assertLess(time.monotonic() - start, 20)
+
+
+if __name__ == "__main__":
+    unittest.main()

@@ -1,0 +1,176 @@
+"""Numbers that aren't whole are refused wherever a number goes into a frame."""
+
+import array
+import decimal
+import fractions
+import unittest
+
+from program import ProgramTest, vx
+from feqyldan import samples
+
+U8, S16, U32 = vx.U8, vx.S16, vx.U32
+numpy = samples.numpy_module()
+# Among them some that are equal to a whole number.
+NOT_WHOLE = [0.5, 2.0, "2", None, fractions.Fraction(1, 2), decimal.Decimal(2), 1j]
+if numpy:
+    NOT_WHOLE += [numpy.float32(0.5), numpy.float64(2), numpy.array([1, 2])]
+
+
+class TestWholeNumbers(ProgramTest):
+    def refuses(self, call, words):
+        for wrong in NOT_WHOLE:
+            with self.subTest(wrong=wrong), self.assertRaisesRegex(TypeError, words):
+                call(wrong)
+
+    def test_coefficients(self):
+        words = (r"a coefficient of a convolution is a whole number from -32768 to 32767, and not "
+                 r".*: multiply all by a power of 2, round them, and give that as the scale")
+        self.refuses(lambda wrong: self.context.convolution([[0, 0, 0], [0, wrong, 0], [0, 0, 0]]),
+                     words)
+        self.refuses(lambda wrong: self.context.convolution([[1] * 3] * 3, wrong),
+                     "the scale of a convolution is")
+        with self.assertRaisesRegex(ValueError, "from -32768 to 32767, and not 32768"):
+            self.context.convolution([[32768] * 3] * 3)
+        with self.assertRaisesRegex(ValueError, "a power of 2 up to 2"):
+            self.context.convolution([[1] * 3] * 3, 2**300)
+
+    @unittest.skipUnless(numpy, "NumPy isn't installed")
+    def test_a_normalised_kernel(self):
+        """As cv2.getGaussianKernel gives it: it was taken for zeros, and the picture was black."""
+        side = numpy.array([0.25, 0.5, 0.25])
+        kernel = numpy.outer(side, side)
+        for wrong in (kernel, kernel.astype("float32"), (16 * kernel)):
+            self.assertRaises(TypeError, self.context.convolution, wrong)
+        image, out = self.context.image_from([[16 * x
+                                               for x in range(6)]] * 5), self.context.image(U8, 6,
+                                                                                            5)
+        whole = (16 * kernel).round().astype(int)
+        self.context.vxu.convolve(image, self.context.convolution(whole, scale=16), out,
+                                  border=vx.REPLICATE)
+        self.assertEqual(out.read().tolist(), [[4, 16, 32, 48, 64, 76]] * 5)
+
+    def test_entries(self):
+        for fmt, count in ((U8, 256), (S16, 65536)):
+            self.refuses(lambda wrong: self.context.lut(fmt, [0] * (count - 1) + [wrong]),
+                         "an entry of .* is a whole number")
+        if numpy:
+            with self.assertRaisesRegex(TypeError, "an entry of U8 is a whole number, and not 0.0"):
+                self.context.lut(U8, numpy.linspace(0, 255, 256))
+            shaped = numpy.arange(255, -1, -1).reshape(1, 256)
+            image, out = self.context.image_from([[1, 2]]), self.context.image(U8, 2, 1)
+            self.context.vxu.table_lookup(image, self.context.lut(U8, shaped), out)
+            self.holds(out, [[254, 253]])
+        with self.assertRaisesRegex(ValueError, "256 of them, and not 3"):
+            self.context.lut(U8, [1, 2, 3])
+
+    def test_limits_and_values(self):
+        for wanted in ({"above": 0}, {"between": (0, 9)}):
+            for name in wanted:
+                self.refuses(lambda wrong: self.context.threshold(
+                    U8, **{name: wrong if name == "above" else (0, wrong)}),
+                             "is a whole number|either above")
+            for name in ("true_value", "false_value"):
+                self.refuses(lambda wrong: self.context.threshold(U8, **wanted, **{name: wrong}),
+                             "is a whole number")
+        with self.assertRaises(TypeError):
+            self.context.threshold(U8, between=(1, 2, 3))
+
+    def test_numbers_of_objects(self):
+        image = self.context.image(U8, 4, 4)
+        self.refuses(lambda wrong: self.context.image(U8, wrong, 1),
+                     "an image's width is a whole number")
+        self.refuses(lambda wrong: self.context.image(U8, 1, wrong),
+                     "an image's height is a whole number")
+        self.refuses(lambda wrong: self.context.image(wrong, 1, 1),
+                     "a format is vx.U8, vx.S16 or vx.U32")
+        self.refuses(lambda wrong: self.context.delay(image, wrong),
+                     "a delay's slots is a whole number")
+        self.refuses(lambda wrong: self.context.distribution(wrong),
+                     "number of bins is a whole number")
+        self.refuses(lambda wrong: self.context.distribution(8, wrong), "offset is a whole number")
+        self.refuses(lambda wrong: self.context.distribution(8, 0, wrong),
+                     "range is a whole number")
+        for side in range(4):
+            def set_valid(wrong):
+                image.valid = [wrong if k == side else 1 for k in range(4)]
+            self.refuses(set_valid, "valid rectangle is a whole number")
+        for wrong in ((0, 0, 1), (0, 0, 1, 1, 1)):
+            with self.assertRaises(ValueError):
+                image.valid = wrong
+        graph = self.context.graph()
+        for wrong in (0.5, 2.0, "2"):
+            self.assertRaises(TypeError, graph.virtual_image, U8, wrong)
+            self.assertRaises(TypeError, graph.virtual_image, wrong)
+        self.assertRaises(ValueError, graph.virtual_image, U8, 70000, 1)
+
+    def test_shifts_and_borders(self):
+        image, deep = self.context.image(U8, 2, 2), self.context.image(S16, 2, 2)
+        graph = self.context.graph()
+        for functions in (self.context.vxu, graph):
+            self.refuses(lambda wrong: functions.multiply(image, image, wrong, vx.WRAP, deep),
+                         "multiply: a shift is")
+            self.refuses(lambda wrong: functions.convert_depth(image, deep, vx.WRAP, wrong),
+                         "convert_depth: a shift is")
+            self.refuses(lambda wrong: functions.add(image, image, wrong, deep),
+                         "add: a policy is vx.WRAP or")
+        self.refuses(vx.constant, "a border's value is a whole number from 0 to 255")
+        for wrong in (-1, 256):
+            self.assertRaises(ValueError, vx.constant, wrong)
+        graph.verify()
+
+    def test_rows(self):
+        for fmt in (U8, S16, U32):
+            image = self.context.image_from([[7, 7, 7]], fmt)
+            self.refuses(lambda wrong: image.write([[1, wrong, 3]]),
+                         "a sample of .* is a whole number|length")
+            self.refuses(lambda wrong: self.context.image_from([[1, wrong, 3]], fmt),
+                         "a sample of .* is a whole number")
+            self.holds(image, [[7, 7, 7]])
+
+    @unittest.skipUnless(numpy, "NumPy isn't installed")
+    def test_arrays(self):
+        image = self.context.image(U8, 3, 2)
+        for dtype in ("float16", "float32", "float64"):
+            for call in (image.write, self.context.image_from):
+                with self.assertRaisesRegex(TypeError,
+                                            rf"uint8, int16 or uint32, and not {dtype}: scale and "
+                                            rf"round them"):
+                    call(numpy.full((2, 3), 0.5, dtype))
+        for dtype in ("int8", "uint16", "int32", "int64", "bool", "complex64", "object"):
+            self.assertRaises(TypeError, image.write, numpy.zeros((2, 3), dtype))
+        with self.assertRaisesRegex(ValueError,
+                                    r"and not \(2, 3, 3\): make a grey one of it, as by "
+                                    r"cv2.cvtColor"):
+            image.write(numpy.zeros((2, 3, 3), "uint8"))
+        with self.assertRaisesRegex(TypeError, "these samples are U8, and not S16"):
+            self.context.image_from(numpy.zeros((2, 3), "uint8"), S16)
+
+    def test_buffers(self):
+        wide = self.context.image(U8, 24, 1)
+        for letter in "fd":
+            self.assertRaises((TypeError, ValueError), wide.write, array.array(letter, [0.5] * 6))
+            self.assertRaises((TypeError, ValueError), wide.write, array.array(letter, [0.5] * 3))
+        self.holds(wide, [[0] * 24])
+
+    def test_what_is_whole(self):
+        class Three:
+            def __index__(self):
+                return 3
+
+        self.assertEqual(self.context.image(U8, Three(), True).shape, (1, 3))
+        if numpy:
+            self.assertEqual(self.context.image(U8, numpy.int64(3), numpy.uint8(2)).shape, (2, 3))
+
+    def test_a_frame_that_would_be_too_long(self):
+        """The server ends where it reads such a length, for all of its clients."""
+        image = self.context.image(U8, 1, 1)
+        with self.assertRaisesRegex(ValueError, "a request has at most 134,217,728 bytes"):
+            image.write_pgm(bytes(2**27))
+        if numpy:
+            with self.assertRaisesRegex(ValueError, "a request has at most"):
+                image.write(numpy.broadcast_to(numpy.zeros(1, "uint8"), (9000, 15000)))
+        self.holds(image, [[0]])
+
+
+if __name__ == "__main__":
+    unittest.main()

@@ -1,0 +1,192 @@
+-- What nodes write to an output, whose samples are taken out, and put back once they are written.
+use Rattle.std.proofs.Common.{◌≡◌, length, true, ℤ, refl, List, Option, ap, ◌∙◌, sym, [], Some, None, subst}
+use Rattle.std.specs.Prelude.{unsigned_abs, ◌==◌, IfSome}
+use Rattle.std.specs.List.{count_by}
+use Rattle.std.proofs.lemmas.List.FromFn.{length-map-range_with_len}
+use Rattle.vx_base.specs.Image.{ImageValue, IsImage, image_over, description_of}
+use Rattle.vx_base.specs.Statistics.{BinsValue, bin_of, is_bin, histogram, valid_samples}
+use Rattle.std.proofs.lemmas.Bool.{eqb-true, and_parts}
+use Rattle.vx_base.specs.declared.node.Node.{Node}
+use Rattle.vx_base.specs.declared.format.Format.{Format}
+use Rattle.vx_base.specs.Rectangle.{Rectangle, empty}
+use Rattle.vx_base.specs.Description.{Description, same_size, sample_count}
+use Rattle.vx_base.specs.Object.{ObjectValue, ImageObject, IsObject, object_kind}
+use Rattle.vx_base.specs.declared.output.Output.{Output}
+use Rattle.vx_base.specs.Outputs.{node_image, node_output}
+use Rattle.vx_base.proofs.ImageLaws.{same_parts}
+use Rattle.graph_run.proofs.OperandLaws.{described_node}
+use Rattle.image_core.specs.Fits.{HaveSameSize}
+use Rattle.graph_run.specs.Steps.{CanRunTo, IsRead, RunsOn, RunsTo, output_at}
+use Rattle.object_table.specs.Object.{image_value, with_samples}
+use Rattle.vx_base.specs.declared.kind.Kind.TheVariants as kind
+use Rattle.std.specs.Option.{option_map}
+use Rattle.vx_base.specs.declared.kind.Kind.{Kind}
+use Rattle.vx_base.specs.Function.{parameters}
+use Rattle.vx_base.specs.declared.function.Function.{Function}
+use Rattle.vx_base.proofs.NodeLaws.{takes_no_delay, takes_no_distribution, takes_no_extremes, takes_no_graph, takes_no_virtual}
+use Rattle.graph_run.specs.declared.places.Places.{Places}
+use Rattle.object_table.specs.declared.names.Entry.{Entry}
+use Rattle.object_table.specs.declared.place.Place.{Place}
+use Rattle.object_table.proofs.SlotLemmas.{has_image}
+use Rattle.object_table.specs.Table.{TableValue, entry_at, object_at, image_at, replaced, with_objects, IsPlace, HasImageAt}
+use Rattle.graph_run.proofs.PlaceLemmas.{object_beside, object_if_beside, place_if_beside, image_beside, replaced_twice, object_after, image_after}
+
+-- there is a count for each bin
+pub length-histogram : (bins : BinsValue) (a : ImageValue) → length (histogram bins a) ≡ bins.bins
+length-histogram bins a = length-map-range_with_len (λ k. count_by (λ z. is_bin k (bin_of bins (unsigned_abs z))) (valid_samples a)) 0 bins.bins
+
+-- descriptions of one size and format are one
+pub same_description : (a b : Description) → same_size a b ≡ true → a.format ≡ b.format → a ≡ b
+same_description a b size format =
+    let both = and_parts (a.width == b.width) (a.height == b.height) size in
+    let w = eqb-true a.width b.width both.0 in
+    let h = eqb-true a.height b.height both.1 in
+    let e : record { width = a.width; height = a.height; format = a.format } ≡ record { width = b.width; height = b.height; format = b.format } = cc in
+    e
+
+-- an output keeps its description
+pub description_kept : (n : Node) (output : Output) (a : ImageValue) (second : Option ObjectValue) (out : ImageValue) → HaveSameSize out a → description_of (node_image n output out.format a second) ≡ description_of out
+description_kept n output a second out h =
+    described_node n output out.format a second ∙ sym (same_description (description_of out) (record { width = a.width; height = a.height; format = out.format }) h refl)
+
+-- samples that a node has written, with the rectangle beside them
+module _ (n : Node) (output : Output) (a : ImageValue) (second : Option ObjectValue) (d : Description) (old : ImageValue) (area : Rectangle) (samples : List ℤ)
+    (is : description_of old ≡ d) (h : CanRunTo n a second old)
+    (valid : area ≡ (node_image n output d.format a second).valid) (written : samples ≡ (node_image n output d.format a second).samples) where
+  format_is : old.format ≡ d.format
+  format_is = ap (λ (e : Description). e.format) is
+
+  kept : description_of (node_image n output d.format a second) ≡ d
+  kept = ap (λ f. description_of (node_image n output f a second)) (sym format_is) ∙ description_kept n output a second old h.size ∙ is
+
+  pub stored_is : image_over d area (samples) ≡ node_image n output d.format a second
+  stored_is =
+      same_parts (image_over d area (samples)) (node_image n output d.format a second)
+      (sym (ap (λ (e : Description). e.width) kept)) (sym (ap (λ (e : Description). e.height) kept)) (sym (ap (λ (e : Description). e.format) kept)) valid written
+
+-- an object that is an image is one
+pub image_of_object : (object : ObjectValue) → object_kind object ≡ kind.Image → IsObject object → IsImage (image_value object)
+image_of_object (ImageObject image) e is = is
+image_of_object other e is = cc
+
+-- what is written by a node to an image
+pub of_images : (n : Node) (output : Output) (first : ObjectValue) (second : Option ObjectValue) (out : ObjectValue) → object_kind first ≡ kind.Image → object_kind out ≡ kind.Image
+    → ImageObject (node_image n output (image_value out).format (image_value first) second) ≡ node_output n output first second out
+of_images n output (ImageObject a) second (ImageObject b) h i = refl
+of_images n output (ImageObject a) second other h i = cc
+of_images n output other second b h i = cc
+
+-- a kernel can run where an output is an image
+pub can_run : (n : Node) (first : ObjectValue) (second : Option ObjectValue) (out : ObjectValue) → RunsOn n first second out → object_kind out ≡ kind.Image → CanRunTo n (image_value first) second (image_value out)
+can_run n first second (ImageObject b) runs e = record { node = runs.node; kind = runs.second_kind; formats = runs.formats; size = runs.out_size; second_size = runs.second_size }
+can_run n first second other runs e = cc
+
+-- what a function reads beside its first input can be lent to a kernel
+is_read : (function : Function) (k : Kind) → (parameters function).second_input ≡ Some k → IsRead k
+is_read function kind.Image e = tt
+is_read function kind.Lut e = tt
+is_read function kind.Threshold e = tt
+is_read function kind.Convolution e = tt
+is_read function kind.Delay e = absurd (takes_no_delay function e)
+is_read function kind.Distribution e = absurd (takes_no_distribution function e)
+is_read function kind.Extremes e = absurd (takes_no_extremes function e)
+is_read function kind.Graph e = absurd (takes_no_graph function e)
+is_read function kind.VirtualImage e = absurd (takes_no_virtual function e)
+
+-- a node's output that is an image, at a place of a table
+module _ (objects : List (Entry ObjectValue)) (n : Node) (which : Output) (p : Places) (output : Place) (h : RunsTo objects n p output) (is_image : (parameters n.function).output ≡ kind.Image) where
+  abbrev pub first : ImageValue
+  first = image_at objects p.in1
+
+  abbrev pub second : Option ObjectValue
+  second = option_map (object_at objects) p.in2
+
+  abbrev pub out : ImageValue
+  out = image_at objects output
+
+  out_kind : object_kind (object_at objects output) ≡ kind.Image
+  out_kind = h.runs.out_kind ∙ is_image
+
+  pub writes_image : HasImageAt objects output
+  writes_image = record { within = h.out.within; image = has_image output.slot (entry_at objects output.index).object h.out.there out_kind }
+
+  can : CanRunTo n first second out
+  can = can_run n (object_at objects p.in1) second (object_at objects output) h.runs out_kind
+
+  -- what the node reads stands beside the output, whatever stands there
+  module _ (after : TableValue) (left : ObjectValue) (before : TableValue) (taken : after ≡ with_objects before (replaced objects output left)) where
+    first_there : image_at after.objects p.in1 ≡ first
+    first_there = ap (λ (t : TableValue). image_at t.objects p.in1) taken ∙ ap image_value (object_beside objects output h.out.within p.in1 left h.in1_apart)
+
+    pub reads_image : HasImageAt after.objects p.in1
+    reads_image = subst (λ (t : TableValue). HasImageAt t.objects p.in1) (sym taken) (image_beside objects output h.out.within p.in1 left h.in1_apart h.in1)
+
+    pub first_is_image : (image : ImageValue) → image ≡ image_at after.objects p.in1 → IsImage image
+    first_is_image image is = subst IsImage (sym (is ∙ first_there)) (image_of_object (object_at objects p.in1) h.runs.first_kind h.runs.first_is)
+
+    second_there : option_map (object_at after.objects) p.in2 ≡ second
+    second_there = ap (λ (t : TableValue). option_map (object_at t.objects) p.in2) taken ∙ object_if_beside objects output h.out.within p.in2 left h.in2_apart
+
+    pub second_has_place : IfSome p.in2 (IsPlace after.objects)
+    second_has_place = subst (λ (t : TableValue). IfSome p.in2 (IsPlace t.objects)) (sym taken) (place_if_beside objects output h.out.within p.in2 left h.in2_apart h.in2)
+
+    pub second_is_object : IfSome (option_map (object_at after.objects) p.in2) IsObject
+    second_is_object = subst (λ (o : Option ObjectValue). IfSome o IsObject) (sym second_there) h.runs.second_is
+
+    pub second_is_read : IfSome (option_map (object_at after.objects) p.in2) (λ object. IsRead (object_kind object))
+    second_is_read = subst (λ (o : Option ObjectValue). IfSome o (λ object. IsRead (object_kind object))) (sym second_there) (read second h.runs.second_kind)
+      where
+        read : (o : Option ObjectValue) → IfSome o (λ object. (parameters n.function).second_input ≡ Some (object_kind object)) → IfSome o (λ object. IsRead (object_kind object))
+        read None is = tt
+        read (Some object) is = is_read n.function (object_kind object) is
+
+  module _ (d : Description) (image : ImageValue) (describes : d ≡ description_of image) (is_out : image ≡ out) where
+    described : d ≡ description_of out
+    described = describes ∙ ap description_of is_out
+
+    -- as many samples are taken out as the image has
+    pub taken_count : (samples : List ℤ) → samples ≡ out.samples → length samples ≡ sample_count d
+    taken_count samples is = ap length is ∙ (image_of_object (object_at objects output) out_kind h.runs.out_is).size ∙ ap sample_count (sym described)
+
+    pub taken_format : (format : Format) → format ≡ out.format → d.format ≡ format
+    taken_format format is = ap (λ (e : Description). e.format) described ∙ sym is
+
+    module _ (after : TableValue) (left : ObjectValue) (before : TableValue) (taken : after ≡ with_objects before (replaced objects output left)) (a : ImageValue) (b : Option ObjectValue)
+        (is_first : a ≡ image_at after.objects p.in1) (is_second : b ≡ option_map (object_at after.objects) p.in2) where
+      -- a kernel can run on what is lent to it
+      pub runs_there : CanRunTo n a b (image_over d empty [])
+      runs_there =
+          subst (λ (e : Description). CanRunTo n a b (image_over e empty [])) (sym described)
+          (subst (λ (v : ImageValue). CanRunTo n v b (image_over (description_of out) empty [])) (sym (is_first ∙ first_there after left before taken))
+          (subst (λ (s : Option ObjectValue). CanRunTo n first s (image_over (description_of out) empty [])) (sym (is_second ∙ second_there after left before taken))
+          (record { node = can.node; kind = can.kind; formats = can.formats; size = can.size; second_size = can.second_size })))
+
+      -- the output is what the node gives
+      pub put_back : left ≡ with_samples (object_at objects output) out.valid [] → (back : TableValue) (area : Rectangle) (samples : List ℤ) (format : Format)
+          → back ≡ with_objects after (replaced after.objects output (with_samples (object_at after.objects output) area samples)) → d.format ≡ format → area ≡ (node_image n which format a b).valid → samples ≡ (node_image n which format a b).samples
+          → back ≡ with_objects before (replaced objects output (output_at objects n which p output))
+      put_back is_left back area samples format is of_format valid written =
+          let same : node_image n which format a b ≡ node_image n which out.format first second =
+          ap (λ f. node_image n which f a b) (sym of_format ∙ ap (λ (k : Description). k.format) described)
+          ∙ ap (λ v. node_image n which out.format v b) (is_first ∙ first_there after left before taken)
+          ∙ ap (λ s. node_image n which out.format first s) (is_second ∙ second_there after left before taken) in
+          let image_is : image_over (description_of out) area samples ≡ node_image n which out.format first second =
+          stored_is n which first second (description_of out) out area samples refl can (valid ∙ ap (λ (i : ImageValue). i.valid) same) (written ∙ ap (λ (i : ImageValue). i.samples) same) in
+          let emptied : ImageValue = image_over (description_of out) out.valid [] in
+          is
+          ∙ ap (λ (t : TableValue). with_objects t (replaced t.objects output (with_samples (object_at t.objects output) area samples))) taken
+          ∙ ap (with_objects before)
+          (ap (λ (o : ObjectValue). replaced (replaced objects output o) output (with_samples (object_at (replaced objects output o) output) area samples)) is_left
+          ∙ ap (λ (o : ObjectValue). replaced (replaced objects output (ImageObject emptied)) output (with_samples o area samples)) (object_after objects output writes_image emptied)
+          ∙ replaced_twice objects output h.out.within (ImageObject emptied) (image_over (description_of out) area samples)
+          ∙ ap (λ i. replaced objects output (ImageObject i)) image_is
+          ∙ ap (λ o. replaced objects output o) (of_images n which (object_at objects p.in1) second (object_at objects output) h.runs.first_kind out_kind))
+
+  -- samples can be put back where they were taken out
+  pub takes_back : (after before : TableValue) → after ≡ with_objects before (replaced objects output (with_samples (object_at objects output) out.valid [])) → HasImageAt after.objects output
+  takes_back after before taken = subst (λ (t : TableValue). HasImageAt t.objects output) (sym taken) (image_after objects output writes_image (image_over (description_of out) out.valid []))
+
+  pub left_format : (after before : TableValue) → after ≡ with_objects before (replaced objects output (with_samples (object_at objects output) out.valid [])) → (image_at after.objects output).format ≡ out.format
+  left_format after before taken =
+      ap (λ (t : TableValue). (image_at t.objects output).format) taken
+      ∙ ap (λ (o : ObjectValue). (image_value o).format) (object_after objects output writes_image (image_over (description_of out) out.valid []))

@@ -1,0 +1,389 @@
+-- A graph that is found able to run: how it runs.
+use Rattle.std.proofs.Common.{◌≡◌, ◌≢◌, ℕ, ◌<◌, Bool, true, false, cond, List, [], ◌∷◌, ◌++◌, map, get_or, zero, suc, Option, Some, None, inl, inr, refl, sym, ap, subst, ◌∙◌, arith}
+use Rattle.std.specs.Prelude.{All, ◌==◌, ◌||◌, if◌then◌else◌, unwrap_or}
+use Rattle.std.specs.List.{AllPairs, list_any, filter, flat_map}
+use Rattle.std.specs.List.Sorted.{IsStrictlyIncreasing}
+use Rattle.std.specs.Option.{option_map, option_and_then}
+use Rattle.std.proofs.lemmas.Bool.{false_from_ne_true, cases_Bool, cond_both, eqb-true, eq-eqb, or_parts, or_left, or_right, or_from}
+use Rattle.std.proofs.lemmas.List.{length-map}
+use Rattle.std.proofs.lemmas.List.Elements.{All-head, All-tail}
+use Rattle.std.proofs.Math.ListN.{get_or-map as get_or-map_default}
+use Rattle.vx_base.specs.declared.kind.Kind.{Kind}
+use Rattle.vx_base.specs.declared.kind.Kind.TheVariants as kind
+use Rattle.vx_base.specs.declared.node.Node.{Node}
+use Rattle.vx_base.specs.declared.virtual_image.VirtualImage.{VirtualImage}
+use Rattle.vx_base.specs.Cell.{Cell, same_cell}
+use Rattle.vx_base.specs.Function.{parameters}
+use Rattle.vx_base.specs.Image.{new_image}
+use Rattle.vx_base.specs.Outline.{Outline}
+use Rattle.vx_base.specs.Node.{IsNode, given, inputs, outputs, operands, second_kind, with_kind}
+use Rattle.vx_base.specs.Object.{ObjectValue, ImageObject, VirtualObject, object_kind}
+use Rattle.vx_base.specs.Outputs.{written_by}
+use Rattle.object_table.specs.Delay.{in_slot}
+use Rattle.object_table.specs.declared.names.Entry.{Entry}
+use Rattle.object_table.specs.Names.{IsNames}
+use Rattle.object_table.specs.Named.{Named, named, object_held, held, with_written}
+use Rattle.object_table.proofs.NamedLemmas.{increasing-named}
+use Rattle.graph_run.proofs.ByNameLemmas.{order_there}
+use Rattle.graph_verify.specs.declared.known.VirtualOutput.{VirtualOutput}
+use Rattle.graph_verify.specs.declared.operand.Operand.{Operand}
+use Rattle.graph_verify.specs.declared.operand.Operand.TheVariants.{Image, Delay, Virtual}
+use Rattle.graph_verify.specs.declared.operand.Operands.{Operands}
+use Rattle.graph_verify.specs.declared.verified.Verified.{Verified}
+use Rattle.graph_verify.specs.Links.{reads, writes, has_twice, is_written}
+use Rattle.graph_verify.specs.Members.{In, AllIn}
+use Rattle.graph_verify.specs.Operand.{operand_of, operand_kind, operands_of, is_virtual as is_virtual_operand}
+use Rattle.graph_verify.specs.Outlines.{resolved, outlines}
+use Rattle.graph_verify.specs.Verdict.{verdict, verdict_on}
+use Rattle.graph_verify.specs.Verified.{IsVerified}
+use Rattle.graph_verify.proofs.LinkLemmas.{same_cell-is, same-from_In, In-outputs, two_writers-permutation}
+use Rattle.graph_verify.proofs.MemberLemmas.{In-left, In-right, In-append, In-from_any, any-from_In, In-filter, In-from_filter, In-map, In-from_map, In-from_flat_map, In-at, AllIn-permutation, AllIn-permutation_back}
+use Rattle.graph_verify.proofs.VerdictLemmas.{CanRun, can_run}
+use Rattle.graph_run.specs.Graph.{begun, begun_as, is_virtual, forgotten, one_by_one, run}
+use Rattle.graph_run.specs.Operands.{IsReady, names_cell, StandsFor, CellsStand, operand_held}
+use Rattle.graph_run.proofs.LinkLaws.{All-from_In, In-from_All}
+use Rattle.graph_run.proofs.OperandLaws.{kind-operand, no_fault, virtual_there, outline_of_virtual, known_kept, virtual_written, stands_after}
+use Rattle.graph_run.proofs.TurnLaws.{each_alone, at_its_turn, run_in_order}
+use Rattle.graph_run.specs.Turns.{HoldsKind, CanRunNow, CanRunInTurn, AreVirtual, exchanged, cleared, begun_with}
+use Rattle.graph_run.proofs.BegunLaws.{begun_stays, virtual_as_operand}
+use Rattle.object_table.proofs.HeldLemmas.{names_of, held_by_name}
+use Rattle.graph_run.proofs.StandInLemmas.{is_output, exchanged_beside}
+
+-- ---- cells that stand in a list once
+
+any_filter : (c : Cell) (p : Cell → Bool) (cs : List Cell) → list_any (same_cell c) cs ≡ false
+    → list_any (same_cell c) (filter p cs) ≡ false
+any_filter c p cs none = false_from_ne_true (list_any (same_cell c) (filter p cs)) (λ some.
+    let kept = In-from_any (same_cell c) (filter p cs) some in
+    let there = any-from_In (same_cell c) kept.0 cs (In-from_filter p kept.0 cs kept.1).0 kept.2 in
+    cc)
+
+once_filter : (p : Cell → Bool) (cs : List Cell) → has_twice cs ≡ false → has_twice (filter p cs) ≡ false
+once_filter p [] once = refl
+once_filter p (c ∷ cs) once =
+    let both = or_parts (list_any (same_cell c) cs) (has_twice cs) once in
+    cond_both (p c) (c ∷ filter p cs) (filter p cs) (λ l. has_twice l ≡ false)
+    (λ e. or_from (list_any (same_cell c) (filter p cs)) (has_twice (filter p cs)) (any_filter c p cs both.0) (once_filter p cs both.1))
+    (λ e. once_filter p cs both.1)
+
+once_apart : (cs : List Cell) → has_twice cs ≡ false → AllPairs (λ a b. a ≢ b) cs
+once_apart [] once i j d less within = absurd (omega (arith, within))
+once_apart (c ∷ cs) once zero zero d less within = absurd (omega (arith, less))
+once_apart (c ∷ cs) once zero (suc j) d less within = λ same.
+    let none = (or_parts (list_any (same_cell c) cs) (has_twice cs) once).0 in
+    let some = any-from_In (same_cell c) (get_or cs j d) cs (In-at cs j d (omega (arith, within))) (same_cell-is c (get_or cs j d) same) in
+    cc
+once_apart (c ∷ cs) once (suc i) zero d less within = absurd (omega (arith, less))
+once_apart (c ∷ cs) once (suc i) (suc j) d less within =
+    once_apart cs (or_parts (list_any (same_cell c) cs) (has_twice cs) once).1 i j d (omega (arith, less)) (omega (arith, within))
+
+-- ---- cells that a node names
+
+module _ (n : Node) where
+  named_by_input : (cell : Cell) → In cell (inputs n) → names_cell n cell ≡ true
+  named_by_input cell i = or_left (reads n cell) (writes n cell) (same-from_In cell (inputs n) i)
+
+  named_by_output : (cell : Cell) → In cell (outputs n) → names_cell n cell ≡ true
+  named_by_output cell i = or_right (reads n cell) (writes n cell) (same-from_In cell (outputs n) i)
+
+  operand_named : (operand : Cell × Kind) → In operand (operands n) → names_cell n operand.0 ≡ true
+  operand_named operand (inl same) = named_by_input operand.0 (inl (ap (λ (o : Cell × Kind). o.0) same))
+  operand_named operand (inr i) =
+      let k = (parameters n.function).output in
+      elim (In-append operand (with_kind (second_kind n) n.in2) (with_kind k n.out1 ++ with_kind k n.out2) i) [
+        | inl a ↦ named_by_input operand.0 (inr (in_given (second_kind n) n.in2 a))
+        | inr b ↦ elim (In-append operand (with_kind k n.out1) (with_kind k n.out2) b) [
+          | inl a ↦ named_by_output operand.0 (In-left operand.0 (given n.out1) (given n.out2) (in_given k n.out1 a))
+          | inr a ↦ named_by_output operand.0 (In-right operand.0 (given n.out1) (given n.out2) (in_given k n.out2 a))
+        ]
+      ]
+    where
+      in_given : (k : Kind) (cell : Option Cell) → In operand (with_kind k cell) → In operand.0 (given cell)
+      in_given k None i = i
+      in_given k (Some cell) (inl same) = inl (ap (λ (o : Cell × Kind). o.0) same)
+      in_given k (Some cell) (inr none) = inr none
+
+  abbrev made : Operand → Option Operand → Option Operand → Option Operand → Operands
+  made a b c d = record { in1 = a; in2 = b; out1 = c; out2 = d }
+
+  -- what is the same of each cell that a node names makes the same operands
+  same_operands : (one other : Cell → Operand) → ((cell : Cell) → names_cell n cell ≡ true → one cell ≡ other cell)
+      → operands_of one n ≡ operands_of other n
+  same_operands one other same =
+      ap (λ a. made a (option_map one n.in2) (option_map one n.out1) (option_map one n.out2)) (same n.in1 (named_by_input n.in1 (inl refl)))
+      ∙ ap (λ b. made (other n.in1) b (option_map one n.out1) (option_map one n.out2))
+      (of_given n.in2 (λ cell i. same cell (named_by_input cell (inr i))))
+      ∙ ap (λ c. made (other n.in1) (option_map other n.in2) c (option_map one n.out2))
+      (of_given n.out1 (λ cell i. same cell (named_by_output cell (In-left cell (given n.out1) (given n.out2) i))))
+      ∙ ap (made (other n.in1) (option_map other n.in2) (option_map other n.out1))
+      (of_given n.out2 (λ cell i. same cell (named_by_output cell (In-right cell (given n.out1) (given n.out2) i))))
+    where
+      of_given : (cell : Option Cell) → ((c : Cell) → In c (given cell) → one c ≡ other c) → option_map one cell ≡ option_map other cell
+      of_given None alike = refl
+      of_given (Some c) alike = ap Some (alike c (inl refl))
+
+-- ---- the virtual images that nodes write
+
+-- what is virtual is there
+virtual_found : (found : Option Operand) (declared : Outline) → unwrap_or found Delay ≡ Virtual declared → found ≡ Some (Virtual declared)
+virtual_found None declared e = absurd (cc)
+virtual_found (Some operand) declared e = ap Some e
+
+-- an image that stands in for each output of a name
+exchanged_same : (outputs : List VirtualOutput) (name : ℕ) (object new : ObjectValue)
+    → ((o : VirtualOutput) → In o outputs → name ≡ o.cell.name → ImageObject (new_image o.desc.width o.desc.height o.desc.format) ≡ new)
+    → is_output outputs name ≡ true → exchanged outputs (cleared outputs) name object ≡ new
+exchanged_same [] name object new same there = absurd (cc)
+exchanged_same (o ∷ outputs) name object new same there =
+    let image : ObjectValue = ImageObject (new_image o.desc.width o.desc.height o.desc.format) in
+    elim (cases_Bool (is_output outputs name)) [
+      | inl later ↦ exchanged_same outputs name (cond (name == o.cell.name) image object) new (λ p i. same p (inr i)) later
+      | inr last ↦
+          (let here : (name == o.cell.name) ≡ true = only (name == o.cell.name) (is_output outputs name) there last in
+          exchanged_beside outputs (cleared outputs) name (cond (name == o.cell.name) image object) last
+          ∙ ap (λ b. cond b image object) here
+          ∙ same o (inl refl) (eqb-true name o.cell.name here))
+    ]
+  where
+    only : (b c : Bool) → (b || c) ≡ true → c ≡ false → b ≡ true
+    only true c there last = refl
+    only false c there last = absurd (cc)
+
+abbrev whole : ℕ → Cell
+whole name = record { name = name; slot = None }
+
+module _ (objects : List Named) (nodes : List Node) (v : Verified) (work : ℕ) (how : IsVerified (operand_held objects) nodes v)
+    (runs : verdict work (operand_held objects) nodes ≡ None) where
+  abbrev is : Cell → Operand
+  is = operand_held objects
+
+  abbrev known : Cell → Operand
+  known = resolved is nodes
+
+  abbrev outs : List VirtualOutput
+  outs = v.virtual_outputs.items
+
+  abbrev steps : List Node
+  steps = v.steps.items
+
+  can : CanRun work is nodes
+  can = can_run work is nodes runs
+
+  -- an output is a virtual image that the nodes write, of which all is known
+  output_in : (o : VirtualOutput) → In o outs → In o.cell (flat_map outputs steps) × (is_virtual_operand (is o.cell) ≡ true)
+  output_in o i =
+      In-from_filter (λ cell. is_virtual_operand (is cell)) o.cell (flat_map outputs steps)
+      (subst (λ l. In o.cell l) how.cells (In-map (λ (p : VirtualOutput). p.cell) o outs i))
+
+  output_written : (o : VirtualOutput) → In o outs → is_written nodes o.cell ≡ true
+  output_written o i =
+      let writer = In-from_flat_map outputs o.cell steps (output_in o i).0 in
+      any-from_In (λ m. writes m o.cell) writer.0 nodes (AllIn-permutation_back nodes steps how.order.same_nodes writer.0 writer.1)
+      (same-from_In o.cell (outputs writer.0) writer.2)
+
+  output_known : (o : VirtualOutput) → In o outs → known o.cell ≡ Image o.desc
+  output_known o i = In-from_All (λ (p : VirtualOutput). known p.cell ≡ Image p.desc) outs how.descriptions o i
+
+  -- each virtual image that the nodes write is an output
+  in_outputs : (cell : Cell) → is_written nodes cell ≡ true → is_virtual_operand (is cell) ≡ true
+      → (o : VirtualOutput) × In o outs × (cell ≡ o.cell)
+  in_outputs cell written virtual =
+      let writer = In-from_any (λ m. writes m cell) nodes written in
+      let out = In-outputs writer.0 cell steps (AllIn-permutation nodes steps how.order.same_nodes writer.0 writer.1) writer.2 in
+      In-from_map (λ (p : VirtualOutput). p.cell) cell outs
+      (subst (λ l. In cell l) (sym how.cells) (In-filter (λ c. is_virtual_operand (is c)) cell (flat_map outputs steps) out virtual))
+
+  -- it is held under a name without a slot
+  output_object : (o : VirtualOutput) → In o outs
+      → (◌≡◌ {A = Option ℕ} o.cell.slot None) × ((image : VirtualImage) × (object_held objects o.cell.name ≡ Some (VirtualObject image)))
+  output_object o i =
+      let outline = outline_of_virtual (is o.cell) (output_in o i).1 in
+      of_held (object_held objects o.cell.name) outline.0 (virtual_found (option_map operand_of (held objects o.cell)) outline.0 outline.1)
+    where
+      of_held : (found : Option ObjectValue) (declared : Outline)
+          → option_map operand_of (option_and_then (in_slot o.cell.slot) found) ≡ Some (Virtual declared)
+          → (◌≡◌ {A = Option ℕ} o.cell.slot None) × ((image : VirtualImage) × (found ≡ Some (VirtualObject image)))
+      of_held None declared e = absurd (cc)
+      of_held (Some x) declared e = let there = virtual_there o.cell.slot x declared e in (there.0, (there.1, ap Some there.2))
+
+  output_whole : (o : VirtualOutput) → In o outs → o.cell ≡ whole o.cell.name
+  output_whole o i = ap (λ (s : Option ℕ). let c : Cell = record { name = o.cell.name; slot = s } in c) (output_object o i).0
+
+  once_each : has_twice (map (λ (o : VirtualOutput). o.cell) outs) ≡ false
+  once_each =
+      ap has_twice how.cells
+      ∙ once_filter (λ cell. is_virtual_operand (is cell)) (flat_map outputs steps)
+      (two_writers-permutation nodes steps how.order.same_nodes can.one_writer)
+
+  pub are_virtual : AreVirtual objects outs
+  are_virtual =
+      record {
+        apart = λ i j d less within same.
+            let one = get_or outs i d in
+            let other = get_or outs j d in
+            let cells : List Cell = map (λ (o : VirtualOutput). o.cell) outs in
+            let equal : one.cell ≡ other.cell =
+            output_whole one (In-at outs i d (omega (arith, less, within))) ∙ ap whole same
+            ∙ sym (output_whole other (In-at outs j d within)) in
+            once_apart cells once_each i j d.cell less (omega (arith, within, length-map outs (λ (o : VirtualOutput). o.cell)))
+            (get_or-map_default (λ (o : VirtualOutput). o.cell) outs i d ∙ equal
+            ∙ sym (get_or-map_default (λ (o : VirtualOutput). o.cell) outs j d));
+        held =
+            All-from_In (λ o. option_map object_kind (object_held objects o.cell.name) ≡ Some kind.VirtualImage) outs
+            (λ o i. ap (option_map object_kind) (output_object o i).1.1);
+      }
+
+  -- ---- as the run begins
+
+  own_operand : (o : Named) → object_held objects o.name ≡ Some o.object → is (whole o.name) ≡ operand_of o.object
+  own_operand o there = ap (λ found. unwrap_or (option_map operand_of (option_and_then (in_slot None) found)) Delay) there
+
+  abbrev with_image : Named → ObjectValue → Named
+  with_image o object = record o { object = object }
+
+  -- what isn't an output begins as it was
+  begun_kept : (o : Named) → object_held objects o.name ≡ Some o.object → is_output outs o.name ≡ false → o ≡ begun known nodes o
+  begun_kept o there none =
+      let cell = whole o.name in
+      cond_both (is_written nodes cell) (with_image o (begun_as o.object (known cell))) o (λ p. o ≡ p)
+      (λ written. elim (cases_Bool (is_virtual o.object)) [
+        | inl virtual ↦
+            (let output = in_outputs cell written (ap is_virtual_operand (own_operand o there) ∙ virtual_as_operand o.object virtual) in
+            let some =
+            any-from_In (λ (p : VirtualOutput). o.name == p.cell.name) output.0 outs output.1
+            (eq-eqb o.name output.0.cell.name (ap (λ (c : Cell). c.name) output.2)) in
+            absurd (cc))
+        | inr real ↦ ap (with_image o) (sym (begun_stays o.object true (known cell) real))
+      ])
+      (λ e. refl)
+
+  -- an output begins as a cleared image
+  begun_cleared : (o : Named) → object_held objects o.name ≡ Some o.object → is_output outs o.name ≡ true
+      → with_image o (exchanged outs (cleared outs) o.name o.object) ≡ begun known nodes o
+  begun_cleared o there some =
+      let cell = whole o.name in
+      let output = In-from_any (λ (p : VirtualOutput). o.name == p.cell.name) outs some in
+      let named_so : o.name ≡ output.0.cell.name = eqb-true o.name output.0.cell.name output.2 in
+      let at : output.0.cell ≡ cell = output_whole output.0 output.1 ∙ ap whole (sym named_so) in
+      let image = (output_object output.0 output.1).1 in
+      let virtual : o.object ≡ VirtualObject image.0 = let e = sym there ∙ ap (object_held objects) named_so ∙ image.1 in cc in
+      let written : is_written nodes cell ≡ true = ap (is_written nodes) (sym at) ∙ output_written output.0 output.1 in
+      ap (with_image o)
+      (exchanged_same outs o.name o.object (begun_as o.object (known cell))
+      (λ p i same.
+      let there : p.cell ≡ cell = output_whole p i ∙ ap whole (sym same) in
+      sym
+      (ap (λ x. begun_as x (known cell)) virtual ∙ ap (begun_as (VirtualObject image.0)) (ap known (sym there) ∙ output_known p i))) some)
+      ∙ sym (ap (λ b. if b then with_image o (begun_as o.object (known cell)) else o) written)
+
+  begun_one : (o : Named) → object_held objects o.name ≡ Some o.object
+      → with_image o (exchanged outs (cleared outs) o.name o.object) ≡ begun known nodes o
+  begun_one o there = elim (cases_Bool (is_output outs o.name)) [
+    | inl some ↦ begun_cleared o there some
+    | inr none ↦ ap (with_image o) (exchanged_beside outs (cleared outs) o.name o.object none) ∙ begun_kept o there none
+  ]
+
+  begun_each : (l : List Named) → All (λ o. object_held objects o.name ≡ Some o.object) l → begun_with outs l ≡ map (begun known nodes) l
+  begun_each [] there = refl
+  begun_each (o ∷ l) there =
+      let Held : Named → Type 0 = λ o. object_held objects o.name ≡ Some o.object in
+      ap (λ p. p ∷ begun_with outs l) (begun_one o (All-head Held o l there))
+      ∙ ap (λ k. begun known nodes o ∷ k) (begun_each l (All-tail Held o l there))
+
+  pub begun_is : IsStrictlyIncreasing (names_of objects) → begun_with outs objects ≡ map (begun known nodes) objects
+  begun_is names = begun_each objects (held_by_name objects names)
+
+  -- ---- each node can run at its turn
+
+  module _ (stand : CellsStand is nodes objects) where
+    -- a cell that a node names is then of the kind that stands there
+    known_kind : (n : Node) (cell : Cell) (wanted : Kind) → In n nodes → names_cell n cell ≡ true → StandsFor (is cell) wanted
+        → operand_kind (known cell) ≡ wanted
+    known_kind n cell wanted i named_there stands = elim (cases_Bool (is_virtual_operand (is cell))) [
+      | inl virtual ↦
+          (let output = in_outputs cell (virtual_written work is nodes can n cell i named_there virtual) virtual in
+          let outline = outline_of_virtual (is cell) virtual in
+          ap operand_kind (ap known output.2 ∙ output_known output.0 output.1) ∙ sym (subst (λ o. StandsFor o wanted) outline.1 stands))
+      | inr real ↦ ap operand_kind (known_kept (is cell) (outlines is nodes cell) real) ∙ real_kind (is cell) wanted real stands
+    ]
+      where
+        real_kind : (operand : Operand) (wanted : Kind) → is_virtual_operand operand ≡ false → StandsFor operand wanted
+            → operand_kind operand ≡ wanted
+        real_kind (Virtual declared) wanted real stands = absurd (cc)
+        real_kind other wanted real stands = stands
+
+    kind_found : (found : Option ObjectValue) (operand : Operand) (wanted : Kind) → option_map operand_of found ≡ Some operand
+        → operand_kind operand ≡ wanted → option_map object_kind found ≡ Some wanted
+    kind_found None operand wanted e is_kind = absurd (cc)
+    kind_found (Some x) operand wanted e is_kind =
+        ap Some (sym (kind-operand x) ∙ ap operand_kind (let same : operand_of x ≡ operand = cc in same) ∙ is_kind)
+
+    can_run_now : (n : Node) (now : List Named) → In n nodes → IsNode n → All (λ operand. StandsFor (is operand.0) operand.1) (operands n)
+        → CellsStand known nodes now → CanRunNow now n
+    can_run_now n now i node stands stand_now =
+        let found : (cell : Cell) → names_cell n cell ≡ true → option_map operand_of (held now cell) ≡ Some (known cell) =
+        λ cell named_there. stand_now.found n cell i named_there in
+        record {
+          node = node;
+          kinds =
+              All-from_In (HoldsKind now) (operands n)
+              (λ operand j.
+              let named_there = operand_named n operand j in
+              kind_found (held now operand.0) (known operand.0) operand.1 (found operand.0 named_there)
+              (known_kind n operand.0 operand.1 i named_there (In-from_All (λ (o : Cell × Kind). StandsFor (is o.0) o.1) (operands n)
+              stands operand j)));
+          verdict =
+              ap (verdict_on n)
+              (same_operands n (operand_held now) known (λ cell named_there. ap (λ o. unwrap_or o Delay) (found cell named_there)))
+              ∙ each_alone work is nodes runs n i;
+        }
+
+    in_turn : ((n : Node) → In n nodes → IsNode n)
+        → ((n : Node) → In n nodes → All (λ operand. StandsFor (is operand.0) operand.1) (operands n))
+        → (rest : List Node) (now : List Named) → AllIn rest nodes → CellsStand known nodes now
+        → CanRunInTurn rest now
+    in_turn are_nodes stands [] now within stand_now = tt
+    in_turn are_nodes stands (n ∷ rest) now within stand_now =
+        let i = within n (inl refl) in (
+          can_run_now n now i (are_nodes n i) (stands n i) stand_now,
+          in_turn are_nodes stands rest (with_written now (written_by n (held now))) (λ m j. within m (inr j))
+              (stands_after known nodes now stand_now n i (no_fault n known (each_alone work is nodes runs n i))),
+        )
+
+    pub steps_run : ((n : Node) → In n nodes → IsNode n)
+        → ((n : Node) → In n nodes → All (λ operand. StandsFor (is operand.0) operand.1) (operands n))
+        → IsStrictlyIncreasing (names_of objects)
+        → CanRunInTurn steps (begun_with outs objects)
+    steps_run are_nodes stands names =
+        subst (λ l. CanRunInTurn steps l) (sym (begun_is names))
+        (in_turn are_nodes stands steps (map (begun known nodes) objects) (AllIn-permutation_back nodes steps
+        how.order.same_nodes) (at_its_turn work is nodes runs objects stand [] (λ m none. absurd none)))
+
+    -- the run is the nodes in turn
+    pub run_is : AllPairs (λ a b. a.name < b.name) objects → IsStrictlyIncreasing (names_of objects)
+        → forgotten objects (one_by_one steps (begun_with outs objects)) ≡ run known nodes objects
+    run_is pairs names =
+        ap (λ l. forgotten objects (one_by_one steps l)) (begun_is names)
+        ∙ sym (run_in_order work is nodes runs objects stand pairs steps how.order)
+
+-- ---- a graph that is ready to run on what a table holds
+
+module _ (next : ℕ) (entries : List (Entry ObjectValue)) (names : IsNames next entries) (nodes : List Node) (v : Verified)
+    (h : IsReady (map named entries) nodes v) where
+  abbrev held_objects : List Named
+  held_objects = map named entries
+
+  pub ready_outputs : AreVirtual held_objects v.virtual_outputs.items
+  ready_outputs = are_virtual held_objects nodes v h.runs.0 h.verified h.runs.1
+
+  pub ready_steps : CanRunInTurn v.steps.items (begun_with v.virtual_outputs.items held_objects)
+  ready_steps =
+      steps_run held_objects nodes v h.runs.0 h.verified h.runs.1 h.cells (In-from_All IsNode nodes h.are_nodes)
+      (In-from_All (λ n. All (λ operand. StandsFor (operand_held held_objects operand.0) operand.1) (operands n)) nodes h.kinds)
+      (increasing-named next entries names)
+
+  pub ready_run : forgotten held_objects (one_by_one v.steps.items (begun_with v.virtual_outputs.items held_objects))
+      ≡ run (resolved (operand_held held_objects) nodes) nodes held_objects
+  ready_run =
+      run_is held_objects nodes v h.runs.0 h.verified h.runs.1 h.cells (order_there entries names.named.names)
+      (increasing-named next entries names)

@@ -1,0 +1,15 @@
+use Rattle.std.proofs.Common.{◌≡◌, ◌++◌, take, drop, map}
+use Rattle.object_table.specs.Named.{named}
+use Rattle.graph_run.specs.Turns.{exchanged_in, handed_out}
+use Rattle.graph_run.proofs.runs.exchange_all.Given as goal
+
+-- the outputs that are left exchange what all would exchange at first
+abbrev pub invariant-loop-k : goal.invariant-loop-k
+invariant-loop-k l =
+    record {
+      next : l.table.next ≡ l.initial.table.next;
+      value : exchanged_in (drop l.k l.outputs)
+          (drop l.k l.objects) l.table.objects ≡ exchanged_in l.outputs l.initial.objects l.initial.table.objects;
+      handed_out : take l.k l.objects ++ handed_out (drop l.k l.outputs) (drop l.k l.objects)
+          (map named l.table.objects) ≡ handed_out l.outputs l.initial.objects (map named l.initial.table.objects);
+    }

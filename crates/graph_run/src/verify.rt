@@ -1,0 +1,84 @@
+//! The verdicts on graphs, whose nodes name what a table holds.
+ghost use Rattle.std.specs.Prelude.{◌≡◌, IsTrue, None, Some, All, map, IfOk, IfErr, OnOk};
+ghost use Rattle.std.specs.Option.{option_map};
+ghost use Rattle.vx_base.specs.Graph.{nodes_of};
+ghost use Rattle.object_table.specs.Named.{named};
+ghost use Rattle.graph_verify.specs.Linked.{linked_nodes, AreOperands};
+ghost use Rattle.graph_verify.specs.Operand.{is_image, operands_of};
+ghost use Rattle.graph_verify.specs.Verdict.{verdict};
+ghost use Rattle.graph_verify.specs.Verified.{IfRefused, IsVerified};
+ghost use Rattle.graph_run.specs.Operands.{operand_held};
+
+use crate::operand::operand_in;
+use graph_verify::{Graph, Linked, Operand, Operands, Verified, VerifyFault, verify};
+use object_table::Table;
+use std::alloc::{AllocError, Global};
+use vx_base::{Node, Numbered, ObjRef};
+
+/// Verifies a graph whose nodes name what a table holds, and of which the virtual images that it
+/// writes may take so many bytes: its nodes in an order in which they can run, in memory of the
+/// allocator. The first input of each node is an image.
+pub fn verify_in(
+    alloc: Global,
+    table: &Table,
+    graph: &Graph,
+    work: u64,
+) -> Result<Verified, VerifyFault>
+    requires { All (λ n. IsTrue (is_image (operand_held (map named table.now.objects) n.in1)))
+        (nodes_of graph.now) }
+    ensures verified { IfOk result (IsVerified (operand_held (map named table.now.objects))
+        (nodes_of graph.now)) }
+    ensures ok { OnOk result (verdict work (operand_held (map named table.now.objects))
+        (nodes_of graph.now) ≡ None) }
+    ensures refused { IfErr result (λ fault. IfRefused fault (λ v.
+        verdict work (operand_held (map named table.now.objects)) (nodes_of graph.now) ≡ Some v)) }
+{
+    let nodes = linked(alloc, table, graph.nodes())?;
+    verify(alloc, &nodes, work)
+}
+
+/// Nodes beside what their cells are to them.
+fn linked(alloc: Global, table: &Table, nodes: &[Numbered]) -> Result<Vec<Linked>, AllocError>
+    ensures nodes { IfOk result (λ linked. linked_nodes linked.items ≡ map (λ n. n.node) nodes.now) }
+    ensures operands { IfOk result (λ linked. AreOperands (operand_held (map named table.now.objects)) linked.items) }
+{
+    let mut linked = Vec::new(alloc);
+    for numbered in nodes {
+        let node = numbered.node.node();
+        let operands = operands_held(table, &node);
+        linked.push(Linked { node, operands })?;
+    }
+    Ok(linked)
+}
+
+/// What the cells of a node are to it.
+fn operands_held(table: &Table, node: &Node) -> Operands
+    ensures { result ≡ operands_of (operand_held (map named table.now.objects)) node.now }
+{
+    Operands {
+        in1: operand_held(table, node.in1),
+        in2: operand_held_if(table, node.in2),
+        out1: operand_held_if(table, node.out1),
+        out2: operand_held_if(table, node.out2),
+    }
+}
+
+/// What a cell is to a node, if it is there.
+fn operand_held_if(table: &Table, cell: Option<ObjRef>) -> Option<Operand>
+    ensures { result ≡ option_map (operand_held (map named table.now.objects)) cell }
+{
+    match cell {
+        None => None,
+        Some(cell) => Some(operand_held(table, cell)),
+    }
+}
+
+/// What a cell is to a node of a graph, for which its name needn't be live.
+fn operand_held(table: &Table, cell: ObjRef) -> Operand
+    ensures { result ≡ operand_held (map named table.now.objects) cell }
+{
+    match table.index_of_held(cell.name()) {
+        None => Operand::Delay,
+        Some(index) => operand_in(table.object(index), cell.slot()).unwrap_or(Operand::Delay),
+    }
+}

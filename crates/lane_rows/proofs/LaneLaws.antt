@@ -1,0 +1,102 @@
+-- What is computed in lanes, lane by lane.
+use Rattle.std.proofs.Common.{◌≡◌, ℕ, ℤ, pos, zero, suc, ◌*◌, ◌/◌, ◌%◌, ◌^◌, ◌<◌, List, [], ◌∷◌, length, map, Bool, true, false, cond, min, ltb, w8, Fits, replicate, refl, ap, ◌∙◌, sym, subst, arith}
+use Rattle.std.specs.Prelude.{bit_and}
+use Rattle.std.specs.Int.{int_min, int_max}
+use Rattle.std.specs.Simd.Lanes.{zip2, Each1, sel_l, chunk, put_chunk}
+use Rattle.std.proofs.lemmas.Int.{ints, clamps}
+use Rattle.std.proofs.lemmas.Nat.{and_mask}
+use Rattle.std.proofs.lemmas.List.{length-map, take_all}
+use Rattle.std.proofs.lemmas.Simd.{length-zip2, put_chunk_whole}
+use Rattle.vx_base.specs.declared.format.Format.TheVariants.{U8}
+use Rattle.vx_base.specs.declared.policy.Policy.TheVariants.{Wrap, Saturate}
+use Rattle.vx_base.specs.Pixelwise.{product}
+use lib.Lanes.{top}
+
+-- ---- one operation after another
+
+pub in_pairs : (h g : ℕ → ℕ → ℕ) (w : ℕ → ℕ) (f : ℕ → ℕ → ℕ) (k : ℕ) → ((x y : ℕ) → Fits w8 x → Fits w8 y → h (g (w x) (w y)) k ≡ f x y)
+    → (n : ℕ) (xs ys : List ℕ) → length xs ≡ n → Each1 (Fits w8) xs → Each1 (Fits w8) ys → zip2 h (zip2 g (map w xs) (map w ys)) (replicate n k) ≡ zip2 f xs ys
+in_pairs h g w f k same n [] ys long ps qs = refl
+in_pairs h g w f k same n (x ∷ xs) [] long ps qs = refl
+in_pairs h g w f k same zero (x ∷ xs) (y ∷ ys) long ps qs = absurd (omega (arith, long))
+in_pairs h g w f k same (suc n) (x ∷ xs) (y ∷ ys) long ps qs = cc (same x y ps.0 qs.0, in_pairs h g w f k same n xs ys (omega (arith, long)) ps.1 qs.1)
+
+pub chosen_each : (c : ℕ → ℕ) (t : ℕ → Bool) (m : ℕ → ℕ → ℕ) (f : ℕ → ℕ) (k : ℕ) → ((x : ℕ) → c (cond (t (m x k)) x k) ≡ f x)
+    → (n : ℕ) (xs : List ℕ) → length xs ≡ n → map c (sel_l (map t (zip2 m xs (replicate n k))) xs (replicate n k)) ≡ map f xs
+chosen_each c t m f k same n [] long = refl
+chosen_each c t m f k same zero (x ∷ xs) long = absurd (omega (arith, long))
+chosen_each c t m f k same (suc n) (x ∷ xs) long = cc (same x, chosen_each c t m f k same n xs (omega (arith, long)))
+
+pub each_chosen : (P : ℕ → Type 0) (t : ℕ → Bool) (m : ℕ → ℕ → ℕ) (k : ℕ) → ((x : ℕ) → P (cond (t (m x k)) x k))
+    → (n : ℕ) (xs : List ℕ) → length xs ≡ n → Each1 P (sel_l (map t (zip2 m xs (replicate n k))) xs (replicate n k))
+each_chosen P t m k all n [] long = tt
+each_chosen P t m k all zero (x ∷ xs) long = absurd (omega (arith, long))
+each_chosen P t m k all (suc n) (x ∷ xs) long = (all x, each_chosen P t m k all n xs (omega (arith, long)))
+
+pub left_each : (c : ℕ → ℕ) (m : ℕ → ℕ → ℕ) (f : ℕ → ℕ) (k : ℕ) → ((x : ℕ) → c (m x k) ≡ f x) → (n : ℕ) (xs : List ℕ) → length xs ≡ n → map c (zip2 m xs (replicate n k)) ≡ map f xs
+left_each c m f k same n [] long = refl
+left_each c m f k same zero (x ∷ xs) long = absurd (omega (arith, long))
+left_each c m f k same (suc n) (x ∷ xs) long = cc (same x, left_each c m f k same n xs (omega (arith, long)))
+
+pub each_left : (P : ℕ → Type 0) (m : ℕ → ℕ → ℕ) (k : ℕ) → ((x : ℕ) → P (m x k)) → (n : ℕ) (xs : List ℕ) → length xs ≡ n → Each1 P (zip2 m xs (replicate n k))
+each_left P m k all n [] long = tt
+each_left P m k all zero (x ∷ xs) long = absurd (omega (arith, long))
+each_left P m k all (suc n) (x ∷ xs) long = (all x, each_left P m k all n xs (omega (arith, long)))
+
+-- ---- at one lane
+
+product_fits : (x y : ℕ) → x < 256 → y < 256 → x * y < 65536
+product_fits x y p q = grind arith
+
+-- products of bytes have 16 bits
+pub product_lane : (x y k n : ℕ) → k ≡ n → Fits w8 x → Fits w8 y → x * y % 65536 / 2 ^ k ≡ x * y / 2 ^ n
+product_lane x y k n same p q =
+    let small : x * y < 65536 = product_fits x y p.fits q.fits in
+    let whole : x * y % 65536 ≡ x * y = omega (arith, small) in
+    ap (λ m. m / 2 ^ k) whole ∙ ap (λ m. x * y / 2 ^ m) same
+
+chosen_w16 : (t : Bool) (a b : ℕ) → cond (top 15 (cond t 65535 0)) a b ≡ cond t a b
+chosen_w16 t a b = elim t as (λ v. cond (top 15 (cond v 65535 0)) a b ≡ cond v a b) [ true ↦ refl | false ↦ refl ]
+
+smaller_lane : (x y : ℕ) → cond (ltb x y) x y ≡ min x y
+smaller_lane x y = grind arith
+
+-- the smaller of a number and 255
+pub clamped_lane : (x : ℕ) → cond (top 15 (cond (ltb x 255) 65535 0)) x 255 ≡ min x 255
+clamped_lane x = chosen_w16 (ltb x 255) x 255 ∙ smaller_lane x 255
+
+pub clamped_fits : (x : ℕ) → Fits w8 (cond (top 15 (cond (ltb x 255) 65535 0)) x 255)
+clamped_fits x = let e : min x 255 < 256 = omega arith in subst (Fits w8) (sym (clamped_lane x)) (record { fits = e })
+
+-- the last eight bits of a number
+pub wrapped_lane : (x : ℕ) → bit_and x 255 ≡ x % 256
+wrapped_lane x = and_mask x 8
+
+pub wrapped_fits : (x : ℕ) → Fits w8 (bit_and x 255)
+wrapped_fits x = let e : x % 256 < 256 = omega arith in subst (Fits w8) (sym (wrapped_lane x)) (record { fits = e })
+
+-- ---- blocks that are stored
+
+numbers : (g : ℕ → ℕ) (h : ℕ → ℕ → ℕ) (f : ℤ → ℤ → ℤ) → ((x y : ℕ) → pos (g (h x y)) ≡ f (pos x) (pos y)) → (xs ys : List ℕ) → map pos (map g (zip2 h xs ys)) ≡ zip2 f (map pos xs) (map pos ys)
+numbers g h f same [] ys = refl
+numbers g h f same (x ∷ xs) [] = refl
+numbers g h f same (x ∷ xs) (y ∷ ys) = cc (same x y, numbers g h f same xs ys)
+
+pub pair_stored : (g : ℕ → ℕ) (h : ℕ → ℕ → ℕ) (f : ℤ → ℤ → ℤ) → ((x y : ℕ) → pos (g (h x y)) ≡ f (pos x) (pos y)) → (xs ys ps ws out : List ℕ)
+    → length xs ≡ 32 → length ys ≡ 32 → length out ≡ 32 → ps ≡ zip2 h (chunk 0 32 xs) (chunk 0 32 ys) → ws ≡ map g ps → map pos (put_chunk 0 out ws) ≡ zip2 f (map pos xs) (map pos ys)
+pair_stored g h f same xs ys ps ws out first second room pairs is =
+    let whole : ws ≡ map g (zip2 h xs ys) =
+    is ∙ ap (map g) (pairs ∙ ap (λ l. zip2 h l (chunk 0 32 ys)) (take_all 32 xs (omega (arith, first))) ∙ ap (zip2 h xs) (take_all 32 ys (omega (arith, second)))) in
+    let long : length out ≡ length ws = room ∙ sym (ap length whole ∙ length-map (zip2 h xs ys) g ∙ length-zip2 h xs ys (first ∙ sym second) ∙ first) in
+    ap (map pos) (put_chunk_whole out ws long ∙ whole) ∙ numbers g h f same xs ys
+
+-- ---- products
+
+clamp_pos : (p : ℕ) → pos (min p 255) ≡ int_max (pos 0) (int_min (pos p) (pos 255))
+clamp_pos p = grind (arith, ints, clamps)
+
+pub clamped_product : (n x y : ℕ) → pos (min (x * y / 2 ^ n) 255) ≡ product U8 Saturate n (pos x) (pos y)
+clamped_product n x y = clamp_pos (x * y / 2 ^ n)
+
+pub wrapped_product : (n x y : ℕ) → pos (x * y / 2 ^ n % 256) ≡ product U8 Wrap n (pos x) (pos y)
+wrapped_product n x y = refl

@@ -1,0 +1,4 @@
+mod RowLaws
+mod DepthLaws
+mod BlockLaws
+mod LaneLaws

@@ -1,0 +1,81 @@
+//! Bitwise kernels.
+ghost use Rattle.std.specs.Prelude.{◌≡◌, pos, map, length};
+ghost use Rattle.std.specs.Simd.Lanes.{zip2};
+ghost use Rattle.vx_base.specs.Pixelwise.{and_bits, or_bits, xor_bits, not_bits};
+
+use crate::rows::{OfItem, OfPair, map_row, zip_rows};
+
+struct And;
+
+impl OfPair<u8, u8, u8> for And {
+    ghost formula = { λ _. and_bits };
+
+    fn item(&self, a: u8, b: u8) -> u8 {
+        a & b
+    }
+}
+
+struct Or;
+
+impl OfPair<u8, u8, u8> for Or {
+    ghost formula = { λ _. or_bits };
+
+    fn item(&self, a: u8, b: u8) -> u8 {
+        a | b
+    }
+}
+
+struct Xor;
+
+impl OfPair<u8, u8, u8> for Xor {
+    ghost formula = { λ _. xor_bits };
+
+    fn item(&self, a: u8, b: u8) -> u8 {
+        a ^ b
+    }
+}
+
+struct Not;
+
+impl OfItem<u8, u8> for Not {
+    ghost formula = { λ _. not_bits };
+
+    fn item(&self, a: u8) -> u8 {
+        !a
+    }
+}
+
+/// Writes the bits that both items have.
+pub fn and_u8(first: &[u8], second: &[u8], out: &mut [u8])
+    requires first_len { length first.now ≡ length out.old }
+    requires second_len { length second.now ≡ length out.old }
+    ensures { map pos out.new ≡ zip2 and_bits (map pos first.now) (map pos second.now) }
+{
+    zip_rows(&And, first, second, out);
+}
+
+/// Writes the bits that one item has or both have.
+pub fn or_u8(first: &[u8], second: &[u8], out: &mut [u8])
+    requires first_len { length first.now ≡ length out.old }
+    requires second_len { length second.now ≡ length out.old }
+    ensures { map pos out.new ≡ zip2 or_bits (map pos first.now) (map pos second.now) }
+{
+    zip_rows(&Or, first, second, out);
+}
+
+/// Writes the bits that one item has and the other has not.
+pub fn xor_u8(first: &[u8], second: &[u8], out: &mut [u8])
+    requires first_len { length first.now ≡ length out.old }
+    requires second_len { length second.now ≡ length out.old }
+    ensures { map pos out.new ≡ zip2 xor_bits (map pos first.now) (map pos second.now) }
+{
+    zip_rows(&Xor, first, second, out);
+}
+
+/// Writes the items with each of their eight bits turned over.
+pub fn not_u8(row: &[u8], out: &mut [u8])
+    requires { length row.now ≡ length out.old }
+    ensures { map pos out.new ≡ map not_bits (map pos row.now) }
+{
+    map_row(&Not, row, out);
+}

@@ -1,0 +1,16 @@
+use Rattle.std.proofs.Common.{ap, ◌∙◌, eqb, w8, take, length, arith}
+use lib.Count.{ones}
+use Rattle.std.proofs.lemmas.List.{take_all}
+use Rattle.std.proofs.lemmas.Simd.{bitmask_splat, ones-mask_l}
+use Rattle.std.specs.Prelude.{count_by}
+use Rattle.stat_kernels.proofs.CountLaws.{bytes_counted}
+use Rattle.stat_kernels.proofs.short.U8Short.count_in.Goals as goal
+
+pub returns : goal.returns
+returns c =
+    let block = c.args.block.now in
+    let whole = take_all 32 block (omega (arith, c.requires)) in
+    ap ones (bitmask_splat w8 eqb (take 32 block) 32 c.args.self (ap length whole ∙ c.requires) (omega arith))
+    ∙ ones-mask_l (λ x. eqb x c.args.self) (take 32 block)
+    ∙ ap (count_by (λ x. eqb x c.args.self)) whole
+    ∙ bytes_counted c.args.self block

@@ -1,0 +1,13 @@
+//! Laws of the formats that a node may have.
+ghost use Rattle.std.specs.Prelude.{IsTrue, Option, Some};
+ghost use Rattle.vx_base.specs.declared.format.Format.{Format};
+ghost use Rattle.vx_base.specs.declared.function.Function.{Function};
+ghost use Rattle.vx_base.specs.Formats.{takes_formats, open_format};
+
+/// Inputs of which a function writes an image of some format are those of which it writes one of
+/// the format that it gives to an open output.
+pub fn open_formats()
+    ensures { (function : Function) (first output : Format) (second : Option Format) →
+        IsTrue (takes_formats function first second (Some output)) →
+        IsTrue (takes_formats function first second (Some (open_format function first))) }
+{}

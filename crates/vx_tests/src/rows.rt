@@ -1,0 +1,233 @@
+//! The kernels of lane_rows, at lengths around that of a block: each item that is written is the
+//! formula of the items at its place, and no other is touched.
+use lane_rows::{
+    absdiff_s16, absdiff_u8, add_s16, add_u8, and_u8, max_s16, max_u8, min_s16, min_u8, mul_s16,
+    mul_u8, narrow, not_u8, or_u8, shift_up, sub_s16, sub_u8, threshold_s16, threshold_u8, widen,
+    xor_u8,
+};
+use std::test::Fail;
+use vx_base::{Format, Policy, ThresholdKind, ThresholdRule};
+
+const LENGTHS: [usize; 9] = [0, 1, 15, 16, 17, 31, 33, 64, 65];
+
+/// The ends of U8 and numbers between them; of S16.
+const BYTES: [u8; 8] = [0, 255, 1, 254, 128, 127, 3, 77];
+
+const SHORTS: [i16; 8] = [0, 32_767, -32_768, -1, 1, 255, -3, 100];
+
+/// Each of eight numbers in turn.
+fn in_turn<T: Copy>(numbers: &[T; 8]) -> [T; 65] {
+    let mut items = [numbers[0]; 65];
+    for (i, item) in items.iter_mut().enumerate() {
+        *item = numbers[i % 8];
+    }
+    items
+}
+
+/// Each of eight numbers eight times: beside `in_turn`, each with each.
+fn in_runs<T: Copy>(numbers: &[T; 8]) -> [T; 65] {
+    let mut items = [numbers[0]; 65];
+    for (i, item) in items.iter_mut().enumerate() {
+        *item = numbers[i / 8 % 8];
+    }
+    items
+}
+
+/// Calls a kernel of one row at each length, and compares each item with the formula.
+macro_rules! assert_items {
+    ($rt:expr, $items:expr, $blank:expr;
+        |$row:ident, $out:ident| $call:expr;
+        |$x:ident| $formula:expr) => {
+        for length in LENGTHS {
+            let count = length.min(65);
+            let items = $items;
+            let mut written = [$blank; 65];
+            {
+                let $row = &items[..count];
+                let $out = &mut written[..count];
+                $call;
+            }
+            for i in 0..65 {
+                let $x = items[i];
+                let expected = if i < count { $formula } else { $blank };
+                assert_eq!($rt; written[i], expected);
+            }
+        }
+    };
+}
+
+/// Calls a kernel of two rows at each length, and compares each item with the formula.
+macro_rules! assert_pairs {
+    ($rt:expr, $numbers:expr, $blank:expr;
+        |$first:ident, $second:ident, $out:ident| $call:expr;
+        |$x:ident, $y:ident| $formula:expr) => {
+        for length in LENGTHS {
+            let count = length.min(65);
+            let (firsts, seconds) = (in_turn($numbers), in_runs($numbers));
+            let mut written = [$blank; 65];
+            {
+                let $first = &firsts[..count];
+                let $second = &seconds[..count];
+                let $out = &mut written[..count];
+                $call;
+            }
+            for i in 0..65 {
+                let $x = i32::from(firsts[i]);
+                let $y = i32::from(seconds[i]);
+                let expected = if i < count { $formula } else { $blank };
+                assert_eq!($rt; written[i], expected);
+            }
+        }
+    };
+}
+
+/// The number of 16 bits that agrees with this one modulo 65,536.
+fn wrapped(number: i32) -> i16 {
+    let rest = number.rem_euclid(65_536);
+    if rest < 32_768 {
+        rest as i16
+    } else {
+        (rest - 65_536) as i16
+    }
+}
+
+/// The nearest number of 16 bits.
+fn nearest(number: i32) -> i16 {
+    number.max(-32_768).min(32_767) as i16
+}
+
+/// What is left of a number in eight bits.
+fn wrapped_byte(number: i32) -> u8 {
+    number.rem_euclid(256) as u8
+}
+
+/// The nearest number of eight bits.
+fn nearest_byte(number: i32) -> u8 {
+    number.max(0).min(255) as u8
+}
+
+#[test]
+fn bits(rt: HostRuntime) {
+    assert_pairs!(rt, &BYTES, 77u8; |a, b, out| and_u8(a, b, out); |x, y| wrapped_byte(x & y));
+    assert_pairs!(rt, &BYTES, 77u8; |a, b, out| or_u8(a, b, out); |x, y| wrapped_byte(x | y));
+    assert_pairs!(rt, &BYTES, 77u8; |a, b, out| xor_u8(a, b, out); |x, y| wrapped_byte(x ^ y));
+    assert_items!(rt, in_turn(&BYTES), 77u8; |row, out| not_u8(row, out); |x| 255 - x);
+}
+
+#[test]
+fn sums_of_bytes(rt: HostRuntime) {
+    assert_pairs!(rt, &BYTES, 77u8;
+        |a, b, out| add_u8(a, b, Policy::Wrap, out);
+        |x, y| wrapped_byte(x + y));
+    assert_pairs!(rt, &BYTES, 77u8;
+        |a, b, out| add_u8(a, b, Policy::Saturate, out);
+        |x, y| nearest_byte(x + y));
+    assert_pairs!(rt, &BYTES, 77u8;
+        |a, b, out| sub_u8(a, b, Policy::Wrap, out);
+        |x, y| wrapped_byte(x - y));
+    assert_pairs!(rt, &BYTES, 77u8;
+        |a, b, out| sub_u8(a, b, Policy::Saturate, out);
+        |x, y| nearest_byte(x - y));
+}
+
+#[test]
+fn sums_of_shorts(rt: HostRuntime) {
+    assert_pairs!(rt, &SHORTS, 77i16;
+        |a, b, out| add_s16(a, b, Policy::Wrap, out);
+        |x, y| wrapped(x + y));
+    assert_pairs!(rt, &SHORTS, 77i16;
+        |a, b, out| add_s16(a, b, Policy::Saturate, out);
+        |x, y| nearest(x + y));
+    assert_pairs!(rt, &SHORTS, 77i16;
+        |a, b, out| sub_s16(a, b, Policy::Wrap, out);
+        |x, y| wrapped(x - y));
+    assert_pairs!(rt, &SHORTS, 77i16;
+        |a, b, out| sub_s16(a, b, Policy::Saturate, out);
+        |x, y| nearest(x - y));
+}
+
+#[test]
+fn products_of_bytes(rt: HostRuntime) {
+    assert_pairs!(rt, &BYTES, 77u8;
+        |a, b, out| mul_u8(a, b, 0, Policy::Wrap, out);
+        |x, y| wrapped_byte(x * y));
+    assert_pairs!(rt, &BYTES, 77u8;
+        |a, b, out| mul_u8(a, b, 7, Policy::Saturate, out);
+        |x, y| nearest_byte(x * y / 128));
+    assert_pairs!(rt, &BYTES, 77u8;
+        |a, b, out| mul_u8(a, b, 7, Policy::Wrap, out);
+        |x, y| wrapped_byte(x * y / 128));
+    assert_pairs!(rt, &BYTES, 77u8;
+        |a, b, out| mul_u8(a, b, 15, Policy::Saturate, out);
+        |x, y| nearest_byte(x * y / 32_768));
+}
+
+#[test]
+fn products_of_shorts(rt: HostRuntime) {
+    assert_pairs!(rt, &SHORTS, 77i16;
+        |a, b, out| mul_s16(a, b, 0, Policy::Wrap, out);
+        |x, y| wrapped(x * y));
+    assert_pairs!(rt, &SHORTS, 77i16;
+        |a, b, out| mul_s16(a, b, 1, Policy::Saturate, out);
+        |x, y| nearest(x * y / 2));
+    assert_pairs!(rt, &SHORTS, 77i16;
+        |a, b, out| mul_s16(a, b, 1, Policy::Wrap, out);
+        |x, y| wrapped(x * y / 2));
+    assert_pairs!(rt, &SHORTS, 77i16;
+        |a, b, out| mul_s16(a, b, 15, Policy::Saturate, out);
+        |x, y| nearest(x * y / 32_768));
+}
+
+#[test]
+fn distances(rt: HostRuntime) {
+    assert_pairs!(rt, &BYTES, 77u8;
+        |a, b, out| absdiff_u8(a, b, out);
+        |x, y| nearest_byte((x - y).max(y - x)));
+    assert_pairs!(rt, &SHORTS, 77i16;
+        |a, b, out| absdiff_s16(a, b, out);
+        |x, y| nearest((x - y).max(y - x)));
+}
+
+#[test]
+fn smaller_and_greater(rt: HostRuntime) {
+    assert_pairs!(rt, &BYTES, 77u8;
+        |a, b, out| min_u8(a, b, out);
+        |x, y| nearest_byte(if x < y { x } else { y }));
+    assert_pairs!(rt, &BYTES, 77u8;
+        |a, b, out| max_u8(a, b, out);
+        |x, y| nearest_byte(if x < y { y } else { x }));
+    assert_pairs!(rt, &SHORTS, 77i16;
+        |a, b, out| min_s16(a, b, out);
+        |x, y| nearest(if x < y { x } else { y }));
+    assert_pairs!(rt, &SHORTS, 77i16;
+        |a, b, out| max_s16(a, b, out);
+        |x, y| nearest(if x < y { y } else { x }));
+}
+
+#[test]
+fn depths(rt: HostRuntime) {
+    assert_items!(rt, in_turn(&BYTES), 77i16; |row, out| widen(row, out); |x| i16::from(x));
+    assert_items!(rt, in_turn(&BYTES), 77i16;
+        |row, out| shift_up(row, 7, out);
+        |x| nearest(i32::from(x) * 128));
+    assert_items!(rt, in_turn(&SHORTS), 77u8;
+        |row, out| narrow(row, 7, Policy::Saturate, out);
+        |x| nearest_byte(i32::from(x).div_euclid(128)));
+    assert_items!(rt, in_turn(&SHORTS), 77u8;
+        |row, out| narrow(row, 1, Policy::Wrap, out);
+        |x| wrapped_byte(i32::from(x).div_euclid(2)));
+}
+
+#[test]
+fn thresholds(rt: HostRuntime) -> Result<(), Fail> {
+    let (binary, range) = (ThresholdKind::Binary(127), ThresholdKind::Range(-3, 255));
+    let above = ThresholdRule::new(Format::U8, binary, 200, 9).ok_or("a rule")?;
+    let between = ThresholdRule::new(Format::S16, range, 200, 9).ok_or("a rule")?;
+    assert_items!(rt, in_turn(&BYTES), 77u8;
+        |row, out| threshold_u8(row, above, out);
+        |x| if x > 127 { 200 } else { 9 });
+    assert_items!(rt, in_turn(&SHORTS), 77u8;
+        |row, out| threshold_s16(row, between, out);
+        |x| if -3 <= x && x <= 255 { 200 } else { 9 });
+    Ok(())
+}

@@ -1,0 +1,152 @@
+//! Columns of three samples.
+ghost use Rattle.std.specs.Prelude.{◌≡◌, ◌+◌, ◌-◌, ◌<◌, ◌≤◌, ◌++◌, ℕ, ℤ, pos, ◌-ℤ◌, map, length, replicate, slice_index};
+ghost use Rattle.vx_base.specs.declared.format.Format.TheVariants.{U8};
+ghost use Rattle.vx_base.specs.Image.{run};
+ghost use Rattle.vx_base.specs.Window.{look};
+ghost use Rattle.border_rows.specs.Seen.{value_beside};
+ghost use Rattle.window_kernels.specs.Nine.{column_in, column_beside, column_seen};
+
+use border_rows::{row_in_place, value_beside};
+use image_core::{Image, Number};
+use vx_base::{Border, Rect};
+
+/// What a function of a column of three samples gives.
+pub trait OfColumn<S: Number> {
+    /// What it gives, of the samples from above to below.
+    ghost gives: { Self → ℤ → ℤ → ℤ → ℤ };
+
+    fn of_column(&self, above: u8, here: u8, below: u8) -> S
+        ensures { S.value result ≡ gives self.now (pos above) (pos here) (pos below) };
+}
+
+/// Writes one item to each place.
+fn set_all<S: Number>(out: &mut [S], item: S)
+    ensures { map S.value out.new ≡ replicate (length out.old) (S.value item) }
+{
+    for place in out.iter_mut() {
+        *place = item;
+    }
+}
+
+/// Writes what the columns of three rows give.
+fn write_down<S: Number, C: OfColumn<S>>(
+    column: &C,
+    above: &[u8],
+    here: &[u8],
+    below: &[u8],
+    out: &mut [S],
+)
+    requires above { length above.now ≡ length out.old }
+    requires here { length here.now ≡ length out.old }
+    requires below { length below.now ≡ length out.old }
+    ensures { map S.value out.new ≡ run 0 (length out.old) (column_in (C.gives column.now) above.now here.now below.now) }
+{
+    for (i, item) in out.iter_mut().enumerate() {
+        *item = column.of_column(above[i], here[i], below[i]);
+    }
+}
+
+/// What the column beside three samples gives.
+fn beside<S: Number, C: OfColumn<S>>(
+    column: &C,
+    border: Border,
+    above: u8,
+    here: u8,
+    below: u8,
+) -> S
+    ensures { S.value result ≡ column_beside (C.gives column.now) border above here below }
+{
+    column.of_column(
+        value_beside(border, above),
+        value_beside(border, here),
+        value_beside(border, below),
+    )
+}
+
+/// Writes what the columns of three rows give, after so many times what the column to their left
+/// gives, and before what the one to their right does.
+fn write_around<S: Number, C: OfColumn<S>>(
+    column: &C,
+    border: Border,
+    above: &[u8],
+    here: &[u8],
+    below: &[u8],
+    before: usize,
+    out: &mut [S],
+)
+    requires some { 0 < length above.now }
+    requires here { length here.now ≡ length above.now }
+    requires below { length below.now ≡ length above.now }
+    requires room { before + length above.now ≤ length out.old }
+    ensures { map S.value out.new ≡
+        replicate before (column_beside (C.gives column.now) border (slice_index above.now 0) (slice_index here.now 0) (slice_index below.now 0))
+        ++ (run 0 (length above.now) (column_in (C.gives column.now) above.now here.now below.now)
+        ++ replicate (length out.old - (before + length above.now)) (column_beside (C.gives column.now) border (slice_index above.now (length above.now - 1)) (slice_index here.now (length above.now - 1)) (slice_index below.now (length above.now - 1)))) }
+{
+    let last = above.len() - 1;
+    let (left, others) = out.split_at_mut(before);
+    let (middle, right) = others.split_at_mut(above.len());
+    set_all(left, beside(column, border, above[0], here[0], below[0]));
+    write_down(column, above, here, below, middle);
+    set_all(
+        right,
+        beside(column, border, above[last], here[last], below[last]),
+    );
+}
+
+/// A U8 image under a border, and where its windows give something.
+#[derive(Drop)]
+pub struct Window<'a, 'b> {
+    pub image: &'a Image<'b>,
+    pub border: Border,
+    /// A row as it is seen above and below all valid rows, where none of them is.
+    pub off_rows: &'a [u8],
+    pub area: Rect,
+    ghost format: { image.now.format ≡ U8 },
+    ghost columns: { (area.x1 ≤ image.now.valid.x1) × (area.x0 < area.x1 → image.now.valid.x0 < image.now.valid.x1) },
+    ghost inside: { area.x0 < area.x1 → image.now.valid.x0 ≤ area.x0 },
+    ghost rows: { (area.y1 ≤ image.now.valid.y1) × (area.y0 < area.y1 → image.now.valid.y0 < image.now.valid.y1) },
+    ghost off: { map pos off_rows.now ≡ replicate (length off_rows.now) (value_beside border (pos 0)) },
+    ghost room: { image.now.width ≤ length off_rows.now },
+}
+
+impl Window<'_, '_> {
+    /// Writes what the columns around row y give, from the one to the left of column x on.
+    pub fn write_columns<S: Number, C: OfColumn<S>>(
+        &self,
+        column: &C,
+        x: u16,
+        y: u16,
+        out: &mut [S],
+    )
+        requires rows { self.now.image.now.valid.y0 < self.now.image.now.valid.y1 }
+        requires column { (self.now.image.now.valid.x0 ≤ x) × (x < self.now.image.now.valid.x1) }
+        requires room { (3 ≤ length out.old) × (x + length out.old ≤ self.now.image.now.valid.x1 + 2) }
+        ensures { map S.value out.new ≡ run x (length out.old) (λ c. column_seen (C.gives column.now) (look self.now.image.now self.now.border) (pos c -ℤ pos 1) (pos y)) }
+    {
+        let valid = self.image.valid();
+        let first = x.saturating_sub(1).max(valid.x0());
+        let end = (usize::from(x) + out.len() - 1).min(usize::from(valid.x1()));
+        let count = end - usize::from(first);
+        let row = i32::from(y);
+        let above = row_in_place(
+            self.image,
+            first,
+            row - 1,
+            count,
+            self.border,
+            self.off_rows,
+        );
+        let here = row_in_place(self.image, first, row, count, self.border, self.off_rows);
+        let below = row_in_place(
+            self.image,
+            first,
+            row + 1,
+            count,
+            self.border,
+            self.off_rows,
+        );
+        let before = usize::from(first) + 1 - usize::from(x);
+        write_around(column, self.border, above, here, below, before, out);
+    }
+}

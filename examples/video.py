@@ -1,0 +1,178 @@
+#!/usr/bin/env python3
+"""What moves in a video, found while its frames come as from a camera.
+
+    examples/video.py FOLDER [VIDEO]
+
+takes the frames of a video by OpenCV (Debian's python3-opencv), which gives them as NumPy arrays;
+without VIDEO it makes one in FOLDER, parts on a belt, 1080p at 25 frames a second. The frames come
+at the video's pace, whether or not somebody takes them: one that comes while the one before still
+waits takes its place, and that one is dropped. A graph finds the rectangle around what has moved
+since the last frame that it saw. It prints how many frames were seen and dropped, and how long each
+took, and writes FOLDER/video.png: frames with that rectangle.
+"""
+
+import os
+import sys
+import threading
+import time
+from typing import Any, List, NamedTuple, Optional
+
+import feqyldan as vx
+from bounds import add_bounds, rectangle_of
+from sheet import folder_told
+
+try:
+    import cv2
+    import numpy
+except ImportError:
+    print("examples/video.py: OpenCV and NumPy aren't here, so there is nothing to show (Debian's "
+          "python3-opencv)")
+    sys.exit(0)
+
+WIDTH, HEIGHT, RATE, FRAMES = 1920, 1080, 25, 75
+SHOWN, SHOWN_WIDTH = 4, 480
+RED = (30, 30, 230)
+
+
+# ---- the video
+
+def belt(time: int) -> Any:
+    """A frame, blue, green and red from 0 to 255: a belt with rollers, and two parts that go along
+    it."""
+    frame = numpy.full((HEIGHT, WIDTH, 3), 60, numpy.uint8)
+    frame[300:780] = 90
+    frame[300:780, ::160] = 70
+    left = 20 * time
+    cv2.rectangle(frame, (left, 400), (left + 240, 560), (170, 190, 200), -1)
+    cv2.circle(frame, (left - 300, 640), 80, (120, 200, 160), -1)
+    return frame
+
+
+def make_video(path: str) -> str:
+    video = cv2.VideoWriter(path, cv2.VideoWriter_fourcc(*"MJPG"), RATE, (WIDTH, HEIGHT))
+    for time_of_frame in range(FRAMES):
+        video.write(belt(time_of_frame))
+    video.release()
+    return path
+
+
+class Camera(threading.Thread):
+    """Reads frames at the video's pace, and keeps the newest until it is taken."""
+
+    def __init__(self, path: str) -> None:
+        super().__init__(daemon=True)
+        self._video = cv2.VideoCapture(path)
+        self.width, self.height = (int(self._video.get(side)) for side in
+                                   (cv2.CAP_PROP_FRAME_WIDTH, cv2.CAP_PROP_FRAME_HEIGHT))
+        self.rate = self._video.get(cv2.CAP_PROP_FPS) or RATE
+        self.dropped = 0
+        self._newest: Optional[Any] = None
+        self._has_ended = False
+        self._changed = threading.Condition()
+
+    def run(self) -> None:
+        due = time.monotonic()
+        is_there, frame = self._video.read()
+        while is_there:
+            due += 1 / self.rate
+            time.sleep(max(0.0, due - time.monotonic()))
+            self._put(frame)
+            is_there, frame = self._video.read()
+        with self._changed:
+            self._has_ended = True
+            self._changed.notify()
+
+    def _put(self, frame: Any) -> None:
+        with self._changed:
+            self.dropped += self._newest is not None
+            self._newest = frame
+            self._changed.notify()
+
+    def take(self) -> Optional[Any]:
+        """The newest frame that nobody has taken, as soon as there is one; None after the last
+        one."""
+        with self._changed:
+            self._changed.wait_for(lambda: self._newest is not None or self._has_ended)
+            frame, self._newest = self._newest, None
+            return frame
+
+
+# ---- what is found in it
+
+class Seen(NamedTuple):
+    frame: Any
+    around: Optional[vx.Rectangle]
+    seconds: float
+
+
+class Watch:
+    """A graph that finds what has moved since the frame before."""
+
+    def __init__(self, context: vx.Context, width: int, height: int) -> None:
+        self._context, self._width = context, width
+        self._camera = context.image(vx.U8, width, height)
+        self._smooth = context.delay(self._camera, 2)
+        self._graph = graph = context.graph()
+        difference, moved, clean = (graph.virtual_image() for _ in range(3))
+        graph.gaussian3x3(self._camera, self._smooth[0], border=vx.REPLICATE)
+        graph.absdiff(self._smooth[0], self._smooth[-1], difference)
+        graph.threshold(difference, context.threshold(vx.U8, above=24), moved)
+        graph.erode3x3(moved, clean, border=vx.REPLICATE)
+        self._bounds = add_bounds(graph, clean, width, height)
+        graph.verify()
+
+    def look(self, frame: Any) -> Optional[vx.Rectangle]:
+        with self._context.pipeline() as ahead:
+            self._camera.write(cv2.cvtColor(frame, cv2.COLOR_BGR2GRAY))
+            self._graph.process()
+            self._smooth.age()
+            asked = [ahead.read(extremes) for extremes in self._bounds]
+        return rectangle_of([found.value() for found in asked], self._width)
+
+
+def watch(camera: Camera) -> List[Seen]:
+    seen: List[Seen] = []
+    with vx.Server() as server, server.context() as context:
+        graph = Watch(context, camera.width, camera.height)
+        camera.start()
+        frame = camera.take()
+        while frame is not None:
+            start = time.monotonic()
+            around = graph.look(frame)
+            seen.append(Seen(frame, around, time.monotonic() - start))
+            frame = camera.take()
+    return seen
+
+
+def drawn(seen: Seen) -> Any:
+    """A frame with the rectangle, smaller, as PNG has its colours."""
+    frame = seen.frame.copy()
+    if seen.around:
+        x0, y0, x1, y1 = seen.around
+        cv2.rectangle(frame, (x0 - 6, y0 - 6), (x1 + 5, y1 + 5), RED, 8)
+    height = frame.shape[0] * SHOWN_WIDTH // frame.shape[1]
+    return cv2.cvtColor(cv2.resize(frame, (SHOWN_WIDTH, height), interpolation=cv2.INTER_AREA),
+                        cv2.COLOR_BGR2RGB)
+
+
+def main() -> None:
+    folder = folder_told()
+    camera = Camera(sys.argv[2] if len(sys.argv) > 2
+                    else make_video(os.path.join(folder, "belt.avi")))
+    if not camera.width:
+        sys.exit("examples/video.py: OpenCV reads no such video")
+    # Before the first frame the delay is 0 everywhere, so that all that is bright has moved.
+    seen = watch(camera)[1:]
+    if not seen:
+        sys.exit("examples/video.py: a video has two frames or more")
+    times = sorted(one.seconds for one in seen)
+    print(f"    {camera.width} by {camera.height} at {camera.rate:g} frames a second: "
+          f"{1 + len(seen)} frames seen, {camera.dropped} dropped")
+    print(f"    each took {1000 * times[len(times) // 2]:.0f} ms, and none more than "
+          f"{1000 * times[-1]:.0f} ms; something moved in "
+          f"{sum(one.around is not None for one in seen)} of {len(seen)}")
+    shown = [drawn(seen[k * (len(seen) - 1) // (SHOWN - 1)]) for k in range(SHOWN)]
+    vx.write_png(os.path.join(folder, "video.png"), numpy.hstack(shown))
+
+
+main()

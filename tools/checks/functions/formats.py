@@ -1,0 +1,84 @@
+"""Each function on every combination of formats, those that are refused among them."""
+
+import itertools
+
+from feqyldan import wire
+from checks.functions.formulas import (
+    BINARY, COUNTS, FOUND, FUNCTIONS, IMAGE, MATRIX, NOTHING, RANGE, SLANTED, TABLE, THIRDS)
+from checks.functions.pictures import ENDS, LEAST, S16, U32, U8, Way, confined, entries, whole
+from checks.functions.session import CLIENT, HEIGHT
+from checks.functions.worked import UNDEFINED
+
+INVALID_FORMAT = 5
+
+
+def samples_of(fmt, count, step):
+    ends = ENDS[fmt]
+    return [ends[(k * step + k // len(ends)) % len(ends)] for k in range(count)]
+
+
+def objects(session, width, valid):
+    """The names of the inputs and outputs, by what they are for and their format, and the samples
+    of the images. The inputs are valid in that rectangle."""
+    count = width * HEIGHT
+    names, samples = {(NOTHING, NOTHING): None}, {}
+    for fmt in (U8, S16, U32):
+        for key, step in (("first", 1), (IMAGE, 3)):
+            samples[key, fmt] = samples_of(fmt, count, step)
+            names[key, fmt] = session.image(fmt, width, samples[key, fmt])
+            session.ask(wire.set_valid(CLIENT, names[key, fmt], valid), "SetValid")
+        names["output", fmt] = session.image(fmt, width, [99] * count)
+    for fmt in (U8, S16):
+        names[TABLE, fmt] = session.create(wire.create_lut(CLIENT, fmt, entries(fmt)))
+        for limits in (BINARY, RANGE):
+            # A limit is a sample of the format.
+            allowed = tuple(max(LEAST[fmt], limit) for limit in limits)
+            names[limits, fmt] = session.create(wire.create_threshold(CLIENT, fmt, allowed, 200, 7))
+    names[MATRIX, NOTHING] = session.convolution(SLANTED)
+    names["output", COUNTS] = session.distribution(THIRDS)
+    names["output", FOUND] = session.create(wire.create_min_max(CLIENT))
+    return names, samples
+
+
+def all_formats(names, second, allowed):
+    """The formats of both inputs and of the output, in every combination, or with the kind that the
+    output has."""
+    seconds = [fmt for fmt in (NOTHING, U8, S16, U32) if (second, fmt) in names]
+    kinds = {output for _, _, output in allowed} & {COUNTS, FOUND}
+    return itertools.product((U8, S16, U32), seconds, kinds or (U8, S16, U32))
+
+
+def formats(session, width, valid):
+    """Every function on every format, on images that are valid in a rectangle: how many nodes give
+    their formulas, and how many are refused."""
+    names, samples = objects(session, width, valid)
+    ran = refused = 0
+    for number, second, policies, amounts, allowed, gives in FUNCTIONS:
+        for first, beside, output in all_formats(names, second, allowed):
+            operands = names["first", first], names[second, beside], names["output", output]
+            picture = confined(whole(width, HEIGHT, samples["first", first]), valid)
+            others = [max(LEAST[first], -1)] * width * HEIGHT
+            given = {IMAGE: samples.get((IMAGE, beside)), MATRIX: SLANTED}.get(second, others)
+            for policy, amount in itertools.product(policies, amounts):
+                way = Way(output, policy, amount)
+                words = f"function {number} of {first} and {beside}, {width} wide, {valid}, {way}"
+                if (first, beside, output) not in allowed:
+                    session.run(number, *operands, way, words, INVALID_FORMAT)
+                    refused += 1
+                    continue
+                session.run(number, *operands, way, words)
+                session.holds(operands[2], output, gives(picture, given, way), words)
+                ran += 1
+    return ran, refused + gradients_refused(session, names)
+
+
+def gradients_refused(session, names):
+    """Sobel into each pair of formats but two of S16, one of which may be absent: how many are
+    refused."""
+    pairs = [(one, other) for one in (None, U8, S16, U32) for other in (U8, S16, U32)
+             if not {one, other} <= {None, S16}]
+    for one, other in pairs:
+        out1, words = names.get(("output", one)), f"Sobel to {one} and {other}"
+        session.run(wire.SOBEL, names["first", U8], None, out1, UNDEFINED, words, INVALID_FORMAT,
+                    names[IMAGE, other])
+    return len(pairs)

@@ -1,0 +1,162 @@
+"""The verdict on a graph, and its run: nodes that are linked by the cells which they read and
+write.
+
+It knows no client. `nodes` are those of a graph in the order of adding. `things` is what each of
+their cells holds, where a virtual image is what was declared of it.
+"""
+
+from feqyldan.wire import (
+    INVALID_DIMENSION, INVALID_FORMAT, INVALID_GRAPH, INVALID_LINK, MULTIPLE_WRITERS, NO_RESOURCES,
+    SUCCESS)
+from checks.model.functions import (
+    IN1, INPUTS, OUTPUTS, Image, VirtualImage, format_of, is_open, new_image, same_size,
+    sample_bytes)
+
+
+def cells_of(node, operands=INPUTS + OUTPUTS):
+    """The cells of those operands that are there."""
+    return [node.cells[k] for k in operands if node.cells[k] is not None]
+
+
+def cells_written(nodes):
+    return [cell for node in nodes for cell in cells_of(node, OUTPUTS)]
+
+
+def cells_read(nodes):
+    return [cell for node in nodes for cell in cells_of(node, INPUTS)]
+
+
+def in_order(nodes):
+    """The nodes, each after those that write what it reads; without those on a cycle, and those
+    after one."""
+    order, left = [], [*nodes]
+    while True:
+        unwritten = {*cells_written(left)}
+        ready = [node for node in left if unwritten.isdisjoint(cells_of(node, INPUTS))]
+        if not ready:
+            return order
+        order += ready
+        left = [node for node in left if not unwritten.isdisjoint(cells_of(node, INPUTS))]
+
+
+# ---- virtual images
+
+
+def filled(thing, node, first):
+    """An output, with what is open in it taken from the node's in1 as far as that is known."""
+    if not isinstance(thing, VirtualImage) or not is_open(thing):
+        return thing
+    fmt, width, height = node.function.opened(first.fmt), first.width, first.height
+    return thing._replace(fmt=thing.fmt or fmt, width=thing.width or width,
+                          height=thing.height or height)
+
+
+def filled_by(nodes, things):
+    """What the nodes make of their outputs, all at once."""
+    return {cell: filled(things[cell], node, things[node.cells[IN1]])
+            for node in nodes for cell in cells_of(node, OUTPUTS)}
+
+
+def described(nodes, things):
+    """What the cells hold, where what is open in a virtual image is filled by its writer: in as
+    many rounds as there are nodes, of which those after one that fills nothing may be left out."""
+    for _ in nodes:
+        before, things = things, {**things, **filled_by(nodes, things)}
+        if things == before:
+            break
+    return things
+
+
+# ---- the verdict
+
+
+def two_writers(nodes, *_):
+    """Of one cell: outputs of two nodes, or of one."""
+    written = cells_written(nodes)
+    return MULTIPLE_WRITERS if len({*written}) < len(written) else None
+
+
+def cycle(nodes, *_):
+    return INVALID_GRAPH if len(in_order(nodes)) < len(nodes) else None
+
+
+def missing_writer(nodes, things, _):
+    unwritten = {*cells_read(nodes)} - {*cells_written(nodes)}
+    return INVALID_LINK if any(isinstance(things[cell], VirtualImage)
+                               for cell in unwritten) else None
+
+
+def has_other_formats(node, things):
+    return tuple(format_of(things.get(cell)) for cell in node.cells) not in node.function.formats
+
+
+def has_other_size(node, things):
+    images = [things[cell]
+              for cell in cells_of(node) if isinstance(things[cell], (Image, VirtualImage))]
+    return any(not same_size(image, things[node.cells[IN1]]) for image in images)
+
+
+NODE_REFUSALS = ((has_other_formats, INVALID_FORMAT), (has_other_size, INVALID_DIMENSION))
+
+
+def faulty_node(nodes, things, _):
+    """The first fault of the first node that has one."""
+    codes = (code for node in nodes for applies, code in NODE_REFUSALS if applies(node, things))
+    return next(codes, None)
+
+
+def work_bytes(nodes, things):
+    """Of all the virtual images that the nodes write."""
+    images = [things[cell]
+              for cell in cells_written(nodes) if isinstance(things[cell], VirtualImage)]
+    return sum(image.width * image.height * sample_bytes(image.fmt) for image in images)
+
+
+def too_much_work(nodes, things, work):
+    return NO_RESOURCES if work_bytes(nodes, things) > work else None
+
+
+# Each gives the code with which it refuses a graph, or None: of the nodes, of what their cells hold
+# as it is described, and of the work bytes that are allowed. The first decides.
+VERDICTS = (two_writers, cycle, missing_writer, faulty_node, too_much_work)
+VERDICT_CODES = {
+    MULTIPLE_WRITERS, INVALID_GRAPH, INVALID_LINK, INVALID_FORMAT, INVALID_DIMENSION, NO_RESOURCES,
+    SUCCESS}
+
+
+def verdict(nodes, things, work):
+    things = described(nodes, things)
+    codes = (refusal(nodes, things, work) for refusal in VERDICTS)
+    return next((code for code in codes if code is not None), SUCCESS)
+
+
+# ---- runs, of graphs whose verdict is SUCCESS
+
+
+def started(nodes, things):
+    """What the cells hold when a run begins: a virtual image is a new one."""
+    return {cell: new_image(*thing[1:]) if isinstance(thing, VirtualImage) else thing
+            for cell, thing in described(nodes, things).items()}
+
+
+def given(node, things):
+    """What a node gives to each cell that it writes."""
+    operands = [None if cell is None else things[cell] for cell in node.cells]
+    return {node.cells[k]: thing for k, thing in node.function.gives(node, operands).items()}
+
+
+def run(nodes, things):
+    """What the cells hold after a run: each node runs once, after those that write what it
+    reads."""
+    for node in in_order(nodes):
+        things = {**things, **given(node, things)}
+    return things
+
+
+def run_in_rounds(nodes, things):
+    """The same: in each of as many rounds as there are nodes, all of them run on what the round
+    before left."""
+    for _ in nodes:
+        things = {**things,
+                  **{cell: thing for node in nodes for cell, thing in given(node, things).items()}}
+    return things

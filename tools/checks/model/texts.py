@@ -1,0 +1,63 @@
+"""PGM texts: their grammar, and the pictures that they spell."""
+
+import re
+import struct
+
+from feqyldan.wire import INVALID_DIMENSION, INVALID_FORMAT, INVALID_VALUE, S16, U8
+from checks.model.functions import Image, sample_bytes, whole
+from checks.model.state import refuse_if
+
+# A comment ends with the first CR or LF.
+SPACE, COMMENT, NUMBER = rb"[ \t\r\n]", rb"#[^\r\n]*[\r\n]", rb"[0-9]+"
+GAP = b"(?:" + SPACE + b"|" + COMMENT + b")+"
+HEADER = b"(P2|P5)" + 3 * (GAP + b"(" + NUMBER + b")")
+PLAIN_RASTER = b"(?:" + GAP + NUMBER + b")*(?:" + GAP + b")?"
+GREATEST_MAXVAL = 32767
+
+
+def number_of(digits):
+    """The number; a billion for one of more digits, since no limit is as great."""
+    digits = digits.lstrip(b"0")
+    return int(digits or b"0") if len(digits) < 10 else 10**9
+
+
+def header_of(text):
+    """Its magic, its three numbers, and what follows them; with P5 a whitespace byte is still the
+    header's."""
+    header = re.match(HEADER, text)
+    refuse_if(header is None, INVALID_FORMAT)
+    magic, rest = header[1], text[header.end() :]
+    if magic == b"P5":
+        refuse_if(re.match(SPACE, rest) is None, INVALID_FORMAT)
+        rest = rest[1:]
+    return magic, [number_of(digits) for digits in header.groups()[1:]], rest
+
+
+def raster_samples(raster, fmt, count):
+    """The samples after P5's header, which take one byte or two."""
+    refuse_if(len(raster) != count * sample_bytes(fmt), INVALID_FORMAT)
+    return struct.unpack(f">{count}{'B' if fmt == U8 else 'H'}", raster)
+
+
+def plain_samples(rest, count):
+    """The samples after P2's header: each is a gap and a number, and a gap may follow the last."""
+    refuse_if(re.fullmatch(PLAIN_RASTER, rest) is None, INVALID_FORMAT)
+    numbers = re.sub(COMMENT, b" ", rest).split()
+    refuse_if(len(numbers) != count, INVALID_FORMAT)
+    return [number_of(digits) for digits in numbers]
+
+
+def picture_of(text):
+    """The picture of a PGM text, whose first fault refuses it."""
+    magic, (width, height, maxval), rest = header_of(text)
+    refuse_if(not (1 <= width <= 4096 and 1 <= height <= 4096), INVALID_DIMENSION)
+    refuse_if(not 1 <= maxval <= GREATEST_MAXVAL, INVALID_FORMAT)
+    fmt, count = U8 if maxval < 256 else S16, width * height
+    samples = plain_samples(rest, count) if magic == b"P2" else raster_samples(rest, fmt, count)
+    refuse_if(any(sample > maxval for sample in samples), INVALID_VALUE)
+    return Image(fmt, width, height, whole(width, height), samples)
+
+
+def text_of(image):
+    """The PGM text of an image of U8."""
+    return b"P5\n%d %d\n255\n" % (image.width, image.height) + bytes(image.samples)

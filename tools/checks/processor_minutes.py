@@ -1,0 +1,100 @@
+"""The processor minutes that the prover took for each crate, while a command ran."""
+
+import collections
+import os
+import subprocess
+import sys
+import threading
+import time
+
+TICKS = os.sysconf("SC_CLK_TCK")
+KINDS = ("proof", "tests", "edits", "build")
+
+
+def stat(pid):
+    """A process by its number and its start, its parent's number, and the seconds that it and its
+    ended children have used."""
+    with open(f"/proc/{pid}/stat") as file:
+        fields = file.read().rsplit(")", 1)[1].split()
+    ticks = sum(map(int, fields[11:15]))
+    return (int(pid), fields[19]), int(fields[1]), ticks / TICKS
+
+
+def work_of(pid):
+    """The crate and the kind of work of a process of the prover; None of any other process."""
+    with open(f"/proc/{pid}/cmdline") as file:
+        words = file.read().split("\0")
+    if os.path.basename(words[0]) != "rattle" or "--crate-name" not in words:
+        return None
+    if "--test" in words:
+        kind = "tests"
+    elif os.path.basename(os.readlink(f"/proc/{pid}/cwd")).startswith("rt-edit-"):
+        kind = "edits"
+    elif "--crate-checked" in words:
+        kind = "build"
+    else:
+        kind = "proof"
+    return words[words.index("--crate-name") + 1], kind
+
+
+def sample(root, times, works):
+    """Notes the time so far of each process of the prover below the root."""
+    found = {}
+    for entry in os.listdir("/proc"):
+        if entry.isdigit():
+            try:
+                found[int(entry)] = stat(entry)
+            except (OSError, IndexError, ValueError):
+                pass
+    for pid, (process, _, _) in found.items():
+        # (what isn't the prover yet may become it)
+        if works.get(process) is None:
+            try:
+                works[process] = work_of(pid)
+            except OSError:
+                pass
+    for pid, (process, parent, seconds) in found.items():
+        # A forked copy of the prover counts with the process that forked it, once it has ended.
+        is_copy = parent in found and works.get(found[parent][0]) is not None
+        if works.get(process) and not is_copy and below(pid, root, found):
+            alive = sum(its for _, its_parent, its in found.values() if its_parent == pid)
+            times[process] = max(times.get(process, 0), seconds + alive)
+
+
+def below(pid, root, found):
+    while pid in found and pid != root:
+        pid = found[pid][1]
+    return pid == root
+
+
+def line(words, minutes):
+    """The minutes by kind, and their sum."""
+    kinds = "  ".join(f"{minutes[kind]:7.1f}" for kind in KINDS)
+    return f"{words:22} {kinds}  {sum(minutes.values()):7.1f}"
+
+
+def main():
+    start = time.time()
+    process = subprocess.Popen(sys.argv[1:])
+    times, works, ended = {}, {}, threading.Event()
+
+    def watch():
+        while not ended.wait(0.25):
+            sample(process.pid, times, works)
+
+    watcher = threading.Thread(target=watch)
+    watcher.start()
+    status = process.wait()
+    ended.set()
+    watcher.join()
+    sums = collections.defaultdict(lambda: dict.fromkeys(KINDS, 0.0))
+    for process, seconds in times.items():
+        crate, kind = works[process]
+        sums[crate][kind] += seconds / 60
+    print(f"\nprocessor minutes      {'  '.join(f'{kind:>7}' for kind in KINDS)}      all")
+    for crate, minutes in sums.items():
+        print(line(crate, minutes))
+    total = {kind: sum(minutes[kind] for minutes in sums.values()) for kind in KINDS}
+    print(line("all", total))
+    print(f"{(time.time() - start) / 60:.1f} minutes on {os.cpu_count()} processors")
+    return status

@@ -1,0 +1,107 @@
+"""Sessions on images and on how many objects there are: what is written and read, released objects,
+full contexts, and pictures of all sizes."""
+
+from feqyldan import wire
+from feqyldan.wire import (
+    INVALID_DIMENSION, INVALID_FORMAT, INVALID_REFERENCE, INVALID_TYPE, INVALID_VALUE, NO_RESOURCES,
+    S16, U32, U8, reference)
+from checks.sessions.rows import (
+    CLIENT, CREATES, EXTREMES, NOTHING_FOUND, RANGES, SAME, THIRDS, TURNED, delayed, found, holds,
+    made, name, opened, ran, released, threshold, wrote)
+
+
+def pictures():
+    """What is written is read, until something else is."""
+    return [
+        opened(), made(1, U8, 3, 1), made(2, S16, 1, 3), made(3, U32, 2, 1),
+        wrote(1, U8, [7, 0, 255], 3, 1), wrote(2, S16, [-2, -32768, 258], 1, 3),
+        wrote(3, U32, [4_294_967_294, 16_909_060], 2, 1), holds(1, U8, [7, 0, 255], 3, 1),
+        holds(2, S16, [-2, -32768, 258], 1, 3), holds(3, U32, [4_294_967_294, 16_909_060], 2, 1),
+        wrote(1, U8, [1, 2, 3], 3, 1), holds(1, U8, [1, 2, 3], 3, 1),
+    ]
+
+
+def refusals_of_pictures():
+    """WriteImage and ReadImage of what isn't an image of that format and size."""
+    return [
+        opened(), made(1, U8), (TURNED, name(2)),
+        *((wire.write_image(CLIENT, to, fmt, width, 1, bytes([10]) * width * fmt), code)
+          for to, fmt, width, code in (
+              (reference(3, 0), S16, 2, INVALID_REFERENCE), (reference(1, 0), S16, 2, INVALID_TYPE),
+              (2, U8, 1, INVALID_TYPE), (1, S16, 2, INVALID_FORMAT), (1, S16, 1, INVALID_FORMAT),
+              (1, U8, 2, INVALID_DIMENSION))),
+        (wire.write_image(CLIENT, 1, U8, 1, 2, b"\n\n"), INVALID_DIMENSION),
+        holds(1, U8, [0]),
+        *((wire.read_image(CLIENT, named), code) for named, code in (
+            (reference(3, 0), INVALID_REFERENCE), (reference(1, 0), INVALID_TYPE),
+            (2, INVALID_TYPE), (0, INVALID_REFERENCE), (2**32 - 1, INVALID_REFERENCE))),
+    ]
+
+
+def objects_released():
+    """Whatever is released is gone, and its name with it; what else there is stays."""
+    return [
+        opened(), made(1, U8), made(2, U8), (TURNED, name(3)), (threshold(U8), name(4)), opened(8),
+        made(1, U8, client=8), wrote(1, U8, [204]), wrote(2, U8, [170]),
+        released(0, INVALID_REFERENCE), released(5, INVALID_REFERENCE),
+        released(2**32 - 1, INVALID_REFERENCE), released(256, INVALID_REFERENCE),
+        released(1), (wire.read_image(CLIENT, 1), INVALID_REFERENCE),
+        released(1, INVALID_REFERENCE), ran(4, 1, None, 2, INVALID_REFERENCE),
+        (wire.write_image(CLIENT, 1, U8, 1, 1, b"\n"), INVALID_REFERENCE),
+        holds(2, U8, [170]), holds(1, U8, [0], client=8), ran(12, 2, 3, 1, INVALID_REFERENCE),
+        made(5, U8), holds(5, U8, [0]), ran(12, 2, 3, 5), holds(5, U8, [85]), ran(11, 2, 4, 5),
+        holds(5, U8, [7]),
+        # A table and a threshold; then the newest object, whose name isn't used again either.
+        released(3), ran(12, 2, 3, 5, INVALID_REFERENCE), ran(11, 2, 4, 5), released(4),
+        ran(11, 2, 4, 5, INVALID_REFERENCE), released(5), made(6, S16),
+        (wire.read_image(CLIENT, 5), INVALID_REFERENCE), holds(6, S16, [0]),
+        released(2), released(6), released(6, INVALID_REFERENCE), made(7, U8),
+        holds(1, U8, [0], client=8),
+    ]
+
+
+def full_context():
+    """1,024 objects, and as many again as are released."""
+    return [
+        opened(), (TURNED, name(1)), (threshold(U8), name(2)), made(3, U8), delayed(4, 3, 16),
+        (SAME, name(5)), (THIRDS, name(6)), (EXTREMES, name(7)),
+        *(made(number, U8) for number in range(8, 1025)),
+        *((request, NO_RESOURCES) for request in (*CREATES, wire.create_delay(CLIENT, 3, 1))),
+        # What is wrong with the exemplar is told before.
+        (wire.create_delay(CLIENT, reference(4, 16), 1), INVALID_VALUE),
+        opened(8), made(1, U8, client=8), holds(1024, U8, [0]),
+        (wire.read_image(CLIENT, 1025), INVALID_REFERENCE), released(1), (TURNED, name(1025)),
+        (threshold(U8), NO_RESOURCES), released(1024), released(3), made(1026, U8), made(1027, U8),
+        (TURNED, NO_RESOURCES), holds(1027, U8, [0]),
+        (wire.read_image(CLIENT, 1024), INVALID_REFERENCE),
+        # A delay leaves one place, however many slots it has.
+        released(4), delayed(1028, 1027, 2), (TURNED, NO_RESOURCES), released(1028), made(1029, U8),
+        (TURNED, NO_RESOURCES),
+    ]
+
+
+def full_of_extremes():
+    """1,024 objects that are charged nothing."""
+    return [
+        opened(), *((EXTREMES, name(number)) for number in range(1, 1025)),
+        *((request, NO_RESOURCES) for request in CREATES), released(1), (EXTREMES, name(1025)),
+        (EXTREMES, NO_RESOURCES), found(1025, *NOTHING_FOUND),
+    ]
+
+
+def sizes(fmt, size):
+    """Pictures whose bodies, with 10 bytes before the samples, are about 64 bytes and about a
+    buffer of 65,536."""
+    low, high = RANGES[fmt]
+    rows, number = [opened()], 0
+    shapes = [((body - 10) // size, 1) for body in range(56, 73, size)]
+    # Of 65,535 and 65,536 samples, 32,767 and 32,768, 16,383 and 16,384; the longest row and
+    # column; and a large one.
+    shapes += [(3855, 17), (4096, 16), (1057, 31), (4096, 8), (381, 43), (4096, 4), (4096, 1),
+               (1, 4096), (1500, 2), (641, 479)]
+    for width, height in shapes:
+        samples = [low + (at * 40_503) % (high - low + 1) for at in range(width * height)]
+        number += 1
+        rows += [made(number, fmt, width, height), wrote(number, fmt, samples, width, height),
+                 holds(number, fmt, samples, width, height)]
+    return rows

@@ -1,0 +1,47 @@
+"""Sessions on the nodes of Immediate: those that run, and those that are refused."""
+
+from feqyldan.wire import (
+    INVALID_DIMENSION, INVALID_FORMAT, INVALID_GRAPH, INVALID_REFERENCE, INVALID_TYPE, S16, U8,
+    reference)
+from checks.sessions.rows import TURNED, holds, made, name, opened, ran, threshold, wrote
+
+
+def nodes_that_run():
+    pixels = [holds(1, U8, [204]), holds(2, U8, [170])]
+    return [
+        opened(), made(1, U8), made(2, U8), made(3, U8), made(4, S16), (TURNED, name(5)),
+        (threshold(U8), name(6)), wrote(1, U8, [204]), wrote(2, U8, [170]),
+        *(row for function, in2, out1, fmt, sample in (
+            (4, None, 3, U8, 51), (1, 2, 3, U8, 136), (5, 2, 4, S16, 374), (5, 1, 4, S16, 408),
+            (11, 6, 3, U8, 7), (12, 5, 3, U8, 51), (13, None, 4, S16, 204),
+        ) for row in (ran(function, 1, in2, out1), holds(out1, fmt, [sample]), *pixels)),
+    ]
+
+
+def refusals_of_nodes():
+    """1 and 6 are images of one U8 sample, 2 one of S16, 3 of two U8; 4 is a table, 5 a threshold
+    of S16; there is no 9."""
+    slot = reference(1, 0)
+    return [
+        opened(), made(1, U8), made(2, S16), made(3, U8, 2), (TURNED, name(4)),
+        (threshold(S16), name(5)), made(6, U8),
+        # Names before kinds, in1 to out1.
+        ran(4, slot, None, 9, INVALID_REFERENCE), ran(4, 9, None, slot, INVALID_REFERENCE),
+        ran(4, slot, None, slot, INVALID_TYPE), ran(4, 1, None, slot, INVALID_TYPE),
+        ran(12, 4, 9, 5, INVALID_REFERENCE),
+        # Kinds before all that follows.
+        ran(12, 4, 4, 4, INVALID_TYPE), ran(12, 1, 4, 4, INVALID_TYPE),
+        ran(12, 1, 6, 1, INVALID_TYPE), ran(12, 1, 5, 1, INVALID_TYPE),
+        ran(11, 2, 6, 2, INVALID_TYPE), ran(11, 2, 4, 2, INVALID_TYPE),
+        ran(1, 1, 5, 1, INVALID_TYPE),
+        # What is read and written before formats.
+        ran(4, 1, None, 1, INVALID_GRAPH), ran(4, 2, None, 2, INVALID_GRAPH),
+        ran(1, 1, 2, 2, INVALID_GRAPH), ran(1, 1, 6, 6, INVALID_GRAPH),
+        # Formats before sizes.
+        ran(4, 2, None, 3, INVALID_FORMAT), ran(4, 3, None, 2, INVALID_FORMAT),
+        ran(11, 1, 5, 3, INVALID_FORMAT), ran(12, 2, 4, 3, INVALID_FORMAT),
+        ran(4, 1, None, 3, INVALID_DIMENSION), ran(1, 1, 3, 6, INVALID_DIMENSION),
+        ran(1, 1, 1, 3, INVALID_DIMENSION),
+        *(holds(number, fmt, [0] * width, width)
+          for number, fmt, width in ((1, U8, 1), (2, S16, 1), (3, U8, 2), (6, U8, 1))),
+    ]

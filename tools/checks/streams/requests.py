@@ -1,0 +1,109 @@
+"""The table of random requests: what draws the body of each, and how often each is asked."""
+
+from checks import model
+from checks.model.state import (
+    ADD_NODE, AGE_DELAY, CREATE_CONVOLUTION, CREATE_DELAY, CREATE_DISTRIBUTION, CREATE_GRAPH,
+    CREATE_IMAGE, CREATE_LUT, CREATE_MIN_MAX, CREATE_THRESHOLD, CREATE_VIRTUAL_IMAGE, IMMEDIATE,
+    OPEN_CONTEXT, PROCESS_GRAPH, QUERY_IMAGE, READ_DISTRIBUTION, READ_IMAGE, READ_IMAGE_PGM,
+    READ_MIN_MAX, RELEASE, RELEASE_CONTEXT, REMOVE_NODE, SET_VALID, VERIFY_GRAPH, WRITE_IMAGE,
+    WRITE_IMAGE_PGM)
+from checks.streams import bodies
+from checks.streams import nodes as random_nodes
+
+BODIES = {
+    OPEN_CONTEXT: bodies.nothing,
+    RELEASE_CONTEXT: bodies.nothing,
+    CREATE_IMAGE: bodies.create_image,
+    QUERY_IMAGE: bodies.query_image,
+    WRITE_IMAGE: bodies.write_image,
+    WRITE_IMAGE_PGM: bodies.write_image_pgm,
+    READ_IMAGE: bodies.read_image,
+    READ_IMAGE_PGM: bodies.read_image,
+    SET_VALID: bodies.set_valid,
+    RELEASE: bodies.release,
+    CREATE_LUT: bodies.create_lut,
+    CREATE_THRESHOLD: bodies.create_threshold,
+    CREATE_CONVOLUTION: bodies.create_convolution,
+    CREATE_DISTRIBUTION: bodies.create_distribution,
+    READ_DISTRIBUTION: bodies.read_distribution,
+    CREATE_MIN_MAX: bodies.nothing,
+    READ_MIN_MAX: bodies.read_min_max,
+    CREATE_GRAPH: bodies.nothing,
+    CREATE_VIRTUAL_IMAGE: bodies.create_virtual_image,
+    ADD_NODE: random_nodes.add_node,
+    REMOVE_NODE: bodies.remove_node,
+    VERIFY_GRAPH: bodies.verify_graph,
+    PROCESS_GRAPH: bodies.verify_graph,
+    IMMEDIATE: random_nodes.immediate,
+    CREATE_DELAY: bodies.create_delay,
+    AGE_DELAY: bodies.age_delay,
+}
+
+# The creates, with how often each is asked for by a client that has few objects, and by one that is
+# to have many.
+FEW = {
+    CREATE_IMAGE: 16, CREATE_LUT: 3, CREATE_THRESHOLD: 4, CREATE_CONVOLUTION: 3,
+    CREATE_DISTRIBUTION: 3, CREATE_MIN_MAX: 2, CREATE_DELAY: 4, CREATE_GRAPH: 2,
+    CREATE_VIRTUAL_IMAGE: 3}
+MANY = {
+    CREATE_IMAGE: 20, CREATE_LUT: 1, CREATE_THRESHOLD: 15, CREATE_CONVOLUTION: 5,
+    CREATE_DISTRIBUTION: 5, CREATE_MIN_MAX: 15, CREATE_DELAY: 2, CREATE_GRAPH: 10,
+    CREATE_VIRTUAL_IMAGE: 15}
+
+# Where in a body the names stand, and where those of what is written; a node's four operands are of
+# 5 bytes.
+NAMES_AT = {
+    QUERY_IMAGE: (0,), WRITE_IMAGE: (0,), WRITE_IMAGE_PGM: (0,), READ_IMAGE: (0,),
+    READ_IMAGE_PGM: (0,), SET_VALID: (0,), RELEASE: (0,), READ_DISTRIBUTION: (0,),
+    READ_MIN_MAX: (0,), IMMEDIATE: (5, 10, 15, 20), CREATE_DELAY: (0,), AGE_DELAY: (0,),
+    CREATE_VIRTUAL_IMAGE: (0,), ADD_NODE: (0, 9, 14, 19, 24), REMOVE_NODE: (0,),
+    VERIFY_GRAPH: (0,), PROCESS_GRAPH: (0,)}
+WRITTEN_AT = {WRITE_IMAGE: (0,), WRITE_IMAGE_PGM: (0,), SET_VALID: (0,), IMMEDIATE: (15, 20)}
+# Where the operands stand that a node reads.
+INPUTS_AT = (5, 10)
+
+# What is asked about an object of a kind, or about an image in a slot.
+QUESTIONS = {
+    model.Image: (QUERY_IMAGE, READ_IMAGE), model.VirtualImage: (QUERY_IMAGE,),
+    model.Distribution: (READ_DISTRIBUTION,), model.Extremes: (READ_MIN_MAX,)}
+
+# What isn't an op: an op that isn't known, and the first request of many about a graph.
+
+# What isn't an op: an op that isn't known, and the first request of many about a graph.
+UNKNOWN, GRAPH = None, "graph"
+# What counts where a client is to have some objects.
+NO_GRAPH = (
+    model.Image, model.Delay, model.Lut, model.Threshold, model.Convolution, model.Distribution,
+    model.Extremes)
+
+# How often each op is asked for by a client that has some objects.
+WEIGHTS = {
+    OPEN_CONTEXT: 2,
+    RELEASE_CONTEXT: 1,
+    CREATE_IMAGE: 7,
+    QUERY_IMAGE: 12,
+    WRITE_IMAGE: 12,
+    WRITE_IMAGE_PGM: 36,
+    READ_IMAGE: 10,
+    READ_IMAGE_PGM: 9,
+    SET_VALID: 12,
+    RELEASE: 6,
+    CREATE_LUT: 3,
+    CREATE_THRESHOLD: 4,
+    CREATE_CONVOLUTION: 5,
+    CREATE_DISTRIBUTION: 4,
+    READ_DISTRIBUTION: 7,
+    CREATE_MIN_MAX: 2,
+    READ_MIN_MAX: 8,
+    CREATE_GRAPH: 2,
+    CREATE_VIRTUAL_IMAGE: 4,
+    ADD_NODE: 24,
+    REMOVE_NODE: 4,
+    VERIFY_GRAPH: 5,
+    PROCESS_GRAPH: 8,
+    IMMEDIATE: 120,
+    CREATE_DELAY: 3,
+    AGE_DELAY: 8,
+    UNKNOWN: 2,
+    GRAPH: 25,
+}

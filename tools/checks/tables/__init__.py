@@ -1,0 +1,32 @@
+"""Tables of streams, which are written from docs/wire.md, and every byte that the program
+answers."""
+
+import sys
+
+from checks.tables.apply import check_apply, check_longest
+from checks.tables.bodies import check_bodies
+from checks.tables.devices import check_devices
+from checks.tables.endings import check_streams
+from checks.tables.limits import check_quota, check_told_limits
+from checks.tables.program import Program
+from checks.tables.sessions import check_greatest_integral, check_sessions
+from checks.tables.words import check_refused_words, check_words
+
+
+def main():
+    if len(sys.argv) != 2:
+        sys.exit("usage: tools/check_program PROGRAM")
+    program = Program(sys.argv[1])
+    check_streams(program)
+    bodies = check_bodies(program)
+    asked = check_sessions(program)
+    check_greatest_integral(program)
+    check_quota(program)
+    check_told_limits(program)
+    check_apply(program)
+    check_longest(program)
+    check_refused_words(program)
+    check_words(program)
+    check_devices(program)
+    print(f"check_program: {program.runs} runs, {bodies} bodies and {asked} requests of sessions "
+          "were answered as the tables say")

@@ -1,0 +1,103 @@
+"""What `apply` makes of PGM texts: the text of what one function gives out."""
+
+import os
+import subprocess
+import tempfile
+import time
+
+from feqyldan import wire
+from feqyldan.wire import U8
+from checks.sessions.rows import TEN_TO_FORTY
+from checks.sessions.texts import FAULTY_TEXTS, TEXTS, raw
+from checks.sessions.windows import ONE_TO_NINE, centred
+from checks.tables.program import check, shown
+
+SQUARE, COUNT = raw(2, 2, TEN_TO_FORTY), raw(3, 3, ONE_TO_NINE)
+# The words after `apply`, the text that is read, and the width, the height and the samples of what
+# is written.
+APPLIED = (
+    (("box", "--border", "replicate"), SQUARE, (2, 2, [20, 23, 26, 30])),
+    (("box", "--border=replicate"), SQUARE, (2, 2, [20, 23, 26, 30])),
+    (("--border", "replicate", "box"), SQUARE, (2, 2, [20, 23, 26, 30])),
+    (("box",), SQUARE, (2, 2, [0] * 4)),
+    (("box", "--border", "undefined"), SQUARE, (2, 2, [0] * 4)),
+    (("not",), raw(2, 1, [10, 20]), (2, 1, [245, 235])),
+    *((("not", *border), SQUARE, (2, 2, [245, 235, 225, 215])) for border in (
+        (), ("--border", "undefined"), ("--border=undefined",), ("--border", "replicate"))),
+    *((words, COUNT, (3, 3, samples)) for function, centre, replicated in (
+        ("not", None, [254, 253, 252, 251, 250, 249, 248, 247, 246]),
+        ("box", 5, [2, 3, 3, 4, 5, 5, 6, 7, 7]), ("gaussian", 5, [2, 2, 3, 4, 5, 5, 6, 7, 8]),
+        ("median", 5, [2, 3, 3, 4, 5, 6, 7, 7, 8]), ("erode", 1, [1, 1, 2, 1, 1, 2, 4, 4, 5]),
+        ("dilate", 9, [5, 6, 6, 8, 9, 9, 8, 9, 9]),
+    ) for words, samples in (
+        ((function, "--border", "replicate"), replicated),
+        ((function, "--border=undefined"), centred(centre) if centre else replicated),
+        ((function,), centred(centre) if centre else replicated))),
+    *((("box", "--border=replicate"), text, (2, 2, [20, 23, 26, 30])) for text in (
+        b"P2 # a\n2 2 255 10 20 30 40 # z\n", b"P2 2 2 40 010 20 0030 40",
+        b"P5#\r2\t2\r\n40 \x0a\x14\x1e\x28")),
+    *(((function, "--border", "replicate"), raw(1, 1, [7]), (1, 1, [7]))
+      for function in ("box", "gaussian", "median", "erode", "dilate")),
+)
+
+# The longest text that is read.
+LONGEST = 134_217_728
+
+
+def check_apply(program):
+    for words, text, (width, height, samples) in APPLIED:
+        program.check(f"apply {words} on {text}", text, raw(width, height, samples),
+                      words=("apply", *words))
+    for text, fmt, width, height, samples in TEXTS:
+        turned = raw(width, height, [255 - sample for sample in samples]) if fmt == U8 else b""
+        ended = (0, b"") if fmt == U8 else (5, b"INVALID_FORMAT\n")
+        program.check(f"apply not on {text}", text, turned, *ended, ("apply", "not"))
+    for code, texts in FAULTY_TEXTS.items():
+        for text in texts:
+            program.check(f"apply on {text}", text, b"", 5, wire.CODES[code].encode() + b"\n",
+                          ("apply", "median", "--border=replicate"))
+    program.check("apply on the largest picture", b"P5 4096 4096 255\n" + bytes(2**24),
+                  b"P5\n4096 4096\n255\n" + b"\xff" * 2**24, words=("apply", "not"))
+    check_pieces(program)
+
+
+def check_pieces(program):
+    """A text that comes in pieces; the program waits for its end."""
+    with subprocess.Popen([program.path, "apply", "not"], stdin=subprocess.PIPE,
+                          stdout=subprocess.PIPE,
+                          bufsize=0) as process:
+        for piece in (SQUARE[:1], SQUARE[1:12], SQUARE[12:]):
+            process.stdin.write(piece)
+            time.sleep(0.1)
+        process.stdin.close()
+        output = process.stdout.read()
+    check((process.returncode, output) == (0, raw(2, 2, [245, 235, 225, 215])),
+          f"apply on pieces: {process.returncode}, {shown(output)}")
+    program.runs += 1
+
+
+def check_longest(program):
+    """Texts as long as may be, and one byte longer, which is told whatever the text is."""
+    apply, too_long = ("apply", "not"), (5, b"NO_RESOURCES\n")
+    program.check("the longest text", b"P2 1 1 255 5".ljust(LONGEST), raw(1, 1, [250]), words=apply)
+    program.check("the longest text that has a fault", b"P5".ljust(LONGEST), b"", 5,
+                  b"INVALID_FORMAT\n", apply)
+    for text in (b"P2 1 1 255 5", b"P5 0 1 255\n"):
+        program.check(f"{text} and more than the longest", text.ljust(LONGEST + 1), b"", *too_long,
+                      apply)
+    # No byte beyond that one is read, and none is waited for.
+    with tempfile.TemporaryFile() as stream:
+        stream.truncate(LONGEST + 65_536)
+        run = subprocess.run([program.path, *apply], stdin=stream, capture_output=True, timeout=120)
+        at = os.lseek(stream.fileno(), 0, os.SEEK_CUR)
+    check((run.returncode, run.stdout, run.stderr, at) == (5, b"", b"NO_RESOURCES\n", LONGEST + 1),
+          f"a file that is too long: {run}, read to {at}")
+    with subprocess.Popen([program.path, *apply], stdin=subprocess.PIPE, stdout=subprocess.PIPE,
+                          stderr=subprocess.PIPE) as process:
+        for _ in range(LONGEST // 2**16):
+            process.stdin.write(bytes(2**16))
+        process.stdin.write(b"\0")
+        process.stdin.flush()
+        got = process.wait(timeout=120), process.stdout.read(), process.stderr.read()
+    check(got == (5, b"", b"NO_RESOURCES\n"), f"a pipe that isn't closed: {got}")
+    program.runs += 2

@@ -1,0 +1,105 @@
+"""Devices that fail: a folder that is read, and a full one that is written; and those that move a
+byte at a call, one of which fails."""
+
+import os
+import subprocess
+import tempfile
+
+from feqyldan import wire
+from feqyldan.wire import NOT_BITS, U8
+from checks.sessions.rows import CLIENT, holds, made, opened, ran, reply_to, wrote
+from checks.tables.apply import SQUARE
+from checks.tables.program import check, shown
+
+HERE = os.path.dirname(os.path.abspath(__file__))
+# Two images of one sample; the second is the inverse of the first.
+STORED = [
+    opened(), made(1, U8), made(2, U8), wrote(1, U8, [10]), ran(NOT_BITS, 1, None, 2),
+    holds(2, U8, [245])]
+
+
+def run_on_a_folder(program, words):
+    """A folder can't be read."""
+    with tempfile.TemporaryDirectory() as folder:
+        entry = os.open(folder, os.O_RDONLY)
+        run = subprocess.run([program.path, *words], stdin=entry, capture_output=True, timeout=60)
+        os.close(entry)
+    return run.returncode, run.stdout, run.stderr
+
+
+def run_into_a_full_device(program, words, stream):
+    """/dev/full takes nothing."""
+    with open("/dev/full", "wb") as full:
+        run = subprocess.run([program.path, *words], input=stream, stdout=full,
+                             stderr=subprocess.PIPE, timeout=60)
+    return run.returncode, run.stderr
+
+
+def check_pieces(program):
+    """The stored stream a byte at a call, with each read and each write failing in turn."""
+    with tempfile.TemporaryDirectory() as folder:
+        shim = os.path.join(folder, "fail_call.so")
+        subprocess.run(["cc", "-O1", "-shared", "-fPIC", "-o", shim,
+                        os.path.join(HERE, "fail_call.c"), "-ldl"], check=True)
+        stream = b"".join(request for request, _ in STORED)
+        replies = [reply_to(request, wanted) for request, wanted in STORED]
+        got = run_in_pieces(program, shim, stream)
+        check(got == (0, b"".join(replies), b""), f"in pieces of a byte: {got}")
+        check_failing_reads(program, shim, stream, replies)
+        check_failing_writes(program, shim, stream, replies)
+
+
+def check_failing_reads(program, shim, stream, replies):
+    """The replies of the frames that were read whole are there. The last read is that which finds
+    the end of the stream."""
+    number = 0
+    for k, (request, _) in enumerate(STORED):
+        for _ in request:
+            number += 1
+            got = run_in_pieces(program, shim, stream, FAIL_READ=number)
+            check(got == (4, b"".join(replies[:k]), b"read failed\n"), f"read {number}: {got}")
+    got = run_in_pieces(program, shim, stream, FAIL_READ=number + 1)
+    check(got == (4, b"".join(replies), b"read failed\n"), f"the read of the end: {got}")
+
+
+def check_failing_writes(program, shim, stream, replies):
+    """All that was written before is there, and nothing after the reply whose write failed: what is
+    left of that one the program may still write as it ends."""
+    number = 0
+    for k, reply in enumerate(replies):
+        before, most = number, b"".join(replies[:k + 1])
+        for number in range(before + 1, before + 1 + len(reply)):
+            status, output, line = run_in_pieces(program, shim, stream, FAIL_WRITE=number)
+            check((status, line) == (4, b"write failed\n"), f"write {number}: {status}, {line!r}")
+            check(len(output) >= number - 1 and most.startswith(output),
+                  f"write {number}: {shown(output)}")
+
+
+def run_in_pieces(program, shim, stream, **failing):
+    """The program's status, output and line where a call with this number fails."""
+    environment = {**os.environ, "LD_PRELOAD": shim}
+    environment.update({variable: str(number) for variable, number in failing.items()})
+    program.runs += 1
+    run = subprocess.run([program.path, "serve"], input=stream, capture_output=True,
+                         env=environment, timeout=60)
+    return run.returncode, run.stdout, run.stderr
+
+
+def check_devices(program):
+    check_pieces(program)
+    for words in (("serve",), ("apply", "not")):
+        got = run_on_a_folder(program, words)
+        check(got == (4, b"", b"read failed\n"), f"a reader that fails under {words}: {got}")
+    # The words are refused before anything is read, and a text before anything is written.
+    got = run_on_a_folder(program, ("apply", "sobel"))
+    check(got[:2] == (2, b"") and got[2].startswith(b"error: "),
+          f"a word that is refused before a reader that fails: {got}")
+    for words, stream, wanted in (
+        (("serve",), wire.open_context(CLIENT), (4, b"write failed\n")),
+        (("apply", "not"), SQUARE, (4, b"write failed\n")),
+        (("apply", "not"), b"P5", (5, b"INVALID_FORMAT\n")),
+        (("apply", "not"), b"P2 1 1 300 5", (5, b"INVALID_FORMAT\n")),
+        (("apply", "not"), b"P5 0 1 255\n", (5, b"INVALID_DIMENSION\n")),
+    ):
+        got = run_into_a_full_device(program, words, stream)
+        check(got == wanted, f"a writer that fails under {words}, {stream}: {got}, not {wanted}")

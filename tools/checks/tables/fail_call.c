@@ -1,0 +1,41 @@
+/* Moves the program's input and output in pieces, one of which fails: preloaded before the C
+ * library, `read` of standard input and `write` to standard output take one byte at a call, and the
+ * call of either with the number in FAIL_READ or FAIL_WRITE (from 1) fails. */
+#define _GNU_SOURCE
+#include <dlfcn.h>
+#include <errno.h>
+#include <stdlib.h>
+#include <unistd.h>
+
+typedef ssize_t (*call)(int, void *, size_t);
+
+static int fails(const char *variable, long number) {
+  const char *failing = getenv(variable);
+  return failing && atol(failing) == number;
+}
+
+ssize_t read(int file, void *bytes, size_t count) {
+  static long calls;
+  call whole = (call)dlsym(RTLD_NEXT, "read");
+  if (file != STDIN_FILENO)
+    return whole(file, bytes, count);
+  calls += 1;
+  if (fails("FAIL_READ", calls)) {
+    errno = EIO;
+    return -1;
+  }
+  return whole(file, bytes, count > 1 ? 1 : count);
+}
+
+ssize_t write(int file, const void *bytes, size_t count) {
+  static long calls;
+  call whole = (call)dlsym(RTLD_NEXT, "write");
+  if (file != STDOUT_FILENO)
+    return whole(file, (void *)bytes, count);
+  calls += 1;
+  if (fails("FAIL_WRITE", calls)) {
+    errno = EIO;
+    return -1;
+  }
+  return whole(file, (void *)bytes, count > 1 ? 1 : count);
+}

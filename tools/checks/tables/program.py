@@ -1,0 +1,47 @@
+"""The server's program, run on streams of bytes, and what its answers are compared with."""
+
+import os
+import subprocess
+import sys
+
+from feqyldan import wire
+from checks.sessions.rows import reply_to
+
+
+def check(condition, what):
+    if not condition:
+        sys.exit(f"check_program: {what}")
+
+
+def shown(stream):
+    if len(stream) <= 64:
+        return stream.hex(" ")
+    return f"{stream[:64].hex(' ')} .. ({len(stream)} bytes)"
+
+
+class Program:
+    def __init__(self, path):
+        self.path, self.runs = os.path.abspath(path), 0
+
+    def run(self, stream, words=("serve",)):
+        """The program's status, output and line on standard error."""
+        self.runs += 1
+        run = subprocess.run([self.path, *words], input=stream, capture_output=True, timeout=120)
+        return run.returncode, run.stdout, run.stderr
+
+    def check(self, name, stream, output, status=0, line=b"", words=("serve",)):
+        got = self.run(stream, words)
+        check(got[1] == output, f"{name}: {shown(got[1])}, not {shown(output)}")
+        check(got[0] == status and got[2] == line,
+              f"{name}: status {got[0]} and {got[2]!r}, not {status} and {line!r}")
+
+    def check_rows(self, name, rows, words=("serve",)):
+        """Rows of a request and its reply, each a code or the body of a success, in one stream."""
+        status, output, _ = self.run(b"".join(request for request, _ in rows), words)
+        replies = wire.replies(output)
+        check(status == 0 and len(replies) == len(rows),
+              f"{name}: status {status}, {len(replies)} replies to {len(rows)} requests")
+        for at, (reply, (request, wanted)) in enumerate(zip(replies, rows)):
+            expected = reply_to(request, wanted)
+            check(reply == expected,
+                  f"{name}: request {at}, {shown(request)}: {shown(reply)}, not {shown(expected)}")

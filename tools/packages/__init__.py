@@ -1,0 +1,8 @@
+"""The packages of the server and the Python package: what tools/package builds."""
+
+import os
+import sys
+
+ROOT = os.path.realpath(os.path.join(os.path.dirname(os.path.abspath(__file__)), "..", ".."))
+PYTHON = os.path.join(ROOT, "clients", "python")
+sys.path.insert(0, PYTHON)

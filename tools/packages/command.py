@@ -1,0 +1,70 @@
+"""The command tools/package."""
+
+import argparse
+import os
+import re
+import subprocess
+import sys
+import tempfile
+
+import feqyldan
+from feqyldan import program
+
+from . import ROOT, debian, wheels
+
+KINDS = {"default": program.PLAIN, "x86-64-v3": program.FASTER}
+
+
+def programs_of(asked):
+    """By the name that it has in a package, each program's bytes; refused where one isn't there, or
+    is of another version."""
+    here = {os.path.basename(path) for path in program.built()}
+    found = {}
+    for kind, name in KINDS.items():
+        path = vars(asked)[kind] or os.path.join(program.CRATE, "out", name)
+        if not os.access(path, os.X_OK):
+            sys.exit(f"tools/package: {path} isn't there: build it by tools/build --cpu={kind}")
+        if name in here:
+            check_version(path)
+        with open(path, "rb") as file:
+            found[name] = file.read()
+    return found
+
+
+def check_version(path):
+    said = subprocess.run([path, "--version"], stdout=subprocess.PIPE, text=True, check=True).stdout
+    if said.split()[1:] != [feqyldan.__version__]:
+        sys.exit(f"tools/package: {path} is {said.strip()}, and the Python package "
+                 f"{feqyldan.__version__}")
+
+
+def c_library(programs):
+    """The oldest version of the C library that has all that the programs name of it."""
+    named = [found for data in programs.values()
+             for found in re.findall(rb"GLIBC_(\d+)\.(\d+)", data)]
+    return max((int(major), int(minor)) for major, minor in named)
+
+
+def date():
+    """In seconds since 1970, what every file in the packages is dated: the last commit's, or where
+    there is none, 1980, the first that a wheel can say."""
+    run = subprocess.run(["git", "-C", ROOT, "log", "-1", "--format=%ct"], text=True, check=False,
+                         stdout=subprocess.PIPE, stderr=subprocess.DEVNULL)
+    return run.stdout.strip() or "315532800"
+
+
+def main():
+    parser = argparse.ArgumentParser(prog="tools/package")
+    parser.add_argument("folder", nargs="?", default=os.path.join(ROOT, "out"))
+    for kind in KINDS:
+        parser.add_argument(f"--{kind}", dest=kind, metavar="PROGRAM")
+    asked = parser.parse_args()
+    programs = programs_of(asked)
+    oldest = c_library(programs)
+    os.environ.setdefault("SOURCE_DATE_EPOCH", date())
+    os.umask(0o022)
+    os.makedirs(asked.folder, exist_ok=True)
+    with tempfile.TemporaryDirectory() as folder:
+        pure = wheels.pure(folder)
+        print(wheels.with_programs(pure, programs, oldest, asked.folder))
+        print(debian.build(pure, programs, oldest, asked.folder))

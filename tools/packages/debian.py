@@ -1,0 +1,183 @@
+"""The package for Debian: the server for both kinds of processor, the Python package, the broker as
+a service, manual pages and documents; and the C library where it is in the tree."""
+
+import glob
+import gzip
+import hashlib
+import os
+import shutil
+import subprocess
+import sys
+import tempfile
+
+import feqyldan
+
+from . import ROOT, wheels
+
+NAME = "feqyldan"
+LIBRARY = os.path.join(ROOT, "clients", "c")
+CONTROL = """\
+Package: {name}
+Version: {version}
+Architecture: amd64
+Maintainer: Feqyldan maintainers <maintainers@users.noreply.feqyldan.example>
+Installed-Size: {size}
+Depends: libc6 (>= {c_library}), python3 (>= 3.9)
+Suggests: python3-numpy, python3-distributed
+Section: science
+Priority: optional
+Description: vision server with the behaviour of OpenVX
+ Images, graphs, virtual images, delays, immediate mode and 23 vision functions
+ on grey pictures of 8 and 16 bits, for many clients at once: none of them sees
+ another's pixels. With a package for Python, and a broker that shares servers
+ among the programs of a machine.
+"""
+COPYRIGHT = """\
+Format: https://www.debian.org/doc/packaging-manuals/copyright-format/1.0/
+Upstream-Name: Feqyldan
+
+Files: *
+Copyright: the authors of Feqyldan
+License: Apache-2.0
+ On Debian systems the whole text of the Apache License, version 2.0, is in
+ /usr/share/common-licenses/Apache-2.0.
+"""
+BROKER = """\
+#!/usr/bin/python3
+import sys
+
+from feqyldan.broker import main
+
+sys.exit(main())
+"""
+# In a root folder of another system nothing is started and nobody is added.
+AFTER_INSTALL = """\
+#!/bin/sh
+set -e
+if [ "$1" = configure ] && [ -z "$DPKG_ROOT" ]; then
+    if command -v py3compile > /dev/null; then py3compile -p feqyldan; fi
+    if command -v systemd-sysusers > /dev/null; then systemd-sysusers feqyldan.conf; fi
+    if [ -d /run/systemd/system ]; then systemctl daemon-reload; fi
+fi
+"""
+BEFORE_REMOVAL = """\
+#!/bin/sh
+set -e
+if [ "$1" = remove ] && [ -z "$DPKG_ROOT" ] && [ -d /run/systemd/system ]; then
+    systemctl disable --now feqyldan.service feqyldan.socket
+fi
+find "$DPKG_ROOT/usr/lib/python3/dist-packages/feqyldan" -name __pycache__ -prune \\
+    -exec rm -r {} +
+"""
+AFTER_REMOVAL = """\
+#!/bin/sh
+set -e
+if [ "$1" = remove ] && [ -z "$DPKG_ROOT" ]; then
+    rm -rf /run/feqyldan
+    if [ -d /run/systemd/system ]; then systemctl daemon-reload; fi
+fi
+"""
+
+
+def text_of(*path):
+    with open(os.path.join(ROOT, *path), encoding="utf-8") as file:
+        return file.read()
+
+
+def service():
+    """The unit of deploy/, with the package's paths."""
+    said = text_of("deploy", "feqyldan.service")
+    for before, after in (("Environment=PYTHONPATH=/opt/feqyldan/python\n", ""),
+                          ("/opt/feqyldan/bin/vx_main", "/usr/bin/feqyldan")):
+        if said.count(before) != 1:
+            sys.exit(f"tools/package: deploy/feqyldan.service has {before!r} not just once")
+        said = said.replace(before, after)
+    return said
+
+
+def manual(name):
+    return packed(text_of("deploy", "man", name).replace("@VERSION@", feqyldan.__version__))
+
+
+def packed(text):
+    return gzip.compress(text.encode(), mtime=0)
+
+
+def documents():
+    """As they stand in the checkout, so that what they refer to is found."""
+    paths = ["README.md", "clients/python/README.md", "examples/first.py"]
+    paths += [os.path.relpath(path, ROOT) for path in glob.glob(f"{ROOT}/docs/*.md")]
+    return {f"usr/share/doc/{NAME}/{path}": text_of(path) for path in paths}
+
+
+def plain_files(wheel):
+    """The files of mode 644: by its path, what each holds."""
+    library = "usr/lib/python3/dist-packages"
+    return {
+        **{f"{library}/{name}": data for name, data in wheels.entries_of(wheel).items()},
+        "usr/lib/systemd/system/feqyldan.service": service(),
+        "usr/lib/systemd/system/feqyldan.socket": text_of("deploy", "feqyldan.socket"),
+        "usr/lib/sysusers.d/feqyldan.conf": text_of("deploy", "sysusers.conf"),
+        "usr/share/man/man1/feqyldan.1.gz": manual("feqyldan.1"),
+        "usr/share/man/man1/feqyldan-broker.1.gz": manual("feqyldan-broker.1"),
+        **documents(),
+        f"usr/share/doc/{NAME}/copyright": COPYRIGHT,
+        f"usr/share/doc/{NAME}/changelog.gz": packed(text_of("CHANGELOG.md")),
+    }
+
+
+def put(stage, files, mode):
+    for name, data in files.items():
+        path = os.path.join(stage, name)
+        os.makedirs(os.path.dirname(path), exist_ok=True)
+        with open(path, "wb") as file:
+            file.write(data.encode() if isinstance(data, str) else data)
+        os.chmod(path, mode)
+
+
+def put_library(stage):
+    """Installs the C library, built in a copy, and has the loader's cache made anew."""
+    with tempfile.TemporaryDirectory() as folder:
+        copy = shutil.copytree(LIBRARY, os.path.join(folder, "c"))
+        subprocess.run(["make", "-C", copy, "install", "PREFIX=/usr", f"DESTDIR={stage}"],
+                       stdout=sys.stderr, check=True)
+    put(stage, {"DEBIAN/triggers": "activate-noawait ldconfig\n"}, 0o644)
+
+
+def put_control(stage, c_library):
+    installed = [path for path in glob.glob(f"{stage}/usr/**", recursive=True)
+                 if os.path.isfile(path) and not os.path.islink(path)]
+    control = CONTROL.format(name=NAME, version=feqyldan.__version__,
+                             c_library="{}.{}".format(*c_library),
+                             size=sum(map(os.path.getsize, installed)) // 1024)
+    put(stage, {"DEBIAN/control": control, "DEBIAN/md5sums": digests(stage, installed)}, 0o644)
+    put(stage, {"DEBIAN/postinst": AFTER_INSTALL, "DEBIAN/prerm": BEFORE_REMOVAL,
+                "DEBIAN/postrm": AFTER_REMOVAL}, 0o755)
+
+
+def digests(stage, paths):
+    lines = []
+    for path in sorted(paths):
+        with open(path, "rb") as file:
+            digest = hashlib.md5(file.read()).hexdigest()
+        lines.append(f"{digest}  {os.path.relpath(path, stage)}\n")
+    return "".join(lines)
+
+
+def build(wheel, programs, c_library, folder):
+    """The path of the package, with the Python package as it is in a wheel."""
+    if shutil.which("dpkg-deb") is None:
+        sys.exit("tools/package: there is no command dpkg-deb")
+    target = os.path.join(folder, f"{NAME}_{feqyldan.__version__}_amd64.deb")
+    with tempfile.TemporaryDirectory() as stage:
+        os.chmod(stage, 0o755)
+        put(stage, plain_files(wheel), 0o644)
+        put(stage, {f"usr/lib/{NAME}/{name}": data for name, data in programs.items()}, 0o755)
+        put(stage, {"usr/bin/feqyldan": text_of("deploy", "starter"),
+                    "usr/bin/feqyldan-broker": BROKER}, 0o755)
+        if os.path.exists(os.path.join(LIBRARY, "Makefile")):
+            put_library(stage)
+        put_control(stage, c_library)
+        subprocess.run(["dpkg-deb", "--root-owner-group", "--build", stage, target],
+                       stdout=subprocess.DEVNULL, check=True)
+    return target

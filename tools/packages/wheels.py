@@ -1,0 +1,78 @@
+"""Wheels: the Python package alone, and with the server's programs inside."""
+
+import base64
+import hashlib
+import os
+import subprocess
+import sys
+import time
+import zipfile
+
+from . import PYTHON
+
+# Where feqyldan.program looks for the programs.
+FOLDER = "feqyldan/programs"
+PURE_TAG = "py3-none-any"
+
+
+def python():
+    """A Python that has what pip needs to build a wheel without a network."""
+    asked = ("from importlib.util import find_spec\n"
+             "raise SystemExit(not all(map(find_spec, ('pip', 'setuptools', 'wheel'))))")
+    for path in (sys.executable, "/usr/bin/python3"):
+        if not subprocess.run([path, "-c", asked], check=False).returncode:
+            return path
+    sys.exit("tools/package: Python's pip, setuptools and wheel aren't installed")
+
+
+def pure(folder):
+    """The path of the wheel of the Python package, built in a folder."""
+    run = subprocess.run([python(), "-m", "pip", "wheel", "--no-index", "--no-build-isolation",
+                          "--no-deps", "--wheel-dir", folder, PYTHON],
+                         stdout=subprocess.PIPE, stderr=subprocess.STDOUT, text=True, check=False)
+    if run.returncode:
+        sys.exit(f"{run.stdout}\ntools/package: pip ended with status {run.returncode}")
+    name, = os.listdir(folder)
+    return os.path.join(folder, name)
+
+
+def entries_of(path):
+    """The files of a wheel, by name, but the list of them."""
+    with zipfile.ZipFile(path) as archive:
+        return {name: archive.read(name)
+                for name in archive.namelist() if not name.endswith(".dist-info/RECORD")}
+
+
+def with_programs(path, programs, c_library, folder):
+    """The path of a wheel with the programs in it, for machines that have such a C library."""
+    tag = f"py3-none-manylinux_{c_library[0]}_{c_library[1]}_x86_64"
+    entries = entries_of(path)
+    about, = (name for name in entries if name.endswith(".dist-info/WHEEL"))
+    said = entries[about].decode()
+    entries[about] = (said.replace(PURE_TAG, tag)
+                      .replace("Root-Is-Purelib: true", "Root-Is-Purelib: false").encode())
+    entries.update((f"{FOLDER}/{name}", data) for name, data in programs.items())
+    listed = about.replace("WHEEL", "RECORD")
+    entries[listed] = record(entries, listed)
+    target = os.path.join(folder, os.path.basename(path).replace(PURE_TAG, tag))
+    write(target, entries)
+    return target
+
+
+def record(entries, listed):
+    """The list of a wheel's files, with the digest and the length of each."""
+    lines = []
+    for name, data in entries.items():
+        digest = base64.urlsafe_b64encode(hashlib.sha256(data).digest()).rstrip(b"=").decode()
+        lines.append(f"{name},sha256={digest},{len(data)}\n")
+    return "".join([*lines, f"{listed},,\n"]).encode()
+
+
+def write(path, entries):
+    date = time.gmtime(int(os.environ["SOURCE_DATE_EPOCH"]))[:6]
+    with zipfile.ZipFile(path, "w", zipfile.ZIP_DEFLATED) as archive:
+        for name, data in entries.items():
+            info = zipfile.ZipInfo(name, date)
+            mode = 0o100755 if name.startswith(FOLDER) else 0o100644
+            info.external_attr, info.compress_type = mode << 16, zipfile.ZIP_DEFLATED
+            archive.writestr(info, data)
