@@ -136,10 +136,13 @@ def put(stage, files, mode):
 
 
 def put_library(stage):
-    """Installs the C library, built in a copy, and has the loader's cache made anew."""
+    """Installs the C library, built in a copy, and has the loader's cache made anew. Where the copy
+    stands isn't seen in what is built."""
     with tempfile.TemporaryDirectory() as folder:
         copy = shutil.copytree(LIBRARY, os.path.join(folder, "c"))
-        subprocess.run(["make", "-C", copy, "install", "PREFIX=/usr", f"DESTDIR={stage}"],
+        subprocess.run(["make", "-C", copy, "install", "PREFIX=/usr", f"DESTDIR={stage}",
+                        f"VERSION={feqyldan.__version__}",
+                        f"CFLAGS=-O2 -g -ffile-prefix-map={copy}=/usr/src/{NAME}"],
                        stdout=sys.stderr, check=True)
     put(stage, {"DEBIAN/triggers": "activate-noawait ldconfig\n"}, 0o644)
 

@@ -16,6 +16,9 @@ sys.path[:0] = os.path.join(HERE, ".."), TOOLS
 import feqyldan as vx  # noqa: E402
 
 PROGRAM = os.environ.get("FEQYLDAN_PROGRAM")
+if PROGRAM:
+    # Some tests run it in folders of their own.
+    PROGRAM = os.path.realpath(PROGRAM)
 needs_program = unittest.skipUnless(PROGRAM,
                                     "FEQYLDAN_PROGRAM isn't set to the path of the server's "
                                     "program")
