@@ -4,6 +4,7 @@ addresses and of undefined behaviour, and runs them on the program that FEQYLDAN
 """
 
 import os
+import re
 import shutil
 import subprocess
 import sys
@@ -19,6 +20,7 @@ import feqyldan as vx  # noqa: E402
 FLAGS = ["-std=c11", "-Wall", "-Wextra", "-Werror", "-pedantic", "-D_POSIX_C_SOURCE=200809L", "-g",
          "-O1", "-fsanitize=address,undefined", "-fno-sanitize-recover=all", "-pthread",
          "-I" + os.path.join(HOME, "include")]
+HEADERS = ("VX/vx.h", "VX/vxu.h")
 WIDTH, HEIGHT = 13, 9
 # Longer than any test program runs, in seconds.
 PATIENCE = 300
@@ -60,6 +62,17 @@ def setUpModule():
 
 def tearDownModule():
     shutil.rmtree(folder)
+
+
+def installed():
+    """The folder in which the library is installed, made from a copy of its sources."""
+    prefix = os.path.join(folder, "installed")
+    if not os.path.exists(prefix):
+        home = os.path.join(folder, "copy")
+        shutil.copytree(os.path.join(HOME, ".."), home, ignore=shutil.ignore_patterns("out"))
+        subprocess.run(["make", "-s", "-C", os.path.join(home, "c"), "install",
+                        "PREFIX=" + prefix], check=True)
+    return prefix
 
 
 def build(name):
@@ -211,11 +224,7 @@ class Library(unittest.TestCase):
             broker.wait()
 
     def test_installed_it_serves_c_and_cxx(self):
-        prefix = os.path.join(folder, "installed")
-        home = os.path.join(folder, "copy")
-        shutil.copytree(os.path.join(HOME, ".."), home, ignore=shutil.ignore_patterns("out"))
-        subprocess.run(["make", "-s", "-C", os.path.join(home, "c"), "install",
-                        "PREFIX=" + prefix], check=True)
+        prefix = installed()
         source = os.path.join(folder, "first.cc")
         with open(source, "w", encoding="utf-8") as text:
             text.write(FIRST_CXX)
@@ -228,6 +237,26 @@ class Library(unittest.TestCase):
         subprocess.run(["g++", "-Wall", "-Wextra", "-Werror", "-I" + os.path.join(
             prefix, "include"), source, "-L" + library, "-lfeqyldan", "-o", program], check=True)
         subprocess.run([program], env={**os.environ, "LD_LIBRARY_PATH": library}, check=True)
+
+    def test_it_exports_what_the_headers_declare_and_nothing_else(self):
+        declared = []
+        for header in HEADERS:
+            with open(os.path.join(HOME, "include", header), encoding="utf-8") as text:
+                declared += re.findall(r"VX_API_CALL (vx\w+)\(", text.read())
+        self.assertGreater(len(declared), 100)
+        listed = subprocess.run(["nm", "-D", "--defined-only",
+                                 os.path.join(installed(), "lib/libfeqyldan.so")],
+                                stdout=subprocess.PIPE, text=True, check=True).stdout
+        self.assertEqual(sorted(line.split()[-1] for line in listed.splitlines()),
+                         sorted(declared))
+
+    def test_each_header_compiles_alone(self):
+        for words in (("cc", "-std=c11"), ("c++", "-std=c++11"), ("c++", "-std=c++20")):
+            for header in HEADERS:
+                subprocess.run([*words, "-Wall", "-Wextra", "-Werror", "-pedantic", "-c", "-x",
+                                "c" if words[0] == "cc" else "c++", "-o", os.devnull,
+                                "-I" + os.path.join(HOME, "include"), "-"],
+                               input=f"#include <{header}>\n", text=True, check=True)
 
     def test_the_example_writes_a_picture(self):
         subprocess.run(["make", "-s", "-C", HOME, "out/edges"], check=True)
