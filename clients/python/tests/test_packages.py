@@ -78,6 +78,23 @@ class TestStarter(unittest.TestCase):
         words = ("serve", "--quota", "", "two words", "*", "line\nline")
         self.assertEqual(self.started(set(), words=words), [program.PLAIN, *words])
 
+    def test_the_version_is_the_programs_and_the_name_the_commands(self):
+        for word in ("--version", "-V"):
+            self.put(f"lib/feqyldan/{program.PLAIN}",
+                     f"#!/bin/sh\n[ \"$*\" = {word} ] && echo vx_main 9.8.7\n")
+            self.put("cpuinfo", "")
+            said = subprocess.run([self.starter, word], stdout=subprocess.PIPE, text=True,
+                                  check=True).stdout
+            self.assertEqual(said, "feqyldan 9.8.7\n")
+
+    def test_a_version_that_is_not_said_or_not_heard_is_a_failure(self):
+        self.assertEqual(self.started(set(), words=["--version"]), [])
+        self.put(f"lib/feqyldan/{program.PLAIN}", "#!/bin/sh\necho vx_main 9.8.7\n")
+        with open("/dev/full", "w", encoding="utf-8") as full:
+            run = subprocess.run([self.starter, "--version"], stdout=full,
+                                 stderr=subprocess.DEVNULL, check=False)
+        self.assertEqual(run.returncode, 4)
+
     def test_by_another_name(self):
         link = os.path.join(self.folder, "link")
         os.symlink(self.starter, link)
@@ -199,12 +216,12 @@ class TestPackages(unittest.TestCase):
         for path in (self.wheel, self.debian):
             self.assertRegex(os.path.basename(path), rf"^feqyldan[-_]{vx.__version__}[-_]")
         self.unpack()
+        self.assertEqual(self.run_there("feqyldan", "--version"), f"feqyldan {vx.__version__}\n")
         for name in ("feqyldan.1", "feqyldan-broker.1"):
             self.assertIn(f'"feqyldan {vx.__version__}"', self.manual(name))
         library = f"{self.root}/usr/lib/pkgconfig/feqyldan.pc"
-        if os.path.exists(library):
-            with open(library, encoding="utf-8") as file:
-                self.assertIn(f"Version: {vx.__version__}\n", file.read())
+        with open(library, encoding="utf-8") as file:
+            self.assertIn(f"Version: {vx.__version__}\n", file.read())
 
     def manual(self, name):
         path = f"{self.root}/usr/share/man/man1/{name}.gz"
