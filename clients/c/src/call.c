@@ -3,93 +3,52 @@
 
 #include <string.h>
 
-/* What a function takes in place of a second input and a first output, where that is no image; 0
-   where it has none. */
-struct kinds {
-    vx_enum in2, out1;
-};
-
-static struct kinds kinds_of(enum function function) {
-    switch (function) {
-    case THRESHOLD:
-        return (struct kinds){VX_TYPE_THRESHOLD, VX_TYPE_IMAGE};
-    case TABLE_LOOKUP:
-        return (struct kinds){VX_TYPE_LUT, VX_TYPE_IMAGE};
-    case CONVOLVE:
-        return (struct kinds){VX_TYPE_CONVOLUTION, VX_TYPE_IMAGE};
-    case HISTOGRAM:
-        return (struct kinds){0, VX_TYPE_DISTRIBUTION};
-    case MIN_MAX_LOCATION:
-        return (struct kinds){0, 0};
-    case AND_BITS:
-    case OR_BITS:
-    case XOR_BITS:
-    case ADD:
-    case SUBTRACT:
-    case MULTIPLY:
-    case ABSOLUTE_DIFFERENCE:
-    case MIN_PIXEL:
-    case MAX_PIXEL:
-        return (struct kinds){VX_TYPE_IMAGE, VX_TYPE_IMAGE};
-    default:
-        return (struct kinds){0, VX_TYPE_IMAGE};
+/* Each operand that has to be there or is there is a reference of the type that the function takes.
+   At once no scalar has the amount. */
+static vx_status check_references(vx_context context, const struct call *call, vx_uint32 scope) {
+    const struct signature *signature = signature_of(call->function);
+    vx_status status = VX_SUCCESS;
+    for (vx_uint32 i = 0; status == VX_SUCCESS && i < signature->count; i++) {
+        unsigned place = signature->places[i];
+        bool may_lack = is_optional(call->function, place) || (place == AMOUNT && scope == 0);
+        if (place < OPERANDS && !(may_lack && call->operands[place] == NULL))
+            status = check(context, call->operands[place], type_at(call->function, place));
     }
+    return status;
 }
 
-/* An operand that has to be there; its kind is 0 where the function has none. */
-static vx_status check_operand(vx_context context, vx_reference operand, vx_enum kind,
-                               vx_uint32 scope) {
-    if (kind == 0)
+/* A virtual image is an operand in its graph alone. */
+static vx_status check_scope(vx_reference operand, vx_uint32 scope) {
+    if (operand == NULL || operand->type != VX_TYPE_IMAGE || ((vx_image)operand)->scope == 0)
         return VX_SUCCESS;
-    vx_status status = check(context, operand, kind);
-    if (status != VX_SUCCESS || kind != VX_TYPE_IMAGE || ((vx_image)operand)->scope == 0)
-        return status;
     if (scope == 0)
         return VX_ERROR_OPTIMIZED_AWAY;
     return ((vx_image)operand)->scope == scope ? VX_SUCCESS : VX_ERROR_INVALID_SCOPE;
 }
 
-static vx_status check_scalar(vx_context context, vx_reference operand, vx_enum first,
-                              vx_enum second) {
-    vx_status status = check(context, operand, VX_TYPE_SCALAR);
-    if (status != VX_SUCCESS)
-        return status;
+/* A scalar that is there is of one of two types. */
+static vx_status check_item(vx_reference operand, vx_enum first, vx_enum second) {
+    if (operand == NULL)
+        return VX_SUCCESS;
     vx_enum item = ((vx_scalar)operand)->item;
     return item == first || item == second ? VX_SUCCESS : VX_ERROR_INVALID_TYPE;
 }
 
-/* MinMaxLoc's outputs, of which the first two have to be there. */
-static vx_status check_extremes(vx_context context, const struct call *call) {
+/* MinMaxLoc's scalars. */
+static vx_status check_extremes(const struct call *call) {
     vx_df_image format = ((vx_image)call->operands[IN1])->format;
     vx_enum u8 = format == VX_DF_IMAGE_S16 ? VX_TYPE_INT16 : VX_TYPE_UINT8;
     vx_enum s16 = format == VX_DF_IMAGE_U8 ? VX_TYPE_UINT8 : VX_TYPE_INT16;
-    vx_status status = check_scalar(context, call->operands[MIN_VALUE], u8, s16);
-    if (status == VX_SUCCESS)
-        status = check_scalar(context, call->operands[MAX_VALUE], u8, s16);
-    for (int i = MIN_PLACE; status == VX_SUCCESS && i <= MAX_PLACE; i++)
-        if (call->operands[i] != NULL)
-            status = check(context, call->operands[i], VX_TYPE_ARRAY);
+    vx_status status = VX_SUCCESS;
+    for (int i = MIN_VALUE; status == VX_SUCCESS && i <= MAX_VALUE; i++)
+        status = check_item(call->operands[i], u8, s16);
     for (int i = MIN_COUNT; status == VX_SUCCESS && i <= MAX_COUNT; i++)
-        if (call->operands[i] != NULL)
-            status = check_scalar(context, call->operands[i], VX_TYPE_UINT32, VX_TYPE_SIZE);
-    return status;
-}
-
-static vx_status check_outputs(vx_context context, const struct call *call, vx_uint32 scope) {
-    const vx_reference *operands = call->operands;
-    if (call->function != SOBEL)
-        return check_operand(context, operands[OUT1], kinds_of(call->function).out1, scope);
-    vx_status status = operands[OUT1] == NULL && operands[OUT2] == NULL
-                           ? VX_ERROR_INVALID_PARAMETERS
-                           : VX_SUCCESS;
-    for (int i = OUT1; status == VX_SUCCESS && i <= OUT2; i++)
-        if (operands[i] != NULL)
-            status = check_operand(context, operands[i], VX_TYPE_IMAGE, scope);
+        status = check_item(call->operands[i], VX_TYPE_UINT32, VX_TYPE_SIZE);
     return status;
 }
 
 /* What the functions take beside operands that are sent by name. */
-static vx_status check_numbers(vx_context context, const struct call *call) {
+static vx_status check_numbers(const struct call *call) {
     enum function function = call->function;
     bool has_policy = function == ADD || function == SUBTRACT || function == MULTIPLY ||
                       function == CONVERT_DEPTH;
@@ -101,23 +60,25 @@ static vx_status check_numbers(vx_context context, const struct call *call) {
     if (function == MULTIPLY && call->rounding != VX_ROUND_POLICY_TO_ZERO)
         return VX_ERROR_INVALID_VALUE;
     if (function == MIN_MAX_LOCATION)
-        return check_extremes(context, call);
-    return VX_SUCCESS;
+        return check_extremes(call);
+    vx_enum amount = function == MULTIPLY ? VX_TYPE_FLOAT32 : VX_TYPE_INT32;
+    return check_item(call->operands[AMOUNT], amount, amount);
+}
+
+vx_status check_values(const struct call *call, vx_uint32 scope) {
+    vx_status status = VX_SUCCESS;
+    for (int i = IN1; status == VX_SUCCESS && i <= OUT2; i++)
+        status = check_scope(call->operands[i], scope);
+    if (status != VX_SUCCESS)
+        return status;
+    if (call->function == SOBEL && call->operands[OUT1] == NULL && call->operands[OUT2] == NULL)
+        return VX_ERROR_INVALID_PARAMETERS;
+    return check_numbers(call);
 }
 
 vx_status check_call(vx_context context, const struct call *call, vx_uint32 scope) {
-    const struct kinds kinds = kinds_of(call->function);
-    vx_status status = check_operand(context, call->operands[IN1], VX_TYPE_IMAGE, scope);
-    if (status == VX_SUCCESS)
-        status = check_operand(context, call->operands[IN2], kinds.in2, scope);
-    if (status == VX_SUCCESS)
-        status = check_outputs(context, call, scope);
-    /* In a node a scalar has the amount. */
-    if (status == VX_SUCCESS && scope != 0 && call->function == MULTIPLY)
-        status = check_scalar(context, call->operands[AMOUNT], VX_TYPE_FLOAT32, VX_TYPE_FLOAT32);
-    if (status == VX_SUCCESS && scope != 0 && call->function == CONVERT_DEPTH)
-        status = check_scalar(context, call->operands[AMOUNT], VX_TYPE_INT32, VX_TYPE_INT32);
-    return status == VX_SUCCESS ? check_numbers(context, call) : status;
+    vx_status status = check_references(context, call, scope);
+    return status == VX_SUCCESS ? check_values(call, scope) : status;
 }
 
 /* The byte for a scale or a shift. */

@@ -23,7 +23,7 @@ PUBLIC vx_status VX_API_CALL vxReleaseGraph(vx_graph *graph) {
     return release(graph, VX_TYPE_GRAPH);
 }
 
-static void change(vx_graph graph) {
+void change(vx_graph graph) {
     graph->is_verified = false;
     graph->state = VX_GRAPH_STATE_UNVERIFIED;
 }
@@ -83,9 +83,12 @@ vx_status detach(vx_node node) {
     graph->nodes--;
     change(graph);
     node->graph = NULL;
-    for (int i = 0; i < OPERANDS; i++)
-        if (node->call.operands[i] != NULL)
-            drop(node->call.operands[i]);
+    for (int i = 0; i < OPERANDS; i++) {
+        vx_reference operand = node->call.operands[i];
+        node->call.operands[i] = NULL;
+        if (operand != NULL)
+            drop(operand);
+    }
     drop(&node->base);
     return status;
 }
@@ -223,6 +226,9 @@ PUBLIC vx_status VX_API_CALL vxQueryGraph(vx_graph graph, vx_enum attribute, voi
         return leave(context, give(ptr, size, &nodes, sizeof nodes));
     if (attribute == VX_GRAPH_STATE)
         return leave(context, give(ptr, size, &graph->state, sizeof graph->state));
+    if (attribute == VX_GRAPH_NUMPARAMETERS)
+        return leave(context, give(ptr, size, &graph->parameter_count,
+                                   sizeof graph->parameter_count));
     return leave(context, VX_ERROR_NOT_SUPPORTED);
 }
 
@@ -236,6 +242,9 @@ PUBLIC vx_status VX_API_CALL vxQueryNode(vx_node node, vx_enum attribute, void *
         return leave(context, give(ptr, size, &status, sizeof status));
     if (attribute == VX_NODE_BORDER)
         return leave(context, give(ptr, size, &node->call.border, sizeof node->call.border));
+    const vx_uint32 *count = &signature_of(node->call.function)->count;
+    if (attribute == VX_NODE_PARAMETERS)
+        return leave(context, give(ptr, size, count, sizeof *count));
     return leave(context, VX_ERROR_NOT_SUPPORTED);
 }
 

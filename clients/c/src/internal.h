@@ -115,6 +115,8 @@ void register_reference(vx_reference reference);
 void unregister_reference(vx_reference reference);
 void hold(vx_reference reference);
 void drop(vx_reference reference);
+/* One more reference for the program, which may have given back all that it had. */
+vx_status retain(vx_reference reference);
 vx_reference error_of(vx_context context, vx_status status);
 vx_status release(void *pointer, vx_enum type);
 /* Frees an object's memory and nothing else. */
@@ -286,6 +288,9 @@ enum function {
 enum { IN1, IN2, OUT1, OUT2, AMOUNT, MIN_VALUE, MAX_VALUE, MIN_PLACE, MAX_PLACE, MIN_COUNT,
        MAX_COUNT, OPERANDS };
 
+/* What a call has beside operands, where a node has scalars. */
+enum { POLICY = OPERANDS, ROUNDING };
+
 struct call {
     enum function function;
     vx_reference operands[OPERANDS];
@@ -299,10 +304,28 @@ struct call {
 
 /* Whether the operands are what the function has; the scope is a graph's name, 0 for none. */
 vx_status check_call(vx_context context, const struct call *call, vx_uint32 scope);
+/* The same of operands that are references of the right types, which the program may have given
+   back meanwhile. */
+vx_status check_values(const struct call *call, vx_uint32 scope);
 /* The bytes of a node, after what it uses was sent. */
 vx_status encode_call(vx_context context, struct call *call, uint8_t *bytes);
 /* After a run: writes what MinMaxLoc found into the call's scalars and arrays. */
 vx_status take_extremes(vx_context context, const struct call *call);
+
+/* ---- signature.c ---- */
+
+enum { MOST_PARAMETERS = 7 };
+
+/* A function's operands, its policies among them, in the order of its node's parameters. */
+struct signature {
+    vx_uint32 count;
+    uint8_t places[MOST_PARAMETERS];
+};
+
+const struct signature *signature_of(enum function function);
+vx_enum type_at(enum function function, unsigned place);
+bool is_output(unsigned place);
+bool is_optional(enum function function, unsigned place);
 
 /* ---- graph.c ---- */
 
@@ -324,11 +347,24 @@ struct _vx_graph {
     vx_enum state;
     bool is_verified, is_scheduled;
     struct request run;
+    /* Those that the graph has itself, each of one of its nodes, and how many. */
+    vx_parameter *parameters;
+    vx_uint32 parameter_count;
 };
 
 vx_node add_node(vx_graph graph, struct call call);
+/* Has the graph be verified anew. */
+void change(vx_graph graph);
 vx_status detach(vx_node node);
 void settle(vx_graph graph);
+
+/* ---- parameter.c ---- */
+
+struct _vx_parameter {
+    struct _vx_reference base;
+    vx_node node;
+    vx_uint32 index;
+};
 
 /* ---- Big-endian bytes ---- */
 

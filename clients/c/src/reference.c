@@ -114,6 +114,8 @@ void free_memory(vx_reference reference) {
         free(((vx_lut)reference)->entries);
     if (reference->type == VX_TYPE_ARRAY)
         free(((vx_array)reference)->items);
+    if (reference->type == VX_TYPE_GRAPH)
+        free(((vx_graph)reference)->parameters);
     free(reference);
 }
 
@@ -126,7 +128,7 @@ static void unlink_object(vx_reference reference) {
         reference->next->previous = reference->previous;
 }
 
-/* What goes with an object that nobody has any more: slots, nodes, and what the node held. */
+/* What goes with an object that nobody has any more: slots, nodes, and what it held. */
 static void destroy_parts(vx_reference reference) {
     if (reference->type == VX_TYPE_DELAY)
         for (vx_size slot = 0; slot < ((vx_delay)reference)->slots; slot++) {
@@ -140,7 +142,11 @@ static void destroy_parts(vx_reference reference) {
         settle((vx_graph)reference);
         while (((vx_graph)reference)->first != NULL)
             detach(((vx_graph)reference)->first);
+        for (vx_uint32 i = 0; i < ((vx_graph)reference)->parameter_count; i++)
+            drop(REFERENCE(((vx_graph)reference)->parameters[i]));
     }
+    if (reference->type == VX_TYPE_PARAMETER)
+        drop(REFERENCE(((vx_parameter)reference)->node));
     if (reference->type == VX_TYPE_NODE)
         forget(reference->context, ((vx_node)reference)->call.extremes);
 }
@@ -170,13 +176,30 @@ void drop(vx_reference reference) {
     destroy_if_unused(owner);
 }
 
+vx_status retain(vx_reference reference) {
+    if (reference->count == UINT32_MAX)
+        return VX_ERROR_NO_RESOURCES;
+    if (reference->type != VX_TYPE_ERROR)
+        reference->count++;
+    if (owner_of(reference) != reference)
+        hold(reference);
+    if (!reference->is_live)
+        register_reference(reference);
+    return VX_SUCCESS;
+}
+
+/* Takes a slot from the program where no reference to it was retained. */
+static void unregister_slot(vx_image image) {
+    if (image != NULL && image->base.count == 0)
+        unregister_reference(&image->base);
+}
+
 /* With its last reference a delay takes those of its slots along. */
 static void unregister_with_slots(vx_reference reference) {
     unregister_reference(reference);
     if (reference->type == VX_TYPE_DELAY)
         for (vx_size slot = 0; slot < ((vx_delay)reference)->slots; slot++)
-            if (((vx_delay)reference)->images[slot] != NULL)
-                unregister_reference(REFERENCE(((vx_delay)reference)->images[slot]));
+            unregister_slot(((vx_delay)reference)->images[slot]);
 }
 
 vx_status release(void *pointer, vx_enum type) {
@@ -195,9 +218,11 @@ vx_status release(void *pointer, vx_enum type) {
     if (reference->type == VX_TYPE_ERROR)
         return leave(context, VX_SUCCESS);
     reference->count--;
-    if (owner != reference)
+    if (owner != reference) {
+        if (owner->count == 0)
+            unregister_slot((vx_image)reference);
         drop(reference);
-    else if (reference->count == 0) {
+    } else if (reference->count == 0) {
         unregister_with_slots(reference);
         destroy_if_unused(reference);
     }
@@ -253,13 +278,7 @@ PUBLIC vx_status VX_API_CALL vxRetainReference(vx_reference ref) {
     vx_context context = enter(ref, VX_TYPE_REFERENCE);
     if (context == NULL)
         return VX_ERROR_INVALID_REFERENCE;
-    if (ref->count == UINT32_MAX)
-        return leave(context, VX_ERROR_NO_RESOURCES);
-    if (ref->type != VX_TYPE_ERROR)
-        ref->count++;
-    if (owner_of(ref) != ref)
-        hold(ref);
-    return leave(context, VX_SUCCESS);
+    return leave(context, retain(ref));
 }
 
 PUBLIC vx_status VX_API_CALL vxReleaseReference(vx_reference *ref_ptr) {

@@ -185,6 +185,9 @@ class Library(unittest.TestCase):
     def test_each_object_tells_its_attributes(self):
         run("queries")
 
+    def test_parameters_of_nodes_and_of_graphs(self):
+        run("parameters")
+
     def test_a_server_that_ends_makes_each_call_fail(self):
         server = os.path.join(folder, "ending_server")
         with open(server, "w", encoding="utf-8") as script:

@@ -67,7 +67,11 @@ static vx_reference make_any(vx_context context) {
 static vx_reference make_node(void) {
     vx_graph graph = (vx_graph)any();
     vx_image in = (vx_image)any(), in2 = (vx_image)any(), out = (vx_image)any();
-    switch (below(8)) {
+    switch (below(10)) {
+    case 8:
+        return (vx_reference)vxGetParameterByIndex((vx_node)any(), below(4));
+    case 9:
+        return (vx_reference)vxGetGraphParameterByIndex(graph, below(2));
     case 0:
         return (vx_reference)vxAddNode(graph, in, in2, any_enum(), out);
     case 1:
@@ -129,6 +133,23 @@ static vx_status use_object(void) {
     }
 }
 
+static vx_status use_parameter(void) {
+    vx_reference value = NULL;
+    switch (below(4)) {
+    case 0:
+        return vxSetParameterByIndex((vx_node)any(), below(5), any());
+    case 1:
+        return vxAddParameterToGraph((vx_graph)any(), (vx_parameter)any());
+    case 2:
+        return vxSetGraphParameterByIndex((vx_graph)any(), below(2), any());
+    default:
+        if (vxQueryParameter((vx_parameter)any(), VX_PARAMETER_REF, &value, sizeof value) ==
+            VX_SUCCESS)
+            pool[2 + below(POOL - 2)] = value;
+        return VX_SUCCESS;
+    }
+}
+
 static vx_status run_any(vx_context context) {
     vx_image in = (vx_image)any(), in2 = (vx_image)any(), out = (vx_image)any();
     switch (below(5)) {
@@ -163,7 +184,7 @@ static vx_status release_any(void) {
 static void call_any(vx_context context) {
     vx_status status = VX_SUCCESS;
     vx_uint32 place = 2 + below(POOL - 2);
-    switch (below(8)) {
+    switch (below(9)) {
     case 0:
     case 1:
         pool[place] = make_any(context);
@@ -179,6 +200,9 @@ static void call_any(vx_context context) {
         break;
     case 5:
         status = release_any();
+        break;
+    case 6:
+        status = use_parameter();
         break;
     default:
         status = use_object();

@@ -75,6 +75,7 @@ typedef struct _vx_threshold *vx_threshold;
 typedef struct _vx_convolution *vx_convolution;
 typedef struct _vx_scalar *vx_scalar;
 typedef struct _vx_array *vx_array;
+typedef struct _vx_parameter *vx_parameter;
 
 enum vx_status_e {
     VX_STATUS_MIN = -25,
@@ -128,6 +129,7 @@ enum vx_type_e {
     VX_TYPE_CONTEXT = 0x801,
     VX_TYPE_GRAPH = 0x802,
     VX_TYPE_NODE = 0x803,
+    VX_TYPE_PARAMETER = 0x805,
     VX_TYPE_DELAY = 0x806,
     VX_TYPE_LUT = 0x807,
     VX_TYPE_DISTRIBUTION = 0x808,
@@ -152,6 +154,7 @@ enum vx_enum_e {
     VX_ENUM_DIRECTIVE = 0x03,
     VX_ENUM_COLOR_SPACE = 0x06,
     VX_ENUM_COLOR_RANGE = 0x07,
+    VX_ENUM_PARAMETER_STATE = 0x08,
     VX_ENUM_CONVERT_POLICY = 0x0A,
     VX_ENUM_THRESHOLD_TYPE = 0x0B,
     VX_ENUM_BORDER_MODE = 0x0C,
@@ -159,6 +162,16 @@ enum vx_enum_e {
     VX_ENUM_ACCESSOR = 0x11,
     VX_ENUM_ROUND_POLICY = 0x12,
     VX_ENUM_GRAPH_STATE = 0x15
+};
+
+enum vx_direction_e {
+    VX_INPUT = VX_ENUM_BASE(VX_ID_KHRONOS, VX_ENUM_DIRECTION) + 0x0,
+    VX_OUTPUT = VX_ENUM_BASE(VX_ID_KHRONOS, VX_ENUM_DIRECTION) + 0x1
+};
+
+enum vx_parameter_state_e {
+    VX_PARAMETER_STATE_REQUIRED = VX_ENUM_BASE(VX_ID_KHRONOS, VX_ENUM_PARAMETER_STATE) + 0x0,
+    VX_PARAMETER_STATE_OPTIONAL = VX_ENUM_BASE(VX_ID_KHRONOS, VX_ENUM_PARAMETER_STATE) + 0x1
 };
 
 enum vx_directive_e {
@@ -310,12 +323,22 @@ enum vx_image_attribute_e {
 
 enum vx_graph_attribute_e {
     VX_GRAPH_NUMNODES = VX_ATTRIBUTE_BASE(VX_ID_KHRONOS, VX_TYPE_GRAPH) + 0x0,
+    VX_GRAPH_NUMPARAMETERS = VX_ATTRIBUTE_BASE(VX_ID_KHRONOS, VX_TYPE_GRAPH) + 0x3,
     VX_GRAPH_STATE = VX_ATTRIBUTE_BASE(VX_ID_KHRONOS, VX_TYPE_GRAPH) + 0x4
 };
 
 enum vx_node_attribute_e {
     VX_NODE_STATUS = VX_ATTRIBUTE_BASE(VX_ID_KHRONOS, VX_TYPE_NODE) + 0x0,
-    VX_NODE_BORDER = VX_ATTRIBUTE_BASE(VX_ID_KHRONOS, VX_TYPE_NODE) + 0x2
+    VX_NODE_BORDER = VX_ATTRIBUTE_BASE(VX_ID_KHRONOS, VX_TYPE_NODE) + 0x2,
+    VX_NODE_PARAMETERS = VX_ATTRIBUTE_BASE(VX_ID_KHRONOS, VX_TYPE_NODE) + 0x5
+};
+
+enum vx_parameter_attribute_e {
+    VX_PARAMETER_INDEX = VX_ATTRIBUTE_BASE(VX_ID_KHRONOS, VX_TYPE_PARAMETER) + 0x0,
+    VX_PARAMETER_DIRECTION = VX_ATTRIBUTE_BASE(VX_ID_KHRONOS, VX_TYPE_PARAMETER) + 0x1,
+    VX_PARAMETER_TYPE = VX_ATTRIBUTE_BASE(VX_ID_KHRONOS, VX_TYPE_PARAMETER) + 0x2,
+    VX_PARAMETER_STATE = VX_ATTRIBUTE_BASE(VX_ID_KHRONOS, VX_TYPE_PARAMETER) + 0x3,
+    VX_PARAMETER_REF = VX_ATTRIBUTE_BASE(VX_ID_KHRONOS, VX_TYPE_PARAMETER) + 0x4
 };
 
 enum vx_delay_attribute_e {
@@ -645,6 +668,37 @@ VX_API_ENTRY vx_status VX_API_CALL vxReleaseNode(vx_node *node);
 
 /* Takes the node out of its graph, and releases it. */
 VX_API_ENTRY vx_status VX_API_CALL vxRemoveNode(vx_node *node);
+
+/* What a node has for an argument of its function, which are counted from 0, the graph left out.
+   VX_ERROR_INVALID_PARAMETERS, there is no such argument. */
+VX_API_ENTRY vx_parameter VX_API_CALL vxGetParameterByIndex(vx_node node, vx_uint32 index);
+
+/* VX_PARAMETER_REF gives one more reference to the value, which is to be released; NULL where there
+   is none, and after the node was removed. A policy is no object: of it a new scalar of
+   VX_TYPE_ENUM is given. */
+VX_API_ENTRY vx_status VX_API_CALL vxQueryParameter(vx_parameter parameter, vx_enum attribute,
+                                                    void *ptr, vx_size size);
+
+/* Gives a node another value for an argument; a policy is read from its scalar at once. What the
+   node function says of the value counts here too. VX_ERROR_INVALID_PARAMETERS, there is no such
+   argument; VX_ERROR_INVALID_NODE, the node was removed; VX_ERROR_GRAPH_SCHEDULED, its graph is
+   scheduled. */
+VX_API_ENTRY vx_status VX_API_CALL vxSetParameterByIndex(vx_node node, vx_uint32 index,
+                                                         vx_reference value);
+VX_API_ENTRY vx_status VX_API_CALL vxSetParameterByReference(vx_parameter parameter,
+                                                             vx_reference value);
+VX_API_ENTRY vx_status VX_API_CALL vxReleaseParameter(vx_parameter *param);
+
+/* Makes a parameter of one of its nodes the graph's next one, counted from 0.
+   VX_ERROR_INVALID_PARAMETERS, its node isn't in the graph. */
+VX_API_ENTRY vx_status VX_API_CALL vxAddParameterToGraph(vx_graph graph, vx_parameter parameter);
+
+/* One more reference to a parameter of a graph. VX_ERROR_INVALID_PARAMETERS, it hasn't so many. */
+VX_API_ENTRY vx_parameter VX_API_CALL vxGetGraphParameterByIndex(vx_graph graph, vx_uint32 index);
+
+/* As vxSetParameterByIndex, of the node that the parameter is of. */
+VX_API_ENTRY vx_status VX_API_CALL vxSetGraphParameterByIndex(vx_graph graph, vx_uint32 index,
+                                                              vx_reference value);
 
 /*
  * ---- Nodes ----

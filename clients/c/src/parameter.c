@@ -1,0 +1,185 @@
+/* Parameters of nodes, and those of them that a graph has itself. */
+#include "internal.h"
+
+#include <stdlib.h>
+
+PUBLIC vx_parameter VX_API_CALL vxGetParameterByIndex(vx_node node, vx_uint32 index) {
+    vx_context context = enter(node, VX_TYPE_NODE);
+    if (context == NULL)
+        return NULL;
+    vx_status status = VX_ERROR_INVALID_PARAMETERS;
+    vx_parameter made = NULL;
+    if (index < signature_of(node->call.function)->count) {
+        made = make(context, VX_TYPE_PARAMETER, sizeof *made);
+        status = VX_ERROR_NO_MEMORY;
+    }
+    if (made != NULL) {
+        made->node = node;
+        made->index = index;
+        hold(&node->base);
+    }
+    leave(context, status);
+    return made != NULL ? made : (vx_parameter)error_of(context, status);
+}
+
+PUBLIC vx_status VX_API_CALL vxReleaseParameter(vx_parameter *param) {
+    return release(param, VX_TYPE_PARAMETER);
+}
+
+static unsigned place_of(const struct _vx_parameter *parameter) {
+    return signature_of(parameter->node->call.function)->places[parameter->index];
+}
+
+/* One more reference to what a node has; of a policy, which is no object, to a new scalar. */
+static vx_status refer(const struct _vx_parameter *parameter, vx_reference *value) {
+    const struct call *call = &parameter->node->call;
+    unsigned place = place_of(parameter);
+    if (place < OPERANDS) {
+        *value = call->operands[place];
+        return *value == NULL ? VX_SUCCESS : retain(*value);
+    }
+    vx_scalar made = make(parameter->base.context, VX_TYPE_SCALAR, sizeof *made);
+    if (made == NULL)
+        return VX_ERROR_NO_MEMORY;
+    made->item = VX_TYPE_ENUM;
+    made->value.s32 = place == POLICY ? call->policy : call->rounding;
+    *value = &made->base;
+    return VX_SUCCESS;
+}
+
+PUBLIC vx_status VX_API_CALL vxQueryParameter(vx_parameter parameter, vx_enum attribute, void *ptr,
+                                              vx_size size) {
+    vx_context context = enter(parameter, VX_TYPE_PARAMETER);
+    if (context == NULL)
+        return VX_ERROR_INVALID_REFERENCE;
+    enum function function = parameter->node->call.function;
+    unsigned place = place_of(parameter);
+    const vx_enum direction = is_output(place) ? VX_OUTPUT : VX_INPUT;
+    const vx_enum type = type_at(function, place);
+    const vx_enum state = is_optional(function, place) ? VX_PARAMETER_STATE_OPTIONAL
+                                                       : VX_PARAMETER_STATE_REQUIRED;
+    vx_reference value = NULL;
+    vx_status status = VX_ERROR_NOT_SUPPORTED;
+    if (attribute == VX_PARAMETER_INDEX)
+        status = give(ptr, size, &parameter->index, sizeof parameter->index);
+    if (attribute == VX_PARAMETER_DIRECTION)
+        status = give(ptr, size, &direction, sizeof direction);
+    if (attribute == VX_PARAMETER_TYPE)
+        status = give(ptr, size, &type, sizeof type);
+    if (attribute == VX_PARAMETER_STATE)
+        status = give(ptr, size, &state, sizeof state);
+    if (attribute == VX_PARAMETER_REF) {
+        status = give(ptr, size, &value, sizeof value);
+        if (status == VX_SUCCESS)
+            status = refer(parameter, &value);
+        if (status == VX_SUCCESS)
+            status = give(ptr, size, &value, sizeof value);
+    }
+    return leave(context, status);
+}
+
+/* A call with another value in a place, as far as that is a reference of the right type. */
+static vx_status put_value(vx_context context, struct call *call, unsigned place,
+                           vx_reference value) {
+    vx_status status = VX_SUCCESS;
+    if (value != NULL || !is_optional(call->function, place))
+        status = check(context, value, type_at(call->function, place));
+    if (status != VX_SUCCESS)
+        return status;
+    if (place < OPERANDS) {
+        call->operands[place] = value;
+        return VX_SUCCESS;
+    }
+    if (((vx_scalar)value)->item != VX_TYPE_ENUM)
+        return VX_ERROR_INVALID_TYPE;
+    *(place == POLICY ? &call->policy : &call->rounding) = ((vx_scalar)value)->value.s32;
+    return VX_SUCCESS;
+}
+
+static vx_status set_value(vx_node node, vx_uint32 index, vx_reference value) {
+    const struct signature *signature = signature_of(node->call.function);
+    if (node->graph == NULL)
+        return VX_ERROR_INVALID_NODE;
+    if (node->graph->is_scheduled)
+        return VX_ERROR_GRAPH_SCHEDULED;
+    if (index >= signature->count)
+        return VX_ERROR_INVALID_PARAMETERS;
+    unsigned place = signature->places[index];
+    struct call call = node->call;
+    vx_status status = put_value(node->base.context, &call, place, value);
+    if (status == VX_SUCCESS)
+        status = check_values(&call, node->graph->base.name);
+    if (status != VX_SUCCESS)
+        return status;
+    vx_reference before = place < OPERANDS ? node->call.operands[place] : NULL;
+    if (place < OPERANDS && value != NULL)
+        hold(value);
+    node->call = call;
+    change(node->graph);
+    if (before != NULL)
+        drop(before);
+    return VX_SUCCESS;
+}
+
+PUBLIC vx_status VX_API_CALL vxSetParameterByIndex(vx_node node, vx_uint32 index,
+                                                   vx_reference value) {
+    vx_context context = enter(node, VX_TYPE_NODE);
+    if (context == NULL)
+        return VX_ERROR_INVALID_REFERENCE;
+    return leave(context, set_value(node, index, value));
+}
+
+PUBLIC vx_status VX_API_CALL vxSetParameterByReference(vx_parameter parameter, vx_reference value) {
+    vx_context context = enter(parameter, VX_TYPE_PARAMETER);
+    if (context == NULL)
+        return VX_ERROR_INVALID_REFERENCE;
+    return leave(context, set_value(parameter->node, parameter->index, value));
+}
+
+static vx_status add_parameter(vx_graph graph, vx_parameter parameter) {
+    vx_status status = check(graph->base.context, parameter, VX_TYPE_PARAMETER);
+    if (status != VX_SUCCESS)
+        return status;
+    if (parameter->node->graph != graph)
+        return VX_ERROR_INVALID_PARAMETERS;
+    vx_parameter *grown =
+        realloc(graph->parameters, (graph->parameter_count + 1) * sizeof(vx_parameter));
+    if (grown == NULL)
+        return VX_ERROR_NO_MEMORY;
+    graph->parameters = grown;
+    graph->parameters[graph->parameter_count++] = parameter;
+    hold(&parameter->base);
+    return VX_SUCCESS;
+}
+
+PUBLIC vx_status VX_API_CALL vxAddParameterToGraph(vx_graph graph, vx_parameter parameter) {
+    vx_context context = enter(graph, VX_TYPE_GRAPH);
+    if (context == NULL)
+        return VX_ERROR_INVALID_REFERENCE;
+    return leave(context, add_parameter(graph, parameter));
+}
+
+PUBLIC vx_parameter VX_API_CALL vxGetGraphParameterByIndex(vx_graph graph, vx_uint32 index) {
+    vx_context context = enter(graph, VX_TYPE_GRAPH);
+    if (context == NULL)
+        return NULL;
+    vx_status status = VX_ERROR_INVALID_PARAMETERS;
+    vx_reference found = NULL;
+    if (index < graph->parameter_count) {
+        found = REFERENCE(graph->parameters[index]);
+        status = retain(found);
+    }
+    leave(context, status);
+    return (vx_parameter)(status == VX_SUCCESS ? found : error_of(context, status));
+}
+
+PUBLIC vx_status VX_API_CALL vxSetGraphParameterByIndex(vx_graph graph, vx_uint32 index,
+                                                        vx_reference value) {
+    vx_context context = enter(graph, VX_TYPE_GRAPH);
+    if (context == NULL)
+        return VX_ERROR_INVALID_REFERENCE;
+    if (index >= graph->parameter_count)
+        return leave(context, VX_ERROR_INVALID_PARAMETERS);
+    vx_parameter parameter = graph->parameters[index];
+    return leave(context, set_value(parameter->node, parameter->index, value));
+}
