@@ -22,6 +22,8 @@ FLAGS = ["-std=c11", "-Wall", "-Wextra", "-Werror", "-pedantic", "-D_POSIX_C_SOU
          "-I" + os.path.join(HOME, "include")]
 HEADERS = ("VX/vx.h", "VX/vxu.h")
 WIDTH, HEIGHT = 13, 9
+# What the library calls that may find no memory.
+TAKING_MEMORY = ("malloc", "calloc", "realloc", "tmpfile", "posix_spawn_file_actions_adddup2")
 # Longer than any test program runs, in seconds.
 PATIENCE = 300
 folder = ""
@@ -75,17 +77,17 @@ def installed():
     return prefix
 
 
-def build(name):
+def build(name, *flags):
     """The path of a test program."""
     path = os.path.join(folder, name)
-    subprocess.run(["cc", *FLAGS, os.path.join(HERE, name + ".c"),
+    subprocess.run(["cc", *FLAGS, *flags, os.path.join(HERE, name + ".c"),
                     os.path.join(folder, "library.a"), "-o", path], check=True)
     return path
 
 
-def run(name, *words, env=None):
+def run(name, *flags, env=None):
     """What a test program prints, which ends with status 0 and says nothing of a fault."""
-    ended = subprocess.run([build(name), *words], capture_output=True, text=True, timeout=PATIENCE,
+    ended = subprocess.run([build(name, *flags)], capture_output=True, text=True, timeout=PATIENCE,
                            env={**os.environ, **(env or {})}, check=False)
     assert ended.returncode == 0, f"{name}: status {ended.returncode}\n{ended.stderr}"
     return ended.stdout
@@ -187,6 +189,9 @@ class Library(unittest.TestCase):
 
     def test_parameters_of_nodes_and_of_graphs(self):
         run("parameters")
+
+    def test_each_allocation_refused_is_told_and_the_call_can_be_made_anew(self):
+        run("refused", *(f"-Wl,--wrap={name}" for name in TAKING_MEMORY))
 
     def test_a_server_that_ends_makes_each_call_fail(self):
         server = os.path.join(folder, "ending_server")

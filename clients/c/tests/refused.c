@@ -1,0 +1,199 @@
+/* Each allocation refused in turn. The linker has what takes memory in the library go through here;
+   a call whose allocation was refused says so, changes nothing, and succeeds when it is made anew.
+   What is lost, the sanitizer of addresses tells at the end. */
+#include "testing.h"
+
+#include <errno.h>
+#include <spawn.h>
+
+enum { SIDE = 4, COUNT = SIDE * SIDE };
+
+/* Allocations since the session began; the one that is refused, 0 for none; calls that said so. */
+static int allocations, refused, told;
+static vx_context context;
+
+static int refuses(void) { return ++allocations == refused; }
+
+/* The names that the linker's --wrap gives. */
+void *__real_malloc(size_t size);
+void *__real_calloc(size_t count, size_t size);
+void *__real_realloc(void *memory, size_t size);
+FILE *__real_tmpfile(void);
+int __real_posix_spawn_file_actions_adddup2(posix_spawn_file_actions_t *actions, int from, int to);
+void *__wrap_malloc(size_t size);
+void *__wrap_calloc(size_t count, size_t size);
+void *__wrap_realloc(void *memory, size_t size);
+FILE *__wrap_tmpfile(void);
+int __wrap_posix_spawn_file_actions_adddup2(posix_spawn_file_actions_t *actions, int from, int to);
+
+void *__wrap_malloc(size_t size) { return refuses() ? NULL : __real_malloc(size); }
+
+void *__wrap_calloc(size_t count, size_t size) {
+    return refuses() ? NULL : __real_calloc(count, size);
+}
+
+void *__wrap_realloc(void *memory, size_t size) {
+    return refuses() ? NULL : __real_realloc(memory, size);
+}
+
+FILE *__wrap_tmpfile(void) {
+    errno = ENOMEM;
+    return refuses() ? NULL : __real_tmpfile();
+}
+
+int __wrap_posix_spawn_file_actions_adddup2(posix_spawn_file_actions_t *actions, int from, int to) {
+    return refuses() ? ENOMEM : __real_posix_spawn_file_actions_adddup2(actions, from, to);
+}
+
+/* That a call found no memory: one does, and only after the allocation was refused. */
+static void tell(void) {
+    told++;
+    CHECK(told == 1 && refused > 0 && allocations >= refused);
+}
+
+/* Whether a call has to be made anew, since its allocation was refused. */
+static int is_refused(vx_status status, const char *call, int line) {
+    if (status != VX_ERROR_NO_MEMORY) {
+        expect_status(VX_SUCCESS, status, call, line);
+        return 0;
+    }
+    tell();
+    return 1;
+}
+
+#define DO(call)                                                                                   \
+    do {                                                                                           \
+    } while (is_refused(call, #call, __LINE__))
+
+#define MAKE(object, call)                                                                         \
+    do {                                                                                           \
+        object = call;                                                                             \
+    } while (is_refused(STATUS(object), #call, __LINE__))
+
+static void open_context(void) {
+    context = vxCreateContext();
+    if (context == NULL) {
+        tell();
+        context = vxCreateContext();
+    }
+    EXPECT(VX_SUCCESS, STATUS(context));
+}
+
+static vx_image filled(vx_uint8 sample) {
+    vx_image image;
+    vx_uint8 samples[COUNT];
+    memset(samples, sample, COUNT);
+    MAKE(image, vxCreateImage(context, SIDE, SIDE, VX_DF_IMAGE_U8));
+    DO(copy_whole(image, SIDE, SIDE, 1, samples, VX_WRITE_ONLY));
+    return image;
+}
+
+static void holds(vx_image image, vx_uint8 expected) {
+    vx_uint8 samples[COUNT] = {0};
+    DO(copy_whole(image, SIDE, SIDE, 1, samples, VX_READ_ONLY));
+    CHECK(samples[COUNT - 1] == expected);
+}
+
+static void map_parts(void) {
+    const vx_rectangle_t part = {1, 1, 3, 4};
+    vx_image image = filled(7);
+    vx_imagepatch_addressing_t addr;
+    vx_map_id map;
+    void *samples;
+    DO(vxMapImagePatch(image, &part, 0, &map, &addr, &samples, VX_READ_AND_WRITE,
+                       VX_MEMORY_TYPE_HOST, 0));
+    CHECK(*(vx_uint8 *)samples == 7);
+    *(vx_uint8 *)vxFormatImagePatchAddress2d(samples, 0, 1, &addr) = 99;
+    DO(vxUnmapImagePatch(image, map));
+    vx_uint8 found[COUNT];
+    DO(copy_whole(image, SIDE, SIDE, 1, found, VX_READ_ONLY));
+    CHECK(found[2 * SIDE + 1] == 99 && found[0] == 7);
+    EXPECT(VX_SUCCESS, vxReleaseImage(&image));
+}
+
+/* A table, a delay's slot, extremes and parameters, in one graph. */
+static void run_graph(void) {
+    vx_graph graph;
+    vx_lut lut;
+    vx_delay delay;
+    vx_reference slot, value;
+    vx_image input = filled(3), output = filled(0), between;
+    vx_node node, extremes;
+    vx_parameter parameter;
+    vx_scalar least;
+    vx_array places;
+    vx_uint8 entries[256], found;
+    memset(entries, 41, sizeof entries);
+    MAKE(graph, vxCreateGraph(context));
+    MAKE(between, vxCreateVirtualImage(graph, SIDE, SIDE, VX_DF_IMAGE_U8));
+    MAKE(lut, vxCreateLUT(context, VX_TYPE_UINT8, 256));
+    DO(vxCopyLUT(lut, entries, VX_WRITE_ONLY, VX_MEMORY_TYPE_HOST));
+    MAKE(delay, vxCreateDelay(context, (vx_reference)input, 2));
+    MAKE(slot, vxGetReferenceFromDelay(delay, -1));
+    MAKE(least, vxCreateScalar(context, VX_TYPE_UINT8, NULL));
+    MAKE(places, vxCreateArray(context, VX_TYPE_COORDINATES2D, 2));
+    MAKE(node, vxTableLookupNode(graph, input, lut, between));
+    EXPECT(VX_SUCCESS, vxReleaseNode(&node));
+    MAKE(node, vxAddNode(graph, between, (vx_image)slot, VX_CONVERT_POLICY_WRAP, output));
+    MAKE(extremes, vxMinMaxLocNode(graph, output, least, least, places, NULL, NULL, NULL));
+    MAKE(parameter, vxGetParameterByIndex(node, 2));
+    DO(vxQueryParameter(parameter, VX_PARAMETER_REF, &value, sizeof value));
+    DO(vxAddParameterToGraph(graph, parameter));
+    DO(vxSetGraphParameterByIndex(graph, 0, value));
+    EXPECT(VX_SUCCESS, vxReleaseReference(&value));
+    DO(vxVerifyGraph(graph));
+    DO(vxProcessGraph(graph));
+    EXPECT(VX_SUCCESS, vxCopyScalar(least, &found, VX_READ_ONLY, VX_MEMORY_TYPE_HOST));
+    CHECK(found == 41);
+    /* The table is sent anew when the graph runs. */
+    entries[3] = 8;
+    DO(vxCopyLUT(lut, entries, VX_WRITE_ONLY, VX_MEMORY_TYPE_HOST));
+    DO(vxScheduleGraph(graph));
+    DO(vxWaitGraph(graph));
+    holds(output, 8);
+    EXPECT(VX_SUCCESS, vxReleaseParameter(&parameter));
+    EXPECT(VX_SUCCESS, vxRemoveNode(&extremes));
+    EXPECT(VX_SUCCESS, vxReleaseGraph(&graph));
+}
+
+/* What a context has alone, and functions at once. */
+static void run_functions(void) {
+    vx_threshold threshold;
+    vx_convolution kernel;
+    vx_distribution counts;
+    vx_image input = filled(3), output = filled(0);
+    vx_pixel_value_t limit = {.U8 = 2};
+    vx_uint32 found[4];
+    MAKE(threshold, vxCreateThresholdForImage(context, VX_THRESHOLD_TYPE_BINARY, VX_DF_IMAGE_U8,
+                                              VX_DF_IMAGE_U8));
+    DO(vxCopyThresholdValue(threshold, &limit, VX_WRITE_ONLY, VX_MEMORY_TYPE_HOST));
+    MAKE(kernel, vxCreateConvolution(context, 3, 3));
+    MAKE(counts, vxCreateDistribution(context, 4, 0, 256));
+    DO(vxuThreshold(context, input, threshold, output));
+    holds(output, 255);
+    DO(vxuConvolve(context, input, kernel, output));
+    DO(vxuHistogram(context, input, counts));
+    DO(vxCopyDistribution(counts, found, VX_READ_ONLY, VX_MEMORY_TYPE_HOST));
+    CHECK(found[0] == COUNT);
+}
+
+/* All calls that take memory; how many allocations they make. */
+static int run_session(int refuse) {
+    allocations = told = 0;
+    refused = refuse;
+    open_context();
+    map_parts();
+    run_graph();
+    run_functions();
+    EXPECT(VX_SUCCESS, vxReleaseContext(&context));
+    CHECK(told == (refuse == 0 ? 0 : 1));
+    return allocations;
+}
+
+int main(void) {
+    int all = run_session(0);
+    CHECK(all >= 40);
+    for (int refuse = 1; refuse <= all; refuse++)
+        run_session(refuse);
+    return 0;
+}
