@@ -18,8 +18,8 @@ sys.path.insert(0, os.path.join(HOME, "..", "python"))
 import feqyldan as vx  # noqa: E402
 
 FLAGS = ["-std=c11", "-Wall", "-Wextra", "-Werror", "-pedantic", "-D_POSIX_C_SOURCE=200809L", "-g",
-         "-O1", "-fsanitize=address,undefined", "-fno-sanitize-recover=all", "-pthread",
-         "-I" + os.path.join(HOME, "include")]
+         "-O1", "-fno-sanitize-recover=all", "-pthread", "-I" + os.path.join(HOME, "include")]
+MEMORY, THREADS = "address,undefined", "thread"
 HEADERS = ("VX/vx.h", "VX/vxu.h")
 WIDTH, HEIGHT = 13, 9
 # What the library calls that may find no memory.
@@ -52,14 +52,6 @@ int main() {
 def setUpModule():
     global folder
     folder = tempfile.mkdtemp()
-    sources = os.path.join(HOME, "src")
-    objects = []
-    for name in sorted(os.listdir(sources)):
-        if name.endswith(".c"):
-            objects.append(os.path.join(folder, name[:-2] + ".o"))
-            subprocess.run(["cc", *FLAGS, "-c", os.path.join(sources, name), "-o", objects[-1]],
-                           check=True)
-    subprocess.run(["ar", "rcs", os.path.join(folder, "library.a"), *objects], check=True)
 
 
 def tearDownModule():
@@ -77,20 +69,48 @@ def installed():
     return prefix
 
 
-def build(name, *flags):
-    """The path of a test program."""
-    path = os.path.join(folder, name)
-    subprocess.run(["cc", *FLAGS, *flags, os.path.join(HERE, name + ".c"),
-                    os.path.join(folder, "library.a"), "-o", path], check=True)
+def cc(sanitizer, *words):
+    subprocess.run(["cc", *FLAGS, "-fsanitize=" + sanitizer, *words], check=True)
+
+
+def library(sanitizer):
+    """The path of the library for a sanitizer."""
+    path = os.path.join(folder, sanitizer + ".a")
+    if not os.path.exists(path):
+        sources, objects = os.path.join(HOME, "src"), []
+        for name in sorted(os.listdir(sources)):
+            if name.endswith(".c"):
+                objects.append(os.path.join(folder, name[:-2] + ".o"))
+                cc(sanitizer, "-c", os.path.join(sources, name), "-o", objects[-1])
+        subprocess.run(["ar", "rcs", path, *objects], check=True)
     return path
 
 
-def run(name, *flags, env=None):
+def build(name, *flags, sanitizer=MEMORY):
+    """The path of a test program."""
+    path = os.path.join(folder, f"{name}-{sanitizer}")
+    cc(sanitizer, *flags, os.path.join(HERE, name + ".c"), library(sanitizer), "-o", path)
+    return path
+
+
+def run(name, *flags, sanitizer=MEMORY, env=None):
     """What a test program prints, which ends with status 0 and says nothing of a fault."""
-    ended = subprocess.run([build(name, *flags)], capture_output=True, text=True, timeout=PATIENCE,
+    path = build(name, *flags, sanitizer=sanitizer)
+    ended = subprocess.run([path], capture_output=True, text=True, timeout=PATIENCE,
                            env={**os.environ, **(env or {})}, check=False)
     assert ended.returncode == 0, f"{name}: status {ended.returncode}\n{ended.stderr}"
     return ended.stdout
+
+
+def has_thread_sanitizer():
+    source = os.path.join(folder, "empty.c")
+    with open(source, "w", encoding="utf-8") as text:
+        text.write("int main(void) { return 0; }\n")
+    try:
+        cc(THREADS, source, "-o", os.path.join(folder, "empty"))
+    except subprocess.CalledProcessError:
+        return False
+    return True
 
 
 def numbers(seed):
@@ -192,6 +212,29 @@ class Library(unittest.TestCase):
 
     def test_each_allocation_refused_is_told_and_the_call_can_be_made_anew(self):
         run("refused", *(f"-Wl,--wrap={name}" for name in TAKING_MEMORY))
+
+    def test_several_threads_use_one_context(self):
+        run("threads")
+
+    def test_the_sanitizer_of_threads_is_silent(self):
+        if not has_thread_sanitizer():
+            self.skipTest("cc has no sanitizer of threads")
+        for name in ("threads", "programs"):
+            run(name, sanitizer=THREADS)
+        run("ended", sanitizer=THREADS, env=self.server_to_kill())
+
+    def server_to_kill(self):
+        """The environment of a server that says its process's number."""
+        program, process = os.path.join(folder, "to_kill"), os.path.join(folder, "process")
+        with open(program, "w", encoding="utf-8") as script:
+            script.write(f'#!/bin/sh\necho $$ > "{process}"\n'
+                         'exec "$SERVER_PROGRAM" "$@"\n')
+        os.chmod(program, 0o755)
+        return {"FEQYLDAN_PROGRAM": program, "SERVER_PROCESS": process,
+                "SERVER_PROGRAM": os.environ["FEQYLDAN_PROGRAM"]}
+
+    def test_after_a_killed_server_each_call_fails(self):
+        run("ended", env=self.server_to_kill())
 
     def test_a_server_that_ends_makes_each_call_fail(self):
         server = os.path.join(folder, "ending_server")
