@@ -1,6 +1,8 @@
 """What the tests of the broker share: a broker that runs, connections to it, and frames of the
 plain server (plain_server.py)."""
 
+import contextlib
+import json
 import os
 import select
 import socket
@@ -10,14 +12,14 @@ import sys
 import tempfile
 import time
 import unittest
-from typing import Callable, List, Optional, Tuple
+from typing import Any, Callable, Dict, List, Optional, Tuple
 
 HERE = os.path.dirname(os.path.abspath(__file__))
 PACKAGE = os.path.join(HERE, "..")
 sys.path[:0] = [HERE, PACKAGE, os.path.join(HERE, "..", "..", "..", "tools")]
 
 from feqyldan import wire  # noqa: E402
-from plain_server import WHO_ASKED  # noqa: E402
+from plain_server import HOLD, WHO_ASKED  # noqa: E402
 
 PROGRAM = os.environ.get("FEQYLDAN_PROGRAM")
 PLAIN = [sys.executable, os.path.join(HERE, "plain_server.py"), "serve"]
@@ -117,6 +119,44 @@ def success(op: int, body: bytes = b"", client: int = CLIENT) -> bytes:
     return wire.reply_frame(client, op, 0, body)
 
 
+def all_of(sock: socket.socket) -> bytes:
+    """What comes until the other side ends the connection."""
+    got = b""
+    while True:
+        data = sock.recv(65536)
+        if not data:
+            return got
+        got += data
+
+
+class Gate:
+    """A named pipe, at which a server waits until it is let go: so a test knows that a request is
+    with the server, and decides when it ends."""
+
+    def __init__(self, folder: str) -> None:
+        self.path = os.path.join(folder, "gate")
+        os.mkfifo(self.path)
+        self.writer: Optional[int] = None
+
+    @property
+    def frame(self) -> bytes:
+        """The plain server's request that waits here."""
+        return plain(HOLD, self.path.encode())
+
+    def is_reached(self) -> bool:
+        """Whether a server has come to wait here. It does until it is let go."""
+        if self.writer is None:
+            # Nobody reads from the pipe as long as this fails.
+            with contextlib.suppress(OSError):
+                self.writer = os.open(self.path, os.O_WRONLY | os.O_NONBLOCK)
+        return self.writer is not None
+
+    def let_go(self) -> None:
+        if self.writer is not None:
+            os.close(self.writer)
+            self.writer = None
+
+
 class Broker:
     """A broker that runs, in a folder of its own."""
 
@@ -161,6 +201,18 @@ class Broker:
     def says(self, words: str) -> bool:
         return self.wait_for(lambda: words in self.words())
 
+    def state(self) -> Dict[str, Any]:
+        """What its status socket tells."""
+        with socket.socket(socket.AF_UNIX, socket.SOCK_STREAM) as sock:
+            sock.settimeout(LATE)
+            sock.connect(self.status_path)
+            sock.shutdown(socket.SHUT_WR)
+            return dict(json.loads(all_of(sock)))
+
+    def has_passed_on(self, size: int) -> bool:
+        """Whether it comes to have begun to write so many bytes of requests to its servers."""
+        return self.wait_for(lambda: int(self.state()["bytes_in"]) == size)
+
     def program(self) -> Program:
         return Program(self.path)
 
@@ -194,6 +246,11 @@ class BrokerTest(unittest.TestCase):
         broker = Broker(*options, **keywords)  # type: ignore[arg-type]
         self.addCleanup(broker.close)
         return broker
+
+    def gate(self, broker: Broker) -> Gate:
+        made = Gate(broker.folder.name)
+        self.addCleanup(made.let_go)
+        return made
 
     def connect(self, broker: Broker) -> Program:
         program = broker.program()

@@ -9,13 +9,17 @@ import sys
 import time
 
 # Waits u16 milliseconds; answers so many (u32) bytes; answers who asked what, u16 client and u8 op
-# each; ends with a status (u8); answers another client than the one that asked.
-WAIT, MANY_BYTES, WHO_ASKED, EXIT, MISTAKE = 100, 101, 102, 103, 104
+# each; ends with a status (u8); answers another client than the one that asked; waits until the
+# named pipe at a path has been written to its end.
+WAIT, MANY_BYTES, WHO_ASKED, EXIT, MISTAKE, HOLD = 100, 101, 102, 103, 104, 105
 
 
 def answer(op: int, body: bytes, asked: bytes) -> bytes:
     if op == WAIT:
         time.sleep(struct.unpack(">H", body)[0] / 1000)
+    if op == HOLD:
+        with open(body, "rb") as pipe:
+            pipe.read()
     if op == MANY_BYTES:
         return bytes(struct.unpack(">I", body)[0])
     if op == EXIT:

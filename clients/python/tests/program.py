@@ -26,17 +26,31 @@ needs_program = unittest.skipUnless(PROGRAM,
 faulthandler.dump_traceback_later(600, exit=True)
 
 
+INTERRUPT = "interrupt"
+
+
 def answering(*replies, end="", said="", status=0):
     """
     A server that reads a request for each of these replies, in bytes, and then ends. A number among
-    them has it sleep for so many seconds.
+    them has it sleep for so many seconds; INTERRUPT has it interrupt who started it, by SIGALRM,
+    once the next request begins to come and that one waits.
     """
     script = (
-        "import os, sys, time\n"
+        "import os, signal, sys, time\n"
         "source, target = sys.stdin.buffer, sys.stdout.buffer\n"
+        # Of its first thread. A signal that came just before it waits would end no wait.
+        "def waits(process):\n"
+        "    with open(f'/proc/{process}/stat') as file:\n"
+        "        return file.read().rpartition(')')[2].split()[0] == 'S'\n"
         f"for reply in {replies!r}:\n"
         "    if isinstance(reply, float):\n"
         "        time.sleep(reply)\n"
+        "        continue\n"
+        f"    if reply == {INTERRUPT!r}:\n"
+        "        source.peek(1)\n"
+        "        while not waits(os.getppid()):\n"
+        "            time.sleep(0.001)\n"
+        "        os.kill(os.getppid(), signal.SIGALRM)\n"
         "        continue\n"
         "    source.read(int.from_bytes(source.read(4), 'big'))\n"
         "    target.write(reply)\n"

@@ -14,7 +14,7 @@ from typing import List
 from broker_tools import LATE, Broker, BrokerTest, peak_bytes, plain, success
 from feqyldan import wire
 from feqyldan.broker.incoming import TURN_BYTES
-from plain_server import MANY_BYTES, WAIT, WHO_ASKED
+from plain_server import HOLD, MANY_BYTES, WAIT, WHO_ASKED
 
 # An op of the vision server's that takes little, and one that may take long; the plain server knows
 # none of them.
@@ -164,15 +164,19 @@ class Ends(BrokerTest):
         self.assertEqual(idle.ask(plain(51)), success(51))
 
     def test_a_slow_reader_is_not_ended(self) -> None:
-        program = self.connect(self.begin("--patience", "1"))
-        size = 2_000_000
+        patience = 3.0
+        program = self.connect(self.begin("--patience", f"{patience:g}"))
+        size, began = 2_000_000, time.monotonic()
         program.send(plain(MANY_BYTES, struct.pack(">I", size)) * 2)
         got = 0
         while got < 2 * (size + 8):
             data = program.bytes(min(400_000, 2 * (size + 8) - got))
             self.assertTrue(data)
             got += len(data)
-            time.sleep(0.3)
+            # It is the pauses that are tested: short ones, that together are longer than the
+            # patience.
+            time.sleep(patience / 6)
+        self.assertGreater(time.monotonic() - began, patience)
 
     def test_the_server_is_not_asked_more_by_one_that_takes_no_replies(self) -> None:
         broker = self.begin()
@@ -268,12 +272,15 @@ class Ends(BrokerTest):
 
     def test_one_that_asks_nothing_is_ended_where_that_is_told(self) -> None:
         broker = self.begin("--idle", "1")
-        idle, busy = self.connect(broker), self.connect(broker)
+        idle, busy, gate = self.connect(broker), self.connect(broker), self.gate(broker)
         self.assertEqual(idle.ask(plain(1)), success(1))
-        busy.send(plain(WAIT, struct.pack(">H", 3000)))
+        busy.send(gate.frame)
+        self.assertTrue(broker.wait_for(gate.is_reached))
         self.assertTrue(idle.has_ended())
         self.assertTrue(broker.says("asked nothing for 1 s"))
-        self.assertEqual(busy.reply(), success(WAIT))
+        # A request that takes longer isn't asking nothing.
+        gate.let_go()
+        self.assertEqual(busy.reply(), success(HOLD))
 
 
 # What a process of its own asks.
@@ -313,12 +320,13 @@ class Turns(BrokerTest):
         for flood in floods:
             flood.send(plain(WAIT, b"\0\3") * each)
         other = self.connect(broker)
-        for _ in range(20):
-            self.assertEqual(other.ask(plain(50)), success(50))
+        # All at once, so that it is never this program that is waited for.
+        self.assertEqual(other.ask_ahead([plain(50)] * 20), [success(50)] * 20)
         asked = other.who_asked()
-        first, last = asked.index((3, 50)), len(asked) - 1
-        # At most three a turn; more where this program was kept waiting by the machine.
-        self.assertLess(len([op for _, op in asked[first:last] if op == WAIT]), 20 * 3 * 5)
+        own = [at for at, entry in enumerate(asked) if entry == (3, 50)]
+        waits = [op for _, op in asked[own[0] : own[-1]] if op == WAIT]
+        # At most one turn of each flood.
+        self.assertLessEqual(len(waits), 20 * 3)
 
     def test_a_short_request_waits_for_one_long_one_alone(self) -> None:
         broker = self.begin()

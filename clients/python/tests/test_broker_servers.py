@@ -12,35 +12,16 @@ import struct
 import subprocess
 import sys
 import tempfile
-import time
 import unittest
-from typing import Any, Dict
 
 from broker_tools import (
-    CLIENT, LATE, PACKAGE, PLAIN, PROGRAM, Broker, BrokerTest, Program, plain, success)
+    CLIENT, LATE, PACKAGE, PLAIN, PROGRAM, Broker, BrokerTest, Gate, Program, all_of, plain,
+    success)
 from feqyldan import wire
 from feqyldan.broker.command_line import memory_each
-from plain_server import EXIT, MANY_BYTES, MISTAKE, WAIT, WHO_ASKED
+from plain_server import EXIT, HOLD, MANY_BYTES, MISTAKE, WHO_ASKED
 
 needs_program = unittest.skipUnless(PROGRAM, "FEQYLDAN_PROGRAM doesn't name the server's program")
-
-
-def state_of(broker: Broker) -> Dict[str, Any]:
-    """What the broker's status socket tells."""
-    with socket.socket(socket.AF_UNIX, socket.SOCK_STREAM) as sock:
-        sock.settimeout(LATE)
-        sock.connect(broker.status_path)
-        sock.shutdown(socket.SHUT_WR)
-        return dict(json.loads(all_of(sock)))
-
-
-def all_of(sock: socket.socket) -> bytes:
-    got = b""
-    while True:
-        data = sock.recv(65536)
-        if not data:
-            return got
-        got += data
 
 
 class TheServer(BrokerTest):
@@ -75,10 +56,11 @@ class TheServer(BrokerTest):
         self.assertEqual([op for _, op in newcomers[0].who_asked()], [1, 1, WHO_ASKED])
 
     def test_replies_that_came_before_its_end_are_sent(self) -> None:
-        broker = self.begin()
+        broker = self.begin(tells_state=True)
         program, other = self.connect(broker), self.connect(broker)
         program.send(plain(MANY_BYTES, struct.pack(">I", 3_000_000)))
-        time.sleep(0.5)
+        # The server is at it, and reads the request to end once that reply is written.
+        self.assertTrue(broker.wait_for(lambda: broker.state()["requests"] == 1))
         other.send(plain(EXIT, b"\3"))
         self.assertTrue(other.has_ended())
         self.assertEqual(program.reply(), success(MANY_BYTES, bytes(3_000_000)))
@@ -168,56 +150,73 @@ class TheServer(BrokerTest):
         self.assertIn("a reply that nobody is owed", broker.words())
 
     def test_one_that_reads_no_more(self) -> None:
-        broker = self.begin(command=["/bin/sh", "-c", "exec 0<&-; sleep 0.5"])
-        program = self.connect(broker)
-        program.send(plain(1))
-        self.assertTrue(program.has_ended())
-        self.assertEqual(broker.status(), 1)
+        with tempfile.TemporaryDirectory() as folder:
+            gate = Gate(folder)
+            self.addCleanup(gate.let_go)
+            broker = self.begin("--grace", "1", tells_state=True,
+                                command=["/bin/sh", "-c", 'exec 0<&-; exec cat "$0"', gate.path])
+            self.assertTrue(broker.wait_for(gate.is_reached))
+            program = self.connect(broker)
+            program.send(plain(1))
+            self.assertTrue(broker.has_passed_on(7))
+            gate.let_go()
+            self.assertTrue(program.has_ended())
+            self.assertTrue(broker.says("has ended with status 0"))
+            self.assertEqual(broker.stop(), 0)
 
     def test_signals_end_it_after_what_was_asked(self) -> None:
         for which in (signal.SIGTERM, signal.SIGINT):
             broker = self.begin()
             busy, idle = self.connect(broker), self.connect(broker)
             self.assertEqual(idle.ask(plain(1)), success(1))
-            busy.send(plain(WAIT, struct.pack(">H", 300)) + plain(50))
-            time.sleep(0.1)
+            gate = self.gate(broker)
+            busy.send(gate.frame + plain(50))
+            self.assertTrue(broker.wait_for(gate.is_reached))
             broker.process.send_signal(which)
-            self.assertEqual(busy.reply(), success(WAIT))
+            self.assertTrue(broker.says(f"ends by {which.name}"))
+            gate.let_go()
+            self.assertEqual(busy.reply(), success(HOLD))
             self.assertTrue(busy.has_ended() and idle.has_ended())
             self.assertEqual(broker.status(), 0)
             self.assertFalse(os.path.exists(broker.path))
 
     def test_a_frame_that_is_half_written_is_ended_whole(self) -> None:
-        broker = self.begin(command=["/bin/sh", "-c", 'sleep 0.7; exec "$@"', "sh", *PLAIN])
-        great = self.connect(broker)
-        great.send(plain(50, bytes(5_000_000)))
-        time.sleep(0.2)
-        self.assertEqual(broker.stop(), 0)
-        self.assertEqual(great.reply(), success(50))
+        with tempfile.TemporaryDirectory() as folder:
+            gate = Gate(folder)
+            self.addCleanup(gate.let_go)
+            reads_later = ["/bin/sh", "-c", 'cat "$0"; exec "$@"', gate.path, *PLAIN]
+            broker = self.begin("--grace", "60", command=reads_later, tells_state=True)
+            great, frame = self.connect(broker), plain(50, bytes(5_000_000))
+            great.send(frame)
+            self.assertTrue(broker.has_passed_on(len(frame)))
+            broker.process.terminate()
+            self.assertTrue(broker.says("ends by SIGTERM") and broker.wait_for(gate.is_reached))
+            gate.let_go()
+            self.assertEqual(great.reply(), success(50))
+            self.assertEqual(broker.status(), 0)
 
     def test_it_ends_in_time_beside_a_long_request(self) -> None:
         for command in (PLAIN, ["/bin/sh", "-c", "trap '' TERM; sleep 1000 & wait; sleep 1000"]):
-            broker = self.begin("--grace", "1", "--servers", "2", command=command)
-            busy, other = self.connect(broker), self.connect(broker)
-            busy.send(plain(WAIT, struct.pack(">H", 60_000)))
+            broker = self.begin("--grace", "1", "--servers", "2", command=command,
+                                tells_state=True)
+            busy, other, gate = self.connect(broker), self.connect(broker), self.gate(broker)
+            busy.send(gate.frame)
             other.send(plain(50))
-            time.sleep(0.2)
-            start = time.monotonic()
+            self.assertTrue(broker.has_passed_on(len(gate.frame) + 7))
+            # In time, since nobody lets the request go.
             self.assertEqual(broker.stop(), 0)
-            self.assertLess(time.monotonic() - start, 6)
             self.assertIn("is killed: its request takes longer than 1 s", broker.words())
             self.assertTrue(busy.has_ended())
 
     def test_a_second_signal_ends_it_at_once(self) -> None:
-        broker = self.begin("--grace", "60")
-        self.connect(broker).send(plain(WAIT, struct.pack(">H", 60_000)))
-        time.sleep(0.2)
-        for _ in range(2):
-            broker.process.send_signal(signal.SIGINT)
-            time.sleep(0.2)
-        start = time.monotonic()
+        broker = self.begin("--grace", "1000")
+        gate = self.gate(broker)
+        self.connect(broker).send(gate.frame)
+        self.assertTrue(broker.wait_for(gate.is_reached))
+        broker.process.send_signal(signal.SIGINT)
+        self.assertTrue(broker.says("ends by SIGINT"))
+        broker.process.send_signal(signal.SIGINT)
         self.assertEqual(broker.status(), 0)
-        self.assertLess(time.monotonic() - start, 6)
 
 
 class Memory(BrokerTest):
@@ -243,7 +242,7 @@ class Memory(BrokerTest):
             self.assertEqual(program.ask(wire.read_image(CLIENT, 1))[13:], bytes(64))
             self.assertEqual(wire.code_of(program.ask(wire.create_image(CLIENT, wire.U8, 8, 8))),
                              wire.SUCCESS)
-        state = state_of(broker)
+        state = broker.state()
         self.assertEqual(state["refusals"], {"NO_MEMORY": codes.count(wire.NO_MEMORY)})
         for server in state["servers"]:
             self.assertTrue(0 < server["memory_bytes"] <= server["peak_memory_bytes"] <= self.LIMIT)
@@ -255,7 +254,7 @@ class Memory(BrokerTest):
                              (["--memory", "unlimited"], "unlimited"),
                              ([], unless_told)):
             broker = self.begin(*words, tells_state=True)
-            server, = state_of(broker)["servers"]
+            server, = broker.state()["servers"]
             with open(f"/proc/{server['process']}/limits") as limits:
                 line = next(line for line in limits if line.startswith("Max address space"))
             self.assertEqual(line.split()[3], limit)
@@ -271,19 +270,21 @@ class Status(BrokerTest):
         self.assertEqual(program.ask(plain(1)), success(1))
         self.assertEqual(other.ask(plain(50, bytes(93))), success(50))
         other.sock.close()
-        self.assertTrue(broker.wait_for(lambda: state_of(broker)["connections"]["open"] == 1))
-        program.send(plain(WAIT, struct.pack(">H", 400)))
-        time.sleep(0.2)
-        state = state_of(broker)
-        self.assertEqual(state["connections"],
-                         {"open": 1, "releasing": 0, "accepted": 2, "turned_away": 0})
+        self.assertTrue(broker.wait_for(lambda: broker.state()["connections"] == {
+            "open": 1, "releasing": 0, "accepted": 2, "turned_away": 0}))
+        gate = self.gate(broker)
+        program.send(gate.frame)
+        self.assertTrue(broker.wait_for(
+            lambda: broker.state()["servers"][0]["busy_seconds"] > 0.05))
+        state = broker.state()
         # What the broker asks itself, as the release of a context, isn't among them.
         self.assertEqual((state["requests"], state["bytes_in"], state["bytes_out"]),
-                         (2, 7 + 100 + 9, 16))
+                         (2, 7 + 100 + len(gate.frame), 16))
         self.assertEqual([server["connections"] for server in state["servers"]], [1, 0])
-        self.assertGreater(state["servers"][0]["busy_seconds"], 0.05)
-        self.assertEqual(program.reply(), success(WAIT))
-        self.assertGreater(state_of(broker)["longest_request_seconds"], 0.3)
+        self.assertTrue(gate.is_reached())
+        gate.let_go()
+        self.assertEqual(program.reply(), success(HOLD))
+        self.assertGreater(broker.state()["longest_request_seconds"], 0.05)
         self.assertEqual(broker.stop(), 0)
         self.assertFalse(os.path.exists(broker.status_path))
 
@@ -315,7 +316,7 @@ class Status(BrokerTest):
             sock.connect(broker.status_path)
             sock.settimeout(LATE)
             silent.append(sock)
-        self.assertEqual(state_of(broker)["requests"], 0)
+        self.assertEqual(broker.state()["requests"], 0)
         self.assertEqual({sock.recv(1) for sock in silent}, {b""})
 
     def test_lines_say_who_and_how_much(self) -> None:
