@@ -4,4 +4,5 @@ mod CountLaws
 mod TallyLaws
 mod LocatedLaws
 mod SumLaws
+mod LaneSums
 mod ExtremeLaws

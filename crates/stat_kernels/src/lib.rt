@@ -15,6 +15,7 @@ pub mod laws;
 mod located;
 mod occurrences;
 mod part;
+mod running;
 mod short;
 mod sums;
 

@@ -10,21 +10,9 @@ ghost use Rattle.stat_kernels.specs.Part.{IsValidPart};
 ghost use Rattle.stat_kernels.specs.Sums.{AreSums, row_within};
 
 use crate::part::Part;
+use crate::running::sum_up;
 use image_core::{Image, ImageMut, Whole};
 use vx_base::Rect;
-
-/// Writes for each place of a row the sum of its samples up to that place.
-fn sum_up(row: &[u8], out: &mut [u32])
-    requires len { length out.old ≡ length row.now }
-    requires room { 255 * length row.now < 2 ^ 32 }
-    ensures { (k : ℕ) → k < length row.now → slice_index out.new k ≡ sum (slice_range row.now 0 (k + 1)) }
-{
-    let mut total = 0;
-    for (k, sample) in row.iter().enumerate() {
-        total += u32::from(*sample);
-        out[k] = total;
-    }
-}
 
 /// Adds to each sum what is given for it, and writes the new sum in its place. The compiler runs
 /// the loop in lanes.
