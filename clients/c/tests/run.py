@@ -199,7 +199,11 @@ class Library(unittest.TestCase):
         run("programs")
 
     def test_random_sequences_of_wrong_calls_end_in_a_status(self):
-        run("wrong")
+        counts = dict(map(int, line.split()) for line in run("wrong").splitlines())
+        self.assertEqual(sum(counts.values()), 1000 * 25)
+        # They reach what lies behind the first check: some succeed, the others fail in many ways.
+        self.assertGreater(counts[0], 1000)
+        self.assertGreater(len(counts), 10)
 
     def test_each_mistake_has_its_status(self):
         run("statuses")
