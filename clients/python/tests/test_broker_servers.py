@@ -13,11 +13,13 @@ import subprocess
 import sys
 import tempfile
 import unittest
+from unittest import mock
 
 from broker_tools import (
     CLIENT, LATE, PACKAGE, PLAIN, PROGRAM, Broker, BrokerTest, Gate, Program, all_of, plain,
     success)
 from feqyldan import wire
+from feqyldan.broker import machine
 from feqyldan.broker.command_line import memory_each
 from plain_server import EXIT, HOLD, MANY_BYTES, MISTAKE, WHO_ASKED
 
@@ -219,6 +221,10 @@ class TheServer(BrokerTest):
         self.assertEqual(broker.status(), 0)
 
 
+def whole_memory() -> int:
+    return os.sysconf("SC_PAGE_SIZE") * os.sysconf("SC_PHYS_PAGES")
+
+
 class Memory(BrokerTest):
     """A server under a limit answers NO_MEMORY, and lives."""
 
@@ -247,6 +253,25 @@ class Memory(BrokerTest):
         for server in state["servers"]:
             self.assertTrue(0 < server["memory_bytes"] <= server["peak_memory_bytes"] <= self.LIMIT)
         self.assertEqual(broker.stop(), 0)
+
+    def test_the_limits_of_control_groups(self) -> None:
+        """Unless it is told, the servers have three quarters of what the least of them allows."""
+        own = "5:cpu,memory:/a/b\n1:name=systemd:/\n0::/c/d"
+        for limits, least in (({}, None), ({"c/memory.max": "400000000"}, 400_000_000),
+                              ({"memory.max": "max", "c/d/memory.max": "300000000"}, 300_000_000),
+                              ({"memory/memory.limit_in_bytes": "200000000"}, 200_000_000),
+                              ({"memory/a/b/memory.limit_in_bytes": "500000000",
+                                "memory/a/memory.limit_in_bytes": "9223372036854771712"},
+                               500_000_000)):
+            with self.subTest(limits=limits), tempfile.TemporaryDirectory() as folder:
+                for name, text in {"own": own, **limits}.items():
+                    path = os.path.join(folder, name)
+                    os.makedirs(os.path.dirname(path), exist_ok=True)
+                    with open(path, "w") as file:
+                        file.write(f"{text}\n")
+                with mock.patch.multiple(machine, GROUPS=folder,
+                                         OWN_GROUPS=os.path.join(folder, "own")):
+                    self.assertEqual(memory_each(2), (least or whole_memory()) * 3 // 4 // 2)
 
     def test_each_server_has_the_limit(self) -> None:
         unless_told = str(memory_each(1))

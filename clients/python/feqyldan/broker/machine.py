@@ -9,7 +9,8 @@ from .lines import Unusable
 
 # Files of the broker's own: its sockets and pipes, and those of who is answered once.
 OWN_FILES = 256
-GROUPS = "/sys/fs/cgroup"
+# The control groups of the machine, and which of them this program is in.
+GROUPS, OWN_GROUPS = "/sys/fs/cgroup", "/proc/self/cgroup"
 
 
 def processors() -> int:
@@ -27,7 +28,7 @@ def group_limits() -> Iterator[int]:
     """The limits on memory of this program's control groups and of those above them, of both
     versions."""
     try:
-        with open("/proc/self/cgroup") as file:
+        with open(OWN_GROUPS) as file:
             groups = [line.rstrip("\n").split(":", 2) for line in file]
     except OSError:
         return
