@@ -219,6 +219,7 @@ class TheServer(BrokerTest):
         self.assertTrue(broker.says("ends by SIGINT"))
         broker.process.send_signal(signal.SIGINT)
         self.assertEqual(broker.status(), 0)
+        self.assertIn("is killed: the broker was told twice to end", broker.words())
 
 
 def whole_memory() -> int:

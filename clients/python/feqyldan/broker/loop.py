@@ -66,7 +66,7 @@ class Broker:
         self.is_listening = self.is_over = False
         # When the last replies and the servers are waited for no longer, once the broker is to end.
         self.stops_at: Optional[float] = None
-        self.was_told = False
+        self.was_told = self.was_told_twice = False
         self.signals, self.signalled = socket.socketpair()
         self.signalled.setblocking(False)
         self.events.watch(self.signals.fileno(), READ, self.take_signals)
@@ -522,7 +522,7 @@ class Broker:
                     self.reload()
             elif self.was_told:
                 # Whoever asks twice doesn't wait.
-                self.stops_at = self.now
+                self.was_told_twice, self.stops_at = True, self.now
             else:
                 self.lines.say(f"ends by {signal.Signals(which).name}")
                 self.was_told = True
@@ -557,10 +557,11 @@ class Broker:
         """Ends what is left; the exit status."""
         for connection in [*self.open]:
             self.end(connection)
+        why = ("the broker was told twice to end" if self.was_told_twice else
+               f"its request takes longer than {self.limits.grace:g} s (--grace)")
         for server in self.servers:
             if server.owed:
-                self.lines.say(f"{server} is killed: its request takes longer than "
-                               f"{self.limits.grace:g} s (--grace)")
+                self.lines.say(f"{server} is killed: {why}")
             server.process.kill()
             server.close(self.now)
             server.process.wait()
