@@ -105,7 +105,8 @@ def packed(text):
 
 def documents():
     """As they stand in the checkout, so that what they refer to is found."""
-    paths = ["README.md", "clients/python/README.md", "examples/first.py"]
+    paths = ["README.md", "clients/python/README.md", "examples/first.py",
+             "clients/c/examples/edges.c"]
     paths += [os.path.relpath(path, ROOT) for path in glob.glob(f"{ROOT}/docs/*.md")]
     return {f"usr/share/doc/{NAME}/{path}": text_of(path) for path in paths}
 
@@ -136,11 +137,12 @@ def put(stage, files, mode):
 
 
 def put_library(stage):
-    """Installs the C library, built in a copy, and has the loader's cache made anew. Where the copy
-    stands isn't seen in what is built."""
+    """Installs the C library, built from a copy of its sources, and has the loader's cache made
+    anew. Where the copy stands isn't seen in what is built."""
     with tempfile.TemporaryDirectory() as folder:
-        copy = shutil.copytree(LIBRARY, os.path.join(folder, "c"))
-        subprocess.run(["make", "-C", copy, "install", "PREFIX=/usr", f"DESTDIR={stage}",
+        copy = shutil.copytree(LIBRARY, os.path.join(folder, "c"),
+                               ignore=shutil.ignore_patterns("out"))
+        subprocess.run(["make", "-s", "-C", copy, "install", "PREFIX=/usr", f"DESTDIR={stage}",
                         f"VERSION={feqyldan.__version__}",
                         f"CFLAGS=-O2 -g -ffile-prefix-map={copy}=/usr/src/{NAME}"],
                        stdout=sys.stderr, check=True)

@@ -167,6 +167,22 @@ class TestPackages(unittest.TestCase):
         for name in ("README.md", "copyright", "changelog.gz", "docs/wire.md", "examples/first.py"):
             self.assertTrue(os.path.isfile(os.path.join(documents, name)), name)
 
+    def test_the_example_in_c_with_the_debian_package(self):
+        self.unpack()
+        example = f"{self.root}/usr/share/doc/feqyldan/clients/c/examples/edges.c"
+        library, made = f"{self.root}/usr/lib", os.path.join(self.folder, "edges")
+        self.run_there("cc", f"-I{self.root}/usr/include", example, f"-L{library}", "-lfeqyldan",
+                       "-o", made)
+        # It runs where there is no compiler, nor anything else that the starter doesn't need.
+        few = os.path.join(self.folder, "few")
+        os.mkdir(few)
+        for name in ("dirname", "grep", "readlink", "sh", "sort"):
+            os.symlink(shutil.which(name), os.path.join(few, name))
+        run = subprocess.run([made], stdout=subprocess.PIPE, timeout=120, check=True,
+                             env={"PATH": f"{self.root}/usr/bin:{few}", "LD_LIBRARY_PATH": library})
+        self.assertTrue(run.stdout.startswith(b"P5\n256 256\n255\n"))
+        self.assertEqual(set(run.stdout[15:]), {0, 255})
+
     def test_the_broker_of_the_debian_package(self):
         self.unpack()
         socket = os.path.join(self.folder, "socket")
@@ -244,6 +260,15 @@ class TestPackages(unittest.TestCase):
         for path, again in zip((self.wheel, self.debian), self.packages(self.folder)):
             with open(path, "rb") as first, open(again, "rb") as second:
                 self.assertEqual(first.read(), second.read(), path)
+
+    def test_the_library_says_nothing_of_where_it_was_built(self):
+        self.unpack()
+        for name in ("libfeqyldan.a", "libfeqyldan.so.0"):
+            with open(f"{self.root}/usr/lib/{name}", "rb") as file:
+                data = file.read()
+            self.assertIn(b"/usr/src/feqyldan", data)
+            for folder in (ROOT, tempfile.gettempdir()):
+                self.assertNotIn(folder.encode() + b"/", data)
 
     def test_a_program_of_another_version_is_refused(self):
         other = os.path.join(self.folder, "other")
