@@ -6,12 +6,16 @@ import subprocess
 import sys
 import threading
 import time
+from typing import DefaultDict, Dict, Optional, Tuple
 
 TICKS = os.sysconf("SC_CLK_TCK")
 KINDS = ("proof", "tests", "edits", "build")
+# A process by its number and its start; a crate and the kind of work on it, if it is any.
+Process = Tuple[int, str]
+Work = Optional[Tuple[str, str]]
 
 
-def stat(pid):
+def stat(pid: str) -> Tuple[Process, int, float]:
     """A process by its number and its start, its parent's number, and the seconds that it and its
     ended children have used."""
     with open(f"/proc/{pid}/stat") as file:
@@ -20,7 +24,7 @@ def stat(pid):
     return (int(pid), fields[19]), int(fields[1]), ticks / TICKS
 
 
-def work_of(pid):
+def work_of(pid: int) -> Work:
     """The crate and the kind of work of a process of the prover; None of any other process."""
     with open(f"/proc/{pid}/cmdline") as file:
         words = file.read().split("\0")
@@ -37,9 +41,9 @@ def work_of(pid):
     return words[words.index("--crate-name") + 1], kind
 
 
-def sample(root, times, works):
+def sample(root: int, times: Dict[Process, float], works: Dict[Process, Work]) -> None:
     """Notes the time so far of each process of the prover below the root."""
-    found = {}
+    found: Dict[int, Tuple[Process, int, float]] = {}
     for entry in os.listdir("/proc"):
         if entry.isdigit():
             try:
@@ -61,24 +65,26 @@ def sample(root, times, works):
             times[process] = max(times.get(process, 0), seconds + alive)
 
 
-def below(pid, root, found):
+def below(pid: int, root: int, found: Dict[int, Tuple[Process, int, float]]) -> bool:
     while pid in found and pid != root:
         pid = found[pid][1]
     return pid == root
 
 
-def line(words, minutes):
+def line(words: str, minutes: Dict[str, float]) -> str:
     """The minutes by kind, and their sum."""
     kinds = "  ".join(f"{minutes[kind]:7.1f}" for kind in KINDS)
     return f"{words:22} {kinds}  {sum(minutes.values()):7.1f}"
 
 
-def main():
+def main() -> int:
     start = time.time()
     process = subprocess.Popen(sys.argv[1:])
-    times, works, ended = {}, {}, threading.Event()
+    times: Dict[Process, float] = {}
+    works: Dict[Process, Work] = {}
+    ended = threading.Event()
 
-    def watch():
+    def watch() -> None:
         while not ended.wait(0.25):
             sample(process.pid, times, works)
 
@@ -87,10 +93,13 @@ def main():
     status = process.wait()
     ended.set()
     watcher.join()
-    sums = collections.defaultdict(lambda: dict.fromkeys(KINDS, 0.0))
-    for process, seconds in times.items():
-        crate, kind = works[process]
-        sums[crate][kind] += seconds / 60
+    sums: DefaultDict[str, Dict[str, float]] = collections.defaultdict(
+        lambda: dict.fromkeys(KINDS, 0.0))
+    for counted, seconds in times.items():
+        work = works[counted]
+        if work is not None:
+            crate, kind = work
+            sums[crate][kind] += seconds / 60
     print(f"\nprocessor minutes      {'  '.join(f'{kind:>7}' for kind in KINDS)}      all")
     for crate, minutes in sums.items():
         print(line(crate, minutes))

@@ -6,6 +6,7 @@ import re
 import subprocess
 import sys
 import tempfile
+from typing import Dict, Tuple
 
 import feqyldan
 from feqyldan import program
@@ -15,7 +16,7 @@ from . import ROOT, debian, wheels
 KINDS = {"default": program.PLAIN, "x86-64-v3": program.FASTER}
 
 
-def programs_of(asked):
+def programs_of(asked: argparse.Namespace) -> Dict[str, bytes]:
     """By the name that it has in a package, each program's bytes; refused where one isn't there, or
     is of another version."""
     here = {os.path.basename(path) for path in program.built()}
@@ -31,21 +32,21 @@ def programs_of(asked):
     return found
 
 
-def check_version(path):
+def check_version(path: str) -> None:
     said = subprocess.run([path, "--version"], stdout=subprocess.PIPE, text=True, check=True).stdout
     if said.split()[1:] != [feqyldan.__version__]:
         sys.exit(f"tools/package: {path} is {said.strip()}, and the Python package "
                  f"{feqyldan.__version__}")
 
 
-def c_library(programs):
+def c_library(programs: Dict[str, bytes]) -> Tuple[int, int]:
     """The oldest version of the C library that has all that the programs name of it."""
     named = [found for data in programs.values()
              for found in re.findall(rb"GLIBC_(\d+)\.(\d+)", data)]
     return max((int(major), int(minor)) for major, minor in named)
 
 
-def date():
+def date() -> str:
     """In seconds since 1970, what every file in the packages is dated: the last commit's, or where
     there is none, 1980, the first that a wheel can say."""
     run = subprocess.run(["git", "-C", ROOT, "log", "-1", "--format=%ct"], text=True, check=False,
@@ -53,7 +54,7 @@ def date():
     return run.stdout.strip() or "315532800"
 
 
-def main():
+def main() -> None:
     parser = argparse.ArgumentParser(prog="tools/package")
     parser.add_argument("folder", nargs="?", default=os.path.join(ROOT, "out"))
     for kind in KINDS:

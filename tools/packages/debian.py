@@ -9,6 +9,7 @@ import shutil
 import subprocess
 import sys
 import tempfile
+from typing import Dict, Iterable, Mapping, Tuple, Union
 
 import feqyldan
 
@@ -16,6 +17,8 @@ from . import ROOT, wheels
 
 NAME = "feqyldan"
 LIBRARY = os.path.join(ROOT, "clients", "c")
+# What a file holds.
+Data = Union[str, bytes]
 CONTROL = """\
 Package: {name}
 Version: {version}
@@ -79,12 +82,12 @@ fi
 """
 
 
-def text_of(*path):
+def text_of(*path: str) -> str:
     with open(os.path.join(ROOT, *path), encoding="utf-8") as file:
         return file.read()
 
 
-def service():
+def service() -> str:
     """The unit of deploy/, with the package's paths."""
     said = text_of("deploy", "feqyldan.service")
     for before, after in (("Environment=PYTHONPATH=/opt/feqyldan/python\n", ""),
@@ -95,15 +98,15 @@ def service():
     return said
 
 
-def manual(name):
+def manual(name: str) -> bytes:
     return packed(text_of("deploy", "man", name).replace("@VERSION@", feqyldan.__version__))
 
 
-def packed(text):
+def packed(text: str) -> bytes:
     return gzip.compress(text.encode(), mtime=0)
 
 
-def documents():
+def documents() -> Dict[str, Data]:
     """As they stand in the checkout, so that what they refer to is found."""
     paths = ["README.md", "clients/python/README.md", "examples/first.py",
              "clients/c/examples/edges.c"]
@@ -111,7 +114,7 @@ def documents():
     return {f"usr/share/doc/{NAME}/{path}": text_of(path) for path in paths}
 
 
-def plain_files(wheel):
+def plain_files(wheel: str) -> Dict[str, Data]:
     """The files of mode 644: by its path, what each holds."""
     library = "usr/lib/python3/dist-packages"
     return {
@@ -127,7 +130,7 @@ def plain_files(wheel):
     }
 
 
-def put(stage, files, mode):
+def put(stage: str, files: Mapping[str, Data], mode: int) -> None:
     for name, data in files.items():
         path = os.path.join(stage, name)
         os.makedirs(os.path.dirname(path), exist_ok=True)
@@ -136,7 +139,7 @@ def put(stage, files, mode):
         os.chmod(path, mode)
 
 
-def put_library(stage):
+def put_library(stage: str) -> None:
     """Installs the C library, built from a copy of its sources, and has the loader's cache made
     anew. Where the copy stands isn't seen in what is built."""
     with tempfile.TemporaryDirectory() as folder:
@@ -149,7 +152,7 @@ def put_library(stage):
     put(stage, {"DEBIAN/triggers": "activate-noawait ldconfig\n"}, 0o644)
 
 
-def put_control(stage, c_library):
+def put_control(stage: str, c_library: Tuple[int, int]) -> None:
     installed = [path for path in glob.glob(f"{stage}/usr/**", recursive=True)
                  if os.path.isfile(path) and not os.path.islink(path)]
     control = CONTROL.format(name=NAME, version=feqyldan.__version__,
@@ -160,7 +163,7 @@ def put_control(stage, c_library):
                 "DEBIAN/postrm": AFTER_REMOVAL}, 0o755)
 
 
-def digests(stage, paths):
+def digests(stage: str, paths: Iterable[str]) -> str:
     lines = []
     for path in sorted(paths):
         with open(path, "rb") as file:
@@ -169,7 +172,7 @@ def digests(stage, paths):
     return "".join(lines)
 
 
-def build(wheel, programs, c_library, folder):
+def build(wheel: str, programs: Dict[str, bytes], c_library: Tuple[int, int], folder: str) -> str:
     """The path of the package, with the Python package as it is in a wheel."""
     if shutil.which("dpkg-deb") is None:
         sys.exit("tools/package: there is no command dpkg-deb")

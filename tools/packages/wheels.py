@@ -7,6 +7,7 @@ import subprocess
 import sys
 import time
 import zipfile
+from typing import Dict, Tuple
 
 from . import PYTHON
 
@@ -15,7 +16,7 @@ FOLDER = "feqyldan/programs"
 PURE_TAG = "py3-none-any"
 
 
-def python():
+def python() -> str:
     """A Python that has what pip needs to build a wheel without a network."""
     asked = ("from importlib.util import find_spec\n"
              "raise SystemExit(not all(map(find_spec, ('pip', 'setuptools', 'wheel'))))")
@@ -25,7 +26,7 @@ def python():
     sys.exit("tools/package: Python's pip, setuptools and wheel aren't installed")
 
 
-def pure(folder):
+def pure(folder: str) -> str:
     """The path of the wheel of the Python package, built in a folder."""
     run = subprocess.run([python(), "-m", "pip", "wheel", "--no-index", "--no-build-isolation",
                           "--no-deps", "--wheel-dir", folder, PYTHON],
@@ -36,14 +37,15 @@ def pure(folder):
     return os.path.join(folder, name)
 
 
-def entries_of(path):
+def entries_of(path: str) -> Dict[str, bytes]:
     """The files of a wheel, by name, but the list of them."""
     with zipfile.ZipFile(path) as archive:
         return {name: archive.read(name)
                 for name in archive.namelist() if not name.endswith(".dist-info/RECORD")}
 
 
-def with_programs(path, programs, c_library, folder):
+def with_programs(path: str, programs: Dict[str, bytes], c_library: Tuple[int, int],
+                  folder: str) -> str:
     """The path of a wheel with the programs in it, for machines that have such a C library."""
     tag = f"py3-none-manylinux_{c_library[0]}_{c_library[1]}_x86_64"
     entries = entries_of(path)
@@ -59,7 +61,7 @@ def with_programs(path, programs, c_library, folder):
     return target
 
 
-def record(entries, listed):
+def record(entries: Dict[str, bytes], listed: str) -> bytes:
     """The list of a wheel's files, with the digest and the length of each."""
     lines = []
     for name, data in entries.items():
@@ -68,7 +70,7 @@ def record(entries, listed):
     return "".join([*lines, f"{listed},,\n"]).encode()
 
 
-def write(path, entries):
+def write(path: str, entries: Dict[str, bytes]) -> None:
     date = time.gmtime(int(os.environ["SOURCE_DATE_EPOCH"]))[:6]
     with zipfile.ZipFile(path, "w", zipfile.ZIP_DEFLATED) as archive:
         for name, data in entries.items():
