@@ -231,10 +231,7 @@ class TestForks(ProcessTest):
                                       stderr=subprocess.DEVNULL)
             self.addCleanup(broker.wait)
             self.addCleanup(broker.terminate)
-            limit = time.monotonic() + PATIENCE
-            while not os.path.exists(path) and time.monotonic() < limit:
-                time.sleep(0.01)
-            with vx.connect(path) as server, server.context() as context:
+            with vx.connect(path, retry=PATIENCE) as server, server.context() as context:
                 image = context.image_from([[1, 2]])
                 child = os.fork()
                 if child == 0:

@@ -47,6 +47,23 @@ class TestServers(ProgramTest):
         with vx.Server(["env", PROGRAM]) as server, server.context() as context:
             context.image(vx.U8, 1, 1)
 
+    def test_memory_that_the_server_hasnt(self):
+        """Under a limit on its address space, as a shell's, it refuses and goes on."""
+        limited = ["sh", "-c", 'ulimit -v 100000 && exec "$0" "$@"', PROGRAM]
+        with vx.Server(limited) as server, server.context() as context:
+            kept, images = context.image_from([[1, 2]]), []
+            with self.assertRaisesRegex(vx.NoMemory, "create a U8 image of 4096 by 4096"):
+                while len(images) < 16:
+                    images.append(context.image(vx.U8, 4096, 4096))
+            self.assertLess(0, len(images))
+            self.holds(kept, [[1, 2]])
+            # What is given back is there again, for an image and for the frame that writes it.
+            while images:
+                images.pop().close()
+            again = context.image(vx.U8, 4096, 4096)
+            again.write(bytes([7]) * 4096 * 4096)
+            self.assertEqual(again.read_bytes(), bytes([7]) * 4096 * 4096)
+
     def test_words_that_the_program_refuses(self):
         with self.assertRaises(vx.ServerEnded) as caught:
             with vx.Server(["env", "sh", "-c", "echo usage >&2; exit 2"], quota=1) as server:
