@@ -19,6 +19,7 @@ import time
 import traceback
 import unittest
 from typing import Callable, List
+from unittest import mock
 
 from broker_tools import CLIENT, LATE, PROGRAM, BrokerTest, Broker, Program
 from feqyldan import wire
@@ -212,10 +213,17 @@ class ThePackage(BrokerTest):
         with self.assertRaises(FileNotFoundError):
             vx.connect(path)
         found: List[vx.Context] = []
+        pause, has_tried = time.sleep, threading.Event()
+
+        def noted_pause(seconds: float) -> None:
+            has_tried.set()
+            pause(seconds)
+
         waiting = threading.Thread(target=lambda: found.append(vx.connect(path,
                                                                           retry=LATE).context()))
-        waiting.start()
-        time.sleep(0.5)
+        with mock.patch("time.sleep", noted_pause):
+            waiting.start()
+            self.assertTrue(has_tried.wait(LATE))
         self.assertEqual(found, [])
         again = self.begin(command=[str(PROGRAM), "serve"], path=path)
         waiting.join(LATE)

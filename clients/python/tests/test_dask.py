@@ -1,9 +1,11 @@
 """Pictures over a local cluster of two worker processes, one of which is killed in the middle."""
 
+import functools
 import multiprocessing
 import os
 import pickle
 import signal
+import tempfile
 import time
 import unittest
 
@@ -31,9 +33,10 @@ def inverse(context, width, height):
     return graph, source, target
 
 
-def slow_inverse(context, width, height):
-    """The same, so slowly built that a worker can be killed while tasks wait for it."""
-    time.sleep(0.3)
+def held_inverse(path, context, width, height):
+    """The same; the widest are built once there is a file at a path."""
+    while width == WIDTH and not os.path.exists(path):
+        time.sleep(0.01)
     return inverse(context, width, height)
 
 
@@ -142,7 +145,7 @@ class TestCluster(unittest.TestCase):
                          [inverted(rows) for rows in pictures])
 
     def ends(self, processes):
-        until = time.monotonic() + 5
+        until = time.monotonic() + 30
         while any(map(is_running, processes)) and time.monotonic() < until:
             time.sleep(0.05)
         self.assertEqual([process for process in processes if is_running(process)], [])
@@ -199,11 +202,18 @@ class TestCluster(unittest.TestCase):
             self.gathers(self.map(inverse, pictures[:1], workers=[address]), pictures[:1])
         running = self.client.run(servers)
         victim = next(iter(workers))
-        futures = self.map(slow_inverse, [[row[: 1 + number % WIDTH] for row in rows]
-                                          for number, rows in enumerate(pictures)])
-        next(iter(distributed.as_completed(futures)))
-        os.kill(workers[victim], signal.SIGKILL)
-        self.assertFalse(all(future.done() for future in futures))
+        with tempfile.TemporaryDirectory() as folder:
+            path = os.path.join(folder, "go")
+            # Narrow ones come first, and are done; then each thread waits with one of the widest.
+            futures = self.map(functools.partial(held_inverse, path),
+                               [[row[: 1 + number % WIDTH] for row in rows]
+                                for number, rows in enumerate(pictures)])
+            next(iter(distributed.as_completed(futures)))
+            os.kill(workers[victim], signal.SIGKILL)
+            self.assertFalse(all(future.done() for future in futures))
+            with open(path, "w", encoding="utf-8"):
+                pass
+            distributed.wait(futures)
         self.gathers(futures,
                      [[row[: 1 + number % WIDTH] for row in rows]
                       for number, rows in enumerate(pictures)])
