@@ -1,21 +1,23 @@
 -- Sums to the left and above, row by row.
-use Rattle.std.proofs.Common.{◌≡◌, ◌≢◌, ◌⊎◌, inl, inr, ℕ, ℤ, pos, ◌+◌, ◌-◌, ◌*◌, ◌<◌, ◌≤◌, List, [], ◌∷◌, ◌++◌, length, map, take, get_or, set, zero, suc, ap, ◌∙◌, sym, refl, arith, replicate}
-use Rattle.std.specs.Prelude.{unsigned_abs, slice_range}
+use Rattle.std.proofs.Common.{false, cond, max, ◌≡◌, ◌⊎◌, inl, inr, ℕ, ℤ, pos, ◌+◌, ◌-◌, ◌*◌, ◌<◌, ◌≤◌, List, [], ◌∷◌, ◌++◌, length, map, take, drop, get_or, subst, zero, suc, ap, ◌∙◌, sym, refl, arith, replicate}
+use Rattle.std.specs.Prelude.{unsigned_abs, ◌==◌}
 use Rattle.std.specs.List.{sum, sum_by}
-use Rattle.std.proofs.lemmas.Bool.{cases_eq, cases_lt}
+use Rattle.std.proofs.Math.Seq.{take-append_seam, take-append-add, drop-append_seam}
+use Rattle.std.proofs.lemmas.Simd.{length-chunk}
+use Rattle.std.proofs.lemmas.Bool.{cases_lt}
 use Rattle.std.proofs.lemmas.Bool.Decides.{nat_tests}
-use Rattle.std.proofs.lemmas.List.{get_or-set_same, get_or-set_other, take-map, take_more_set, ext_get_or, get_or-map, length-map, map-append, take-replicate, get_or-replicate, get_or_past, length-replicate}
+use Rattle.std.proofs.lemmas.List.{take-map, ext_get_or, get_or-map, length-map, map-append, take-replicate, get_or-replicate, get_or_past, length-replicate, length-append, drop-replicate}
 use Rattle.std.proofs.lemmas.List.FromFn.{take-map-range_with_len}
 use Rattle.std.proofs.lemmas.List.Sums.{sum_by-append, sum_by-cons, sum_by_more}
 use Rattle.vx_base.specs.Rectangle.{Rectangle, whole, meet_of}
-use Rattle.vx_base.specs.Image.{ImageValue, at, run, within}
+use Rattle.vx_base.specs.Image.{ImageValue, at, run, table, within}
 use Rattle.vx_base.specs.Statistics.{samples_in, sum_to}
 use Rattle.vx_base.proofs.ZeroLaws.{map-replicate}
-use Rattle.vx_base.proofs.TableLaws.{get_or-run, length-run, row_across, row_outside}
+use Rattle.vx_base.proofs.TableLaws.{get_or-run, length-run, row_across, row_outside, table-more}
 use Rattle.stat_kernels.specs.declared.part.Part.{Part}
 use Rattle.stat_kernels.specs.Part.{IsValidPart}
 use Rattle.stat_kernels.proofs.Rows.{above}
-use Rattle.stat_kernels.specs.Sums.{corner, sum_before, AreSums}
+use Rattle.stat_kernels.specs.Sums.{corner, sum_before, sum_below, AreSums, AreAbove, last_row}
 use Rattle.stat_kernels.proofs.PlaceLaws.{samples_none, samples_more}
 
 -- the sum of the first bytes
@@ -50,24 +52,19 @@ corner_at r x y a b d e = grind (arith, nat_tests)
 sum_at : (image : ImageValue) (x y : ℕ) → image.valid.x0 ≤ x → x < image.valid.x1 → image.valid.y0 ≤ y → y < image.valid.y1 → sum_to image x y ≡ pos (sum_before image (x + 1) (y + 1))
 sum_at image x y a b d e = ap (λ r. pos (sum_by unsigned_abs (samples_in r image))) (corner_at image.valid x y a b d e)
 
--- ---- a row of bytes is added
-
--- one more item is set to what g gives
-pub set_before : (xs : List ℕ) (k v : ℕ) (g : ℕ → ℕ) → k < length xs → v ≡ g k → ((j : ℕ) → j < k → get_or xs j 0 ≡ g j) → (j : ℕ) → j < k + 1 → get_or (set xs k v) j 0 ≡ g j
-set_before xs k v g room is before j below = cases (cases_eq j k)
+-- how much a row adds
+pub added_at_most : (old sums row : List ℕ) (k : ℕ) → length sums ≡ length row → ((i : ℕ) → get_or row i 0 < 256) → ((j : ℕ) → j < length row → get_or sums j 0 ≡ sum_below old row j) → get_or sums k 0 ≤ get_or old k 0 + 255 * length row
+added_at_most old sums row k long small more = cases (cases_lt k (length row))
   where
-    cases : (j ≡ k) ⊎ (j ≢ k) → get_or (set xs k v) j 0 ≡ g j
-    cases (inl same) = ap (λ i. get_or (set xs k v) i 0) same ∙ get_or-set_same xs k v 0 room ∙ is ∙ ap g (sym same)
-    cases (inr other) = get_or-set_other xs k j v 0 other ∙ before j (omega (arith, other))
-
-pub sums_after : (old sums : List ℕ) (k v : ℕ) → ((j : ℕ) → k ≤ j → get_or sums j 0 ≡ get_or old j 0) → (j : ℕ) → k + 1 ≤ j → get_or (set sums k v) j 0 ≡ get_or old j 0
-sums_after old sums k v after j above = get_or-set_other sums k j v 0 (λ same. absurd (omega (arith, same, above))) ∙ after j (omega arith)
-
-pub sums_written : (out sums : List ℕ) (k v w : ℕ) → k < length out → k < length sums → w ≡ v → take k out ≡ take k sums → take (k + 1) (set out k w) ≡ take (k + 1) (set sums k v)
-sums_written out sums k v w first second is same =
-    take_more_set out k w first ∙ ap (λ l. l ++ w ∷ []) same ∙ ap (λ n. take k sums ++ n ∷ []) is ∙ sym (take_more_set sums k v second)
+    cases : (k < length row) ⊎ (length row ≤ k) → get_or sums k 0 ≤ get_or old k 0 + 255 * length row
+    cases (inl below) = omega (arith, more k below, bytes_at_most row (k + 1) small (omega (arith, below)))
+    cases (inr past) = omega (arith, get_or_past sums k 0 (omega (arith, long, past)))
 
 -- ---- a row of the integral image
+
+pub part_of_parts : (left middle right : List ℕ) (x n : ℕ) → length left ≡ x → length middle ≡ n → take n (drop x (left ++ (middle ++ right))) ≡ middle
+part_of_parts left middle right x n at_left long =
+    ap (λ k. take n (drop k (left ++ (middle ++ right)))) (sym at_left) ∙ ap (take n) (drop-append_seam left (middle ++ right)) ∙ ap (λ k. take k (middle ++ right)) (sym long) ∙ take-append_seam middle right
 
 map-zeros : (n : ℕ) → map pos (replicate n 0) ≡ replicate n (pos 0)
 map-zeros n = map-replicate pos n 0
@@ -90,13 +87,12 @@ run_of_sums sums x n f long same =
 module _ (image : ImageValue) (part : Part) (is : IsValidPart image part) (y : ℕ) (below : part.top ≤ y) where
   -- the sums of one more row
   pub sums_next : (row old sums : List ℕ) → map pos row ≡ run part.x part.count (λ k. at image k y) → length row ≡ part.count → length old ≡ part.count → length sums ≡ part.count
-      → ((k : ℕ) → k < length row → get_or sums k 0 ≡ get_or old k 0 + sum (slice_range row 0 (k + 1))) → ((k : ℕ) → get_or sums k 0 ≤ get_or old k 0 + 255 * length row)
+      → ((k : ℕ) → k < length row → get_or sums k 0 ≡ sum_below old row k) → ((k : ℕ) → get_or sums k 0 ≤ get_or old k 0 + 255 * length row)
       → AreSums image y old → AreSums image (y + 1) sums
   sums_next row old sums same wide old_long long more bound are = record {
     value = λ k h.
         let inside_row : k < part.count = omega arith in
         more k (omega arith)
-        ∙ ap (λ n. get_or old k 0 + sum (take n row)) (let e : k + 1 - 0 ≡ k + 1 = omega arith in e)
         ∙ ap (λ n. n + sum (take (k + 1) row)) (are.value k (omega arith))
         ∙ ap (λ n. sum_before image (image.valid.x0 + k + 1) y + n)
         (row_sum row part.x part.count (k + 1) (λ k. at image k y) same (omega arith)
@@ -121,44 +117,80 @@ module _ (image : ImageValue) (part : Part) (is : IsValidPart image part) (y : �
             wide,
           )
 
+  -- the same from the row above, of which a part is read
+  pub sums_below : (row above sums : List ℕ) (x : ℕ) → x ≡ part.x → map pos row ≡ run part.x part.count (λ k. at image k y) → length row ≡ part.count → length above ≡ image.width → length sums ≡ part.count
+      → ((k : ℕ) → k < length row → get_or sums k 0 ≡ sum_below (take (x + part.count - x) (drop x above)) row k) → ((k : ℕ) → get_or sums k 0 ≤ get_or (take (x + part.count - x) (drop x above)) k 0 + 255 * length row) → AreSums image y (take part.count (drop part.x above)) → AreSums image (y + 1) sums
+  sums_below row above sums x at_x same wide above_wide long more bound are =
+      let old = take (x + part.count - x) (drop x above) in
+      let e : x + part.count - x ≡ part.count = omega arith in
+      let cut : old ≡ take part.count (drop part.x above) = ap (λ n. take n (drop x above)) e ∙ ap (λ k. take part.count (drop k above)) at_x in
+      sums_next row old sums same wide (ap length cut ∙ length-chunk part.x part.count above (omega (arith, above_wide, is.in_columns))) long more bound (subst (AreSums image y) (sym cut) are)
+
   -- a row through the valid part
-  pub row_of_parts : (left middle right sums : List ℕ) → y < part.bottom → left ≡ replicate part.x 0 → right ≡ replicate (image.width - (part.x + part.count)) 0 → middle ≡ sums → length sums ≡ part.count → AreSums image (y + 1) sums
-      → map pos (left ++ (middle ++ right)) ≡ run 0 image.width (λ x. within image.valid (sum_to image) x y)
-  row_of_parts left middle right sums above_bottom at_left at_right same long are =
+  pub row_of_parts : (left sums right : List ℕ) → y < part.bottom → left ≡ replicate part.x 0 → right ≡ replicate (image.width - (part.x + part.count)) 0 → length sums ≡ part.count → AreSums image (y + 1) sums
+      → map pos (left ++ (sums ++ right)) ≡ run 0 image.width (λ x. within image.valid (sum_to image) x y)
+  row_of_parts left sums right above_bottom at_left at_right long are =
       let r = image.valid in
-      map-append pos left (middle ++ right)
-      ∙ ap (λ l. l ++ map pos (middle ++ right)) (ap (map pos) at_left ∙ map-zeros part.x ∙ ap (λ n. replicate n (pos 0)) is.x)
-      ∙ ap (λ l. replicate r.x0 (pos 0) ++ l) (map-append pos middle right)
+      map-append pos left (sums ++ right)
+      ∙ ap (λ l. l ++ map pos (sums ++ right)) (ap (map pos) at_left ∙ map-zeros part.x ∙ ap (λ n. replicate n (pos 0)) is.x)
+      ∙ ap (λ l. replicate r.x0 (pos 0) ++ l) (map-append pos sums right)
       ∙ ap (λ l. replicate r.x0 (pos 0) ++ (l ++ map pos right))
-      (ap (map pos) same ∙ run_of_sums sums r.x0 (r.x1 - r.x0) (λ x. sum_to image x y) (long ∙ is.count)
+      (run_of_sums sums r.x0 (r.x1 - r.x0) (λ x. sum_to image x y) (long ∙ is.count)
       (λ k h. ap pos (are.value k (omega (arith, long, is.count))) ∙ sym (sum_at image (r.x0 + k) y (omega arith) (omega arith) (omega (arith, is.top)) (omega (arith, is.bottom)))))
       ∙ ap (λ l. replicate r.x0 (pos 0) ++ (run r.x0 (r.x1 - r.x0) (λ x. sum_to image x y) ++ l)) (ap (map pos) at_right ∙ map-zeros (image.width - (part.x + part.count)) ∙ ap (λ n. replicate n (pos 0)) (let e : image.width - (part.x + part.count) ≡ image.width - r.x1 = omega (arith, is.x, is.count, is.columns) in e))
       ∙ sym (row_across r (sum_to image) image.width r.x0 r.x1 y refl refl is.columns (omega (arith, is.x, is.count, is.columns, is.in_columns)) (omega (arith, is.top)) (omega (arith, is.bottom)))
 
 -- before the first row
-pub zero_sums : (image : ImageValue) (zeros : List ℕ) (n count y : ℕ) → ◌≡◌ {A = List ℕ} zeros (replicate n 0) → count ≤ n → y ≡ image.valid.y0 → AreSums image y (take count zeros)
-zero_sums image zeros n count y are room first = record {
+zero_sums : (image : ImageValue) (count y : ℕ) → y ≡ image.valid.y0 → AreSums image y (replicate count 0)
+zero_sums image count y first = record {
   value = λ k h. zero_at k ∙ sym (ap (sum_before image (image.valid.x0 + k + 1)) first ∙ sum_none image (image.valid.x0 + k + 1));
   bound = λ k. omega (arith, zero_at k);
 }
   where
-    zero_at : (k : ℕ) → get_or (take count zeros) k 0 ≡ 0
-    zero_at k = ap (λ (l : List ℕ). get_or (take count l) k 0) are ∙ ap (λ (l : List ℕ). get_or l k 0) (take-replicate {X = ℕ} count n 0 room) ∙ zero_in (cases_lt k count)
+    zero_at : (k : ℕ) → get_or (replicate {A = ℕ} count 0) k 0 ≡ 0
+    zero_at k = zero_in (cases_lt k count)
       where
         zero_in : (k < count) ⊎ (count ≤ k) → get_or (replicate {A = ℕ} count 0) k 0 ≡ 0
         zero_in (inl below) = get_or-replicate {A = ℕ} count k 0 0 below
         zero_in (inr past) = get_or_past (replicate {A = ℕ} count 0) k 0 (omega (arith, length-replicate {A = ℕ} count 0))
 
--- the sum of a row's first samples
-pub sum_of_first : (row : List ℕ) (k n : ℕ) → ((i : ℕ) → get_or row i 0 < 256) → n ≡ sum (slice_range row 0 k) → k ≤ length row → n ≤ 255 * k
-sum_of_first row k n small is within =
-    let e : k - 0 ≡ k = omega arith in
-    omega (arith, is ∙ ap (λ m. sum (take m row)) e, bytes_at_most row k small within)
+-- ---- the row above
 
--- how much a row adds
-pub added_at_most : (old sums added row : List ℕ) (k : ℕ) → length sums ≡ length row → ((i : ℕ) → get_or row i 0 < 256) → ((j : ℕ) → j < length row → get_or sums j 0 ≡ get_or old j 0 + get_or added j 0) → ((j : ℕ) → j < length row → get_or added j 0 ≡ sum (slice_range row 0 (j + 1))) → get_or sums k 0 ≤ get_or old k 0 + 255 * length row
-added_at_most old sums added row k long small more are = cases (cases_lt k (length row))
-  where
-    cases : (k < length row) ⊎ (length row ≤ k) → get_or sums k 0 ≤ get_or old k 0 + 255 * length row
-    cases (inl below) = omega (arith, more k below, sum_of_first row (k + 1) (get_or added k 0) small (are k below) (omega (arith, below)))
-    cases (inr past) = omega (arith, get_or_past sums k 0 (omega (arith, long, past)))
+zeros_cut : (count x width n : ℕ) → x + count ≤ width → width ≤ n → take count (drop x (take width (replicate {A = ℕ} n 0))) ≡ replicate count 0
+zeros_cut count x width n inside room =
+    ap (λ (l : List ℕ). take count (drop x l)) (take-replicate {X = ℕ} width n 0 room) ∙ ap (take count) (drop-replicate {X = ℕ} x width 0) ∙ take-replicate {X = ℕ} count (width - x) 0 (omega arith)
+
+-- above the first row stand zeros
+pub above_first : (image : ImageValue) (part : Part) → IsValidPart image part → (width : ℕ) (zeros before : List ℕ) → ◌≡◌ {A = List ℕ} zeros (replicate 4096 0) → width ≡ image.width → width ≤ 4096 → length before ≡ 0 → AreAbove image part 0 (last_row width zeros before)
+above_first image part is width zeros before are wide room none below =
+    let top : max part.top 0 ≡ image.valid.y0 = omega (arith, is.top) in
+    subst (AreSums image (max part.top 0))
+    (sym (ap (λ n. take part.count (drop part.x (cond (n == 0) (take width zeros) (drop (n - width) before)))) none
+    ∙ ap (λ (l : List ℕ). take part.count (drop part.x (take width l))) are ∙ zeros_cut part.count part.x width 4096 (omega (arith, wide, is.in_columns)) room))
+    (zero_sums image part.count (max part.top 0) top)
+
+some : (n : ℕ) → 1 ≤ n → (n == 0) ≡ false
+some n h = grind (arith, nat_tests)
+
+-- above the others stands the row that was written last
+pub last_row_is : (width : ℕ) (zeros before row : List ℕ) → 1 ≤ width → length row ≡ width → last_row width zeros (before ++ row) ≡ row
+last_row_is width zeros before row wide long =
+    let count : length (before ++ row) - width ≡ length before = omega (arith, length-append before row, long) in
+    ap (λ t. cond t (take width zeros) (drop (length (before ++ row) - width) (before ++ row))) (some (length (before ++ row)) (omega (arith, length-append before row, long)))
+    ∙ ap (λ n. drop n (before ++ row)) count ∙ drop-append_seam before row
+
+-- one more row is written
+module _ (y width : ℕ) (before row rest : List ℕ) (start : length before ≡ y * width) (long : length row ≡ width) where
+  rows_so_far : take ((y + 1) * width) (before ++ (row ++ rest)) ≡ before ++ row
+  rows_so_far =
+      let e : (y + 1) * width ≡ length before + length row = omega arith in
+      ap (λ n. take n (before ++ (row ++ rest))) e ∙ take-append-add before (row ++ rest) (length row) ∙ ap (λ l. before ++ l) (take-append_seam row rest)
+
+  pub above_next : (image : ImageValue) (part : Part) (zeros : List ℕ) → 1 ≤ width → AreAbove image part (y + 1) row → AreAbove image part (y + 1) (last_row width zeros (take ((y + 1) * width) (before ++ (row ++ rest))))
+  above_next image part zeros wide are below =
+      subst (λ (l : List ℕ). AreSums image (max part.top (y + 1)) (take part.count (drop part.x l)))
+      (sym (ap (last_row width zeros) rows_so_far ∙ last_row_is width zeros before row wide long)) (are below)
+
+  pub rows_written : (f : ℕ → ℕ → ℤ) → map pos before ≡ table width y f → map pos row ≡ run 0 width (λ x. f x y) → map pos (take ((y + 1) * width) (before ++ (row ++ rest))) ≡ table width (y + 1) f
+  rows_written f are is =
+      ap (map pos) rows_so_far ∙ map-append pos before row ∙ ap (λ l. l ++ map pos row) are ∙ ap (λ l. table width y f ++ l) is ∙ sym (table-more width y f)

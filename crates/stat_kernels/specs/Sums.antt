@@ -1,9 +1,10 @@
 -- Sums of samples to the left and above.
-use Rattle.std.specs.Prelude.{ℕ, ◌≡◌, ◌+◌, ◌-◌, ◌*◌, ◌<◌, ◌≤◌, min, max, unsigned_abs, List, length, slice_index}
-use Rattle.std.specs.List.{sum_by}
+use Rattle.std.specs.Prelude.{ℕ, ◌≡◌, ◌+◌, ◌-◌, ◌*◌, ◌<◌, ◌≤◌, ◌==◌, max, cond, unsigned_abs, List, length, slice_index, take, drop}
+use Rattle.std.specs.List.{sum, sum_by}
 use Rattle.vx_base.specs.Rectangle.{Rectangle}
 use Rattle.vx_base.specs.Image.{ImageValue}
 use Rattle.vx_base.specs.Statistics.{samples_in}
+use Rattle.stat_kernels.specs.declared.part.Part.{Part}
 
 -- the part of a rectangle that is left of column x and above row y
 abbrev pub corner : Rectangle → ℕ → ℕ → Rectangle
@@ -18,6 +19,14 @@ pub record AreSums (image : ImageValue) (y : ℕ) (sums : List ℕ) : Type 0 whe
   pub value : (k : ℕ) → k < length sums → slice_index sums k ≡ sum_before image (image.valid.x0 + k + 1) y
   pub bound : (k : ℕ) → slice_index sums k ≤ (y - image.valid.y0) * (255 * length sums)
 
--- y, or the first or the last bound of the valid rows where it is outside
-abbrev pub row_within : ImageValue → ℕ → ℕ
-row_within image y = max image.valid.y0 (min y image.valid.y1)
+-- the sum above a place of a row and the samples of the row up to that place
+abbrev pub sum_below : (above row : List ℕ) → ℕ → ℕ
+sum_below above row k = slice_index above k + sum (take (k + 1) row)
+
+-- in the row above row y stand the sums that the valid row y, or the first valid one below it, adds to
+abbrev pub AreAbove : ImageValue → Part → ℕ → List ℕ → Type 0
+AreAbove image part y row = y < part.bottom → AreSums image (max part.top y) (take part.count (drop part.x row))
+
+-- the last row of those before, or zeros where there is none
+abbrev pub last_row : ℕ → (zeros before : List ℕ) → List ℕ
+last_row width zeros before = cond (length before == 0) (take width zeros) (drop (length before - width) before)

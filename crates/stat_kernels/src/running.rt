@@ -1,6 +1,7 @@
-//! Running sums of a row: at each place the sum of the samples up to that place.
-ghost use Rattle.std.specs.Prelude.{◌≡◌, ◌+◌, ◌*◌, ◌<◌, ◌≤◌, ◌^◌, ℕ, map, take, length, slice_index, slice_range};
+//! Rows of sums, eight places at a time.
+ghost use Rattle.std.specs.Prelude.{◌≡◌, ◌+◌, ◌*◌, ◌<◌, ◌≤◌, ◌^◌, ℕ, map, take, length, slice_index};
 ghost use Rattle.std.specs.List.{sum, range_with_len};
+ghost use Rattle.stat_kernels.specs.Sums.{sum_below};
 
 use std::simd::prelude::*;
 
@@ -17,35 +18,39 @@ fn running(samples: u8x8) -> u32x8
     eight.cast::<u32>()
 }
 
-/// Writes the sums up to each place of so many blocks of eight, and returns the last one. The total
-/// stays in lanes, and the next one doesn't wait for the sums that are written.
-fn sum_blocks(row: &[u8], blocks: usize, out: &mut [u32]) -> u32
-    requires len { length out.old ≡ length row.now }
+/// Writes the sums of so many blocks of eight places, and returns what the row adds to the last
+/// one. This total stays in lanes, and doesn't wait for the sums that are written.
+fn add_blocks(row: &[u8], above: &[u32], blocks: usize, out: &mut [u32]) -> u32
+    requires above_len { length above.now ≡ length row.now }
+    requires out_len { length out.old ≡ length row.now }
     requires inside { 8 * blocks ≤ length row.now }
-    requires room { 255 * length row.now < 2 ^ 32 }
-    ensures written { take (8 * blocks) out.new ≡ map (λ k. sum (take k row.now)) (range_with_len 1 (8 * blocks)) }
+    requires room { (k : ℕ) → slice_index above.now k + 255 * length row.now < 2 ^ 32 }
+    ensures written { take (8 * blocks) out.new ≡ map (sum_below above.now row.now) (range_with_len 0 (8 * blocks)) }
     ensures total { result ≡ sum (take (8 * blocks) row.now) }
 {
     let mut total = u32x8::splat(0);
     for block in 0..blocks {
         let start = 8 * block;
         let sums = running(u8x8::from_slice(&row[start..start + 8]));
-        (sums + total).copy_to_slice(&mut out[start..start + 8]);
+        let before = u32x8::from_slice(&above[start..start + 8]);
+        (before + (sums + total)).copy_to_slice(&mut out[start..start + 8]);
         total = sums.swizzle([7, 7, 7, 7, 7, 7, 7, 7]) + total;
     }
     total.to_array()[0]
 }
 
-/// Writes for each place of a row the sum of its samples up to that place.
-pub fn sum_up(row: &[u8], out: &mut [u32])
-    requires len { length out.old ≡ length row.now }
-    requires room { 255 * length row.now < 2 ^ 32 }
-    ensures { (k : ℕ) → k < length row.now → slice_index out.new k ≡ sum (slice_range row.now 0 (k + 1)) }
+/// Adds to the sum above each place of a row the samples of the row up to that place.
+pub fn add_row(row: &[u8], above: &[u32], out: &mut [u32])
+    requires above_len { length above.now ≡ length row.now }
+    requires out_len { length out.old ≡ length row.now }
+    requires room { (k : ℕ) → slice_index above.now k + 255 * length row.now < 2 ^ 32 }
+    ensures sums { (k : ℕ) → k < length row.now → slice_index out.new k ≡ sum_below above.now row.now k }
+    ensures bound { (k : ℕ) → slice_index out.new k ≤ slice_index above.now k + 255 * length row.now }
 {
     let blocks = row.len() / 8;
-    let mut total = sum_blocks(row, blocks, out);
+    let mut total = add_blocks(row, above, blocks, out);
     for k in 8 * blocks..row.len() {
         total += u32::from(row[k]);
-        out[k] = total;
+        out[k] = above[k] + total;
     }
 }

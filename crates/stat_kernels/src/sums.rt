@@ -1,87 +1,71 @@
 //! Integral images.
-ghost use Rattle.std.specs.Prelude.{◌≡◌, ◌+◌, ◌*◌, ◌<◌, ◌≤◌, ◌^◌, ℕ, pos, map, length, slice_index, slice_range};
-ghost use Rattle.std.specs.List.{sum};
+ghost use Rattle.std.specs.Prelude.{◌≡◌, ◌⊎◌, ◌+◌, ◌*◌, ◌<◌, ◌≤◌, ℕ, pos, map, take, drop, length};
 ghost use Rattle.vx_base.specs.declared.format.Format.TheVariants.{U8, U32};
 ghost use Rattle.vx_base.specs.Image.{run, within};
 ghost use Rattle.vx_base.specs.Statistics.{sum_to, integral};
 ghost use Rattle.image_core.specs.Fits.{HaveSameSize};
 ghost use Rattle.image_core.specs.Target.{written, IsTarget, Writes};
 ghost use Rattle.stat_kernels.specs.Part.{IsValidPart};
-ghost use Rattle.stat_kernels.specs.Sums.{AreSums, row_within};
+ghost use Rattle.stat_kernels.specs.Sums.{AreSums, AreAbove, last_row};
 
 use crate::part::Part;
-use crate::running::sum_up;
+use crate::running::add_row;
 use image_core::{Image, ImageMut, Whole};
 use vx_base::Rect;
 
-/// Adds to each sum what is given for it, and writes the new sum in its place. The compiler runs
-/// the loop in lanes.
-fn add_up(sums: &mut [u32], out: &mut [u32])
-    requires len { length out.old ≡ length sums.old }
-    requires room { (k : ℕ) → k < length sums.old → slice_index sums.old k + slice_index out.old k < 2 ^ 32 }
-    ensures sums { (k : ℕ) → k < length sums.old → slice_index sums.new k ≡ slice_index sums.old k + slice_index out.old k }
-    ensures written { out.new ≡ sums.new }
-{
-    for k in 0..sums.len() {
-        let total = out[k];
-        sums[k] += total;
-        out[k] = sums[k];
-    }
-}
-
-/// Adds to the sum above each place of a row the samples of the row up to that place, and writes
-/// these sums.
-fn add_row(row: &[u8], sums: &mut [u32], out: &mut [u32])
-    requires sums_len { length sums.old ≡ length row.now }
-    requires out_len { length out.old ≡ length row.now }
-    requires room { (k : ℕ) → slice_index sums.old k + 255 * length row.now < 2 ^ 32 }
-    ensures sums { (k : ℕ) → k < length row.now → slice_index sums.new k ≡ slice_index sums.old k + sum (slice_range row.now 0 (k + 1)) }
-    ensures bound { (k : ℕ) → slice_index sums.new k ≤ slice_index sums.old k + 255 * length row.now }
-    ensures written { out.new ≡ sums.new }
-{
-    sum_up(row, out);
-    add_up(sums, out);
-}
-
-/// Writes row y of the integral image, which goes through the valid part.
-fn write_across(image: &Image<'_>, part: Part, y: u16, sums: &mut [u32], out: &mut [u32])
+/// Writes row y of the integral image, which goes through the valid part, from the row above.
+fn write_across(image: &Image<'_>, part: Part, y: u16, above: &[u32], out: &mut [u32])
     requires format { image.now.format ≡ U8 }
     requires part { IsValidPart image.now part }
     requires sides { (image.now.width ≤ 4096) × (image.now.height ≤ 4096) }
     requires rows { (part.top ≤ y) × (y < part.bottom) }
-    requires sums_len { length sums.old ≡ part.count }
+    requires above_len { length above.now ≡ image.now.width }
     requires out_len { length out.old ≡ image.now.width }
-    requires sums { AreSums image.now y sums.old }
-    ensures sums { AreSums image.now (y + 1) sums.new }
+    requires sums { AreSums image.now y (take part.count (drop part.x above.now)) }
+    ensures sums { AreSums image.now (y + 1) (take part.count (drop part.x out.new)) }
     ensures written { map pos out.new ≡ run 0 image.now.width (λ x. within image.now.valid (sum_to image.now) x y) }
 {
-    let (left, others) = out.split_at_mut(usize::from(part.x));
+    let x = usize::from(part.x);
+    let (left, others) = out.split_at_mut(x);
     let (middle, right) = others.split_at_mut(part.count);
+    let row = image.part_of_row::<u8>(part.x, y, part.count);
     left.fill(0);
-    add_row(image.part_of_row::<u8>(part.x, y, part.count), sums, middle);
+    add_row(row, &above[x..x + part.count], middle);
     right.fill(0);
 }
 
-/// Writes row y of the integral image.
-fn write_row(image: &Image<'_>, part: Part, y: u16, sums: &mut [u32], out: &mut [u32])
+/// Writes row y of the integral image from the row above.
+fn write_row(image: &Image<'_>, part: Part, y: u16, above: &[u32], out: &mut [u32])
     requires format { image.now.format ≡ U8 }
     requires part { IsValidPart image.now part }
     requires sides { (image.now.width ≤ 4096) × (image.now.height ≤ 4096) }
-    requires sums_len { length sums.old ≡ part.count }
+    requires above_len { length above.now ≡ image.now.width }
     requires out_len { length out.old ≡ image.now.width }
-    requires sums { AreSums image.now (row_within image.now y) sums.old }
-    ensures sums { AreSums image.now (row_within image.now (y + 1)) sums.new }
+    requires sums { AreAbove image.now part y above.now }
+    ensures sums { AreAbove image.now part (y + 1) out.new }
     ensures written { map pos out.new ≡ run 0 image.now.width (λ x. within image.now.valid (sum_to image.now) x y) }
 {
     if y < part.top || part.bottom <= y {
         out.fill(0);
     } else {
-        write_across(image, part, y, sums, out);
+        write_across(image, part, y, above, out);
     }
 }
 
-/// Writes the samples of the integral image by rows from the top. Sums from one row to the next
-/// stand in a fixed array, so that no row is read back.
+/// The row above the next one, zeros above the first.
+fn row_above<'a>(before: &'a [u32], width: usize, zeros: &'a [u32]) -> &'a [u32]
+    requires zeros { width ≤ length zeros.now }
+    requires rows { length before.now ≡ 0 ⊎ width ≤ length before.now }
+    ensures { result.now ≡ last_row width zeros.now before.now }
+{
+    if before.is_empty() {
+        &zeros[..width]
+    } else {
+        &before[before.len() - width..]
+    }
+}
+
+/// Writes the samples of the integral image by rows from the top, each from the one above.
 fn write_sums(image: &Image<'_>, samples: &mut [u32])
     requires format { image.now.format ≡ U8 }
     requires size { length samples.old ≡ image.now.height * image.now.width }
@@ -90,11 +74,11 @@ fn write_sums(image: &Image<'_>, samples: &mut [u32])
     let desc = image.desc();
     let width = usize::from(desc.width());
     let part = Part::of(image);
-    let mut zeros = [0; 4096];
-    let sums = &mut zeros[..part.count];
+    let zeros = [0; 4096];
     for y in 0..desc.height() {
-        let start = usize::from(y) * width;
-        write_row(image, part, y, sums, &mut samples[start..start + width]);
+        let (before, others) = samples.split_at_mut(usize::from(y) * width);
+        let above = row_above(before, width, &zeros);
+        write_row(image, part, y, above, &mut others[..width]);
     }
 }
 
