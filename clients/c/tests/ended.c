@@ -146,9 +146,10 @@ static void tell_turn(void) {
     pthread_mutex_unlock(&progress.mutex);
 }
 
-static void await_turns(int turns) {
+/* Waits until each thread has had its first turns. */
+static void await_turns(void) {
     pthread_mutex_lock(&progress.mutex);
-    while (progress.turns < turns)
+    while (progress.turns < THREADS * FIRST_TURNS)
         pthread_cond_wait(&progress.changed, &progress.mutex);
     pthread_mutex_unlock(&progress.mutex);
 }
@@ -159,14 +160,15 @@ static void *work_until_the_end(void *unused) {
     vx_image output = vxCreateImage(context, SIDE, SIDE, VX_DF_IMAGE_U8);
     EXPECT(VX_SUCCESS, STATUS(vxNotNode(graph, a, output)));
     vx_status status = VX_SUCCESS;
-    while (status == VX_SUCCESS) {
+    for (int turn = 0; status == VX_SUCCESS; turn++) {
         status = vxScheduleGraph(graph);
         if (status == VX_SUCCESS) {
             vx_status other = vxuNot(context, a, output);
             status = vxWaitGraph(graph);
             status = status == VX_SUCCESS ? other : status;
         }
-        tell_turn();
+        if (turn < FIRST_TURNS)
+            tell_turn();
     }
     EXPECT(VX_FAILURE, status);
     EXPECT(VX_FAILURE, vxProcessGraph(graph));
@@ -179,7 +181,7 @@ static void end_under_threads(void) {
     open_context();
     for (int i = 0; i < THREADS; i++)
         CHECK(pthread_create(&threads[i], NULL, work_until_the_end, NULL) == 0);
-    await_turns(THREADS * FIRST_TURNS);
+    await_turns();
     kill_server();
     for (int i = 0; i < THREADS; i++)
         CHECK(pthread_join(threads[i], NULL) == 0);

@@ -227,18 +227,24 @@ class Library(unittest.TestCase):
             run(name, sanitizer=THREADS)
         run("ended", sanitizer=THREADS, env=self.server_to_kill())
 
+    def server_after(self, line):
+        """The environment of a server before which a line of shell is run."""
+        program = os.path.join(folder, "starter")
+        with open(program, "w", encoding="utf-8") as script:
+            script.write(f'#!/bin/sh\n{line}\nexec "$SERVER_PROGRAM" "$@"\n')
+        os.chmod(program, 0o755)
+        return {"FEQYLDAN_PROGRAM": program, "SERVER_PROGRAM": os.environ["FEQYLDAN_PROGRAM"]}
+
     def server_to_kill(self):
         """The environment of a server that says its process's number."""
-        program, process = os.path.join(folder, "to_kill"), os.path.join(folder, "process")
-        with open(program, "w", encoding="utf-8") as script:
-            script.write(f'#!/bin/sh\necho $$ > "{process}"\n'
-                         'exec "$SERVER_PROGRAM" "$@"\n')
-        os.chmod(program, 0o755)
-        return {"FEQYLDAN_PROGRAM": program, "SERVER_PROCESS": process,
-                "SERVER_PROGRAM": os.environ["FEQYLDAN_PROGRAM"]}
+        process = os.path.join(folder, "process")
+        return {**self.server_after(f'echo $$ > "{process}"'), "SERVER_PROCESS": process}
 
     def test_after_a_killed_server_each_call_fails(self):
         run("ended", env=self.server_to_kill())
+
+    def test_a_server_that_finds_no_memory_is_told_from_one_that_ended(self):
+        run("scarce", env=self.server_after("ulimit -v 65536"))
 
     def test_a_server_that_ends_makes_each_call_fail(self):
         server = os.path.join(folder, "ending_server")

@@ -109,9 +109,10 @@ static void tell_turn(void) {
     pthread_mutex_unlock(&progress.mutex);
 }
 
-static void await_turns(int turns) {
+/* Waits until each thread has had its first turns. */
+static void await_turns(void) {
     pthread_mutex_lock(&progress.mutex);
-    while (progress.turns < turns)
+    while (progress.turns < THREADS * FIRST_TURNS)
         pthread_cond_wait(&progress.changed, &progress.mutex);
     pthread_mutex_unlock(&progress.mutex);
 }
@@ -121,9 +122,10 @@ static void *use_until_gone(void *unused) {
     const vx_image image = common;
     vx_uint8 samples[COUNT];
     vx_status status = VX_SUCCESS;
-    while (status == VX_SUCCESS) {
+    for (int turn = 0; status == VX_SUCCESS; turn++) {
         status = copy_whole(image, SIDE, SIDE, 1, samples, VX_READ_ONLY);
-        tell_turn();
+        if (turn < FIRST_TURNS)
+            tell_turn();
     }
     EXPECT(VX_ERROR_INVALID_REFERENCE, status);
     return unused;
@@ -134,7 +136,7 @@ static void release_in_use(vx_reference reference) {
     pthread_t threads[THREADS];
     progress.turns = 0;
     run_threads(use_until_gone, threads);
-    await_turns(THREADS * FIRST_TURNS);
+    await_turns();
     EXPECT(VX_SUCCESS, vxReleaseReference(&reference));
     join_threads(threads);
 }

@@ -1,0 +1,53 @@
+/* A server that has little memory, as the driver starts it: what finds none is answered so, and
+   what needs less is done. */
+#include "testing.h"
+
+enum { SIDE = 2048, COUNT = SIDE * SIDE, MANY = 20 };
+
+static vx_context context;
+static vx_image a, b;
+static int entries;
+
+static void on_entry(vx_context of, vx_reference ref, vx_status status, const vx_char string[]) {
+    CHECK(of == context && ref == (vx_reference)context && string[0] != '\0');
+    CHECK(status == VX_ERROR_NO_MEMORY);
+    entries++;
+}
+
+/* A graph from a to b through so many virtual images. */
+static vx_graph chain(int links) {
+    vx_graph graph = vxCreateGraph(context);
+    vx_image last = a;
+    for (int i = 0; i < links; i++) {
+        vx_image next = vxCreateVirtualImage(graph, SIDE, SIDE, VX_DF_IMAGE_U8);
+        EXPECT(VX_SUCCESS, STATUS(vxNotNode(graph, last, next)));
+        last = next;
+    }
+    EXPECT(VX_SUCCESS, STATUS(vxNotNode(graph, last, b)));
+    return graph;
+}
+
+int main(void) {
+    vx_uint8 *samples = malloc(COUNT);
+    CHECK(samples != NULL);
+    context = vxCreateContext();
+    EXPECT(VX_SUCCESS, STATUS(context));
+    vxRegisterLogCallback(context, on_entry, vx_false_e);
+    EXPECT(VX_ERROR_NO_MEMORY, STATUS(vxCreateImage(context, 4096, 4096, VX_DF_IMAGE_U32)));
+    a = vxCreateImage(context, SIDE, SIDE, VX_DF_IMAGE_U8);
+    b = vxCreateImage(context, SIDE, SIDE, VX_DF_IMAGE_U8);
+    memset(samples, 3, COUNT);
+    EXPECT(VX_SUCCESS, copy_whole(a, SIDE, SIDE, 1, samples, VX_WRITE_ONLY));
+    vx_graph large = chain(MANY), small = chain(1);
+    EXPECT(VX_ERROR_NO_MEMORY, vxProcessGraph(large));
+    EXPECT(VX_SUCCESS, vxProcessGraph(small));
+    EXPECT(VX_SUCCESS, vxScheduleGraph(large));
+    EXPECT(VX_ERROR_NO_MEMORY, vxWaitGraph(large));
+    CHECK(entries == 3);
+    EXPECT(VX_SUCCESS, vxReleaseGraph(&large));
+    EXPECT(VX_SUCCESS, copy_whole(b, SIDE, SIDE, 1, samples, VX_READ_ONLY));
+    CHECK(samples[0] == 3 && samples[COUNT - 1] == 3);
+    EXPECT(VX_SUCCESS, vxReleaseContext(&context));
+    free(samples);
+    return 0;
+}
