@@ -37,7 +37,7 @@ def find() -> str:
     if found is None:
         checkout = "this package stands in no checkout"
         if built():
-            checkout = f"{' and '.join(built())} isn't there"
+            checkout = f"there is no {' and no '.join(built())}"
         raise ProgramNotFound(f"the server's program wasn't found: {VARIABLE} isn't set, "
                               f"{' and '.join(NAMES)} aren't on PATH, {checkout}. Build it by "
                               "tools/build, or give its path, as in vx.Server(path)")

@@ -318,8 +318,11 @@ def shut(stream: socket.socket) -> None:
 
 
 def socket_ended(is_within_frame: bool) -> ServerEnded:
-    return ServerEnded("the server closed the "
-                       f"connection{' in the middle of a reply' if is_within_frame else ''}")
+    """What is known at this end. A broker knows more, as that a connection asked nothing for long,
+    and says it to its operator."""
+    where = " in the middle of a reply" if is_within_frame else ""
+    return ServerEnded(f"the server closed the connection{where}; where that was a broker, its "
+                       "standard error says why")
 
 
 def command(program: Union[Path, Sequence[str]], quota: Optional[int],

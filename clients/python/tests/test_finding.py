@@ -63,7 +63,7 @@ class TestFinding(unittest.TestCase):
                       "tools/build", "vx.Server(path)"):
             self.assertIn(words, str(caught.exception))
         os.makedirs(self.crate)
-        with self.assertRaisesRegex(vx.ProgramNotFound, r"crate/out/vx_main-default isn't there"):
+        with self.assertRaisesRegex(vx.ProgramNotFound, r"there is no .*crate/out/vx_main-default"):
             vx.Server()
 
     def test_what_the_variable_says_is_meant(self):

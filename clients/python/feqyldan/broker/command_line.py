@@ -80,6 +80,7 @@ def memory_each(servers: int) -> int:
 def parser() -> argparse.ArgumentParser:
     made = argparse.ArgumentParser(
         prog="feqyldan-broker", formatter_class=argparse.RawDescriptionHelpFormatter,
+        usage="%(prog)s --socket PATH [OPTION ..] -- PROGRAM serve [WORD ..]",
         description="One door to the server for several programs: each connection to a Unix socket "
                     "is a client of its own.", epilog=USAGE.format(total=most_held(DEFAULTS)))
     add = made.add_argument
@@ -101,8 +102,8 @@ def parser() -> argparse.ArgumentParser:
              "or ends its writing; by HTTP, the same at GET /status, and Prometheus' text at GET "
              "/metrics")
     add_limits(made)
-    add("command", nargs="+", metavar="PROGRAM serve "
-                                      "..", help="the server's program, with its words")
+    add("command", nargs="+", metavar="PROGRAM serve ..",
+        help="the server's program, with its words")
     return made
 
 

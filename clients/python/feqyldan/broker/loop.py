@@ -79,9 +79,9 @@ class Broker:
         with self.signals_caught():
             self.begin_servers()
             most = self.plan.memory
-            memory = "" if most is None else f" of at most {most} bytes each"
-            self.lines.say(f"listening at {self.listener.path}, with {self.plan.servers} "
-                           f"servers{memory}")
+            memory = "" if most is None else f", of at most {most} bytes each"
+            servers = "1 server" if self.plan.servers == 1 else f"{self.plan.servers} servers"
+            self.lines.say(f"listening at {self.listener.path}, with {servers}{memory}")
             tell_manager()
             while not self.is_over:
                 self.listen_or_not()
