@@ -82,7 +82,7 @@ PUBLIC vx_status VX_API_CALL vxQueryParameter(vx_parameter parameter, vx_enum at
 static vx_status put_value(vx_context context, struct call *call, unsigned place,
                            vx_reference value) {
     vx_status status = VX_SUCCESS;
-    if (value != NULL || !is_optional(call->function, place))
+    if (place >= OPERANDS || value != NULL || !is_optional(call->function, place))
         status = check(context, value, type_at(call->function, place));
     if (status != VX_SUCCESS)
         return status;
