@@ -176,8 +176,9 @@ class Broker:
         environment = {**os.environ, "PYTHONPATH": os.pathsep.join(paths),
                        "PYTHONDONTWRITEBYTECODE": "1",
                        **(environment or {})}
+        # In a process group of its own, as a shell starts a command.
         self.process = subprocess.Popen([*words, *(command or PLAIN)], stderr=self.log,
-                                        env=environment)
+                                        env=environment, start_new_session=True)
 
     def words(self) -> str:
         """What it has written to standard error so far."""

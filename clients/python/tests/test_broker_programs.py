@@ -253,6 +253,14 @@ class ThePackage(BrokerTest):
             sock.sendall(b"\n")
             os.kill(json.loads(sock.recv(65536))["servers"][0]["process"], signal.SIGKILL)
 
+    def test_the_longest_write_and_the_longest_reply_pass(self) -> None:
+        broker = self.begin(command=[str(PROGRAM), "serve"])
+        samples = bytes(range(256)) * (4096 * 4096 * 4 // 256)
+        with vx.connect(broker.path) as server, server.context() as context:
+            image = context.image(vx.U32, 4096, 4096)
+            image.write(samples)
+            self.assertTrue(image.read_bytes() == samples)
+
     def test_who_is_turned_away_is_told_why(self) -> None:
         broker = self.begin("--connections", "1", command=[str(PROGRAM), "serve"])
         with vx.connect(broker.path) as server, server.context() as context:

@@ -167,6 +167,7 @@ class TheServer(BrokerTest):
             self.assertEqual(broker.stop(), 0)
 
     def test_signals_end_it_after_what_was_asked(self) -> None:
+        """A terminal and some managers send them to the whole group: the servers aren't in it."""
         for which in (signal.SIGTERM, signal.SIGINT):
             broker = self.begin()
             busy, idle = self.connect(broker), self.connect(broker)
@@ -174,7 +175,7 @@ class TheServer(BrokerTest):
             gate = self.gate(broker)
             busy.send(gate.frame + plain(50))
             self.assertTrue(broker.wait_for(gate.is_reached))
-            broker.process.send_signal(which)
+            os.killpg(broker.process.pid, which)
             self.assertTrue(broker.says(f"ends by {which.name}"))
             gate.let_go()
             self.assertEqual(busy.reply(), success(HOLD))
