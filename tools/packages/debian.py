@@ -32,8 +32,8 @@ Priority: optional
 Description: vision server with the behaviour of OpenVX
  Images, graphs, virtual images, delays, immediate mode and 23 vision functions
  on grey pictures of 8 and 16 bits, for many clients at once: none of them sees
- another's pixels. With a package for Python, and a broker that shares servers
- among the programs of a machine.
+ another's pixels. With a package for Python, OpenVX's calls for C, and a broker
+ that shares servers among the programs of a machine.
 """
 COPYRIGHT = """\
 Format: https://www.debian.org/doc/packaging-manuals/copyright-format/1.0/
