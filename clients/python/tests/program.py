@@ -22,8 +22,9 @@ if PROGRAM:
 needs_program = unittest.skipUnless(PROGRAM,
                                     "FEQYLDAN_PROGRAM isn't set to the path of the server's "
                                     "program")
-# A test that waits for ever ends the run, and says where it waited; in seconds.
-faulthandler.dump_traceback_later(600, exit=True)
+# A test that waits for ever ends the run, and says where it waited; in seconds, of which the whole
+# run takes some 170 where nothing else runs.
+faulthandler.dump_traceback_later(1800, exit=True)
 
 
 INTERRUPT = "interrupt"

@@ -26,6 +26,9 @@ from feqyldan import wire
 import feqyldan as vx
 
 BAD_LENGTHS = (0, 1, 2, 134_217_729, 4_294_967_295)
+OPENED = wire.reply_frame(CLIENT, wire.OPEN_CONTEXT)
+# The answer to one that comes while too many of its process's connections are being released.
+TURNED_AWAY = wire.reply_frame(CLIENT, wire.OPEN_CONTEXT, wire.NO_RESOURCES)
 
 
 def well_behaved(path: str, seed: int, _: object) -> None:
@@ -66,9 +69,9 @@ def half_frame_and_wait(path: str, _: int, is_over: "multiprocessing.Event") -> 
     while not is_over.is_set():
         with Program(path) as program:
             program.send(wire.open_context(CLIENT) + write_of(200)[:-1])
-            if program.reply() != wire.reply_frame(CLIENT,
-                                                   wire.OPEN_CONTEXT) or not program.has_ended():
-                raise AssertionError("half a frame was taken")
+            reply = program.reply()
+            if reply not in (OPENED, TURNED_AWAY) or not program.has_ended():
+                raise AssertionError(f"half a frame was taken, after {reply.hex(' ')}")
 
 
 def bad_lengths(path: str, _: int, is_over: "multiprocessing.Event") -> None:
@@ -76,9 +79,9 @@ def bad_lengths(path: str, _: int, is_over: "multiprocessing.Event") -> None:
         for length in BAD_LENGTHS:
             with Program(path) as program:
                 program.send(wire.open_context(CLIENT) + struct.pack(">I", length) + bytes(100))
-                opened = program.reply() == wire.reply_frame(CLIENT, wire.OPEN_CONTEXT)
-                if not (opened and program.has_ended()):
-                    raise AssertionError("a bad length was taken")
+                reply = program.reply()
+                if reply not in (OPENED, TURNED_AWAY) or not program.has_ended():
+                    raise AssertionError(f"a bad length was taken, after {reply.hex(' ')}")
         is_over.wait(0.02)
 
 
@@ -174,14 +177,14 @@ class ManyPrograms(BrokerTest):
         start = time.monotonic()
         for process in hostile + honest:
             process.start()
-        end = time.monotonic() + LATE
+        end = time.monotonic() + 3 * LATE
         for process in honest:
             process.join(max(0.0, end - time.monotonic()))
         unfinished = [process for process in honest if process.exitcode is None]
         took = time.monotonic() - start
         is_over.set()
         for process in hostile:
-            process.join(8)
+            process.join(LATE)
         for process in hostile + honest:
             if process.exitcode is None:
                 process.kill()
@@ -195,11 +198,19 @@ class ManyPrograms(BrokerTest):
     def check_after(self, broker: Broker) -> None:
         """All contexts are released: a newcomer has none, whatever number it gets."""
         for _ in range(100):
-            with broker.program() as program:
-                self.assertEqual(wire.code_of(program.ask(wire.read_image(CLIENT, 1))),
-                                 wire.INVALID_REFERENCE)
-                self.assertEqual(wire.code_of(program.ask(wire.open_context(CLIENT))), wire.SUCCESS)
+            self.assertTrue(broker.wait_for(lambda: self.has_nothing(broker)))
         self.assertEqual(broker.stop(), 0)
+
+    def has_nothing(self, broker: Broker) -> bool:
+        """Whether a newcomer finds nothing of others; not yet, where it is turned away since those
+        before it are still being released."""
+        with broker.program() as program:
+            code = wire.code_of(program.ask(wire.read_image(CLIENT, 1)))
+            if code == wire.NO_RESOURCES:
+                return False
+            self.assertEqual(code, wire.INVALID_REFERENCE)
+            self.assertEqual(program.ask(wire.open_context(CLIENT)), OPENED)
+        return True
 
 
 @unittest.skipUnless(PROGRAM, "FEQYLDAN_PROGRAM doesn't name the server's program")
