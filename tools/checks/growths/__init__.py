@@ -4,6 +4,7 @@ import os
 import subprocess
 import sys
 import tempfile
+from typing import Iterator, List, Set, Tuple
 
 from feqyldan import wire
 from checks.graphs.limits import under_quotas
@@ -17,7 +18,7 @@ DEFAULT = 268_435_456
 HERE = os.path.dirname(os.path.abspath(__file__))
 
 
-def streams():
+def streams() -> Iterator[Tuple[str, int, List[bytes]]]:
     """The words for a stream, the quota under which it is served, and its frames."""
     yield "without graphs", DEFAULT, session()
     yield "with graphs", DEFAULT, graphs()
@@ -30,10 +31,11 @@ def streams():
         yield words, limit, [request for request, _ in of]
 
 
-def main():
+def main() -> None:
     check(len(sys.argv) == 2, "usage: tools/refused_growths PROGRAM")
     program = os.path.abspath(sys.argv[1])
-    told, ops = [], set()
+    told: List[str] = []
+    ops: Set[int] = set()
     with tempfile.TemporaryDirectory() as folder:
         shim = os.path.join(folder, "refuse_growth.so")
         subprocess.run(["cc", "-O1", "-shared", "-fPIC", "-o", shim,
@@ -46,7 +48,7 @@ def main():
             told.append(f"{words} {first} growths before the stream, {len(lost)} in it, which "
                         f"lose {len(set(lost))} of {len(stream)} frames in turn, and {without} "
                         "that it does without")
-        unlost = {wire.ADD_NODE, wire.VERIFY_GRAPH, wire.PROCESS_GRAPH} - ops
+        unlost = {int(wire.ADD_NODE), int(wire.VERIFY_GRAPH), int(wire.PROCESS_GRAPH)} - ops
         check(not unlost, f"no frame of op {unlost} was lost")
         applied, without = refuse_in_apply(program, shim, count_file)
     print(f"refused_growths: {'; '.join(told)}; {applied} of apply, which does without {without}")

@@ -1,12 +1,14 @@
 """A session of one client with two graphs, some of whose requests take memory."""
 
+from typing import List
+
 from feqyldan import wire
 
 SAMPLES = bytes(at * 37 % 256 for at in range(64))
 # The slots of the delay, from the newest on.
-SLOTS = [wire.reference(5, k) for k in range(3)]
+SLOTS: List[wire.Reference] = [wire.reference(5, k) for k in range(3)]
 # The images that a run of the first graph writes, and the other slots.
-IMAGES: list[wire.Reference] = [2, 3, 4, *SLOTS]
+IMAGES: List[wire.Reference] = [2, 3, 4, *SLOTS]
 READS = [
     *(wire.read_image(3, named) for named in IMAGES),
     *(wire.query_image(3, named) for named in (2, 4)),
@@ -24,7 +26,7 @@ RUNS = [
 ]
 
 
-def graphs():
+def graphs() -> List[bytes]:
     """A client with two graphs, which run through virtual images and slots to two outputs, counts
     and extremes."""
     return [
@@ -53,7 +55,7 @@ def graphs():
     ]
 
 
-def objects():
+def objects() -> List[bytes]:
     """The first graph, without nodes, and what its nodes are to name."""
     return [
         wire.open_context(3),
@@ -74,7 +76,7 @@ def objects():
     ]
 
 
-def nodes():
+def nodes() -> List[bytes]:
     """Nodes of the first graph, and two that it refuses."""
     return [
         # The last node to run is added first.
@@ -92,7 +94,7 @@ def nodes():
     ]
 
 
-def another_graph():
+def another_graph() -> List[bytes]:
     """Another graph, beside the first and after it."""
     return [
         wire.create_graph(3),

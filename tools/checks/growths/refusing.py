@@ -3,11 +3,15 @@
 import os
 import subprocess
 import sys
+from typing import List, Optional, Tuple
 
 from feqyldan import wire
 
+Ended = subprocess.CompletedProcess[bytes]
 
-def run(command, stream, shim=None, refused=0, count_file=None):
+
+def run(command: List[str], stream: bytes, shim: Optional[str] = None, refused: int = 0,
+        count_file: Optional[str] = None) -> Ended:
     """The command on a stream, with the allocation refused that has this number."""
     environment = dict(os.environ)
     if shim:
@@ -19,11 +23,12 @@ def run(command, stream, shim=None, refused=0, count_file=None):
                           timeout=60)
 
 
-def serve(command, stream, *shim):
-    return run(command, b"".join(stream), *shim)
+def serve(command: List[str], stream: List[bytes], shim: Optional[str] = None, refused: int = 0,
+          count_file: Optional[str] = None) -> Ended:
+    return run(command, b"".join(stream), shim, refused, count_file)
 
 
-def check(condition, what):
+def check(condition: object, what: str) -> None:
     if not condition:
         sys.exit(f"refused_growths: {what}")
 
@@ -35,7 +40,7 @@ NEVER_LOST = {
     wire.REMOVE_NODE, wire.IMMEDIATE, wire.AGE_DELAY}
 
 
-def refuse(command, shim, stream, number):
+def refuse(command: List[str], shim: str, stream: List[bytes], number: int) -> int:
     """The index of the frame that was lost, or what else became of the refusal."""
     ended = serve(command, stream, shim, number)
     if ended.returncode == 5:
@@ -62,16 +67,17 @@ def refuse(command, shim, stream, number):
     return k
 
 
-def op_of(frame):
+def op_of(frame: bytes) -> int:
     return frame[6]
 
 
-def counted(path):
+def counted(path: str) -> int:
     with open(path) as text:
         return int(text.read())
 
 
-def refuse_each(command, shim, stream, count_file):
+def refuse_each(command: List[str], shim: str, stream: List[bytes],
+                count_file: str) -> Tuple[int, List[int], int]:
     """How many growths come before the stream, the indices of the frames that the later ones lose,
     and how many of those the program does without."""
     whole = serve(command, stream, shim, 0, count_file)
@@ -79,14 +85,14 @@ def refuse_each(command, shim, stream, count_file):
     check(all(wire.code_of(reply) != 1 for reply in wire.replies(whole.stdout)),
           "with ample memory: a reply is NO_MEMORY")
     lost = [refuse(command, shim, stream, number) for number in range(1, counted(count_file) + 1)]
-    first = next((at for at, k in enumerate(lost) if k >= 0), None)
-    check(first is not None, "no growth was refused while the stream was served")
+    first = next((at for at, k in enumerate(lost) if k >= 0), len(lost))
+    check(first < len(lost), "no growth was refused while the stream was served")
     check(NOT_STARTED not in lost[first:],
           "a growth of the stream was refused, and the program ended")
     return first, [k for k in lost[first:] if k >= 0], lost[first:].count(DONE_WITHOUT)
 
 
-def refuse_in_apply(program, shim, count_file):
+def refuse_in_apply(program: str, shim: str, count_file: str) -> Tuple[int, int]:
     """How many growths of `apply` were refused, and how many of these it did without."""
     command, text = [program, "apply", "box", "--border=replicate"], b"P2 30 20 255" + b" 9" * 600
     whole = run(command, text, shim, 0, count_file)

@@ -1,9 +1,11 @@
 """A session of two clients without graphs, some of whose requests take memory."""
 
+from typing import List
+
 from feqyldan import wire
 
 
-def session():
+def session() -> List[bytes]:
     """Two clients in turn: small and large pictures of both formats, tables, thresholds, nodes,
     delays, rectangles, PGM texts, convolutions, distributions, extremes, releases, and refusals."""
     row = bytes(range(64))
@@ -74,7 +76,7 @@ def session():
     ]
 
 
-def texts():
+def texts() -> List[bytes]:
     """PGM texts, short and long, of both formats and with faults, into images that the session has,
     and out of them."""
     byte, raster = b"P2 1 1 255 7", b"P5 16 4 255\n" + bytes(range(100, 164))
@@ -99,7 +101,7 @@ def texts():
     ]
 
 
-def windows_and_statistics():
+def windows_and_statistics() -> List[bytes]:
     """Convolutions, distributions and extremes of client 2, from name 10 on, and the functions that
     want them."""
     return [

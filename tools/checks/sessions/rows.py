@@ -5,38 +5,43 @@ The sessions here and in checks/graphs are written in them, from docs/wire.md.
 """
 
 import struct
+from typing import Any, Callable, Dict, List, Optional, Sequence, Tuple, Union
 
 from feqyldan import wire
-from feqyldan.wire import NO_RESOURCES, OPEN, S16, SUCCESS, U32, U8, frame, reference, reply_frame
+from feqyldan.wire import (
+    NO_RESOURCES, OPEN, S16, SUCCESS, U32, U8, Reference, frame, reference, reply_frame)
 
 CLIENT = 7
+# What answers a request: the body of a success, or a code.
+Wanted = Union[bytes, int]
+Row = Tuple[bytes, Wanted]
 
 
-def reply_to(request, wanted):
+def reply_to(request: bytes, wanted: Wanted) -> bytes:
     client, op = struct.unpack_from(">HB", request, 4)
     return reply_frame(client, op,
                        *((SUCCESS, wanted) if isinstance(wanted, bytes) else (wanted, b"")))
 
 
-def name(number):
+def name(number: int) -> bytes:
     return struct.pack(">I", number)
 
 
-def picture(fmt, width, height, samples):
+def picture(fmt: int, width: int, height: int, samples: Sequence[int]) -> bytes:
     """The body of the reply to ReadImage."""
-    return struct.pack(f">BHH{width * height}{wire.SAMPLE_LETTERS[fmt]}", fmt, width, height,
+    return struct.pack(f">BHH{width * height}{wire.letter_of(fmt)}", fmt, width, height,
                        *samples)
 
 
-def opened(client=CLIENT):
+def opened(client: int = CLIENT) -> Row:
     return (wire.open_context(client), b"")
 
 
-def closed(client=CLIENT, wanted=b""):
+def closed(client: int = CLIENT, wanted: Wanted = b"") -> Row:
     return (wire.release_context(client), wanted)
 
 
-def released(number, wanted=b"", client=CLIENT):
+def released(number: int, wanted: Wanted = b"", client: int = CLIENT) -> Row:
     return (wire.release(client, number), wanted)
 
 
@@ -47,42 +52,47 @@ TEN_TO_FORTY = [10, 20, 30, 40]
 WHOLE_ROW, MIDDLE, NOWHERE = (0, 0, 4, 1), (1, 0, 3, 1), (0, 0, 0, 0)
 
 
-def made(number, fmt, width=1, height=1, client=CLIENT):
+def made(number: int, fmt: int, width: int = 1, height: int = 1, client: int = CLIENT) -> Row:
     return (wire.create_image(client, fmt, width, height), name(number))
 
 
-def no_room(fmt, width, height, client=CLIENT):
+def no_room(fmt: int, width: int, height: int, client: int = CLIENT) -> Row:
     return (wire.create_image(client, fmt, width, height), NO_RESOURCES)
 
 
-def wrote(named, fmt, samples, width=1, height=1, client=CLIENT):
+def wrote(named: Reference, fmt: int, samples: Sequence[int], width: int = 1, height: int = 1,
+          client: int = CLIENT) -> Row:
     body = picture(fmt, width, height, samples)
     return (frame(client, wire.WRITE_IMAGE, wire.operand(named) + body), b"")
 
 
-def wrote_text(named, text, wanted=b"", client=CLIENT):
+def wrote_text(named: Reference, text: bytes, wanted: Wanted = b"", client: int = CLIENT) -> Row:
     return (wire.write_image_pgm(client, named, text), wanted)
 
 
-def holds(named, fmt, samples, width=1, height=1, client=CLIENT):
+def holds(named: Reference, fmt: int, samples: Sequence[int], width: int = 1, height: int = 1,
+          client: int = CLIENT) -> Row:
     return (wire.read_image(client, named), picture(fmt, width, height, samples))
 
 
-def holds_text(named, text, client=CLIENT):
+def holds_text(named: Reference, text: bytes, client: int = CLIENT) -> Row:
     return (wire.read_image_pgm(client, named), text)
 
 
-def told(named, fmt, valid, width=1, height=1, client=CLIENT):
+def told(named: Reference, fmt: int, valid: Sequence[int], width: int = 1, height: int = 1,
+         client: int = CLIENT) -> Row:
     """QueryImage, and the rectangle that it tells."""
     return (wire.query_image(client, named), struct.pack(">BHH4H", fmt, width, height, *valid))
 
 
-def shows(named, fmt, samples, valid, width, height=1):
+def shows(named: Reference, fmt: int, samples: Sequence[int], valid: Sequence[int], width: int,
+          height: int = 1) -> List[Row]:
     """Both that are asked for: the rectangle and the samples."""
     return [told(named, fmt, valid, width, height), holds(named, fmt, samples, width, height)]
 
 
-def confined(named, valid, wanted=b"", client=CLIENT):
+def confined(named: Reference, valid: Sequence[int], wanted: Wanted = b"",
+             client: int = CLIENT) -> Row:
     """SetValid."""
     return (wire.set_valid(client, named, valid), wanted)
 
@@ -90,15 +100,16 @@ def confined(named, valid, wanted=b"", client=CLIENT):
 # ---- delays
 
 
-def delayed(number, exemplar, slots, client=CLIENT):
+def delayed(number: int, exemplar: Reference, slots: int, client: int = CLIENT) -> Row:
     return (wire.create_delay(client, exemplar, slots), name(number))
 
 
-def aged(number, wanted=b"", client=CLIENT):
+def aged(number: int, wanted: Wanted = b"", client: int = CLIENT) -> Row:
     return (wire.age_delay(client, number), wanted)
 
 
-def in_slots(row, number, fmt, samples, client=CLIENT):
+def in_slots(row: Callable[..., Row], number: int, fmt: int, samples: Sequence[int],
+             client: int = CLIENT) -> List[Row]:
     """The row for each slot of a delay of images of one sample, from slot 0 on."""
     return [row(reference(number, k), fmt, [sample], client=client)
             for k, sample in enumerate(samples)]
@@ -113,29 +124,30 @@ EXTREMES = wire.create_min_max(CLIENT)
 NOTHING_FOUND = (0,) * 8
 
 
-def threshold(fmt):
+def threshold(fmt: int) -> bytes:
     """7 for samples above 100, else 3."""
     return wire.create_threshold(CLIENT, fmt, (100,), 7, 3)
 
 
-def convolution(number, columns, rows, exponent, coefficients):
+def convolution(number: int, columns: int, rows: int, exponent: int,
+                coefficients: Sequence[int]) -> Row:
     return (wire.create_convolution(CLIENT, columns, rows, exponent, coefficients), name(number))
 
 
-def distribution(number, bins, offset, range_, client=CLIENT):
+def distribution(number: int, bins: int, offset: int, range_: int, client: int = CLIENT) -> Row:
     return (wire.create_distribution(client, bins, offset, range_), name(number))
 
 
-def counted(number, counts, client=CLIENT):
+def counted(number: int, counts: Sequence[int], client: int = CLIENT) -> Row:
     return (wire.read_distribution(client, number),
             struct.pack(f">H{len(counts)}I", len(counts), *counts))
 
 
-def extremes(number, client=CLIENT):
+def extremes(number: int, client: int = CLIENT) -> Row:
     return (wire.create_min_max(client), name(number))
 
 
-def found(number, *numbers, client=CLIENT):
+def found(number: int, *numbers: int, client: int = CLIENT) -> Row:
     """The least, the greatest, how many places hold each, and the x and y of the first of each."""
     return (wire.read_min_max(client, number), struct.pack(">hhII4H", *numbers))
 
@@ -145,41 +157,43 @@ def found(number, *numbers, client=CLIENT):
 UNDEFINED, REPLICATE = {"border": wire.UNDEFINED}, {"border": wire.REPLICATE}
 
 
-def constant(value):
+def constant(value: int) -> Dict[str, int]:
     return {"border": wire.CONSTANT, "constant": value}
 
 
-def ran(function, in1, in2, out1, wanted=b"", **beside):
+def ran(function: int, in1: Optional[Reference], in2: Optional[Reference],
+        out1: Optional[Reference], wanted: Wanted = b"", **beside: Any) -> Row:
     return (wire.immediate(CLIENT, function, in1, in2, out1, **beside), wanted)
 
 
-def graph(number, client=CLIENT):
+def graph(number: int, client: int = CLIENT) -> Row:
     return (wire.create_graph(client), name(number))
 
 
-def virtual(number, of, fmt=OPEN, width=OPEN, height=OPEN, client=CLIENT):
+def virtual(number: int, of: int, fmt: int = OPEN, width: int = OPEN, height: int = OPEN,
+            client: int = CLIENT) -> Row:
     return (wire.create_virtual_image(client, of, fmt, width, height), name(number))
 
 
-def added(of, number, node, client=CLIENT):
+def added(of: int, number: int, node: bytes, client: int = CLIENT) -> Row:
     """A node, in bytes, in a graph, and the number that it gets."""
     return (frame(client, wire.ADD_NODE, name(of) + node), name(number))
 
 
-def unadded(of, code, node, client=CLIENT):
+def unadded(of: int, code: int, node: bytes, client: int = CLIENT) -> Row:
     """A node that a graph doesn't take."""
     return (frame(client, wire.ADD_NODE, name(of) + node), code)
 
 
-def removed(of, number, wanted=b"", client=CLIENT):
+def removed(of: int, number: int, wanted: Wanted = b"", client: int = CLIENT) -> Row:
     return (wire.remove_node(client, of, number), wanted)
 
 
-def verified(of, wanted=b"", client=CLIENT):
+def verified(of: int, wanted: Wanted = b"", client: int = CLIENT) -> Row:
     return (wire.verify_graph(client, of), wanted)
 
 
-def processed(of, wanted=b"", client=CLIENT):
+def processed(of: int, wanted: Wanted = b"", client: int = CLIENT) -> Row:
     return (wire.process_graph(client, of), wanted)
 
 
@@ -191,7 +205,7 @@ CREATES = (
     wire.create_graph(CLIENT))
 
 
-def on_image(named):
+def on_image(named: Reference) -> Tuple[bytes, ...]:
     """Requests that name an image, each with what an image of one U8 sample takes, or a text that
     none takes."""
     return (
@@ -201,7 +215,7 @@ def on_image(named):
         wire.set_valid(CLIENT, named, (0, 0, 1, 1)), wire.create_delay(CLIENT, named, 2))
 
 
-def on_graph(of):
+def on_graph(of: int) -> Tuple[bytes, ...]:
     """Requests that name a graph, and but AddNode nothing else."""
     return (
         wire.create_virtual_image(CLIENT, of), wire.add_node(CLIENT, of, wire.NOT_BITS, 1, None, 2),

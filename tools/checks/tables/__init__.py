@@ -13,7 +13,7 @@ from checks.tables.sessions import check_greatest_integral, check_sessions
 from checks.tables.words import check_refused_words, check_words
 
 
-def main():
+def main() -> None:
     if len(sys.argv) != 2:
         sys.exit("usage: tools/check_program PROGRAM")
     program = Program(sys.argv[1])

@@ -1,16 +1,20 @@
 """What `apply` makes of PGM texts: the text of what one function gives out."""
 
+import array
+import fcntl
 import os
 import subprocess
 import tempfile
+import termios
 import time
+from typing import IO
 
 from feqyldan import wire
 from feqyldan.wire import U8
 from checks.sessions.rows import TEN_TO_FORTY
 from checks.sessions.texts import FAULTY_TEXTS, TEXTS, raw
 from checks.sessions.windows import ONE_TO_NINE, centred
-from checks.tables.program import check, shown
+from checks.tables.program import Program, check, shown
 
 SQUARE, COUNT = raw(2, 2, TEN_TO_FORTY), raw(3, 3, ONE_TO_NINE)
 # The words after `apply`, the text that is read, and the width, the height and the samples of what
@@ -44,7 +48,7 @@ APPLIED = (
 LONGEST = 134_217_728
 
 
-def check_apply(program):
+def check_apply(program: Program) -> None:
     for words, text, (width, height, samples) in APPLIED:
         program.check(f"apply {words} on {text}", text, raw(width, height, samples),
                       words=("apply", *words))
@@ -61,14 +65,29 @@ def check_apply(program):
     check_pieces(program)
 
 
-def check_pieces(program):
+def waiting_in(pipe: IO[bytes]) -> int:
+    """The bytes of a pipe that nobody has read yet."""
+    count = array.array("i", [0])
+    fcntl.ioctl(pipe, termios.FIONREAD, count)
+    return count[0]
+
+
+def sleeps(process: int) -> bool:
+    """Whether a process waits for something."""
+    with open(f"/proc/{process}/stat", encoding="utf-8") as file:
+        return file.read().rpartition(")")[2].split()[0] == "S"
+
+
+def check_pieces(program: Program) -> None:
     """A text that comes in pieces; the program waits for its end."""
     with subprocess.Popen([program.path, "apply", "not"], stdin=subprocess.PIPE,
-                          stdout=subprocess.PIPE,
-                          bufsize=0) as process:
+                          stdout=subprocess.PIPE, bufsize=0) as process:
+        assert process.stdin is not None and process.stdout is not None
         for piece in (SQUARE[:1], SQUARE[1:12], SQUARE[12:]):
             process.stdin.write(piece)
-            time.sleep(0.1)
+            while waiting_in(process.stdin) or not sleeps(process.pid):
+                check(process.poll() is None, "apply on pieces: it doesn't wait for the next")
+                time.sleep(0.001)
         process.stdin.close()
         output = process.stdout.read()
     check((process.returncode, output) == (0, raw(2, 2, [245, 235, 225, 215])),
@@ -76,15 +95,15 @@ def check_pieces(program):
     program.runs += 1
 
 
-def check_longest(program):
+def check_longest(program: Program) -> None:
     """Texts as long as may be, and one byte longer, which is told whatever the text is."""
     apply, too_long = ("apply", "not"), (5, b"NO_RESOURCES\n")
     program.check("the longest text", b"P2 1 1 255 5".ljust(LONGEST), raw(1, 1, [250]), words=apply)
     program.check("the longest text that has a fault", b"P5".ljust(LONGEST), b"", 5,
                   b"INVALID_FORMAT\n", apply)
     for text in (b"P2 1 1 255 5", b"P5 0 1 255\n"):
-        program.check(f"{text} and more than the longest", text.ljust(LONGEST + 1), b"", *too_long,
-                      apply)
+        program.check(f"{text!r} and more than the longest", text.ljust(LONGEST + 1), b"",
+                      *too_long, apply)
     # No byte beyond that one is read, and none is waited for.
     with tempfile.TemporaryFile() as stream:
         stream.truncate(LONGEST + 65_536)
@@ -94,6 +113,7 @@ def check_longest(program):
           f"a file that is too long: {run}, read to {at}")
     with subprocess.Popen([program.path, *apply], stdin=subprocess.PIPE, stdout=subprocess.PIPE,
                           stderr=subprocess.PIPE) as process:
+        assert process.stdin and process.stdout and process.stderr
         for _ in range(LONGEST // 2**16):
             process.stdin.write(bytes(2**16))
         process.stdin.write(b"\0")

@@ -3,12 +3,14 @@
 A client without a context is answered INVALID_REFERENCE where the body spells a request.
 """
 
+from typing import Any, Iterable, Iterator, Tuple
+
 from feqyldan import wire
 from feqyldan.wire import (
     ADD_NODE, IMMEDIATE, INVALID_DIMENSION, INVALID_FORMAT, INVALID_PARAMETERS, INVALID_REFERENCE,
     INVALID_VALUE, S16, SOBEL, U8, frame, node, reference, reply_frame)
 from checks.sessions.rows import CLIENT, name
-from checks.tables.program import check, shown
+from checks.tables.program import Program, check, shown
 
 SPELLED = INVALID_REFERENCE
 
@@ -219,7 +221,7 @@ BORDERS = ((wire.UNDEFINED, 0), (wire.CONSTANT, 0), (wire.CONSTANT, 255), (wire.
 OPS = range(1, 27)
 
 
-def function_rows():
+def function_rows() -> Iterator[Tuple[bytes, int]]:
     for number, second, policy, greatest in FUNCTIONS:
         in2, other = (2, None) if second else (None, 2)
         yield node(number, 1, in2, 3), SPELLED
@@ -240,7 +242,7 @@ def function_rows():
             yield node(number, 1, in2, 3, border=border, constant=1), INVALID_PARAMETERS
 
 
-def nodes_in_graphs(rows):
+def nodes_in_graphs(rows: Iterable[Tuple[Any, ...]]) -> Iterator[Tuple[Any, ...]]:
     """The rows with their bodies in bytes, and those of Immediate once more as nodes of a graph."""
     for words, op, body, *code in rows:
         body = bytes.fromhex(body)
@@ -249,7 +251,7 @@ def nodes_in_graphs(rows):
             yield words + ", in a graph", ADD_NODE, name(258) + body, *code
 
 
-def body_rows():
+def body_rows() -> Iterator[Tuple[str, int, bytes, int]]:
     """Each op, body and code."""
     for fmt, size in ((U8, 256), (S16, 131_072)):
         table = bytes([fmt]) + bytes(range(256)) * (size // 256)
@@ -280,7 +282,7 @@ def body_rows():
             yield f"{size} bytes to op {op}", op, bytes(size), INVALID_PARAMETERS
 
 
-def check_bodies(program):
+def check_bodies(program: Program) -> int:
     rows = list(body_rows())
     _, output, _ = program.run(b"".join(frame(CLIENT, op, body) for _, op, body, _ in rows))
     replies = wire.replies(output)

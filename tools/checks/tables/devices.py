@@ -4,12 +4,13 @@ byte at a call, one of which fails."""
 import os
 import subprocess
 import tempfile
+from typing import List, Sequence, Tuple
 
 from feqyldan import wire
 from feqyldan.wire import NOT_BITS, U8
 from checks.sessions.rows import CLIENT, holds, made, opened, ran, reply_to, wrote
 from checks.tables.apply import SQUARE
-from checks.tables.program import check, shown
+from checks.tables.program import Program, check, shown
 
 HERE = os.path.dirname(os.path.abspath(__file__))
 # Two images of one sample; the second is the inverse of the first.
@@ -18,7 +19,7 @@ STORED = [
     holds(2, U8, [245])]
 
 
-def run_on_a_folder(program, words):
+def run_on_a_folder(program: Program, words: Sequence[str]) -> Tuple[int, bytes, bytes]:
     """A folder can't be read."""
     with tempfile.TemporaryDirectory() as folder:
         entry = os.open(folder, os.O_RDONLY)
@@ -27,7 +28,8 @@ def run_on_a_folder(program, words):
     return run.returncode, run.stdout, run.stderr
 
 
-def run_into_a_full_device(program, words, stream):
+def run_into_a_full_device(program: Program, words: Sequence[str],
+                           stream: bytes) -> Tuple[int, bytes]:
     """/dev/full takes nothing."""
     with open("/dev/full", "wb") as full:
         run = subprocess.run([program.path, *words], input=stream, stdout=full,
@@ -35,7 +37,7 @@ def run_into_a_full_device(program, words, stream):
     return run.returncode, run.stderr
 
 
-def check_pieces(program):
+def check_pieces(program: Program) -> None:
     """The stored stream a byte at a call, with each read and each write failing in turn."""
     with tempfile.TemporaryDirectory() as folder:
         shim = os.path.join(folder, "fail_call.so")
@@ -49,7 +51,7 @@ def check_pieces(program):
         check_failing_writes(program, shim, stream, replies)
 
 
-def check_failing_reads(program, shim, stream, replies):
+def check_failing_reads(program: Program, shim: str, stream: bytes, replies: List[bytes]) -> None:
     """The replies of the frames that were read whole are there. The last read is that which finds
     the end of the stream."""
     number = 0
@@ -62,7 +64,7 @@ def check_failing_reads(program, shim, stream, replies):
     check(got == (4, b"".join(replies), b"read failed\n"), f"the read of the end: {got}")
 
 
-def check_failing_writes(program, shim, stream, replies):
+def check_failing_writes(program: Program, shim: str, stream: bytes, replies: List[bytes]) -> None:
     """All that was written before is there, and nothing after the reply whose write failed: what is
     left of that one the program may still write as it ends."""
     number = 0
@@ -75,7 +77,8 @@ def check_failing_writes(program, shim, stream, replies):
                   f"write {number}: {shown(output)}")
 
 
-def run_in_pieces(program, shim, stream, **failing):
+def run_in_pieces(program: Program, shim: str, stream: bytes,
+                  **failing: int) -> Tuple[int, bytes, bytes]:
     """The program's status, output and line where a call with this number fails."""
     environment = {**os.environ, "LD_PRELOAD": shim}
     environment.update({variable: str(number) for variable, number in failing.items()})
@@ -85,7 +88,7 @@ def run_in_pieces(program, shim, stream, **failing):
     return run.returncode, run.stdout, run.stderr
 
 
-def check_devices(program):
+def check_devices(program: Program) -> None:
     check_pieces(program)
     for words in (("serve",), ("apply", "not")):
         got = run_on_a_folder(program, words)
@@ -101,5 +104,6 @@ def check_devices(program):
         (("apply", "not"), b"P2 1 1 300 5", (5, b"INVALID_FORMAT\n")),
         (("apply", "not"), b"P5 0 1 255\n", (5, b"INVALID_DIMENSION\n")),
     ):
-        got = run_into_a_full_device(program, words, stream)
-        check(got == wanted, f"a writer that fails under {words}, {stream}: {got}, not {wanted}")
+        ended = run_into_a_full_device(program, words, stream)
+        check(ended == wanted,
+              f"a writer that fails under {words}, {stream!r}: {ended}, not {wanted}")

@@ -1,10 +1,14 @@
 """How a stream ends: what is read, what is written, the status and the line; and turns."""
 
 import subprocess
+from typing import List, Tuple
 
 from checks.graphs.worked import graph_before_and_after_ageing
 from checks.sessions.rows import reply_to
-from checks.tables.program import check, shown
+from checks.tables.program import Program, check, shown
+
+# Requests, each with its reply.
+Pairs = List[Tuple[bytes, bytes]]
 
 TRUNCATED, BAD_LENGTH = (3, b"truncated\n"), (3, b"bad length\n")
 ENDINGS = (
@@ -45,7 +49,7 @@ TURNS = (
 )
 
 
-def check_streams(program):
+def check_streams(program: Program) -> None:
     for words, stream, output, status, line in ENDINGS:
         program.check(words, bytes.fromhex(stream), bytes.fromhex(output), status, line)
     turns = [(bytes.fromhex(request), bytes.fromhex(reply)) for request, reply in TURNS]
@@ -56,7 +60,7 @@ def check_streams(program):
     check_prefixes(program, "a graph on a delay", aged)
 
 
-def check_prefixes(program, words, pairs):
+def check_prefixes(program: Program, words: str, pairs: Pairs) -> None:
     """As much of a stream as has so many bytes, for each number of them: the replies of its whole
     frames are there, and it is truncated unless it ends between frames."""
     stream, ends = b"".join(request for request, _ in pairs), {0: b""}
@@ -68,11 +72,12 @@ def check_prefixes(program, words, pairs):
                       *((0, b"") if length in ends else TRUNCATED))
 
 
-def check_turns(program, turns):
+def check_turns(program: Program, turns: Pairs) -> None:
     """Each reply is there before a byte of the next request is sent, which comes a byte at a
     time."""
     process = subprocess.Popen([program.path, "serve"], stdin=subprocess.PIPE,
                                stdout=subprocess.PIPE, bufsize=0)
+    assert process.stdin is not None and process.stdout is not None
     for request, reply in turns:
         for byte in request:
             process.stdin.write(bytes([byte]))

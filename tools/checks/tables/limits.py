@@ -1,11 +1,14 @@
 """The default limits, and others that the program is told."""
 
+from typing import Iterator, List, Tuple
+
 from feqyldan import wire
 from feqyldan.wire import HISTOGRAM, NO_RESOURCES, S16, U32, U8
 from checks import graphs
 from checks.sessions.rows import (
-    CLIENT, CREATES, TURNED, aged, closed, counted, delayed, holds, made, name, no_room, opened,
-    ran, released, threshold)
+    CLIENT, CREATES, TURNED, Row, aged, closed, counted, delayed, holds, made, name, no_room,
+    opened, ran, released, threshold)
+from checks.tables.program import Program
 
 QUOTA_ROWS = (
     # Four images of 67,108,864 bytes take all of it: no fifth, and no other image, but what is
@@ -26,7 +29,7 @@ QUOTA_ROWS = (
 )
 
 
-def check_quota(program):
+def check_quota(program: Program) -> None:
     program.check_rows("the default quota",
                        [opened(), *QUOTA_ROWS, opened(8), made(1, U8, client=8),
                         holds(1, U8, [0], client=8)])
@@ -38,7 +41,7 @@ def check_quota(program):
     program.check_rows("just below the default quota", [opened(), *nearly])
 
 
-def quotas():
+def quotas() -> Iterator[Tuple[str, List[Row]]]:
     """The words of quotas, and the rows of a stream under each of them."""
     two = [opened(), made(1, U8, 2, 2), made(2, U8, 2, 2)]
     # Each client has all of it, what is released is free again, and a refused create uses no name.
@@ -70,7 +73,7 @@ def quotas():
     yield ("1099511627776", [*more, made(6, S16)])
 
 
-def check_told_limits(program):
+def check_told_limits(program: Program) -> None:
     for word, rows in quotas():
         for words in (("serve", "--quota", word), ("serve", f"--quota={word}")):
             program.check_rows(f"the words {words}", rows, words)

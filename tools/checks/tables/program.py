@@ -3,39 +3,45 @@
 import os
 import subprocess
 import sys
+from typing import Sequence, Tuple, Union
 
 from feqyldan import wire
-from checks.sessions.rows import reply_to
+from checks.sessions.rows import Row, reply_to
+
+# A word of a command line.
+Word = Union[str, bytes]
 
 
-def check(condition, what):
+def check(condition: object, what: str) -> None:
     if not condition:
         sys.exit(f"check_program: {what}")
 
 
-def shown(stream):
+def shown(stream: bytes) -> str:
     if len(stream) <= 64:
         return stream.hex(" ")
     return f"{stream[:64].hex(' ')} .. ({len(stream)} bytes)"
 
 
 class Program:
-    def __init__(self, path):
+    def __init__(self, path: str) -> None:
         self.path, self.runs = os.path.abspath(path), 0
 
-    def run(self, stream, words=("serve",)):
+    def run(self, stream: bytes, words: Sequence[Word] = ("serve",)) -> Tuple[int, bytes, bytes]:
         """The program's status, output and line on standard error."""
         self.runs += 1
         run = subprocess.run([self.path, *words], input=stream, capture_output=True, timeout=120)
         return run.returncode, run.stdout, run.stderr
 
-    def check(self, name, stream, output, status=0, line=b"", words=("serve",)):
+    def check(self, name: str, stream: bytes, output: bytes, status: int = 0, line: bytes = b"",
+              words: Sequence[Word] = ("serve",)) -> None:
         got = self.run(stream, words)
         check(got[1] == output, f"{name}: {shown(got[1])}, not {shown(output)}")
         check(got[0] == status and got[2] == line,
               f"{name}: status {got[0]} and {got[2]!r}, not {status} and {line!r}")
 
-    def check_rows(self, name, rows, words=("serve",)):
+    def check_rows(self, name: str, rows: Sequence[Row],
+                   words: Sequence[Word] = ("serve",)) -> None:
         """Rows of a request and its reply, each a code or the body of a success, in one stream."""
         status, output, _ = self.run(b"".join(request for request, _ in rows), words)
         replies = wire.replies(output)

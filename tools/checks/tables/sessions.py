@@ -6,10 +6,10 @@ from feqyldan import wire
 from feqyldan.wire import INTEGRAL, SUCCESS, U32, U8
 from checks.sessions import sessions
 from checks.sessions.rows import CLIENT
-from checks.tables.program import check
+from checks.tables.program import Program, check
 
 
-def check_sessions(program):
+def check_sessions(program: Program) -> int:
     asked = 0
     for words, rows in sessions():
         program.check_rows(words, rows)
@@ -17,7 +17,7 @@ def check_sessions(program):
     return asked
 
 
-def check_greatest_integral(program):
+def check_greatest_integral(program: Program) -> None:
     """Of 4096 by 4096 samples of 255: 255 * (x + 1) * (y + 1), and so 4,278,190,080 at the end."""
     side = 4096
     status, output, _ = program.run(b"".join((

@@ -3,10 +3,11 @@
 import os
 import subprocess
 import tempfile
+from typing import Tuple
 
 from feqyldan import wire
 from checks.sessions.rows import CLIENT
-from checks.tables.program import check
+from checks.tables.program import Program, Word, check
 
 # Words that are no number from 1 to 2^40 in decimal digits.
 NO_BYTES = (
@@ -14,16 +15,23 @@ NO_BYTES = (
     "18446744073709551624", "9" * 40, "+8", "-8", "--8", "++8", "8+", "eight", "8k", "k8", "0x8",
     "8h", "ff", "1e3", "8.0", "8,000", "1_000", " 8", "8 ", "8\n", "\u0668", "\u00b2", "--help8",
 )
-REFUSED_WORDS = (
-    *(words for option in ("--quota", "--work") for words in (
-        *(words for word in NO_BYTES
-          for words in (("serve", option, word), ("serve", f"{option}={word}"))),
+
+
+def refused_for(option: str) -> Tuple[Tuple[Word, ...], ...]:
+    """Words that name an option of a number, and are refused."""
+    return (
+        *(("serve", option, word) for word in NO_BYTES),
+        *(("serve", f"{option}={word}") for word in NO_BYTES),
         ("serve", option), ("serve", option, "8", option, "8"),
         ("serve", f"{option}=8", option, "9"), ("serve", option, "8", "9"),
         ("serve", option, b"\xff"), ("serve", option.encode() + b"=8\xff"),
         ("serve", option[:-1], "8"), ("serve", option.upper(), "8"), ("serve", option[1:], "8"),
         ("serve", "--", option, "8"), ("serve", option[2:], "8"), (option, "8"),
-        (option, "8", "serve"))),
+        (option, "8", "serve"))
+
+
+REFUSED_WORDS: Tuple[Tuple[Word, ...], ...] = (
+    *refused_for("--quota"), *refused_for("--work"),
     ("serve", "--quota", "8", "--work"), ("serve", "--quota", "--work", "8"),
     ("serve", "--quota", "8", "--work", "0"), ("serve", "--quota", "0", "--work", "8"),
     ("serve", "--work=8", "--quota=8", "--work=8"),
@@ -31,17 +39,17 @@ REFUSED_WORDS = (
     ("serve", "serve"),
 )
 
-NO_FUNCTIONS = (
+NO_FUNCTIONS: Tuple[Word, ...] = (
     "", "Not", "NOT", "NotBits", "and", "sobel", "convolve", "histogram", "boxes", "bo", " box",
     "box ", "box\n", "box,not", "4", "14", "-", "-box", "--box", "undefined", "replicate",
     "picture.pgm", b"box\xff",
 )
-NO_BORDERS = (
+NO_BORDERS: Tuple[Word, ...] = (
     "", "Undefined", "REPLICATE", "constant", "constant=5", "mirror", "undef", " replicate",
     "replicate ", "undefined,replicate", "0", "2", "-1", "box", "--border", b"\xff",
 )
 BOX_WITH = ("apply", "box")
-REFUSED_APPLY_WORDS = (
+REFUSED_APPLY_WORDS: Tuple[Tuple[Word, ...], ...] = (
     *(("apply", word, *border) for word in NO_FUNCTIONS
       for border in ((), ("--border", "replicate"))),
     *((*BOX_WITH, "--border", word) for word in NO_BORDERS),
@@ -58,7 +66,7 @@ REFUSED_APPLY_WORDS = (
     ("serve", "box"), ("serve", *BOX_WITH), ("box",), ("box", "apply"), ("Apply", "box"),
     ("appl", "box"), (b"apply\xff", "box"),
 )
-WORDS = (
+WORDS: Tuple[Tuple[Tuple[Word, ...], int, bytes, bytes], ...] = (
     # The words, the status, and what standard output and standard error have in them.
     (("--version",), 0, b"vx_main 0.1.0\n", b""),
     (("--help",), 0, b"Usage: vx_main", b""),
@@ -83,7 +91,7 @@ WORDS = (
 )
 
 
-def check_refused_words(program):
+def check_refused_words(program: Program) -> None:
     """Nothing is read, and nothing is written to standard output."""
     with tempfile.TemporaryFile() as stream:
         stream.write(wire.open_context(CLIENT))
@@ -99,7 +107,7 @@ def check_refused_words(program):
                   f"the words {words}: standard input was read")
 
 
-def check_words(program):
+def check_words(program: Program) -> None:
     for words, status, output, line in WORDS:
         got = program.run(wire.open_context(CLIENT), words)
         check(got[0] == status and output in got[1] and line in got[2]
