@@ -6,7 +6,7 @@ import shutil
 import struct
 import subprocess
 import sys
-from collections import namedtuple
+from typing import Iterator, List, NamedTuple, Sequence, Tuple, Union
 
 from feqyldan import wire
 
@@ -17,17 +17,31 @@ SIZES = ((1, 1), (1, 7), (9, 1), (16, 4), (33, 17), (200, 150), (4096, 2))
 MAXVALS = (2, 15, 100, 254, 255, 256, 1000, 4095, 32767, 65535)
 GREATEST = 32767
 
-# A picture, and a text that another program made of it.
-Picture = namedtuple("Picture", "width height maxval samples")
-Text = namedtuple("Text", "words text picture")
+# The width, the height and the samples that a text has.
+Read = Tuple[int, int, List[int]]
 
 
-def check(condition, what):
+class Picture(NamedTuple):
+    width: int
+    height: int
+    maxval: int
+    samples: List[int]
+
+
+class Text(NamedTuple):
+    """A text that another program made of a picture, and by which words it did."""
+
+    words: str
+    text: bytes
+    picture: Picture
+
+
+def check(condition: object, what: str) -> None:
     if not condition:
         sys.exit(f"check_pgm: {what}")
 
 
-def pictures():
+def pictures() -> Iterator[Picture]:
     """Noise, in which the least and the greatest sample are."""
     rng = random.Random(7)
     for maxval in MAXVALS:
@@ -37,11 +51,11 @@ def pictures():
                           [maxval, *samples] if maxval % 2 else [*samples, 0])
 
 
-def is_byte(picture):
+def is_byte(picture: Picture) -> bool:
     return picture.maxval < 256
 
 
-def plain(picture):
+def plain(picture: Picture) -> bytes:
     """The simplest text of a picture, by which Netpbm is told of it."""
     head = f"P2 {picture.width} {picture.height} {picture.maxval}\n"
     return (head + "\n".join(map(str, picture.samples)) + "\n").encode()
@@ -63,36 +77,36 @@ class Netpbm:
     )
 
     @staticmethod
-    def is_here():
+    def is_here() -> bool:
         return shutil.which("pnmtoplainpnm") is not None
 
     @staticmethod
-    def run(words, text=b""):
+    def run(words: Sequence[str], text: bytes = b"") -> bytes:
         return subprocess.run(words, input=text, capture_output=True, timeout=60, check=True).stdout
 
-    def numbers(self, text):
+    def numbers(self, text: bytes) -> List[int]:
         """The width, the height, the maxval and the samples."""
         magic, *numbers = self.run(("pnmtoplainpnm",), text).split()
-        check(magic == b"P2", f"Netpbm makes {magic} of {text[:20]}")
+        check(magic == b"P2", f"Netpbm makes {magic!r} of {text[:20]!r}")
         return [*map(int, numbers)]
 
-    def read(self, texts):
+    def read(self, texts: Sequence[bytes]) -> Iterator[Read]:
         """The width, the height and the samples that each text has."""
         for text in texts:
             width, height, _, *samples = self.numbers(text)
             yield width, height, samples
 
-    def texts(self):
+    def texts(self) -> Iterator[Text]:
         here = [words for words in self.COPIES if shutil.which(words[0])]
         for picture in pictures():
             for words in here:
                 yield Text(f"{words[0]} of a maxval of {picture.maxval}",
                            self.run(words, plain(picture)), picture)
-        for words in self.MAKERS:
-            if shutil.which(words[0]):
-                text = self.run(words)
+        for maker in self.MAKERS:
+            if shutil.which(maker[0]):
+                text = self.run(maker)
                 width, height, maxval, *samples = self.numbers(text)
-                yield Text(" ".join(words), text, Picture(width, height, maxval, samples))
+                yield Text(" ".join(maker), text, Picture(width, height, maxval, samples))
 
 
 # Reads a line for each picture, and answers in one: "read TEXT" with the width, the height and the
@@ -118,34 +132,34 @@ for line in sys.stdin:
 class OpenCv:
     name, package = "OpenCV", "python3-opencv"
 
-    def __init__(self):
+    def __init__(self) -> None:
         self.python = next((python
                             for python in (sys.executable, "/usr/bin/python3")
                             if self.has_opencv(python)), None)
 
     @staticmethod
-    def has_opencv(python):
+    def has_opencv(python: str) -> bool:
         try:
             return subprocess.run([python, "-c", "import cv2"], capture_output=True,
                                   timeout=60).returncode == 0
         except OSError:
             return False
 
-    def is_here(self):
+    def is_here(self) -> bool:
         return self.python is not None
 
-    def ask(self, lines):
-        run = subprocess.run([self.python, "-c", OPENCV], input="\n".join(lines),
+    def ask(self, lines: List[str]) -> List[str]:
+        run = subprocess.run([str(self.python), "-c", OPENCV], input="\n".join(lines),
                              capture_output=True, text=True,
                              timeout=120, check=True)
         return run.stdout.splitlines()
 
-    def read(self, texts):
+    def read(self, texts: Sequence[bytes]) -> Iterator[Read]:
         for answer in self.ask([f"read {text.hex()}" for text in texts]):
             width, height, *samples = map(int, answer.split())
             yield width, height, samples
 
-    def texts(self):
+    def texts(self) -> Iterator[Text]:
         """It knows two maxvals, 255 and 65535."""
         known = [(word, picture) for word in ("raw", "plain") for picture in pictures()
                  if picture.maxval in (255, 65535)]
@@ -160,10 +174,14 @@ class OpenCv:
                        bytes.fromhex(answer), picture)
 
 
+# A program that the server's texts are compared with.
+Program = Union[Netpbm, OpenCv]
+
+
 # ---- the server between them
 
 
-def requests_on(name, fmt, text):
+def requests_on(name: int, fmt: int, text: Text) -> List[bytes]:
     """An image for a text, which is written to it, and read from it in both ways."""
     width, height = text.picture.width, text.picture.height
     return [wire.create_image(CLIENT, fmt, width, height),
@@ -171,7 +189,7 @@ def requests_on(name, fmt, text):
             wire.read_image(CLIENT, name), wire.read_image_pgm(CLIENT, name)]
 
 
-def served(program, texts):
+def served(program: str, texts: Sequence[Text]) -> List[Text]:
     """What the server writes of the texts that it read: each of bytes as a text of its own."""
     requests = [wire.open_context(CLIENT)]
     for name, text in enumerate(texts, 1):
@@ -201,7 +219,7 @@ FUNCTIONS = {"not": wire.NOT_BITS, "box": wire.BOX, "gaussian": wire.GAUSSIAN,
              "erode": wire.ERODE, "dilate": wire.DILATE}
 
 
-def immediate(program, text, function):
+def immediate(program: str, text: Text, function: str) -> List[int]:
     """What Immediate gives of a text's picture under REPLICATE."""
     width, height = text.picture.width, text.picture.height
     stream = [wire.open_context(CLIENT), *requests_on(1, wire.U8, text),
@@ -213,7 +231,7 @@ def immediate(program, text, function):
     return [sample for row in wire.rows_of(wire.replies(run.stdout)[-1]) for sample in row]
 
 
-def applied(program, texts):
+def applied(program: str, texts: Sequence[Text]) -> Iterator[Text]:
     """What `apply` writes of the texts, with the samples that Immediate gives; texts of two bytes
     it refuses."""
     words = list(FUNCTIONS)
@@ -233,7 +251,7 @@ def applied(program, texts):
                    text.picture._replace(samples=immediate(program, text, function)))
 
 
-def check_read_back(reader, texts):
+def check_read_back(reader: Program, texts: Sequence[Text]) -> None:
     read = [*reader.read([text.text for text in texts])]
     check(len(read) == len(texts),
           f"{reader.name} reads {len(read)} pictures of {len(texts)} texts")
@@ -242,11 +260,13 @@ def check_read_back(reader, texts):
         check(got == wanted, f"{text.words}: {reader.name} reads another picture")
 
 
-def main():
+def main() -> None:
     if len(sys.argv) != 2:
         sys.exit("usage: tools/check_pgm PROGRAM")
-    program, others = os.path.abspath(sys.argv[1]), []
-    for other in (Netpbm(), OpenCv()):
+    program = os.path.abspath(sys.argv[1])
+    others: List[Program] = []
+    candidates: Tuple[Program, ...] = (Netpbm(), OpenCv())
+    for other in candidates:
         if other.is_here():
             others.append(other)
         else:
