@@ -16,7 +16,7 @@ from feqyldan import wire
 
 OPENED = wire.reply_frame(0, wire.OPEN_CONTEXT)
 PACKAGE = os.path.realpath(os.path.join(HERE, ".."))
-PATIENCE = 20
+PATIENCE = 60
 
 
 def is_there(process):
@@ -78,7 +78,7 @@ class TestInterruptions(ProcessTest):
         client = self.start(HEAD + """
 try:
     print(server_of(server), flush=True)
-    time.sleep(60)
+    time.sleep(1000)
 except KeyboardInterrupt:
     print("goes on with", *image.read().tolist()[0], flush=True)
 sys.stdin.readline()
@@ -98,7 +98,7 @@ print("closed", flush=True)
 
     def test_the_server_ends_with_its_program(self):
         for number in (signal.SIGKILL, signal.SIGTERM, signal.SIGINT):
-            client = self.start(HEAD + "print(server_of(server), flush=True)\ntime.sleep(60)\n")
+            client = self.start(HEAD + "print(server_of(server), flush=True)\ntime.sleep(1000)\n")
             server = int(self.line_of(client)[0])
             self.assertTrue(is_there(server))
             os.killpg(client.pid, number)
@@ -146,15 +146,15 @@ print("closed" if time.monotonic() - start < 5 else "late", flush=True)
 """
 CHILD_LIVES = HEAD + """
 if os.fork() == 0:
-    time.sleep(60)
+    time.sleep(1000)
     os._exit(0)
 print(server_of(server), flush=True)
-time.sleep(60)
+time.sleep(1000)
 """
 CLOSED_WHILE_CHILD_LIVES = HEAD + """
 child = os.fork()
 if child == 0:
-    time.sleep(60)
+    time.sleep(1000)
     os._exit(0)
 start = time.monotonic()
 server.close()
