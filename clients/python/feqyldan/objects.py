@@ -11,7 +11,7 @@ from .errors import FeqyldanError
 from .pictures import png
 from .samples import Format, Picture, Readable, Size, numpy_module, picture_of, samples_of
 from .uncopied import Uncopied
-from .whole import UNSIGNED, within
+from .whole import UNSIGNED, whole, within
 
 if TYPE_CHECKING:
     import numpy
@@ -268,6 +268,7 @@ class Delay(Named):
         return self._slots
 
     def __getitem__(self, number: int) -> Slot:
+        number = whole(number, "the number of a slot")
         if not -self._slots < number <= 0:
             raise IndexError(f"a delay of {self._slots} slots has those from 0 down to "
                              f"{1 - self._slots}")

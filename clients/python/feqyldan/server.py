@@ -20,6 +20,7 @@ from .forks import FORKED, HELD, OPENING, Forked
 from .pictures import Path
 from .program import find
 from .uncopied import Uncopied
+from .whole import whole
 
 CLIENTS = 65536
 # How long a server may take to end once its input has, in seconds; and how much is told of what it
@@ -329,6 +330,8 @@ def command(program: Union[Path, Sequence[str]], quota: Optional[int],
             work: Optional[int]) -> List[str]:
     """The words that start a server."""
     words = [os.fspath(program)] if isinstance(program, (str, os.PathLike)) else list(program)
-    limits = (("--quota", quota), ("--work", work))
-    return [*words, "serve",
-            *(word for name, limit in limits if limit is not None for word in (name, str(limit)))]
+    words.append("serve")
+    for name, limit in (("quota", quota), ("work", work)):
+        if limit is not None:
+            words += [f"--{name}", str(whole(limit, f"the {name} of a server"))]
+    return words

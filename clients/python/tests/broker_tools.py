@@ -12,7 +12,7 @@ import sys
 import tempfile
 import time
 import unittest
-from typing import Any, Callable, Dict, List, Optional, Tuple
+from typing import Any, Callable, Dict, List, Optional, Sequence, Tuple
 
 HERE = os.path.dirname(os.path.abspath(__file__))
 PACKAGE = os.path.join(HERE, "..")
@@ -158,20 +158,23 @@ class Gate:
 
 
 class Broker:
-    """A broker that runs, in a folder of its own."""
+    """A broker that runs, in a folder of its own: of one server unless told, or of as many as the
+    broker takes by itself where `servers` is None; started by the words `before` its own."""
 
     def __init__(self, *options: str, command: Optional[List[str]] = None,
                  path: Optional[str] = None,
-                 environment: Optional[dict] = None, tells_state: bool = False) -> None:
+                 environment: Optional[dict] = None, tells_state: bool = False,
+                 servers: Optional[str] = "1", before: Sequence[str] = ()) -> None:
         self.folder = tempfile.TemporaryDirectory()
         self.status_path = os.path.join(self.folder.name, "status")
         if tells_state:
             options = ("--status", self.status_path, *options)
         self.path = path or os.path.join(self.folder.name, "socket")
         self.log = open(os.path.join(self.folder.name, "log"), "w+")
-        words = [sys.executable, "-m", "feqyldan.broker", "--socket", self.path, "--per-process",
-                 "64",
-                 "--servers", "1", *options, "--"]
+        if servers is not None:
+            options = ("--servers", servers, *options)
+        words = [*before, sys.executable, "-m", "feqyldan.broker", "--socket", self.path,
+                 "--per-process", "64", *options, "--"]
         paths = [PACKAGE, *filter(None, [os.environ.get("PYTHONPATH")])]
         environment = {**os.environ, "PYTHONPATH": os.pathsep.join(paths),
                        "PYTHONDONTWRITEBYTECODE": "1",

@@ -10,8 +10,8 @@ import time
 
 # Waits u16 milliseconds; answers so many (u32) bytes; answers who asked what, u16 client and u8 op
 # each; ends with a status (u8); answers another client than the one that asked; waits until the
-# named pipe at a path has been written to its end.
-WAIT, MANY_BYTES, WHO_ASKED, EXIT, MISTAKE, HOLD = 100, 101, 102, 103, 104, 105
+# named pipe at a path has been written to its end; refuses with a code (u8).
+WAIT, MANY_BYTES, WHO_ASKED, EXIT, MISTAKE, HOLD, REFUSE = 100, 101, 102, 103, 104, 105, 106
 
 
 def answer(op: int, body: bytes, asked: bytes) -> bytes:
@@ -37,8 +37,8 @@ def main() -> None:
         frame = source.read(int.from_bytes(head, "big"))
         client, op = struct.unpack_from(">HB", frame)
         asked += frame[:3]
-        body = answer(op, frame[3:], bytes(asked))
-        sink.write(struct.pack(">IHBB", len(body) + 4, client + (op == MISTAKE), op, 0) + body)
+        body, code = answer(op, frame[3:], bytes(asked)), frame[3] if op == REFUSE else 0
+        sink.write(struct.pack(">IHBB", len(body) + 4, client + (op == MISTAKE), op, code) + body)
         sink.flush()
 
 

@@ -18,10 +18,10 @@ import threading
 import time
 import traceback
 import unittest
-from typing import Callable, List
+from typing import Any, Callable, Dict, List, Tuple
 from unittest import mock
 
-from broker_tools import CLIENT, LATE, PROGRAM, BrokerTest, Broker, Program
+from broker_tools import CLIENT, HERE, LATE, PROGRAM, BrokerTest, Broker, Program
 from feqyldan import wire
 import feqyldan as vx
 
@@ -141,6 +141,13 @@ HOSTILE = {
     comes_and_goes: 2, looks_for_others: 1}
 
 
+def documented(heading: str) -> str:
+    """The first program in Python after a heading of docs/deploying.md."""
+    path = os.path.join(HERE, "..", "..", "..", "docs", "deploying.md")
+    with open(path, encoding="utf-8") as file:
+        return file.read().split(f"{heading}\n")[1].split("```python\n")[1].split("```")[0]
+
+
 def run_and_exit(role: Callable, *words: object) -> None:
     """What a child process does; its status says whether it found a fault."""
     try:
@@ -243,20 +250,33 @@ class ThePackage(BrokerTest):
         self.assertEqual(again.stop(), 0)
 
     def test_a_context_that_is_built_again(self) -> None:
+        """By the program in docs/deploying.md: each picture is answered once and in order, also
+        where its server, or the broker, ends in between."""
         broker = self.begin(command=[str(PROGRAM), "serve"], tells_state=True)
-        ends, sums = 0, []
-        while len(sums) < 4:
-            try:
-                with vx.connect(broker.path, retry=LATE) as server, server.context() as context:
-                    image = context.image(vx.U8, 2, 2)
-                    while len(sums) < 4:
-                        image.write(bytes([len(sums)] * 4))
-                        sums.append(sum(image.read_bytes()))
-                        if len(sums) == 2 and not ends:
-                            self.kill_server(broker)
-            except vx.ServerEnded:
-                ends += 1
-        self.assertEqual((ends, sums), (1, [0, 4, 8, 12]))
+        built: List[vx.Context] = []
+
+        def build(context: vx.Context) -> Tuple[vx.Graph, vx.Image, vx.Image]:
+            camera, out = context.image(vx.U8, 2, 2), context.image(vx.U8, 2, 2)
+            graph = context.graph()
+            graph.not_(camera, out)
+            built.append(context)
+            return graph, camera, out
+
+        program: Dict[str, Any] = {"vx": vx, "build": build}
+        exec(documented("### When a server ends"), program)
+        pictures = [bytes([k] * 4) for k in range(8)]
+        outputs = []
+        for output in program["station"](broker.path, iter(pictures)):
+            outputs.append(bytes(output))
+            if len(outputs) == 2:
+                self.kill_server(broker)
+            if len(outputs) == 4:
+                self.assertEqual(broker.stop(), 0)
+                broker = self.begin(command=[str(PROGRAM), "serve"], path=broker.path)
+            if len(outputs) == len(pictures):
+                break
+        self.assertEqual(outputs, [bytes([255 - k] * 4) for k in range(8)])
+        self.assertEqual(len(built), 3)
 
     def kill_server(self, broker: Broker) -> None:
         with socket.socket(socket.AF_UNIX, socket.SOCK_STREAM) as sock:

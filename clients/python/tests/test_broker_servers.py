@@ -5,6 +5,8 @@ program with that."""
 import json
 import os
 import re
+import shlex
+import shutil
 import signal
 import socket
 import stat
@@ -13,17 +15,23 @@ import subprocess
 import sys
 import tempfile
 import unittest
+from typing import IO, Any, Dict, List, Union
 from unittest import mock
 
 from broker_tools import (
-    CLIENT, LATE, PACKAGE, PLAIN, PROGRAM, Broker, BrokerTest, Gate, Program, all_of, plain,
+    CLIENT, HERE, LATE, PACKAGE, PLAIN, PROGRAM, Broker, BrokerTest, Gate, Program, all_of, plain,
     success)
 from feqyldan import wire
 from feqyldan.broker import machine
-from feqyldan.broker.command_line import memory_each
-from plain_server import EXIT, HOLD, MANY_BYTES, MISTAKE, WHO_ASKED
+from feqyldan.broker.command_line import memory_each, parser, servers_unless_told
+from feqyldan.broker.loop import END_SECONDS
+from plain_server import EXIT, HOLD, MANY_BYTES, MISTAKE, REFUSE, WHO_ASKED
 
 needs_program = unittest.skipUnless(PROGRAM, "FEQYLDAN_PROGRAM doesn't name the server's program")
+# What a line says of this program's connections.
+OWNER = f"process {os.getpid()} of user {os.getuid()}"
+HasFileno = Union[socket.socket, IO[Any]]
+DEPLOY = os.path.realpath(os.path.join(HERE, "..", "..", "..", "deploy"))
 
 
 class TheServer(BrokerTest):
@@ -75,6 +83,19 @@ class TheServer(BrokerTest):
             self.assertEqual(program.ask(plain(1)), success(1))
         opened = [[client for client, op in program.who_asked() if op == 1] for program in programs]
         self.assertEqual(opened, [[k % 4, k % 4 + 4] for k in range(8)])
+
+    def test_unless_told_there_are_as_many_as_processors_and_at_most_eight(self) -> None:
+        every = os.sched_getaffinity(0)
+        # What starts a program may allow it some of the machine's processors alone.
+        for allowed in ({min(every)}, every):
+            os.sched_setaffinity(0, allowed)
+            try:
+                broker = self.begin(servers=None, tells_state=True)
+            finally:
+                os.sched_setaffinity(0, every)
+            self.assertEqual(len(broker.state()["servers"]), min(len(allowed), 8))
+        with mock.patch("os.sched_getaffinity", return_value=set(range(64))):
+            self.assertEqual(servers_unless_told(), 8)
 
     def test_servers_that_cant_be_kept_up_are_the_broker_s_end(self) -> None:
         broker = self.begin("--servers", "2", command=["/bin/sh", "-c", "exit 7"])
@@ -223,6 +244,12 @@ class TheServer(BrokerTest):
         self.assertIn("is killed: the broker was told twice to end", broker.words())
 
 
+def address_space_of(process: int) -> str:
+    """How many bytes of addresses a process may have."""
+    with open(f"/proc/{process}/limits") as limits:
+        return next(line for line in limits if line.startswith("Max address space")).split()[3]
+
+
 def whole_memory() -> int:
     return os.sysconf("SC_PAGE_SIZE") * os.sysconf("SC_PHYS_PAGES")
 
@@ -282,9 +309,18 @@ class Memory(BrokerTest):
                              ([], unless_told)):
             broker = self.begin(*words, tells_state=True)
             server, = broker.state()["servers"]
-            with open(f"/proc/{server['process']}/limits") as limits:
-                line = next(line for line in limits if line.startswith("Max address space"))
-            self.assertEqual(line.split()[3], limit)
+            self.assertEqual(address_space_of(server["process"]), limit)
+
+    def test_a_limit_on_the_broker_itself_holds_for_each_server(self) -> None:
+        """As LimitAS= of a unit and `ulimit -v` in a shell set it: no server gets more."""
+        allowed = 2**32
+        before = ["sh", "-c", f'ulimit -v {allowed // 1024} && exec "$@"', "sh"]
+        for words, limit in ((["--memory", str(2 * allowed)], allowed),
+                             (["--memory", "unlimited"], allowed),
+                             (["--memory", "123456789"], 123456789)):
+            broker = self.begin(*words, before=before, tells_state=True)
+            server, = broker.state()["servers"]
+            self.assertEqual(address_space_of(server["process"]), str(limit))
 
 
 class Status(BrokerTest):
@@ -314,6 +350,85 @@ class Status(BrokerTest):
         self.assertGreater(broker.state()["longest_request_seconds"], 0.05)
         self.assertEqual(broker.stop(), 0)
         self.assertFalse(os.path.exists(broker.status_path))
+
+    def test_the_state_of_what_goes_wrong(self) -> None:
+        broker = self.begin("--connections", "2", tells_state=True)
+        program, other = self.connect(broker), self.connect(broker)
+        self.assertEqual(other.ask(plain(1)), success(1))
+        for code in (wire.NO_MEMORY, wire.INVALID_VALUE, wire.NO_MEMORY, 77):
+            self.assertEqual(program.ask(plain(REFUSE, bytes([code]))),
+                             wire.reply_frame(CLIENT, REFUSE, code))
+        for _ in range(3):
+            self.assertTrue(self.connect(broker).is_turned_away())
+        state = broker.state()
+        self.assertEqual(state["refusals"], {"NO_MEMORY": 2, "INVALID_VALUE": 1, "code 77": 1})
+        self.assertEqual(state["connections"],
+                         {"open": 2, "releasing": 0, "accepted": 2, "turned_away": 3})
+        # The one before goes on beside the new one.
+        broker.process.send_signal(signal.SIGHUP)
+        self.assertTrue(broker.wait_for(lambda: len(broker.state()["servers"]) == 2))
+        self.assertEqual([(server["is_retiring"], server["connections"])
+                          for server in broker.state()["servers"]], [(True, 2), (False, 0)])
+        program.send(plain(EXIT, b"\3"))
+        self.assertTrue(program.has_ended())
+        self.assertTrue(broker.wait_for(lambda: broker.state()["servers_ended"] == 1))
+        self.assertEqual([server["is_retiring"] for server in broker.state()["servers"]], [False])
+
+    def test_prometheus_is_told_all_of_the_state(self) -> None:
+        broker = self.begin("--servers", "2", "--connections", "2", tells_state=True)
+        program, other = self.connect(broker), self.connect(broker)
+        for code in (wire.NO_MEMORY, wire.NO_MEMORY, wire.INVALID_LINK):
+            program.ask(plain(REFUSE, bytes([code])))
+        self.assertEqual(other.ask(plain(1)), success(1))
+        self.assertTrue(self.connect(broker).is_turned_away())
+        text = self.page(broker, "/metrics").partition("\r\n\r\n")[2]
+        told, state = self.metrics(text), broker.state()
+        # Of the numbers of the state these alone change while nobody asks anything.
+        self.assertEqual(told.pop("uptime_seconds", {}), {})
+        servers = {f'process="{server["process"]}"': server for server in state["servers"]}
+        for name, at in (("connections", "connections"), ("requests_total", "requests"),
+                         ("waiting", "waiting"), ("busy_seconds", "busy_seconds"),
+                         ("memory_bytes", None), ("peak_memory_bytes", None)):
+            values = told.pop(f"server_{name}")
+            self.assertEqual(set(values), set(servers))
+            for label, server in servers.items():
+                if at is None:
+                    self.assertGreater(values[label], 0)
+                else:
+                    self.assertEqual(values[label], server[at], name)
+        self.assertEqual(told.pop("refusals_total"),
+                         {'code="NO_MEMORY"': 2, 'code="INVALID_LINK"': 1})
+        connections = state["connections"]
+        self.assertEqual(told, {name: {"": value} for name, value in (
+            ("connections", connections["open"]),
+            ("connections_releasing", connections["releasing"]),
+            ("connections_total", connections["accepted"]),
+            ("turned_away_total", connections["turned_away"]),
+            ("requests_total", state["requests"]), ("request_bytes_total", state["bytes_in"]),
+            ("reply_bytes_total", state["bytes_out"]),
+            ("longest_request_seconds", state["longest_request_seconds"]),
+            ("servers_ended_total", state["servers_ended"]))})
+
+    def metrics(self, text: str) -> Dict[str, Dict[str, float]]:
+        """The values of each metric by its labels, as Prometheus' text format has them: first what
+        it is, then of which type, then the values."""
+        found: Dict[str, Dict[str, float]] = {}
+        for line in text.splitlines():
+            described = re.fullmatch(r"# HELP feqyldan_([a-z_]+) (\S.*)\.", line)
+            typed = re.fullmatch(r"# TYPE feqyldan_([a-z_]+) (gauge|counter)", line)
+            valued = re.fullmatch(r"feqyldan_([a-z_]+)(?:\{([a-z]+=\"[^\"]*\")\})? (\S+)", line)
+            if described:
+                self.assertNotIn(described[1], found)
+                found[described[1]] = {}
+            elif typed:
+                self.assertEqual((typed[1], [*found][-1]), ([*found][-1], typed[1]))
+                self.assertEqual(typed[2] == "counter", typed[1].endswith("_total"), line)
+            elif valued:
+                self.assertEqual(valued[1], [*found][-1])
+                found[valued[1]][valued[2] or ""] = float(valued[3])
+            else:
+                self.fail(f"no line of Prometheus' text: {line!r}")
+        return found
 
     def test_pages(self) -> None:
         broker = self.begin(tells_state=True)
@@ -351,14 +466,36 @@ class Status(BrokerTest):
         program = self.connect(broker)
         self.assertEqual(program.ask(plain(1)), success(1))
         program.send(b"\0\0\0\0")
-        owner = f"process {os.getpid()} of user {os.getuid()}"
-        self.assertTrue(broker.says(f"connection 0 of {owner} is ended: bad length"))
+        self.assertTrue(broker.says(f"connection 0 of {OWNER} is ended: bad length"))
         # One line or two tell it, by when they come.
         told = (("accepted", 1), ("requests", 1), ("bytes in", 7), ("bytes out", 8))
         for words, count in told:
             self.assertTrue(broker.wait_for(lambda: sum(map(
                 int, re.findall(rf"(\d+) {words}", broker.words()))) == count),
                             (words, broker.words()))
+
+    def test_each_line_on_a_connection_says_who(self) -> None:
+        broker = self.begin("--patience", "1", "--idle", "2", "--bytes-held", "1000",
+                            "--per-process", "5", "--per-user", "5")
+        half, deaf, long, cut, idle = (self.connect(broker) for _ in range(5))
+        self.assertEqual(idle.ask(plain(1)), success(1))
+        self.assertTrue(self.connect(broker).is_turned_away())
+        half.send(plain(50)[:5])
+        deaf.send(plain(MANY_BYTES, struct.pack(">I", 3_000_000)))
+        long.send(plain(50, bytes(1000)))
+        cut.send(plain(50)[:3])
+        cut.sock.shutdown(socket.SHUT_WR)
+        said = ("connection {} of {} is ended: ", (
+            (0, "sent nothing of the rest of a frame for 1 s"), (1, "bytes of replies wait for it"),
+            (2, "a frame of 1007 bytes"), (3, "its end within a frame"),
+            (4, "asked nothing for 2 s")))
+        for number, words in said[1]:
+            begin = said[0].format(number, OWNER)
+            self.assertTrue(broker.wait_for(lambda: any(
+                begin in line and words in line for line in broker.words().splitlines())),
+                (begin, words, broker.words()))
+        self.assertIn(f"{OWNER} is turned away: it has 5 connections (--per-process)",
+                      broker.words())
 
 
 class Beginning(BrokerTest):
@@ -436,17 +573,57 @@ class Beginning(BrokerTest):
                 self.assertTrue(program.has_ended())
                 self.assertTrue(os.path.exists(path))
 
-    def hand_over(self, held: socket.socket) -> "subprocess.Popen[bytes]":
-        """A broker with a socket as its descriptor 3, as a service manager starts it."""
-        script = f'exec 3<&{held.fileno()}; LISTEN_FDS=1 LISTEN_PID=$$ exec "$@"'
+    def test_the_second_socket_that_is_handed_over_tells_the_state(self) -> None:
+        """As feqyldan.socket has them. Whoever came while there was no broker is served by it."""
+        with tempfile.TemporaryDirectory() as folder:
+            held = [self.listening(os.path.join(folder, name)) for name in ("socket", "status")]
+            early = [Program(os.path.join(folder, "socket")) for _ in range(3)]
+            asker = socket.socket(socket.AF_UNIX, socket.SOCK_STREAM)
+            for sock in (asker, *(program.sock for program in early)):
+                self.addCleanup(sock.close)
+            asker.settimeout(LATE)
+            asker.connect(os.path.join(folder, "status"))
+            broker = self.hand_over(*held)
+            self.assertEqual([program.ask(plain(1)) for program in early], [success(1)] * 3)
+            asker.sendall(b"\n")
+            self.assertEqual(json.loads(all_of(asker))["connections"]["open"], 3)
+            broker.terminate()
+            self.assertEqual(broker.wait(LATE), 0)
+            self.assertEqual(sorted(os.listdir(folder)), ["socket", "status"])
+
+    def test_sockets_that_are_meant_for_another_process(self) -> None:
+        with tempfile.TemporaryDirectory() as folder:
+            held = self.listening(os.path.join(folder, "socket"))
+            broker = self.hand_over(held, process="1")
+            self.assertEqual(broker.wait(LATE), 2)
+
+    def test_what_is_handed_over_has_to_listen(self) -> None:
+        with tempfile.TemporaryFile() as file, socket.socket(socket.AF_UNIX) as deaf:
+            for held in (file, deaf):
+                self.assertEqual(self.hand_over(held).wait(LATE), 2)
+
+    def listening(self, path: str) -> socket.socket:
+        held = socket.socket(socket.AF_UNIX, socket.SOCK_STREAM)
+        self.addCleanup(held.close)
+        held.bind(path)
+        held.listen(5)
+        return held
+
+    def hand_over(self, *held: HasFileno, process: str = "$$") -> "subprocess.Popen[bytes]":
+        """A broker with sockets as its descriptors from 3 on, as a service manager starts it."""
+        # First to places that none of them has.
+        moves = [f"exec {100 + k}<&{one.fileno()}" for k, one in enumerate(held)]
+        moves += [f"exec {3 + k}<&{100 + k}" for k in range(len(held))]
+        script = "; ".join([*moves,
+                            f'LISTEN_FDS={len(held)} LISTEN_PID={process} exec "$@"'])
         words = [sys.executable, "-m", "feqyldan.broker", "--servers", "1", "--", *PLAIN]
-        process = subprocess.Popen(["/bin/bash", "-c", script, "sh", *words],
-                                   pass_fds=[held.fileno()],
-                                   stderr=subprocess.DEVNULL,
-                                   env={**os.environ, "PYTHONPATH": PACKAGE})
-        self.addCleanup(process.wait)
-        self.addCleanup(process.kill)
-        return process
+        broker = subprocess.Popen(["/bin/bash", "-c", script, "sh", *words],
+                                  pass_fds=[one.fileno() for one in held],
+                                  stderr=subprocess.DEVNULL,
+                                  env={**os.environ, "PYTHONPATH": PACKAGE})
+        self.addCleanup(broker.wait)
+        self.addCleanup(broker.kill)
+        return broker
 
     def test_where_to_listen_has_to_be_told(self) -> None:
         words = [sys.executable, "-m", "feqyldan.broker", "--", *PLAIN]
@@ -454,6 +631,42 @@ class Beginning(BrokerTest):
                                env={**os.environ, "PYTHONPATH": PACKAGE}, timeout=LATE)
         self.assertEqual(ended.returncode, 2)
         self.assertIn(b"--socket", ended.stderr)
+
+
+class Units(unittest.TestCase):
+    """The units of systemd in deploy/."""
+
+    def unit(self, name: str) -> Dict[str, List[str]]:
+        """The values of each word of a unit, in their order."""
+        found: Dict[str, List[str]] = {}
+        with open(os.path.join(DEPLOY, name), encoding="utf-8") as file:
+            for line in file:
+                word, equals, value = line.partition("=")
+                if equals and not line.startswith("#"):
+                    found.setdefault(word, []).append(value.strip())
+        return found
+
+    def test_what_they_start_is_a_broker_that_ends_in_time(self) -> None:
+        service, sockets = self.unit("feqyldan.service"), self.unit("feqyldan.socket")
+        words = shlex.split(service["ExecStart"][0])
+        told = parser().parse_args(words[words.index("feqyldan.broker") + 1 :])
+        # Both sockets are handed over, that of the programs first.
+        self.assertEqual((told.socket, told.status), (None, None))
+        self.assertEqual([os.path.basename(path) for path in sockets["ListenStream"]],
+                         ["socket", "status"])
+        self.assertEqual((service["Type"], service["KillMode"]), (["notify"], ["mixed"]))
+        self.assertLess(told.grace + END_SECONDS, float(service["TimeoutStopSec"][0]))
+        # Where there is no limit on addresses the system kills a server in place of refusing.
+        self.assertRegex(service["LimitAS"][0], r"^\d+G$")
+
+    @unittest.skipUnless(shutil.which("systemd-analyze"), "systemd-analyze isn't there")
+    def test_systemd_finds_no_fault_with_them(self) -> None:
+        names = [os.path.join(DEPLOY, name) for name in ("feqyldan.service", "feqyldan.socket")]
+        said = subprocess.run(["systemd-analyze", "verify", *names], stdout=subprocess.PIPE,
+                              stderr=subprocess.STDOUT, text=True, timeout=LATE)
+        # It may speak of other units of this machine too.
+        self.assertEqual([line for line in said.stdout.splitlines() if "feqyldan" in line], [])
+        self.assertEqual(said.returncode, 0, said.stdout)
 
 
 if __name__ == "__main__":

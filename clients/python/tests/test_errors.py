@@ -1,7 +1,11 @@
 """What is raised: a class for each code, and the ends of servers."""
 
+import os
 import pickle
+import socket
+import tempfile
 import unittest
+from unittest import mock
 
 from program import ProgramTest, answering, vx
 from feqyldan import errors, wire
@@ -67,6 +71,54 @@ class TestRefusals(ProgramTest):
                                     "takes images and other objects of its context, and no int"):
             self.context.vxu.threshold(image, 24, image)
 
+    def test_each_request_on_an_image_says_its_format_and_size(self):
+        """The server refuses each of them, since it has released what they name."""
+        image, deep = self.context.image(vx.U8, 2, 1), self.context.image(vx.S16, 1, 2)
+        wide, delay = self.context.image(vx.U32, 3, 1), self.context.delay(deep, 2)
+        graph, counts = self.context.graph(), self.context.distribution(2)
+        virtual = graph.virtual_image(vx.S16, 5)
+        kept = self.context.image(vx.U8, 2, 1)
+        words = {image: "image 1 (U8, 2 by 1)", deep: "image 2 (S16, 1 by 2)",
+                 wide: "image 3 (U32, 3 by 1)", delay[-1]: "slot -1 of delay 4 (S16, 1 by 2)"}
+        for thing in (image, deep, wide, delay, virtual):
+            # The package goes on to take it for open.
+            self.context.tell("release", wire.release, thing.name)
+
+        def set_valid(thing):
+            thing.valid = (0, 0, 1, 1)
+
+        for thing, about in words.items():
+            width, height = thing.width, thing.height
+            for call, said in (
+                    (thing.read, f"read {about}"), (thing.read_pgm, f"read a PGM text of {about}"),
+                    (thing.query, f"query {about}"),
+                    (lambda: thing.write([[1] * width] * height),
+                     f"write {width} by {height} {thing.fmt} samples to {about}"),
+                    (lambda: thing.write_pgm(b"P5 2 1 255 .."), f"write a PGM text to {about}"),
+                    (lambda: set_valid(thing),
+                     f"make (0, 0, 1, 1) the valid rectangle of {about}"),
+                    (lambda: self.context.delay(thing, 2),
+                     f"create a delay of 2 slots like {about}"),
+                    (lambda: self.context.vxu.min(kept, thing, kept),
+                     f"min(image 8 (U8, 2 by 1), {about}, image 8 (U8, 2 by 1))"),
+                    (lambda: self.context.vxu.histogram(thing, counts),
+                     f"histogram({about}, distribution 6 (2 bins))"),
+                    (lambda: graph.not_(thing, kept),
+                     f"add not_({about}, image 8 (U8, 2 by 1)) to graph 5")):
+                self.refused_of(call, said)
+        self.refused_of(delay.age, "age delay 4 (S16, 1 by 2)")
+        self.refused_of(virtual.query, "query virtual image 7 (S16, 5 by open)")
+        self.refused_of(lambda: graph.not_(kept, virtual),
+                        "add not_(image 8 (U8, 2 by 1), virtual image 7 (S16, 5 by open)) to "
+                        "graph 5")
+        for thing, about in ((image, words[image]), (delay, "delay 4 (S16, 1 by 2)")):
+            self.refused_of(thing.close, f"release {about}")
+
+    def refused_of(self, call, words):
+        with self.subTest(words), self.assertRaises(vx.InvalidReference) as caught:
+            call()
+        self.assertEqual(caught.exception.request, words)
+
     def test_advice_on_policies_and_borders(self):
         image, deep = self.context.image(vx.U8, 2, 1), self.context.image(vx.S16, 2, 1)
         with self.assertRaisesRegex(vx.InvalidParameters, "vx.WRAP or vx.SATURATE"):
@@ -111,14 +163,25 @@ class TestRefusals(ProgramTest):
 
     def test_what_is_wrong_before_it_is_sent(self):
         image = self.context.image(vx.U8, 2, 1)
-        for call in (lambda: self.context.vxu.not_(b"12", image),
-                     lambda: self.context.graph().not_([[1, 2]], image)):
-            self.assertRaises(TypeError, call)
-        for call in (lambda: self.context.image(vx.U8, 70000, 1),
-                     lambda: self.context.image(9, 1, 1),
-                     lambda: self.context.vxu.multiply(image, image, 300, vx.WRAP, image),
-                     lambda: self.context.vxu.box3x3(image, image, border=vx.constant(256))):
-            self.assertRaises(ValueError, call)
+        graph, vxu = self.context.graph(), self.context.vxu
+        with mock.patch.object(self.context.connection, "send") as send:
+            for call in (lambda: vxu.not_(b"12", image), lambda: graph.not_([[1, 2]], image),
+                         lambda: vxu.add(image, image, "WRAP", image),
+                         lambda: graph.add(image, image, None, image),
+                         lambda: vxu.box3x3(image, image, border="REPLICATE"),
+                         lambda: graph.box3x3(image, image, border=0),
+                         lambda: self.context.image(vx.U8, 2.0, 1),
+                         lambda: graph.virtual_image(vx.U8, "2")):
+                self.assertRaises(TypeError, call)
+            for call in (lambda: self.context.image(vx.U8, 70000, 1),
+                         lambda: self.context.image(vx.U8, 1, -1),
+                         lambda: self.context.image(9, 1, 1),
+                         lambda: graph.virtual_image(vx.U8, 70000, 1),
+                         lambda: image.write(bytes(70000)),
+                         lambda: vxu.multiply(image, image, 300, vx.WRAP, image),
+                         lambda: vxu.box3x3(image, image, border=vx.constant(256))):
+                self.assertRaises(ValueError, call)
+        send.assert_not_called()
         self.holds(image, [[0, 0]])
 
     def test_objects_of_another_context(self):
@@ -184,6 +247,21 @@ class TestEnds(unittest.TestCase):
         self.assertRaisesRegex(FileNotFoundError, "/no/such/socket", vx.connect, "/no/such/socket")
         self.assertRaisesRegex(ConnectionRefusedError, __file__, vx.connect, __file__)
         self.assertRaisesRegex(OSError, 200 * "long", vx.connect, 200 * "long")
+
+    def test_a_socket_that_is_gone_by_the_next_context(self):
+        with tempfile.TemporaryDirectory() as folder:
+            path = os.path.join(folder, "socket")
+            with socket.socket(socket.AF_UNIX) as listener:
+                listener.bind(path)
+                listener.listen()
+                server = vx.connect(path)
+                self.addCleanup(server.close)
+                with listener.accept()[0]:
+                    pass
+            self.assertRaises(vx.ServerEnded, server.context)
+            self.assertRaisesRegex(ConnectionRefusedError, path, server.context)
+            os.unlink(path)
+            self.assertRaisesRegex(FileNotFoundError, path, server.context)
 
 
 if __name__ == "__main__":

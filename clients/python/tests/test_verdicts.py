@@ -100,6 +100,31 @@ class TestWords(ProgramTest):
         self.assertIn("They go round: node 1, not_(image 1", caught.exception.fault)
         self.assertIn("call 1 of the pipeline, test_verdicts.py", caught.exception.place)
 
+    def test_in_a_pipeline_of_several_faults(self):
+        """Each says which call it was, and what is at fault in its own graph."""
+        other = self.context.graph()
+        other.not_(other.virtual_image(U8), self.target)
+        self.graph.not_(self.source, self.context.image(U8, 4, 1))
+        with self.assertRaises(vx.InvalidDimension) as caught:
+            with self.context.pipeline() as ahead:
+                self.source.write([[1, 2, 3]])
+                self.graph.process()
+                other.process()
+                result = ahead.read(self.target)
+        first, second = ahead.refusals
+        self.assertIs(first, caught.exception)
+        line = self.test_in_a_pipeline_of_several_faults.__code__.co_firstlineno
+        for refused, call, words in (
+                (first, 2, "process graph 3 (call 2 of the pipeline, test_verdicts.py:{}): "
+                           "INVALID_DIMENSION. Node 1, not_(image 1 (U8, 3 by 1), image 6 (U8, 4 "
+                           "by 1)), has images of several sizes."),
+                (second, 3, "process graph 4 (call 3 of the pipeline, test_verdicts.py:{}): "
+                            "INVALID_LINK. virtual image 5 (U8, open by open) is read by node 1, "
+                            "not_(virtual image 5 (U8, open by open), image 2 (U8, 3 by 1)), and "
+                            "written by none.")):
+            self.assertTrue(str(refused).startswith(words.format(line + 6 + call)), refused)
+        self.assertEqual(result.value().tolist(), [[0, 0, 0]])
+
     def test_nothing_is_said_that_isnt_known(self):
         self.graph.not_(self.source, self.source)
         with mock.patch.object(verdicts, "verdict_on", return_value=None):

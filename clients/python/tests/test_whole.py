@@ -5,7 +5,7 @@ import decimal
 import fractions
 import unittest
 
-from program import ProgramTest, vx
+from program import PROGRAM, ProgramTest, vx
 from feqyldan import samples
 
 U8, S16, U32 = vx.U8, vx.S16, vx.U32
@@ -85,6 +85,11 @@ class TestWholeNumbers(ProgramTest):
                      "a format is vx.U8, vx.S16 or vx.U32")
         self.refuses(lambda wrong: self.context.delay(image, wrong),
                      "a delay's slots is a whole number")
+        slots = self.context.delay(image, 3)
+        self.refuses(lambda wrong: slots[wrong], "the number of a slot is a whole number")
+        for wrong in (-0.5, -1.0):
+            with self.assertRaisesRegex(TypeError, f"a whole number, and not {wrong}"):
+                slots[wrong]
         self.refuses(lambda wrong: self.context.distribution(wrong),
                      "number of bins is a whole number")
         self.refuses(lambda wrong: self.context.distribution(8, wrong), "offset is a whole number")
@@ -102,6 +107,14 @@ class TestWholeNumbers(ProgramTest):
             self.assertRaises(TypeError, graph.virtual_image, U8, wrong)
             self.assertRaises(TypeError, graph.virtual_image, wrong)
         self.assertRaises(ValueError, graph.virtual_image, U8, 70000, 1)
+
+    def test_limits_of_servers(self):
+        wrong = [value for value in NOT_WHOLE if value is not None]
+        for name in ("quota", "work"):
+            for value in (*wrong, 1e6):
+                with self.subTest(name=name, value=value), self.assertRaisesRegex(
+                        TypeError, f"the {name} of a server is a whole number, and not"):
+                    vx.Server(PROGRAM, **{name: value})
 
     def test_shifts_and_borders(self):
         image, deep = self.context.image(U8, 2, 2), self.context.image(S16, 2, 2)

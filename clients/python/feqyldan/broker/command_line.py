@@ -71,6 +71,10 @@ def most_held(limits: Limits) -> int:
     return 2 * limits.connections * (limits.bytes_held + 2 * AHEAD)
 
 
+def servers_unless_told() -> int:
+    return min(processors(), MOST_SERVERS_UNLESS_TOLD)
+
+
 def memory_each(servers: int) -> int:
     """The bytes of addresses that each server may have where nothing is told: together three
     quarters of the memory."""
@@ -153,7 +157,7 @@ def main(words: Optional[List[str]] = None) -> int:
     limits = Limits(told.connections, told.per_process, told.per_user, told.bytes_held,
                     told.patience, told.idle,
                     told.grace, told.report)
-    servers = told.servers or min(processors(), MOST_SERVERS_UNLESS_TOLD)
+    servers = told.servers or servers_unless_told()
     plan = Plan(told.command, servers, told.memory if told.memory != 0 else memory_each(servers))
     try:
         raise_file_limit(limits.connections)
