@@ -143,6 +143,37 @@ static void use_large_pictures(vx_context context) {
     EXPECT(VX_SUCCESS, vxReleaseImage(&image));
 }
 
+/* Many runs are sent ahead, and a picture after them, before any of their replies is awaited. */
+static void run_many_ahead(vx_context context) {
+    enum { GRAPHS = 200, SIDE = 1024 };
+    static vx_uint8 samples[SIDE * SIDE];
+    vx_graph graphs[GRAPHS];
+    vx_image first = vxCreateImage(context, SIDE, SIDE, VX_DF_IMAGE_U8);
+    vx_image outputs[GRAPHS];
+    for (int i = 0; i < GRAPHS; i++) {
+        graphs[i] = vxCreateGraph(context);
+        outputs[i] = vxCreateImage(context, SIDE, SIDE, VX_DF_IMAGE_U8);
+        EXPECT(VX_SUCCESS, STATUS(vxNotNode(graphs[i], i == 0 ? first : outputs[i - 1],
+                                            outputs[i])));
+    }
+    memset(samples, 5, sizeof samples);
+    EXPECT(VX_SUCCESS, copy_whole(first, SIDE, SIDE, 1, samples, VX_WRITE_ONLY));
+    for (int i = 0; i < GRAPHS; i++)
+        EXPECT(VX_SUCCESS, vxScheduleGraph(graphs[i]));
+    /* The runs before it have read what was there. */
+    memset(samples, 90, sizeof samples);
+    EXPECT(VX_SUCCESS, copy_whole(first, SIDE, SIDE, 1, samples, VX_WRITE_ONLY));
+    for (int i = GRAPHS - 1; i >= 0; i--)
+        EXPECT(VX_SUCCESS, vxWaitGraph(graphs[i]));
+    for (int i = 0; i < GRAPHS; i++) {
+        EXPECT(VX_SUCCESS, copy_whole(outputs[i], SIDE, SIDE, 1, samples, VX_READ_ONLY));
+        CHECK(samples[0] == (i % 2 ? 5 : 250) && samples[SIDE * SIDE - 1] == samples[0]);
+        EXPECT(VX_SUCCESS, vxReleaseGraph(&graphs[i]));
+        EXPECT(VX_SUCCESS, vxReleaseImage(&outputs[i]));
+    }
+    EXPECT(VX_SUCCESS, vxReleaseImage(&first));
+}
+
 int main(void) {
     vx_context context = vxCreateContext(), other = vxCreateContext();
     EXPECT(VX_SUCCESS, STATUS(context));
@@ -150,6 +181,7 @@ int main(void) {
     use_delay(context);
     map_parts(context);
     use_large_pictures(context);
+    run_many_ahead(context);
     pthread_t threads[4];
     for (int i = 0; i < 4; i++)
         CHECK(pthread_create(&threads[i], NULL, run_many, i < 3 ? context : other) == 0);

@@ -6,9 +6,11 @@ addresses and of undefined behaviour, and runs them on the program that FEQYLDAN
 import os
 import re
 import shutil
+import signal
 import subprocess
 import sys
 import tempfile
+import time
 import unittest
 
 sys.dont_write_bytecode = True
@@ -242,6 +244,44 @@ class Library(unittest.TestCase):
 
     def test_after_a_killed_server_each_call_fails(self):
         run("ended", env=self.server_to_kill())
+
+    def interrupted(self):
+        """A program in a process group of its own, as a shell starts one, that waits to be
+        interrupted; and the process of its server."""
+        environment = self.server_to_kill()
+        program = subprocess.Popen([build("interrupted")], stdout=subprocess.PIPE, text=True,
+                                   start_new_session=True, env={**os.environ, **environment})
+        self.addCleanup(program.stdout.close)
+        self.addCleanup(program.wait)
+        self.addCleanup(program.kill)
+        self.assertEqual(program.stdout.readline(), "ready\n")
+        with open(environment["SERVER_PROCESS"], encoding="utf-8") as text:
+            return program, int(text.read())
+
+    def ends(self, process):
+        """Whether a process that isn't this one's child comes to be gone, or to be waited for."""
+        until = time.monotonic() + PATIENCE
+        while time.monotonic() < until:
+            try:
+                with open(f"/proc/{process}/stat", encoding="utf-8") as text:
+                    if text.read().rpartition(")")[2].split()[0] in "ZX":
+                        return True
+            except FileNotFoundError:
+                return True
+            time.sleep(0.01)
+        return False
+
+    def test_ctrl_c_reaches_the_program_and_not_its_server(self):
+        program, server = self.interrupted()
+        self.assertNotEqual(os.getsid(server), os.getsid(program.pid))
+        os.killpg(program.pid, signal.SIGINT)
+        self.assertEqual(program.wait(PATIENCE), 0)
+        self.assertTrue(self.ends(server))
+
+    def test_the_server_ends_with_a_program_that_is_killed(self):
+        program, server = self.interrupted()
+        os.killpg(program.pid, signal.SIGKILL)
+        self.assertTrue(self.ends(server))
 
     def test_a_server_that_finds_no_memory_is_told_from_one_that_ended(self):
         run("scarce", env=self.server_after("ulimit -v 65536"))

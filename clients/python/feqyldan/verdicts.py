@@ -118,7 +118,7 @@ def verdict_on(members: Sequence[Member], refused_with: int = wire.SUCCESS) -> O
         return Verdict(wire.MULTIPLE_WRITERS, fault)
     ordered, cycle = _in_order(members)
     if cycle:
-        return Verdict(wire.INVALID_GRAPH, f"They go round: {'; '.join(map(str, cycle))}.")
+        return Verdict(wire.INVALID_GRAPH, f"These nodes go round: {'; '.join(map(str, cycle))}.")
     fault = _loose_end(members)
     if fault:
         return Verdict(wire.INVALID_LINK, fault)
@@ -128,7 +128,8 @@ def verdict_on(members: Sequence[Member], refused_with: int = wire.SUCCESS) -> O
         if verdict is not None:
             return verdict
     if refused_with == wire.NO_RESOURCES:
-        return Verdict(wire.NO_RESOURCES, f"They have {_virtual_bytes(known):,} bytes.")
+        return Verdict(wire.NO_RESOURCES,
+                       f"Its virtual images have {_virtual_bytes(known):,} bytes.")
     return None
 
 

@@ -50,9 +50,9 @@ class TestWords(ProgramTest):
         self.graph.and_(self.source, other, one)
         self.graph.not_(one, other)
         self.says(vx.InvalidGraph,
-                  "They go round: node 2, and_(image 1 (U8, 3 by 1), virtual image 5 (U8, open by "
-                  "open), virtual image 4 (open)); node 3, not_(virtual image 4 (open), virtual "
-                  "image 5 (U8, open by open)).")
+                  "These nodes go round: node 2, and_(image 1 (U8, 3 by 1), virtual image 5 (U8, "
+                  "open by open), virtual image 4 (open)); node 3, not_(virtual image 4 (open), "
+                  "virtual image 5 (U8, open by open)).")
 
     def test_a_loose_end(self):
         self.graph.not_(self.graph.virtual_image(), self.target)
@@ -79,7 +79,7 @@ class TestWords(ProgramTest):
     def test_work_bytes(self):
         self.graph.convert_depth(self.context.image(U8, 10, 6), self.graph.virtual_image(), vx.WRAP,
                                  0)
-        self.says(vx.NoResources, "They have 120 bytes.")
+        self.says(vx.NoResources, "Its virtual images have 120 bytes.")
 
     def test_nodes_that_were_removed(self):
         node = self.graph.not_(self.source, self.source)
@@ -97,7 +97,7 @@ class TestWords(ProgramTest):
                 self.graph.verify()
                 node.remove()
                 self.graph.verify()
-        self.assertIn("They go round: node 1, not_(image 1", caught.exception.fault)
+        self.assertIn("These nodes go round: node 1, not_(image 1", caught.exception.fault)
         self.assertIn("call 1 of the pipeline, test_verdicts.py", caught.exception.place)
 
     def test_in_a_pipeline_of_several_faults(self):
