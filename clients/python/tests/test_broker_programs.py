@@ -21,7 +21,8 @@ import unittest
 from typing import Any, Callable, Dict, List, Tuple
 from unittest import mock
 
-from broker_tools import CLIENT, HERE, LATE, PROGRAM, BrokerTest, Broker, Program
+from broker_tools import CLIENT, LATE, PROGRAM, BrokerTest, Broker, Program
+from documents import programs_in
 from feqyldan import wire
 import feqyldan as vx
 
@@ -141,13 +142,6 @@ HOSTILE = {
     comes_and_goes: 2, looks_for_others: 1}
 
 
-def documented(heading: str) -> str:
-    """The first program in Python after a heading of docs/deploying.md."""
-    path = os.path.join(HERE, "..", "..", "..", "docs", "deploying.md")
-    with open(path, encoding="utf-8") as file:
-        return file.read().split(f"{heading}\n")[1].split("```python\n")[1].split("```")[0]
-
-
 def run_and_exit(role: Callable, *words: object) -> None:
     """What a child process does; its status says whether it found a fault."""
     try:
@@ -263,7 +257,7 @@ class ThePackage(BrokerTest):
             return graph, camera, out
 
         program: Dict[str, Any] = {"vx": vx, "build": build}
-        exec(documented("### When a server ends"), program)
+        exec(programs_in("docs", "deploying.md")["When a server ends"][0], program)
         pictures = [bytes([k] * 4) for k in range(8)]
         outputs = []
         for output in program["station"](broker.path, iter(pictures)):
