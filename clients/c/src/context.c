@@ -11,6 +11,36 @@ static const vx_status STATUS_OF_CODE[] = {
     VX_ERROR_INVALID_GRAPH,     VX_ERROR_INVALID_LINK,      VX_ERROR_MULTIPLE_WRITERS,
     VX_ERROR_OPTIMIZED_AWAY,    VX_ERROR_NO_RESOURCES};
 
+/* As docs/wire.md calls them. */
+static const char *const CODE_NAMES[] = {
+    "SUCCESS",        "NO_MEMORY",         "INVALID_PARAMETERS", "INVALID_REFERENCE",
+    "INVALID_SCOPE",  "INVALID_FORMAT",    "INVALID_DIMENSION",  "INVALID_VALUE",
+    "INVALID_TYPE",   "INVALID_GRAPH",     "INVALID_LINK",       "MULTIPLE_WRITERS",
+    "OPTIMIZED_AWAY", "NO_RESOURCES"};
+static const char *const OP_NAMES[] = {[OPEN_CONTEXT] = "OpenContext",
+                                       [CREATE_IMAGE] = "CreateImage",
+                                       [QUERY_IMAGE] = "QueryImage",
+                                       [WRITE_IMAGE] = "WriteImage",
+                                       [READ_IMAGE] = "ReadImage",
+                                       [SET_VALID] = "SetValid",
+                                       [RELEASE] = "Release",
+                                       [CREATE_LUT] = "CreateLut",
+                                       [CREATE_THRESHOLD] = "CreateThreshold",
+                                       [CREATE_CONVOLUTION] = "CreateConvolution",
+                                       [CREATE_DISTRIBUTION] = "CreateDistribution",
+                                       [READ_DISTRIBUTION] = "ReadDistribution",
+                                       [CREATE_MIN_MAX] = "CreateMinMax",
+                                       [READ_MIN_MAX] = "ReadMinMax",
+                                       [CREATE_GRAPH] = "CreateGraph",
+                                       [CREATE_VIRTUAL_IMAGE] = "CreateVirtualImage",
+                                       [ADD_NODE] = "AddNode",
+                                       [REMOVE_NODE] = "RemoveNode",
+                                       [VERIFY_GRAPH] = "VerifyGraph",
+                                       [PROCESS_GRAPH] = "ProcessGraph",
+                                       [IMMEDIATE] = "Immediate",
+                                       [CREATE_DELAY] = "CreateDelay",
+                                       [AGE_DELAY] = "AgeDelay"};
+
 vx_status lost(vx_context context) {
     char words[VX_MAX_LOG_MESSAGE_LEN];
     connection_epitaph(&context->connection, words, sizeof words);
@@ -21,8 +51,8 @@ vx_status lost(vx_context context) {
 vx_status status_of(vx_context context, const struct request *request) {
     vx_status status = STATUS_OF_CODE[request->code];
     if (status != VX_SUCCESS)
-        tell(REFERENCE(context), status, "the server refused request %u with code %u", request->op,
-             request->code);
+        tell(REFERENCE(context), status, "the server refused %s: %s", OP_NAMES[request->op],
+             CODE_NAMES[request->code]);
     return status;
 }
 

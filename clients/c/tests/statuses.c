@@ -7,11 +7,13 @@ static vx_context context, foreign;
 static vx_image u8, v8, s16, small, wanderer;
 static int entries;
 static vx_status told;
+static char said[VX_MAX_LOG_MESSAGE_LEN];
 
 static void on_entry(vx_context of, vx_reference ref, vx_status status, const vx_char string[]) {
     CHECK(of == context && ref != NULL && string[0] != '\0');
     entries++;
     told = status;
+    snprintf(said, sizeof said, "%s", string);
 }
 
 static void refuse_creations(void) {
@@ -141,11 +143,18 @@ static void log_entries(void) {
     vxRegisterLogCallback(context, on_entry, vx_true_e);
     EXPECT(VX_ERROR_INVALID_FORMAT, vxuNot(context, u8, s16));
     CHECK(entries == 1 && told == VX_ERROR_INVALID_FORMAT);
+    CHECK(strcmp(said, "the server refused Immediate: INVALID_FORMAT") == 0);
+    vx_graph graph = vxCreateGraph(context);
+    vx_image unwritten = vxCreateVirtualImage(graph, 0, 0, VX_DF_IMAGE_VIRT);
+    EXPECT(VX_SUCCESS, STATUS(vxNotNode(graph, unwritten, v8)));
+    EXPECT(VX_ERROR_INVALID_LINK, vxVerifyGraph(graph));
+    CHECK(entries == 2 && strcmp(said, "the server refused VerifyGraph: INVALID_LINK") == 0);
+    EXPECT(VX_SUCCESS, vxReleaseGraph(&graph));
     vxAddLogEntry((vx_reference)u8, VX_FAILURE, "%d of %s", 3, "four");
-    CHECK(entries == 2 && told == VX_FAILURE);
+    CHECK(entries == 3 && told == VX_FAILURE && strcmp(said, "3 of four") == 0);
     EXPECT(VX_SUCCESS, vxDirective((vx_reference)context, VX_DIRECTIVE_DISABLE_LOGGING));
     vxAddLogEntry((vx_reference)u8, VX_FAILURE, "unheard");
-    CHECK(entries == 2);
+    CHECK(entries == 3);
     vxRegisterLogCallback(context, NULL, vx_true_e);
 }
 
