@@ -475,7 +475,7 @@ class Status(BrokerTest):
                             (words, broker.words()))
 
     def test_each_line_on_a_connection_says_who(self) -> None:
-        broker = self.begin("--patience", "1", "--idle", "2", "--bytes-held", "1000",
+        broker = self.begin("--patience", "1", "--idle", "5", "--bytes-held", "1000",
                             "--per-process", "5", "--per-user", "5")
         half, deaf, long, cut, idle = (self.connect(broker) for _ in range(5))
         self.assertEqual(idle.ask(plain(1)), success(1))
@@ -488,7 +488,7 @@ class Status(BrokerTest):
         said = ("connection {} of {} is ended: ", (
             (0, "sent nothing of the rest of a frame for 1 s"), (1, "bytes of replies wait for it"),
             (2, "a frame of 1007 bytes"), (3, "its end within a frame"),
-            (4, "asked nothing for 2 s")))
+            (4, "asked nothing for 5 s")))
         for number, words in said[1]:
             begin = said[0].format(number, OWNER)
             self.assertTrue(broker.wait_for(lambda: any(
