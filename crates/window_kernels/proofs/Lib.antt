@@ -1,5 +1,10 @@
 mod ColumnLaws
 mod WriteLaws
+mod BitLaws
+mod PlaceLaws
+mod AddLaws
+mod SumLaws
 mod ProductLaws
 mod MatrixLaws
+mod RowLaws
 mod MedianLaws

@@ -1,76 +1,140 @@
--- What a matrix gives around the places of a row.
-use Rattle.std.proofs.Common.{◌≡◌, ℕ, ℤ, pos, ◌+◌, ◌-◌, ◌*◌, ◌/◌, ◌<◌, ◌≤◌, ◌+ℤ◌, ◌-ℤ◌, ◌*ℤ◌, List, length, map, take, drop, replicate, get_or, zero-add, ap, ◌∙◌, sym, arith}
-use Rattle.std.specs.Prelude.{IsTrue}
+-- What a matrix that is turned gives of the rows that its windows see.
+use Rattle.std.proofs.Common.{◌≡◌, ℕ, ℤ, pos, zero, suc, ◌+◌, ◌-◌, ◌*◌, ◌/◌, ◌%◌, ◌<◌, ◌≤◌, ◌+ℤ◌, ◌-ℤ◌, List, get_or, refl, zero-add, ap, ◌∙◌, sym, arith}
+use Rattle.std.specs.Prelude.{IsTrue, ◌*ℤ◌}
+use Rattle.std.specs.Simd.Lanes.{chunk}
 use Rattle.std.proofs.lemmas.Int.{ints}
+use Rattle.std.proofs.lemmas.Simd.{get_or-chunk}
 use Rattle.std.proofs.lemmas.Bool.Decides.{nat_tests}
-use Rattle.std.proofs.lemmas.List.{get_or-take, get_or-drop, get_or-replicate, length-take, length-drop}
-use Rattle.std.proofs.Math.ListN.{get_or-map}
 use Rattle.vx_base.specs.Convolution.{ConvolutionValue, is_odd_side, coefficient}
-use Rattle.vx_base.specs.Image.{run}
-use Rattle.vx_base.specs.Window.{total, row_product, matrix_product}
-use Rattle.vx_base.proofs.TableLaws.{run-same, get_or-run}
+use Rattle.vx_base.specs.Image.{run, table}
+use Rattle.vx_base.specs.Window.{row_product, matrix_product}
+use Rattle.vx_base.proofs.TableLaws.{get_or-run, run_part}
 use Rattle.vx_base.proofs.WindowLaws.{run_shifted}
-use Rattle.window_kernels.specs.Products.{turned_product, row_along}
+use Rattle.vx_base.proofs.ImageLaws.{get_or-table}
+use Rattle.window_kernels.specs.Products.{alternating, sum_below, row_of, row_sum, sum_of_rows, first_of_pair, second_of_pair, IsTable, turned, turned_tables}
+use Rattle.window_kernels.proofs.ProductLaws.{sum-same, sum_turned, sum_is_total, pairs_add_up}
 
 -- a side of a matrix
 pub odd_side : (n : ℕ) → IsTrue (is_odd_side n) → (0 < n) × (n ≤ 9) × (n ≡ 2 * (n / 2) + 1)
 odd_side n h = (grind (arith, nat_tests), grind (arith, nat_tests), grind (arith, nat_tests))
 
--- a sample of a row that begins so many columns to the left of column x
-sample_seen : (f : ℤ → ℤ) (x r n j : ℕ) (column : ℤ) (samples : List ℕ) → map pos samples ≡ run x n (λ c. f (pos c -ℤ pos r)) → j < n → pos (x + j) -ℤ pos r ≡ column → pos (get_or samples j 0) ≡ f column
-sample_seen f x r n j column samples same below at =
-    sym (get_or-map pos samples j 0) ∙ ap (λ l. get_or l j (pos 0)) same ∙ get_or-run (λ c. f (pos c -ℤ pos r)) x n j (pos 0) below ∙ ap f at
+-- ---- tables
 
--- the samples that a row of the matrix meets, each times the coefficient at the opposite place
-row_turned : (m : ConvolutionValue) (f : ℤ → ℤ) (coefficients : List ℤ) (samples : List ℕ) (x r n i l : ℕ)
-    → length coefficients ≡ m.columns → m.columns ≡ 2 * r + 1 → m.columns / 2 ≡ r → map pos samples ≡ run x n (λ c. f (pos c -ℤ pos r)) → i + m.columns ≤ n
-    → ((k : ℕ) → k < m.columns → get_or coefficients k (pos 0) ≡ coefficient m l k) → turned_product coefficients samples i ≡ row_product m f (pos (x + i)) l
-row_turned m f coefficients samples x r n i l long odd half seen room same =
-    ap (λ c. total (run 0 c (λ k. pos (get_or samples (i + (c - 1 - k)) 0) *ℤ get_or coefficients k (pos 0)))) long
-    ∙ ap total (run-same (λ k. pos (get_or samples (i + (m.columns - 1 - k)) 0) *ℤ get_or coefficients k (pos 0)) (λ k. f (pos (x + i) +ℤ pos (m.columns / 2) -ℤ pos k) *ℤ coefficient m l k) 0 m.columns
-    (λ k a b. product k (omega arith)))
+-- a coefficient in the tables: pair j of row l stands eight times
+entry : ConvolutionValue → ℕ → ℤ
+entry m n = turned m (n / 80) (n % 80 / 16 * 2 + n % 2)
+
+entry_is : (m : ConvolutionValue) (l j k r n : ℕ) → j < 5 → k < 8 → r < 2 → n ≡ l * 80 + (16 * j + 2 * k + r) → entry m n ≡ turned m l (2 * j + r)
+unfolding entry
+entry_is m l j k r n a b c is =
+    let row : n / 80 ≡ l = omega arith in
+    let column : n % 80 / 16 * 2 + n % 2 ≡ 2 * j + r = omega arith in
+    ap (λ i. turned m i (n % 80 / 16 * 2 + n % 2)) row ∙ ap (turned m l) column
+
+row_of_tables : (m : ConvolutionValue) (tables : List ℤ) (l : ℕ) → tables ≡ turned_tables m → l < m.rows → row_of tables 80 l ≡ run 0 80 (λ n. entry m (l * 80 + n))
+unfolding entry
+row_of_tables m tables l are below =
+    ap (λ t. row_of t 80 l) are
+    ∙ run_part (entry m) (m.rows * 80) (l * 80) 80 (omega arith)
+    ∙ run_shifted (entry m) (λ n. entry m (l * 80 + n)) (l * 80) 0 80 (λ k h. ap (λ n. entry m (l * 80 + n)) (sym (zero-add k)))
+
+entry_read : (m : ConvolutionValue) (tables : List ℤ) (l j r : ℕ) → tables ≡ turned_tables m → l < m.rows → j < 5 → r < 2 → get_or (row_of tables 80 l) (16 * j + r) (pos 0) ≡ turned m l (2 * j + r)
+entry_read m tables l j r are below a b =
+    ap (λ t. get_or t (16 * j + r) (pos 0)) (row_of_tables m tables l are below)
+    ∙ get_or-run (λ n. entry m (l * 80 + n)) 0 80 (16 * j + r) (pos 0) (omega arith)
+    ∙ entry_is m l j 0 r (l * 80 + (0 + (16 * j + r))) a (omega arith) b (omega arith)
+
+first_read : (m : ConvolutionValue) (tables : List ℤ) (l j : ℕ) → tables ≡ turned_tables m → l < m.rows → j < 5 → first_of_pair (row_of tables 80 l) j ≡ turned m l (2 * j)
+first_read m tables l j are below a =
+    let at : 16 * j ≡ 16 * j + 0 = omega arith in
+    let of : 2 * j + 0 ≡ 2 * j = omega arith in
+    ap (λ n. get_or (row_of tables 80 l) n (pos 0)) at ∙ entry_read m tables l j 0 are below a (omega arith) ∙ ap (turned m l) of
+
+second_read : (m : ConvolutionValue) (tables : List ℤ) (l j : ℕ) → tables ≡ turned_tables m → l < m.rows → j < 5 → second_of_pair (row_of tables 80 l) j ≡ turned m l (2 * j + 1)
+second_read m tables l j are below a = entry_read m tables l j 1 are below a (omega arith)
+
+twice : ℕ → ℕ
+twice zero = zero
+twice (suc n) = suc (suc (twice n))
+
+in_turn : (g : ℕ → ℤ) (a b : ℤ) (n x : ℕ) → ((k : ℕ) → k < n → g (x + 2 * k) ≡ a) → ((k : ℕ) → k < n → g (x + 2 * k + 1) ≡ b) → run x (twice n) g ≡ alternating n a b
+unfolding twice
+in_turn g a b zero x first second = refl
+in_turn g a b (suc n) x first second =
+    let begin : x ≡ x + 2 * 0 = omega arith in
+    let next : x + 1 ≡ x + 2 * 0 + 1 = omega arith in
+    cc (
+      ap g begin ∙ first 0 (omega arith),
+      ap g next ∙ second 0 (omega arith),
+      in_turn g a b n (x + 1 + 1) (λ k h. ap g (even k) ∙ first (k + 1) (omega arith)) (λ k h. ap g (odd k) ∙ second (k + 1) (omega arith)),
+    )
   where
-    product : (k : ℕ) → k < m.columns → pos (get_or samples (i + (m.columns - 1 - k)) 0) *ℤ get_or coefficients k (pos 0) ≡ f (pos (x + i) +ℤ pos (m.columns / 2) -ℤ pos k) *ℤ coefficient m l k
-    product k below =
-        let at : pos (x + (i + (m.columns - 1 - k))) -ℤ pos r ≡ pos (x + i) +ℤ pos (m.columns / 2) -ℤ pos k = omega (arith, ints) in
-        ap (λ z. z *ℤ get_or coefficients k (pos 0)) (sample_seen f x r n (i + (m.columns - 1 - k)) (pos (x + i) +ℤ pos (m.columns / 2) -ℤ pos k) samples seen (omega arith) at)
-        ∙ ap (λ z. f (pos (x + i) +ℤ pos (m.columns / 2) -ℤ pos k) *ℤ z) (same k below)
+    even : (k : ℕ) → x + 1 + 1 + 2 * k ≡ x + 2 * (k + 1)
+    even k = omega arith
 
--- a coefficient of a row of the matrix
-coefficient_read : (m : ConvolutionValue) (all : List ℤ) (first end l k : ℕ) → all ≡ m.coefficients → first ≡ l * m.columns → end ≡ first + m.columns → k < m.columns → get_or (take (end - first) (drop first all)) k (pos 0) ≡ coefficient m l k
-coefficient_read m all first end l k same at is below =
-    get_or-take (end - first) (drop first all) k (pos 0) (omega arith)
-    ∙ get_or-drop first all k (pos 0)
-    ∙ ap (λ zs. get_or zs (first + k) (pos 0)) same
-    ∙ ap (λ n. get_or m.coefficients (n + k) (pos 0)) at
+    odd : (k : ℕ) → x + 1 + 1 + 2 * k + 1 ≡ x + 2 * (k + 1) + 1
+    odd k = omega arith
 
--- a row of the matrix is added
-pub row_added : (m : ConvolutionValue) (f : ℤ → ℤ → ℤ) (old next all : List ℤ) (samples : List ℕ) (x y r n l first end : ℕ) (row : ℤ)
-    → next ≡ run 0 (length old) (λ i. get_or old i (pos 0) +ℤ turned_product (take (end - first) (drop first all)) samples i)
-    → IsTrue (is_odd_side m.columns) → r ≡ m.columns / 2 → map pos samples ≡ run x n (λ c. f (pos c -ℤ pos r) row) → row ≡ pos y +ℤ pos (m.rows / 2) -ℤ pos l
-    → n + 1 ≡ length old + m.columns → all ≡ m.coefficients → first ≡ l * m.columns → end ≡ first + m.columns → end ≤ length all
-    → next ≡ run 0 (length old) (λ i. get_or old i (pos 0) +ℤ row_along m f (pos (x + i)) (pos y) l)
-row_added m f old next all samples x y r n l first end row are side half seen on room same at is within =
+-- the tables of a matrix are tables
+pub are_tables : (m : ConvolutionValue) (tables : List ℤ) (pairs : ℕ) → tables ≡ turned_tables m → pairs ≤ 5 → (l : ℕ) → l < m.rows → IsTable pairs (row_of tables 80 l)
+unfolding twice
+are_tables m tables pairs are few l below j h =
+    let g : ℕ → ℤ = λ n. entry m (l * 80 + n) in
+    ap (chunk (16 * j) 16) (row_of_tables m tables l are below)
+    ∙ run_part g 80 (16 * j) 16 (omega arith)
+    ∙ in_turn g (turned m l (2 * j)) (turned m l (2 * j + 1)) 8 (16 * j) (λ k b. first k b) (λ k b. second k b)
+    ∙ ap (λ z. alternating 8 z (turned m l (2 * j + 1))) (sym (first_read m tables l j are below (omega arith)))
+    ∙ ap (λ z. alternating 8 (first_of_pair (row_of tables 80 l) j) z) (sym (second_read m tables l j are below (omega arith)))
+  where
+    first : (k : ℕ) → k < 8 → entry m (l * 80 + (16 * j + 2 * k)) ≡ turned m l (2 * j)
+    first k b = let of : 2 * j + 0 ≡ 2 * j = omega arith in entry_is m l j k 0 (l * 80 + (16 * j + 2 * k)) (omega arith) b (omega arith) (omega arith) ∙ ap (turned m l) of
+
+    second : (k : ℕ) → k < 8 → entry m (l * 80 + (16 * j + 2 * k + 1)) ≡ turned m l (2 * j + 1)
+    second k b = entry_is m l j k 1 (l * 80 + (16 * j + 2 * k + 1)) (omega arith) b (omega arith) refl
+
+-- ---- the sum of a window
+
+turned_is : (m : ConvolutionValue) (l c : ℕ) → c < m.columns → turned m l c ≡ coefficient m l (m.columns - 1 - c)
+turned_is m l c h = grind (arith, nat_tests)
+
+none_beyond : (m : ConvolutionValue) (l : ℕ) → turned m l m.columns ≡ pos 0
+none_beyond m l = grind (arith, nat_tests)
+
+times_none : (x y z : ℤ) → z ≡ pos 0 → x +ℤ y *ℤ z ≡ x
+times_none x y z is = ap (λ w. x +ℤ y *ℤ w) is ∙ omega (arith, ints)
+
+-- a row of it
+row_is_product : (m : ConvolutionValue) (f : ℤ → ℤ) (row tables : List ℤ) (x p l n : ℕ) → tables ≡ turned_tables m → IsTrue (is_odd_side m.columns) → l < m.rows → p + m.columns ≤ n
+    → ((c : ℕ) → c < n → get_or row c (pos 0) ≡ f (pos (x + c) -ℤ pos (m.columns / 2))) → row_sum row (row_of tables 80 l) (m.columns / 2 + 1) p ≡ row_product m f (pos (x + p)) l
+row_is_product m f row tables x p l n are side below room seen =
     let odd = odd_side m.columns side in
-    are
-    ∙ run-same (λ i. get_or old i (pos 0) +ℤ turned_product (take (end - first) (drop first all)) samples i) (λ i. get_or old i (pos 0) +ℤ row_along m f (pos (x + i)) (pos y) l) 0 (length old)
-    (λ i a b. ap (λ z. get_or old i (pos 0) +ℤ z)
-    (row_turned m (λ u. f u row) (take (end - first) (drop first all)) samples x r n i l (simp (length-take, length-drop) (omega arith)) (omega (arith, odd.2)) (sym half) seen (omega (arith, odd.0))
-    (λ k below. coefficient_read m all first end l k same at is below)
-    ∙ ap (λ v. row_product m (λ u. f u v) (pos (x + i)) l) on))
-
--- all rows of the matrix are added to zeros
-pub all_added : (m : ConvolutionValue) (f : ℤ → ℤ → ℤ) (old sums : List ℤ) (x y rows : ℕ)
-    → sums ≡ run 0 (length old) (λ i. get_or old i (pos 0) +ℤ total (run 0 rows (λ j. row_along m f (pos (x + i)) (pos y) j))) → rows ≡ m.rows → old ≡ replicate (length old) (pos 0)
-    → sums ≡ run x (length old) (λ k. matrix_product m f (pos k) (pos y))
-all_added m f old sums x y rows are all zeros =
-    are
-    ∙ run_shifted (λ i. get_or old i (pos 0) +ℤ total (run 0 rows (λ j. row_along m f (pos (x + i)) (pos y) j))) (λ k. matrix_product m f (pos k) (pos y)) 0 x (length old) place
+    let count : 2 * (m.columns / 2 + 1) ≡ suc m.columns = omega (arith, odd) in
+    let g : ℕ → ℤ = λ c. get_or row (p + c) (pos 0) *ℤ turned m l c in
+    pairs_add_up row (row_of tables 80 l) (turned m l) (m.columns / 2 + 1) p (λ j h. first_read m tables l j are below (omega (arith, odd))) (λ j h. second_read m tables l j are below (omega (arith, odd)))
+    ∙ ap (λ k. sum_below k g) count
+    ∙ times_none (sum_below m.columns g) (get_or row (p + m.columns) (pos 0)) (turned m l m.columns) (none_beyond m l)
+    ∙ sum-same m.columns g (λ c. product (m.columns - 1 - c)) (λ c h. ap (λ z. z *ℤ turned m l c) (seen (p + c) (omega arith) ∙ ap f (at c h odd.2)) ∙ ap (λ z. f (pos (x + p) +ℤ pos (m.columns / 2) -ℤ pos (m.columns - 1 - c)) *ℤ z) (turned_is m l c h))
+    ∙ sum_turned m.columns product
+    ∙ sum_is_total m.columns product
   where
-    place : (k : ℕ) → k < length old → get_or old (0 + k) (pos 0) +ℤ total (run 0 rows (λ j. row_along m f (pos (x + (0 + k))) (pos y) j)) ≡ matrix_product m f (pos (x + k)) (pos y)
-    place k below =
-        let zero_here : get_or old k (pos 0) ≡ pos 0 = ap (λ l. get_or l k (pos 0)) zeros ∙ get_or-replicate (length old) k (pos 0) (pos 0) below in
-        ap (λ i. get_or old i (pos 0) +ℤ total (run 0 rows (λ j. row_along m f (pos (x + i)) (pos y) j))) (zero-add k)
-        ∙ ap (λ n. get_or old k (pos 0) +ℤ total (run 0 n (λ j. row_along m f (pos (x + k)) (pos y) j))) all
-        ∙ ap (λ z. z +ℤ matrix_product m f (pos (x + k)) (pos y)) zero_here
-        ∙ omega (arith, ints)
+    product : ℕ → ℤ
+    product k = f (pos (x + p) +ℤ pos (m.columns / 2) -ℤ pos k) *ℤ coefficient m l k
+
+    at : (c : ℕ) → c < m.columns → m.columns ≡ 2 * (m.columns / 2) + 1 → pos (x + (p + c)) -ℤ pos (m.columns / 2) ≡ pos (x + p) +ℤ pos (m.columns / 2) -ℤ pos (m.columns - 1 - c)
+    at c h odd = omega (arith, ints)
+
+-- of rows that begin with what the windows of column x see
+pub sum_is_product : (m : ConvolutionValue) (f : ℤ → ℤ → ℤ) (rows tables : List ℤ) (x y p line : ℕ)
+    → rows ≡ table line m.rows (λ c l. f (pos (x + c) -ℤ pos (m.columns / 2)) (pos y +ℤ pos (m.rows / 2) -ℤ pos l))
+    → tables ≡ turned_tables m → IsTrue (is_odd_side m.columns) → p + m.columns ≤ line
+    → sum_of_rows rows line tables (m.columns / 2 + 1) m.rows p ≡ matrix_product m f (pos (x + p)) (pos y)
+sum_is_product m f rows tables x y p line loaded are side room =
+    sum-same m.rows (λ l. row_sum (row_of rows line l) (row_of tables 80 l) (m.columns / 2 + 1) p) (λ l. row_product m (λ u. f u (pos y +ℤ pos (m.rows / 2) -ℤ pos l)) (pos (x + p)) l)
+    (λ l h. row_is_product m (λ u. f u (pos y +ℤ pos (m.rows / 2) -ℤ pos l)) (row_of rows line l) tables x p l line are side h room (λ c b. seen l c h b))
+    ∙ sum_is_total m.rows (λ l. row_product m (λ u. f u (pos y +ℤ pos (m.rows / 2) -ℤ pos l)) (pos (x + p)) l)
+  where
+    seen : (l c : ℕ) → l < m.rows → c < line → get_or (row_of rows line l) c (pos 0) ≡ f (pos (x + c) -ℤ pos (m.columns / 2)) (pos y +ℤ pos (m.rows / 2) -ℤ pos l)
+    seen l c h b =
+        get_or-chunk (l * line) line rows c (pos 0) b
+        ∙ ap (λ t. get_or t (l * line + c) (pos 0)) loaded
+        ∙ get_or-table line m.rows c l (λ c l. f (pos (x + c) -ℤ pos (m.columns / 2)) (pos y +ℤ pos (m.rows / 2) -ℤ pos l)) b h

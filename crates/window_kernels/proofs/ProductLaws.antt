@@ -1,105 +1,81 @@
--- Sums to which products are added.
-use Rattle.std.proofs.Common.{◌≡◌, ℕ, ℤ, pos, ◌+◌, ◌-◌, ◌<◌, ◌≤◌, List, [], ◌∷◌, ◌++◌, length, map, drop, take, get_or, set, replicate, ap, ◌+ℤ◌, ◌∙◌, sym, arith, zero-add, add-one, to_z, of_z, w32}
-use Rattle.std.specs.Prelude.{unsigned_abs}
+-- Sums of products, and rows of them.
+use Rattle.std.proofs.Common.{◌≡◌, ℕ, ℤ, pos, zero, suc, ◌+◌, ◌-◌, ◌*◌, ◌<◌, List, [], ◌∷◌, ◌++◌, length, map, take, get_or, set, refl, ap, ◌+ℤ◌, ◌∙◌, sym, arith, zero-add, add-one, to_z, of_z, w32}
+use Rattle.std.specs.Prelude.{◌*ℤ◌}
 use Rattle.std.proofs.lemmas.Int.{ints}
-use Rattle.std.proofs.Math.Seq.{drop-cons, drop-length, set-append_seam, get_or-append_seam}
-use Rattle.std.proofs.lemmas.List.{append_assoc, append-nil, ext_get_or, get_or-take, get_or-drop, take-replicate, length-replicate, take_more_set, map_push, map_more}
-use Rattle.std.proofs.lemmas.List.Elements.{All-set, All-same, All-replicate}
+use Rattle.std.proofs.lemmas.List.{take_more_set, map_push, map_more}
 use Rattle.vx_base.specs.Image.{run}
-use Rattle.vx_base.proofs.TableLaws.{run-more, run-same, length-run, get_or-run}
+use Rattle.vx_base.proofs.TableLaws.{run-more}
 use Rattle.vx_base.specs.Window.{total}
-use Rattle.window_kernels.specs.Products.{AreUpTo}
-
--- ---- a row of which the first i sums are new
-
-begun : (old sums : List ℤ) (g : ℕ → ℤ) (i : ℕ) → sums ≡ run 0 i g ++ drop i old → i < length old → sums ≡ run 0 i g ++ get_or old i (pos 0) ∷ drop (i + 1) old
-begun old sums g i are below = are ∙ ap (λ l. run 0 i g ++ l) (drop-cons old i (pos 0) below ∙ ap (λ n. get_or old i (pos 0) ∷ drop n old) (sym (add-one i)))
-
--- the next one is still as it was
-pub sum_kept : (old sums : List ℤ) (g : ℕ → ℤ) (i : ℕ) → sums ≡ run 0 i g ++ drop i old → i < length old → get_or sums i (pos 0) ≡ get_or old i (pos 0)
-sum_kept old sums g i are below =
-    ap (λ l. get_or l i (pos 0)) (begun old sums g i are below)
-    ∙ ap (λ n. get_or (run 0 i g ++ get_or old i (pos 0) ∷ drop (i + 1) old) n (pos 0)) (sym (length-run g 0 i))
-    ∙ get_or-append_seam (run 0 i g) (get_or old i (pos 0)) (drop (i + 1) old) (pos 0)
-
--- it becomes new
-pub sum_written : (old sums : List ℤ) (g : ℕ → ℤ) (i : ℕ) (z : ℤ) → sums ≡ run 0 i g ++ drop i old → i < length old → z ≡ g i → set sums i z ≡ run 0 (i + 1) g ++ drop (i + 1) old
-sum_written old sums g i z are below is =
-    ap (λ l. set l i z) (begun old sums g i are below)
-    ∙ ap (λ n. set (run 0 i g ++ get_or old i (pos 0) ∷ drop (i + 1) old) n z) (sym (length-run g 0 i))
-    ∙ set-append_seam (run 0 i g) (get_or old i (pos 0)) (drop (i + 1) old) z
-    ∙ ap (λ w. run 0 i g ++ w ∷ drop (i + 1) old) (is ∙ ap g (sym (zero-add i)))
-    ∙ sym (append_assoc (run 0 i g) (g (0 + i) ∷ []) (drop (i + 1) old))
-    ∙ ap (λ l. l ++ drop (i + 1) old) (sym (run-more g 0 i))
-
--- all are new
-pub sums_written : (old sums : List ℤ) (g : ℕ → ℤ) (i : ℕ) → sums ≡ run 0 i g ++ drop i old → i ≡ length old → sums ≡ run 0 (length old) g
-sums_written old sums g i are end =
-    are
-    ∙ ap (λ n. run 0 n g ++ drop n old) end
-    ∙ ap (λ l. run 0 (length old) g ++ l) (drop-length old)
-    ∙ append-nil (run 0 (length old) g)
+use Rattle.window_kernels.specs.Products.{IsUpTo, sum_below, row_sum, pair_at, first_of_pair, second_of_pair}
 
 -- a sum is what its bits say
-pub sum_of_bits : (sum : ℤ) → unsigned_abs sum ≤ 676823040 → to_z w32 (of_z w32 sum) ≡ sum
+pub sum_of_bits : (sum : ℤ) → IsUpTo 752025600 sum → to_z w32 (of_z w32 sum) ≡ sum
 sum_of_bits sum small = omega (arith, ints)
 
--- no number is further from 0 by more than the next product
-pub sum_up_to : (old sums : List ℤ) (g : ℕ → ℤ) (limit i : ℕ) (z : ℤ) → sums ≡ run 0 i g ++ drop i old → i < length old → AreUpTo limit old → AreUpTo (limit + 8355840) sums → unsigned_abs z ≤ unsigned_abs (get_or sums i (pos 0)) + 8355840 → AreUpTo (limit + 8355840) (set sums i z)
-sum_up_to old sums g limit i z are below start so_far near =
-    let first = start i (pos 0) below in
-    let kept = ap unsigned_abs (sum_kept old sums g i are below) in
-    All-set (λ w. unsigned_abs w ≤ limit + 8355840) sums i z (omega arith) so_far
+-- one more item is what a function gives of another row's
+pub item_mapped : {S T : Type 0} (value : T → ℤ) (f : S → ℤ) (items : List S) (out : List T) (i : ℕ) (d : S) (z : T) → map value (take i out) ≡ map f (take i items) → i < length out → i < length items → value z ≡ f (get_or items i d) → map value (take (i + 1) (set out i z)) ≡ map f (take (i + 1) items)
+item_mapped value f items out i d z before room below is =
+    ap (map value) (take_more_set out i z room)
+    ∙ map_push value (take i out) z
+    ∙ ap (λ l. l ++ value z ∷ []) before
+    ∙ ap (λ w. map f (take i items) ++ w ∷ []) is
+    ∙ sym (map_more f items i d below)
 
--- ---- sums of products
+-- ---- sums
+
+plus_assoc : (x y z : ℤ) → x +ℤ (y +ℤ z) ≡ (x +ℤ y) +ℤ z
+plus_assoc x y z = omega (arith, ints)
+
+plus_turned : (x y : ℤ) → x +ℤ y ≡ y +ℤ x
+plus_turned x y = omega (arith, ints)
+
+pub sum-same : (n : ℕ) (f g : ℕ → ℤ) → ((k : ℕ) → k < n → f k ≡ g k) → sum_below n f ≡ sum_below n g
+sum-same zero f g same = refl
+sum-same (suc n) f g same = ap (λ z. z +ℤ f n) (sum-same n f g (λ k h. same k (omega arith))) ∙ ap (λ z. sum_below n g +ℤ z) (same n (omega arith))
+
+sum_from_first : (n : ℕ) (f : ℕ → ℤ) → sum_below (suc n) f ≡ f 0 +ℤ sum_below n (λ k. f (suc k))
+sum_from_first zero f = plus_turned (pos 0) (f 0)
+sum_from_first (suc n) f = ap (λ z. z +ℤ f (suc n)) (sum_from_first n f) ∙ sym (plus_assoc (f 0) (sum_below n (λ k. f (suc k))) (f (suc n)))
+
+-- from the last item to the first
+pub sum_turned : (n : ℕ) (f : ℕ → ℤ) → sum_below n (λ k. f (n - 1 - k)) ≡ sum_below n f
+sum_turned zero f = refl
+sum_turned (suc n) f =
+    let first : suc n - 1 - n ≡ 0 = omega arith in
+    ap (λ z. z +ℤ f (suc n - 1 - n)) (sum-same n (λ k. f (suc n - 1 - k)) (λ k. f (suc (n - 1 - k))) (λ k h. ap f (at k h)))
+    ∙ ap (λ z. z +ℤ f (suc n - 1 - n)) (sum_turned n (λ k. f (suc k)))
+    ∙ ap (λ i. sum_below n (λ k. f (suc k)) +ℤ f i) first
+    ∙ plus_turned (sum_below n (λ k. f (suc k))) (f 0)
+    ∙ sym (sum_from_first n f)
+  where
+    at : (k : ℕ) → k < n → suc n - 1 - k ≡ suc (n - 1 - k)
+    at k h = omega arith
 
 total-append : (ys zs : List ℤ) → total (ys ++ zs) ≡ total ys +ℤ total zs
 total-append [] zs = omega (arith, ints)
 total-append (y ∷ ys) zs = omega (arith, ints, total-append ys zs)
 
--- one more of them
-pub total_more : (g : ℕ → ℤ) (k : ℕ) → total (run 0 (k + 1) g) ≡ total (run 0 k g) +ℤ g k
-total_more g k =
-    ap total (run-more g 0 k) ∙ total-append (run 0 k g) (g (0 + k) ∷ []) ∙ ap (λ n. total (run 0 k g) +ℤ (g n +ℤ pos 0)) (zero-add k) ∙ omega (arith, ints)
+-- the total of a run
+pub sum_is_total : (n : ℕ) (f : ℕ → ℤ) → sum_below n f ≡ total (run 0 n f)
+sum_is_total zero f = refl
+sum_is_total (suc n) f =
+    let more : total (run 0 (n + 1) f) ≡ total (run 0 n f) +ℤ f n =
+    ap total (run-more f 0 n) ∙ total-append (run 0 n f) (f (0 + n) ∷ []) ∙ ap (λ k. total (run 0 n f) +ℤ (f k +ℤ pos 0)) (zero-add n) ∙ omega (arith, ints) in
+    ap (λ z. z +ℤ f n) (sum_is_total n f) ∙ sym more ∙ ap (λ k. total (run 0 k f)) (add-one n)
 
--- none of them is added yet
-pub none_added : (old : List ℤ) (g : ℕ → ℕ → ℤ) → old ≡ run 0 (length old) (λ i. get_or old i (pos 0) +ℤ total (run 0 0 (g i)))
-none_added old g =
-    ext_get_or (pos 0) old (run 0 (length old) (λ i. get_or old i (pos 0) +ℤ pos 0)) (sym (length-run (λ i. get_or old i (pos 0) +ℤ pos 0) 0 (length old)))
-    (λ k h. sym (get_or-run (λ i. get_or old i (pos 0) +ℤ pos 0) 0 (length old) k (pos 0) h ∙ ap (λ n. get_or old n (pos 0) +ℤ pos 0) (zero-add k) ∙ omega (arith, ints)))
-
--- one more of them is added
-pub more_added : (old sums next : List ℤ) (g : ℕ → ℕ → ℤ) (h : ℕ → ℤ) (n k : ℕ)
-    → sums ≡ run 0 n (λ i. get_or old i (pos 0) +ℤ total (run 0 k (g i))) → next ≡ run 0 (length sums) (λ i. get_or sums i (pos 0) +ℤ h i) → ((i : ℕ) → i < n → h i ≡ g i k)
-    → next ≡ run 0 n (λ i. get_or old i (pos 0) +ℤ total (run 0 (k + 1) (g i)))
-more_added old sums next g h n k before after same =
-    after
-    ∙ ap (λ l. run 0 l (λ i. get_or sums i (pos 0) +ℤ h i)) (ap length before ∙ length-run (λ i. get_or old i (pos 0) +ℤ total (run 0 k (g i))) 0 n)
-    ∙ run-same (λ i. get_or sums i (pos 0) +ℤ h i) (λ i. get_or old i (pos 0) +ℤ total (run 0 (k + 1) (g i))) 0 n (λ i a b. more i (omega arith))
-  where
-    more : (i : ℕ) → i < n → get_or sums i (pos 0) +ℤ h i ≡ get_or old i (pos 0) +ℤ total (run 0 (k + 1) (g i))
-    more i below =
-        let read : get_or sums i (pos 0) ≡ get_or old i (pos 0) +ℤ total (run 0 k (g i)) =
-        ap (λ l. get_or l i (pos 0)) before
-        ∙ get_or-run (λ i. get_or old i (pos 0) +ℤ total (run 0 k (g i))) 0 n i (pos 0) below
-        ∙ ap (λ j. get_or old j (pos 0) +ℤ total (run 0 k (g j))) (zero-add i) in
-        omega (arith, ints, read, same i below, total_more (g i) k)
-
--- a sample of a part of a row
-pub part_read : (samples : List ℕ) (first stop count i : ℕ) → stop ≡ first + count → i < count → get_or (take (stop - first) (drop first samples)) i 0 ≡ get_or samples (first + i) 0
-part_read samples first stop count i is below = get_or-take (stop - first) (drop first samples) i 0 (omega arith) ∙ get_or-drop first samples i 0
-
-pub up_to_more : (limit more : ℕ) (zs : List ℤ) → limit ≤ more → AreUpTo limit zs → AreUpTo more zs
-up_to_more limit more zs h are = λ k d below. let a = are k d below in omega arith
-
-pub zeros_up_to : (limit n : ℕ) (zs : List ℤ) → zs ≡ replicate n (pos 0) → AreUpTo limit zs
-zeros_up_to limit n zs are = All-same (λ z. unsigned_abs z ≤ limit) zs (replicate n (pos 0)) are (All-replicate (λ z. unsigned_abs z ≤ limit) n (pos 0) (omega arith))
-
--- one more sum is scaled
-pub scaled_written : {T : Type 0} (value : T → ℤ) (f : ℤ → ℤ) (sums : List ℤ) (out : List T) (i : ℕ) (z : T) → map value (take i out) ≡ map f (take i sums) → i < length out → i < length sums → value z ≡ f (get_or sums i (pos 0)) → map value (take (i + 1) (set out i z)) ≡ map f (take (i + 1) sums)
-scaled_written value f sums out i z before room below is =
-    ap (map value) (take_more_set out i z room)
-    ∙ map_push value (take i out) z
-    ∙ ap (λ l. l ++ value z ∷ []) before
-    ∙ ap (λ w. map f (take i sums) ++ w ∷ []) is
-    ∙ sym (map_more f sums i (pos 0) below)
+-- what pairs of coefficients add up to
+pub pairs_add_up : (row table : List ℤ) (k : ℕ → ℤ) (n p : ℕ) → ((j : ℕ) → j < n → first_of_pair table j ≡ k (2 * j)) → ((j : ℕ) → j < n → second_of_pair table j ≡ k (2 * j + 1)) → row_sum row table n p ≡ sum_below (2 * n) (λ c. get_or row (p + c) (pos 0) *ℤ k c)
+pairs_add_up row table k zero p first second = refl
+pairs_add_up row table k (suc n) p first second =
+    let g : ℕ → ℤ = λ c. get_or row (p + c) (pos 0) *ℤ k c in
+    let count : suc (suc (2 * n)) ≡ 2 * suc n = omega arith in
+    let before = pairs_add_up row table k n p (λ j h. first j (omega arith)) (λ j h. second j (omega arith)) in
+    let place : p + 2 * n + 1 ≡ p + suc (2 * n) = omega arith in
+    let next : 2 * n + 1 ≡ suc (2 * n) = omega arith in
+    let one = ap (λ z. get_or row (p + 2 * n) (pos 0) *ℤ z) (first n (omega arith)) in
+    let other = ap (λ i. get_or row i (pos 0) *ℤ second_of_pair table n) place ∙ ap (λ z. get_or row (p + suc (2 * n)) (pos 0) *ℤ z) (second n (omega arith) ∙ ap k next) in
+    ap (λ z. z +ℤ pair_at row (first_of_pair table n) (second_of_pair table n) (p + 2 * n)) before
+    ∙ ap (λ z. sum_below (2 * n) g +ℤ (z +ℤ get_or row (p + 2 * n + 1) (pos 0) *ℤ second_of_pair table n)) one
+    ∙ ap (λ z. sum_below (2 * n) g +ℤ (g (2 * n) +ℤ z)) other
+    ∙ plus_assoc (sum_below (2 * n) g) (g (2 * n)) (g (suc (2 * n)))
+    ∙ ap (λ m. sum_below m g) count

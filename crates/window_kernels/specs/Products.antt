@@ -1,18 +1,69 @@
--- Sums of samples times coefficients.
-use Rattle.std.specs.Prelude.{ℕ, ℤ, pos, ◌+◌, ◌-◌, ◌≤◌, ◌/◌, ◌+ℤ◌, ◌-ℤ◌, ◌*ℤ◌, List, length, slice_index, slice_index_or, unsigned_abs, All}
-use Rattle.vx_base.specs.Convolution.{ConvolutionValue}
+-- Sums of samples times coefficients, two at once.
+use Rattle.std.specs.Prelude.{ℕ, zero, suc, ℤ, pos, ◌≡◌, ◌+◌, ◌-◌, ◌*◌, ◌/◌, ◌%◌, ◌≤◌, ◌<◌, ◌+ℤ◌, ◌*ℤ◌, List, [], ◌∷◌, slice_index_or, unsigned_abs, All, if◌then◌else◌, nat_lt}
+use Rattle.std.specs.Simd.Lanes.{chunk}
+use Rattle.vx_base.specs.Convolution.{ConvolutionValue, coefficient}
 use Rattle.vx_base.specs.Image.{run}
-use Rattle.vx_base.specs.Window.{total, row_product}
 
--- no number is further from 0 than the limit; a U8 sample times an S16 coefficient is at most 255 * 32768 = 8355840 from it
+-- no further from 0 than the limit
+abbrev pub IsUpTo : ℕ → ℤ → Type 0
+IsUpTo limit z = unsigned_abs z ≤ limit
+
+-- none of them is further; a U8 sample times an S16 coefficient is at most 255 * 32768 = 8355840 from 0, two of them added up
+-- 16711680, and 45 such pairs 752025600, below 2^31: in nine rows of a matrix there are no more
 abbrev pub AreUpTo : ℕ → List ℤ → Type 0
-AreUpTo limit zs = All (λ z. unsigned_abs z ≤ limit) zs
+AreUpTo limit zs = All (IsUpTo limit) zs
 
--- of the samples from item i on, so many as there are coefficients, the sum of each times the coefficient at the opposite place
-abbrev pub turned_product : List ℤ → List ℕ → ℕ → ℤ
-turned_product coefficients samples i =
-    total (run 0 (length coefficients) (λ k. pos (slice_index samples (i + (length coefficients - 1 - k))) *ℤ slice_index_or coefficients k (pos 0)))
+abbrev pub evens_of : {A : Type 0} → List A → List A
+evens_of [] = []
+evens_of (x ∷ []) = x ∷ []
+evens_of (x ∷ y ∷ zs) = x ∷ evens_of zs
 
--- what a row of a matrix adds at a place: the samples of one row around it
-abbrev pub row_along : ConvolutionValue → (ℤ → ℤ → ℤ) → ℤ → ℤ → ℕ → ℤ
-row_along c f x y l = row_product c (λ u. f u (y +ℤ pos (c.rows / 2) -ℤ pos l)) x l
+abbrev pub odds_of : {A : Type 0} → List A → List A
+odds_of [] = []
+odds_of (x ∷ []) = []
+odds_of (x ∷ y ∷ zs) = y ∷ odds_of zs
+
+-- two numbers in turn, so many times
+abbrev pub alternating : ℕ → ℤ → ℤ → List ℤ
+alternating zero a b = []
+alternating (suc n) a b = a ∷ b ∷ alternating n a b
+
+-- g 0, g 1, .. added up, so many of them
+abbrev pub sum_below : ℕ → (ℕ → ℤ) → ℤ
+sum_below zero g = pos 0
+sum_below (suc n) g = sum_below n g +ℤ g n
+
+-- what two coefficients give of the sample at a place of a row and the next one
+abbrev pub pair_at : List ℤ → ℤ → ℤ → ℕ → ℤ
+pair_at row a b p = slice_index_or row p (pos 0) *ℤ a +ℤ slice_index_or row (p + 1) (pos 0) *ℤ b
+
+-- pair j of a table
+abbrev pub first_of_pair : List ℤ → ℕ → ℤ
+first_of_pair table j = slice_index_or table (16 * j) (pos 0)
+
+abbrev pub second_of_pair : List ℤ → ℕ → ℤ
+second_of_pair table j = slice_index_or table (16 * j + 1) (pos 0)
+
+-- each of n pairs stands eight times in the table
+abbrev pub IsTable : ℕ → List ℤ → Type 0
+IsTable n table = (j : ℕ) → j < n → chunk (16 * j) 16 table ≡ alternating 8 (first_of_pair table j) (second_of_pair table j)
+
+-- what n pairs of coefficients give at a place of a row, each two places further to the right
+abbrev pub row_sum : List ℤ → List ℤ → ℕ → ℕ → ℤ
+row_sum row table n p = sum_below n (λ j. pair_at row (first_of_pair table j) (second_of_pair table j) (p + 2 * j))
+
+-- one of the rows that stand one after another
+abbrev pub row_of : List ℤ → ℕ → ℕ → List ℤ
+row_of items line l = chunk (l * line) line items
+
+-- what the first n rows of tables give at a place of as many rows; a row of tables has room for five pairs
+abbrev pub sum_of_rows : List ℤ → ℕ → List ℤ → ℕ → ℕ → ℕ → ℤ
+sum_of_rows rows line table pairs n p = sum_below n (λ l. row_sum (row_of rows line l) (row_of table 80 l) pairs p)
+
+-- coefficient c of row l of the matrix turned by half, 0 beyond its columns
+abbrev pub turned : ConvolutionValue → ℕ → ℕ → ℤ
+turned m l c = if nat_lt c m.columns then coefficient m l (m.columns - 1 - c) else pos 0
+
+-- the tables of a matrix that is turned: row by row five pairs of coefficients, each eight times
+abbrev pub turned_tables : ConvolutionValue → List ℤ
+turned_tables m = run 0 (m.rows * 80) (λ n. turned m (n / 80) (n % 80 / 16 * 2 + n % 2))

@@ -1,16 +1,18 @@
 //! Images that are convolved by a matrix.
-ghost use Rattle.std.specs.Prelude.{◌≡◌, ◌+◌, ◌*◌, ◌<◌, ◌≤◌, ◌^◌, ◌+ℤ◌, ℕ, pos, unsigned_abs, int_div, map, length, replicate, slice_index_or};
+ghost use Rattle.std.specs.Prelude.{◌≡◌, ◌+◌, ◌-◌, ◌*◌, ◌/◌, ◌%◌, ◌<◌, ◌≤◌, ◌^◌, ◌+ℤ◌, ◌-ℤ◌, ℕ, pos, unsigned_abs, int_div, map, length, FitsSigned, All, IsTrue};
+ghost use Rattle.std.specs.Int.{w16};
+ghost use Rattle.std.specs.Simd.Lanes.{Each1};
 ghost use Rattle.vx_base.specs.declared.format.Format.TheVariants.{U8};
 ghost use Rattle.vx_base.specs.Sample.{clamp};
-ghost use Rattle.vx_base.specs.Image.{run};
-ghost use Rattle.vx_base.specs.Window.{look, matrix_product, convolved, from_matrix};
+ghost use Rattle.vx_base.specs.Convolution.{is_odd_side};
+ghost use Rattle.vx_base.specs.Image.{run, table};
+ghost use Rattle.vx_base.specs.Window.{look, convolved, from_matrix};
 ghost use Rattle.image_core.specs.Fits.{HaveSameSize};
 ghost use Rattle.image_core.specs.Target.{written, IsTarget, Writes};
 ghost use Rattle.window_kernels.specs.Fits.{ConvolutionFits};
-ghost use Rattle.window_kernels.specs.Products.{AreUpTo, row_along};
+ghost use Rattle.window_kernels.specs.Products.{IsUpTo, AreUpTo, sum_of_rows, turned, turned_tables};
 
-use crate::nine::with_scratch;
-use crate::products::add_row_products;
+use crate::products::sum_block;
 use border_rows::{load_row, window_valid};
 use image_core::{Image, ImageMut, RowFormula, Sample};
 use vx_base::{Border, Convolution, Format, GREATEST_SIDE, Policy, Rect, narrow_s16, narrow_u8};
@@ -35,7 +37,7 @@ impl Clamped for i16 {
 
 /// A sum over 2^exponent, rounded to zero.
 fn scaled(sum: i32, exponent: u8) -> i32
-    requires size { unsigned_abs sum ≤ 676823040 }
+    requires size { unsigned_abs sum ≤ 752025600 }
     requires exponent { exponent ≤ 31 }
     ensures { result ≡ int_div sum (pos (2 ^ exponent)) }
 {
@@ -46,7 +48,7 @@ fn scaled(sum: i32, exponent: u8) -> i32
 /// Writes the sums over 2^exponent, rounded to zero and clamped.
 fn write_scaled<T: Clamped>(exponent: u8, sums: &[i32], out: &mut [T])
     requires len { length sums.now ≡ length out.old }
-    requires size { AreUpTo 676823040 sums.now }
+    requires size { AreUpTo 752025600 sums.now }
     requires exponent { exponent ≤ 31 }
     ensures { map T.value out.new ≡ map (λ sum. clamp T.format (int_div sum (pos (2 ^ exponent)))) sums.now }
 {
@@ -55,134 +57,202 @@ fn write_scaled<T: Clamped>(exponent: u8, sums: &[i32], out: &mut [T])
     }
 }
 
-/// The samples of the widest image's row, with four to either side.
-const ROW_ROOM: usize = GREATEST_SIDE as usize + 8;
+/// A coefficient of a row of the matrix turned by half; 0 in the columns after its last.
+fn turned(convolution: &Convolution, row: usize, column: usize) -> i16
+    requires { row < convolution.now.rows }
+    ensures { result ≡ turned convolution.now row column }
+{
+    let columns = usize::from(convolution.columns());
+    if column < columns {
+        convolution.coefficients()[row * columns + (columns - 1 - column)]
+    } else {
+        0
+    }
+}
+
+/// Writes the tables of a matrix that is turned.
+fn write_tables(convolution: &Convolution, tables: &mut [i16])
+    requires { length tables.old ≡ convolution.now.rows * 80 }
+    ensures value { tables.new ≡ turned_tables convolution.now }
+    ensures fits { All (FitsSigned w16) tables.new }
+{
+    for (n, item) in tables.iter_mut().enumerate() {
+        *item = turned(convolution, n / 80, n % 80 / 16 * 2 + n % 2);
+    }
+}
+
+/// Writes samples as numbers of 16 bits.
+fn widen(samples: &[u8], out: &mut [i16])
+    requires { length samples.now ≡ length out.old }
+    ensures value { out.new ≡ map pos samples.now }
+    ensures limit { Each1 (IsUpTo 255) out.new }
+{
+    for (i, item) in out.iter_mut().enumerate() {
+        *item = i16::from(samples[i]);
+    }
+}
+
+/// How many more items than the image has columns a row has: what the windows of a whole block at
+/// its last column see.
+const AROUND: u16 = 48;
 
 /// What a matrix gives of a U8 image under a border.
 #[derive(Drop)]
 struct FromMatrix<'a, 'b> {
     image: &'a Image<'b>,
     convolution: &'a Convolution,
+    tables: &'a [i16],
     border: Border,
     area: Rect,
     ghost format: { image.now.format ≡ U8 },
     ghost columns: { (area.x1 ≤ image.now.valid.x1) × (area.x0 < area.x1 → image.now.valid.x0 < image.now.valid.x1) },
     ghost rows: { (area.y1 ≤ image.now.valid.y1) × (area.y0 < area.y1 → image.now.valid.y0 < image.now.valid.y1) },
+    ghost turned: { tables.now ≡ turned_tables convolution.now },
+    ghost fits: { All (FitsSigned w16) tables.now },
+    ghost side: { IsTrue (is_odd_side convolution.now.columns) },
 }
 
 impl FromMatrix<'_, '_> {
-    /// Adds what row l of the matrix gives at the places of row y from column x on. The row of the
-    /// image is loaded into room that is as much longer than `sums` as windows are wide.
-    fn add_row(&self, x: u16, y: u16, l: u8, samples: &mut [u8], sums: &mut [i32])
+    /// Loads what the windows see in a row, from those of column x on.
+    fn load_line(&self, x: u16, row: i32, samples: &mut [u8], line: &mut [i16])
         requires columns { self.now.image.now.valid.x0 < self.now.image.now.valid.x1 }
         requires rows { self.now.image.now.valid.y0 < self.now.image.now.valid.y1 }
-        requires row { l < self.now.convolution.now.rows }
-        requires len { length samples.old + 1 ≡ length sums.old + self.now.convolution.now.columns }
-        requires room { AreUpTo (72 * 8355840) sums.old }
-        ensures value { sums.new ≡ run 0 (length sums.old) (λ i. slice_index_or sums.old i (pos 0) +ℤ row_along self.now.convolution.now (look self.now.image.now self.now.border) (pos (x + i)) (pos y) l) }
-        ensures bound { (limit : ℕ) → AreUpTo limit sums.old → AreUpTo (limit + 9 * 8355840) sums.new }
+        requires len { length samples.old ≡ length line.old }
+        ensures value { line.new ≡ run x (length line.old) (λ c. look self.now.image.now self.now.border (pos c -ℤ pos (self.now.convolution.now.columns / 2)) row) }
+        ensures limit { Each1 (IsUpTo 255) line.new }
     {
-        let (columns, rows) = (self.convolution.columns(), self.convolution.rows());
-        let row = i32::from(y) + i32::from(rows / 2) - i32::from(l);
-        load_row(
-            self.image,
-            x,
-            u16::from(columns / 2),
-            row,
-            self.border,
-            samples,
-        );
-        let first = usize::from(l) * usize::from(columns);
-        let end = first + usize::from(columns);
-        add_row_products(&self.convolution.coefficients()[first..end], samples, sums);
+        let radius = u16::from(self.convolution.columns() / 2);
+        load_row(self.image, x, radius, row, self.border, samples);
+        widen(samples, line);
     }
 
-    /// Sums up what the rows of the matrix give at the places of row y from column x on.
-    fn sum_along(&self, x: u16, y: u16, samples: &mut [u8], sums: &mut [i32])
+    /// Loads the rows that the windows of row y see, from those of column x on: the lowest first,
+    /// as the rows of the matrix follow each other when it is turned.
+    fn load_rows(&self, x: u16, y: u16, line: u16, rows: &mut [i16])
         requires columns { self.now.image.now.valid.x0 < self.now.image.now.valid.x1 }
         requires rows { self.now.image.now.valid.y0 < self.now.image.now.valid.y1 }
-        requires len { length samples.old + 1 ≡ length sums.old + self.now.convolution.now.columns }
-        requires zeros { sums.old ≡ replicate (length sums.old) (pos 0) }
-        ensures value { sums.new ≡ run x (length sums.old) (λ k. matrix_product self.now.convolution.now (look self.now.image.now self.now.border) (pos k) (pos y)) }
-        ensures size { AreUpTo 676823040 sums.new }
+        requires line { line ≤ 4144 }
+        requires len { length rows.old ≡ self.now.convolution.now.rows * line }
+        ensures value { rows.new ≡ table line self.now.convolution.now.rows (λ c l. look self.now.image.now self.now.border (pos (x + c) -ℤ pos (self.now.convolution.now.columns / 2)) (pos y +ℤ pos (self.now.convolution.now.rows / 2) -ℤ pos l)) }
+        ensures limit { Each1 (IsUpTo 255) rows.new }
     {
-        for l in 0..self.convolution.rows() {
-            self.add_row(x, y, l, samples, sums);
+        let mut samples = [0; (GREATEST_SIDE + AROUND) as usize];
+        let step = usize::from(line);
+        let count = self.convolution.rows();
+        for l in 0..count {
+            let row = i32::from(y) + i32::from(count / 2) - i32::from(l);
+            let start = usize::from(l) * step;
+            self.load_line(x, row, &mut samples[..step], &mut rows[start..start + step]);
         }
     }
 
-    /// Writes row y from column x on.
-    fn write_along<T: Clamped>(
-        &self,
-        x: u16,
-        y: u16,
-        samples: &mut [u8],
-        sums: &mut [i32],
-        out: &mut [T],
-    )
-        requires columns { self.now.image.now.valid.x0 < self.now.image.now.valid.x1 }
-        requires rows { self.now.image.now.valid.y0 < self.now.image.now.valid.y1 }
-        requires sums_len { length sums.old ≡ length out.old }
-        requires samples_len { length samples.old + 1 ≡ length out.old + self.now.convolution.now.columns }
-        requires zeros { sums.old ≡ replicate (length sums.old) (pos 0) }
-        ensures { map T.value out.new ≡ run x (length out.old) (λ k. convolved self.now.convolution.now T.format (look self.now.image.now self.now.border) (pos k) (pos y)) }
+    /// Writes at most 32 samples of a row whose windows are loaded. Of a whole block the compiler
+    /// knows how many there are, and scales them without a loop.
+    fn write_block<T: Clamped>(&self, rows: &[i16], line: u16, place: usize, out: &mut [T])
+        requires few { length out.old ≤ 32 }
+        requires rows { length rows.now ≡ self.now.convolution.now.rows * line }
+        requires room { place + 41 ≤ line }
+        requires limit { Each1 (IsUpTo 255) rows.now }
+        ensures { map T.value out.new ≡ run 0 (length out.old) (λ i. clamp T.format (int_div (sum_of_rows rows.now line self.now.tables.now (self.now.convolution.now.columns / 2 + 1) self.now.convolution.now.rows (place + i)) (pos (2 ^ self.now.convolution.now.exponent)))) }
     {
-        self.sum_along(x, y, samples, sums);
-        write_scaled(self.convolution.exponent(), sums, out);
+        let count = self.convolution.rows();
+        let pairs = usize::from(self.convolution.columns()) / 2 + 1;
+        let sums = sum_block(rows, line, self.tables, count, pairs, place);
+        let exponent = self.convolution.exponent();
+        if out.len() == 32 {
+            write_scaled(exponent, &sums, out);
+        } else {
+            write_scaled(exponent, &sums[..out.len()], out);
+        }
+    }
+
+    /// Writes a row whose windows are loaded.
+    fn write_blocks<T: Clamped>(&self, rows: &[i16], line: u16, out: &mut [T])
+        requires rows { length rows.now ≡ self.now.convolution.now.rows * line }
+        requires room { length out.old + 48 ≤ line }
+        requires limit { Each1 (IsUpTo 255) rows.now }
+        ensures { map T.value out.new ≡ run 0 (length out.old) (λ i. clamp T.format (int_div (sum_of_rows rows.now line self.now.tables.now (self.now.convolution.now.columns / 2 + 1) self.now.convolution.now.rows i) (pos (2 ^ self.now.convolution.now.exponent)))) }
+    {
+        let count = out.len();
+        for k in 0..count.div_ceil(32) {
+            let first = 32 * k;
+            let end = (first + 32).min(count);
+            self.write_block(rows, line, first, &mut out[first..end]);
+        }
     }
 }
 
-impl<T: Clamped> RowFormula<T, i32> for FromMatrix<'_, '_> {
+impl<T: Clamped> RowFormula<T, i16> for FromMatrix<'_, '_> {
     ghost at = { λ s x y. convolved s.convolution.now T.format (look s.image.now s.border) (pos x) (pos y) };
 
     ghost area = { λ s. s.area };
 
-    ghost room = { λ s. s.image.now.width };
+    ghost room = { λ s. 9 * (s.image.now.width + 48) };
 
     fn area(&self) -> Rect {
         self.area
     }
 
-    fn fill(&self, x: u16, y: u16, scratch: &mut [i32], out: &mut [T]) {
+    fn fill(&self, x: u16, y: u16, scratch: &mut [i16], out: &mut [T]) {
         // Where nothing is written, there may be no valid place that the rows could show.
         if out.is_empty() {
             return;
         }
-        let _limits = (self.image.valid(), self.image.desc().width());
-        let count = out.len();
-        let around = usize::from(self.convolution.columns()) - 1;
-        let mut samples = [0; ROW_ROOM];
-        let sums = &mut scratch[..count];
-        sums.fill(0);
-        self.write_along(x, y, &mut samples[..count + around], sums, out);
+        let _limits = self.image.valid();
+        let line = self.image.desc().width() + AROUND;
+        let rows = &mut scratch[..usize::from(self.convolution.rows()) * usize::from(line)];
+        self.load_rows(x, y, line, rows);
+        self.write_blocks(rows, line, out);
     }
 }
 
 /// Writes what the matrix gives of a U8 image to another of its size, with scratch memory for the
-/// sums of a row.
+/// rows that a window sees.
 fn write_convolved<T: Clamped>(
     image: &Image<'_>,
     convolution: &Convolution,
     output: &mut ImageMut<'_>,
     border: Border,
-    sums: &mut [i32],
+    scratch: &mut [i16],
 )
     requires target { IsTarget output.old }
     requires size { HaveSameSize (written output.old) image.now }
     requires input_format { image.now.format ≡ U8 }
     requires format { (written output.old).format ≡ T.format }
-    requires sums { image.now.width ≤ length sums.old }
+    requires scratch { 9 * (image.now.width + 48) ≤ length scratch.old }
     ensures { Writes (from_matrix T.format convolution.now border image.now) output.old output.new }
 {
     let (columns, rows) = (convolution.columns() / 2, convolution.rows() / 2);
     let area = window_valid(border, u16::from(columns), u16::from(rows), image.valid());
+    let mut room = [0; 9 * 80];
+    let tables = &mut room[..usize::from(convolution.rows()) * 80];
+    write_tables(convolution, tables);
     let formula = FromMatrix {
         image,
         convolution,
+        tables,
         border,
         area,
     };
-    output.write_by_rows::<T, i32, _>(&formula, sums);
+    output.write_by_rows::<T, i16, _>(&formula, scratch);
+}
+
+/// `with_rows!(width, rows => call)` makes the call with `rows` on the stack, for nine rows of an
+/// image of this width and what a block sees beside them. It is cleared once, and a small image
+/// needs little of it.
+macro_rules! with_rows {
+    ($width:expr, $rows:ident => $call:expr) => {
+        if $width <= 64 {
+            let $rows = &mut [0; 9 * (64 + AROUND as usize)];
+            $call
+        } else if $width <= 512 {
+            let $rows = &mut [0; 9 * (512 + AROUND as usize)];
+            $call
+        } else {
+            let $rows = &mut [0; 9 * (GREATEST_SIDE + AROUND) as usize];
+            $call
+        }
+    };
 }
 
 /// Writes the sums of the samples around each place, each times the coefficient at the opposite
@@ -198,9 +268,9 @@ pub fn convolve(
     ensures { Writes (from_matrix (written output.old).format convolution.now border image.now) output.old output.new }
 {
     let _limits = image.valid();
-    with_scratch!(image.desc().width(), 0, sums => match output.desc().format() {
-        Format::U8 => write_convolved::<u8>(image, convolution, output, border, sums),
-        Format::S16 => write_convolved::<i16>(image, convolution, output, border, sums),
+    with_rows!(image.desc().width(), rows => match output.desc().format() {
+        Format::U8 => write_convolved::<u8>(image, convolution, output, border, rows),
+        Format::S16 => write_convolved::<i16>(image, convolution, output, border, rows),
         Format::U32 => unreachable!(),
     })
 }

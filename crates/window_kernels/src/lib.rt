@@ -4,9 +4,9 @@
 //! valid, 0 elsewhere. A kernel of nine samples is a type that writes a row of them, `OfNine`; that
 //! it gives a whole image is proved once for all, in `write_nine`. Most of them go down the columns
 //! of three rows, which are read where they stand, and then across three columns: `OfColumn` and
-//! `AcrossColumns`. `convolve` sums up a row of products for each coefficient of a matrix, of rows
-//! that are loaded with what counts beside them. No function takes memory. `examples` works the
-//! definitions out in numbers, and `laws` states what the median means.
+//! `AcrossColumns`. `convolve` loads the rows that a window sees, with what counts beside them, and
+//! sums up the products with two coefficients at once, at 32 places (`products`). No function takes
+//! memory. `examples` works the definitions out in numbers, and `laws` states what the median means.
 #![tactic(auto)]
 
 mod columns;

@@ -2,7 +2,7 @@ use Rattle.std.proofs.Common.{◌≡◌, ◌<◌, pos, ◌∙◌, ap, get_or, le
 use Rattle.std.specs.Prelude.{◌^◌, unsigned_abs, int_div}
 use Rattle.std.proofs.lemmas.Int.{ints}
 use Rattle.vx_base.specs.Sample.{clamp}
-use Rattle.window_kernels.proofs.ProductLaws.{scaled_written, sum_of_bits}
+use Rattle.window_kernels.proofs.ProductLaws.{item_mapped, sum_of_bits}
 use Rattle.window_kernels.proofs.convolution.write_scaled.Goals as goal
 
 pub scaled-requires : goal.scaled-requires
@@ -18,6 +18,6 @@ loop-i-preserved g c =
     let read = sum_of_bits sum (c.requires.size i (pos 0) below) in
     let same : to_z w32 (of_z w32 c.scaled.result) ≡ c.scaled.result = omega (arith, ints, c.scaled.type_inv) in
     let power = pos (2 ^ c.args.exponent) in
-    scaled_written g.T.Number.value (λ z. clamp g.T.Sample.format (int_div z power)) c.args.sums.now c.loop-i.out i c.clamped.result c.loop-i.invariant
+    item_mapped g.T.Number.value (λ z. clamp g.T.Sample.format (int_div z power)) c.args.sums.now c.loop-i.out i (pos 0) c.clamped.result c.loop-i.invariant
     (omega (arith, c.loop-i-test.true, c.loop-i.auto.out)) below
     (c.clamped.ensures ∙ ap (clamp g.T.Sample.format) (same ∙ c.scaled.ensures ∙ ap (λ z. int_div z power) read))

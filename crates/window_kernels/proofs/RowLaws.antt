@@ -1,0 +1,81 @@
+-- Rows that are loaded, and rows that are written block by block.
+use Rattle.std.proofs.Common.{◌≡◌, ℕ, ℤ, pos, zero-add, ◌+◌, ◌-◌, ◌*◌, ◌/◌, ◌%◌, ◌<◌, ◌≤◌, ◌+ℤ◌, ◌-ℤ◌, List, [], ◌∷◌, ◌++◌, length, map, take, get_or, set, min, ap, ◌∙◌, sym, subst, arith, w8, w32, Fits, to_z, of_z}
+use Rattle.std.specs.Prelude.{unsigned_abs}
+use Rattle.std.specs.Simd.Lanes.{Each1}
+use Rattle.std.proofs.Math.ListN.{get_or-map}
+use Rattle.std.proofs.lemmas.Int.{ints}
+use Rattle.std.proofs.lemmas.List.{map-id, map-append, take_more_set}
+use Rattle.std.proofs.lemmas.Simd.{Each1-from_get_or}
+use Rattle.std.proofs.lemmas.Slice.{take-put_mid}
+use borrow.Rule.Slice.PartMut.{put_mid}
+use Rattle.vx_base.specs.Image.{run}
+use Rattle.vx_base.proofs.TableLaws.{run-append}
+use Rattle.vx_base.proofs.WindowLaws.{run_shifted}
+use Rattle.window_kernels.specs.Products.{IsUpTo}
+use Rattle.window_kernels.proofs.BitLaws.{Each1-append}
+
+-- samples are bytes
+pub bytes_up_to : (samples : List ℕ) → ((i : ℕ) → Fits w8 (get_or samples i 0)) → Each1 (IsUpTo 255) (map pos samples)
+bytes_up_to samples fits =
+    Each1-from_get_or (IsUpTo 255) (map pos samples) (pos 0)
+    (λ i below. let byte : get_or samples i 0 ≤ 255 = omega (arith, (fits i).fits) in subst (IsUpTo 255) (sym (get_or-map pos samples i 0)) byte)
+
+-- one more item of those that are written is near, or fits
+pub item_fits : (P : ℤ → Type 0) (out : List ℤ) (i : ℕ) (z : ℤ) → Each1 P (take i out) → i < length out → P z → Each1 P (take (i + 1) (set out i z))
+item_fits P out i z before room fits = subst (Each1 P) (sym (take_more_set out i z room)) (Each1-append P (take i out) (z ∷ []) before (fits, tt))
+
+-- one more row of them
+pub row_fits_too : (P : ℤ → Type 0) (out row : List ℤ) (line l first step k : ℕ) → Each1 P (take (l * line) out) → first * step ≡ l * line → length row ≡ line → l * line ≤ length out → Each1 P row
+    → Each1 P (take ((l + 1) * line) (put_mid (first * step) k out row))
+row_fits_too P out row line l first step k before at long room fits =
+    let more : (l + 1) * line ≡ first * step + length row = omega (arith, at, long) in
+    subst (Each1 P) (sym (take-put_mid (first * step) k out row ((l + 1) * line) more (omega (arith, at))))
+    (Each1-append P (take (first * step) out) row (subst (λ (n : ℕ). Each1 P (take n out)) (sym at) before) fits)
+
+-- the number of a row, as it is computed in bits
+small : (z : ℤ) → unsigned_abs z ≤ 100000 → to_z w32 (of_z w32 z) ≡ z
+small z near = omega (arith, ints)
+
+pub row_in_bits : (y h l : ℕ) (a b d : ℤ) → a ≡ pos y → b ≡ pos h → d ≡ pos l → y < 65536 → h < 256 → l < 256 → to_z w32 (of_z w32 (to_z w32 (of_z w32 (to_z w32 (of_z w32 a) +ℤ to_z w32 (of_z w32 b))) -ℤ to_z w32 (of_z w32 d))) ≡ pos y +ℤ pos h -ℤ pos l
+row_in_bits y h l a b d first second third low half row =
+    let s = small (pos y +ℤ pos h) (omega (arith, ints)) in
+    ap (λ z. to_z w32 (of_z w32 (to_z w32 (of_z w32 (z +ℤ to_z w32 (of_z w32 b))) -ℤ to_z w32 (of_z w32 d)))) (ap (λ z. to_z w32 (of_z w32 z)) first ∙ small (pos y) (omega (arith, ints)))
+    ∙ ap (λ z. to_z w32 (of_z w32 (to_z w32 (of_z w32 (pos y +ℤ z)) -ℤ to_z w32 (of_z w32 d)))) (ap (λ z. to_z w32 (of_z w32 z)) second ∙ small (pos h) (omega (arith, ints)))
+    ∙ ap (λ z. to_z w32 (of_z w32 (to_z w32 (of_z w32 (pos y +ℤ pos h)) -ℤ z))) (ap (λ z. to_z w32 (of_z w32 z)) third ∙ small (pos l) (omega (arith, ints)))
+    ∙ ap (λ z. to_z w32 (of_z w32 (z -ℤ pos l))) s
+    ∙ small (pos y +ℤ pos h -ℤ pos l) (omega (arith, ints))
+
+-- what is seen in a row of the image, as a row of what the windows see
+pub line_seen : (f : ℤ → ℤ → ℤ) (row : List ℤ) (x n line r y h l : ℕ) (at : ℤ) → row ≡ run x n (λ c. f (pos c -ℤ pos r) at) → n ≡ line → at ≡ pos y +ℤ pos h -ℤ pos l
+    → map (λ z. z) row ≡ run 0 line (λ c. f (pos (x + c) -ℤ pos r) (pos y +ℤ pos h -ℤ pos l))
+line_seen f row x n line r y h l at are long is =
+    map-id row ∙ are
+    ∙ ap (λ v. run x n (λ c. f (pos c -ℤ pos r) v)) is
+    ∙ ap (λ m. run x m (λ c. f (pos c -ℤ pos r) (pos y +ℤ pos h -ℤ pos l))) long
+    ∙ run_shifted (λ c. f (pos c -ℤ pos r) (pos y +ℤ pos h -ℤ pos l)) (λ c. f (pos (x + c) -ℤ pos r) (pos y +ℤ pos h -ℤ pos l)) x 0 line
+    (λ k b. ap (λ c. f (pos (x + c) -ℤ pos r) (pos y +ℤ pos h -ℤ pos l)) (sym (zero-add k)))
+
+-- one more block of at most 32 items
+pub block_written : {T : Type 0} (value : T → ℤ) (g : ℕ → ℤ) (out ws : List T) (k m n e : ℕ) → length out ≡ n → e ≡ min (32 * k + 32) n → 32 * k ≤ n
+    → map value (take (min (32 * k) n) out) ≡ run 0 (min (32 * k) n) g → length ws ≡ e - 32 * k → map value ws ≡ run 0 (length ws) (λ i. g (32 * k + i))
+    → map value (take (min (32 * (k + 1)) n) (put_mid (32 * k) m out ws)) ≡ run 0 (min (32 * (k + 1)) n) g
+block_written value g out ws k m n e size end begun before long is =
+    let first : min (32 * k) n ≡ 32 * k = omega arith in
+    let more : min (32 * (k + 1)) n ≡ 32 * k + length ws = omega (arith, long, end) in
+    ap (map value) (take-put_mid (32 * k) m out ws (min (32 * (k + 1)) n) more (omega (arith, size)))
+    ∙ map-append value (take (32 * k) out) ws
+    ∙ ap (λ l. l ++ map value ws) (ap (λ i. map value (take i out)) (sym first) ∙ before ∙ ap (λ i. run 0 i g) first)
+    ∙ ap (λ l. run 0 (32 * k) g ++ l) (is ∙ run_shifted (λ i. g (32 * k + i)) g 0 (0 + 32 * k) (length ws) (λ i h. ap g (at i)))
+    ∙ sym (run-append g 0 (32 * k) (length ws))
+    ∙ ap (λ i. run 0 i g) (sym more)
+  where
+    at : (i : ℕ) → 32 * k + (0 + i) ≡ 0 + 32 * k + i
+    at i = omega arith
+
+-- blocks that are not all written yet begin in the row
+pub block_begins : (n k : ℕ) → k < n / 32 + min 1 (n % 32) → 32 * k ≤ n
+block_begins n k h = omega arith
+
+-- and then they end with it
+pub blocks_end : (n k : ℕ) → n / 32 + min 1 (n % 32) ≤ k → min (32 * k) n ≡ n
+blocks_end n k h = omega arith

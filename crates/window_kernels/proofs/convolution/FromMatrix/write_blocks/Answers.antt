@@ -1,0 +1,32 @@
+use Rattle.std.proofs.Common.{◌≡◌, ℕ, ℤ, ◌∙◌, ◌+◌, ◌-◌, ◌*◌, ◌/◌, ◌≤◌, ap, sym, pos, map, length, take, drop, min, arith}
+use Rattle.std.specs.Prelude.{◌^◌, int_div}
+use Rattle.std.proofs.lemmas.List.{take_all, length-take, length-drop}
+use Rattle.vx_base.specs.Sample.{clamp}
+use Rattle.vx_base.specs.Image.{run}
+use Rattle.window_kernels.specs.Products.{sum_of_rows}
+use Rattle.window_kernels.proofs.RowLaws.{block_written, block_begins, blocks_end}
+use Rattle.window_kernels.proofs.convolution.FromMatrix.write_blocks.Goals as goal
+
+pub loop-k-preserved : goal.loop-k-preserved
+loop-k-preserved g c =
+    let s = c.args.self.now in
+    let m = s.convolution.now in
+    let k = c.loop-k.k in
+    let n = length c.args.out.now in
+    let e = c.min-end.result in
+    let at : ℕ → ℤ = λ i. clamp g.T.Sample.format (int_div (sum_of_rows c.args.rows.now c.args.line s.tables.now (m.columns / 2 + 1) m.rows i) (pos (2 ^ m.exponent))) in
+    let begun : 32 * k ≤ n = block_begins n k (omega (arith, c.loop-k-test.true, c.div_ceil-k-end.ensures)) in
+    let part : length (take (e - 32 * k) (drop (32 * k) c.loop-k.out)) ≡ e - 32 * k = simp (length-take, length-drop) (omega (arith, c.min-end.ensures, c.loop-k.auto.out)) in
+    block_written g.T.Number.value at c.loop-k.out c.write_block.new.out k _ n e c.loop-k.auto.out c.min-end.ensures begun c.loop-k.invariant (c.write_block.auto.out ∙ part)
+    (c.write_block.ensures ∙ ap (λ i. run 0 i (λ i. at (32 * k + i))) (sym c.write_block.auto.out))
+
+pub returns : goal.returns
+returns g c =
+    let s = c.args.self.now in
+    let m = s.convolution.now in
+    let n = length c.args.out.now in
+    let at : ℕ → ℤ = λ i. clamp g.T.Sample.format (int_div (sum_of_rows c.args.rows.now c.args.line s.tables.now (m.columns / 2 + 1) m.rows i) (pos (2 ^ m.exponent))) in
+    let end : min (32 * c.loop-k.k) n ≡ n = blocks_end n c.loop-k.k (omega (arith, c.loop-k-test.false, c.div_ceil-k-end.ensures)) in
+    ap (map g.T.Number.value) (sym (take_all (min (32 * c.loop-k.k) n) c.loop-k.out (omega (arith, end, c.loop-k.auto.out))))
+    ∙ c.loop-k.invariant
+    ∙ ap (λ i. run 0 i at) end
