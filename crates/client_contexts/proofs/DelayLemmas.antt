@@ -1,49 +1,29 @@
--- Delays that are created and aged.
-use Rattle.std.proofs.Common.{◌≡◌, ℕ, Bool, Result, ◌*◌, true, false, Some, ap, sym, refl, ◌∙◌}
-use Rattle.std.specs.Prelude.{Ok, Err, if◌then◌else◌}
-use Rattle.std.proofs.lemmas.List.Folds.{sum_by-replicate}
-use Rattle.vx_base.specs.Cell.{Cell}
-use Rattle.vx_base.specs.Description.{Description, byte_count}
-use Rattle.vx_base.specs.Image.{new_image, description_of}
-use Rattle.vx_base.specs.Object.{ObjectValue, DelayObject, IsObject, image_bytes, object_bytes}
-use Rattle.object_table.specs.declared.place.Place.{Place}
-use Rattle.object_table.specs.Delay.{new_delay}
+-- Delays that age.
+use Rattle.std.proofs.Common.{◌≡◌, ℕ, Option, ap, sym, subst}
+use Rattle.std.specs.Prelude.{unwrap_or}
+use Rattle.vx_base.specs.declared.format.Format.TheVariants.{U8}
+use Rattle.vx_base.specs.declared.kind.Kind.TheVariants as kind
+use Rattle.vx_base.specs.Image.{new_image}
+use Rattle.vx_base.specs.Object.{ObjectValue, ImageObject, DelayObject}
+use Rattle.object_table.specs.Context.{Context, cell_of, with_objects}
+use Rattle.object_table.specs.Named.{with_object}
 use Rattle.object_table.specs.Object.{aged_object}
-use Rattle.client_model.specs.declared.refusal.Refusal.{Refusal}
-use Rattle.client_model.specs.declared.refusal.Refusal.TheVariants.{NoResources}
-use Rattle.client_model.specs.declared.reply.Reply.TheVariants.{Name}
+use Rattle.object_table.specs.Table.{object_under}
 use Rattle.client_model.specs.Allowance.{Allowance}
-use Rattle.client_model.specs.Context.{Context, has_room, with_new}
-use Rattle.client_model.specs.Refusal.{Outcome}
-use Rattle.client_model.specs.Delays.{create_like, create_delay}
-use Rattle.graph_run.specs.Places.{image_at}
-use Rattle.client_contexts.specs.Places.{ImageAt}
-use Rattle.client_model.proofs.DelayStepLaws.{aged_is}
+use Rattle.client_model.specs.Delays.{age_named}
+use Rattle.client_model.specs.States.{KeepsLimits}
+use Rattle.client_model.proofs.OutcomeLaws.{Keeps}
+use Rattle.client_model.proofs.DelayStepLaws.{age_delay_keeps}
+use Rattle.client_contexts.specs.Lookup.{IsNamed}
 
--- ---- a delay that is created
+-- the context, where the delay of a name is one step later
+abbrev aged_in : Context → ℕ → ObjectValue → Context
+aged_in c name object = with_objects c (with_object c.objects (cell_of name) (aged_object object))
 
--- where room is found, there is room
-pub found_room : (room : Bool) → ◌≡◌ {A = Result (Unit {0}) Refusal} (Ok tt) (if room then Ok tt else Err NoResources) → room ≡ true
-found_room true e = refl
-found_room false e = cc
-
--- what it is charged
-new_bytes : (d : Description) (slots : ℕ) → object_bytes (DelayObject (new_delay d slots)) ≡ slots * byte_count d
-new_bytes d slots = sum_by-replicate image_bytes slots (new_image d.width d.height d.format)
-
-module _ (limits : Allowance) (c : Context) (cell : Cell) (slots : ℕ) (place : Place) (h : ImageAt c.objects cell place) (d : Description) (is : d ≡ description_of (image_at c.objects place)) where
-  created : create_delay limits c cell slots ≡ (if has_room limits c (slots * byte_count d) then Ok (Name c.next, Some (with_new c (DelayObject (new_delay d slots)))) else Err NoResources)
-  created =
-      ap (λ image. create_like limits c image slots) h.image
-      ∙ ap (λ (e : Description). let r : Outcome = if has_room limits c (object_bytes (DelayObject (new_delay e slots))) then Ok (Name c.next, Some (with_new c (DelayObject (new_delay e slots)))) else Err NoResources in r) (sym is)
-      ∙ ap (λ n. let r : Outcome = if has_room limits c n then Ok (Name c.next, Some (with_new c (DelayObject (new_delay d slots)))) else Err NoResources in r) (new_bytes d slots)
-
-  pub delay_created : has_room limits c (slots * byte_count d) ≡ true → create_delay limits c cell slots ≡ Ok (Name c.next, Some (with_new c (DelayObject (new_delay d slots))))
-  delay_created room = created ∙ ap (λ b. let r : Outcome = if b then Ok (Name c.next, Some (with_new c (DelayObject (new_delay d slots)))) else Err NoResources in r) room
-
--- ---- a delay that ages
-
--- it is one still
-pub IsObject-aged : (object : ObjectValue) → IsObject object → IsObject (aged_object object)
-IsObject-aged (DelayObject images) h = aged_is images h
-IsObject-aged other h = h
+-- a delay that ages keeps the limits
+pub aged_keeps : (limits : Allowance) (c : Context) (name : ℕ) (object : ObjectValue) → KeepsLimits limits c → IsNamed c.objects name kind.Delay object → KeepsLimits limits (aged_in c name (object_under c.objects name))
+aged_keeps limits c name (DelayObject images) h found =
+    let e : object_under c.objects name ≡ DelayObject images = ap (λ (o : Option ObjectValue). unwrap_or o (ImageObject (new_image 0 0 U8))) found.held in
+    subst (λ o. KeepsLimits limits (aged_in c name o)) (sym e)
+    (subst (λ o. Keeps limits c (age_named c name o)) found.live (age_delay_keeps limits c name h)).keeps
+aged_keeps limits c name other h found = let is = found.kind in cc

@@ -1,11 +1,10 @@
 -- The objects that have names, what stands in their slots, and why none is found.
-use Rattle.std.proofs.Common.{◌≡◌, ◌≢◌, ℕ, ◌<◌, Bool, true, false, IsTrue, List, [], ◌∷◌, ◌++◌, Option, Some, None, length, refl, sym, ap, subst, ◌∙◌, arith}
-use Rattle.std.specs.Prelude.{◌==◌, ◌&&◌, ◌||◌, not, position, is_none, is_some, unwrap_or, Ok, Err, Result, if◌then◌else◌}
-use Rattle.std.specs.List.{list_any, AllPairs}
+use Rattle.std.proofs.Common.{◌≡◌, ◌≢◌, ℕ, Bool, true, false, IsTrue, List, [], ◌∷◌, ◌++◌, Option, Some, None, refl, sym, ap, subst, ◌∙◌}
+use Rattle.std.specs.Prelude.{All, ◌==◌, ◌&&◌, ◌||◌, not, is_none, is_some, unwrap_or, Ok, Err, Result, if◌then◌else◌}
+use Rattle.std.specs.List.{list_any}
 use Rattle.std.specs.Option.{option_map, option_and_then}
 use Rattle.std.proofs.lemmas.List.Folds.{list_any-append}
-use Rattle.std.proofs.lemmas.List.Quantifiers.{position-Some}
-use Rattle.std.proofs.lemmas.Bool.{and_parts, eqb-true, ne_eqb}
+use Rattle.std.proofs.lemmas.List.Elements.{All-nil, All-cons, All-append}
 use Rattle.vx_base.specs.declared.kind.Kind.{Kind}
 use Rattle.vx_base.specs.declared.kind.Kind.TheVariants as kind
 use Rattle.vx_base.specs.declared.function.Parameters.{Parameters}
@@ -14,21 +13,23 @@ use Rattle.vx_base.specs.declared.virtual_image.VirtualImage.{VirtualImage}
 use Rattle.vx_base.specs.Cell.{Cell}
 use Rattle.vx_base.specs.Function.{parameters}
 use Rattle.vx_base.specs.Node.{operands, with_kind}
-use Rattle.vx_base.specs.Image.{ImageValue}
+use Rattle.vx_base.specs.declared.format.Format.TheVariants.{U8}
+use Rattle.vx_base.specs.Image.{ImageValue, new_image}
 use Rattle.vx_base.specs.Object.{ObjectValue, ImageObject, DelayObject, VirtualObject, object_kind, same_kind}
 use Rattle.vx_base.proofs.NodeLaws.{same_kind_equal}
-use Rattle.object_table.specs.declared.place.Place.{Place}
-use Rattle.object_table.specs.Delay.{in_slot, object_in, slot_kind}
+use Rattle.object_table.specs.Context.{object_named}
+use Rattle.object_table.specs.Delay.{in_slot, object_in, slot_kind, HasImage}
 use Rattle.object_table.specs.Named.{Named, object_held, held}
 use Rattle.object_table.specs.Object.{image_value}
-use Rattle.object_table.proofs.SearchLemmas.{fails_all, find_first, find_none}
 use Rattle.object_table.proofs.SlotLemmas.{there_is, slot_has_image, has_image, image_there}
+use Rattle.graph_verify.specs.declared.operand.Operand.{Operand}
+use Rattle.graph_verify.specs.declared.operand.Operand.TheVariants.{Delay}
+use Rattle.graph_verify.specs.Operand.{operand_of}
+use Rattle.graph_run.specs.Operands.{operand_held}
 use Rattle.client_model.specs.declared.refusal.Refusal.{Refusal}
 use Rattle.client_model.specs.declared.refusal.Refusal.TheVariants.{InvalidReference, InvalidType, InvalidScope, InvalidValue, OptimizedAway}
-use Rattle.client_model.specs.Context.{object_named}
 use Rattle.client_model.specs.Operands.{is_unknown, is_empty, is_beyond, kind_of, is_kind, stands_for, is_of_other_kind, operands_refusal, as_image, image_of}
-use Rattle.graph_run.specs.Places.{no_object, entry_at, object_at}
-use Rattle.client_contexts.specs.Places.{FoundAt, NamedAt, ImageAt}
+use Rattle.client_contexts.specs.Lookup.{Found, IsNamed, IsImageOf, IsFound}
 use Rattle.client_contexts.specs.Steps.{name_refusal, is_outside, slot_refusal, first_class}
 
 or_false : (b : Bool) → (b || false) ≡ b
@@ -37,37 +38,16 @@ or_false false = refl
 
 -- ---- names
 
--- a name that no object has
-pub nothing_named : (objects : List Named) (name : ℕ) → position (λ o. o.live && o.name == name) objects ≡ None → object_named objects name ≡ None
-nothing_named objects name e = ap (option_map (λ o. o.object)) (find_none (λ o. o.live && o.name == name) objects (fails_all (λ o. o.live && o.name == name) objects e))
-
--- the object of a live name stands at the name's index; where names increase, no other has the name
-pub named_there : (objects : List Named) (name index : ℕ) → AllPairs (λ a b. a.name < b.name) objects → position (λ o. o.live && o.name == name) objects ≡ Some index
-    → (index < length objects) × ((entry_at objects index).name ≡ name) × (object_named objects name ≡ Some (entry_at objects index).object) × (object_held objects name ≡ Some (entry_at objects index).object)
-named_there objects name index increase e =
-    let p = position-Some (λ o. o.live && o.name == name) objects index no_object e in
-    let o = entry_at objects index in
-    let has : (o.name == name) ≡ true = (and_parts o.live (o.name == name) p.1).1 in
-    let is : o.name ≡ name = eqb-true o.name name has in (
-      p.0,
-      is,
-      ap (option_map (λ o. o.object)) (find_first (λ o. o.live && o.name == name) objects index no_object p.0 p.1 p.2),
-      ap (option_map (λ o. o.object)) (find_first (λ o. o.name == name) objects index no_object p.0 has (λ k less. ne_eqb (entry_at objects k).name name (λ same. omega (arith, same, is, increase k index no_object less p.0)))),
-    )
-
--- the index of a live name, as what is wanted of the object there tells
 module _ (objects : List Named) (name : ℕ) (wanted : Kind) where
-  pub refused_nameless : position (λ o. o.live && o.name == name) objects ≡ None → name_refusal wanted (object_named objects name) ≡ Some InvalidReference
-  refused_nameless e = ap (name_refusal wanted) (nothing_named objects name e)
+  pub refused_nameless : object_named objects name ≡ None → name_refusal wanted (object_named objects name) ≡ Some InvalidReference
+  refused_nameless e = ap (name_refusal wanted) e
 
-  module _ (index : ℕ) (increase : AllPairs (λ a b. a.name < b.name) objects) (e : position (λ o. o.live && o.name == name) objects ≡ Some index) where
-    pub name_refused : (same : Bool) → same ≡ same_kind wanted (object_kind (entry_at objects index).object) → name_refusal wanted (object_named objects name) ≡ (if same then None else Some InvalidType)
-    name_refused same is = ap (name_refusal wanted) (named_there objects name index increase e).2 ∙ ap (λ b. let r : Option Refusal = if b then None else Some InvalidType in r) (sym is)
+  module _ (object : ObjectValue) (live : object_named objects name ≡ Some object) where
+    pub name_refused : (same : Bool) → same ≡ same_kind wanted (object_kind object) → name_refusal wanted (object_named objects name) ≡ (if same then None else Some InvalidType)
+    name_refused same is = ap (name_refusal wanted) live ∙ ap (λ b. let r : Option Refusal = if b then None else Some InvalidType in r) (sym is)
 
-    pub name_found : same_kind wanted (object_kind (entry_at objects index).object) ≡ true → NamedAt objects name wanted index
-    name_found same =
-        let there = named_there objects name index increase e in
-        record { within = there.0; named = there.1; live = there.2; kind = sym (same_kind_equal wanted (object_kind (entry_at objects index).object) same) }
+    pub name_found : object_held objects name ≡ Some object → same_kind wanted (object_kind object) ≡ true → IsNamed objects name wanted object
+    name_found held same = record { live = live; held = held; kind = sym (same_kind_equal wanted (object_kind object) same) }
 
 -- ---- what is wanted of an object
 
@@ -106,37 +86,26 @@ module _ (scope : Option ℕ) (objects : List Named) (cell : Cell) (wanted : Kin
   refusal_by_name = ap (λ b. classed (is_unknown objects cell || false) (is_of_other_kind objects (cell, wanted) || false) (b || false) (is_empty objects cell || false)) (beyond_is scope objects cell)
 
   -- an operand whose name no object has
-  pub refused_unknown : position (λ o. o.live && o.name == cell.name) objects ≡ None → operands_refusal scope objects ((cell, wanted) ∷ []) ≡ Some InvalidReference
-  refused_unknown e = refusal_by_name ∙ ap (λ live. refusal_of live (object_held objects cell.name)) (nothing_named objects cell.name e)
+  pub refused_unknown : object_named objects cell.name ≡ None → operands_refusal scope objects ((cell, wanted) ∷ []) ≡ Some InvalidReference
+  refused_unknown e = refusal_by_name ∙ ap (λ live. refusal_of live (object_held objects cell.name)) e
 
-  -- and one whose name has an index
-  module _ (index : ℕ) (increase : AllPairs (λ a b. a.name < b.name) objects) (e : position (λ o. o.live && o.name == cell.name) objects ≡ Some index) where
-    placed : (index < length objects) × ((entry_at objects index).name ≡ cell.name) × (object_named objects cell.name ≡ Some (entry_at objects index).object) × (object_held objects cell.name ≡ Some (entry_at objects index).object)
-    placed = named_there objects cell.name index increase e
-
-    pub refusal_is : operands_refusal scope objects ((cell, wanted) ∷ []) ≡ slot_refusal wanted scope cell.slot (entry_at objects index).object
+  -- and one whose name an object has
+  module _ (object : ObjectValue) (live : object_named objects cell.name ≡ Some object) (is_held : object_held objects cell.name ≡ Some object) where
+    pub refusal_is : operands_refusal scope objects ((cell, wanted) ∷ []) ≡ slot_refusal wanted scope cell.slot object
     refusal_is =
-        let object = (entry_at objects index).object in
         let other = not (is_kind wanted (slot_kind cell.slot object)) in
         let outside = is_outside scope (in_slot cell.slot object) in
         refusal_by_name
-        ∙ ap (λ live. refusal_of live (object_held objects cell.name)) placed.2
-        ∙ ap (refusal_of (Some object)) placed.3
+        ∙ ap (λ l. refusal_of l (object_held objects cell.name)) live
+        ∙ ap (refusal_of (Some object)) is_held
         ∙ ap (λ b. classed false b (outside || false) (is_none (in_slot cell.slot object) || false)) (or_false other)
         ∙ ap (λ b. classed false other b (is_none (in_slot cell.slot object) || false)) (or_false outside)
         ∙ ap (classed false other outside) (or_false (is_none (in_slot cell.slot object)))
 
-    pub found_there : slot_refusal wanted scope cell.slot (entry_at objects index).object ≡ None → FoundAt objects cell wanted (record { index = index; slot = cell.slot })
+    pub found_there : slot_refusal wanted scope cell.slot object ≡ None → Found objects cell wanted object
     found_there h =
-        let object = (entry_at objects index).object in
         let there = accepted wanted scope cell.slot object h in
-        record {
-          stands = record { within = placed.0; there = there.1 };
-          named = ap (λ n. let c : Cell = record { name = n; slot = cell.slot } in c) placed.1;
-          live = placed.2;
-          object = ap (option_and_then (in_slot cell.slot)) placed.3 ∙ there_is cell.slot object there.1;
-          kind = ap (is_kind wanted) (sym (kind_there cell.slot object there.1)) ∙ there.0;
-        }
+        record { live = live; held = is_held; there = there.1; kind = ap (is_kind wanted) (sym (kind_there cell.slot object there.1)) ∙ there.0 }
 
 classes : (a b c d e f g h : Bool) → first_class (classed a b c d) (classed e f g h) ≡ classed (a || e) (b || f) (c || g) (d || h)
 classes true b c d true f g h = refl
@@ -173,17 +142,31 @@ refusal-append scope objects xs ys =
     ∙ ap (λ b. classed (list_any p (xs ++ ys)) (list_any q (xs ++ ys)) b (list_any s xs || list_any s ys)) (sym (list_any-append r xs ys))
     ∙ ap (classed (list_any p (xs ++ ys)) (list_any q (xs ++ ys)) (list_any r (xs ++ ys))) (sym (list_any-append s xs ys))
 
--- ---- images
+-- ---- what a cell holds
 
-module _ (objects : List Named) (cell : Cell) (wanted : Kind) (place : Place) (h : FoundAt objects cell wanted place) where
+module _ (objects : List Named) (cell : Cell) (wanted : Kind) (object : ObjectValue) (h : Found objects cell wanted object) where
+  pub held_found : held objects cell ≡ Some (object_in cell.slot object)
+  held_found = ap (option_and_then (in_slot cell.slot)) h.held ∙ there_is cell.slot object h.there
+
+  pub is_found : IsFound objects (cell, wanted)
+  is_found = (object_in cell.slot object, held_found, h.kind)
+
+  pub operand_found : (operand : Operand) → Some operand ≡ option_map operand_of (in_slot cell.slot object) → operand ≡ operand_held objects cell
+  operand_found operand e =
+      ap (λ o. unwrap_or o Delay) (e ∙ ap (option_map operand_of) (ap (option_and_then (in_slot cell.slot)) (sym h.held)))
+
   -- where a cell is found, it is for an object of the kind that stands there
-  pub kind_found : kind_of objects cell ≡ Some (object_kind (object_at objects place))
-  kind_found =
-      let object = (entry_at objects place.index).object in
-      ap (option_and_then (slot_kind cell.slot)) h.live ∙ ap (λ (c : Cell). slot_kind c.slot object) (sym h.named) ∙ kind_there place.slot object h.stands.there
+  kind_found : kind_of objects cell ≡ Some (object_kind (object_in cell.slot object))
+  kind_found = ap (option_and_then (slot_kind cell.slot)) h.live ∙ kind_there cell.slot object h.there
 
-  pub kind_passes : is_of_other_kind objects (cell, wanted) ≡ false
+  kind_passes : is_of_other_kind objects (cell, wanted) ≡ false
   kind_passes = ap (λ k. not (is_kind wanted k)) kind_found ∙ ap not h.kind
+
+  -- something is there
+  pub none_there : None ≡ option_map operand_of (in_slot cell.slot object) → ⊥
+  none_there e = let no : ◌≡◌ {A = Option Operand} None (Some (operand_of (object_in cell.slot object))) = e ∙ ap (option_map operand_of) (there_is cell.slot object h.there) in cc
+
+-- ---- images
 
 -- a virtual image stands as a whole
 virtual_there : (slot : Option ℕ) (object : ObjectValue) (image : VirtualImage) → object ≡ VirtualObject image → IsTrue (is_some (in_slot slot object)) → object_in slot object ≡ VirtualObject image
@@ -201,27 +184,32 @@ as_image-there : (object : ObjectValue) → object_kind object ≡ kind.Image �
 as_image-there (ImageObject image) h = refl
 as_image-there other h = cc
 
-module _ (objects : List Named) (cell : Cell) (place : Place) (h : FoundAt objects cell kind.Image place) where
-  image_by_object : image_of objects cell ≡ as_image (Some (object_at objects place))
+module _ (objects : List Named) (cell : Cell) (object : ObjectValue) (h : Found objects cell kind.Image object) where
+  image_by_object : image_of objects cell ≡ as_image (Some (object_in cell.slot object))
   image_by_object =
       ap (λ b. let r : Result ImageValue Refusal = if b then Err InvalidReference else (if is_of_other_kind objects (cell, kind.Image) then Err InvalidType else as_image (held objects cell)) in r) (ap is_none h.live)
-      ∙ ap (λ b. let r : Result ImageValue Refusal = if b then Err InvalidType else as_image (held objects cell) in r) (kind_passes objects cell kind.Image place h)
-      ∙ ap as_image h.object
+      ∙ ap (λ b. let r : Result ImageValue Refusal = if b then Err InvalidType else as_image (held objects cell) in r) (kind_passes objects cell kind.Image object h)
+      ∙ ap as_image (held_found objects cell kind.Image object h)
 
   -- a virtual image has no samples
-  pub image_away : (image : VirtualImage) → (entry_at objects place.index).object ≡ VirtualObject image → image_of objects cell ≡ Err OptimizedAway
-  image_away image is = image_by_object ∙ ap (λ o. as_image (Some o)) (virtual_there place.slot (entry_at objects place.index).object image is h.stands.there)
+  pub image_away : (image : VirtualImage) → object ≡ VirtualObject image → image_of objects cell ≡ Err OptimizedAway
+  image_away image is = image_by_object ∙ ap (λ o. as_image (Some o)) (virtual_there cell.slot object image is h.there)
 
   -- any other image has
-  pub image_found : object_kind (entry_at objects place.index).object ≢ kind.VirtualImage → ImageAt objects cell place
-  image_found solid =
-      let object = (entry_at objects place.index).object in
-      let is = solid_there place.slot object h.stands.there h.kind solid in
-      record {
-        there = record { within = h.stands.within; image = has_image place.slot object h.stands.there is };
-        named = h.named;
-        image = image_by_object ∙ as_image-there (object_at objects place) is;
-      }
+  module _ (solid : object_kind object ≢ kind.VirtualImage) where
+    is_image : object_kind (object_in cell.slot object) ≡ kind.Image
+    is_image = solid_there cell.slot object h.there h.kind solid
+
+    pub has_image_there : HasImage cell.slot object
+    has_image_there = has_image cell.slot object h.there is_image
+
+    pub image_found : IsImageOf objects cell (image_value (object_in cell.slot object))
+    image_found =
+        record {
+          there = ap (option_map object_kind) (held_found objects cell kind.Image object h) ∙ ap Some is_image;
+          held = ap (λ o. image_value (unwrap_or o (ImageObject (new_image 0 0 U8)))) (held_found objects cell kind.Image object h);
+          image = image_by_object ∙ as_image-there (object_in cell.slot object) is_image;
+        }
 
 -- an image that isn't found
 pub image_of-refused : (objects : List Named) (cell : Cell) (refusal : Refusal) → Some refusal ≡ operands_refusal None objects ((cell, kind.Image) ∷ []) → image_of objects cell ≡ Err refusal

@@ -1,3 +1,3 @@
 pub mod Applies
-pub mod Places
+pub mod Lookup
 pub mod Steps

@@ -1,10 +1,6 @@
 -- What a request does in the context of its client, and where it finds what a node names.
 use Rattle.std.specs.Prelude.{ℕ, ◌≡◌, Bool, false, not, is_none, ⊤, if◌then◌else◌, List, ◌∷◌, Option, Some, None, Result, Ok, Err, IfOk, IfErr, OnErr, IfSome}
 use Rattle.vx_base.specs.declared.kind.Kind.{Kind}
-use Rattle.vx_base.specs.declared.kind.Kind.TheVariants as kind
-use Rattle.vx_base.specs.declared.node.Node.{Node}
-use Rattle.vx_base.specs.Function.{parameters}
-use Rattle.vx_base.specs.Node.{second_kind}
 use Rattle.vx_base.specs.Object.{ObjectValue, object_kind, same_kind}
 use Rattle.graph_verify.specs.declared.operand.Operands.{Operands}
 use Rattle.graph_verify.specs.declared.operand.Operand.{Operand}
@@ -19,17 +15,27 @@ use Rattle.pgm_images.specs.declared.fault.PgmFault.TheVariants as fault
 use Rattle.client_model.specs.Images.{fault_refusal}
 use Rattle.client_contexts.specs.declared.fault.RequestFault.{RequestFault}
 use Rattle.client_contexts.specs.declared.fault.RequestFault.TheVariants.{Refused, NoMemory}
-use Rattle.graph_run.specs.declared.places.Places.{Places}
 use Rattle.client_model.specs.declared.refusal.Refusal.{Refusal}
 use Rattle.client_model.specs.declared.refusal.Refusal.TheVariants.{InvalidReference, InvalidType, InvalidScope, InvalidValue, NoResources, Rejected}
 use Rattle.client_model.specs.declared.reply.Reply.{Reply}
-use Rattle.object_table.specs.Named.{Named}
-use Rattle.client_model.specs.Context.{Context}
 use Rattle.client_model.specs.Refusal.{Outcome}
+use Rattle.client_model.specs.Allowance.{Allowance}
+use Rattle.client_model.specs.States.{KeepsLimits}
+use Rattle.object_table.specs.Context.{Context}
+use Rattle.object_table.specs.declared.fault.TableFault.{TableFault}
+use Rattle.object_table.specs.declared.fault.TableFault.TheVariants as table
 use Rattle.object_table.specs.Delay.{in_slot, slot_kind}
 use Rattle.client_model.specs.Operands.{is_kind, is_of_other_graph}
-use Rattle.graph_run.specs.Places.{IsPlace}
-use Rattle.client_contexts.specs.Places.{FoundAt, FoundIf}
+
+-- ---- contexts
+
+-- a context that keeps some limits
+abbrev pub IsContext : Context → Type 0
+IsContext c = (limits : Allowance) × KeepsLimits limits c
+
+-- it keeps all that it kept
+abbrev pub Keeps : Context → Context → Type 0
+Keeps old new = (limits : Allowance) → KeepsLimits limits old → KeepsLimits limits new
 
 -- ---- results
 
@@ -58,6 +64,13 @@ WantsMemory NoMemory takes = takes
 abbrev pub text_fault : PgmFault → RequestFault
 text_fault fault.NoMemory = NoMemory
 text_fault other = Refused (fault_refusal other)
+
+-- an object that can't be held, or a name that isn't live
+abbrev pub table_fault : TableFault → RequestFault
+table_fault table.NoMemory = NoMemory
+table_fault table.InvalidReference = Refused InvalidReference
+table_fault table.NoResources = Refused NoResources
+table_fault table.InvalidValue = Refused InvalidValue
 
 -- a graph that can't be changed
 abbrev pub graph_fault : GraphFault → RequestFault
@@ -114,19 +127,3 @@ first_class (Some one) (Some other) = Some other
 -- a node's first input, and what it has beside that
 abbrev pub all_operands : Operands → List Operand
 all_operands o = o.in1 ∷ other_operands o
-
--- ---- nodes
-
--- the places at which they are found
-pub record AreFound (objects : List Named) (n : Node) (p : Places) : Type 0 where
-  pub in1 : FoundAt objects n.in1 kind.Image p.in1
-  pub in2 : FoundIf objects n.in2 (second_kind n) p.in2
-  pub out1 : FoundIf objects n.out1 (parameters n.function).output p.out1
-  pub out2 : FoundIf objects n.out2 (parameters n.function).output p.out2
-
--- places at which objects stand
-pub record ArePlaces (objects : List Named) (p : Places) : Type 0 where
-  pub in1 : IsPlace objects p.in1
-  pub in2 : IfSome p.in2 (IsPlace objects)
-  pub out1 : IfSome p.out1 (IsPlace objects)
-  pub out2 : IfSome p.out2 (IsPlace objects)

@@ -1,35 +1,38 @@
 //! Requests on delays: creating and ageing them.
 ghost use Rattle.client_model.specs.Delays.{create_delay, age_delay};
-ghost use Rattle.client_contexts.specs.Steps.{ComesTo, MayComeTo};
+ghost use Rattle.client_model.specs.States.{KeepsLimits};
+ghost use Rattle.client_contexts.specs.Steps.{ComesTo, MayComeTo, IsContext, Keeps};
 
-use crate::context::Context;
 use crate::fault::RequestFault;
 use crate::lookup::{find_image, find_named};
+use crate::room::{hold, look_for_room};
 use client_model::{Limits, Refusal, Reply};
-use object_table::{Content, Delay, Object};
+use object_table::{Content, Delay, Object, Table};
 use vx_base::{Kind, ObjRef, SlotCount};
 
 /// Creates a delay of so many new images of the size and format of an image.
 pub fn create_delay(
-    context: &mut Context,
+    table: &mut Table,
     limits: Limits,
     exemplar: ObjRef,
     slots: SlotCount,
 ) -> Result<Reply, RequestFault>
-    ensures { MayComeTo (create_delay limits context.old exemplar slots) context.old context.new result }
+    ensures comes { MayComeTo (create_delay limits table.old exemplar slots) table.old table.new result }
+    ensures kept { KeepsLimits limits table.old → KeepsLimits limits table.new }
 {
-    let place = find_image(context, exemplar)?;
-    let desc = context.image_at(place).desc();
-    context.look_for_room(limits, usize::from(slots.get()) * desc.byte_count())?;
-    let delay = Delay::new(context.allocator(), desc, slots)?;
-    Ok(Reply::Name(context.add(Object::new(Content::Delay(delay)))?))
+    let desc = find_image(table, exemplar)?.desc();
+    look_for_room(table, limits, usize::from(slots.get()) * desc.byte_count())?;
+    let delay = Delay::new(table.allocator(), desc, slots)?;
+    hold(table, limits, Object::new(Content::Delay(delay)))
 }
 
 /// Ages a delay: each image comes to the slot behind its own, the last to slot 0.
-pub fn age_delay(context: &mut Context, name: u32) -> Result<Reply, Refusal>
-    ensures { ComesTo (age_delay context.old name) context.old context.new result }
+pub fn age_delay(table: &mut Table, name: u32) -> Result<Reply, Refusal>
+    requires { IsContext table.old }
+    ensures comes { ComesTo (age_delay table.old name) table.old table.new result }
+    ensures kept { Keeps table.old table.new }
 {
-    let index = find_named(context, name, Kind::Delay)?;
-    context.age(index);
+    find_named(table, name, Kind::Delay)?;
+    table.age(name);
     Ok(Reply::Empty)
 }

@@ -2,6 +2,7 @@
 use crate::memory::NoMemory;
 use client_model::Refusal;
 use graph_verify::{GraphFault, VerifyFault};
+use object_table::{InsertFault, TableFault};
 use pgm_images::PgmFault;
 use std::alloc::AllocError;
 
@@ -59,6 +60,22 @@ impl From<PgmFault> for RequestFault {
             PgmFault::InvalidFormat => RequestFault::Refused(Refusal::InvalidFormat),
             PgmFault::InvalidDimension => RequestFault::Refused(Refusal::InvalidDimension),
             PgmFault::InvalidValue => RequestFault::Refused(Refusal::InvalidValue),
+        }
+    }
+}
+
+impl From<InsertFault> for RequestFault {
+    ghost use Rattle.std.specs.Prelude.{◌≡◌};
+    ghost use Rattle.client_contexts.specs.Steps.{table_fault};
+
+    ghost from_gives = { λ failed f. f ≡ table_fault failed.fault };
+
+    fn from(failed: InsertFault) -> RequestFault {
+        match failed.fault {
+            TableFault::NoMemory => RequestFault::NoMemory,
+            TableFault::InvalidReference => RequestFault::Refused(Refusal::InvalidReference),
+            TableFault::NoResources => RequestFault::Refused(Refusal::NoResources),
+            TableFault::InvalidValue => RequestFault::Refused(Refusal::InvalidValue),
         }
     }
 }

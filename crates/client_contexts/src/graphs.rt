@@ -4,85 +4,99 @@ ghost use Rattle.vx_base.specs.Graph.{new_graph};
 ghost use Rattle.vx_base.specs.Object.{GraphObject};
 ghost use Rattle.client_model.specs.Graphs.{create_virtual_image, add_node, remove_node, verify_graph, process_graph};
 ghost use Rattle.client_model.specs.Images.{create};
-ghost use Rattle.client_contexts.specs.Steps.{ComesTo, MayComeTo};
+ghost use Rattle.client_model.specs.States.{KeepsLimits};
+ghost use Rattle.client_contexts.specs.Steps.{ComesTo, MayComeTo, IsContext, Keeps};
 
-use crate::context::Context;
 use crate::fault::RequestFault;
 use crate::lookup::{find_graph_for, find_named};
+use crate::room::{hold, look_for_room};
 use client_model::{Limits, Refusal, Reply};
+use graph_run::{run, verify_in};
 use graph_verify::Graph;
-use object_table::{Content, Object};
+use object_table::{Content, Object, Table};
 use std::alloc::Global;
 use vx_base::{Kind, NodeSpec, Outline, VirtualImage};
 
 /// Creates a graph without nodes.
-pub fn create_graph(context: &mut Context, limits: Limits) -> Result<Reply, RequestFault>
-    ensures { MayComeTo (create limits context.old (GraphObject new_graph)) context.old context.new result }
+pub fn create_graph(table: &mut Table, limits: Limits) -> Result<Reply, RequestFault>
+    ensures comes { MayComeTo (create limits table.old (GraphObject new_graph)) table.old table.new result }
+    ensures kept { KeepsLimits limits table.old → KeepsLimits limits table.new }
 {
-    context.look_for_room(limits, 0)?;
-    let graph = Graph::new(context.allocator());
+    look_for_room(table, limits, 0)?;
+    let graph = Graph::new(table.allocator());
     graph.is_graph();
-    Ok(Reply::Name(context.add(Object::new(Content::Graph(graph)))?))
+    hold(table, limits, Object::new(Content::Graph(graph)))
 }
 
 /// Creates a virtual image of the graph with this name, of this outline.
 pub fn create_virtual_image(
-    context: &mut Context,
+    table: &mut Table,
     limits: Limits,
     graph: u32,
     declared: Outline,
 ) -> Result<Reply, RequestFault>
-    ensures { MayComeTo (create_virtual_image limits context.old graph declared) context.old context.new result }
+    ensures comes { MayComeTo (create_virtual_image limits table.old graph declared) table.old table.new result }
+    ensures kept { KeepsLimits limits table.old → KeepsLimits limits table.new }
 {
-    find_named(context, graph, Kind::Graph)?;
-    context.look_for_room(limits, 0)?;
+    find_named(table, graph, Kind::Graph)?;
+    look_for_room(table, limits, 0)?;
     declared.has_sides();
     let image = VirtualImage { graph, declared };
-    Ok(Reply::Name(context.add(Object::new(Content::Virtual(image)))?))
+    hold(table, limits, Object::new(Content::Virtual(image)))
 }
 
 /// Adds a node to the graph with this name, and says the node's number.
-pub fn add_node(context: &mut Context, graph: u32, node: NodeSpec) -> Result<Reply, RequestFault>
-    ensures { MayComeTo (add_node context.old graph node) context.old context.new result }
+pub fn add_node(table: &mut Table, graph: u32, node: NodeSpec) -> Result<Reply, RequestFault>
+    requires { IsContext table.old }
+    ensures comes { MayComeTo (add_node table.old graph node) table.old table.new result }
+    ensures kept { Keeps table.old table.new }
 {
-    let index = find_graph_for(context, graph, &node.node())?;
-    Ok(Reply::Node(context.add_node(index, node)?))
+    find_graph_for(table, graph, &node.node())?;
+    Ok(Reply::Node(table.add_node(graph, node)?))
 }
 
 /// Removes the node of this number from the graph with this name.
-pub fn remove_node(context: &mut Context, graph: u32, number: u32) -> Result<Reply, Refusal>
-    ensures { ComesTo (remove_node context.old graph number) context.old context.new result }
+pub fn remove_node(table: &mut Table, graph: u32, number: u32) -> Result<Reply, Refusal>
+    requires { IsContext table.old }
+    ensures comes { ComesTo (remove_node table.old graph number) table.old table.new result }
+    ensures kept { Keeps table.old table.new }
 {
-    let index = find_named(context, graph, Kind::Graph)?;
-    context.remove_node(index, number)?;
-    Ok(Reply::Empty)
+    find_named(table, graph, Kind::Graph)?;
+    match table.remove_node(graph, number) {
+        Ok(()) => Ok(Reply::Empty),
+        Err(_) => Err(Refusal::InvalidReference),
+    }
 }
 
 /// Verifies the graph with this name: whether it can run, and if not why.
 pub fn verify_graph(
-    context: &Context,
+    table: &Table,
     limits: Limits,
     alloc: Global,
     graph: u32,
 ) -> Result<Reply, RequestFault>
-    ensures { MayComeTo (verify_graph limits context.now graph) context.now context.now result }
+    requires { IsContext table.now }
+    ensures { MayComeTo (verify_graph limits table.now graph) table.now table.now result }
 {
-    let index = find_named(context, graph, Kind::Graph)?;
-    context.verify(alloc, index, limits.work())?;
+    let found = find_named(table, graph, Kind::Graph)?;
+    verify_in(alloc, table, found.graph(), limits.work())?;
     Ok(Reply::Empty)
 }
 
 /// Runs the graph with this name if it can run: its nodes in an order in which they can, each once.
 /// Otherwise says why not, as `verify_graph` does.
 pub fn process_graph(
-    context: &mut Context,
+    table: &mut Table,
     limits: Limits,
     alloc: Global,
     graph: u32,
 ) -> Result<Reply, RequestFault>
-    ensures { MayComeTo (process_graph limits context.old graph) context.old context.new result }
+    requires { IsContext table.old }
+    ensures comes { MayComeTo (process_graph limits table.old graph) table.old table.new result }
+    ensures kept { KeepsLimits limits table.old → KeepsLimits limits table.new }
 {
-    let index = find_named(context, graph, Kind::Graph)?;
-    context.process(alloc, index, limits.work())?;
+    let found = find_named(table, graph, Kind::Graph)?;
+    let verified = verify_in(alloc, table, found.graph(), limits.work())?;
+    run(alloc, &verified, table)?;
     Ok(Reply::Empty)
 }

@@ -2,27 +2,25 @@
 //! texts, and making a part of them valid.
 ghost use Rattle.std.specs.Prelude.{◌≡◌};
 ghost use Rattle.client_model.specs.Images.{create_image, described, described_virtual, query_image, write_image, write_text, read_image, read_text, set_valid, picture_refusal, valid_refusal};
-ghost use Rattle.client_contexts.specs.Steps.{ComesTo, MayComeTo};
+ghost use Rattle.client_model.specs.States.{KeepsLimits};
+ghost use Rattle.client_contexts.specs.Steps.{ComesTo, MayComeTo, IsContext, Keeps};
 
-use crate::context::Context;
 use crate::fault::RequestFault;
 use crate::lookup::{find, find_image};
+use crate::room::{hold, look_for_room};
 use client_model::{Described, Limits, Refusal, Reply, Text};
-use object_table::{Content, Object, Stored};
+use object_table::{Content, Object, Stored, Table};
 use std::alloc::Global;
 use vx_base::{Desc, Format, Kind, ObjRef, Outline, Picture, Rect};
 
 /// Creates an image that is 0 everywhere and wholly valid.
-pub fn create_image(
-    context: &mut Context,
-    limits: Limits,
-    desc: Desc,
-) -> Result<Reply, RequestFault>
-    ensures { MayComeTo (create_image limits context.old desc) context.old context.new result }
+pub fn create_image(table: &mut Table, limits: Limits, desc: Desc) -> Result<Reply, RequestFault>
+    ensures comes { MayComeTo (create_image limits table.old desc) table.old table.new result }
+    ensures kept { KeepsLimits limits table.old → KeepsLimits limits table.new }
 {
-    context.look_for_room(limits, desc.byte_count())?;
-    let image = Stored::new(context.allocator(), desc)?;
-    Ok(Reply::Name(context.add(Object::new(Content::Image(image)))?))
+    look_for_room(table, limits, desc.byte_count())?;
+    let image = Stored::new(table.allocator(), desc)?;
+    hold(table, limits, Object::new(Content::Image(image)))
 }
 
 /// What is told of an image with samples.
@@ -51,13 +49,14 @@ fn described_virtual(declared: Outline) -> Described
 }
 
 /// The format, the size and the valid rectangle of an image.
-pub fn query_image(context: &Context, reference: ObjRef) -> Result<Reply, Refusal>
-    ensures { ComesTo (query_image context.now reference) context.now context.now result }
+pub fn query_image(table: &Table, reference: ObjRef) -> Result<Reply, Refusal>
+    requires { IsContext table.now }
+    ensures { ComesTo (query_image table.now reference) table.now table.now result }
 {
-    let place = find(context, reference, Kind::Image, None)?;
-    Ok(Reply::Described(match context.object(place.index).content() {
+    let object = find(table, reference, Kind::Image, None)?;
+    Ok(Reply::Described(match object.content() {
         Content::Virtual(image) => described_virtual(image.declared),
-        _ => described(context.image_at(place)),
+        _ => described(object.image(reference.slot())),
     }))
 }
 
@@ -76,55 +75,56 @@ fn picture_refusal(image: Desc, picture: Desc) -> Option<Refusal>
 
 /// Writes a picture to an image.
 pub fn write_image(
-    context: &mut Context,
+    table: &mut Table,
     reference: ObjRef,
     picture: &Picture,
 ) -> Result<Reply, Refusal>
-    ensures { ComesTo (write_image context.old reference picture.now) context.old context.new result }
+    requires { IsContext table.old }
+    ensures comes { ComesTo (write_image table.old reference picture.now) table.old table.new result }
+    ensures kept { Keeps table.old table.new }
 {
-    let place = find_image(context, reference)?;
-    let image = context.image_at(place);
+    let image = find_image(table, reference)?;
     if let Some(refusal) = picture_refusal(image.desc(), picture.desc()) {
         return Err(refusal);
     }
-    context.write(place, picture);
+    // Its contract says that the picture is one.
+    let _samples = picture.samples();
+    table.write(reference, picture);
     Ok(Reply::Empty)
 }
 
 /// Writes the picture for which a PGM text stands to an image. The samples are read into memory of
 /// the allocator first.
 pub fn write_text(
-    context: &mut Context,
+    table: &mut Table,
     alloc: Global,
     reference: ObjRef,
     text: &Text,
 ) -> Result<Reply, RequestFault>
-    ensures { MayComeTo (write_text context.old reference text.now) context.old context.new result }
+    requires { IsContext table.old }
+    ensures comes { MayComeTo (write_text table.old reference text.now) table.old table.new result }
+    ensures kept { Keeps table.old table.new }
 {
-    find_image(context, reference)?;
+    find_image(table, reference)?;
     let picture = pgm_images::read(alloc, text.bytes())?;
-    Ok(write_image(context, reference, &picture)?)
+    Ok(write_image(table, reference, &picture)?)
 }
 
 /// The samples of an image, in memory of the allocator.
-pub fn read_image(
-    context: &Context,
-    alloc: Global,
-    reference: ObjRef,
-) -> Result<Reply, RequestFault>
-    ensures { MayComeTo (read_image context.now reference) context.now context.now result }
+pub fn read_image(table: &Table, alloc: Global, reference: ObjRef) -> Result<Reply, RequestFault>
+    requires { IsContext table.now }
+    ensures { MayComeTo (read_image table.now reference) table.now table.now result }
 {
-    let place = find_image(context, reference)?;
-    let image = context.image_at(place);
+    let image = find_image(table, reference)?;
     Ok(Reply::Picture(image.picture(alloc)?))
 }
 
 /// The samples of a U8 image as a PGM text, in memory of the allocator.
-pub fn read_text(context: &Context, alloc: Global, reference: ObjRef) -> Result<Reply, RequestFault>
-    ensures { MayComeTo (read_text context.now reference) context.now context.now result }
+pub fn read_text(table: &Table, alloc: Global, reference: ObjRef) -> Result<Reply, RequestFault>
+    requires { IsContext table.now }
+    ensures { MayComeTo (read_text table.now reference) table.now table.now result }
 {
-    let place = find_image(context, reference)?;
-    let image = context.image_at(place);
+    let image = find_image(table, reference)?;
     if image.desc().format() != Format::U8 {
         return Err(RequestFault::Refused(Refusal::InvalidFormat));
     }
@@ -143,14 +143,16 @@ fn valid_refusal(image: Desc, valid: Rect) -> Option<Refusal>
 }
 
 /// Makes this the valid rectangle of an image, and each sample outside it 0.
-pub fn set_valid(context: &mut Context, reference: ObjRef, valid: Rect) -> Result<Reply, Refusal>
-    ensures { ComesTo (set_valid context.old reference valid) context.old context.new result }
+pub fn set_valid(table: &mut Table, reference: ObjRef, valid: Rect) -> Result<Reply, Refusal>
+    requires { IsContext table.old }
+    ensures comes { ComesTo (set_valid table.old reference valid) table.old table.new result }
+    ensures kept { Keeps table.old table.new }
 {
-    let place = find_image(context, reference)?;
-    let desc = context.image_at(place).desc();
+    let desc = find_image(table, reference)?.desc();
     if let Some(refusal) = valid_refusal(desc, valid) {
         return Err(refusal);
     }
-    context.set_valid(place, valid);
+    valid.is_rectangle();
+    table.set_valid(reference, valid);
     Ok(Reply::Empty)
 }

@@ -1,26 +1,31 @@
 //! Nodes that run by themselves, at once.
 ghost use Rattle.client_model.specs.Immediate.{immediate};
-ghost use Rattle.client_contexts.specs.Steps.{ComesTo};
+ghost use Rattle.client_contexts.specs.Steps.{ComesTo, IsContext, Keeps};
 
-use crate::context::Context;
-use crate::lookup::{find_operands, has_virtual, operands_at};
+use crate::lookup::{find_operands, has_virtual};
 use client_model::{Refusal, Reply};
+use graph_run::run_once;
 use graph_verify::verdict_on;
+use object_table::Table;
 use vx_base::NodeSpec;
 
 /// Runs a node at once: its outputs become what its function gives.
-pub fn run_at_once(context: &mut Context, node: NodeSpec) -> Result<Reply, Refusal>
-    ensures { ComesTo (immediate context.old node) context.old context.new result }
+pub fn run_at_once(table: &mut Table, node: NodeSpec) -> Result<Reply, Refusal>
+    requires { IsContext table.old }
+    ensures comes { ComesTo (immediate table.old node) table.old table.new result }
+    ensures kept { Keeps table.old table.new }
 {
     let node = node.node();
-    let places = find_operands(context, &node, None)?;
-    let operands = operands_at(context, places);
+    let operands = match find_operands(table, &node, None) {
+        Ok(operands) => operands,
+        Err(refusal) => return Err(refusal),
+    };
     if has_virtual(&operands) {
         return Err(Refusal::OptimizedAway);
     }
     if let Some(verdict) = verdict_on(&node, &operands) {
         return Err(Refusal::Rejected(verdict));
     }
-    context.run(&node, places);
+    run_once(table, &node);
     Ok(Reply::Empty)
 }

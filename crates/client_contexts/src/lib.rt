@@ -8,9 +8,8 @@
 //! after its name has ended, and a run of a graph takes all its memory before it changes anything.
 //!
 //! - `memory`, `fault`: why a request isn't done: it is refused, or finds no memory
-//! - `context`: the objects of a client, with the names and the charge; `context::graphs`: its
-//!   graphs, the verdicts on them, and their runs
-//! - `lookup`: where the objects stand that references and the operands of nodes name
+//! - `lookup`: the objects that references and the operands of nodes name
+//! - `room`: whether a client may hold one more object, and new objects that are held
 //! - the requests by family: `images` (to create, query, write and read them, and to make a part
 //!   valid), `objects` (to release any), `tables` (to create lookup tables, thresholds and
 //!   convolutions), `statistics` (to create and read distributions and extremes), `graphs` (to
@@ -19,7 +18,6 @@
 //! - `runtime`: all clients; contexts are opened and released there
 #![tactic(auto)]
 
-mod context;
 mod delays;
 mod fault;
 mod graphs;
@@ -28,6 +26,7 @@ mod immediate;
 mod lookup;
 mod memory;
 mod objects;
+mod room;
 mod runtime;
 mod statistics;
 mod tables;

@@ -1,26 +1,24 @@
-//! Where the objects stand that references and the operands of nodes name.
-ghost use Rattle.std.specs.Prelude.{◌≡◌, ◌∷◌, [], None, Some, IsTrue, All, IfOk, IfErr, IfSome, OnOk, Ok, Err};
+//! The objects that references and the operands of nodes name.
+ghost use Rattle.std.specs.Prelude.{◌≡◌, ◌∷◌, [], is_some, Some, Ok, Err, IsTrue, All, IfOk, IfErr, OnOk};
 ghost use Rattle.std.specs.List.{list_any};
 ghost use Rattle.std.specs.Option.{option_map};
 ghost use Rattle.vx_base.specs.declared.kind.Kind.TheVariants as kind;
 ghost use Rattle.vx_base.specs.Node.{operands, with_kind};
 ghost use Rattle.vx_base.specs.Object.{same_kind};
+ghost use Rattle.object_table.specs.Context.{object_named, cell_of};
 ghost use Rattle.object_table.specs.Delay.{in_slot};
-ghost use Rattle.graph_verify.specs.Operand.{operand_of, is_virtual};
-ghost use Rattle.client_model.specs.Context.{object_named};
-ghost use Rattle.client_model.specs.Graphs.{cell_of};
+ghost use Rattle.object_table.specs.Table.{IsUnder};
+ghost use Rattle.graph_verify.specs.Operand.{operands_of, is_virtual};
+ghost use Rattle.graph_run.specs.Operands.{operand_held};
 ghost use Rattle.client_model.specs.Operands.{is_kind, operands_refusal, image_of};
-ghost use Rattle.graph_run.specs.Places.{object_at, object_if_at, IsPlace};
-ghost use Rattle.client_contexts.specs.Places.{FoundAt, FoundIf, NamedAt, ImageAt};
 ghost use Rattle.client_model.specs.States.{stands};
-ghost use Rattle.client_contexts.specs.Steps.{refusal_in, name_refusal, is_outside, slot_refusal, first_class, AreFound, ArePlaces, all_operands};
-ghost use Rattle.graph_run.specs.Steps.{operands_at};
+ghost use Rattle.client_contexts.specs.Lookup.{Found, IsNamed, IsImageOf, IsFound};
+ghost use Rattle.client_contexts.specs.Steps.{refusal_in, name_refusal, is_outside, slot_refusal, first_class, all_operands};
 
-use crate::context::Context;
 use client_model::Refusal;
-use graph_run::{Places, operand_of};
+use graph_run::operand_in;
 use graph_verify::{Operand, Operands};
-use object_table::{Content, Object, Place};
+use object_table::{Content, Object, Stored, Table};
 use vx_base::{Kind, Node, ObjRef};
 
 /// Whether a kind is the one that is wanted.
@@ -72,67 +70,86 @@ fn slot_refusal(
     }
 }
 
-/// Where the object of this kind stands that a reference names, or why it names none. Within the
-/// scope of a graph a virtual image is one of that graph.
+/// The object that has the name of a reference, in which its slot is there, and of what kind that
+/// is wanted; or why there is none. Within the scope of a graph a virtual image is one of that graph.
 pub fn find(
-    context: &Context,
+    table: &Table,
     reference: ObjRef,
     kind: Kind,
     scope: Option<u32>,
-) -> Result<Place, Refusal>
-    ensures ok { IfOk result (λ place. FoundAt context.now.objects reference kind place) }
-    ensures err { refusal_in result ≡ operands_refusal scope context.now.objects ((reference, kind) ∷ []) }
+) -> Result<&Object, Refusal>
+    ensures ok { IfOk result (λ object. Found table.now.objects reference kind object.now) }
+    ensures err { refusal_in result ≡ operands_refusal scope table.now.objects ((reference, kind) ∷ []) }
 {
-    let Some(index) = context.index_of(reference.name()) else {
+    let Ok(object) = table.get(reference.name()) else {
         return Err(Refusal::InvalidReference);
     };
-    let slot = reference.slot();
-    match slot_refusal(context.object(index), slot, kind, scope) {
-        None => Ok(Place { index, slot }),
+    match slot_refusal(object, reference.slot(), kind, scope) {
+        None => Ok(object),
         Some(refusal) => Err(refusal),
     }
 }
 
-/// The index of the object of this kind that has a name, or why there is none.
-pub fn find_named(context: &Context, name: u32, kind: Kind) -> Result<usize, Refusal>
-    ensures ok { IfOk result (NamedAt context.now.objects name kind) }
-    ensures err { refusal_in result ≡ name_refusal kind (object_named context.now.objects name) }
+/// The object of this kind that has a name, or why there is none.
+pub fn find_named(table: &Table, name: u32, kind: Kind) -> Result<&Object, Refusal>
+    ensures ok { IfOk result (λ object. IsNamed table.now.objects name kind object.now) }
+    ensures err { refusal_in result ≡ name_refusal kind (object_named table.now.objects name) }
 {
-    let Some(index) = context.index_of(name) else {
+    let Ok(object) = table.get(name) else {
         return Err(Refusal::InvalidReference);
     };
-    if same_kind(kind, context.object(index).kind()) {
-        Ok(index)
+    if same_kind(kind, object.kind()) {
+        Ok(object)
     } else {
         Err(Refusal::InvalidType)
     }
 }
 
-/// Where the image stands that a reference names, or why it names none that has samples.
-pub fn find_image(context: &Context, reference: ObjRef) -> Result<Place, Refusal>
-    ensures ok { IfOk result (ImageAt context.now.objects reference) }
-    ensures err { IfErr result (λ refusal. image_of context.now.objects reference ≡ Err refusal) }
+/// The image that a reference names, or why it names none that has samples.
+pub fn find_image(table: &Table, reference: ObjRef) -> Result<&Stored, Refusal>
+    ensures ok { IfOk result (λ image. IsImageOf table.now.objects reference image.now) }
+    ensures err { IfErr result (λ refusal. image_of table.now.objects reference ≡ Err refusal) }
 {
-    let place = find(context, reference, Kind::Image, None)?;
-    match context.object(place.index).content() {
+    let object = find(table, reference, Kind::Image, None)?;
+    match object.content() {
         Content::Virtual(_) => Err(Refusal::OptimizedAway),
-        _ => Ok(place),
+        _ => Ok(object.image(reference.slot())),
     }
 }
 
-/// Where an operand stands that may be left out.
-fn find_if_given(
-    context: &Context,
-    reference: Option<ObjRef>,
+/// What a cell of a node holds, as an operand of the kind that the node's function has there; or
+/// why it can't stand there.
+fn find_operand(
+    table: &Table,
+    cell: ObjRef,
     kind: Kind,
     scope: Option<u32>,
-) -> Result<Option<Place>, Refusal>
-    ensures ok { IfOk result (λ place. FoundIf context.now.objects reference kind place) }
-    ensures err { refusal_in result ≡ operands_refusal scope context.now.objects (with_kind kind reference) }
+) -> Result<Operand, Refusal>
+    ensures ok { IfOk result (λ operand. operand ≡ operand_held table.now.objects cell) }
+    ensures found { OnOk result (IsFound table.now.objects (cell, kind)) }
+    ensures err { refusal_in result ≡ operands_refusal scope table.now.objects ((cell, kind) ∷ []) }
 {
-    match reference {
+    let object = find(table, cell, kind, scope)?;
+    match operand_in(object, cell.slot()) {
+        Some(operand) => Ok(operand),
+        None => unreachable!(),
+    }
+}
+
+/// The same of a cell that may be left out.
+fn find_if_given(
+    table: &Table,
+    cell: Option<ObjRef>,
+    kind: Kind,
+    scope: Option<u32>,
+) -> Result<Option<Operand>, Refusal>
+    ensures ok { IfOk result (λ operand. operand ≡ option_map (operand_held table.now.objects) cell) }
+    ensures found { OnOk result (All (IsFound table.now.objects) (with_kind kind cell)) }
+    ensures err { refusal_in result ≡ operands_refusal scope table.now.objects (with_kind kind cell) }
+{
+    match cell {
         None => Ok(None),
-        Some(reference) => Ok(Some(find(context, reference, kind, scope)?)),
+        Some(cell) => Ok(Some(find_operand(table, cell, kind, scope)?)),
     }
 }
 
@@ -166,20 +183,21 @@ fn both<A: Drop, B: Drop>(
     }
 }
 
-/// The places of a node's operands, each of the kind that the node's function has there. The scope
-/// is that of the node's graph, if it has one.
-pub fn find_operands(context: &Context, node: &Node, scope: Option<u32>) -> Result<Places, Refusal>
-    ensures ok { IfOk result (λ places. AreFound context.now.objects node.now places) }
-    ensures err { refusal_in result ≡ operands_refusal scope context.now.objects (operands node.now) }
+/// What the cells of a node hold, each of the kind that the node's function has there. The scope is
+/// that of the node's graph, if it has one.
+pub fn find_operands(table: &Table, node: &Node, scope: Option<u32>) -> Result<Operands, Refusal>
+    ensures ok { IfOk result (λ found. found ≡ operands_of (operand_held table.now.objects) node.now) }
+    ensures found { OnOk result (All (IsFound table.now.objects) (operands node.now)) }
+    ensures err { refusal_in result ≡ operands_refusal scope table.now.objects (operands node.now) }
 {
     let parameters = node.function.parameters();
     let second = parameters.second_input.unwrap_or(Kind::Image);
-    let in1 = find(context, node.in1, Kind::Image, scope);
-    let in2 = find_if_given(context, node.in2, second, scope);
-    let out1 = find_if_given(context, node.out1, parameters.output, scope);
-    let out2 = find_if_given(context, node.out2, parameters.output, scope);
+    let in1 = find_operand(table, node.in1, Kind::Image, scope);
+    let in2 = find_if_given(table, node.in2, second, scope);
+    let out1 = find_if_given(table, node.out1, parameters.output, scope);
+    let out2 = find_if_given(table, node.out2, parameters.output, scope);
     let ((in1, in2), (out1, out2)) = both(both(in1, in2), both(out1, out2))?;
-    Ok(Places {
+    Ok(Operands {
         in1,
         in2,
         out1,
@@ -187,52 +205,17 @@ pub fn find_operands(context: &Context, node: &Node, scope: Option<u32>) -> Resu
     })
 }
 
-/// The index of the graph with a name, if it can be given a node with these operands: each of them
-/// is found in the graph's scope. Else the refusal of the graph's name and the operands.
-pub fn find_graph_for(context: &Context, graph: u32, node: &Node) -> Result<usize, Refusal>
-    ensures ok { IfOk result (NamedAt context.now.objects graph kind.Graph) }
-    ensures operands { OnOk result (All (λ operand. IsTrue (stands context.now.objects graph operand)) (operands node.now)) }
-    ensures err { refusal_in result ≡ operands_refusal (Some graph) context.now.objects ((cell_of graph, kind.Graph) ∷ operands node.now) }
+/// Whether the graph with a name can be given a node with these operands: each of them is found in
+/// the graph's scope. Else the refusal of the graph's name and the operands.
+pub fn find_graph_for(table: &Table, graph: u32, node: &Node) -> Result<(), Refusal>
+    ensures ok { OnOk result (IsTrue (is_some (object_named table.now.objects graph)) × IsUnder table.now.objects kind.Graph graph) }
+    ensures operands { OnOk result (All (λ operand. IsTrue (stands table.now.objects graph operand)) (operands node.now)) }
+    ensures err { refusal_in result ≡ operands_refusal (Some graph) table.now.objects ((cell_of graph, kind.Graph) ∷ operands node.now) }
 {
-    let place = find(context, ObjRef::new(graph, None), Kind::Graph, Some(graph));
-    let operands = find_operands(context, node, Some(graph));
-    let (place, _) = both(place, operands)?;
-    Ok(place.index)
-}
-
-/// What stands at a place, as an operand.
-fn operand_at(context: &Context, place: Place) -> Operand
-    requires { IsPlace context.now.objects place }
-    ensures { result ≡ operand_of (object_at context.now.objects place) }
-{
-    match place.slot {
-        None => operand_of(context.object(place.index)),
-        Some(_) => Operand::Image(context.image_at(place).desc()),
-    }
-}
-
-/// What stands at a place, if there is a place.
-fn operand_if_at(context: &Context, place: Option<Place>) -> Option<Operand>
-    requires { IfSome place (IsPlace context.now.objects) }
-    ensures { result ≡ option_map operand_of (object_if_at context.now.objects place) }
-{
-    match place {
-        None => None,
-        Some(place) => Some(operand_at(context, place)),
-    }
-}
-
-/// What stands at the places of a node's operands.
-pub fn operands_at(context: &Context, places: Places) -> Operands
-    requires { ArePlaces context.now.objects places }
-    ensures { result ≡ operands_at context.now.objects places }
-{
-    Operands {
-        in1: operand_at(context, places.in1),
-        in2: operand_if_at(context, places.in2),
-        out1: operand_if_at(context, places.out1),
-        out2: operand_if_at(context, places.out2),
-    }
+    let found = find_operand(table, ObjRef::new(graph, None), Kind::Graph, Some(graph));
+    let operands = find_operands(table, node, Some(graph));
+    both(found, operands)?;
+    Ok(())
 }
 
 /// Whether one of a node's operands is a virtual image.

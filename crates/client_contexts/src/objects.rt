@@ -1,15 +1,19 @@
 //! Requests on objects of any kind: releasing them.
 ghost use Rattle.client_model.specs.Objects.{release};
-ghost use Rattle.client_contexts.specs.Steps.{ComesTo};
+ghost use Rattle.client_contexts.specs.Steps.{ComesTo, IsContext, Keeps};
 
-use crate::context::Context;
 use client_model::{Refusal, Reply};
+use object_table::Table;
 
 /// Ends an object's name. The object is dropped unless a node uses it; a graph's nodes are dropped
 /// with the graph.
-pub fn release(context: &mut Context, name: u32) -> Result<Reply, Refusal>
-    ensures { ComesTo (release context.old name) context.old context.new result }
+pub fn release(table: &mut Table, name: u32) -> Result<Reply, Refusal>
+    requires { IsContext table.old }
+    ensures comes { ComesTo (release table.old name) table.old table.new result }
+    ensures kept { Keeps table.old table.new }
 {
-    context.release(name)?;
-    Ok(Reply::Empty)
+    match table.release(name) {
+        Ok(()) => Ok(Reply::Empty),
+        Err(_) => Err(Refusal::InvalidReference),
+    }
 }

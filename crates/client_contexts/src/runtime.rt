@@ -4,10 +4,10 @@ ghost use Rattle.client_model.specs.declared.request.Request.TheVariants.{Releas
 ghost use Rattle.client_model.specs.Context.{state_of};
 ghost use Rattle.client_model.specs.Request.{TakesMemory};
 ghost use Rattle.client_model.specs.Answer.{outcome_of};
+ghost use Rattle.client_model.specs.States.{KeepsLimits};
 ghost use Rattle.client_contexts.specs.Applies.{Applies};
 ghost use Rattle.client_contexts.specs.Steps.{MayComeTo, WantsMemory};
 
-use crate::context::Context;
 use crate::delays::{age_delay, create_delay};
 use crate::fault::RequestFault;
 use crate::graphs::{
@@ -22,6 +22,7 @@ use crate::objects::release;
 use crate::statistics::{create_distribution, create_min_max, read_distribution, read_min_max};
 use crate::tables::{create_convolution, create_lut, create_threshold};
 use client_model::{Limits, Refusal, Reply, Request};
+use object_table::Table;
 use std::alloc::Global;
 use std::collections::BTreeMap;
 use std::marker::Model;
@@ -32,15 +33,20 @@ use vx_base::Code;
 pub struct Runtime {
     alloc: Global,
     limits: Limits,
-    contexts: BTreeMap<u16, Context>,
+    contexts: BTreeMap<u16, Table>,
 }
 
 impl Model for Runtime {
+    ghost use Rattle.std.specs.Prelude.{All};
+    ghost use Rattle.std.specs.Map.{values_of};
     ghost use Rattle.client_model.specs.Context.{World};
+    ghost use Rattle.client_model.specs.States.{KeepsLimits};
 
     ghost Value = { World };
 
     ghost view = { λ r. record { limits = r.limits; contexts = r.contexts.entries } };
+
+    ghost invariant = { λ r. All (KeepsLimits r.limits) (values_of r.contexts.entries) };
 }
 
 impl Runtime {
@@ -71,7 +77,7 @@ impl Runtime {
             return Ok(self.release_context(client));
         }
         match self.contexts.get_mut(&client) {
-            Some(context) => match answer(context, limits, alloc, request) {
+            Some(table) => match answer(table, limits, alloc, request) {
                 Ok(reply) => Ok(reply),
                 Err(RequestFault::Refused(refusal)) => Ok(Reply::Refused(refusal.code())),
                 Err(RequestFault::NoMemory) => Err(NoMemory),
@@ -97,7 +103,7 @@ impl Runtime {
     {
         match request {
             Request::OpenContext => {
-                self.contexts.insert(client, Context::new(self.alloc))?;
+                self.contexts.insert(client, Table::new(self.alloc))?;
                 Ok(Reply::Empty)
             }
             _ => Ok(Reply::Refused(Code::InvalidReference)),
@@ -107,43 +113,45 @@ impl Runtime {
 
 /// Answers a request of a client that has this context and keeps it, or says why not.
 fn answer(
-    context: &mut Context,
+    table: &mut Table,
     limits: Limits,
     alloc: Global,
     request: &Request,
 ) -> Result<Reply, RequestFault>
-    requires { request.now ≢ ReleaseContext }
-    ensures comes { MayComeTo (outcome_of limits context.old request.now) context.old context.new result }
+    requires other { request.now ≢ ReleaseContext }
+    requires keeps { KeepsLimits limits table.old }
+    ensures comes { MayComeTo (outcome_of limits table.old request.now) table.old table.new result }
+    ensures kept { KeepsLimits limits table.new }
     ensures takes { IfErr result (λ fault. WantsMemory fault (TakesMemory request.now)) }
 {
     match request {
         Request::OpenContext => Err(RequestFault::Refused(Refusal::InvalidValue)),
         Request::ReleaseContext => unreachable!(),
-        Request::CreateImage(desc) => create_image(context, limits, *desc),
-        Request::QueryImage(reference) => Ok(query_image(context, *reference)?),
-        Request::WriteImage(reference, picture) => Ok(write_image(context, *reference, picture)?),
-        Request::WriteImagePgm(reference, text) => write_text(context, alloc, *reference, text),
-        Request::ReadImage(reference) => read_image(context, alloc, *reference),
-        Request::ReadImagePgm(reference) => read_text(context, alloc, *reference),
-        Request::SetValid(reference, valid) => Ok(set_valid(context, *reference, *valid)?),
-        Request::Release(name) => Ok(release(context, *name)?),
-        Request::CreateLut(lut) => create_lut(context, limits, lut),
-        Request::CreateThreshold(threshold) => create_threshold(context, limits, *threshold),
-        Request::CreateConvolution(convolution) => create_convolution(context, limits, convolution),
-        Request::CreateDistribution(bins) => create_distribution(context, limits, *bins),
-        Request::ReadDistribution(name) => read_distribution(context, alloc, *name),
-        Request::CreateMinMax => create_min_max(context, limits),
-        Request::ReadMinMax(name) => Ok(read_min_max(context, *name)?),
-        Request::CreateGraph => create_graph(context, limits),
+        Request::CreateImage(desc) => create_image(table, limits, *desc),
+        Request::QueryImage(reference) => Ok(query_image(table, *reference)?),
+        Request::WriteImage(reference, picture) => Ok(write_image(table, *reference, picture)?),
+        Request::WriteImagePgm(reference, text) => write_text(table, alloc, *reference, text),
+        Request::ReadImage(reference) => read_image(table, alloc, *reference),
+        Request::ReadImagePgm(reference) => read_text(table, alloc, *reference),
+        Request::SetValid(reference, valid) => Ok(set_valid(table, *reference, *valid)?),
+        Request::Release(name) => Ok(release(table, *name)?),
+        Request::CreateLut(lut) => create_lut(table, limits, lut),
+        Request::CreateThreshold(threshold) => create_threshold(table, limits, *threshold),
+        Request::CreateConvolution(convolution) => create_convolution(table, limits, convolution),
+        Request::CreateDistribution(bins) => create_distribution(table, limits, *bins),
+        Request::ReadDistribution(name) => read_distribution(table, alloc, *name),
+        Request::CreateMinMax => create_min_max(table, limits),
+        Request::ReadMinMax(name) => Ok(read_min_max(table, *name)?),
+        Request::CreateGraph => create_graph(table, limits),
         Request::CreateVirtualImage(graph, declared) => {
-            create_virtual_image(context, limits, *graph, *declared)
+            create_virtual_image(table, limits, *graph, *declared)
         }
-        Request::AddNode(graph, node) => add_node(context, *graph, *node),
-        Request::RemoveNode(graph, number) => Ok(remove_node(context, *graph, *number)?),
-        Request::VerifyGraph(graph) => verify_graph(context, limits, alloc, *graph),
-        Request::ProcessGraph(graph) => process_graph(context, limits, alloc, *graph),
-        Request::Immediate(node) => Ok(run_at_once(context, *node)?),
-        Request::CreateDelay(exemplar, slots) => create_delay(context, limits, *exemplar, *slots),
-        Request::AgeDelay(name) => Ok(age_delay(context, *name)?),
+        Request::AddNode(graph, node) => add_node(table, *graph, *node),
+        Request::RemoveNode(graph, number) => Ok(remove_node(table, *graph, *number)?),
+        Request::VerifyGraph(graph) => verify_graph(table, limits, alloc, *graph),
+        Request::ProcessGraph(graph) => process_graph(table, limits, alloc, *graph),
+        Request::Immediate(node) => Ok(run_at_once(table, *node)?),
+        Request::CreateDelay(exemplar, slots) => create_delay(table, limits, *exemplar, *slots),
+        Request::AgeDelay(name) => Ok(age_delay(table, *name)?),
     }
 }

@@ -2,35 +2,40 @@
 ghost use Rattle.vx_base.specs.Object.{DistributionObject, ExtremesObject, new_distribution, no_extremes};
 ghost use Rattle.client_model.specs.Images.{create};
 ghost use Rattle.client_model.specs.Statistics.{read_distribution, read_min_max};
+ghost use Rattle.client_model.specs.States.{KeepsLimits};
 ghost use Rattle.client_contexts.specs.Steps.{ComesTo, MayComeTo};
 
-use crate::context::Context;
 use crate::fault::RequestFault;
 use crate::lookup::find_named;
+use crate::room::{hold, look_for_room};
 use client_model::{Counts, Limits, Refusal, Reply};
-use object_table::{Content, Distribution, Object};
+use object_table::{Content, Distribution, Object, Table};
 use std::alloc::Global;
 use vx_base::{Bins, Extremes, Kind};
 
 /// Creates a distribution of these bins, which has counted nothing.
 pub fn create_distribution(
-    context: &mut Context,
+    table: &mut Table,
     limits: Limits,
     bins: Bins,
 ) -> Result<Reply, RequestFault>
-    ensures { MayComeTo (create limits context.old (DistributionObject (new_distribution bins))) context.old context.new result }
+    ensures comes { MayComeTo (create limits table.old (DistributionObject (new_distribution bins))) table.old table.new result }
+    ensures kept { KeepsLimits limits table.old → KeepsLimits limits table.new }
 {
-    context.look_for_room(limits, 0)?;
-    let distribution = Distribution::new(context.allocator(), bins)?;
-    Ok(Reply::Name(context.add(Object::new(Content::Distribution(distribution)))?))
+    look_for_room(table, limits, 0)?;
+    let distribution = Distribution::new(table.allocator(), bins)?;
+    hold(
+        table,
+        limits,
+        Object::new(Content::Distribution(distribution)),
+    )
 }
 
 /// The counts of a distribution, in memory of the allocator.
-pub fn read_distribution(context: &Context, alloc: Global, name: u32) -> Result<Reply, RequestFault>
-    ensures { MayComeTo (read_distribution context.now name) context.now context.now result }
+pub fn read_distribution(table: &Table, alloc: Global, name: u32) -> Result<Reply, RequestFault>
+    ensures { MayComeTo (read_distribution table.now name) table.now table.now result }
 {
-    let index = find_named(context, name, Kind::Distribution)?;
-    match context.object(index).content() {
+    match find_named(table, name, Kind::Distribution)?.content() {
         Content::Distribution(distribution) => {
             let mut counts = Vec::new(alloc);
             counts.extend_from_slice(distribution.counts())?;
@@ -41,10 +46,11 @@ pub fn read_distribution(context: &Context, alloc: Global, name: u32) -> Result<
 }
 
 /// Creates extremes that were found nowhere.
-pub fn create_min_max(context: &mut Context, limits: Limits) -> Result<Reply, RequestFault>
-    ensures { MayComeTo (create limits context.old (ExtremesObject no_extremes)) context.old context.new result }
+pub fn create_min_max(table: &mut Table, limits: Limits) -> Result<Reply, RequestFault>
+    ensures comes { MayComeTo (create limits table.old (ExtremesObject no_extremes)) table.old table.new result }
+    ensures kept { KeepsLimits limits table.old → KeepsLimits limits table.new }
 {
-    context.look_for_room(limits, 0)?;
+    look_for_room(table, limits, 0)?;
     let extremes = Extremes {
         min: 0,
         max: 0,
@@ -53,15 +59,14 @@ pub fn create_min_max(context: &mut Context, limits: Limits) -> Result<Reply, Re
         min_at: (0, 0),
         max_at: (0, 0),
     };
-    Ok(Reply::Name(context.add(Object::new(Content::Extremes(extremes)))?))
+    hold(table, limits, Object::new(Content::Extremes(extremes)))
 }
 
 /// The extremes with this name.
-pub fn read_min_max(context: &Context, name: u32) -> Result<Reply, Refusal>
-    ensures { ComesTo (read_min_max context.now name) context.now context.now result }
+pub fn read_min_max(table: &Table, name: u32) -> Result<Reply, Refusal>
+    ensures { ComesTo (read_min_max table.now name) table.now table.now result }
 {
-    let index = find_named(context, name, Kind::Extremes)?;
-    match context.object(index).content() {
+    match find_named(table, name, Kind::Extremes)?.content() {
         Content::Extremes(extremes) => Ok(Reply::Extremes(*extremes)),
         _ => unreachable!(),
     }

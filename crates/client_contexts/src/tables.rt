@@ -2,46 +2,53 @@
 //! lookup tables, thresholds and convolutions.
 ghost use Rattle.vx_base.specs.Object.{LutObject, ThresholdObject, ConvolutionObject};
 ghost use Rattle.client_model.specs.Images.{create};
+ghost use Rattle.client_model.specs.States.{KeepsLimits};
 ghost use Rattle.client_contexts.specs.Steps.{MayComeTo};
 
-use crate::context::Context;
 use crate::fault::RequestFault;
+use crate::room::{hold, look_for_room};
 use client_model::{Limits, Reply};
-use object_table::{Content, Object};
+use object_table::{Content, Object, Table};
 use vx_base::{Convolution, Lut, ThresholdRule};
 
 /// Creates a lookup table like this one.
-pub fn create_lut(context: &mut Context, limits: Limits, lut: &Lut) -> Result<Reply, RequestFault>
-    ensures { MayComeTo (create limits context.old (LutObject lut.now)) context.old context.new result }
+pub fn create_lut(table: &mut Table, limits: Limits, lut: &Lut) -> Result<Reply, RequestFault>
+    ensures comes { MayComeTo (create limits table.old (LutObject lut.now)) table.old table.new result }
+    ensures kept { KeepsLimits limits table.old → KeepsLimits limits table.new }
 {
-    context.look_for_room(limits, 0)?;
-    let copy = lut.copy(context.allocator())?;
-    Ok(Reply::Name(context.add(Object::new(Content::Lut(copy)))?))
+    look_for_room(table, limits, 0)?;
+    let copy = lut.copy(table.allocator())?;
+    hold(table, limits, Object::new(Content::Lut(copy)))
 }
 
 /// Creates a threshold.
 pub fn create_threshold(
-    context: &mut Context,
+    table: &mut Table,
     limits: Limits,
     threshold: ThresholdRule,
 ) -> Result<Reply, RequestFault>
-    ensures { MayComeTo (create limits context.old (ThresholdObject threshold)) context.old context.new result }
+    ensures comes { MayComeTo (create limits table.old (ThresholdObject threshold)) table.old table.new result }
+    ensures kept { KeepsLimits limits table.old → KeepsLimits limits table.new }
 {
-    context.look_for_room(limits, 0)?;
+    look_for_room(table, limits, 0)?;
     let _format = threshold.format();
-    Ok(Reply::Name(context.add(Object::new(Content::Threshold(threshold)))?))
+    hold(table, limits, Object::new(Content::Threshold(threshold)))
 }
 
 /// Creates a convolution like this one.
 pub fn create_convolution(
-    context: &mut Context,
+    table: &mut Table,
     limits: Limits,
     convolution: &Convolution,
 ) -> Result<Reply, RequestFault>
-    ensures { MayComeTo (create limits context.old (ConvolutionObject convolution.now)) context.old context.new result }
+    ensures comes { MayComeTo (create limits table.old (ConvolutionObject convolution.now)) table.old table.new result }
+    ensures kept { KeepsLimits limits table.old → KeepsLimits limits table.new }
 {
-    context.look_for_room(limits, 0)?;
+    look_for_room(table, limits, 0)?;
     convolution.is_convolution();
-    let object = Object::new(Content::Convolution(convolution.copy()));
-    Ok(Reply::Name(context.add(object)?))
+    hold(
+        table,
+        limits,
+        Object::new(Content::Convolution(convolution.copy())),
+    )
 }

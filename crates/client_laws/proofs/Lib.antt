@@ -1,5 +1,6 @@
 pub mod RefusalLaws
 mod StatisticStepLaws
 mod RoundLaws
-mod RunStepLaws
+pub mod RunStepLaws
 pub mod StepLaws
+pub mod StayLaws

@@ -14,6 +14,8 @@ use Rattle.vx_base.specs.Object.{ObjectValue, ImageObject, LutObject, ThresholdO
 use Rattle.vx_base.specs.Outline.{Outline}
 use Rattle.vx_base.specs.Picture.{PictureValue}
 use Rattle.object_table.specs.Delay.{new_delay}
+use Rattle.object_table.specs.Context.{Context, object_named, with_objects, with_new, cell_of, with_graph}
+use Rattle.object_table.specs.Holds.{still_held, unnamed}
 use Rattle.graph_verify.specs.declared.verdict.Verdict.TheVariants.{MultipleWriters}
 use Rattle.client_model.specs.declared.request.Request.{Request}
 use Rattle.client_model.specs.declared.request.Request.TheVariants.{OpenContext, ReleaseContext, CreateImage, QueryImage, WriteImage, WriteImagePgm, ReadImage, ReadImagePgm, SetValid, Release, CreateLut, CreateThreshold, CreateConvolution, CreateDistribution, ReadDistribution, CreateMinMax, ReadMinMax, CreateGraph, CreateVirtualImage, AddNode, RemoveNode, VerifyGraph, ProcessGraph, Immediate, CreateDelay, AgeDelay}
@@ -24,8 +26,7 @@ use Rattle.client_model.specs.declared.reply.Reply.{Reply}
 use Rattle.client_model.specs.declared.reply.Reply.TheVariants.{Refused, Empty, Name}
 use Rattle.client_model.specs.declared.reply.Reply.TheVariants as reply
 use Rattle.client_model.specs.Allowance.{Allowance}
-use Rattle.client_model.specs.Context.{Context, State, object_named, with_objects, with_new, has_room}
-use Rattle.client_model.specs.Holds.{still_held, unnamed}
+use Rattle.client_model.specs.Context.{State, has_room}
 use Rattle.client_model.specs.Refusal.{Outcome, refusal_code, refused_or, unless}
 use Rattle.client_model.specs.Operands.{operands_refusal, image_of}
 use Rattle.client_model.specs.Images.{create, write_to, picture_refusal, write_text_to, read_from, read_text_from, described_in, query_of, valid_refusal, set_valid_of}
@@ -34,7 +35,7 @@ use Rattle.client_model.specs.Objects.{release}
 use Rattle.pgm_images.specs.declared.fault.PgmFault.{PgmFault}
 use Rattle.pgm_images.specs.Reading.{reading}
 use Rattle.client_model.specs.Statistics.{counts_of, extremes_of}
-use Rattle.client_model.specs.Graphs.{graph_named, cell_of, with_graph, create_virtual_in, add_to, remove_from, graph_verdict, verify_found, process_found}
+use Rattle.client_model.specs.Graphs.{graph_named, create_virtual_in, add_to, remove_from, graph_verdict, verify_found, process_found}
 use Rattle.client_model.specs.Immediate.{node_refusal}
 use Rattle.client_model.specs.Delays.{create_like, age_named}
 use Rattle.client_model.specs.Answer.{outcome_of, answered, answer_to}

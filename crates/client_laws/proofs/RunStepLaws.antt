@@ -1,4 +1,4 @@
--- A graph that runs keeps the limits: as it begins, virtual images become images; its rounds write to outputs what they may become;
+-- A graph that runs keeps the limits, and what is held: as it begins, virtual images become images; its rounds write to outputs what they may become;
 -- and as it ends, virtual images are forgotten.
 use Rattle.std.proofs.Common.{◌≡◌, inl, inr, ℕ, Bool, true, false, cond, IsTrue, List, [], ◌∷◌, ◌++◌, length, map, get_or, drop, Option, Some, None, IfSome, if◌then◌else◌, refl, sym, ap, subst, ◌∙◌}
 use Rattle.std.specs.Prelude.{All, not, is_some, is_none, unwrap_or}
@@ -19,6 +19,8 @@ use Rattle.vx_base.specs.Node.{IsNode, given, inputs, operands, second_kind}
 use Rattle.vx_base.specs.Object.{ObjectValue, GraphObject, IsObject, object_kind}
 use Rattle.object_table.specs.Delay.{in_slot}
 use Rattle.object_table.specs.Named.{Named, object_held, held}
+use Rattle.object_table.specs.Context.{Context, object_named, with_objects}
+use Rattle.object_table.specs.Uses.{nodes_in}
 use Rattle.graph_verify.specs.declared.operand.Operand.{Operand}
 use Rattle.graph_verify.specs.declared.operand.Operand.TheVariants.{Delay}
 use Rattle.graph_verify.specs.Links.{writes, is_written}
@@ -31,23 +33,22 @@ use Rattle.graph_run.specs.Graph.{rounds, begun_as, begun, is_virtual, forgotten
 use Rattle.client_model.specs.declared.refusal.Refusal.TheVariants.{Rejected}
 use Rattle.client_model.specs.declared.reply.Reply.TheVariants.{Empty}
 use Rattle.client_model.specs.Allowance.{Allowance}
-use Rattle.client_model.specs.Context.{Context, object_named, with_objects}
 use Rattle.client_model.specs.Graphs.{as_graph, graph_verdict, process_found, process_graph}
 use Rattle.graph_run.specs.Operands.{operand_held}
 use Rattle.client_model.specs.Immediate.{operand_in}
 use Rattle.client_model.specs.Operands.{is_kind, stands_for}
 use Rattle.client_model.specs.States.{KeepsLimits, kind_held, stands}
-use Rattle.graph_run.specs.Lasting.{nodes_in}
 use Rattle.object_table.proofs.HeldLemmas.{names_of, held_by_name, held_is, object_held-map}
-use Rattle.client_model.proofs.NamedLaws.{bare_named, bares, held_kind}
+use Rattle.graph_run.specs.Lasting.{lasting_named}
+use Rattle.client_model.proofs.NamedLaws.{held_kind}
 use Rattle.client_model.proofs.HoldLaws.{each_fails, is_taken, kinds_taken, OperandsStand, stands_parts}
-use Rattle.client_model.proofs.StateLaws.{alike_keeps}
+use Rattle.client_model.proofs.StateLaws.{alike_leaves}
 use Rattle.graph_verify.proofs.SuitLemmas.{Suits, no_fault_suits}
 use Rattle.client_model.proofs.NodeStepLaws.{CanGive, CanGiveTo, CanRunOn, neither, second_there, not_rejected}
-use Rattle.graph_run.proofs.FoundLemmas.{of_operands}
+use Rattle.client_model.proofs.OperandLemmas.{of_operands}
 use Rattle.client_model.proofs.OutcomeLaws.{Keeps, unless_keeps}
 use Rattle.client_model.proofs.GraphStepLaws.{graph_is, graph_stands}
-use Rattle.client_laws.proofs.RoundLaws.{rounds_keep}
+use Rattle.client_laws.proofs.RoundLaws.{rounds_last}
 use Rattle.client_model.proofs.BegunLaws.{IsSmall, object_small, rounds_small, begun_is_object, slot_as_begun, image_as_begun, Taken, taken_as_begun, kind_as_begun, SecondTaken, give_as_taken}
 use Rattle.graph_run.proofs.BegunLaws.{begun_if, begun_stays, virtual_as_operand}
 
@@ -235,35 +236,40 @@ module _ (objects : List Named) (nodes : List Node) (are : All (λ o. IsObject o
 
 -- ---- as a run ends
 
--- what is no virtual image is the same as a run begins, without what writes change
-begun_bare : (known : Cell → Operand) (nodes : List Node) (o : Named) → is_virtual o.object ≡ false → begun known nodes o ≡ o
-begun_bare known nodes o real =
+-- what is no virtual image is the same as a run begins
+begun_real : (known : Cell → Operand) (nodes : List Node) (o : Named) → is_virtual o.object ≡ false → begun known nodes o ≡ o
+begun_real known nodes o real =
     let cell : Cell = record { name = o.name; slot = None } in
     cond_both (is_written nodes cell) (record o { object = begun_as o.object (known cell) }) o (λ p. p ≡ o)
     (λ e. ap (λ (x : ObjectValue). let p : Named = record o { object = x } in p) (begun_stays o.object true (known cell) real)) (λ e. refl)
 
--- once virtual images are forgotten, all are objects, and the same as before without what writes change
-forgotten_keep : (known : Cell → Operand) (nodes : List Node) (objects after : List Named) → bares after ≡ bares (map (begun known nodes) objects) → All (λ o. IsObject o.object) objects → All (λ o. IsObject o.object) after
-    → (bares (forgotten objects after) ≡ bares objects) × All (λ o. IsObject o.object) (forgotten objects after)
-forgotten_keep known nodes [] [] same were are = (refl, are)
-forgotten_keep known nodes [] (p ∷ after) same were are = absurd (cc)
-forgotten_keep known nodes (o ∷ objects) [] same were are = absurd (cc)
-forgotten_keep known nodes (o ∷ objects) (p ∷ after) same were are =
+-- once virtual images are forgotten, as much lasts of the objects as before
+forgotten_last : (known : Cell → Operand) (nodes : List Node) (objects after : List Named) → map lasting_named after ≡ map lasting_named (map (begun known nodes) objects)
+    → map lasting_named (forgotten objects after) ≡ map lasting_named objects
+forgotten_last known nodes [] [] same = refl
+forgotten_last known nodes [] (p ∷ after) same = absurd (cc)
+forgotten_last known nodes (o ∷ objects) [] same = absurd (cc)
+forgotten_last known nodes (o ∷ objects) (p ∷ after) same =
+    let first : lasting_named p ≡ lasting_named (begun known nodes o) = ap (λ l. get_or l 0 (lasting_named o)) same in
+    let rest = forgotten_last known nodes objects after (ap (drop 1) same) in
+    ap (λ q. q ∷ map lasting_named (forgotten objects after))
+    (cond_both (is_virtual o.object) o p (λ q. lasting_named q ≡ lasting_named o) (λ e. refl) (λ e. first ∙ ap lasting_named (begun_real known nodes o e)))
+    ∙ ap (λ l. lasting_named o ∷ l) rest
+
+-- and all are objects
+forgotten_are : (objects after : List Named) → All (λ o. IsObject o.object) objects → All (λ o. IsObject o.object) after → All (λ o. IsObject o.object) (forgotten objects after)
+forgotten_are [] after were are = are
+forgotten_are (o ∷ objects) [] were are = are
+forgotten_are (o ∷ objects) (p ∷ after) were are =
     let Is : Named → Type 0 = λ q. IsObject q.object in
-    let first : bare_named p ≡ bare_named (begun known nodes o) = ap (λ l. get_or l 0 o) same in
-    let others : bares after ≡ bares (map (begun known nodes) objects) = ap (drop 1) same in
-    let rest = forgotten_keep known nodes objects after others (All-tail Is o objects were) (All-tail Is p after are) in
-    let left : Named = cond (is_virtual o.object) o p in (
-      ap (λ q. q ∷ bares (forgotten objects after))
-          (cond_both (is_virtual o.object) o p (λ q. bare_named q ≡ bare_named o) (λ e. refl) (λ e. first ∙ ap bare_named (begun_bare known nodes o e)))
-          ∙ ap (λ l. bare_named o ∷ l) rest.0,
-      All-cons Is left (forgotten objects after) (cond_both (is_virtual o.object) o p Is (λ e. All-head Is o objects were) (λ e. All-head Is p after are)) rest.1,
-    )
+    All-cons Is (cond (is_virtual o.object) o p) (forgotten objects after)
+    (cond_both (is_virtual o.object) o p Is (λ e. All-head Is o objects were) (λ e. All-head Is p after are))
+    (forgotten_are objects after (All-tail Is o objects were) (All-tail Is p after are))
 
 -- ---- runs
 
 process_found_keeps : (limits : Allowance) (c : Context) (name : ℕ) (object : Option ObjectValue) → KeepsLimits limits c → IfSome object IsObject → IfSome object (λ x. All (OperandsStand c.objects name) (nodes_in x))
-    → Keeps limits (process_found (as_graph object) limits c)
+    → Keeps limits c (process_found (as_graph object) limits c)
 process_found_keeps limits c name None h is stood = tt
 process_found_keeps limits c name (Some (GraphObject graph)) h is stood =
     let objects : List Named = c.objects in
@@ -271,7 +277,7 @@ process_found_keeps limits c name (Some (GraphObject graph)) h is stood =
     let operand = operand_held objects in
     let known = resolved operand nodes in
     let begin : List Named = map (begun known nodes) objects in
-    unless_keeps limits (option_map Rejected (graph_verdict limits objects graph)) Empty (with_objects c (run known nodes objects))
+    unless_keeps limits c (option_map Rejected (graph_verdict limits objects graph)) Empty (with_objects c (run known nodes objects))
     (λ allowed.
     let runs = can_run limits.work operand nodes (not_rejected (graph_verdict limits objects graph) allowed) in
     let are_nodes : All IsNode nodes = All-map IsNode (λ (n : Numbered). n.node) graph.nodes is.nodes in
@@ -280,11 +286,12 @@ process_found_keeps limits c name (Some (GraphObject graph)) h is stood =
     let can : All (CanRunOn (operand_in begin)) nodes = λ k d below.
     node_can objects nodes h.objects h.names name (get_or nodes k d) (are_nodes k d below) (stood k d below) (faultless k d below) (tied k d below)
     (λ cell writes_it. list_any_at (λ n. writes n cell) nodes k d below writes_it) in
-    let ran = rounds_keep nodes (length nodes) begin (begin_is objects nodes h.objects h.names) (begin_increases objects nodes h.objects h.names) can in
-    let end = forgotten_keep known nodes objects (rounds nodes (length nodes) begin) ran.0 h.objects ran.1 in
-    alike_keeps limits c (run known nodes objects) h end.0 end.1)
+    let ran = rounds_last nodes (length nodes) begin (begin_is objects nodes h.objects h.names) (begin_increases objects nodes h.objects h.names) can in
+    let left : List Named = rounds nodes (length nodes) begin in
+    alike_leaves limits (λ name. false) c h (run known nodes objects)
+    (record { objects = forgotten_are objects left h.objects ran.objects; lasting = forgotten_last known nodes objects left ran.lasting }))
 process_found_keeps limits c name (Some other) h is stood = tt
 
--- a graph that runs keeps the limits
-pub process_graph_keeps : (limits : Allowance) (c : Context) (name : ℕ) → KeepsLimits limits c → Keeps limits (process_graph limits c name)
+-- a graph that runs keeps the limits, and what is held
+pub process_graph_keeps : (limits : Allowance) (c : Context) (name : ℕ) → KeepsLimits limits c → Keeps limits c (process_graph limits c name)
 process_graph_keeps limits c name h = process_found_keeps limits c name (object_named c.objects name) h (graph_is limits c name h) (graph_stands limits c name h)

@@ -1,12 +1,13 @@
--- Requests on distributions and extremes keep the limits.
-use Rattle.std.proofs.Common.{ℕ, IsTrue, Option, Some, None}
+-- Requests on distributions and extremes keep the limits, and what is held.
+use Rattle.std.proofs.Common.{ℕ, false, IsTrue, Option, Some, None}
 use Rattle.std.proofs.lemmas.List.{length-replicate}
 use Rattle.vx_base.specs.Object.{ObjectValue, DistributionObject, ExtremesObject, IsDistribution, new_distribution}
 use Rattle.vx_base.specs.Statistics.{BinsValue, are_bins}
 use Rattle.client_model.specs.Allowance.{Allowance}
-use Rattle.client_model.specs.Context.{Context, object_named}
+use Rattle.object_table.specs.Context.{Context, object_named}
 use Rattle.client_model.specs.Statistics.{counts_of, read_distribution, extremes_of, read_min_max}
 use Rattle.client_model.specs.States.{KeepsLimits}
+use Rattle.client_model.proofs.StateLaws.{same_leaves}
 use Rattle.client_model.proofs.OutcomeLaws.{Keeps}
 
 -- a new distribution is one
@@ -14,18 +15,18 @@ pub new_distribution_is : (bins : BinsValue) → IsTrue (are_bins bins.bins bins
 new_distribution_is bins is = record { bins = is; size = length-replicate {A = ℕ} bins.bins 0 }
 
 -- a read leaves the context
-counts_of_keeps : (limits : Allowance) (c : Context) (object : Option ObjectValue) → KeepsLimits limits c → Keeps limits (counts_of c object)
+counts_of_keeps : (limits : Allowance) (c : Context) (object : Option ObjectValue) → KeepsLimits limits c → Keeps limits c (counts_of c object)
 counts_of_keeps limits c None h = tt
-counts_of_keeps limits c (Some (DistributionObject distribution)) h = h
+counts_of_keeps limits c (Some (DistributionObject distribution)) h = same_leaves limits (λ name. false) c h
 counts_of_keeps limits c (Some other) h = tt
 
-extremes_of_keeps : (limits : Allowance) (c : Context) (object : Option ObjectValue) → KeepsLimits limits c → Keeps limits (extremes_of c object)
+extremes_of_keeps : (limits : Allowance) (c : Context) (object : Option ObjectValue) → KeepsLimits limits c → Keeps limits c (extremes_of c object)
 extremes_of_keeps limits c None h = tt
-extremes_of_keeps limits c (Some (ExtremesObject extremes)) h = h
+extremes_of_keeps limits c (Some (ExtremesObject extremes)) h = same_leaves limits (λ name. false) c h
 extremes_of_keeps limits c (Some other) h = tt
 
-pub read_distribution_keeps : (limits : Allowance) (c : Context) (name : ℕ) → KeepsLimits limits c → Keeps limits (read_distribution c name)
+pub read_distribution_keeps : (limits : Allowance) (c : Context) (name : ℕ) → KeepsLimits limits c → Keeps limits c (read_distribution c name)
 read_distribution_keeps limits c name h = counts_of_keeps limits c (object_named c.objects name) h
 
-pub read_min_max_keeps : (limits : Allowance) (c : Context) (name : ℕ) → KeepsLimits limits c → Keeps limits (read_min_max c name)
+pub read_min_max_keeps : (limits : Allowance) (c : Context) (name : ℕ) → KeepsLimits limits c → Keeps limits c (read_min_max c name)
 read_min_max_keeps limits c name h = extremes_of_keeps limits c (object_named c.objects name) h

@@ -1,6 +1,6 @@
--- What each request does with the limits, and the states after requests.
-use Rattle.std.proofs.Common.{List, [], ◌∷◌, Some, None, Ok, Err, refl}
-use Rattle.std.specs.Prelude.{All}
+-- What each request does with the limits and with what is held, and the states after requests.
+use Rattle.std.proofs.Common.{◌≢◌, ℕ, Bool, List, [], ◌∷◌, Some, None, Ok, Err, refl}
+use Rattle.std.specs.Prelude.{All, MatchOption}
 use Rattle.std.proofs.lemmas.List.Elements.{All-head, All-tail}
 use Rattle.vx_base.specs.Image.{new_image}
 use Rattle.vx_base.specs.Graph.{new_graph}
@@ -10,13 +10,14 @@ use Rattle.vx_base.proofs.PictureLaws.{side}
 use Rattle.client_model.specs.declared.request.Request.{Request}
 use Rattle.client_model.specs.declared.request.Request.TheVariants.{OpenContext, ReleaseContext, CreateImage, QueryImage, WriteImage, WriteImagePgm, ReadImage, ReadImagePgm, SetValid, Release, CreateLut, CreateThreshold, CreateConvolution, CreateDistribution, ReadDistribution, CreateMinMax, ReadMinMax, CreateGraph, CreateVirtualImage, AddNode, RemoveNode, VerifyGraph, ProcessGraph, Immediate, CreateDelay, AgeDelay}
 use Rattle.client_model.specs.Allowance.{Allowance}
-use Rattle.client_model.specs.Context.{Context, State}
+use Rattle.object_table.specs.Context.{Context}
+use Rattle.client_model.specs.Context.{State}
 use Rattle.client_model.specs.Request.{IsRequest}
 use Rattle.client_model.specs.Refusal.{Outcome}
 use Rattle.client_model.specs.Answer.{outcome_of, answered, answer_to}
-use Rattle.client_model.specs.States.{KeepsLimits, state_after}
-use Rattle.client_model.proofs.StateLaws.{new_context_keeps}
-use Rattle.client_model.proofs.OutcomeLaws.{StateKeeps, Keeps, create_keeps}
+use Rattle.client_model.specs.States.{KeepsLimits, state_after, changes_nodes}
+use Rattle.client_model.proofs.StateLaws.{Leaves, new_context_keeps, same_leaves}
+use Rattle.client_model.proofs.OutcomeLaws.{StateKeeps, KeepsBut, create_keeps}
 use Rattle.client_model.proofs.ImageStepLaws.{query_image_keeps, write_image_keeps, write_text_keeps, read_image_keeps, read_text_keeps, set_valid_keeps}
 use Rattle.client_laws.proofs.StatisticStepLaws.{new_distribution_is, read_distribution_keeps, read_min_max_keeps}
 use Rattle.client_model.proofs.DelayStepLaws.{create_delay_keeps, age_delay_keeps}
@@ -24,45 +25,55 @@ use Rattle.client_model.proofs.NodeStepLaws.{immediate_keeps}
 use Rattle.client_model.proofs.GraphStepLaws.{new_graph_is, create_virtual_image_keeps, add_node_keeps, remove_node_keeps, verify_graph_keeps, release_keeps}
 use Rattle.client_laws.proofs.RunStepLaws.{process_graph_keeps}
 
--- each request keeps the limits of a context
-pub outcome_keeps : (limits : Allowance) (c : Context) (request : Request) → KeepsLimits limits c → IsRequest request → Keeps limits (outcome_of limits c request)
-outcome_keeps limits c OpenContext h is = tt
-outcome_keeps limits c ReleaseContext h is = tt
-outcome_keeps limits c (CreateImage d) h is = create_keeps limits c (ImageObject (new_image d.width d.height d.format)) h (new_image_is d.width d.height d.format (side d.width is.width) (side d.height is.height)) refl
-outcome_keeps limits c (QueryImage cell) h is = query_image_keeps limits c cell h
-outcome_keeps limits c (WriteImage cell p) h is = write_image_keeps limits c cell p h is.1
-outcome_keeps limits c (WriteImagePgm cell text) h is = write_text_keeps limits c cell text h
-outcome_keeps limits c (ReadImage cell) h is = read_image_keeps limits c cell h
-outcome_keeps limits c (ReadImagePgm cell) h is = read_text_keeps limits c cell h
-outcome_keeps limits c (SetValid cell valid) h is = set_valid_keeps limits c cell valid h is.1.bounds
-outcome_keeps limits c (Release name) h is = release_keeps limits c name h
-outcome_keeps limits c (CreateLut lut) h is = create_keeps limits c (LutObject lut) h is refl
-outcome_keeps limits c (CreateThreshold threshold) h is = create_keeps limits c (ThresholdObject threshold) h is refl
-outcome_keeps limits c (CreateConvolution convolution) h is = create_keeps limits c (ConvolutionObject convolution) h is refl
-outcome_keeps limits c (CreateDistribution bins) h is = create_keeps limits c (DistributionObject (new_distribution bins)) h (new_distribution_is bins is) refl
-outcome_keeps limits c (ReadDistribution name) h is = read_distribution_keeps limits c name h
-outcome_keeps limits c CreateMinMax h is = create_keeps limits c (ExtremesObject no_extremes) h tt refl
-outcome_keeps limits c (ReadMinMax name) h is = read_min_max_keeps limits c name h
-outcome_keeps limits c CreateGraph h is = create_keeps limits c (GraphObject new_graph) h new_graph_is refl
-outcome_keeps limits c (CreateVirtualImage graph declared) h is = create_virtual_image_keeps limits c graph declared h is.0 is.1
-outcome_keeps limits c (AddNode graph n) h is = add_node_keeps limits c graph n h is.1
-outcome_keeps limits c (RemoveNode graph number) h is = remove_node_keeps limits c graph number h
-outcome_keeps limits c (VerifyGraph graph) h is = verify_graph_keeps limits c graph h
-outcome_keeps limits c (ProcessGraph graph) h is = process_graph_keeps limits c graph h
-outcome_keeps limits c (Immediate n) h is = immediate_keeps limits c n h is
-outcome_keeps limits c (CreateDelay cell slots) h is = create_delay_keeps limits c cell slots h is.1
-outcome_keeps limits c (AgeDelay name) h is = age_delay_keeps limits c name h
+-- each request that doesn't release a context leaves it within its limits, with the skeletons of what is held, and the nodes of graphs
+pub outcome_keeps : (limits : Allowance) (c : Context) (request : Request) → request ≢ ReleaseContext → KeepsLimits limits c → IsRequest request → KeepsBut (changes_nodes request) limits c (outcome_of limits c request)
+outcome_keeps limits c OpenContext stays h is = tt
+outcome_keeps limits c ReleaseContext stays h is = absurd (stays refl)
+outcome_keeps limits c (CreateImage d) stays h is = create_keeps limits c (ImageObject (new_image d.width d.height d.format)) h (new_image_is d.width d.height d.format (side d.width is.width) (side d.height is.height)) refl
+outcome_keeps limits c (QueryImage cell) stays h is = query_image_keeps limits c cell h
+outcome_keeps limits c (WriteImage cell p) stays h is = write_image_keeps limits c cell p h is.1
+outcome_keeps limits c (WriteImagePgm cell text) stays h is = write_text_keeps limits c cell text h
+outcome_keeps limits c (ReadImage cell) stays h is = read_image_keeps limits c cell h
+outcome_keeps limits c (ReadImagePgm cell) stays h is = read_text_keeps limits c cell h
+outcome_keeps limits c (SetValid cell valid) stays h is = set_valid_keeps limits c cell valid h is.1.bounds
+outcome_keeps limits c (Release name) stays h is = release_keeps limits c name h
+outcome_keeps limits c (CreateLut lut) stays h is = create_keeps limits c (LutObject lut) h is refl
+outcome_keeps limits c (CreateThreshold threshold) stays h is = create_keeps limits c (ThresholdObject threshold) h is refl
+outcome_keeps limits c (CreateConvolution convolution) stays h is = create_keeps limits c (ConvolutionObject convolution) h is refl
+outcome_keeps limits c (CreateDistribution bins) stays h is = create_keeps limits c (DistributionObject (new_distribution bins)) h (new_distribution_is bins is) refl
+outcome_keeps limits c (ReadDistribution name) stays h is = read_distribution_keeps limits c name h
+outcome_keeps limits c CreateMinMax stays h is = create_keeps limits c (ExtremesObject no_extremes) h tt refl
+outcome_keeps limits c (ReadMinMax name) stays h is = read_min_max_keeps limits c name h
+outcome_keeps limits c CreateGraph stays h is = create_keeps limits c (GraphObject new_graph) h new_graph_is refl
+outcome_keeps limits c (CreateVirtualImage graph declared) stays h is = create_virtual_image_keeps limits c graph declared h is.0 is.1
+outcome_keeps limits c (AddNode graph n) stays h is = add_node_keeps limits c graph n h is.1
+outcome_keeps limits c (RemoveNode graph number) stays h is = remove_node_keeps limits c graph number h
+outcome_keeps limits c (VerifyGraph graph) stays h is = verify_graph_keeps limits c graph h
+outcome_keeps limits c (ProcessGraph graph) stays h is = process_graph_keeps limits c graph h
+outcome_keeps limits c (Immediate n) stays h is = immediate_keeps limits c n h is
+outcome_keeps limits c (CreateDelay cell slots) stays h is = create_delay_keeps limits c cell slots h is.1
+outcome_keeps limits c (AgeDelay name) stays h is = age_delay_keeps limits c name h
 
--- the state after an outcome keeps the limits
-answered_keeps : (limits : Allowance) (c : Context) (outcome : Outcome) → KeepsLimits limits c → Keeps limits outcome → StateKeeps limits (answered c outcome).1
-answered_keeps limits c (Ok done) h kept = kept
-answered_keeps limits c (Err refusal) h kept = h
+-- the context after an outcome
+answered_keeps : (changes : ℕ → Bool) (limits : Allowance) (c : Context) (outcome : Outcome) → KeepsLimits limits c → KeepsBut changes limits c outcome → MatchOption (answered c outcome).1 ⊥ (Leaves limits changes c)
+answered_keeps changes limits c (Ok done) h kept = kept
+answered_keeps changes limits c (Err refusal) h kept = same_leaves limits changes c h
+
+-- the context after a request that doesn't release it
+pub answer_leaves : (limits : Allowance) (c : Context) (request : Request) → request ≢ ReleaseContext → KeepsLimits limits c → IsRequest request
+    → MatchOption (answer_to limits (Some c) request).1 ⊥ (Leaves limits (changes_nodes request) c)
+answer_leaves limits c request stays h is = answered_keeps (changes_nodes request) limits c (outcome_of limits c request) h (outcome_keeps limits c request stays h is)
 
 -- the state after a request keeps the limits
 pub answer_keeps : (limits : Allowance) (state : State) (request : Request) → StateKeeps limits state → IsRequest request → StateKeeps limits (answer_to limits state request).1
 answer_keeps limits None OpenContext h is = new_context_keeps limits
 answer_keeps limits None other h is = tt
-answer_keeps limits (Some c) request h is = answered_keeps limits c (outcome_of limits c request) h (outcome_keeps limits c request h is)
+answer_keeps limits (Some c) ReleaseContext h is = tt
+answer_keeps limits (Some c) other h is = of_context (answer_to limits (Some c) other).1 (answer_leaves limits c other (λ e. cc) h is)
+  where
+    of_context : (state : State) → MatchOption state ⊥ (Leaves limits (changes_nodes other) c) → StateKeeps limits state
+    of_context None left = absurd left
+    of_context (Some after) left = left.keeps
 
 -- the state after requests keeps the limits
 pub state_after_keeps : (limits : Allowance) (state : State) (requests : List Request) → StateKeeps limits state → All IsRequest requests → StateKeeps limits (state_after limits state requests)

@@ -1,14 +1,15 @@
--- Graphs that change, and names that are released, keep the limits.
+-- Graphs that change, and names that are released, keep the limits, and what is held.
 use Rattle.std.proofs.Common.{◌≡◌, ◌⊎◌, inl, inr, ℕ, ◌<◌, ◌^◌, Bool, true, false, cond, IsTrue, List, [], ◌∷◌, length, map, Option, Some, None, Ok, Err, IfSome, refl, sym, ap, subst, ◌∙◌, arith}
-use Rattle.std.specs.Prelude.{All, ◌==◌, ◌&&◌, ◌||◌, not, is_none, sum_by}
+use Rattle.std.specs.Prelude.{All, ◌==◌, ◌&&◌, ◌||◌, not, is_none, if◌then◌else◌, sum}
 use Rattle.std.specs.List.{list_any}
 use Rattle.std.specs.List.Sorted.{IsStrictlyIncreasing}
 use Rattle.std.specs.Option.{option_map}
-use Rattle.std.proofs.lemmas.Bool.{and_parts, and_from, cond_both, eqb-true, not-false, or_cases, or_left, or_right}
+use Rattle.std.proofs.lemmas.Bool.{and_parts, and_from, cond_both, eqb-true, eqb-false, ne_eqb, not-false, or_cases, or_left, or_right}
+use Rattle.std.proofs.lemmas.Iterator.Adapters.{option_map_id}
 use Rattle.std.proofs.lemmas.List.{length-map}
 use Rattle.std.proofs.lemmas.List.Elements.{All-nil, All-head, All-tail, All-filter, All-map, All-push, All-weaker}
 use Rattle.std.proofs.lemmas.List.Folds.{list_any-append}
-use Rattle.std.proofs.lemmas.List.Sums.{sum_by-cons}
+use Rattle.std.proofs.lemmas.List.Sums.{sum-map}
 use Rattle.vx_base.specs.declared.kind.Kind.{Kind}
 use Rattle.vx_base.specs.declared.kind.Kind.TheVariants as kind
 use Rattle.vx_base.specs.declared.node.Node.{Node}
@@ -20,26 +21,26 @@ use Rattle.vx_base.specs.Object.{ObjectValue, GraphObject, VirtualObject, IsObje
 use Rattle.vx_base.specs.Outline.{Outline, IsOutline}
 use Rattle.object_table.specs.Delay.{with_slot}
 use Rattle.object_table.specs.Named.{Named, object_held, held, with_object}
+use Rattle.object_table.specs.Context.{Context, object_named, with_objects, charge_of, cell_of, with_graph}
+use Rattle.object_table.specs.Holds.{names_it, uses, is_used, is_held, still_held, unnamed}
+use Rattle.object_table.specs.Skeleton.{skeleton}
+use Rattle.object_table.specs.Uses.{nodes_in}
 use Rattle.graph_verify.proofs.GraphLemmas.{IsGraph-with_node, IsGraph-without_node}
 use Rattle.client_model.specs.declared.refusal.Refusal.TheVariants.{InvalidReference, NoResources, Rejected}
 use Rattle.client_model.specs.declared.reply.Reply.TheVariants as reply
 use Rattle.client_model.specs.declared.reply.Reply.TheVariants.{Empty}
 use Rattle.client_model.specs.Allowance.{Allowance}
-use Rattle.client_model.specs.Context.{Context, object_named, with_objects, charge_of}
-use Rattle.client_model.specs.Graphs.{as_graph, graph_named, cell_of, with_graph, create_virtual_in, create_virtual_image, add_to, add_node, remove_from, remove_node, graph_verdict, verify_found, verify_graph}
-use Rattle.client_model.specs.Holds.{names_it, uses, is_used, is_held, still_held, unnamed}
+use Rattle.client_model.specs.Graphs.{as_graph, graph_named, create_virtual_in, create_virtual_image, add_to, add_node, remove_from, remove_node, graph_verdict, verify_found, verify_graph}
 use Rattle.client_model.specs.Objects.{release}
 use Rattle.client_model.specs.Operands.{is_kind, kind_of, operands_refusal}
 use Rattle.client_model.specs.States.{stands, NodesStand, KeepsLimits}
-use Rattle.graph_run.specs.Lasting.{nodes_in}
-use Rattle.graph_run.specs.Frame.{frame}
-use Rattle.client_model.proofs.FrameLemmas.{stands-alike}
 use Rattle.object_table.proofs.HeldLemmas.{names_of, All-from_map, named_has, HasObject, held_alone, object_held-map, object_held_has, All-with_object, map-with_object, names-with_object}
-use Rattle.client_model.proofs.NamedLaws.{live_has, kind_if_live}
-use Rattle.client_model.proofs.HoldLaws.{OperandsStand, stands_from, nodes_stand, stands_still}
-use Rattle.client_model.proofs.StateLaws.{KeepsRest, held_too, still_held_keeps}
+use Rattle.graph_run.proofs.HeldLaws.{object_held-with_object}
+use Rattle.client_model.proofs.NamedLaws.{held_if_live, live_has, kind_if_live}
+use Rattle.client_model.proofs.HoldLaws.{OperandsStand, stands_from, nodes_stand, stands-alike, stands_still}
+use Rattle.client_model.proofs.StateLaws.{KeepsRest, held_too, still_held_keeps, Leaves, stays_alike, still_held_stays, same_leaves}
 use Rattle.client_model.proofs.NodeStepLaws.{Passes, operands_pass}
-use Rattle.client_model.proofs.OutcomeLaws.{Keeps, unless_keeps, refused_or_keeps, create_keeps}
+use Rattle.client_model.proofs.OutcomeLaws.{KeepsBut, Keeps, unless_keeps, refused_or_keeps, create_keeps}
 
 -- a new graph is one
 pub new_graph_is : IsGraph new_graph
@@ -54,15 +55,11 @@ new_graph_is =
 
 -- ---- charges
 
--- what objects are charged, object by object
-abbrev charges : List Named → List ℕ
-charges objects = map (λ o. object_bytes o.object) objects
-
-charge_is : (objects : List Named) → charge_of objects ≡ sum_by (λ n. n) (charges objects)
-charge_is [] = refl
-charge_is (o ∷ objects) =
-    let others = charge_is objects in
-    sum_by-cons (λ (p : Named). object_bytes p.object) o objects ∙ omega (arith, others) ∙ sym (sum_by-cons (λ n. n) (object_bytes o.object) (charges objects))
+-- what objects are charged depends on what each is
+charge_alike : (others objects : List Named) → map (λ (o : Named). object_bytes o.object) others ≡ map (λ o. object_bytes o.object) objects → charge_of others ≡ charge_of objects
+charge_alike others objects same =
+    let bytes : Named → ℕ = λ o. object_bytes o.object in
+    sym (sum-map bytes others) ∙ ap sum same ∙ sum-map bytes objects
 
 -- ---- a name that isn't live
 
@@ -84,17 +81,20 @@ object_held-unnamed objects name other =
     object_held-map (λ (o : Named). cond (o.name == name) (record o { live = false }) o) (λ x. x) objects other
     (λ o. cond_both (o.name == name) (record o { live = false }) o (λ p. p.name ≡ o.name) (λ e. refl) (λ e. refl))
     (λ o same. cond_both (o.name == name) (record o { live = false }) o (λ p. p.object ≡ o.object) (λ e. refl) (λ e. refl))
-    ∙ as_it_is (object_held objects other)
-  where
-    as_it_is : (object : Option ObjectValue) → option_map (λ x. x) object ≡ object
-    as_it_is None = refl
-    as_it_is (Some object) = refl
+    ∙ option_map_id (object_held objects other)
 
--- a release keeps the limits
-pub release_keeps : (limits : Allowance) (c : Context) (name : ℕ) → KeepsLimits limits c → Keeps limits (release c name)
+-- a release keeps the limits, and what is held
+pub release_keeps : (limits : Allowance) (c : Context) (name : ℕ) → KeepsLimits limits c → Keeps limits c (release c name)
 release_keeps limits c name h =
-    cond_both (is_none (object_named c.objects name)) (Err InvalidReference) (Ok (Empty, Some (with_objects c (still_held after)))) (Keeps limits)
-    (λ unknown. tt) (λ known. still_held_keeps limits (with_objects c after) rest)
+    cond_both (is_none (object_named c.objects name)) (Err InvalidReference) (Ok (Empty, Some (with_objects c (still_held after)))) (Keeps limits c)
+    (λ unknown. tt)
+    (λ known.
+    record {
+      keeps = still_held_keeps limits (with_objects c after) rest;
+      next = omega arith;
+      skeletons = λ other given. still_held_stays skeleton c.objects after other rest.names (ap (option_map skeleton) (object_held-unnamed c.objects name other));
+      nodes = λ other given kept. still_held_stays nodes_in c.objects after other rest.names (ap (option_map nodes_in) (object_held-unnamed c.objects name other));
+    })
   where
     after : List Named
     after = unnamed c.objects name
@@ -108,35 +108,72 @@ release_keeps limits c name h =
           objects = All-unnamed c.objects name (λ o. IsObject o.object) (λ o is. is) h.objects;
           names = subst IsStrictlyIncreasing (sym (map-unnamed (λ o. o.name) (λ o. refl) c.objects name)) h.names;
           below = All-unnamed c.objects name (λ o. o.name < c.next) (λ o less. less) h.below;
+          left = h.left;
           nodes =
               All-unnamed c.objects name (NodesStand after) (λ o stand. stand)
               (All-weaker (NodesStand c.objects) (NodesStand after)
               (λ o stand. nodes_stand c.objects after o.name (nodes_in o.object) (λ operand. stands_still c.objects after o.name operand (object_held-unnamed c.objects name operand.0.name)) stand) c.objects h.nodes);
           count = omega (arith, h.count, count);
-          quota = omega (arith, h.quota, charge_is after ∙ ap (sum_by (λ n. n)) (map-unnamed (λ o. object_bytes o.object) (λ o. refl) c.objects name) ∙ sym (charge_is c.objects));
+          quota = omega (arith, h.quota, charge_alike after c.objects (map-unnamed (λ o. object_bytes o.object) (λ o. refl) c.objects name));
         }
 
 -- ---- a graph that changes
 
-module _ (limits : Allowance) (c : Context) (name : ℕ) (graph new : GraphValue) (h : KeepsLimits limits c) (alone : All (HasObject name (GraphObject graph)) c.objects) where
+module _ (limits : Allowance) (c : Context) (name : ℕ) (graph new : GraphValue) (h : KeepsLimits limits c) (found : object_held c.objects name ≡ Some (GraphObject graph)) where
   abbrev after : List Named
   after = with_graph c.objects name new
 
+  -- it is the only object of its name
+  alone : All (HasObject name (GraphObject graph)) c.objects
+  alone = subst (λ (o : Option ObjectValue). IfSome o (λ object. All (HasObject name object) c.objects)) found (held_alone c.objects name h.names)
+
+  -- under another name stands what stood there
+  beside : (other : ℕ) → (name == other) ≡ false → object_held after other ≡ object_held c.objects other
+  beside other apart =
+      object_held-with_object c.objects (cell_of name) (GraphObject new) other
+      ∙ ap (λ b. option_map (λ (x : ObjectValue). if b then GraphObject new else x) (object_held c.objects other)) (ne_eqb other name (λ e. eqb-false name other apart (sym e)))
+      ∙ option_map_id (object_held c.objects other)
+
+  -- under each name what has its skeleton
+  skeletons : (other : ℕ) → option_map skeleton (object_held after other) ≡ option_map skeleton (object_held c.objects other)
+  skeletons other = either (name == other) refl
+    where
+      either : (b : Bool) → (name == other) ≡ b → option_map skeleton (object_held after other) ≡ option_map skeleton (object_held c.objects other)
+      either false apart = ap (option_map skeleton) (beside other apart)
+      either true same =
+          let is : object_held c.objects other ≡ Some (GraphObject graph) = ap (object_held c.objects) (sym (eqb-true name other same)) ∙ found in
+          ap (option_map skeleton) (object_held-with_object c.objects (cell_of name) (GraphObject new) other)
+          ∙ ap (λ o. option_map skeleton (option_map (λ (x : ObjectValue). if other == name then GraphObject new else x) o)) is
+          ∙ changed (other == name)
+          ∙ ap (option_map skeleton) (sym is)
+        where
+          changed : (b : Bool) → Some (skeleton (if b then GraphObject new else GraphObject graph)) ≡ Some (skeleton (GraphObject graph))
+          changed true = refl
+          changed false = refl
+
+  -- what is left is left but for its nodes
+  changed_leaves : KeepsLimits limits (with_objects c after) → Leaves limits (λ other. name == other) c (with_objects c after)
+  changed_leaves kept =
+      record {
+        keeps = kept;
+        next = omega arith;
+        skeletons = λ other given. stays_alike skeleton (object_held c.objects other) (object_held after other) (skeletons other);
+        nodes = λ other given apart. stays_alike nodes_in (object_held c.objects other) (object_held after other) (ap (option_map nodes_in) (beside other apart));
+      }
+
+  -- also once what is no longer held is gone
+  still_leaves : KeepsRest limits (with_objects c after) → Leaves limits (λ other. name == other) c (with_objects c (still_held after))
+  still_leaves rest =
+      record {
+        keeps = still_held_keeps limits (with_objects c after) rest;
+        next = omega arith;
+        skeletons = λ other given. still_held_stays skeleton c.objects after other rest.names (skeletons other);
+        nodes = λ other given apart. still_held_stays nodes_in c.objects after other rest.names (ap (option_map nodes_in) (beside other apart));
+      }
+
   -- operands stand as they did
   stand_as_before : (of : ℕ) (operand : Cell × Kind) → IsTrue (stands c.objects of operand) → IsTrue (stands after of operand)
-  stand_as_before of operand stood = stands-alike after c.objects of operand same ∙ stood
-    where
-      framed : Named → Named
-      framed o = record o { object = frame o.object }
-
-      same : option_map frame (object_held after operand.0.name) ≡ option_map frame (object_held c.objects operand.0.name)
-      same =
-          sym (object_held-map framed frame after operand.0.name (λ o. refl) (λ o e. refl))
-          ∙ ap (λ l. object_held l operand.0.name)
-          (map-with_object framed c.objects (cell_of name) (GraphObject new)
-          (All-weaker (HasObject name (GraphObject graph)) (λ o. o.name ≡ name → framed (record o { object = GraphObject new }) ≡ framed o)
-          (λ o is e. sym (ap (λ (x : ObjectValue). framed (record o { object = x })) (is e))) c.objects alone))
-          ∙ object_held-map framed frame c.objects operand.0.name (λ o. refl) (λ o e. refl)
+  stand_as_before of operand stood = stands-alike after c.objects of operand (skeletons operand.0.name) ∙ stood
 
   -- where it is a graph whose operands stand, what a state keeps is kept
   with_graph_keeps : IsGraph new → All (OperandsStand c.objects name) (nodes_of new) → KeepsRest limits (with_objects c after)
@@ -145,12 +182,13 @@ module _ (limits : Allowance) (c : Context) (name : ℕ) (graph new : GraphValue
         objects = All-with_object (λ o. IsObject o.object) (λ _. Unit {0}) c.objects (cell_of name) (GraphObject new) (λ o any was e. is) (λ k d below. tt) h.objects;
         names = subst IsStrictlyIncreasing (sym names) h.names;
         below = All-with_object (λ o. o.name < c.next) (λ _. Unit {0}) c.objects (cell_of name) (GraphObject new) (λ o any less e. less) (λ k d below. tt) h.below;
+        left = h.left;
         nodes =
             All-with_object (NodesStand after) (λ _. Unit {0}) c.objects (cell_of name) (GraphObject new)
             (λ o any stood e. subst (λ of. All (OperandsStand after of) (nodes_of new)) (sym e) (nodes_stand c.objects after name (nodes_of new) (stand_as_before name) stand)) (λ k d below. tt)
             (All-weaker (NodesStand c.objects) (NodesStand after) (λ o stood. nodes_stand c.objects after o.name (nodes_in o.object) (stand_as_before o.name) stood) c.objects h.nodes);
         count = omega (arith, h.count, ap length names, length-map after (λ o. o.name), length-map c.objects (λ o. o.name));
-        quota = omega (arith, h.quota, charge_is after ∙ ap (sum_by (λ n. n)) charge ∙ sym (charge_is c.objects));
+        quota = omega (arith, h.quota, charge_alike after c.objects charge);
       }
     where
       names : names_of after ≡ names_of c.objects
@@ -161,11 +199,8 @@ module _ (limits : Allowance) (c : Context) (name : ℕ) (graph new : GraphValue
           map-with_object (λ o. object_bytes o.object) c.objects (cell_of name) (GraphObject new)
           (All-weaker (HasObject name (GraphObject graph)) (λ o. o.name ≡ name → 0 ≡ object_bytes o.object) (λ o only e. sym (ap object_bytes (only e))) c.objects alone)
 
--- what holds of the only object of a live name, and that it is the only one
+-- what holds of the object of a live name
 module _ (limits : Allowance) (c : Context) (name : ℕ) (h : KeepsLimits limits c) where
-  graph_alone : IfSome (object_named c.objects name) (λ object. All (HasObject name object) c.objects)
-  graph_alone = live_has c.objects name (λ object. All (HasObject name object) c.objects) h.names (held_alone c.objects name h.names)
-
   pub graph_is : IfSome (object_named c.objects name) IsObject
   graph_is = live_has c.objects name IsObject h.names (object_held_has IsObject c.objects name h.objects)
 
@@ -214,11 +249,15 @@ passes_stands limits c name operand h pass =
 
 -- a graph with one more node, each of whose operands stands
 add_to_keeps : (limits : Allowance) (c : Context) (name : ℕ) (n : Node) (object : Option ObjectValue) → KeepsLimits limits c → IsNode n → OperandsStand c.objects name n
-    → IfSome object (λ x. All (HasObject name x) c.objects) → IfSome object IsObject → IfSome object (λ x. All (OperandsStand c.objects name) (nodes_in x)) → Keeps limits (add_to (as_graph object) c name n)
-add_to_keeps limits c name n None h node stand alone is stood = tt
-add_to_keeps limits c name n (Some (GraphObject graph)) h node stand alone is stood =
-    cond_both (can_add graph) (Ok (reply.Node graph.next, Some (with_objects c more))) (Err NoResources) (Keeps limits)
-    (λ room. held_too limits (with_objects c more) (with_graph_keeps limits c name graph new h alone (IsGraph-with_node graph n is room node) nodes) held) (λ full. tt)
+    → IfSome object (λ x. object_held c.objects name ≡ Some x) → IfSome object IsObject → IfSome object (λ x. All (OperandsStand c.objects name) (nodes_in x))
+    → KeepsBut (λ other. name == other) limits c (add_to (as_graph object) c name n)
+add_to_keeps limits c name n None h node stand found is stood = tt
+add_to_keeps limits c name n (Some (GraphObject graph)) h node stand found is stood =
+    cond_both (can_add graph) (Ok (reply.Node graph.next, Some (with_objects c more))) (Err NoResources) (KeepsBut (λ other. name == other) limits c)
+    (λ room.
+    changed_leaves limits c name graph new h found
+    (held_too limits (with_objects c more) (with_graph_keeps limits c name graph new h found (IsGraph-with_node graph n is room node) nodes) held))
+    (λ full. tt)
   where
     new : GraphValue
     new = with_node graph n
@@ -239,7 +278,7 @@ add_to_keeps limits c name n (Some (GraphObject graph)) h node stand alone is st
         used-with_object c.objects (cell_of name) (GraphObject new) other
         (All-weaker (HasObject name (GraphObject graph)) (λ o. o.name ≡ name → uses o.object other ≡ true → uses (GraphObject new) other ≡ true)
         (λ o only e used.
-        list_any-append (names_it other) graph.nodes (added ∷ []) ∙ or_left (list_any (names_it other) graph.nodes) (list_any (names_it other) (added ∷ [])) (sym (ap (λ x. uses x other) (only e)) ∙ used)) c.objects alone)
+        list_any-append (names_it other) graph.nodes (added ∷ []) ∙ or_left (list_any (names_it other) graph.nodes) (list_any (names_it other) (added ∷ [])) (sym (ap (λ x. uses x other) (only e)) ∙ used)) c.objects (alone limits c name graph new h found))
 
     held_more : (o : Named) → IsTrue (is_held c.objects o) → IsTrue (is_held more o)
     held_more o held = by_mark (or_cases o.live (is_used c.objects o.name) held)
@@ -252,26 +291,27 @@ add_to_keeps limits c name n (Some (GraphObject graph)) h node stand alone is st
     held =
         All-with_object (λ o. IsTrue (is_held more o)) (λ _. Unit {0}) c.objects (cell_of name) (GraphObject new) (λ o any was e. was) (λ k d below. tt)
         (All-weaker (λ o. IsTrue (is_held c.objects o)) (λ o. IsTrue (is_held more o)) held_more c.objects h.held)
-add_to_keeps limits c name n (Some other) h node stand alone is stood = tt
+add_to_keeps limits c name n (Some other) h node stand found is stood = tt
 
--- a node that is added keeps the limits
-pub add_node_keeps : (limits : Allowance) (c : Context) (name : ℕ) (n : Node) → KeepsLimits limits c → IsNode n → Keeps limits (add_node c name n)
+-- a node that is added keeps the limits, and what is held
+pub add_node_keeps : (limits : Allowance) (c : Context) (name : ℕ) (n : Node) → KeepsLimits limits c → IsNode n → KeepsBut (λ other. name == other) limits c (add_node c name n)
 add_node_keeps limits c name n h node =
-    refused_or_keeps limits (operands_refusal (Some name) c.objects ((cell_of name, kind.Graph) ∷ operands n)) (add_to (graph_named c.objects name) c name n)
+    refused_or_keeps (λ other. name == other) limits c (operands_refusal (Some name) c.objects ((cell_of name, kind.Graph) ∷ operands n)) (add_to (graph_named c.objects name) c name n)
     (λ allowed.
     let pass = operands_pass (Some name) c.objects ((cell_of name, kind.Graph) ∷ operands n) allowed in
     let stand = All-weaker (Passes (Some name) c.objects) (λ operand. IsTrue (stands c.objects name operand)) (λ operand passes. passes_stands limits c name operand h passes)
     (operands n) (All-tail (Passes (Some name) c.objects) (cell_of name, kind.Graph) (operands n) pass) in
-    add_to_keeps limits c name n (object_named c.objects name) h node stand (graph_alone limits c name h) (graph_is limits c name h) (graph_stands limits c name h))
+    add_to_keeps limits c name n (object_named c.objects name) h node stand (held_if_live c.objects name h.names) (graph_is limits c name h) (graph_stands limits c name h))
 
 -- ---- a graph with one node less
 
 remove_from_keeps : (limits : Allowance) (c : Context) (name number : ℕ) (object : Option ObjectValue) → KeepsLimits limits c
-    → IfSome object (λ x. All (HasObject name x) c.objects) → IfSome object IsObject → IfSome object (λ x. All (OperandsStand c.objects name) (nodes_in x)) → Keeps limits (remove_from (as_graph object) c name number)
-remove_from_keeps limits c name number None h alone is stood = tt
-remove_from_keeps limits c name number (Some (GraphObject graph)) h alone is stood =
-    cond_both (has_node graph number) (Ok (Empty, Some (with_objects c (still_held less)))) (Err InvalidReference) (Keeps limits)
-    (λ there. still_held_keeps limits (with_objects c less) (with_graph_keeps limits c name graph new h alone (IsGraph-without_node graph number is) nodes)) (λ absent. tt)
+    → IfSome object (λ x. object_held c.objects name ≡ Some x) → IfSome object IsObject → IfSome object (λ x. All (OperandsStand c.objects name) (nodes_in x))
+    → KeepsBut (λ other. name == other) limits c (remove_from (as_graph object) c name number)
+remove_from_keeps limits c name number None h found is stood = tt
+remove_from_keeps limits c name number (Some (GraphObject graph)) h found is stood =
+    cond_both (has_node graph number) (Ok (Empty, Some (with_objects c (still_held less)))) (Err InvalidReference) (KeepsBut (λ other. name == other) limits c)
+    (λ there. still_leaves limits c name graph new h found (with_graph_keeps limits c name graph new h found (IsGraph-without_node graph number is) nodes)) (λ absent. tt)
   where
     new : GraphValue
     new = without_node graph number
@@ -284,31 +324,32 @@ remove_from_keeps limits c name number (Some (GraphObject graph)) h alone is sto
         All-map (OperandsStand c.objects name) (λ (k : Numbered). k.node) new.nodes
         (All-filter (λ (k : Numbered). not (k.number == number)) (λ k. OperandsStand c.objects name k.node) graph.nodes
         (All-from_map (OperandsStand c.objects name) (λ (k : Numbered). k.node) graph.nodes stood))
-remove_from_keeps limits c name number (Some other) h alone is stood = tt
+remove_from_keeps limits c name number (Some other) h found is stood = tt
 
--- a node that is removed keeps the limits
-pub remove_node_keeps : (limits : Allowance) (c : Context) (name number : ℕ) → KeepsLimits limits c → Keeps limits (remove_node c name number)
+-- a node that is removed keeps the limits, and what is held
+pub remove_node_keeps : (limits : Allowance) (c : Context) (name number : ℕ) → KeepsLimits limits c → KeepsBut (λ other. name == other) limits c (remove_node c name number)
 remove_node_keeps limits c name number h =
-    remove_from_keeps limits c name number (object_named c.objects name) h (graph_alone limits c name h) (graph_is limits c name h) (graph_stands limits c name h)
+    remove_from_keeps limits c name number (object_named c.objects name) h (held_if_live c.objects name h.names) (graph_is limits c name h) (graph_stands limits c name h)
 
 -- ---- requests that leave the graphs
 
 -- a new virtual image keeps the limits
 create_virtual_keeps : (limits : Allowance) (c : Context) (name : ℕ) (declared : Outline) (object : Option ObjectValue) → KeepsLimits limits c → name < 2 ^ 32 → IsOutline declared
-    → Keeps limits (create_virtual_in (as_graph object) limits c name declared)
+    → Keeps limits c (create_virtual_in (as_graph object) limits c name declared)
 create_virtual_keeps limits c name declared None h small is = tt
 create_virtual_keeps limits c name declared (Some (GraphObject graph)) h small is =
     create_keeps limits c (VirtualObject (record { graph = name; declared = declared })) h (record { graph = small; declared = is }) refl
 create_virtual_keeps limits c name declared (Some other) h small is = tt
 
-pub create_virtual_image_keeps : (limits : Allowance) (c : Context) (name : ℕ) (declared : Outline) → KeepsLimits limits c → name < 2 ^ 32 → IsOutline declared → Keeps limits (create_virtual_image limits c name declared)
+pub create_virtual_image_keeps : (limits : Allowance) (c : Context) (name : ℕ) (declared : Outline) → KeepsLimits limits c → name < 2 ^ 32 → IsOutline declared → Keeps limits c (create_virtual_image limits c name declared)
 create_virtual_image_keeps limits c name declared h small is = create_virtual_keeps limits c name declared (object_named c.objects name) h small is
 
 -- a verdict leaves the context
-verify_found_keeps : (limits : Allowance) (c : Context) (object : Option ObjectValue) → KeepsLimits limits c → Keeps limits (verify_found (as_graph object) limits c)
+verify_found_keeps : (limits : Allowance) (c : Context) (object : Option ObjectValue) → KeepsLimits limits c → Keeps limits c (verify_found (as_graph object) limits c)
 verify_found_keeps limits c None h = tt
-verify_found_keeps limits c (Some (GraphObject graph)) h = unless_keeps limits (option_map Rejected (graph_verdict limits c.objects graph)) Empty c (λ allowed. h)
+verify_found_keeps limits c (Some (GraphObject graph)) h =
+    unless_keeps limits c (option_map Rejected (graph_verdict limits c.objects graph)) Empty c (λ allowed. same_leaves limits (λ name. false) c h)
 verify_found_keeps limits c (Some other) h = tt
 
-pub verify_graph_keeps : (limits : Allowance) (c : Context) (name : ℕ) → KeepsLimits limits c → Keeps limits (verify_graph limits c name)
+pub verify_graph_keeps : (limits : Allowance) (c : Context) (name : ℕ) → KeepsLimits limits c → Keeps limits c (verify_graph limits c name)
 verify_graph_keeps limits c name h = verify_found_keeps limits c (object_named c.objects name) h

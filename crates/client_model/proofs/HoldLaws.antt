@@ -16,17 +16,17 @@ use Rattle.vx_base.specs.declared.numbered.Numbered.{Numbered}
 use Rattle.vx_base.specs.Cell.{Cell}
 use Rattle.vx_base.specs.Function.{parameters}
 use Rattle.vx_base.specs.Node.{operands, second_kind, with_kind}
-use Rattle.vx_base.specs.Object.{ObjectValue, GraphObject, object_kind}
+use Rattle.vx_base.specs.Object.{ObjectValue, GraphObject, VirtualObject, object_kind}
 use Rattle.vx_base.proofs.NodeLaws.{same_kind_equal}
 use Rattle.object_table.specs.Delay.{in_slot, slot_kind}
 use Rattle.object_table.specs.Named.{Named, object_held, held}
-use Rattle.client_model.specs.Holds.{names_it, uses, is_used, is_held, still_held}
+use Rattle.object_table.specs.Skeleton.{skeleton}
+use Rattle.object_table.specs.Holds.{names_it, uses, is_used, is_held, still_held}
+use Rattle.object_table.specs.Uses.{nodes_in}
 use Rattle.client_model.specs.Operands.{is_kind, is_empty, is_of_other_graph}
 use Rattle.client_model.specs.States.{kind_held, stands, NodesStand}
-use Rattle.graph_run.specs.Lasting.{nodes_in}
-use Rattle.graph_run.specs.Frame.{frame}
-use Rattle.client_model.proofs.FrameLemmas.{stands-alike}
 use Rattle.object_table.proofs.HeldLemmas.{names_of, All-from_map, held_by_name}
+use Rattle.object_table.proofs.SkeletonLaws.{slot_kind-skeleton, in_slot-skeleton}
 
 -- ---- lists of which some elements are kept
 
@@ -112,6 +112,33 @@ stands_from objects graph operand h =
     (and_from (not (is_of_other_graph graph (held objects operand.0))) (not (is_empty objects operand.0))
     (not_from_false (is_of_other_graph graph (held objects operand.0)) h.scope) (not_from_false (is_empty objects operand.0) h.there))
 
+-- whether a cell stands, by the object of its name
+abbrev stands_on : ℕ → Cell × Kind → Option ObjectValue → Bool
+stands_on graph operand found =
+    is_kind operand.1 (option_and_then (slot_kind operand.0.slot) found)
+    && (not (is_of_other_graph graph (option_and_then (in_slot operand.0.slot) found)) && not (is_none (option_and_then (in_slot operand.0.slot) found)))
+
+stands_by_skeleton : (graph : ℕ) (operand : Cell × Kind) (found : Option ObjectValue) → stands_on graph operand (option_map skeleton found) ≡ stands_on graph operand found
+stands_by_skeleton graph operand None = refl
+stands_by_skeleton graph operand (Some object) =
+    let slot = operand.0.slot in
+    ap (λ k. is_kind operand.1 k && tested (in_slot slot (skeleton object))) (slot_kind-skeleton slot object)
+    ∙ ap (λ b. is_kind operand.1 (slot_kind slot object) && b) (ap tested (in_slot-skeleton slot object) ∙ alike (in_slot slot object))
+  where
+    tested : Option ObjectValue → Bool
+    tested found = not (is_of_other_graph graph found) && not (is_none found)
+
+    alike : (found : Option ObjectValue) → tested (option_map skeleton found) ≡ tested found
+    alike None = refl
+    alike (Some (VirtualObject image)) = refl
+    alike (Some other) = refl
+
+-- a cell stands among other objects, where that of its name has the same skeleton
+pub stands-alike : (objects others : List Named) (graph : ℕ) (operand : Cell × Kind)
+    → option_map skeleton (object_held objects operand.0.name) ≡ option_map skeleton (object_held others operand.0.name) → stands objects graph operand ≡ stands others graph operand
+stands-alike objects others graph operand same =
+    sym (stands_by_skeleton graph operand (object_held objects operand.0.name)) ∙ ap (stands_on graph operand) same ∙ stands_by_skeleton graph operand (object_held others operand.0.name)
+
 -- each operand of a node stands
 abbrev pub OperandsStand : List Named → ℕ → Node → Type 0
 OperandsStand objects graph n = All (λ operand. IsTrue (stands objects graph operand)) (operands n)
@@ -126,7 +153,7 @@ nodes_stand objects others graph nodes still h =
 -- an operand stands among others, where these have the same object of its name
 pub stands_still : (objects others : List Named) (graph : ℕ) (operand : Cell × Kind) → object_held others operand.0.name ≡ object_held objects operand.0.name
     → IsTrue (stands objects graph operand) → IsTrue (stands others graph operand)
-stands_still objects others graph operand same h = stands-alike others objects graph operand (ap (option_map frame) same) ∙ h
+stands_still objects others graph operand same h = stands-alike others objects graph operand (ap (option_map skeleton) same) ∙ h
 
 -- so it does with one object more
 pub stands_more : (objects : List Named) (new : Named) (graph : ℕ) (operand : Cell × Kind) → IsTrue (stands objects graph operand) → IsTrue (stands (objects ++ new ∷ []) graph operand)

@@ -1,6 +1,7 @@
--- Writes and reads of images keep the limits.
-use Rattle.std.proofs.Common.{ℕ, ◌≡◌, true, if◌then◌else◌, List, Option, Some, None, IfSome, Result, Ok, Err, IfOk, refl, subst}
-use Rattle.std.specs.Prelude.{All, not, nat_le, ◌&&◌, IsTrue}
+-- Writes and reads of images keep the limits, and what is held.
+use Rattle.std.proofs.Common.{ℕ, ◌≡◌, true, false, if◌then◌else◌, List, Option, Some, None, IfSome, Result, Ok, Err, IfOk, refl, ap, ◌∙◌}
+use Rattle.std.specs.Prelude.{not, nat_le, ◌&&◌, IsTrue}
+use Rattle.std.specs.Option.{option_map}
 use Rattle.std.proofs.lemmas.Bool.{cond_both, not-false, and_parts, leb-true}
 use Rattle.vx_base.specs.declared.format.Format.{Format}
 use Rattle.vx_base.specs.declared.format.Format.TheVariants.{U8, S16, U32}
@@ -16,12 +17,12 @@ use Rattle.vx_base.proofs.ImageLaws.{with_valid_is}
 use Rattle.vx_base.proofs.PictureLaws.{pictured_image}
 use Rattle.vx_base.proofs.RectangleLaws.{rectangle_ordered}
 use Rattle.object_table.specs.Named.{Named, held, with_object}
+use Rattle.object_table.specs.Context.{Context, with_objects}
 use Rattle.client_model.specs.declared.refusal.Refusal.{Refusal}
 use Rattle.client_model.specs.declared.refusal.Refusal.TheVariants.{InvalidReference, InvalidType, InvalidValue, InvalidFormat, InvalidDimension}
 use Rattle.client_model.specs.declared.reply.Described.{Described}
 use Rattle.client_model.specs.declared.reply.Reply.TheVariants.{Empty, Text}
 use Rattle.client_model.specs.Allowance.{Allowance}
-use Rattle.client_model.specs.Context.{Context, with_objects}
 use Rattle.client_model.specs.Operands.{is_unknown, is_of_other_kind, as_image, image_of}
 use Rattle.pgm_images.specs.declared.fault.PgmFault.{PgmFault}
 use Rattle.pgm_images.specs.Reading.{reading}
@@ -29,12 +30,12 @@ use Rattle.pgm_images.specs.Writing.{written}
 use Rattle.pgm_images.proofs.PictureLaws.{read_picture}
 use Rattle.client_model.specs.Images.{described_in, query_of, query_image, picture_refusal, write_to, write_image, write_text_to, write_text, read_from, read_image, read_text_from, read_text, valid_refusal, set_valid_of, set_valid}
 use Rattle.client_model.specs.States.{KeepsLimits}
-use Rattle.client_model.proofs.WriteLaws.{bare, same_bare_image}
-use Rattle.client_model.proofs.NamedLaws.{Fits, held_fits}
+use Rattle.graph_run.specs.Lasting.{lasting}
+use Rattle.graph_run.proofs.LastingLemmas.{images-last}
 use Rattle.object_table.proofs.HeldLemmas.{held_is}
-use Rattle.client_model.proofs.StateLaws.{with_object_keeps}
+use Rattle.client_model.proofs.StateLaws.{same_leaves, with_object_leaves}
 use Rattle.client_model.proofs.OutcomeLaws.{Keeps, unless_keeps}
-use Rattle.graph_run.proofs.OutputLemmas.{same_description}
+use Rattle.client_model.proofs.OperandLemmas.{same_description}
 use Rattle.graph_verify.proofs.SuitLemmas.{passed, met}
 
 -- formats that pass the test are one
@@ -51,48 +52,49 @@ picture_description image picture h =
     same_description image picture (met (same_size image picture) InvalidDimension of_format.1)
     (same_format_equal image.format picture.format (not-false (same_format image.format picture.format) of_format.0))
 
--- an image of this description may be written to the cell
+-- what lasts of an image is what lasts of what the cell holds
 abbrev ImageFits : List Named → Cell → ImageValue → Type 0
-ImageFits objects cell image = All (Fits cell (bare (ImageObject image))) objects
+ImageFits objects cell image = option_map lasting (held objects cell) ≡ Some (lasting (ImageObject image))
 
--- the image that a cell names may be written to it
-image_of_fits : (limits : Allowance) (c : Context) (cell : Cell) → KeepsLimits limits c → IfOk (image_of c.objects cell) (ImageFits c.objects cell)
-image_of_fits limits c cell h =
+-- it is the image that the cell names
+image_of_fits : (c : Context) (cell : Cell) → IfOk (image_of c.objects cell) (ImageFits c.objects cell)
+image_of_fits c cell =
     let May : Result ImageValue Refusal → Type 0 = λ image. IfOk image (ImageFits c.objects cell) in
     cond_both (is_unknown c.objects cell) (Err InvalidReference) (if is_of_other_kind c.objects (cell, kind.Image) then Err InvalidType else as_image (held c.objects cell)) May
     (λ unknown. tt)
     (λ known. cond_both (is_of_other_kind c.objects (cell, kind.Image)) (Err InvalidType) (as_image (held c.objects cell)) May
-    (λ other. tt) (λ of_kind. if_image (held c.objects cell) (held_fits c.objects cell h.objects h.names)))
+    (λ other. tt) (λ of_kind. if_image (held c.objects cell)))
   where
-    if_image : (object : Option ObjectValue) → IfSome object (λ x. All (Fits cell (bare x)) c.objects) → IfOk (as_image object) (ImageFits c.objects cell)
-    if_image (Some (ImageObject image)) fits = fits
-    if_image other fits = tt
+    if_image : (object : Option ObjectValue) → IfOk (as_image object) (λ image. option_map lasting object ≡ Some (lasting (ImageObject image)))
+    if_image (Some (ImageObject image)) = refl
+    if_image other = tt
 
 -- a picture is written where an image of its size and format was
-write_to_keeps : (limits : Allowance) (image : Result ImageValue Refusal) (c : Context) (cell : Cell) (p : PictureValue) → KeepsLimits limits c → IsPicture p → IfOk image (ImageFits c.objects cell) → Keeps limits (write_to image c cell p)
+write_to_keeps : (limits : Allowance) (image : Result ImageValue Refusal) (c : Context) (cell : Cell) (p : PictureValue) → KeepsLimits limits c → IsPicture p → IfOk image (ImageFits c.objects cell) → Keeps limits c (write_to image c cell p)
 write_to_keeps limits (Err refusal) c cell p h is fits = tt
 write_to_keeps limits (Ok image) c cell p h is fits =
-    unless_keeps limits (picture_refusal (description_of image) p.description) Empty (with_objects c (with_object c.objects cell (ImageObject (pictured p))))
-    (λ allowed.
-    let e = same_bare_image image (pictured p) (picture_description (description_of image) p.description allowed) in
-    let May : ObjectValue → Type 0 = λ o. All (Fits cell o) c.objects in
-    with_object_keeps limits c (cell, ImageObject (pictured p)) h
-    (record { is_object = pictured_image p is; fits = subst May e fits }))
+    unless_keeps limits c (picture_refusal (description_of image) p.description) Empty (with_objects c (with_object c.objects cell (ImageObject (pictured p))))
+    (λ allowed. with_object_leaves limits (λ name. false) c h (cell, ImageObject (pictured p))
+    (record {
+      is_object = pictured_image p is;
+      lasts = fits ∙ ap Some (images-last image (pictured p) (picture_description (description_of image) p.description allowed));
+    }))
 
 -- so is that of a text
-write_text_to_keeps : (limits : Allowance) (image : Result ImageValue Refusal) (c : Context) (cell : Cell) (picture : Result PictureValue PgmFault) → KeepsLimits limits c → IfOk picture IsPicture → IfOk image (ImageFits c.objects cell) → Keeps limits (write_text_to image c cell picture)
+write_text_to_keeps : (limits : Allowance) (image : Result ImageValue Refusal) (c : Context) (cell : Cell) (picture : Result PictureValue PgmFault) → KeepsLimits limits c → IfOk picture IsPicture → IfOk image (ImageFits c.objects cell) → Keeps limits c (write_text_to image c cell picture)
 write_text_to_keeps limits (Err refusal) c cell picture h is fits = tt
 write_text_to_keeps limits (Ok image) c cell (Err fault) h is fits = tt
 write_text_to_keeps limits (Ok image) c cell (Ok p) h is fits = write_to_keeps limits (Ok image) c cell p h is fits
 
 -- a read leaves the context
-read_from_keeps : (limits : Allowance) (image : Result ImageValue Refusal) (c : Context) → KeepsLimits limits c → Keeps limits (read_from image c)
+read_from_keeps : (limits : Allowance) (image : Result ImageValue Refusal) (c : Context) → KeepsLimits limits c → Keeps limits c (read_from image c)
 read_from_keeps limits (Err refusal) c h = tt
-read_from_keeps limits (Ok image) c h = h
+read_from_keeps limits (Ok image) c h = same_leaves limits (λ name. false) c h
 
-read_text_from_keeps : (limits : Allowance) (image : Result ImageValue Refusal) (c : Context) → KeepsLimits limits c → Keeps limits (read_text_from image c)
+read_text_from_keeps : (limits : Allowance) (image : Result ImageValue Refusal) (c : Context) → KeepsLimits limits c → Keeps limits c (read_text_from image c)
 read_text_from_keeps limits (Err refusal) c h = tt
-read_text_from_keeps limits (Ok image) c h = unless_keeps limits (if same_format image.format U8 then None else Some InvalidFormat) (Text (written (picture_of image))) c (λ allowed. h)
+read_text_from_keeps limits (Ok image) c h =
+    unless_keeps limits c (if same_format image.format U8 then None else Some InvalidFormat) (Text (written (picture_of image))) c (λ allowed. same_leaves limits (λ name. false) c h)
 
 -- what a text stands for is a picture
 reading_is : (r : Result PictureValue PgmFault) → ((p : PictureValue) → r ≡ Ok p → IsPicture p) → IfOk r IsPicture
@@ -100,28 +102,28 @@ reading_is (Err fault) is = tt
 reading_is (Ok p) is = is p refl
 
 -- a write of the picture of a text keeps the limits
-pub write_text_keeps : (limits : Allowance) (c : Context) (cell : Cell) (text : List ℕ) → KeepsLimits limits c → Keeps limits (write_text c cell text)
-write_text_keeps limits c cell text h = write_text_to_keeps limits (image_of c.objects cell) c cell (reading text) h (reading_is (reading text) (λ p e. read_picture text p e)) (image_of_fits limits c cell h)
+pub write_text_keeps : (limits : Allowance) (c : Context) (cell : Cell) (text : List ℕ) → KeepsLimits limits c → Keeps limits c (write_text c cell text)
+write_text_keeps limits c cell text h = write_text_to_keeps limits (image_of c.objects cell) c cell (reading text) h (reading_is (reading text) (λ p e. read_picture text p e)) (image_of_fits c cell)
 
 -- a read of an image as a text keeps the limits
-pub read_text_keeps : (limits : Allowance) (c : Context) (cell : Cell) → KeepsLimits limits c → Keeps limits (read_text c cell)
+pub read_text_keeps : (limits : Allowance) (c : Context) (cell : Cell) → KeepsLimits limits c → Keeps limits c (read_text c cell)
 read_text_keeps limits c cell h = read_text_from_keeps limits (image_of c.objects cell) c h
 
 -- a write of a picture keeps the limits
-pub write_image_keeps : (limits : Allowance) (c : Context) (cell : Cell) (p : PictureValue) → KeepsLimits limits c → IsPicture p → Keeps limits (write_image c cell p)
-write_image_keeps limits c cell p h is = write_to_keeps limits (image_of c.objects cell) c cell p h is (image_of_fits limits c cell h)
+pub write_image_keeps : (limits : Allowance) (c : Context) (cell : Cell) (p : PictureValue) → KeepsLimits limits c → IsPicture p → Keeps limits c (write_image c cell p)
+write_image_keeps limits c cell p h is = write_to_keeps limits (image_of c.objects cell) c cell p h is (image_of_fits c cell)
 
 -- a read of an image keeps the limits
-pub read_image_keeps : (limits : Allowance) (c : Context) (cell : Cell) → KeepsLimits limits c → Keeps limits (read_image c cell)
+pub read_image_keeps : (limits : Allowance) (c : Context) (cell : Cell) → KeepsLimits limits c → Keeps limits c (read_image c cell)
 read_image_keeps limits c cell h = read_from_keeps limits (image_of c.objects cell) c h
 
 -- a query leaves the context
-query_of_keeps : (limits : Allowance) (found : Result Described Refusal) (c : Context) → KeepsLimits limits c → Keeps limits (query_of found c)
+query_of_keeps : (limits : Allowance) (found : Result Described Refusal) (c : Context) → KeepsLimits limits c → Keeps limits c (query_of found c)
 query_of_keeps limits (Err refusal) c h = tt
-query_of_keeps limits (Ok found) c h = h
+query_of_keeps limits (Ok found) c h = same_leaves limits (λ name. false) c h
 
 -- a query of an image keeps the limits
-pub query_image_keeps : (limits : Allowance) (c : Context) (cell : Cell) → KeepsLimits limits c → Keeps limits (query_image c cell)
+pub query_image_keeps : (limits : Allowance) (c : Context) (cell : Cell) → KeepsLimits limits c → Keeps limits c (query_image c cell)
 query_image_keeps limits c cell h = query_of_keeps limits (described_in c.objects cell) c h
 
 -- the image that a cell names is one
@@ -143,13 +145,13 @@ within_image image valid h =
     record { columns = leb-true valid.x1 image.width both.0; rows = leb-true valid.y1 image.height both.1 }
 
 -- a rectangle is set where an image was
-set_valid_of_keeps : (limits : Allowance) (image : Result ImageValue Refusal) (c : Context) (cell : Cell) (valid : Rectangle) → KeepsLimits limits c → IsOrdered valid → IfOk image IsImage → IfOk image (ImageFits c.objects cell) → Keeps limits (set_valid_of image c cell valid)
+set_valid_of_keeps : (limits : Allowance) (image : Result ImageValue Refusal) (c : Context) (cell : Cell) (valid : Rectangle) → KeepsLimits limits c → IsOrdered valid → IfOk image IsImage → IfOk image (ImageFits c.objects cell) → Keeps limits c (set_valid_of image c cell valid)
 set_valid_of_keeps limits (Err refusal) c cell valid h ordered is fits = tt
 set_valid_of_keeps limits (Ok image) c cell valid h ordered is fits =
-    unless_keeps limits (valid_refusal (description_of image) valid) Empty (with_objects c (with_object c.objects cell (ImageObject (with_valid valid image))))
-    (λ allowed. with_object_keeps limits c (cell, ImageObject (with_valid valid image)) h
-    (record { is_object = with_valid_is image valid is ordered (within_image (description_of image) valid allowed); fits = fits }))
+    unless_keeps limits c (valid_refusal (description_of image) valid) Empty (with_objects c (with_object c.objects cell (ImageObject (with_valid valid image))))
+    (λ allowed. with_object_leaves limits (λ name. false) c h (cell, ImageObject (with_valid valid image))
+    (record { is_object = with_valid_is image valid is ordered (within_image (description_of image) valid allowed); lasts = fits }))
 
 -- a rectangle that is set keeps the limits
-pub set_valid_keeps : (limits : Allowance) (c : Context) (cell : Cell) (valid : Rectangle) → KeepsLimits limits c → IsTrue (is_rectangle valid.x0 valid.y0 valid.x1 valid.y1) → Keeps limits (set_valid c cell valid)
-set_valid_keeps limits c cell valid h is = set_valid_of_keeps limits (image_of c.objects cell) c cell valid h (rectangle_ordered valid is) (image_of_is limits c cell h) (image_of_fits limits c cell h)
+pub set_valid_keeps : (limits : Allowance) (c : Context) (cell : Cell) (valid : Rectangle) → KeepsLimits limits c → IsTrue (is_rectangle valid.x0 valid.y0 valid.x1 valid.y1) → Keeps limits c (set_valid c cell valid)
+set_valid_keeps limits c cell valid h is = set_valid_of_keeps limits (image_of c.objects cell) c cell valid h (rectangle_ordered valid is) (image_of_is limits c cell h) (image_of_fits c cell)

@@ -1,5 +1,4 @@
-pub mod FrameLemmas
-pub mod WriteLaws
+pub mod OperandLemmas
 pub mod NamedLaws
 pub mod HoldLaws
 pub mod StateLaws

@@ -1,8 +1,8 @@
--- A node that runs at once keeps the limits: each output becomes an object of the kind, the size and the format that it had.
+-- A node that runs at once keeps the limits, and what is held: each output becomes an object of the kind, the size and the format that it
+-- had.
 use Rattle.std.proofs.Common.{◌≡◌, ℕ, true, false, IsTrue, List, get_or, [], Option, Some, None, IfSome, if◌then◌else◌, refl, sym, ap, subst, ◌∙◌}
 use Rattle.std.specs.Prelude.{All, ◌&&◌, is_some, is_none, unwrap_or}
 use Rattle.std.specs.List.{list_any}
-use Rattle.std.specs.List.Sorted.{IsStrictlyIncreasing}
 use Rattle.std.specs.Option.{option_map, option_and_then, option_or}
 use Rattle.std.proofs.lemmas.Bool.{and_parts, not-false}
 use Rattle.std.proofs.lemmas.Option.{IfSome_then}
@@ -24,6 +24,7 @@ use Rattle.vx_base.specs.declared.output.Output.TheVariants.{First, Second}
 use Rattle.vx_base.specs.Outputs.{node_image, node_output, written_to, written_in, written_by}
 use Rattle.vx_base.proofs.NodeLaws.{node_image_is, same_kind_equal}
 use Rattle.object_table.specs.Named.{Named, held, with_written}
+use Rattle.object_table.specs.Context.{Context, with_objects}
 use Rattle.graph_verify.specs.declared.operand.Operand.{Operand}
 use Rattle.graph_verify.specs.declared.operand.Operand.TheVariants.{Image}
 use Rattle.graph_verify.specs.declared.verdict.Verdict.{Verdict}
@@ -32,21 +33,20 @@ use Rattle.graph_verify.specs.Verdict.{verdict_on}
 use Rattle.client_model.specs.declared.refusal.Refusal.TheVariants.{InvalidReference, InvalidType, InvalidScope, InvalidValue, OptimizedAway, Rejected}
 use Rattle.client_model.specs.declared.reply.Reply.TheVariants.{Empty}
 use Rattle.client_model.specs.Allowance.{Allowance}
-use Rattle.client_model.specs.Context.{Context, with_objects}
 use Rattle.client_model.specs.Operands.{is_unknown, is_empty, is_beyond, is_kind, kind_of, is_of_other_kind, stands_for, operands_refusal}
 use Rattle.client_model.specs.Immediate.{operand_in, operand_if, operands_in, is_some_virtual, away_refusal, node_refusal, immediate}
 use Rattle.client_model.specs.States.{KeepsLimits, kind_held}
-use Rattle.client_model.proofs.WriteLaws.{bare, same_bare_image}
-use Rattle.object_table.proofs.HeldLemmas.{names_of, held_is}
-use Rattle.client_model.proofs.NamedLaws.{Fits, held_kind, held_fits, kind_if_live}
+use Rattle.object_table.proofs.HeldLemmas.{held_is}
+use Rattle.graph_run.specs.Lasting.{lasting}
+use Rattle.graph_run.proofs.CellLemmas.{IsReplacement, Lasts-with_written}
+use Rattle.graph_run.proofs.LastingLemmas.{images-last}
+use Rattle.client_model.proofs.NamedLaws.{held_kind, kind_if_live}
 use Rattle.client_model.proofs.HoldLaws.{each_fails}
-use Rattle.client_model.proofs.StateLaws.{IsReplacement, with_written_keeps}
+use Rattle.client_model.proofs.StateLaws.{alike_leaves}
 use Rattle.graph_verify.proofs.SuitLemmas.{Suits, BothSuit, verdict_suits, passed}
 use Rattle.graph_run.proofs.OperandLaws.{described_node, kind-operand}
-use Rattle.graph_run.proofs.RunLemmas.{same_formats}
-use Rattle.graph_run.proofs.OutputLemmas.{length-histogram, same_description}
+use Rattle.client_model.proofs.OperandLemmas.{of_operands, same_formats, same_description, length-histogram}
 use Rattle.client_model.proofs.OutcomeLaws.{Keeps, unless_keeps}
-use Rattle.graph_run.proofs.FoundLemmas.{of_operands}
 
 -- ---- what a node can give
 
@@ -86,36 +86,36 @@ operand_if_held objects (Some cell) = refl
 -- ---- what a node writes
 
 module _ (objects : List Named) (n : Node) (node : IsNode n) (second : Option ObjectValue) (is : IfSome second IsObject) where
-  -- an output to which it can give becomes an object that is the same without what writes change
-  output_fits : (output : Output) (cell : Cell) (first out : ObjectValue) → IsObject first → IsObject out → All (Fits cell (bare out)) objects → CanGive n.function (operand_of first) (option_map operand_of second) (operand_of out)
+  -- an output to which it can give becomes an object of which as much lasts
+  output_fits : (output : Output) (cell : Cell) (first out : ObjectValue) → IsObject first → IsObject out → held objects cell ≡ Some out → CanGive n.function (operand_of first) (option_map operand_of second) (operand_of out)
       → IsReplacement objects (cell, node_output n output first second out)
-  output_fits output cell (ImageObject a) (ImageObject out) is_first is_out fits can =
+  output_fits output cell (ImageObject a) (ImageObject out) is_first is_out found can =
       let e : description_of (node_image n output out.format a second) ≡ description_of out =
       described_node n output out.format a second ∙ same_description (record { width = a.width; height = a.height; format = out.format }) (description_of out) can.size refl in
-      let May : ObjectValue → Type 0 = λ o. All (Fits cell o) objects in
       let Taken : Option Format → Type 0 = λ format. IsTrue (takes_formats n.function a.format format (Some out.format)) in
       record {
         is_object = node_image_is n out.format a node is_first output second is (right second can.kind) (subst Taken (same_formats second) can.formats);
-        fits = subst May (sym (same_bare_image (node_image n output out.format a second) out e)) fits;
+        lasts = ap (option_map lasting) found ∙ ap Some (sym (images-last (node_image n output out.format a second) out e));
       }
     where
       right : (object : Option ObjectValue) → IfSome (option_map operand_of object) (λ o. (parameters n.function).second_input ≡ Some (operand_kind o)) → IfSome object (λ o. (parameters n.function).second_input ≡ Some (object_kind o))
       right None h = tt
       right (Some object) h = h ∙ ap Some (kind-operand object)
-  output_fits output cell (ImageObject a) (DistributionObject d) is_first is_out fits can = record { is_object = record { bins = is_out.bins; size = length-histogram d.bins a }; fits = fits }
-  output_fits output cell (ImageObject a) (ExtremesObject e) is_first is_out fits can = record { is_object = tt; fits = fits }
-  output_fits output cell first out is_first is_out fits can = record { is_object = is_out; fits = fits }
+  output_fits output cell (ImageObject a) (DistributionObject d) is_first is_out found can =
+      record { is_object = record { bins = is_out.bins; size = length-histogram d.bins a }; lasts = ap (option_map lasting) found }
+  output_fits output cell (ImageObject a) (ExtremesObject e) is_first is_out found can = record { is_object = tt; lasts = ap (option_map lasting) found }
+  output_fits output cell first out is_first is_out found can = record { is_object = is_out; lasts = ap (option_map lasting) found }
 
   -- so does what a cell holds, if it holds something
-  written_to_fits : (output : Output) (cell : Cell) (first out : Option ObjectValue) → IfSome first IsObject → IfSome out IsObject → IfSome out (λ x. All (Fits cell (bare x)) objects)
+  written_to_fits : (output : Output) (cell : Cell) (first out : Option ObjectValue) → IfSome first IsObject → IfSome out IsObject → held objects cell ≡ out
       → CanGiveTo n.function (option_map operand_of first) (option_map operand_of second) (option_map operand_of out) → All (IsReplacement objects) (written_to n output cell first second out)
-  written_to_fits output cell (Some first) (Some out) is_first is_out fits can =
-      All-cons (IsReplacement objects) (cell, node_output n output first second out) [] (output_fits output cell first out is_first is_out fits can) (All-nil (IsReplacement objects))
-  written_to_fits output cell first out is_first is_out fits can = All-nil (IsReplacement objects)
+  written_to_fits output cell (Some first) (Some out) is_first is_out found can =
+      All-cons (IsReplacement objects) (cell, node_output n output first second out) [] (output_fits output cell first out is_first is_out found can) (All-nil (IsReplacement objects))
+  written_to_fits output cell first out is_first is_out found can = All-nil (IsReplacement objects)
 
 -- what a node writes to its outputs may be written there
-pub written_by_fits : (objects : List Named) (n : Node) → All (λ o. IsObject o.object) objects → IsStrictlyIncreasing (names_of objects) → CanRunOn (operand_in objects) n → All (IsReplacement objects) (written_by n (held objects))
-written_by_fits objects n is names can =
+pub written_by_fits : (objects : List Named) (n : Node) → All (λ o. IsObject o.object) objects → CanRunOn (operand_in objects) n → All (IsReplacement objects) (written_by n (held objects))
+written_by_fits objects n is can =
     All-append (IsReplacement objects) (written_in n First n.out1 (held objects)) (written_in n Second n.out2 (held objects)) (given_fits First n.out1 can.out1) (given_fits Second n.out2 can.out2)
   where
     second_is : (cell : Option Cell) → IfSome (option_and_then (held objects) cell) IsObject
@@ -127,7 +127,7 @@ written_by_fits objects n is names can =
     given_fits output (Some cell) gives =
         let second = option_and_then (held objects) n.in2 in
         written_to_fits objects n can.node second (second_is n.in2) output cell (held objects n.in1) (held objects cell)
-        (held_is objects n.in1 is) (held_is objects cell is) (held_fits objects cell is names)
+        (held_is objects n.in1 is) (held_is objects cell is) refl
         (subst (λ o. CanGiveTo n.function (operand_in objects n.in1) o (operand_in objects cell)) (operand_if_held objects n.in2) gives)
 
 -- ---- operands that nothing refuses
@@ -232,8 +232,10 @@ not_refused limits c n h node allowed =
     let give = both_give n.function (held objects n.in1) (operand_if objects n.in2) (operand_if objects n.out1) (operand_if objects n.out2) right suit in
     record { node = node; out1 = give.0; out2 = give.1 }
 
--- a node that runs at once keeps the limits
-pub immediate_keeps : (limits : Allowance) (c : Context) (n : Node) → KeepsLimits limits c → IsNode n → Keeps limits (immediate c n)
+-- a node that runs at once keeps the limits, and what is held
+pub immediate_keeps : (limits : Allowance) (c : Context) (n : Node) → KeepsLimits limits c → IsNode n → Keeps limits c (immediate c n)
 immediate_keeps limits c n h is =
-    unless_keeps limits (node_refusal c.objects n) Empty (with_objects c (with_written c.objects (written_by n (held c.objects))))
-    (λ allowed. with_written_keeps limits c (written_by n (held c.objects)) h (written_by_fits c.objects n h.objects h.names (not_refused limits c n h is allowed)))
+    let written = written_by n (held c.objects) in
+    unless_keeps limits c (node_refusal c.objects n) Empty (with_objects c (with_written c.objects written))
+    (λ allowed. alike_leaves limits (λ name. false) c h (with_written c.objects written)
+    (Lasts-with_written c.objects written h.names h.objects (written_by_fits c.objects n h.objects (not_refused limits c n h is allowed))))

@@ -1,5 +1,6 @@
--- Outcomes that keep the limits.
-use Rattle.std.proofs.Common.{◌≡◌, [], Option, Some, None, Ok, Err, IfOk, IfSome, refl}
+-- Outcomes that keep the limits, and what is held.
+use Rattle.std.proofs.Common.{◌≡◌, ℕ, Bool, false, [], Option, Some, None, Ok, Err, IfOk, IfSome, refl}
+use Rattle.std.specs.Prelude.{MatchOption}
 use Rattle.std.proofs.lemmas.Bool.{cond_both}
 use Rattle.vx_base.specs.Object.{ObjectValue, IsObject, object_bytes}
 use Rattle.client_model.specs.declared.refusal.Refusal.{Refusal}
@@ -7,33 +8,38 @@ use Rattle.client_model.specs.declared.refusal.Refusal.TheVariants.{NoResources}
 use Rattle.client_model.specs.declared.reply.Reply.{Reply}
 use Rattle.client_model.specs.declared.reply.Reply.TheVariants.{Name}
 use Rattle.client_model.specs.Allowance.{Allowance}
-use Rattle.client_model.specs.Context.{Context, State, with_new, has_room}
+use Rattle.object_table.specs.Context.{Context, with_new}
+use Rattle.client_model.specs.Context.{State, has_room}
 use Rattle.client_model.specs.Refusal.{Outcome, refused_or, unless}
 use Rattle.client_model.specs.Images.{create}
 use Rattle.client_model.specs.States.{KeepsLimits}
-use Rattle.graph_run.specs.Lasting.{nodes_in}
-use Rattle.client_model.proofs.StateLaws.{with_new_keeps}
+use Rattle.object_table.specs.Uses.{nodes_in}
+use Rattle.client_model.proofs.StateLaws.{Leaves, with_new_leaves}
 
 -- the state of a client, where a context keeps the limits
 abbrev pub StateKeeps : Allowance → State → Type 0
 StateKeeps limits state = IfSome state (KeepsLimits limits)
 
--- where an outcome is a reply and a state, the state keeps the limits
-abbrev pub Keeps : Allowance → Outcome → Type 0
-Keeps limits outcome = IfOk outcome (λ done. StateKeeps limits done.1)
+-- where an outcome is a reply and a state, that is a context, with what a request leaves of this one
+abbrev pub KeepsBut : (ℕ → Bool) → Allowance → Context → Outcome → Type 0
+KeepsBut changes limits c outcome = IfOk outcome (λ done. MatchOption done.1 ⊥ (Leaves limits changes c))
 
--- what is done unless it is refused keeps the limits, if the context does where nothing refuses
-pub unless_keeps : (limits : Allowance) (refusal : Option Refusal) (reply : Reply) (c : Context) → (refusal ≡ None → KeepsLimits limits c) → Keeps limits (unless refusal reply c)
-unless_keeps limits None reply c h = h refl
-unless_keeps limits (Some refusal) reply c h = tt
+-- all nodes too
+abbrev pub Keeps : Allowance → Context → Outcome → Type 0
+Keeps limits c outcome = KeepsBut (λ name. false) limits c outcome
+
+-- what is done unless it is refused keeps what its context does, where nothing refuses
+pub unless_keeps : (limits : Allowance) (c : Context) (refusal : Option Refusal) (reply : Reply) (after : Context) → (refusal ≡ None → Leaves limits (λ name. false) c after) → Keeps limits c (unless refusal reply after)
+unless_keeps limits c None reply after h = h refl
+unless_keeps limits c (Some refusal) reply after h = tt
 
 -- so does what is done otherwise
-pub refused_or_keeps : (limits : Allowance) (refusal : Option Refusal) (outcome : Outcome) → (refusal ≡ None → Keeps limits outcome) → Keeps limits (refused_or refusal outcome)
-refused_or_keeps limits None outcome h = h refl
-refused_or_keeps limits (Some refusal) outcome h = tt
+pub refused_or_keeps : (changes : ℕ → Bool) (limits : Allowance) (c : Context) (refusal : Option Refusal) (outcome : Outcome) → (refusal ≡ None → KeepsBut changes limits c outcome) → KeepsBut changes limits c (refused_or refusal outcome)
+refused_or_keeps changes limits c None outcome h = h refl
+refused_or_keeps changes limits c (Some refusal) outcome h = tt
 
--- a create of any object without nodes keeps the limits
-pub create_keeps : (limits : Allowance) (c : Context) (object : ObjectValue) → KeepsLimits limits c → IsObject object → nodes_in object ≡ [] → Keeps limits (create limits c object)
+-- a create of any object without nodes keeps all
+pub create_keeps : (limits : Allowance) (c : Context) (object : ObjectValue) → KeepsLimits limits c → IsObject object → nodes_in object ≡ [] → Keeps limits c (create limits c object)
 create_keeps limits c object h is none =
-    cond_both (has_room limits c (object_bytes object)) (Ok (Name c.next, Some (with_new c object))) (Err NoResources) (Keeps limits)
-    (λ room. with_new_keeps limits c object h is none room) (λ full. tt)
+    cond_both (has_room limits c (object_bytes object)) (Ok (Name c.next, Some (with_new c object))) (Err NoResources) (Keeps limits c)
+    (λ room. with_new_leaves limits (λ name. false) c h object is none room) (λ full. tt)

@@ -1,29 +1,35 @@
 -- What the state of a client keeps, when an object is added, when some are no longer held and when others are written.
-use Rattle.std.proofs.Common.{◌≡◌, ◌⊎◌, inl, inr, ℕ, ◌+◌, ◌<◌, ◌≤◌, Bool, true, IsTrue, List, [], ◌∷◌, ◌++◌, length, Option, Some, None, refl, sym, ap, subst, ◌∙◌, arith}
-use Rattle.std.specs.Prelude.{All, ◌&&◌, ◌||◌, not, nat_lt, nat_le}
+use Rattle.std.proofs.Common.{◌≡◌, ◌⊎◌, inl, inr, ℕ, ◌+◌, ◌<◌, ◌≤◌, Bool, true, false, cond, IsTrue, List, [], ◌∷◌, ◌++◌, length, map, get_or, Option, Some, None, IfSome, if◌then◌else◌, refl, sym, ap, subst, ◌∙◌, arith}
+use Rattle.std.specs.Prelude.{All, ◌==◌, ◌&&◌, ◌||◌, not, nat_lt, nat_le, find, sum}
+use Rattle.std.specs.List.{flat_map}
 use Rattle.std.specs.List.Sorted.{IsStrictlyIncreasing}
-use Rattle.std.specs.Option.{option_map}
-use Rattle.std.proofs.lemmas.Bool.{and_parts, ltb-true, leb-true, or_cases, or_left, or_right}
+use Rattle.std.specs.Option.{option_map, option_or}
+use Rattle.std.proofs.Math.ListN.{get_or-map as get_or-map_default}
+use Rattle.std.proofs.lemmas.Bool.{and_parts, ltb-true, leb-true, ne_eqb, or_cases, or_left, or_right}
 use Rattle.std.proofs.lemmas.List.{length-map, length_push}
-use Rattle.std.proofs.lemmas.List.Elements.{All-nil, All-head, All-tail, All-push, All-filter, All-weaker}
+use Rattle.std.proofs.lemmas.List.Elements.{All-nil, All-push, All-filter, All-weaker}
 use Rattle.std.proofs.lemmas.List.Filters.{length-filter_both, sum_by-filter_both}
-use Rattle.std.proofs.lemmas.List.Folds.{list_any-append}
-use Rattle.std.proofs.lemmas.List.Sums.{sum_by_push}
+use Rattle.std.proofs.lemmas.List.Folds.{find-append, flat_map-map, list_any-append}
+use Rattle.std.proofs.lemmas.List.Sums.{sum-map, sum_by_push}
+use Rattle.std.proofs.lemmas.Option.{IfSome_then}
 use Rattle.vx_base.specs.Cell.{Cell}
 use Rattle.vx_base.specs.Object.{ObjectValue, IsObject, object_bytes}
-use Rattle.object_table.proofs.NamedLemmas.{increasing-filter, increasing-push}
-use Rattle.object_table.specs.Named.{Named, object_held, with_object, with_written}
+use Rattle.object_table.specs.Named.{Named, object_held, with_object}
+use Rattle.object_table.specs.Context.{Context, new_context, charge_of, can_insert, with_new, with_objects}
+use Rattle.object_table.specs.Holds.{uses, is_used, is_held, still_held}
+use Rattle.object_table.specs.Skeleton.{skeleton}
+use Rattle.object_table.specs.Uses.{nodes_in, used_names, times}
+use Rattle.object_table.proofs.GraphLemmas.{is_used_there}
+use Rattle.object_table.proofs.HeldLemmas.{names_of, named_has, held_by_name}
+use Rattle.object_table.proofs.SkeletonLaws.{map-told, bytes-skeleton}
+use Rattle.graph_run.specs.Lasting.{lasting, lasting_named, Lasts}
+use Rattle.graph_run.proofs.CellLemmas.{IsReplacement, Lasts-with_object}
+use Rattle.graph_run.proofs.LastingLemmas.{Lasting, skeletons-last, nodes-last, held-lasts, Lasts-names}
 use Rattle.client_model.specs.Allowance.{Allowance}
-use Rattle.client_model.specs.Context.{Context, new_context, with_new, with_objects, has_room, charge_of}
-use Rattle.client_model.specs.Holds.{uses, is_used, is_held, still_held}
-use Rattle.graph_run.specs.Lasting.{nodes_in}
-use Rattle.client_model.specs.States.{NodesStand, KeepsLimits}
-use Rattle.graph_run.specs.Frame.{frame}
-use Rattle.client_model.proofs.FrameLemmas.{stands-alike, All-alike}
-use Rattle.client_model.proofs.WriteLaws.{bare, frame-bare, nodes_in-bare, IsObject-with_slot}
-use Rattle.object_table.proofs.HeldLemmas.{names_of, All-with_object}
-use Rattle.client_model.proofs.NamedLaws.{Fits, bare_named, bares, names-bares, charge-bares, is_used-bares, object_held-bares, bares-with_object, fits-with_object}
-use Rattle.client_model.proofs.HoldLaws.{OperandsStand, nodes_stand, stands_more, held_still, nodes_still}
+use Rattle.client_model.specs.Context.{has_room}
+use Rattle.client_model.specs.States.{NodesStand, KeepsLimits, Stays}
+use Rattle.client_model.proofs.NamedLaws.{increasing-filter, increasing-push}
+use Rattle.client_model.proofs.HoldLaws.{OperandsStand, nodes_stand, stands-alike, stands_more, held_still, nodes_still}
 
 -- a new context keeps the limits
 pub new_context_keeps : (limits : Allowance) → KeepsLimits limits new_context
@@ -32,6 +38,7 @@ new_context_keeps limits =
       objects = All-nil (λ o. IsObject o.object);
       names = λ k h. absurd (omega arith);
       below = All-nil (λ o. o.name < 1);
+      left = omega arith;
       held = All-nil (λ o. IsTrue (is_held [] o));
       nodes = All-nil (NodesStand []);
       count = omega arith;
@@ -41,11 +48,11 @@ new_context_keeps limits =
 -- ---- an object more
 
 -- what room for an object means
-has_room_means : (limits : Allowance) (c : Context) (bytes : ℕ) → IsTrue (has_room limits c bytes) → (length c.objects < 1024) × (charge_of c.objects + bytes ≤ limits.quota)
+has_room_means : (limits : Allowance) (c : Context) (bytes : ℕ) → IsTrue (has_room limits c bytes) → (c.next < 4294967296) × ((length c.objects < 1024) × (charge_of c.objects + bytes ≤ limits.quota))
 has_room_means limits c bytes h =
-    let named = and_parts (nat_lt c.next 4294967296) (nat_lt (length c.objects) 1024 && nat_le (charge_of c.objects + bytes) limits.quota) h in
-    let both = and_parts (nat_lt (length c.objects) 1024) (nat_le (charge_of c.objects + bytes) limits.quota) named.1 in
-    (ltb-true (length c.objects) 1024 both.0, leb-true (charge_of c.objects + bytes) limits.quota both.1)
+    let both = and_parts (can_insert c) (nat_le (charge_of c.objects + bytes) limits.quota) h in
+    let one = and_parts (nat_lt c.next 4294967296) (nat_lt (length c.objects) 1024) both.0 in
+    (ltb-true c.next 4294967296 one.0, (ltb-true (length c.objects) 1024 one.1, leb-true (charge_of c.objects + bytes) limits.quota both.1))
 
 -- what is held stays so with one object more
 held_more : (objects : List Named) (new : Named) (o : Named) → IsTrue (is_held objects o) → IsTrue (is_held (objects ++ new ∷ []) o)
@@ -70,13 +77,14 @@ with_new_keeps limits c object h is none room =
       objects = All-push (λ p. IsObject p.object) c.objects o h.objects is;
       names = increasing-push c.objects o h.below h.names;
       below = All-push (λ p. p.name < c.next + 1) c.objects o (All-weaker (λ p. p.name < c.next) (λ p. p.name < c.next + 1) (λ p less. omega arith) c.objects h.below) (omega arith);
+      left = omega (arith, r.0);
       held = All-push (λ p. IsTrue (is_held after p)) c.objects o (All-weaker (λ p. IsTrue (is_held c.objects p)) (λ p. IsTrue (is_held after p)) (held_more c.objects o) c.objects h.held) refl;
       nodes =
           All-push (NodesStand after) c.objects o
           (All-weaker (NodesStand c.objects) (NodesStand after) (λ p stood. nodes_stand c.objects after p.name (nodes_in p.object) (stands_more c.objects o p.name) stood) c.objects h.nodes)
           (subst (All (OperandsStand after c.next)) (sym none) (All-nil (OperandsStand after c.next)));
-      count = omega (arith, length_push c.objects o);
-      quota = omega (arith, sum_by_push (λ (p : Named). object_bytes p.object) c.objects o);
+      count = omega (arith, r.1.0, length_push c.objects o);
+      quota = omega (arith, r.1.1, sum_by_push (λ (p : Named). object_bytes p.object) c.objects o);
     }
 
 -- ---- what is no longer held
@@ -86,13 +94,14 @@ pub record KeepsRest (limits : Allowance) (c : Context) : Type 0 where
   pub objects : All (λ o. IsObject o.object) c.objects
   pub names : IsStrictlyIncreasing (names_of c.objects)
   pub below : All (λ o. o.name < c.next) c.objects
+  pub left : c.next ≤ 4294967296
   pub nodes : All (NodesStand c.objects) c.objects
   pub count : length c.objects ≤ 1024
   pub quota : charge_of c.objects ≤ limits.quota
 
 -- the limits are kept where each object is held
 pub held_too : (limits : Allowance) (c : Context) → KeepsRest limits c → All (λ o. IsTrue (is_held c.objects o)) c.objects → KeepsLimits limits c
-held_too limits c h held = record { objects = h.objects; names = h.names; below = h.below; held = held; nodes = h.nodes; count = h.count; quota = h.quota }
+held_too limits c h held = record { objects = h.objects; names = h.names; below = h.below; left = h.left; held = held; nodes = h.nodes; count = h.count; quota = h.quota }
 
 -- and once the others are gone
 pub still_held_keeps : (limits : Allowance) (c : Context) → KeepsRest limits c → KeepsLimits limits (with_objects c (still_held c.objects))
@@ -103,88 +112,142 @@ still_held_keeps limits c h =
       objects = All-filter kept (λ o. IsObject o.object) c.objects h.objects;
       names = increasing-filter kept c.objects h.names;
       below = All-filter kept (λ o. o.name < c.next) c.objects h.below;
+      left = h.left;
       held = held_still c.objects;
       nodes = nodes_still c.objects h.names h.nodes;
       count = omega (arith, h.count, length-filter_both kept gone (λ o. refl) c.objects);
       quota = omega (arith, h.quota, sum_by-filter_both kept gone (λ o. refl) (λ (o : Named). object_bytes o.object) c.objects);
     }
 
--- ---- objects that are written
+-- ---- objects of which as much lasts
 
-module _ (objects others : List Named) (same : bares others ≡ bares objects) where
-  pub names_alike : names_of others ≡ names_of objects
-  names_alike = sym (names-bares others) ∙ ap names_of same ∙ names-bares objects
+-- what holds of each element and depends on its image alone
+module _ {X Y : Type 0} (f : X → Y) where
+  All-alike : (P Q : X → Type 0) → ((x y : X) → f x ≡ f y → P x → Q y) → (xs ys : List X) → map f xs ≡ map f ys → All P xs → All Q ys
+  All-alike P Q alike xs ys same h k d within =
+      let count : length ys ≡ length xs = omega (arith, length-map xs f, length-map ys f, ap length same) in
+      alike (get_or xs k d) (get_or ys k d)
+      (sym (get_or-map_default f xs k d) ∙ ap (λ l. get_or l k (f d)) same ∙ get_or-map_default f ys k d)
+      (h k d (omega (arith, within, count)))
 
-  pub held_alike : (name : ℕ) → option_map bare (object_held others name) ≡ option_map bare (object_held objects name)
-  held_alike name = sym (object_held-bares others name) ∙ ap (λ l. object_held l name) same ∙ object_held-bares objects name
+module _ (objects others : List Named) (same : map lasting_named others ≡ map lasting_named objects) where
+  -- what they are charged
+  charge_alike : charge_of others ≡ charge_of objects
+  charge_alike =
+      let bytes : Named → ℕ = λ o. object_bytes o.object in
+      sym (sum-map bytes others)
+      ∙ ap sum (map-told lasting_named bytes (λ left. object_bytes left.0.object) (λ o. bytes-skeleton o.object) others objects same)
+      ∙ sum-map bytes objects
 
-  frames_alike : (name : ℕ) → option_map frame (object_held others name) ≡ option_map frame (object_held objects name)
-  frames_alike name = sym (of_bare (object_held others name)) ∙ ap (option_map frame) (held_alike name) ∙ of_bare (object_held objects name)
-    where
-      of_bare : (object : Option ObjectValue) → option_map frame (option_map bare object) ≡ option_map frame object
-      of_bare None = refl
-      of_bare (Some object) = ap Some (frame-bare object)
-
+  -- what their nodes use
   used_alike : (name : ℕ) → is_used others name ≡ is_used objects name
-  used_alike name = sym (is_used-bares others name) ∙ ap (λ l. is_used l name) same ∙ is_used-bares objects name
+  used_alike name =
+      sym (is_used_there others name)
+      ∙ ap (λ names. nat_lt 0 (times name names)) (sym (flat_map-map used_by lasting_named others) ∙ ap (flat_map used_by) same ∙ flat_map-map used_by lasting_named objects)
+      ∙ is_used_there objects name
+    where
+      used_by : Lasting → List ℕ
+      used_by left = if left.0.live then flat_map used_names left.1 else []
 
-  held_as : (o p : Named) → bare_named o ≡ bare_named p → IsTrue (is_held objects o) → IsTrue (is_held others p)
-  held_as o p e h = ap (λ b. p.live || b) (used_alike p.name) ∙ sym (ap (λ (q : Named). q.live || is_used objects q.name) e) ∙ h
+  held_as : (o p : Named) → lasting_named o ≡ lasting_named p → IsTrue (is_held objects o) → IsTrue (is_held others p)
+  held_as o p e h = ap (λ b. p.live || b) (used_alike p.name) ∙ sym (ap (λ (left : Lasting). left.0.live || is_used objects left.0.name) e) ∙ h
 
-  stand_as : (o p : Named) → bare_named o ≡ bare_named p → NodesStand objects o → NodesStand others p
+  stand_as : (o p : Named) → lasting_named o ≡ lasting_named p → NodesStand objects o → NodesStand others p
   stand_as o p e h =
-      let nodes : nodes_in o.object ≡ nodes_in p.object = sym (nodes_in-bare o.object) ∙ ap (λ (q : Named). nodes_in q.object) e ∙ nodes_in-bare p.object in
-      let name : o.name ≡ p.name = ap (λ (q : Named). q.name) e in
-      subst (All (OperandsStand others p.name)) nodes
-      (nodes_stand objects others p.name (nodes_in o.object) (λ operand stood. stands-alike others objects p.name operand (frames_alike operand.0.name) ∙ stood)
-      (subst (λ graph. All (OperandsStand objects graph) (nodes_in o.object)) name h))
+      subst (All (OperandsStand others p.name)) (ap (λ (left : Lasting). left.1) e)
+      (nodes_stand objects others p.name (nodes_in o.object)
+      (λ operand stood.
+      let name = operand.0.name in
+      stands-alike others objects p.name operand (skeletons-last (object_held others name) (object_held objects name) (held-lasts objects others name same)) ∙ stood)
+      (subst (λ graph. All (OperandsStand objects graph) (nodes_in o.object)) (ap (λ (left : Lasting). left.0.name) e) h))
 
--- the limits are kept where objects stand in the place of others that are the same without what writes change
-pub alike_keeps : (limits : Allowance) (c : Context) (others : List Named) → KeepsLimits limits c → bares others ≡ bares c.objects → All (λ o. IsObject o.object) others → KeepsLimits limits (with_objects c others)
-alike_keeps limits c others h same is =
+-- the limits are kept where they take the places of others
+alike_keeps : (limits : Allowance) (c : Context) (others : List Named) → KeepsLimits limits c → Lasts c.objects others → KeepsLimits limits (with_objects c others)
+alike_keeps limits c others h alike =
+    let same = alike.lasting in
+    let back = sym same in
     record {
-      objects = is;
-      names = subst IsStrictlyIncreasing (sym (names_alike c.objects others same)) h.names;
-      below = All-alike bare_named (λ o. o.name < c.next) (λ o. o.name < c.next) (λ o p e less. subst (λ name. name < c.next) (ap (λ (q : Named). q.name) e) less) c.objects others (sym same) h.below;
-      held = All-alike bare_named (λ o. IsTrue (is_held c.objects o)) (λ o. IsTrue (is_held others o)) (held_as c.objects others same) c.objects others (sym same) h.held;
-      nodes = All-alike bare_named (NodesStand c.objects) (NodesStand others) (stand_as c.objects others same) c.objects others (sym same) h.nodes;
-      count = omega (arith, h.count, ap length same, length-map others bare_named, length-map c.objects bare_named);
-      quota = omega (arith, h.quota, sym (charge-bares others) ∙ ap charge_of same ∙ charge-bares c.objects);
+      objects = alike.objects;
+      names = Lasts-names c.objects others alike h.names;
+      below = All-alike lasting_named (λ o. o.name < c.next) (λ o. o.name < c.next) (λ o p e less. subst (λ name. name < c.next) (ap (λ (left : Lasting). left.0.name) e) less) c.objects others back h.below;
+      left = h.left;
+      held = All-alike lasting_named (λ o. IsTrue (is_held c.objects o)) (λ o. IsTrue (is_held others o)) (held_as c.objects others same) c.objects others back h.held;
+      nodes = All-alike lasting_named (NodesStand c.objects) (NodesStand others) (stand_as c.objects others same) c.objects others back h.nodes;
+      count = omega (arith, h.count, ap length same, length-map others lasting_named, length-map c.objects lasting_named);
+      quota = omega (arith, h.quota, charge_alike c.objects others same);
     }
 
--- a cell and an object that may be written to it
-pub record IsReplacement (objects : List Named) (w : Cell × ObjectValue) : Type 0 where
-  pub is_object : IsObject w.1
-  pub fits : All (Fits w.0 (bare w.1)) objects
+-- ---- what a request leaves
 
--- objects are objects still where one is written to a cell
-AreObjects-with_object : (objects : List Named) (w : Cell × ObjectValue) → All (λ o. IsObject o.object) objects → IsReplacement objects w → All (λ o. IsObject o.object) (with_object objects w.0 w.1)
-AreObjects-with_object objects w is may =
-    All-with_object (λ o. IsObject o.object) (Fits w.0 (bare w.1)) objects w.0 w.1 (λ o fits was e. IsObject-with_slot w.0.slot w.1 o.object (fits e) may.is_object was) may.fits is
+-- the limits; names go on; and what was made before and is held still has its skeleton, and but for some names its nodes
+pub record Leaves (limits : Allowance) (changes : ℕ → Bool) (c after : Context) : Type 0 where
+  pub keeps : KeepsLimits limits after
+  pub next : c.next ≤ after.next
+  pub skeletons : (name : ℕ) → name < c.next → Stays skeleton c.objects after.objects name
+  pub nodes : (name : ℕ) → name < c.next → changes name ≡ false → Stays nodes_in c.objects after.objects name
 
--- after a write, what else may be written may still be
-replacement_after : (objects : List Named) (w other : Cell × ObjectValue) → IsReplacement objects w → IsReplacement objects other → IsReplacement (with_object objects w.0 w.1) other
-replacement_after objects w other may also =
-    record { is_object = also.is_object; fits = fits-with_object other.0 (bare other.1) objects w.0 w.1 may.fits also.fits }
+-- what is the same of the objects of a name stays
+pub stays_alike : {X : Type 0} (part : ObjectValue → X) (before after : Option ObjectValue) → option_map part after ≡ option_map part before → IfSome after (λ object. option_map part before ≡ Some (part object))
+stays_alike part before None same = tt
+stays_alike part before (Some object) same = sym same
 
--- where objects are written to their cells, all are objects, and the same without what writes change
-pub with_written_alike : (objects : List Named) (written : List (Cell × ObjectValue)) → All (λ o. IsObject o.object) objects → All (IsReplacement objects) written
-    → (bares (with_written objects written) ≡ bares objects) × All (λ o. IsObject o.object) (with_written objects written)
-with_written_alike objects [] is may = (refl, is)
-with_written_alike objects (w ∷ written) is may =
-    let first : IsReplacement objects w = All-head (IsReplacement objects) w written may in
-    let after : List Named = with_object objects w.0 w.1 in
-    let rest =
-    with_written_alike after written (AreObjects-with_object objects w is first)
-    (All-weaker (IsReplacement objects) (IsReplacement after) (λ other also. replacement_after objects w other first also) written (All-tail (IsReplacement objects) w written may)) in
-    (rest.0 ∙ bares-with_object objects w.0 w.1 first.fits, rest.1)
+module _ (limits : Allowance) (changes : ℕ → Bool) (c : Context) (h : KeepsLimits limits c) where
+  -- objects that take the places of others
+  pub alike_leaves : (others : List Named) → Lasts c.objects others → Leaves limits changes c (with_objects c others)
+  alike_leaves others alike =
+      let before = object_held c.objects in
+      let after = object_held others in
+      let lasts : (name : ℕ) → option_map lasting (after name) ≡ option_map lasting (before name) = λ name. held-lasts c.objects others name alike.lasting in
+      record {
+        keeps = alike_keeps limits c others h alike;
+        next = omega arith;
+        skeletons = λ name known. stays_alike skeleton (before name) (after name) (skeletons-last (after name) (before name) (lasts name));
+        nodes = λ name known kept. stays_alike nodes_in (before name) (after name) (nodes-last (after name) (before name) (lasts name));
+      }
 
--- the limits are kept where an object is written to a cell
-pub with_object_keeps : (limits : Allowance) (c : Context) (w : Cell × ObjectValue) → KeepsLimits limits c → IsReplacement c.objects w → KeepsLimits limits (with_objects c (with_object c.objects w.0 w.1))
-with_object_keeps limits c w h may = alike_keeps limits c (with_object c.objects w.0 w.1) h (bares-with_object c.objects w.0 w.1 may.fits) (AreObjects-with_object c.objects w h.objects may)
+  -- the same objects
+  pub same_leaves : Leaves limits changes c c
+  same_leaves = alike_leaves c.objects (record { objects = h.objects; lasting = refl })
 
--- and where objects are written to their cells
-pub with_written_keeps : (limits : Allowance) (c : Context) (written : List (Cell × ObjectValue)) → KeepsLimits limits c → All (IsReplacement c.objects) written → KeepsLimits limits (with_objects c (with_written c.objects written))
-with_written_keeps limits c written h may =
-    let after = with_written_alike c.objects written h.objects may in
-    alike_keeps limits c (with_written c.objects written) h after.0 after.1
+  -- one more object
+  pub with_new_leaves : (object : ObjectValue) → IsObject object → nodes_in object ≡ [] → IsTrue (has_room limits c (object_bytes object)) → Leaves limits changes c (with_new c object)
+  with_new_leaves object is none room =
+      record {
+        keeps = with_new_keeps limits c object h is none room;
+        next = omega arith;
+        skeletons = λ name known. stays_alike skeleton (object_held c.objects name) (object_held after.objects name) (ap (option_map skeleton) (as_before name known));
+        nodes = λ name known kept. stays_alike nodes_in (object_held c.objects name) (object_held after.objects name) (ap (option_map nodes_in) (as_before name known));
+      }
+    where
+      after : Context
+      after = with_new c object
+
+      new : Named
+      new = record { name = c.next; live = true; object = object }
+
+      object_of : Option Named → Option ObjectValue
+      object_of = option_map (λ o. o.object)
+
+      first : (found : Option Named) → object_of (option_or found None) ≡ object_of found
+      first None = refl
+      first (Some o) = refl
+
+      as_before : (name : ℕ) → name < c.next → object_held after.objects name ≡ object_held c.objects name
+      as_before name known =
+          let is : Named → Bool = λ o. o.name == name in
+          ap object_of (find-append is c.objects (new ∷ []))
+          ∙ ap (λ b. object_of (option_or (find is c.objects) (cond b (Some new) None))) (ne_eqb c.next name (λ e. omega (arith, known, e)))
+          ∙ first (find is c.objects)
+
+  -- an object that is written to a cell
+  pub with_object_leaves : (w : Cell × ObjectValue) → IsReplacement c.objects w → Leaves limits changes c (with_objects c (with_object c.objects w.0 w.1))
+  with_object_leaves w may = alike_leaves (with_object c.objects w.0 w.1) (Lasts-with_object c.objects w may h.names h.objects)
+
+-- what is the same of all objects, of which some are no longer held, stays
+pub still_held_stays : {X : Type 0} (part : ObjectValue → X) (before objects : List Named) (name : ℕ) → IsStrictlyIncreasing (names_of objects)
+    → option_map part (object_held objects name) ≡ option_map part (object_held before name) → Stays part before (still_held objects) name
+still_held_stays part before objects name names same =
+    IfSome_then (object_held (still_held objects) name)
+    (named_has (λ n object. object_held objects n ≡ Some object) (still_held objects) name
+    (All-filter (is_held objects) (λ o. object_held objects o.name ≡ Some o.object) objects (held_by_name objects names)))
+    (λ object found. sym same ∙ ap (option_map part) found)

@@ -9,7 +9,8 @@ use Rattle.client_model.specs.declared.refusal.Refusal.TheVariants.{InvalidValue
 use Rattle.client_model.specs.declared.reply.Reply.{Reply}
 use Rattle.client_model.specs.declared.reply.Reply.TheVariants.{Refused, Empty}
 use Rattle.client_model.specs.Allowance.{Allowance}
-use Rattle.client_model.specs.Context.{Context, State, new_context}
+use Rattle.object_table.specs.Context.{Context, new_context}
+use Rattle.client_model.specs.Context.{State}
 use Rattle.client_model.specs.Refusal.{Outcome, refusal_code}
 use Rattle.client_model.specs.Images.{create, create_image, query_image, write_image, write_text, read_image, read_text, set_valid}
 use Rattle.client_model.specs.Objects.{release}

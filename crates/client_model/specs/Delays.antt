@@ -4,11 +4,11 @@ use Rattle.vx_base.specs.Cell.{Cell}
 use Rattle.vx_base.specs.Image.{ImageValue, description_of}
 use Rattle.vx_base.specs.Object.{ObjectValue, DelayObject}
 use Rattle.object_table.specs.Delay.{new_delay, aged}
+use Rattle.object_table.specs.Context.{Context, object_named, with_objects}
 use Rattle.client_model.specs.declared.refusal.Refusal.{Refusal}
 use Rattle.client_model.specs.declared.refusal.Refusal.TheVariants.{InvalidReference, InvalidType}
 use Rattle.client_model.specs.declared.reply.Reply.TheVariants.{Empty}
 use Rattle.client_model.specs.Allowance.{Allowance}
-use Rattle.client_model.specs.Context.{Context, object_named, with_objects}
 use Rattle.object_table.specs.Named.{with_object}
 use Rattle.client_model.specs.Refusal.{Outcome}
 use Rattle.client_model.specs.Operands.{image_of}

@@ -4,12 +4,13 @@ use Rattle.std.specs.Prelude.{ℕ, List, ◌∷◌, Option, Some, None, Result, 
 use Rattle.std.specs.Option.{option_map}
 use Rattle.vx_base.specs.declared.kind.Kind.TheVariants as kind
 use Rattle.vx_base.specs.declared.node.Node.{Node}
-use Rattle.vx_base.specs.Cell.{Cell}
 use Rattle.vx_base.specs.Graph.{GraphValue, nodes_of, can_add, with_node, has_node, without_node}
 use Rattle.vx_base.specs.Node.{operands}
 use Rattle.vx_base.specs.Object.{ObjectValue, GraphObject, VirtualObject}
 use Rattle.vx_base.specs.Outline.{Outline}
-use Rattle.object_table.specs.Named.{Named, with_object}
+use Rattle.object_table.specs.Named.{Named}
+use Rattle.object_table.specs.Context.{Context, object_named, with_objects, cell_of, with_graph}
+use Rattle.object_table.specs.Holds.{still_held}
 use Rattle.graph_verify.specs.declared.verdict.Verdict.{Verdict}
 use Rattle.graph_verify.specs.Outlines.{resolved}
 use Rattle.graph_verify.specs.Verdict.{verdict}
@@ -20,8 +21,6 @@ use Rattle.client_model.specs.declared.refusal.Refusal.TheVariants.{InvalidRefer
 use Rattle.client_model.specs.declared.reply.Reply.TheVariants.{Empty}
 use Rattle.client_model.specs.declared.reply.Reply.TheVariants as reply
 use Rattle.client_model.specs.Allowance.{Allowance}
-use Rattle.client_model.specs.Context.{Context, object_named, with_objects}
-use Rattle.client_model.specs.Holds.{still_held}
 use Rattle.client_model.specs.Images.{create}
 use Rattle.client_model.specs.Operands.{operands_refusal}
 use Rattle.client_model.specs.Refusal.{Outcome, refused_or, unless}
@@ -34,14 +33,6 @@ as_graph (Some other) = Err InvalidType
 
 abbrev pub graph_named : List Named → ℕ → Result GraphValue Refusal
 graph_named objects name = as_graph (object_named objects name)
-
--- the cell of an object without slots
-abbrev pub cell_of : ℕ → Cell
-cell_of name = record { name = name; slot = None }
-
--- the objects, of which the graph of this name is another
-abbrev pub with_graph : List Named → ℕ → GraphValue → List Named
-with_graph objects name graph = with_object objects (cell_of name) (GraphObject graph)
 
 -- CreateVirtualImage: an image of this graph alone
 abbrev pub create_virtual_in : Result GraphValue Refusal → Allowance → Context → ℕ → Outline → Outcome

@@ -20,8 +20,9 @@ use Rattle.client_model.specs.declared.reply.Described.{Described}
 use Rattle.client_model.specs.declared.reply.Reply.TheVariants as reply
 use Rattle.client_model.specs.declared.reply.Reply.TheVariants.{Empty, Name, Picture, Text}
 use Rattle.client_model.specs.Allowance.{Allowance}
-use Rattle.client_model.specs.Context.{Context, with_new, with_objects, has_room}
+use Rattle.client_model.specs.Context.{has_room}
 use Rattle.object_table.specs.Named.{Named, held, with_object}
+use Rattle.object_table.specs.Context.{Context, with_new, with_objects}
 use Rattle.client_model.specs.Refusal.{Outcome, unless}
 use Rattle.client_model.specs.Operands.{is_unknown, is_of_other_kind, image_of}
 

@@ -15,8 +15,8 @@ use Rattle.graph_verify.specs.Verdict.{verdict_on}
 use Rattle.client_model.specs.declared.refusal.Refusal.{Refusal}
 use Rattle.client_model.specs.declared.refusal.Refusal.TheVariants.{Rejected, OptimizedAway}
 use Rattle.client_model.specs.declared.reply.Reply.TheVariants.{Empty}
-use Rattle.client_model.specs.Context.{Context, with_objects}
 use Rattle.object_table.specs.Named.{Named, held, with_written}
+use Rattle.object_table.specs.Context.{Context, with_objects}
 use Rattle.client_model.specs.Refusal.{Outcome, unless}
 use Rattle.client_model.specs.Operands.{operands_refusal}
 

@@ -1,6 +1,5 @@
 pub mod Allowance
 pub mod Context
-pub mod Holds
 pub mod Request
 pub mod Refusal
 pub mod Operands

@@ -2,8 +2,8 @@
 use Rattle.std.specs.Prelude.{ℕ, is_none, Some, Ok, Err, if◌then◌else◌}
 use Rattle.client_model.specs.declared.refusal.Refusal.TheVariants.{InvalidReference}
 use Rattle.client_model.specs.declared.reply.Reply.TheVariants.{Empty}
-use Rattle.client_model.specs.Context.{Context, object_named, with_objects}
-use Rattle.client_model.specs.Holds.{still_held, unnamed}
+use Rattle.object_table.specs.Context.{Context, object_named, with_objects}
+use Rattle.object_table.specs.Holds.{still_held, unnamed}
 use Rattle.client_model.specs.Refusal.{Outcome}
 
 -- Release: the name is gone, and no other object takes it; so is what is then no longer held

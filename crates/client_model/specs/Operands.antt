@@ -9,9 +9,9 @@ use Rattle.vx_base.specs.Image.{ImageValue}
 use Rattle.vx_base.specs.Object.{ObjectValue, ImageObject, VirtualObject, same_kind}
 use Rattle.object_table.specs.Delay.{slot_kind}
 use Rattle.object_table.specs.Named.{Named, held}
+use Rattle.object_table.specs.Context.{object_named}
 use Rattle.client_model.specs.declared.refusal.Refusal.{Refusal}
 use Rattle.client_model.specs.declared.refusal.Refusal.TheVariants.{InvalidReference, InvalidType, InvalidScope, InvalidValue, OptimizedAway}
-use Rattle.client_model.specs.Context.{object_named}
 
 -- whether the cell's name isn't live
 abbrev pub is_unknown : List Named → Cell → Bool

@@ -6,7 +6,8 @@ use Rattle.graph_verify.specs.Verdict.{verdict_code}
 use Rattle.client_model.specs.declared.refusal.Refusal.{Refusal}
 use Rattle.client_model.specs.declared.refusal.Refusal.TheVariants.{InvalidReference, InvalidType, InvalidValue, InvalidFormat, InvalidDimension, InvalidScope, OptimizedAway, NoResources, Rejected}
 use Rattle.client_model.specs.declared.reply.Reply.{Reply}
-use Rattle.client_model.specs.Context.{Context, State}
+use Rattle.object_table.specs.Context.{Context}
+use Rattle.client_model.specs.Context.{State}
 
 -- the code that says so
 abbrev pub refusal_code : Refusal → Code

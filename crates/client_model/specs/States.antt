@@ -1,19 +1,22 @@
 -- The states that a client can be in.
-use Rattle.std.specs.Prelude.{ℕ, ◌<◌, ◌≤◌, Bool, not, ◌&&◌, IsTrue, Option, List, [], ◌∷◌, length, map, All}
-use Rattle.std.specs.Option.{option_and_then}
+use Rattle.std.specs.Prelude.{ℕ, ◌≡◌, ◌≢◌, ◌<◌, ◌≤◌, ◌==◌, Bool, false, not, ◌&&◌, IsTrue, Option, Some, IfSome, List, [], ◌∷◌, length, map, All}
+use Rattle.std.specs.Option.{option_map, option_and_then}
 use Rattle.std.specs.List.Sorted.{IsStrictlyIncreasing}
 use Rattle.vx_base.specs.declared.kind.Kind.{Kind}
 use Rattle.vx_base.specs.Cell.{Cell}
 use Rattle.vx_base.specs.Node.{operands}
-use Rattle.vx_base.specs.Object.{IsObject}
+use Rattle.vx_base.specs.Object.{ObjectValue, IsObject}
 use Rattle.object_table.specs.Delay.{slot_kind}
 use Rattle.object_table.specs.Named.{Named, object_held, held as object_in_cell}
-use Rattle.graph_run.specs.Lasting.{nodes_in}
+use Rattle.object_table.specs.Context.{Context, charge_of}
+use Rattle.object_table.specs.Holds.{is_held}
+use Rattle.object_table.specs.Uses.{nodes_in}
 use Rattle.client_model.specs.declared.request.Request.{Request}
+use Rattle.client_model.specs.declared.request.Request.TheVariants.{ReleaseContext, AddNode, RemoveNode}
 use Rattle.client_model.specs.Allowance.{Allowance}
-use Rattle.client_model.specs.Context.{Context, State, charge_of}
-use Rattle.client_model.specs.Holds.{is_held}
+use Rattle.client_model.specs.Context.{State}
 use Rattle.client_model.specs.Operands.{is_kind, is_empty, is_of_other_graph}
+use Rattle.client_model.specs.Request.{IsRequest}
 use Rattle.client_model.specs.Answer.{answer_to}
 
 -- the kind of what a cell that a node names is for
@@ -30,13 +33,15 @@ stands objects graph operand =
 abbrev pub NodesStand : List Named → Named → Type 0
 NodesStand objects o = All (λ n. All (λ operand. IsTrue (stands objects o.name operand)) (operands n)) (nodes_in o.object)
 
--- each object is one, so that each image has samples of its format and 0 outside its rectangle; names are distinct and below the
--- next; what is held is named or used by a graph, whose nodes find what they name; at most 1,024 objects are held, and their charge
--- is at most the quota
+-- each object is one, so that each image has samples of its format and 0 outside its rectangle;
+-- names are distinct and below the next, which is at most 2^32; what is held is named or used by a
+-- graph, whose nodes find what they name; at most 1,024 objects are held, and their charge is at
+-- most the quota
 pub record KeepsLimits (limits : Allowance) (c : Context) : Type 0 where
   pub objects : All (λ o. IsObject o.object) c.objects
   pub names : IsStrictlyIncreasing (map (λ o. o.name) c.objects)
   pub below : All (λ o. o.name < c.next) c.objects
+  pub left : c.next ≤ 4294967296
   pub held : All (λ o. IsTrue (is_held c.objects o)) c.objects
   pub nodes : All (NodesStand c.objects) c.objects
   pub count : length c.objects ≤ 1024
@@ -46,3 +51,22 @@ pub record KeepsLimits (limits : Allowance) (c : Context) : Type 0 where
 abbrev pub state_after : Allowance → State → List Request → State
 state_after limits state [] = state
 state_after limits state (request ∷ requests) = state_after limits (answer_to limits state request).1 requests
+
+-- ---- what stays as requests are answered
+
+-- a client's context after these requests of its own, none of which releases it
+pub record IsLater (limits : Allowance) (c : Context) (requests : List Request) (later : Context) : Type 0 where
+  pub keeps : KeepsLimits limits c
+  pub are : All IsRequest requests
+  pub unreleased : All (λ request. request ≢ ReleaseContext) requests
+  pub state : state_after limits (Some c) requests ≡ Some later
+
+-- the object that is held under a name was held under it before, and this part of it is as it was
+abbrev pub Stays : {X : Type 0} → (ObjectValue → X) → List Named → List Named → ℕ → Type 0
+Stays part before after name = IfSome (object_held after name) (λ object. option_map part (object_held before name) ≡ Some (part object))
+
+-- whether a request changes the nodes of the graph of this name, if it is done
+abbrev pub changes_nodes : Request → ℕ → Bool
+changes_nodes (AddNode graph node) name = graph == name
+changes_nodes (RemoveNode graph number) name = graph == name
+changes_nodes other name = false

@@ -3,7 +3,7 @@ use Rattle.std.specs.Prelude.{ℕ, Option, Some, None, Ok, Err}
 use Rattle.vx_base.specs.Object.{ObjectValue, DistributionObject, ExtremesObject}
 use Rattle.client_model.specs.declared.refusal.Refusal.TheVariants.{InvalidReference, InvalidType}
 use Rattle.client_model.specs.declared.reply.Reply.TheVariants.{Counts, Extremes}
-use Rattle.client_model.specs.Context.{Context, object_named}
+use Rattle.object_table.specs.Context.{Context, object_named}
 use Rattle.client_model.specs.Refusal.{Outcome}
 
 -- ReadDistribution: how many samples fell into each bin

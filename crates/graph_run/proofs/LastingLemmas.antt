@@ -1,59 +1,107 @@
--- What writes leave of objects.
-use Rattle.std.proofs.Common.{◌≡◌, ℕ, ◌-◌, List, [], ◌∷◌, Option, Some, None, length, map, take, drop, refl, ap, ◌∙◌, arith}
-use Rattle.std.proofs.lemmas.List.{length-append, length-take, length-drop}
-use Rattle.std.proofs.Math.Seq.{map-set_same}
-use Rattle.vx_base.specs.declared.format.Format.TheVariants.{U8}
-use Rattle.vx_base.specs.declared.kind.Kind.TheVariants as kind
+-- What lasts of objects as others are written in their places.
+use Rattle.std.proofs.Common.{◌≡◌, ℕ, Bool, true, false, cond, List, [], ◌∷◌, Option, Some, None, map, get_or, drop, refl, sym, ap, subst, ◌∙◌}
+use Rattle.std.specs.Prelude.{◌==◌, find, slice_get}
+use Rattle.std.specs.List.Sorted.{IsStrictlyIncreasing}
+use Rattle.std.specs.Option.{option_map, option_and_then}
 use Rattle.vx_base.specs.declared.node.Node.{Node}
-use Rattle.vx_base.specs.declared.output.Output.{Output}
-use Rattle.vx_base.specs.Image.{ImageValue, new_image}
-use Rattle.vx_base.specs.Object.{ObjectValue, ImageObject, DelayObject, DistributionObject, ExtremesObject, object_kind}
-use Rattle.vx_base.specs.Outputs.{node_output}
-use Rattle.object_table.specs.declared.names.Entry.{Entry}
-use Rattle.object_table.specs.Delay.{object_in, with_slot, aged}
-use Rattle.object_table.specs.Object.{aged_object}
-use Rattle.graph_run.specs.Lasting.{lasting, Lasts}
+use Rattle.vx_base.specs.Cell.{Cell}
+use Rattle.vx_base.specs.Description.{Description}
+use Rattle.vx_base.specs.Image.{ImageValue, image_over, description_of}
+use Rattle.vx_base.specs.Object.{ObjectValue, ImageObject, DelayObject}
+use Rattle.vx_base.specs.Rectangle.{empty}
+use Rattle.object_table.specs.Delay.{in_slot, with_slot}
+use Rattle.object_table.specs.Named.{Named, object_held, held}
+use Rattle.object_table.specs.Skeleton.{skeleton}
+use Rattle.object_table.specs.Uses.{nodes_in}
+use Rattle.object_table.proofs.HeldLemmas.{names_of}
+use Rattle.object_table.proofs.SkeletonLaws.{map-told, option_map-told, in_slot-skeleton, skeleton-with_slot}
+use Rattle.graph_run.specs.Lasting.{lasting, lasting_named, Lasts}
 
--- ---- what writes leave
+-- ---- of an object
 
--- of an object that is written, if that in the slot is left
-pub lasting-with_slot : (slot : Option ℕ) (new object : ObjectValue) → lasting new ≡ lasting (object_in slot object) → lasting (with_slot slot new object) ≡ lasting object
-lasting-with_slot None new object same = same
-lasting-with_slot (Some k) (ImageObject image) (DelayObject images) same =
-    ap (λ images. let left : ObjectValue × List Node = (DelayObject images, []) in left) (map-set_same (λ _. new_image 0 0 U8) images k image image refl)
-lasting-with_slot (Some k) new object same = refl
+-- its skeleton
+pub skeletons-last : (one other : Option ObjectValue) → option_map lasting one ≡ option_map lasting other → option_map skeleton one ≡ option_map skeleton other
+skeletons-last = option_map-told lasting skeleton (λ left. left.0) (λ _. refl)
 
--- of an image in the place of another
-pub lasting-image : (slot : Option ℕ) (image : ImageValue) (object : ObjectValue) → object_kind (object_in slot object) ≡ kind.Image → lasting (with_slot slot (ImageObject image) object) ≡ lasting object
-lasting-image slot image object is = lasting-with_slot slot (ImageObject image) object (both (object_in slot object) is)
+-- and its nodes
+pub nodes-last : (one other : Option ObjectValue) → option_map lasting one ≡ option_map lasting other → option_map nodes_in one ≡ option_map nodes_in other
+nodes-last = option_map-told lasting nodes_in (λ left. left.1) (λ _. refl)
+
+-- so as much lasts of what stands in a slot, where only images do
+abbrev in_left : Option ℕ → ObjectValue × List Node → Option (ObjectValue × List Node)
+in_left None left = Some left
+in_left (Some k) left = option_map (λ object. (object, [])) (in_slot (Some k) left.0)
+
+in_slots-last : (slot : Option ℕ) (one other : Option ObjectValue) → option_map lasting one ≡ option_map lasting other
+    → option_map lasting (option_and_then (in_slot slot) one) ≡ option_map lasting (option_and_then (in_slot slot) other)
+in_slots-last slot one other same = sym (through one) ∙ ap (option_and_then (in_left slot)) same ∙ through other
   where
-    both : (old : ObjectValue) → object_kind old ≡ kind.Image → lasting (ImageObject image) ≡ lasting old
-    both (ImageObject old) is = refl
-    both other is = cc
+    of_image : (found : Option ImageValue) → option_map (λ object. (object, [])) (option_map skeleton (option_map ImageObject found)) ≡ option_map lasting (option_map ImageObject found)
+    of_image None = refl
+    of_image (Some image) = refl
 
--- of an output of a node
-pub lasting-output : (n : Node) (which : Output) (first : ObjectValue) (second : Option ObjectValue) (out : ObjectValue) → lasting (node_output n which first second out) ≡ lasting out
-lasting-output n which (ImageObject a) second (ImageObject out) = refl
-lasting-output n which (ImageObject a) second (DistributionObject d) = refl
-lasting-output n which (ImageObject a) second (ExtremesObject e) = refl
-lasting-output n which first second out = refl
+    of_slot : (k : ℕ) (object : ObjectValue) → option_map (λ x. (x, [])) (option_map skeleton (in_slot (Some k) object)) ≡ option_map lasting (in_slot (Some k) object)
+    of_slot k (DelayObject images) = of_image (slice_get images k)
+    of_slot k object = refl
 
-same_blanks : (old new : List ImageValue) → length new ≡ length old → map {A = ImageValue} {B = ImageValue} (λ _. new_image 0 0 U8) new ≡ map (λ _. new_image 0 0 U8) old
-same_blanks [] [] same = refl
-same_blanks (image ∷ old) (other ∷ new) same = ap (λ images. new_image 0 0 U8 ∷ images) (same_blanks old new (omega arith))
-same_blanks old new same = absurd (omega arith)
+    of_left : (s : Option ℕ) (object : ObjectValue) → in_left s (lasting object) ≡ option_map lasting (in_slot s object)
+    of_left None object = refl
+    of_left (Some k) object = ap (option_map (λ x. (x, []))) (in_slot-skeleton (Some k) object) ∙ of_slot k object
 
--- of a delay that ages
-pub lasting-aged : (object : ObjectValue) → lasting (aged_object object) ≡ lasting object
-lasting-aged (DelayObject images) =
-    let n = length images - 1 in
-    ap (λ images. let left : ObjectValue × List Node = (DelayObject images, []) in left)
-    (same_blanks images (aged images) (omega (arith, length-append (drop n images) (take n images), length-drop n images, length-take n images)))
-lasting-aged other = refl
+    through : (o : Option ObjectValue) → option_and_then (in_left slot) (option_map lasting o) ≡ option_map lasting (option_and_then (in_slot slot) o)
+    through None = refl
+    through (Some object) = of_left slot object
+
+-- as much lasts of images of one description
+pub images-last : (a b : ImageValue) → description_of a ≡ description_of b → lasting (ImageObject a) ≡ lasting (ImageObject b)
+images-last a b e = ap (λ (d : Description). let left : ObjectValue × List Node = (ImageObject (image_over d empty []), []) in left) e
+
+-- an object in the place of one of which as much lasts
+pub lasting-with_slot : (slot : Option ℕ) (new object : ObjectValue) → option_map lasting (in_slot slot object) ≡ Some (lasting new) → lasting (with_slot slot new object) ≡ lasting object
+lasting-with_slot slot new object same =
+    ap (λ x. let left : ObjectValue × List Node = (x, nodes_in (with_slot slot new object)) in left) (skeleton-with_slot slot new object (skeletons-last (in_slot slot object) (Some new) same))
+    ∙ ap (λ nodes. let left : ObjectValue × List Node = (skeleton object, nodes) in left) (nodes slot new object (nodes-last (in_slot slot object) (Some new) same))
+  where
+    nodes : (s : Option ℕ) (x y : ObjectValue) → option_map nodes_in (in_slot s y) ≡ Some (nodes_in x) → nodes_in (with_slot s x y) ≡ nodes_in y
+    nodes None x y e = let is : nodes_in y ≡ nodes_in x = cc in sym is
+    nodes (Some k) (ImageObject image) (DelayObject images) e = refl
+    nodes (Some k) x y e = refl
+
+-- ---- of what is held
 
 abbrev pub Lasting : Type 0
-Lasting = Entry ObjectValue × List Node
+Lasting = Named × List Node
+
+-- names last
+pub names-last : (old new : List Named) → map lasting_named new ≡ map lasting_named old → names_of new ≡ names_of old
+names-last old new same = map-told lasting_named (λ o. o.name) (λ left. left.0.name) (λ _. refl) new old same
+
+-- as much lasts of what is held under each name
+pub held-lasts : (old new : List Named) (name : ℕ) → map lasting_named new ≡ map lasting_named old → option_map lasting (object_held new name) ≡ option_map lasting (object_held old name)
+held-lasts [] [] name same = refl
+held-lasts [] (p ∷ new) name same = absurd (cc)
+held-lasts (o ∷ old) [] name same = absurd (cc)
+held-lasts (o ∷ old) (p ∷ new) name same =
+    let first : lasting_named p ≡ lasting_named o = ap (λ l. get_or l 0 (lasting_named p)) same in
+    ap (λ n. option_map lasting (option_map (λ (q : Named). q.object) (cond (n == name) (Some p) (find (λ q. q.name == name) new))))
+    (ap (λ (left : Lasting). left.0.name) first)
+    ∙ either (o.name == name) (ap (λ (left : Lasting). let of_object : ObjectValue × List Node = (left.0.object, left.1) in of_object) first) (held-lasts old new name (ap (drop 1) same))
+  where
+    either : (b : Bool) → lasting p.object ≡ lasting o.object
+        → option_map lasting (object_held new name) ≡ option_map lasting (object_held old name)
+        → option_map lasting (option_map (λ (q : Named). q.object) (cond b (Some p) (find (λ q. q.name == name) new)))
+        ≡ option_map lasting (option_map (λ (q : Named). q.object) (cond b (Some o) (find (λ q. q.name == name) old)))
+    either true here later = ap Some here
+    either false here later = later
+
+-- and in each cell
+pub cell-lasts : (old new : List Named) (cell : Cell) → map lasting_named new ≡ map lasting_named old → option_map lasting (held new cell) ≡ option_map lasting (held old cell)
+cell-lasts old new cell same = in_slots-last cell.slot (object_held new cell.name) (object_held old cell.name) (held-lasts old new cell.name same)
 
 -- they last through two changes
-pub Lasts-trans : (old new last : List (Entry ObjectValue)) → Lasts old new → Lasts new last → Lasts old last
+pub Lasts-trans : (old new last : List Named) → Lasts old new → Lasts new last → Lasts old last
 Lasts-trans old new last one other = record { objects = other.objects; lasting = other.lasting ∙ one.lasting }
+
+-- and the names with them
+pub Lasts-names : (old new : List Named) → Lasts old new → IsStrictlyIncreasing (names_of old) → IsStrictlyIncreasing (names_of new)
+Lasts-names old new h names = subst IsStrictlyIncreasing (sym (names-last old new h.lasting)) names

@@ -13,8 +13,7 @@ pub mod AddingLaws
 pub mod OperandLaws
 pub mod TurnLaws
 pub mod LastingLemmas
-pub mod PlaceLemmas
-pub mod ByNameLemmas
+pub mod CellLemmas
 pub mod FoundLemmas
 pub mod OutputLemmas
 pub mod RunLemmas

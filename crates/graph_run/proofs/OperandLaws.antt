@@ -23,6 +23,7 @@ use Rattle.vx_base.specs.Outline.{Outline, closed}
 use Rattle.vx_base.specs.Outputs.{image_of_one, node_image, node_output, written_by}
 use Rattle.object_table.specs.Delay.{in_slot}
 use Rattle.object_table.specs.Named.{Named, object_held, held, with_written}
+use Rattle.object_table.specs.Skeleton.{skeleton}
 use Rattle.graph_verify.specs.declared.operand.Operand.{Operand}
 use Rattle.graph_verify.specs.declared.operand.Operand.TheVariants.{Image, Virtual}
 use Rattle.graph_verify.specs.declared.operand.Operands.{Operands}
@@ -191,6 +192,11 @@ module _ (work : ℕ) (is : Cell → Operand) (nodes : List Node) (can : CanRun 
     }
 
 -- ---- as nodes write
+
+-- an operand is told by the skeleton
+pub operand-skeleton : (x : ObjectValue) → operand_of (skeleton x) ≡ operand_of x
+operand-skeleton (ImageObject image) = refl
+operand-skeleton x = refl
 
 pub kind-operand : (x : ObjectValue) → operand_kind (operand_of x) ≡ object_kind x
 kind-operand (ImageObject image) = refl

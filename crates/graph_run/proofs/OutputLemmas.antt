@@ -16,7 +16,7 @@ use Rattle.vx_base.specs.Outputs.{node_image, node_output}
 use Rattle.vx_base.proofs.ImageLaws.{same_parts}
 use Rattle.graph_run.proofs.OperandLaws.{described_node}
 use Rattle.image_core.specs.Fits.{HaveSameSize}
-use Rattle.graph_run.specs.Steps.{CanRunTo, IsRead, RunsOn, RunsTo, output_at}
+use Rattle.graph_run.specs.Steps.{CanRunTo, Holds, IsRead, RunsOn, RunsTo, output_of}
 use Rattle.object_table.specs.Object.{image_value, with_samples}
 use Rattle.vx_base.specs.declared.kind.Kind.TheVariants as kind
 use Rattle.std.specs.Option.{option_map}
@@ -24,12 +24,11 @@ use Rattle.vx_base.specs.declared.kind.Kind.{Kind}
 use Rattle.vx_base.specs.Function.{parameters}
 use Rattle.vx_base.specs.declared.function.Function.{Function}
 use Rattle.vx_base.proofs.NodeLaws.{takes_no_delay, takes_no_distribution, takes_no_extremes, takes_no_graph, takes_no_virtual}
-use Rattle.graph_run.specs.declared.places.Places.{Places}
-use Rattle.object_table.specs.declared.names.Entry.{Entry}
-use Rattle.object_table.specs.declared.place.Place.{Place}
-use Rattle.object_table.proofs.SlotLemmas.{has_image}
-use Rattle.object_table.specs.Table.{TableValue, entry_at, object_at, image_at, replaced, with_objects, IsPlace, HasImageAt}
-use Rattle.graph_run.proofs.PlaceLemmas.{object_beside, object_if_beside, place_if_beside, image_beside, replaced_twice, object_after, image_after}
+use Rattle.vx_base.specs.Cell.{Cell}
+use Rattle.object_table.specs.Context.{Context, with_objects}
+use Rattle.object_table.specs.Named.{Named, with_object}
+use Rattle.object_table.specs.Table.{cell_object, image_held, HoldsImage}
+use Rattle.graph_run.proofs.CellLemmas.{object_beside, object_if_beside, hold_beside, image_beside, with_object_twice, object_after, image_after, holds_image}
 
 -- there is a count for each bin
 pub length-histogram : (bins : BinsValue) (a : ImageValue) → length (histogram bins a) ≡ bins.bins
@@ -93,47 +92,47 @@ is_read function kind.Extremes e = absurd (takes_no_extremes function e)
 is_read function kind.Graph e = absurd (takes_no_graph function e)
 is_read function kind.VirtualImage e = absurd (takes_no_virtual function e)
 
--- a node's output that is an image, at a place of a table
-module _ (objects : List (Entry ObjectValue)) (n : Node) (which : Output) (p : Places) (output : Place) (h : RunsTo objects n p output) (is_image : (parameters n.function).output ≡ kind.Image) where
+-- a node's output that is an image, in a cell
+module _ (objects : List Named) (n : Node) (which : Output) (output : Cell) (h : RunsTo objects n output) (is_image : (parameters n.function).output ≡ kind.Image) where
   abbrev pub first : ImageValue
-  first = image_at objects p.in1
+  first = image_held objects n.in1
 
   abbrev pub second : Option ObjectValue
-  second = option_map (object_at objects) p.in2
+  second = option_map (cell_object objects) n.in2
 
   abbrev pub out : ImageValue
-  out = image_at objects output
+  out = image_held objects output
 
-  out_kind : object_kind (object_at objects output) ≡ kind.Image
+  out_kind : object_kind (cell_object objects output) ≡ kind.Image
   out_kind = h.runs.out_kind ∙ is_image
 
-  pub writes_image : HasImageAt objects output
-  writes_image = record { within = h.out.within; image = has_image output.slot (entry_at objects output.index).object h.out.there out_kind }
+  pub writes_image : HoldsImage objects output
+  writes_image = holds_image objects output h.out out_kind
 
   can : CanRunTo n first second out
-  can = can_run n (object_at objects p.in1) second (object_at objects output) h.runs out_kind
+  can = can_run n (cell_object objects n.in1) second (cell_object objects output) h.runs out_kind
 
   -- what the node reads stands beside the output, whatever stands there
-  module _ (after : TableValue) (left : ObjectValue) (before : TableValue) (taken : after ≡ with_objects before (replaced objects output left)) where
-    first_there : image_at after.objects p.in1 ≡ first
-    first_there = ap (λ (t : TableValue). image_at t.objects p.in1) taken ∙ ap image_value (object_beside objects output h.out.within p.in1 left h.in1_apart)
+  module _ (after : Context) (left : ObjectValue) (before : Context) (taken : after ≡ with_objects before (with_object objects output left)) where
+    first_there : image_held after.objects n.in1 ≡ first
+    first_there = ap (λ (t : Context). image_held t.objects n.in1) taken ∙ ap image_value (object_beside objects output n.in1 left h.in1_apart)
 
-    pub reads_image : HasImageAt after.objects p.in1
-    reads_image = subst (λ (t : TableValue). HasImageAt t.objects p.in1) (sym taken) (image_beside objects output h.out.within p.in1 left h.in1_apart h.in1)
+    pub reads_image : HoldsImage after.objects n.in1
+    reads_image = subst (λ (t : Context). HoldsImage t.objects n.in1) (sym taken) (image_beside objects output n.in1 left h.in1_apart h.in1)
 
-    pub first_is_image : (image : ImageValue) → image ≡ image_at after.objects p.in1 → IsImage image
-    first_is_image image is = subst IsImage (sym (is ∙ first_there)) (image_of_object (object_at objects p.in1) h.runs.first_kind h.runs.first_is)
+    pub first_is_image : (image : ImageValue) → image ≡ image_held after.objects n.in1 → IsImage image
+    first_is_image image is = subst IsImage (sym (is ∙ first_there)) (image_of_object (cell_object objects n.in1) h.runs.first_kind h.runs.first_is)
 
-    second_there : option_map (object_at after.objects) p.in2 ≡ second
-    second_there = ap (λ (t : TableValue). option_map (object_at t.objects) p.in2) taken ∙ object_if_beside objects output h.out.within p.in2 left h.in2_apart
+    second_there : option_map (cell_object after.objects) n.in2 ≡ second
+    second_there = ap (λ (t : Context). option_map (cell_object t.objects) n.in2) taken ∙ object_if_beside objects output n.in2 left h.in2_apart
 
-    pub second_has_place : IfSome p.in2 (IsPlace after.objects)
-    second_has_place = subst (λ (t : TableValue). IfSome p.in2 (IsPlace t.objects)) (sym taken) (place_if_beside objects output h.out.within p.in2 left h.in2_apart h.in2)
+    pub holds_second : IfSome n.in2 (Holds after.objects)
+    holds_second = subst (λ (t : Context). IfSome n.in2 (Holds t.objects)) (sym taken) (hold_beside objects output n.in2 left h.in2_apart h.in2)
 
-    pub second_is_object : IfSome (option_map (object_at after.objects) p.in2) IsObject
+    pub second_is_object : IfSome (option_map (cell_object after.objects) n.in2) IsObject
     second_is_object = subst (λ (o : Option ObjectValue). IfSome o IsObject) (sym second_there) h.runs.second_is
 
-    pub second_is_read : IfSome (option_map (object_at after.objects) p.in2) (λ object. IsRead (object_kind object))
+    pub second_is_read : IfSome (option_map (cell_object after.objects) n.in2) (λ object. IsRead (object_kind object))
     second_is_read = subst (λ (o : Option ObjectValue). IfSome o (λ object. IsRead (object_kind object))) (sym second_there) (read second h.runs.second_kind)
       where
         read : (o : Option ObjectValue) → IfSome o (λ object. (parameters n.function).second_input ≡ Some (object_kind object)) → IfSome o (λ object. IsRead (object_kind object))
@@ -146,13 +145,13 @@ module _ (objects : List (Entry ObjectValue)) (n : Node) (which : Output) (p : P
 
     -- as many samples are taken out as the image has
     pub taken_count : (samples : List ℤ) → samples ≡ out.samples → length samples ≡ sample_count d
-    taken_count samples is = ap length is ∙ (image_of_object (object_at objects output) out_kind h.runs.out_is).size ∙ ap sample_count (sym described)
+    taken_count samples is = ap length is ∙ (image_of_object (cell_object objects output) out_kind h.runs.out_is).size ∙ ap sample_count (sym described)
 
     pub taken_format : (format : Format) → format ≡ out.format → d.format ≡ format
     taken_format format is = ap (λ (e : Description). e.format) described ∙ sym is
 
-    module _ (after : TableValue) (left : ObjectValue) (before : TableValue) (taken : after ≡ with_objects before (replaced objects output left)) (a : ImageValue) (b : Option ObjectValue)
-        (is_first : a ≡ image_at after.objects p.in1) (is_second : b ≡ option_map (object_at after.objects) p.in2) where
+    module _ (after : Context) (left : ObjectValue) (before : Context) (taken : after ≡ with_objects before (with_object objects output left)) (a : ImageValue) (b : Option ObjectValue)
+        (is_first : a ≡ image_held after.objects n.in1) (is_second : b ≡ option_map (cell_object after.objects) n.in2) where
       -- a kernel can run on what is lent to it
       pub runs_there : CanRunTo n a b (image_over d empty [])
       runs_there =
@@ -162,9 +161,9 @@ module _ (objects : List (Entry ObjectValue)) (n : Node) (which : Output) (p : P
           (record { node = can.node; kind = can.kind; formats = can.formats; size = can.size; second_size = can.second_size })))
 
       -- the output is what the node gives
-      pub put_back : left ≡ with_samples (object_at objects output) out.valid [] → (back : TableValue) (area : Rectangle) (samples : List ℤ) (format : Format)
-          → back ≡ with_objects after (replaced after.objects output (with_samples (object_at after.objects output) area samples)) → d.format ≡ format → area ≡ (node_image n which format a b).valid → samples ≡ (node_image n which format a b).samples
-          → back ≡ with_objects before (replaced objects output (output_at objects n which p output))
+      pub put_back : left ≡ with_samples (cell_object objects output) out.valid [] → (back : Context) (area : Rectangle) (samples : List ℤ) (format : Format)
+          → back ≡ with_objects after (with_object after.objects output (with_samples (cell_object after.objects output) area samples)) → d.format ≡ format → area ≡ (node_image n which format a b).valid → samples ≡ (node_image n which format a b).samples
+          → back ≡ with_objects before (with_object objects output (output_of objects n which output))
       put_back is_left back area samples format is of_format valid written =
           let same : node_image n which format a b ≡ node_image n which out.format first second =
           ap (λ f. node_image n which f a b) (sym of_format ∙ ap (λ (k : Description). k.format) described)
@@ -174,19 +173,19 @@ module _ (objects : List (Entry ObjectValue)) (n : Node) (which : Output) (p : P
           stored_is n which first second (description_of out) out area samples refl can (valid ∙ ap (λ (i : ImageValue). i.valid) same) (written ∙ ap (λ (i : ImageValue). i.samples) same) in
           let emptied : ImageValue = image_over (description_of out) out.valid [] in
           is
-          ∙ ap (λ (t : TableValue). with_objects t (replaced t.objects output (with_samples (object_at t.objects output) area samples))) taken
+          ∙ ap (λ (t : Context). with_objects t (with_object t.objects output (with_samples (cell_object t.objects output) area samples))) taken
           ∙ ap (with_objects before)
-          (ap (λ (o : ObjectValue). replaced (replaced objects output o) output (with_samples (object_at (replaced objects output o) output) area samples)) is_left
-          ∙ ap (λ (o : ObjectValue). replaced (replaced objects output (ImageObject emptied)) output (with_samples o area samples)) (object_after objects output writes_image emptied)
-          ∙ replaced_twice objects output h.out.within (ImageObject emptied) (image_over (description_of out) area samples)
-          ∙ ap (λ i. replaced objects output (ImageObject i)) image_is
-          ∙ ap (λ o. replaced objects output o) (of_images n which (object_at objects p.in1) second (object_at objects output) h.runs.first_kind out_kind))
+          (ap (λ (o : ObjectValue). with_object (with_object objects output o) output (with_samples (cell_object (with_object objects output o) output) area samples)) is_left
+          ∙ ap (λ (o : ObjectValue). with_object (with_object objects output (ImageObject emptied)) output (with_samples o area samples)) (object_after objects output writes_image emptied)
+          ∙ with_object_twice objects output (ImageObject emptied) (image_over (description_of out) area samples)
+          ∙ ap (λ i. with_object objects output (ImageObject i)) image_is
+          ∙ ap (λ o. with_object objects output o) (of_images n which (cell_object objects n.in1) second (cell_object objects output) h.runs.first_kind out_kind))
 
   -- samples can be put back where they were taken out
-  pub takes_back : (after before : TableValue) → after ≡ with_objects before (replaced objects output (with_samples (object_at objects output) out.valid [])) → HasImageAt after.objects output
-  takes_back after before taken = subst (λ (t : TableValue). HasImageAt t.objects output) (sym taken) (image_after objects output writes_image (image_over (description_of out) out.valid []))
+  pub takes_back : (after before : Context) → after ≡ with_objects before (with_object objects output (with_samples (cell_object objects output) out.valid [])) → HoldsImage after.objects output
+  takes_back after before taken = subst (λ (t : Context). HoldsImage t.objects output) (sym taken) (image_after objects output writes_image (image_over (description_of out) out.valid []))
 
-  pub left_format : (after before : TableValue) → after ≡ with_objects before (replaced objects output (with_samples (object_at objects output) out.valid [])) → (image_at after.objects output).format ≡ out.format
+  pub left_format : (after before : Context) → after ≡ with_objects before (with_object objects output (with_samples (cell_object objects output) out.valid [])) → (image_held after.objects output).format ≡ out.format
   left_format after before taken =
-      ap (λ (t : TableValue). (image_at t.objects output).format) taken
+      ap (λ (t : Context). (image_held t.objects output).format) taken
       ∙ ap (λ (o : ObjectValue). (image_value o).format) (object_after objects output writes_image (image_over (description_of out) out.valid []))

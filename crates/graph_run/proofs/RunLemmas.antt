@@ -1,9 +1,11 @@
--- Nodes at the places of their operands, and what they write.
-use Rattle.std.proofs.Common.{◌≡◌, ◌≢◌, ℕ, true, false, List, [], ◌∷◌, ◌++◌, Option, Some, None, IsTrue, map, refl, sym, ap, subst, ◌∙◌}
-use Rattle.std.specs.Prelude.{All, ◌<◌, ◌==◌, ◌||◌, ◌&&◌, not, slice_get, length, is_some, is_none, unwrap_or, if◌then◌else◌, IfSome, option_to_list}
+-- Nodes on what their cells hold, and what they write.
+use Rattle.std.proofs.Common.{◌≡◌, ◌≢◌, ℕ, Bool, true, false, List, [], ◌∷◌, ◌++◌, Option, Some, None, IsTrue, refl, sym, ap, subst, ◌∙◌}
+use Rattle.std.specs.Prelude.{All, ◌==◌, ◌||◌, ◌&&◌, not, slice_get, is_some, is_none, unwrap_or, if◌then◌else◌, IfSome, option_to_list}
 use Rattle.std.specs.List.{list_any, list_all}
+use Rattle.std.specs.List.Sorted.{IsStrictlyIncreasing}
 use Rattle.std.specs.Option.{option_map, option_and_then}
 use Rattle.std.proofs.lemmas.List.Folds.{list_any-append, list_all-append}
+use Rattle.std.proofs.lemmas.List.Elements.{All-head, All-tail}
 use Rattle.std.proofs.lemmas.Bool.{eq-eqb, eqb-true, eqb-false, and_parts, or_parts}
 use Rattle.vx_base.specs.declared.function.Function.{Function}
 use Rattle.vx_base.specs.declared.function.Function.TheVariants.{AndBits, Histogram, MinMaxLoc}
@@ -19,65 +21,55 @@ use Rattle.vx_base.specs.Formats.{takes_formats}
 use Rattle.vx_base.specs.Function.{parameters}
 use Rattle.vx_base.specs.Image.{ImageValue, IsImage, new_image, description_of}
 use Rattle.vx_base.specs.Statistics.{extremes}
-use Rattle.vx_base.specs.Node.{IsNode, is_node, has_amount, has_operands, all_named, given, outputs, second_kind}
+use Rattle.vx_base.specs.Node.{IsNode, is_node, has_amount, has_operands, all_named, given, outputs, operands, second_kind, with_kind}
 use Rattle.vx_base.specs.Object.{ObjectValue, ImageObject, DelayObject, DistributionObject, ExtremesObject, IsObject, object_kind, object_format}
 use Rattle.vx_base.specs.Outputs.{node_image, node_output, written_to, written_in, written_by}
 use Rattle.image_core.specs.Fits.{SecondHasSize}
+use Rattle.graph_verify.specs.declared.operand.Operands.{Operands}
+use Rattle.graph_verify.specs.declared.operand.Operand.{Operand}
 use Rattle.graph_verify.specs.declared.verdict.Verdict.TheVariants.{MultipleWriters, InvalidGraph, InvalidFormat, InvalidDimension}
 use Rattle.graph_verify.specs.Links.{has_twice}
-use Rattle.graph_verify.specs.Operand.{operand_of, operand_format, are_of_one_size, written_operands, other_operands}
+use Rattle.graph_verify.specs.Operand.{operand_of, operands_of, operand_format, are_of_one_size, written_operands, other_operands}
 use Rattle.graph_verify.specs.Verdict.{writes_twice, reads_own_output, takes_operands, node_fault, verdict_on}
-use Rattle.graph_run.specs.declared.places.Places.{Places}
-use Rattle.object_table.specs.Named.{Named, named, held, with_object, with_written}
-use Rattle.object_table.specs.declared.names.Entry.{Entry}
-use Rattle.object_table.specs.declared.place.Place.{Place}
-use Rattle.object_table.specs.Delay.{in_slot, object_in, with_slot}
-use Rattle.object_table.specs.Object.{image_value}
-use Rattle.object_table.proofs.SlotLemmas.{has_image, IsObject-object_in}
-use Rattle.object_table.specs.Names.{IsNames}
-use Rattle.object_table.specs.Table as table
-use Rattle.graph_run.specs.Lasting.{Lasts}
-use Rattle.graph_run.specs.Places.{entry_at, object_at, object_if_at, cell_at, HasImageAt, StandsAt, StandsIf}
 use Rattle.graph_verify.proofs.SuitLemmas.{passed, met, Suits, no_fault_suits}
-use Rattle.graph_run.proofs.PlaceLemmas.{object_beside, object_if_beside, place_beside, place_if_beside, image_beside, name_after, within_after}
-use Rattle.graph_run.specs.Steps.{TwoSlots, AreApart, RunsOn, RunsTo, StandAt, counted_in, operands_at, output_at, written_at}
-use Rattle.graph_run.proofs.ByNameLemmas.{entry_there, object_there, object_if_there, place_there, image_there, named_is, Lasts-replaced, Lasts-written}
-use Rattle.graph_run.proofs.LastingLemmas.{lasting-with_slot, lasting-output}
-use Rattle.graph_run.proofs.OutputLemmas.{image_of_object, description_kept, length-histogram, of_images, can_run}
+use Rattle.object_table.specs.Context.{cell_of}
+use Rattle.object_table.specs.Delay.{in_slot, object_in, with_slot}
+use Rattle.object_table.specs.Named.{Named, object_held, held, with_object, with_written}
+use Rattle.object_table.specs.Object.{image_value}
+use Rattle.object_table.specs.Table.{object_under, IsUnder, cell_object, image_held, HoldsImage}
+use Rattle.object_table.proofs.HeldLemmas.{names_of, object_held_has, held_is}
+use Rattle.graph_run.specs.Lasting.{lasting, Lasts}
+use Rattle.graph_run.specs.Operands.{operand_held}
+use Rattle.graph_run.specs.Steps.{Holds, TwoSlots, AreApart, RunsOn, RunsTo, counted_in, output_of, with_output}
+use Rattle.graph_run.specs.Turns.{HoldsKind}
+use Rattle.graph_run.proofs.FoundLemmas.{OfOperands, of_operands}
+use Rattle.graph_run.proofs.CellLemmas.{object_beside, object_if_beside, holds_beside, hold_beside, image_beside, there_is, kind_there, holds_there, operand_there, Lasts-with_object}
+use Rattle.graph_run.proofs.LastingLemmas.{images-last}
+use Rattle.graph_run.proofs.OutputLemmas.{image_of_object, description_kept, length-histogram}
 use Rattle.graph_run.proofs.OperandLaws.{no_delay_written}
 use Rattle.vx_base.proofs.NodeLaws.{node_image_is}
 
 -- ---- cells
 
--- only a delay has slots
-slot_of_delay : (k : ℕ) (object : ObjectValue) → IsTrue (is_some (in_slot (Some k) object)) → object_kind object ≡ kind.Delay
-slot_of_delay k (DelayObject images) there = refl
-slot_of_delay k other there = cc
-
--- two slots, or not one object: where or_parts is a delay as a whole
-two_slots : (j k : Option ℕ) (object : ObjectValue) (a b : Kind) → IsTrue (is_some (in_slot j object)) → IsTrue (is_some (in_slot k object)) → object_kind (object_in j object) ≡ a → object_kind (object_in k object) ≡ b
+-- two slots, or not one object: where neither is a delay as a whole
+two_slots : (j k : Option ℕ) (object : ObjectValue) (a b : Kind) → option_map object_kind (in_slot j object) ≡ Some a → option_map object_kind (in_slot k object) ≡ Some b
     → a ≢ kind.Delay → b ≢ kind.Delay → same_slot j k ≡ false → TwoSlots j k
-two_slots (Some j) (Some k) object a b at_j at_k is_a is_b no_a no_b differ = eqb-false j k differ
-two_slots None None object a b at_j at_k is_a is_b no_a no_b differ = cc
-two_slots None (Some k) object a b at_j at_k is_a is_b no_a no_b differ = no_a (sym is_a ∙ slot_of_delay k object at_k)
-two_slots (Some j) None object a b at_j at_k is_a is_b no_a no_b differ = no_b (sym is_b ∙ slot_of_delay j object at_j)
+two_slots (Some j) (Some k) object a b at_j at_k no_a no_b differ = eqb-false j k differ
+two_slots None None object a b at_j at_k no_a no_b differ = cc
+two_slots None (Some k) (DelayObject images) a b at_j at_k no_a no_b differ = let is : a ≡ kind.Delay = cc in no_a is
+two_slots None (Some k) object a b at_j at_k no_a no_b differ = cc
+two_slots (Some j) None (DelayObject images) a b at_j at_k no_a no_b differ = let is : b ≡ kind.Delay = cc in no_b is
+two_slots (Some j) None object a b at_j at_k no_a no_b differ = cc
 
--- two cells that aren't one stand apart
-apart : (objects : List Named) (a b : Cell) (k l : Kind) (p q : Place) → k ≢ kind.Delay → l ≢ kind.Delay → StandsAt objects a k p → StandsAt objects b l q → same_cell a b ≡ false → AreApart p q
-apart objects a b k l p q no_k no_l h i differ same =
-    let names : a.name ≡ b.name = ap (λ (c : Cell). c.name) (sym h.named) ∙ ap (λ n. (entry_at objects n).name) same ∙ ap (λ (c : Cell). c.name) i.named in
-    let slots : same_slot p.slot q.slot ≡ false =
-    ap (λ s. same_slot s q.slot) (ap (λ (c : Cell). c.slot) h.named)
-    ∙ ap (λ s. same_slot a.slot s) (ap (λ (c : Cell). c.slot) i.named)
-    ∙ sym (ap (λ t. t && same_slot a.slot b.slot) (eq-eqb a.name b.name names)) ∙ differ in
-    two_slots p.slot q.slot (entry_at objects p.index).object k l h.stands.there
-    (subst (λ n. IsTrue (is_some (in_slot q.slot (entry_at objects n).object))) (sym same) i.stands.there)
-    h.kind (ap (λ n. object_kind (object_in q.slot (entry_at objects n).object)) same ∙ i.kind) no_k no_l slots
-
--- an image stands where one is found
-pub stands_image : (objects : List Named) (cell : Cell) (place : Place) → StandsAt objects cell kind.Image place → HasImageAt objects place
-stands_image objects cell place h =
-    record { within = h.stands.within; image = has_image place.slot (entry_at objects place.index).object h.stands.there h.kind }
+-- two cells that aren't one are apart
+apart : (objects : List Named) (a b : Cell) (k l : Kind) → k ≢ kind.Delay → l ≢ kind.Delay → HoldsKind objects (a, k) → HoldsKind objects (b, l) → same_cell a b ≡ false → AreApart a b
+apart objects a b k l no_k no_l h i differ names =
+    let slots : same_slot a.slot b.slot ≡ false = sym (ap (λ t. t && same_slot a.slot b.slot) (eq-eqb a.name b.name names)) ∙ differ in
+    found (object_held objects a.name) h (ap (λ n. option_map object_kind (option_and_then (in_slot b.slot) (object_held objects n))) names ∙ i) slots
+  where
+    found : (o : Option ObjectValue) → option_map object_kind (option_and_then (in_slot a.slot) o) ≡ Some k → option_map object_kind (option_and_then (in_slot b.slot) o) ≡ Some l → same_slot a.slot b.slot ≡ false → TwoSlots a.slot b.slot
+    found None h i slots = cc
+    found (Some x) h i slots = two_slots a.slot b.slot x k l h i no_k no_l slots
 
 -- ---- what a node's function has
 
@@ -131,7 +123,7 @@ with_written-append objects [] others = refl
 with_written-append objects (w ∷ written) others = with_written-append (with_object objects w.0 w.1) written others
 
 -- slots that differ differ the other way round
-apart_back : (p q : Place) → AreApart p q → AreApart q p
+apart_back : (p q : Cell) → AreApart p q → AreApart q p
 apart_back p q h e = slots p.slot q.slot (h (sym e))
   where
     slots : (j k : Option ℕ) → TwoSlots j k → TwoSlots k j
@@ -140,26 +132,39 @@ apart_back p q h e = slots p.slot q.slot (h (sym e))
     slots (Some j) None two = absurd two
 
 -- what a node would write stays where another output of it is written
-module _ (l : List (Entry ObjectValue)) (n : Node) (p : Places) (one other : Place) (x : ObjectValue) (within : one.index < length l) (h : RunsTo l n p other) (in1 : AreApart p.in1 one) (in2 : IfSome p.in2 (λ q. AreApart q one)) (out : AreApart other one) where
-  runs_beside : RunsTo (table.replaced l one x) n p other
+module _ (l : List Named) (n : Node) (one other : Cell) (x : ObjectValue) (h : RunsTo l n other) (in1 : AreApart n.in1 one) (in2 : IfSome n.in2 (λ q. AreApart q one)) (out : AreApart other one) where
+  abbrev after : List Named
+  after = with_object l one x
+
+  runs_beside : RunsTo after n other
   runs_beside =
       record {
-        in1 = image_beside l one within p.in1 x in1 h.in1;
-        in2 = place_if_beside l one within p.in2 x in2 h.in2;
-        out = place_beside l one within other x out h.out;
+        in1 = image_beside l one n.in1 x in1 h.in1;
+        in2 = hold_beside l one n.in2 x in2 h.in2;
+        out = holds_beside l one other x out h.out;
         in1_apart = h.in1_apart;
         in2_apart = h.in2_apart;
         runs =
-            subst (λ (o : ObjectValue). RunsOn n (table.object_at (table.replaced l one x) p.in1) (option_map (table.object_at (table.replaced l one x)) p.in2) o) (sym (object_beside l one within other x out))
-            (subst (λ (o : Option ObjectValue). RunsOn n (table.object_at (table.replaced l one x) p.in1) o (table.object_at l other)) (sym (object_if_beside l one within p.in2 x in2))
-            (subst (λ (o : ObjectValue). RunsOn n o (option_map (table.object_at l) p.in2) (table.object_at l other)) (sym (object_beside l one within p.in1 x in1)) h.runs));
+            subst (λ (o : ObjectValue). RunsOn n (cell_object after n.in1) (option_map (cell_object after) n.in2) o) (sym (object_beside l one other x out))
+            (subst (λ (o : Option ObjectValue). RunsOn n (cell_object after n.in1) o (cell_object l other)) (sym (object_if_beside l one n.in2 x in2))
+            (subst (λ (o : ObjectValue). RunsOn n o (option_map (cell_object l) n.in2) (cell_object l other)) (sym (object_beside l one n.in1 x in1)) h.runs));
       }
 
-  output_beside : (which : Output) → output_at (table.replaced l one x) n which p other ≡ output_at l n which p other
+  output_beside : (which : Output) → output_of after n which other ≡ output_of l n which other
   output_beside which =
-      ap (λ o. node_output n which o (option_map (table.object_at (table.replaced l one x)) p.in2) (table.object_at (table.replaced l one x) other)) (object_beside l one within p.in1 x in1)
-      ∙ ap (λ o. node_output n which (table.object_at l p.in1) o (table.object_at (table.replaced l one x) other)) (object_if_beside l one within p.in2 x in2)
-      ∙ ap (λ o. node_output n which (table.object_at l p.in1) (option_map (table.object_at l) p.in2) o) (object_beside l one within other x out)
+      ap (λ o. node_output n which o (option_map (cell_object after) n.in2) (cell_object after other)) (object_beside l one n.in1 x in1)
+      ∙ ap (λ o. node_output n which (cell_object l n.in1) o (cell_object after other)) (object_if_beside l one n.in2 x in2)
+      ∙ ap (λ o. node_output n which (cell_object l n.in1) (option_map (cell_object l) n.in2) o) (object_beside l one other x out)
+
+-- what cells hold, as operands
+abbrev operands_there : List Named → Node → Operands
+operands_there objects n =
+    record {
+      in1 = operand_of (cell_object objects n.in1);
+      in2 = option_map operand_of (option_map (cell_object objects) n.in2);
+      out1 = option_map operand_of (option_map (cell_object objects) n.out1);
+      out2 = option_map operand_of (option_map (cell_object objects) n.out2);
+    }
 
 module _ (n : Node) (node : IsNode n) where
   runs_on : (first : ObjectValue) (second : Option ObjectValue) (out : ObjectValue)
@@ -182,77 +187,75 @@ module _ (n : Node) (node : IsNode n) where
   runs_on other second out h i is_first is_second is_out k suits sizes = cc
 
   -- a second input is what the function has there
-  second_wanted : (objects : List Named) (cell : Option Cell) (place : Option Place) (s : Option Kind) → (if is_some s then is_some cell else is_none cell) ≡ true → StandsIf objects cell (unwrap_or s kind.Image) place
-      → IfSome (object_if_at objects place) (λ object. s ≡ Some (object_kind object))
-  second_wanted objects cell None s has h = tt
-  second_wanted objects None (Some place) s has h = absurd h
-  second_wanted objects (Some cell) (Some place) None has h = cc
-  second_wanted objects (Some cell) (Some place) (Some s) has h = ap Some (sym h.kind)
+  second_wanted : (objects : List Named) (cell : Option Cell) (s : Option Kind) → (if is_some s then is_some cell else is_none cell) ≡ true → IfSome cell (λ c. HoldsKind objects (c, unwrap_or s kind.Image))
+      → IfSome (option_map (cell_object objects) cell) (λ object. s ≡ Some (object_kind object))
+  second_wanted objects None s has h = tt
+  second_wanted objects (Some c) None has h = cc
+  second_wanted objects (Some c) (Some s) has h = ap Some (sym (kind_there objects (c, s) h))
 
-  -- what a node reads and writes, where the operands stand in a table
-  module _ (held_in : List (Entry ObjectValue)) (p : Places) (are : All (λ e. IsObject e.object) held_in) (h : StandAt (map named held_in) n p) (verdict : verdict_on n (operands_at (map named held_in) p) ≡ None) where
-    abbrev objects : List Named
-    objects = map named held_in
-
+  -- what a node reads and writes, where its cells hold what its function has there
+  module _ (objects : List Named) (are : All (λ o. IsObject o.object) objects) (h : OfOperands (HoldsKind objects) n) (verdict : verdict_on n (operands_of (operand_held objects) n) ≡ None) where
     abbrev wanted : Kind
     wanted = (parameters n.function).output
 
-    parts : (writes_twice n ≡ false) × (reads_own_output n ≡ false) × (node_fault n.function (operands_at objects p) ≡ None)
+    if_there : (cell : Option Cell) (k : Kind) → IfSome cell (λ c. HoldsKind objects (c, k)) → option_map (operand_held objects) cell ≡ option_map operand_of (option_map (cell_object objects) cell)
+    if_there None k held = refl
+    if_there (Some c) k held = ap Some (operand_there objects c (holds_there objects (c, k) held))
+
+    abbrev made : Operand → Option Operand → Option Operand → Option Operand → Operands
+    made a b c d = record { in1 = a; in2 = b; out1 = c; out2 = d }
+
+    there : operands_of (operand_held objects) n ≡ operands_there objects n
+    there =
+        ap (λ a. made a (option_map (operand_held objects) n.in2) (option_map (operand_held objects) n.out1) (option_map (operand_held objects) n.out2)) (operand_there objects n.in1 (holds_there objects (n.in1, kind.Image) h.in1))
+        ∙ ap (λ b. made (operand_of (cell_object objects n.in1)) b (option_map (operand_held objects) n.out1) (option_map (operand_held objects) n.out2)) (if_there n.in2 (second_kind n) h.in2)
+        ∙ ap (λ c. made (operand_of (cell_object objects n.in1)) (option_map operand_of (option_map (cell_object objects) n.in2)) c (option_map (operand_held objects) n.out2)) (if_there n.out1 wanted h.out1)
+        ∙ ap (made (operand_of (cell_object objects n.in1)) (option_map operand_of (option_map (cell_object objects) n.in2)) (option_map operand_of (option_map (cell_object objects) n.out1))) (if_there n.out2 wanted h.out2)
+
+    parts : (writes_twice n ≡ false) × (reads_own_output n ≡ false) × (node_fault n.function (operands_there objects n) ≡ None)
     parts =
-        let one_writer = passed (writes_twice n) MultipleWriters _ verdict in
+        let one_writer = passed (writes_twice n) MultipleWriters _ (ap (verdict_on n) (sym there) ∙ verdict) in
         let no_cycle = passed (reads_own_output n) InvalidGraph _ one_writer.1 in
         (one_writer.0, no_cycle.0, no_cycle.1)
 
-    second_sizes : list_all (are_of_one_size (operand_of (object_at objects p.in1))) (option_to_list (option_map operand_of (object_if_at objects p.in2))) ≡ true
+    second_sizes : list_all (are_of_one_size (operand_of (cell_object objects n.in1))) (option_to_list (option_map operand_of (option_map (cell_object objects) n.in2))) ≡ true
     second_sizes =
-        let o = operands_at objects p in
+        let o = operands_there objects n in
         let sizes = met (list_all (are_of_one_size o.in1) (other_operands o)) InvalidDimension (passed (not (takes_operands n.function o)) InvalidFormat _ parts.2).1 in
         (and_parts (list_all (are_of_one_size o.in1) (option_to_list o.in2)) (list_all (are_of_one_size o.in1) (written_operands o)) (sym (list_all-append (are_of_one_size o.in1) (option_to_list o.in2) (written_operands o)) ∙ sizes)).0
 
-    -- the second input stands apart from an output
-    second_there : (cell2 : Option Cell) (place2 : Option Place) (beside : Kind) (cell : Cell) (output : Place) → beside ≢ kind.Delay → StandsIf objects cell2 beside place2 → StandsAt objects cell wanted output
-        → list_any (λ a. list_any (same_cell a) (cell ∷ [])) (given cell2) ≡ false → IfSome place2 (table.IsPlace held_in) × IfSome place2 (λ q. AreApart q output)
-    second_there cell2 None beside cell output no_delay a b e = (tt, tt)
-    second_there None (Some q) beside cell output no_delay a b e = absurd a
-    second_there (Some c) (Some q) beside cell output no_delay a b e =
+    -- the second input is apart from an output
+    second_apart : (second : Option Cell) (beside : Kind) (cell : Cell) → beside ≢ kind.Delay → IfSome second (λ c. HoldsKind objects (c, beside)) → HoldsKind objects (cell, wanted)
+        → list_any (λ a. list_any (same_cell a) (cell ∷ [])) (given second) ≡ false → IfSome second (Holds objects) × IfSome second (λ q. AreApart q cell)
+    second_apart None beside cell no_delay a b e = (tt, tt)
+    second_apart (Some c) beside cell no_delay a b e =
         let differ = (or_parts (same_cell c cell) false (or_parts (list_any (same_cell c) (cell ∷ [])) false e).0).0 in
-        (place_there held_in q a.stands, apart objects c cell beside wanted q output no_delay (no_delay_written n.function) a b differ)
+        (holds_there objects (c, beside) a, apart objects c cell beside wanted no_delay (no_delay_written n.function) a b differ)
 
-    object_is : (place : Place) → table.IsPlace held_in place → IsObject (table.object_at held_in place)
-    object_is place is = IsObject-object_in place.slot (table.entry_at held_in place.index).object (are place.index table.no_object is.within) is.there
+    object_is : (cell : Cell) → Holds objects cell → IsObject (cell_object objects cell)
+    object_is cell is = subst (λ (o : Option ObjectValue). IfSome o IsObject) (there_is objects cell is) (held_is objects cell are)
 
-    object_if_is : (place : Option Place) → IfSome place (table.IsPlace held_in) → IfSome (option_map (table.object_at held_in) place) IsObject
+    object_if_is : (cell : Option Cell) → IfSome cell (Holds objects) → IfSome (option_map (cell_object objects) cell) IsObject
     object_if_is None is = tt
-    object_if_is (Some q) is = object_is q is
+    object_if_is (Some c) is = object_is c is
 
-    -- what runs on the objects of the context runs on those of its table
-    on_table : (output : Place) → RunsOn n (object_at objects p.in1) (object_if_at objects p.in2) (object_at objects output) → RunsOn n (table.object_at held_in p.in1) (option_map (table.object_at held_in) p.in2) (table.object_at held_in output)
-    on_table output runs =
-        subst (λ (o : ObjectValue). RunsOn n (table.object_at held_in p.in1) (option_map (table.object_at held_in) p.in2) o) (object_there held_in output)
-        (subst (λ (o : Option ObjectValue). RunsOn n (table.object_at held_in p.in1) o (object_at objects output)) (object_if_there held_in p.in2)
-        (subst (λ (o : ObjectValue). RunsOn n o (object_if_at objects p.in2) (object_at objects output)) (object_there held_in p.in1) runs))
-
-    each : (cell : Option Cell) (place : Option Place) → StandsIf objects cell wanted place → list_any (same_cell n.in1) (given cell) ≡ false → list_any (λ a. list_any (same_cell a) (given cell)) (given n.in2) ≡ false
-        → IfSome (option_map operand_of (object_if_at objects place)) (Suits n.function (operand_of (object_at objects p.in1)) (option_and_then operand_format (option_map operand_of (object_if_at objects p.in2)))) → IfSome place (RunsTo held_in n p)
-    each cell None stands in1 in2 suits = tt
-    each None (Some output) stands in1 in2 suits = absurd stands
-    each (Some cell) (Some output) stands in1 in2 suits =
-        let second = second_there n.in2 p.in2 (second_kind n) cell output (second_no_delay n.function) h.in2 stands in2 in
+    each : (cell : Option Cell) → IfSome cell (λ c. HoldsKind objects (c, wanted)) → list_any (same_cell n.in1) (given cell) ≡ false → list_any (λ a. list_any (same_cell a) (given cell)) (given n.in2) ≡ false
+        → IfSome (option_map operand_of (option_map (cell_object objects) cell)) (Suits n.function (operand_of (cell_object objects n.in1)) (option_and_then operand_format (option_map operand_of (option_map (cell_object objects) n.in2)))) → IfSome cell (RunsTo objects n)
+    each None holds in1 in2 suits = tt
+    each (Some cell) holds in1 in2 suits =
+        let second = second_apart n.in2 (second_kind n) cell (second_no_delay n.function) h.in2 holds in2 in
         let differ = (or_parts (same_cell n.in1 cell) false in1).0 in
         record {
-          in1 = image_there held_in p.in1 (stands_image objects n.in1 p.in1 h.in1);
+          in1 = h.in1;
           in2 = second.0;
-          out = place_there held_in output stands.stands;
-          in1_apart = apart objects n.in1 cell kind.Image wanted p.in1 output no_image (no_delay_written n.function) h.in1 stands differ;
+          out = holds_there objects (cell, wanted) holds;
+          in1_apart = apart objects n.in1 cell kind.Image wanted no_image (no_delay_written n.function) h.in1 holds differ;
           in2_apart = second.1;
           runs =
-              on_table output
-              (runs_on (object_at objects p.in1) (object_if_at objects p.in2) (object_at objects output) h.in1.kind stands.kind
-              (subst IsObject (sym (object_there held_in p.in1)) (object_is p.in1 (place_there held_in p.in1 h.in1.stands)))
-              (subst (λ (o : Option ObjectValue). IfSome o IsObject) (sym (object_if_there held_in p.in2)) (object_if_is p.in2 second.0))
-              (subst IsObject (sym (object_there held_in output)) (object_is output (place_there held_in output stands.stands)))
-              (second_wanted objects n.in2 p.in2 (parameters n.function).second_input (and_parts (if is_some (parameters n.function).second_input then is_some n.in2 else is_none n.in2) _ (has_of_node n node.shape)).0 h.in2)
-              suits second_sizes);
+              runs_on (cell_object objects n.in1) (option_map (cell_object objects) n.in2) (cell_object objects cell) (kind_there objects (n.in1, kind.Image) h.in1) (kind_there objects (cell, wanted) holds)
+              (object_is n.in1 (holds_there objects (n.in1, kind.Image) h.in1)) (object_if_is n.in2 second.0) (object_is cell (holds_there objects (cell, wanted) holds))
+              (second_wanted objects n.in2 (parameters n.function).second_input (and_parts (if is_some (parameters n.function).second_input then is_some n.in2 else is_none n.in2) _ (has_of_node n node.shape)).0 h.in2)
+              suits second_sizes;
         }
 
     in1_apart : (list_any (same_cell n.in1) (given n.out1) ≡ false) × (list_any (same_cell n.in1) (given n.out2) ≡ false)
@@ -263,101 +266,64 @@ module _ (n : Node) (node : IsNode n) where
     in2_apart : (list_any (λ a. list_any (same_cell a) (given n.out1)) (given n.in2) ≡ false) × (list_any (λ a. list_any (same_cell a) (given n.out2)) (given n.in2) ≡ false)
     in2_apart = in2_reads n.in2 (given n.out1) (given n.out2) (or_parts (list_any (same_cell n.in1) (outputs n)) (list_any (λ a. list_any (same_cell a) (outputs n)) (given n.in2)) parts.1).1
 
-    pub runs_first : IfSome p.out1 (RunsTo held_in n p)
-    runs_first = each n.out1 p.out1 h.out1 in1_apart.0 in2_apart.0 (no_fault_suits n.function (operands_at objects p) parts.2).0
+    pub runs_first : IfSome n.out1 (RunsTo objects n)
+    runs_first = each n.out1 h.out1 in1_apart.0 in2_apart.0 (no_fault_suits n.function (operands_there objects n) parts.2).0
 
-    runs_second : IfSome p.out2 (RunsTo held_in n p)
-    runs_second = each n.out2 p.out2 h.out2 in1_apart.1 in2_apart.1 (no_fault_suits n.function (operands_at objects p) parts.2).1
+    pub runs_second : IfSome n.out2 (RunsTo objects n)
+    runs_second = each n.out2 h.out2 in1_apart.1 in2_apart.1 (no_fault_suits n.function (operands_there objects n) parts.2).1
 
-    -- two outputs stand apart
-    outputs_apart : (cell1 cell2 : Option Cell) (place1 place2 : Option Place) → StandsIf objects cell1 wanted place1 → StandsIf objects cell2 wanted place2 → has_twice (given cell1 ++ given cell2) ≡ false
-        → IfSome place1 (λ one. IfSome place2 (λ other. AreApart other one))
-    outputs_apart cell1 cell2 None place2 s t e = tt
-    outputs_apart cell1 cell2 (Some one) None s t e = tt
-    outputs_apart None cell2 (Some one) (Some other) s t e = absurd s
-    outputs_apart (Some a) None (Some one) (Some other) s t e = absurd t
-    outputs_apart (Some a) (Some b) (Some one) (Some other) s t e =
+    -- two outputs are apart
+    outputs_apart : (one other : Option Cell) → IfSome one (λ c. HoldsKind objects (c, wanted)) → IfSome other (λ c. HoldsKind objects (c, wanted)) → has_twice (given one ++ given other) ≡ false
+        → IfSome one (λ a. IfSome other (λ b. AreApart b a))
+    outputs_apart None other s t e = tt
+    outputs_apart (Some a) None s t e = tt
+    outputs_apart (Some a) (Some b) s t e =
         let differ = (or_parts (same_cell a b) false (or_parts (list_any (same_cell a) (b ∷ [])) false e).0).0 in
-        apart_back one other (apart objects a b wanted wanted one other (no_delay_written n.function) (no_delay_written n.function) s t differ)
+        apart_back a b (apart objects a b wanted wanted (no_delay_written n.function) (no_delay_written n.function) s t differ)
+
+    two_outputs : IfSome n.out1 (λ a. IfSome n.out2 (λ b. AreApart b a))
+    two_outputs = outputs_apart n.out1 n.out2 h.out1 h.out2 parts.0
 
     -- the second output can be written once the first is
-    pub runs_then : IfSome p.out2 (RunsTo (written_at held_in n First p p.out1) n p)
-    runs_then = after p.out1 p.out2 runs_first runs_second (outputs_apart n.out1 n.out2 p.out1 p.out2 h.out1 h.out2 parts.0)
+    pub runs_then : IfSome n.out2 (RunsTo (with_output objects n First n.out1) n)
+    runs_then = after n.out1 n.out2 runs_first runs_second two_outputs
       where
-        after : (one other : Option Place) → IfSome one (RunsTo held_in n p) → IfSome other (RunsTo held_in n p) → IfSome one (λ a. IfSome other (λ b. AreApart b a)) → IfSome other (RunsTo (written_at held_in n First p one) n p)
+        after : (one other : Option Cell) → IfSome one (RunsTo objects n) → IfSome other (RunsTo objects n) → IfSome one (λ a. IfSome other (λ b. AreApart b a)) → IfSome other (RunsTo (with_output objects n First one) n)
         after None other r s e = s
         after (Some a) None r s e = tt
-        after (Some a) (Some b) r s e = runs_beside held_in n p a b (output_at held_in n First p a) r.out.within s r.in1_apart r.in2_apart e
+        after (Some a) (Some b) r s e = runs_beside objects n a b (output_of objects n First a) s r.in1_apart r.in2_apart e
 
-    second_held : (cell : Option Cell) (place : Option Place) (beside : Kind) → StandsIf objects cell beside place → option_and_then (held objects) cell ≡ object_if_at objects place
-    second_held None None beside s = refl
-    second_held (Some cell) (Some place) beside s = s.object
-    second_held None (Some place) beside s = absurd s
-    second_held (Some cell) None beside s = absurd s
+    second_held : (cell : Option Cell) (k : Kind) → IfSome cell (λ c. HoldsKind objects (c, k)) → option_and_then (held objects) cell ≡ option_map (cell_object objects) cell
+    second_held None k s = refl
+    second_held (Some c) k s = there_is objects c (holds_there objects (c, k) s)
 
-    output_there : (which : Output) (place : Place) → node_output n which (object_at objects p.in1) (object_if_at objects p.in2) (object_at objects place) ≡ output_at held_in n which p place
-    output_there which place =
-        ap (λ o. node_output n which o (object_if_at objects p.in2) (object_at objects place)) (object_there held_in p.in1)
-        ∙ ap (λ o. node_output n which (table.object_at held_in p.in1) o (object_at objects place)) (object_if_there held_in p.in2)
-        ∙ ap (λ o. node_output n which (table.object_at held_in p.in1) (option_map (table.object_at held_in) p.in2) o) (object_there held_in place)
+    -- one of the outputs is written, where perhaps the other is written already
+    written_one : (l : List Named) (which : Output) (cell : Option Cell) → IfSome cell (λ c. HoldsKind objects (c, wanted)) → IfSome cell (λ c. output_of l n which c ≡ output_of objects n which c)
+        → with_written l (written_in n which cell (held objects)) ≡ with_output l n which cell
+    written_one l which None s same = refl
+    written_one l which (Some c) s same =
+        ap (λ o. with_written l (written_to n which c o (option_and_then (held objects) n.in2) (held objects c))) (there_is objects n.in1 (holds_there objects (n.in1, kind.Image) h.in1))
+        ∙ ap (λ o. with_written l (written_to n which c (Some (cell_object objects n.in1)) o (held objects c))) (second_held n.in2 (second_kind n) h.in2)
+        ∙ ap (λ o. with_written l (written_to n which c (Some (cell_object objects n.in1)) (option_map (cell_object objects) n.in2) o)) (there_is objects c (holds_there objects (c, wanted) s))
+        ∙ ap (with_object l c) (sym same)
 
-    -- what one of the outputs becomes, where perhaps the other is written already
-    record IsReady (l : List (Entry ObjectValue)) (which : Output) (next : ℕ) (place : Place) : Type 0 where
-      names : IsNames next l
-      within : place.index < length l
-      cell : cell_at (map named l) place ≡ cell_at objects place
-      value : output_at l n which p place ≡ output_at held_in n which p place
+    same_first : (cell : Option Cell) → IfSome cell (λ c. output_of objects n First c ≡ output_of objects n First c)
+    same_first None = tt
+    same_first (Some c) = refl
 
-    written_one : (l : List (Entry ObjectValue)) (which : Output) (next : ℕ) (cell : Option Cell) (place : Option Place) → StandsIf objects cell wanted place → IfSome place (IsReady l which next)
-        → with_written (map named l) (written_in n which cell (held objects)) ≡ map named (written_at l n which p place)
-    written_one l which next None None s ready = refl
-    written_one l which next None (Some place) s ready = absurd s
-    written_one l which next (Some cell) None s ready = absurd s
-    written_one l which next (Some cell) (Some place) s ready =
-        ap (λ o. with_written (map named l) (written_to n which cell o (option_and_then (held objects) n.in2) (held objects cell))) h.in1.object
-        ∙ ap (λ o. with_written (map named l) (written_to n which cell (Some (object_at objects p.in1)) o (held objects cell))) (second_held n.in2 p.in2 (second_kind n) h.in2)
-        ∙ ap (λ o. with_written (map named l) (written_to n which cell (Some (object_at objects p.in1)) (object_if_at objects p.in2) o)) s.object
-        ∙ ap (λ c. with_object (map named l) c (node_output n which (object_at objects p.in1) (object_if_at objects p.in2) (object_at objects place))) (sym (ready.cell ∙ s.named))
-        ∙ ap (λ o. with_object (map named l) (cell_at (map named l) place) o) (output_there which place ∙ sym ready.value)
-        ∙ sym (named_is l next place (output_at l n which p place) ready.names ready.within)
-
-    -- before anything is written
-    ready_first : (next : ℕ) → IfSome p.out1 (λ _. IsNames next held_in) → IfSome p.out1 (IsReady held_in First next)
-    ready_first next = given_place p.out1 runs_first
-      where
-        given_place : (place : Option Place) → IfSome place (RunsTo held_in n p) → IfSome place (λ _. IsNames next held_in) → IfSome place (IsReady held_in First next)
-        given_place None r names = tt
-        given_place (Some place) r names = record { names = names; within = r.out.within; cell = refl; value = refl }
-
-    cell_kept : (one other : Place) (x : ObjectValue) → one.index < length held_in → cell_at (map named (table.replaced held_in one x)) other ≡ cell_at objects other
-    cell_kept one other x within =
-        ap (λ (name : ℕ). let c : Cell = record { name = name; slot = other.slot } in c)
-        (ap (λ (o : Named). o.name) (entry_there (table.replaced held_in one x) other.index) ∙ name_after held_in one within other.index x ∙ sym (ap (λ (o : Named). o.name) (entry_there held_in other.index)))
-
-    -- once the first output is written
-    ready_second : (next : ℕ) → IfSome p.out2 (λ _. IsNames next (written_at held_in n First p p.out1)) → IfSome p.out2 (IsReady (written_at held_in n First p p.out1) Second next)
-    ready_second next = given_places p.out1 p.out2 runs_first runs_second (outputs_apart n.out1 n.out2 p.out1 p.out2 h.out1 h.out2 parts.0)
-      where
-        given_places : (one other : Option Place) → IfSome one (RunsTo held_in n p) → IfSome other (RunsTo held_in n p) → IfSome one (λ a. IfSome other (λ b. AreApart b a)) → IfSome other (λ _. IsNames next (written_at held_in n First p one))
-            → IfSome other (IsReady (written_at held_in n First p one) Second next)
-        given_places one None r s e names = tt
-        given_places None (Some b) r s e names = record { names = names; within = s.out.within; cell = refl; value = refl }
-        given_places (Some a) (Some b) r s e names =
-            let x = output_at held_in n First p a in
-            record {
-              names = names;
-              within = within_after held_in a r.out.within b.index x s.out.within;
-              cell = cell_kept a b x r.out.within;
-              value = output_beside held_in n p a b x r.out.within s r.in1_apart r.in2_apart e Second;
-            }
+    same_second : (one other : Option Cell) → IfSome one (RunsTo objects n) → IfSome other (RunsTo objects n) → IfSome one (λ a. IfSome other (λ b. AreApart b a))
+        → IfSome other (λ c. output_of (with_output objects n First one) n Second c ≡ output_of objects n Second c)
+    same_second None None r s e = tt
+    same_second None (Some b) r s e = refl
+    same_second (Some a) None r s e = tt
+    same_second (Some a) (Some b) r s e = output_beside objects n a b (output_of objects n First a) s r.in1_apart r.in2_apart e Second
 
     -- what the node writes is what its outputs become
-    pub written_is : (next : ℕ) → IfSome p.out1 (λ _. IsNames next held_in) → IfSome p.out2 (λ _. IsNames next (written_at held_in n First p p.out1))
-        → with_written objects (written_by n (held objects)) ≡ map named (written_at (written_at held_in n First p p.out1) n Second p p.out2)
-    written_is next first second =
+    pub written_is : with_written objects (written_by n (held objects)) ≡ with_output (with_output objects n First n.out1) n Second n.out2
+    written_is =
         with_written-append objects (written_in n First n.out1 (held objects)) (written_in n Second n.out2 (held objects))
-        ∙ ap (λ l. with_written l (written_in n Second n.out2 (held objects))) (written_one held_in First next n.out1 p.out1 h.out1 (ready_first next first))
-        ∙ written_one (written_at held_in n First p p.out1) Second next n.out2 p.out2 h.out2 (ready_second next second)
+        ∙ ap (λ l. with_written l (written_in n Second n.out2 (held objects))) (written_one objects First n.out1 h.out1 (same_first n.out1))
+        ∙ written_one (with_output objects n First n.out1) Second n.out2 h.out2 (same_second n.out1 n.out2 runs_first runs_second two_outputs)
 
 -- ---- what is written is an object
 
@@ -371,16 +337,23 @@ slot_none (Some k) (DelayObject images) there other = absurd (other (of_slot (sl
     of_slot (Some image) = refl
 slot_none (Some k) object there other = cc
 
--- the kinds of outputs
-pub no_other_output : (function : Function) (k : Kind) → (parameters function).output ≡ k → (k ≢ kind.Image) → (k ≢ kind.Distribution) → k ≢ kind.Extremes → ⊥
-no_other_output Histogram k e image distribution extremes = distribution (sym e)
-no_other_output MinMaxLoc k e image distribution extremes = extremes (sym e)
-no_other_output AndBits k e image distribution extremes = image (sym e)
-no_other_output other k e image distribution extremes = image (sym e)
-
 -- an output that isn't an image is an object as a whole
-whole_place : (l : List (Entry ObjectValue)) (output : Place) → table.IsPlace l output → object_kind (table.object_at l output) ≢ kind.Image → ◌≡◌ {A = Place} (record { index = output.index; slot = None }) output
-whole_place l output is other = ap (λ (slot : Option ℕ). let q : Place = record { index = output.index; slot = slot } in q) (sym (slot_none output.slot (table.entry_at l output.index).object is.there other))
+whole_cell : (l : List Named) (output : Cell) → Holds l output → object_kind (cell_object l output) ≢ kind.Image → output.slot ≡ None
+whole_cell l output holds other = found (object_held l output.name) holds other
+  where
+    found : (o : Option ObjectValue) → IsTrue (is_some (option_and_then (in_slot output.slot) o)) → object_kind (unwrap_or (option_and_then (in_slot output.slot) o) (ImageObject (new_image 0 0 U8))) ≢ kind.Image → output.slot ≡ None
+    found None holds other = cc
+    found (Some x) holds other = slot_none output.slot x holds other
+
+as_whole : (output : Cell) → output.slot ≡ None → cell_of output.name ≡ output
+as_whole output none = ap (λ (slot : Option ℕ). let q : Cell = record { name = output.name; slot = slot } in q) (sym none)
+
+under_whole : (l : List Named) (name : ℕ) → cell_object l (cell_of name) ≡ object_under l name
+under_whole l name = found (object_held l name)
+  where
+    found : (o : Option ObjectValue) → unwrap_or (option_and_then (in_slot None) o) (ImageObject (new_image 0 0 U8)) ≡ unwrap_or o (ImageObject (new_image 0 0 U8))
+    found None = refl
+    found (Some x) = refl
 
 extremes_written : (n : Node) (which : Output) (first : ObjectValue) (second : Option ObjectValue) (out : ObjectValue) → object_kind first ≡ kind.Image → object_kind out ≡ kind.Extremes → ExtremesObject (extremes (image_value first)) ≡ node_output n which first second out
 extremes_written n which (ImageObject a) second (ExtremesObject x) e f = refl
@@ -392,57 +365,55 @@ counts_written n which (ImageObject a) second (DistributionObject d) e f = refl
 counts_written n which (ImageObject a) second other e f = cc
 counts_written n which first second out e f = cc
 
-module _ (l : List (Entry ObjectValue)) (n : Node) (which : Output) (p : Places) (output : Place) (runs : RunsTo l n p output) where
+module _ (l : List Named) (n : Node) (which : Output) (output : Cell) (runs : RunsTo l n output) where
+  -- an output that isn't an image stands under its name
+  module _ (k : Kind) (is : (parameters n.function).output ≡ k) (other : k ≢ kind.Image) where
+    whole : output.slot ≡ None
+    whole = whole_cell l output runs.out (λ image. other (sym (runs.runs.out_kind ∙ is) ∙ image))
+
+    pub under_kind : IsUnder l k output.name
+    under_kind =
+        let kind_is : option_map object_kind (held l output) ≡ Some k = ap (option_map object_kind) (there_is l output runs.out) ∙ ap Some (runs.runs.out_kind ∙ is) in
+        found (object_held l output.name) (ap (λ (slot : Option ℕ). option_map object_kind (option_and_then (in_slot slot) (object_held l output.name))) (sym whole) ∙ kind_is)
+      where
+        found : (o : Option ObjectValue) → option_map object_kind (option_and_then (in_slot None) o) ≡ Some k → option_map object_kind o ≡ Some k
+        found None e = e
+        found (Some x) e = e
+
+    object_is_under : cell_object l output ≡ object_under l output.name
+    object_is_under = ap (cell_object l) (sym (as_whole output whole)) ∙ under_whole l output.name
+
   -- extremes that were found
-  pub located_is : (parameters n.function).output ≡ kind.Extremes → table.replaced l (record { index = output.index; slot = None }) (ExtremesObject (extremes (table.image_at l p.in1))) ≡ table.replaced l output (output_at l n which p output)
+  pub located_is : (parameters n.function).output ≡ kind.Extremes → with_object l (cell_of output.name) (ExtremesObject (extremes (image_held l n.in1))) ≡ with_output l n which (Some output)
   located_is e =
-      ap (λ q. table.replaced l q (ExtremesObject (extremes (table.image_at l p.in1)))) (whole_place l output runs.out (λ image. let no : kind.Extremes ≡ kind.Image = sym (runs.runs.out_kind ∙ e) ∙ image in cc))
-      ∙ ap (table.replaced l output) (extremes_written n which (table.object_at l p.in1) (option_map (table.object_at l) p.in2) (table.object_at l output) runs.runs.first_kind (runs.runs.out_kind ∙ e))
+      ap (λ q. with_object l q (ExtremesObject (extremes (image_held l n.in1)))) (as_whole output (whole kind.Extremes e (λ image. cc)))
+      ∙ ap (with_object l output) (extremes_written n which (cell_object l n.in1) (option_map (cell_object l) n.in2) (cell_object l output) runs.runs.first_kind (runs.runs.out_kind ∙ e))
 
   -- counts that were made
-  pub counted_is : (parameters n.function).output ≡ kind.Distribution → table.replaced l (record { index = output.index; slot = None }) (counted_in (table.image_at l p.in1) (table.entry_at l output.index).object) ≡ table.replaced l output (output_at l n which p output)
+  pub counted_is : (parameters n.function).output ≡ kind.Distribution → with_object l (cell_of output.name) (counted_in (image_held l n.in1) (object_under l output.name)) ≡ with_output l n which (Some output)
   counted_is e =
-      ap (λ (q : Place). table.replaced l q (counted_in (table.image_at l p.in1) (table.object_at l q))) (whole_place l output runs.out (λ image. let no : kind.Distribution ≡ kind.Image = sym (runs.runs.out_kind ∙ e) ∙ image in cc))
-      ∙ ap (table.replaced l output) (counts_written n which (table.object_at l p.in1) (option_map (table.object_at l) p.in2) (table.object_at l output) runs.runs.first_kind (runs.runs.out_kind ∙ e))
+      ap (λ q. with_object l q (counted_in (image_held l n.in1) (object_under l output.name))) (as_whole output (whole kind.Distribution e (λ image. cc)))
+      ∙ ap (λ o. with_object l output (counted_in (image_held l n.in1) o)) (sym (object_is_under kind.Distribution e (λ image. cc)))
+      ∙ ap (with_object l output) (counts_written n which (cell_object l n.in1) (option_map (cell_object l) n.in2) (cell_object l output) runs.runs.first_kind (runs.runs.out_kind ∙ e))
 
-  pub reads_an_image : IsImage (table.image_at l p.in1)
-  reads_an_image = image_of_object (table.object_at l p.in1) runs.runs.first_kind runs.runs.first_is
+  pub reads_an_image : IsImage (image_held l n.in1)
+  reads_an_image = image_of_object (cell_object l n.in1) runs.runs.first_kind runs.runs.first_is
 
--- an output becomes an object
-pub Lasts-written_at : (l : List (Entry ObjectValue)) (n : Node) (which : Output) (p : Places) (output : Option Place) → All (λ e. IsObject e.object) l → IfSome output (RunsTo l n p) → Lasts l (written_at l n which p output)
-Lasts-written_at l n which p None are runs = record { objects = are; lasting = refl }
-Lasts-written_at l n which p (Some output) are runs = becomes (table.object_at l output) refl
-  where
-    -- an object as a whole
-    whole : (object : ObjectValue) → table.object_at l output ≡ object → object_kind object ≢ kind.Image → IsObject (node_output n which (table.object_at l p.in1) (option_map (table.object_at l) p.in2) object) → Lasts l (table.replaced l output (node_output n which (table.object_at l p.in1) (option_map (table.object_at l) p.in2) (table.object_at l output)))
-    whole object e other is =
-        let none = slot_none output.slot (table.entry_at l output.index).object runs.out.there (λ image. other (sym (ap object_kind e) ∙ image)) in
-        Lasts-replaced l output (node_output n which (table.object_at l p.in1) (option_map (table.object_at l) p.in2) (table.object_at l output)) are runs.out.within
-        (subst (λ (slot : Option ℕ). IsObject (with_slot slot (node_output n which (table.object_at l p.in1) (option_map (table.object_at l) p.in2) (table.object_at l output)) (table.entry_at l output.index).object)) (sym none)
-        (subst (λ (o : ObjectValue). IsObject (node_output n which (table.object_at l p.in1) (option_map (table.object_at l) p.in2) o)) (sym e) is))
-        (lasting-with_slot output.slot _ (table.entry_at l output.index).object (lasting-output n which (table.object_at l p.in1) (option_map (table.object_at l) p.in2) (table.object_at l output)))
+-- an output becomes an object, of which as much lasts
+output_lasts : (n : Node) (which : Output) (first : ObjectValue) (second : Option ObjectValue) (out : ObjectValue) → RunsOn n first second out
+    → IsObject (node_output n which first second out) × (lasting (node_output n which first second out) ≡ lasting out)
+output_lasts n which (ImageObject a) second (ImageObject out) runs = (
+  node_image_is n out.format a runs.node runs.first_is which second runs.second_is runs.second_kind runs.formats,
+  images-last (node_image n which out.format a second) out (description_kept n which a second out runs.out_size),
+)
+output_lasts n which (ImageObject a) second (DistributionObject d) runs = (record { bins = runs.out_is.bins; size = length-histogram d.bins a }, refl)
+output_lasts n which (ImageObject a) second (ExtremesObject x) runs = (tt, refl)
+output_lasts n which (ImageObject a) second out runs = (runs.out_is, refl)
+output_lasts n which first second out runs = (runs.out_is, refl)
 
-    measured : (a object : ObjectValue) → object_kind a ≡ kind.Image → IsObject object → object_kind object ≢ kind.Image → IsObject (node_output n which a (option_map (table.object_at l) p.in2) object)
-    measured (ImageObject a) (ImageObject b) e is other = absurd (other refl)
-    measured (ImageObject a) (DistributionObject d) e is other = record { bins = is.bins; size = length-histogram d.bins a }
-    measured (ImageObject a) (ExtremesObject x) e is other = tt
-    measured (ImageObject a) object e is other = is
-    measured a object e is other = cc
-
-    becomes : (object : ObjectValue) → table.object_at l output ≡ object → Lasts l (table.replaced l output (node_output n which (table.object_at l p.in1) (option_map (table.object_at l) p.in2) (table.object_at l output)))
-    becomes (ImageObject out) e =
-        let image : object_kind (table.object_at l output) ≡ kind.Image = ap object_kind e in
-        let can = can_run n (table.object_at l p.in1) (option_map (table.object_at l) p.in2) (table.object_at l output) runs.runs image in
-        let is_first = image_of_object (table.object_at l p.in1) runs.runs.first_kind runs.runs.first_is in
-        let old = table.image_at l output in
-        subst (λ (o : ObjectValue). Lasts l (table.replaced l output o)) (of_images n which (table.object_at l p.in1) (option_map (table.object_at l) p.in2) (table.object_at l output) runs.runs.first_kind image)
-        (Lasts-written l output (node_image n which old.format (image_value (table.object_at l p.in1)) (option_map (table.object_at l) p.in2)) are
-        (record { within = runs.out.within; image = has_image output.slot (table.entry_at l output.index).object runs.out.there image })
-        (node_image_is n old.format (image_value (table.object_at l p.in1)) runs.runs.node is_first which (option_map (table.object_at l) p.in2) runs.runs.second_is can.kind can.formats)
-        (description_kept n which (image_value (table.object_at l p.in1)) (option_map (table.object_at l) p.in2) old can.size))
-    becomes (DistributionObject d) e = whole (DistributionObject d) e (λ k. cc) (measured (table.object_at l p.in1) (DistributionObject d) runs.runs.first_kind (subst IsObject e runs.runs.out_is) (λ k. cc))
-    becomes (ExtremesObject x) e = whole (ExtremesObject x) e (λ k. cc) tt_extremes
-      where
-        tt_extremes : IsObject (node_output n which (table.object_at l p.in1) (option_map (table.object_at l) p.in2) (ExtremesObject x))
-        tt_extremes = measured (table.object_at l p.in1) (ExtremesObject x) runs.runs.first_kind tt (λ k. cc)
-    becomes other e = absurd (no_other_output n.function (object_kind other) (sym runs.runs.out_kind ∙ ap object_kind e) (λ k. cc) (λ k. cc) (λ k. cc))
+pub Lasts-with_output : (l : List Named) (n : Node) (which : Output) (output : Option Cell) → IsStrictlyIncreasing (names_of l) → All (λ o. IsObject o.object) l → IfSome output (RunsTo l n) → Lasts l (with_output l n which output)
+Lasts-with_output l n which None names are runs = record { objects = are; lasting = refl }
+Lasts-with_output l n which (Some output) names are runs =
+    let made = output_lasts n which (cell_object l n.in1) (option_map (cell_object l) n.in2) (cell_object l output) runs.runs in
+    Lasts-with_object l (output, output_of l n which output)
+    (record { is_object = made.0; lasts = ap (option_map lasting) (there_is l output runs.out) ∙ ap Some (sym made.1) }) names are

@@ -1,34 +1,26 @@
 -- Images that stand in for virtual images as a graph runs.
 use Rattle.std.proofs.Common.{◌≡◌, ℕ, Bool, true, false, cond, List, [], ◌∷◌, map, length, get_or, drop, Option, Some, None, refl, sym, ap, subst, ◌∙◌, arith}
-use Rattle.std.specs.Prelude.{All, IfSome, ◌==◌, ◌||◌, if◌then◌else◌, unwrap_or}
+use Rattle.std.specs.Prelude.{All, IfSome, ◌==◌, ◌||◌, if◌then◌else◌, find, unwrap_or}
 use Rattle.std.specs.List.{list_any}
+use Rattle.std.specs.List.Sorted.{IsStrictlyIncreasing}
 use Rattle.std.specs.Option.{option_map}
 use Rattle.std.proofs.lemmas.Bool.{cond_both, eqb-true, or_parts}
 use Rattle.std.proofs.lemmas.List.Elements.{All-cons, All-head, All-tail, All-map}
 use Rattle.vx_base.specs.declared.kind.Kind.TheVariants as kind
+use Rattle.vx_base.specs.Image.{new_image}
 use Rattle.vx_base.specs.Object.{ObjectValue, ImageObject, DelayObject, DistributionObject, ExtremesObject, GraphObject, VirtualObject, IsObject, object_kind}
-use Rattle.object_table.specs.declared.names.Entry.{Entry}
-use Rattle.object_table.specs.Names.{IsNames}
-use Rattle.object_table.specs.Named.{Named, named, object_held}
-use Rattle.object_table.proofs.NamedLemmas.{increasing-named}
+use Rattle.object_table.specs.Named.{Named, object_held}
+use Rattle.object_table.specs.Skeleton.{skeleton}
+use Rattle.object_table.specs.Uses.{nodes_in}
+use Rattle.object_table.proofs.HeldLemmas.{names_of, held_by_name, object_held_has, object_held-map}
 use Rattle.graph_verify.specs.declared.known.VirtualOutput.{VirtualOutput}
 use Rattle.graph_run.specs.Graph.{is_virtual, forgotten}
-use Rattle.graph_run.specs.Frame.{frame}
-use Rattle.graph_run.specs.Lasting.{lasting_entry, Lasts}
-use Rattle.graph_run.specs.Turns.{AreVirtual, exchanged, exchanged_in, handed_out, cleared, begun_with}
-use Rattle.graph_run.proofs.ExchangeLemmas.{Entries}
-use Rattle.graph_run.proofs.LastingLemmas.{Lasting}
-use Rattle.object_table.proofs.HeldLemmas.{All-from_map, held_by_name, object_held_has}
+use Rattle.graph_run.specs.Lasting.{lasting_named, Lasts}
+use Rattle.graph_run.specs.Turns.{AreVirtual, AreExchanged, exchanged, exchanged_in, handed_out, cleared}
+use Rattle.graph_run.proofs.ExchangeLemmas.{ArePlain, HoldsPlain}
+use Rattle.graph_run.proofs.LastingLemmas.{Lasting, nodes-last, held-lasts}
 
 -- ---- as a run begins
-
--- the exchanged objects, by name
-pub named-exchanged : (outputs : List VirtualOutput) (entries : Entries)
-    → map named (exchanged_in outputs (cleared outputs) entries) ≡ begun_with outputs (map named entries)
-named-exchanged outputs [] = refl
-named-exchanged outputs (e ∷ entries) =
-    let o : Named = record (named e) { object = exchanged outputs (cleared outputs) e.name e.object } in
-    ap (λ l. o ∷ l) (named-exchanged outputs entries)
 
 exchanged_is : (outputs : List VirtualOutput) (new : List ObjectValue) (name : ℕ) (object : ObjectValue) → All IsObject new
     → IsObject object → IsObject (exchanged outputs new name object)
@@ -39,11 +31,17 @@ exchanged_is (o ∷ outputs) (x ∷ new) name object are is =
     (cond_both (name == o.cell.name) x object IsObject (λ e. All-head IsObject x new are) (λ e. is))
 
 -- they are objects
-pub exchanged_are : (outputs : List VirtualOutput) (new : List ObjectValue) (entries : Entries) → All IsObject new
-    → All (λ e. IsObject e.object) entries → All (λ e. IsObject e.object) (exchanged_in outputs new entries)
-exchanged_are outputs new entries fresh are =
-    All-map (λ (e : Entry ObjectValue). IsObject e.object) (λ e. record e { object = exchanged outputs new e.name e.object }) entries
-    (λ k d below. exchanged_is outputs new (get_or entries k d).name (get_or entries k d).object fresh (are k d below))
+pub exchanged_are : (outputs : List VirtualOutput) (new : List ObjectValue) (objects : List Named) → All IsObject new
+    → All (λ o. IsObject o.object) objects → All (λ o. IsObject o.object) (exchanged_in outputs new objects)
+exchanged_are outputs new objects fresh are =
+    All-map (λ (o : Named). IsObject o.object) (λ o. record o { object = exchanged outputs new o.name o.object }) objects
+    (λ k d below. exchanged_is outputs new (get_or objects k d).name (get_or objects k d).object fresh (are k d below))
+
+-- names stay
+pub names-exchanged : (outputs : List VirtualOutput) (new : List ObjectValue) (objects : List Named)
+    → names_of (exchanged_in outputs new objects) ≡ names_of objects
+names-exchanged outputs new [] = refl
+names-exchanged outputs new (o ∷ objects) = ap (λ l. o.name ∷ l) (names-exchanged outputs new objects)
 
 pub handed_are : (outputs : List VirtualOutput) (new : List ObjectValue) (objects : List Named) → All IsObject new
     → All (λ o. IsObject o.object) objects → All IsObject (handed_out outputs new objects)
@@ -114,34 +112,34 @@ kind_virtual : (object : ObjectValue) → object_kind object ≡ kind.VirtualIma
 kind_virtual (VirtualObject image) is = refl
 kind_virtual other is = cc
 
--- a virtual image is its frame
-virtual_framed : (old new : ObjectValue) → is_virtual old ≡ true → frame new ≡ frame old → new ≡ old
-virtual_framed (VirtualObject image) new is same = framed new same
+-- a virtual image is its skeleton
+virtual_lasts : (old new : ObjectValue) → is_virtual old ≡ true → skeleton new ≡ skeleton old → new ≡ old
+virtual_lasts (VirtualObject image) new is same = whole new same
   where
-    framed : (x : ObjectValue) → frame x ≡ VirtualObject image → x ≡ VirtualObject image
-    framed (ImageObject a) e = absurd (cc)
-    framed (DelayObject images) e = absurd (cc)
-    framed (DistributionObject d) e = absurd (cc)
-    framed (ExtremesObject x) e = absurd (cc)
-    framed (GraphObject g) e = absurd (cc)
-    framed other e = e
-virtual_framed other new is same = absurd (cc)
+    whole : (x : ObjectValue) → skeleton x ≡ VirtualObject image → x ≡ VirtualObject image
+    whole (ImageObject a) e = absurd (cc)
+    whole (DelayObject images) e = absurd (cc)
+    whole (DistributionObject d) e = absurd (cc)
+    whole (ExtremesObject x) e = absurd (cc)
+    whole (GraphObject g) e = absurd (cc)
+    whole other e = e
+virtual_lasts other new is same = absurd (cc)
 
 -- virtual images that were images are virtual images again; others are as they were left
-record IsBack (old left back : Entry ObjectValue) : Type 0 where
-  named_is : named back ≡ (if is_virtual old.object then named old else named left)
-  lasts : lasting_entry back ≡ lasting_entry old
+record IsBack (old left back : Named) : Type 0 where
+  is : back ≡ (if is_virtual old.object then old else left)
+  lasts : lasting_named back ≡ lasting_named old
 
 module _ (objects : List Named) (outputs : List VirtualOutput)
     (virtual : All (λ o. option_map object_kind (object_held objects o.cell.name) ≡ Some kind.VirtualImage) outputs)
     (new : List ObjectValue) (count : length new ≡ length outputs) where
-  abbrev come : Entry ObjectValue → Entry ObjectValue
-  come e = record e { object = exchanged outputs new e.name e.object }
+  abbrev come : Named → Named
+  come o = record o { object = exchanged outputs new o.name o.object }
 
-  abbrev go : Entry ObjectValue → Entry ObjectValue
-  go e = record e { object = exchanged outputs (handed_out outputs new objects) e.name e.object }
+  abbrev go : Named → Named
+  go o = record o { object = exchanged outputs (handed_out outputs new objects) o.name o.object }
 
-  is_back : (old left : Entry ObjectValue) → object_held objects old.name ≡ Some old.object → lasting_entry left ≡ lasting_entry (come old)
+  is_back : (old left : Named) → object_held objects old.name ≡ Some old.object → lasting_named left ≡ lasting_named (come old)
       → IsBack old left (go left)
   is_back old left held lasts = either (is_output outputs old.name) refl
     where
@@ -155,76 +153,143 @@ module _ (objects : List Named) (outputs : List VirtualOutput)
           ∙ exchanged_back objects outputs new old.name left.object old.object count held
 
       -- with an object in it
-      having : ObjectValue → Entry ObjectValue
+      having : ObjectValue → Named
       having object = record left { object = object }
 
       either : (b : Bool) → is_output outputs old.name ≡ b → IsBack old left (go left)
       either true there =
-          let is : is_virtual old.object ≡ true =
+          let virtual_now : is_virtual old.object ≡ true =
           kind_virtual old.object
           (let k = ap (option_map object_kind) (sym held) ∙ output_virtual objects outputs old.name virtual there in cc) in
           let object : go left ≡ having old.object = ap having (back ∙ ap (λ b. if b then old.object else left.object) there) in
           record {
-            named_is = ap named object
+            is = object
                 ∙ ap (λ (p : Lasting). let o : Named = record { name = p.0.name; live = p.0.live; object = old.object } in o) lasts
-                ∙ sym (ap (λ b. if b then named old else named left) is);
-            lasts = ap lasting_entry object
-                ∙ ap (λ (p : Lasting). let e : Lasting = (record p.0 { object = frame old.object }, (lasting_entry old).1) in e) lasts;
+                ∙ sym (ap (λ b. if b then old else left) virtual_now);
+            lasts = ap lasting_named object
+                ∙ ap (λ (p : Lasting). let l : Lasting = (record p.0 { object = skeleton old.object }, (lasting_named old).1) in l) lasts;
           }
       either false there =
           let stayed : come old ≡ old =
-          ap (λ (x : ObjectValue). let e : Entry ObjectValue = record old { object = x } in e)
+          ap (λ (x : ObjectValue). let o : Named = record old { object = x } in o)
           (exchanged_beside outputs new old.name old.object there) in
           let object : go left ≡ left = ap having (back ∙ ap (λ b. if b then old.object else left.object) there) in
-          let same : lasting_entry left ≡ lasting_entry old = lasts ∙ ap lasting_entry stayed in
+          let same : lasting_named left ≡ lasting_named old = lasts ∙ ap lasting_named stayed in
           record {
-            named_is = ap named object ∙ of_kind (is_virtual old.object) refl same;
-            lasts = ap lasting_entry object ∙ same;
+            is = object ∙ of_kind (is_virtual old.object) refl same;
+            lasts = ap lasting_named object ∙ same;
           }
         where
-          of_kind : (b : Bool) → is_virtual old.object ≡ b → lasting_entry left ≡ lasting_entry old
-              → named left ≡ (if b then named old else named left)
+          of_kind : (b : Bool) → is_virtual old.object ≡ b → lasting_named left ≡ lasting_named old
+              → left ≡ (if b then old else left)
           of_kind true is same =
               ap (λ (x : ObjectValue). let o : Named = record { name = left.name; live = left.live; object = x } in o)
-              (virtual_framed old.object left.object is (ap (λ (p : Lasting). p.0.object) same))
+              (virtual_lasts old.object left.object is (ap (λ (p : Lasting). p.0.object) same))
               ∙ ap (λ (p : Lasting). let o : Named = record { name = p.0.name; live = p.0.live; object = old.object } in o) same
           of_kind false is same = refl
 
-  all_back : (old left : Entries) → All (λ e. object_held objects e.name ≡ Some e.object) old
-      → map lasting_entry left ≡ map lasting_entry (map come old)
-      → (map named (map go left) ≡ forgotten (map named old) (map named left)) × (map lasting_entry (map go left) ≡ map lasting_entry old)
+  all_back : (old left : List Named) → All (λ o. object_held objects o.name ≡ Some o.object) old
+      → map lasting_named left ≡ map lasting_named (map come old)
+      → (map go left ≡ forgotten old left) × (map lasting_named (map go left) ≡ map lasting_named old)
   all_back [] [] held lasts = (refl, refl)
-  all_back [] (e ∷ left) held lasts = absurd (cc)
-  all_back (e ∷ old) [] held lasts = absurd (cc)
-  all_back (e ∷ old) (f ∷ left) held lasts =
-      let Held : Entry ObjectValue → Type 0 = λ e. object_held objects e.name ≡ Some e.object in
-      let first = is_back e f (All-head Held e old held) (ap (λ l. get_or l 0 (lasting_entry f)) lasts) in
-      let rest = all_back old left (All-tail Held e old held) (ap (drop 1) lasts) in (
-        ap (λ o. o ∷ map named (map go left)) first.named_is ∙ ap (λ l. (if is_virtual e.object then named e else named f) ∷ l) rest.0,
-        ap (λ k. k ∷ map lasting_entry (map go left)) first.lasts ∙ ap (λ l. lasting_entry e ∷ l) rest.1,
+  all_back [] (o ∷ left) held lasts = absurd (cc)
+  all_back (o ∷ old) [] held lasts = absurd (cc)
+  all_back (o ∷ old) (p ∷ left) held lasts =
+      let Held : Named → Type 0 = λ o. object_held objects o.name ≡ Some o.object in
+      let first = is_back o p (All-head Held o old held) (ap (λ l. get_or l 0 (lasting_named p)) lasts) in
+      let rest = all_back old left (All-tail Held o old held) (ap (drop 1) lasts) in (
+        ap (λ q. q ∷ map go left) first.is ∙ ap (λ l. (if is_virtual o.object then o else p) ∷ l) rest.0,
+        ap (λ k. k ∷ map lasting_named (map go left)) first.lasts ∙ ap (λ l. lasting_named o ∷ l) rest.1,
       )
 
 -- a run ends with virtual images that are themselves again
-pub run_ends : (next : ℕ) (entries begun left ended : Entries) (outputs : List VirtualOutput) (new back : List ObjectValue)
-    → IsNames next entries → All (λ e. IsObject e.object) entries → AreVirtual (map named entries) outputs
-    → length new ≡ length outputs → All IsObject new → begun ≡ exchanged_in outputs new entries → Lasts begun left
-    → back ≡ handed_out outputs new (map named entries) → ended ≡ exchanged_in outputs back left
-    → (map named ended ≡ forgotten (map named entries) (map named left)) × Lasts entries ended
-run_ends next entries begun left ended outputs new back names are virtual count fresh begins lasts out ends =
-    let objects : List Named = map named entries in
-    let held : All (λ e. object_held objects e.name ≡ Some e.object) entries =
-    All-from_map (λ o. object_held objects o.name ≡ Some o.object) named entries
-    (held_by_name objects (increasing-named next entries names)) in
-    let same : map lasting_entry left ≡ map lasting_entry (exchanged_in outputs new entries) =
-    lasts.lasting ∙ ap (λ (l : Entries). map lasting_entry l) begins in
-    let end = all_back objects outputs virtual.held new count entries left held same in
+pub run_ends : (objects begun left ended : List Named) (outputs : List VirtualOutput) (new back : List ObjectValue)
+    → IsStrictlyIncreasing (names_of objects) → All (λ o. IsObject o.object) objects → AreVirtual objects outputs
+    → length new ≡ length outputs → All IsObject new → begun ≡ exchanged_in outputs new objects → Lasts begun left
+    → back ≡ handed_out outputs new objects → ended ≡ exchanged_in outputs back left
+    → (ended ≡ forgotten objects left) × Lasts objects ended
+run_ends objects begun left ended outputs new back names are virtual count fresh begins lasts out ends =
+    let same : map lasting_named left ≡ map lasting_named (exchanged_in outputs new objects) =
+    lasts.lasting ∙ ap (λ (l : List Named). map lasting_named l) begins in
+    let end = all_back objects outputs virtual.held new count objects left (held_by_name objects names) same in
     let is : ended ≡ exchanged_in outputs (handed_out outputs new objects) left = ends ∙ ap (λ l. exchanged_in outputs l left) out in
-    let handed = handed_are outputs new objects fresh (All-map (λ (o : Named). IsObject o.object) named entries are) in (
-      ap (λ (l : Entries). map named l) is ∙ end.0,
+    let handed = handed_are outputs new objects fresh are in (
+      is ∙ end.0,
       record {
         objects =
-            subst (λ (l : Entries). All (λ e. IsObject e.object) l) (sym is)
+            subst (λ (l : List Named). All (λ o. IsObject o.object) l) (sym is)
             (exchanged_are outputs (handed_out outputs new objects) left handed lasts.objects);
-        lasting = ap (λ (l : Entries). map lasting_entry l) is ∙ end.1;
+        lasting = ap (λ (l : List Named). map lasting_named l) is ∙ end.1;
       },
     )
+
+-- ---- objects without nodes, as they come and go
+
+-- cleared images have none
+pub plain_cleared : (outputs : List VirtualOutput) → ArePlain (cleared outputs)
+plain_cleared outputs =
+    All-map (λ (x : ObjectValue). nodes_in x ≡ []) (λ (o : VirtualOutput). ImageObject (new_image o.desc.width o.desc.height o.desc.format))
+    outputs (λ k d below. refl)
+
+-- nor have virtual images
+virtual_plain : (found : Option ObjectValue) → option_map object_kind found ≡ Some kind.VirtualImage → option_map nodes_in found ≡ Some []
+virtual_plain None is = absurd (cc)
+virtual_plain (Some (GraphObject graph)) is = absurd (cc)
+virtual_plain (Some other) is = refl
+
+pub virtual_exchanged : (objects : List Named) (outputs : List VirtualOutput) → AreVirtual objects outputs → AreExchanged objects outputs
+virtual_exchanged objects outputs h =
+    record { apart = h.apart; plain = λ k d below. virtual_plain (object_held objects (get_or outputs k d).cell.name) (h.held k d below) }
+
+-- what is handed out has none
+pub plain_handed : (objects : List Named) (outputs : List VirtualOutput) (new : List ObjectValue) → ArePlain new
+    → All (λ o. HoldsPlain objects o.cell.name) outputs → ArePlain (handed_out outputs new objects)
+plain_handed objects [] new come gone = come
+plain_handed objects (o ∷ outputs) [] come gone = come
+plain_handed objects (o ∷ outputs) (x ∷ new) come gone =
+    let Plain : ObjectValue → Type 0 = λ y. nodes_in y ≡ [] in
+    let Holds : VirtualOutput → Type 0 = λ p. HoldsPlain objects p.cell.name in
+    All-cons Plain (unwrap_or (object_held objects o.cell.name) x) (handed_out outputs new objects)
+    (of_found (object_held objects o.cell.name) (All-head Holds o outputs gone))
+    (plain_handed objects outputs new (All-tail Plain x new come) (All-tail Holds o outputs gone))
+  where
+    of_found : (found : Option ObjectValue) → option_map nodes_in found ≡ Some [] → nodes_in (unwrap_or found x) ≡ []
+    of_found None is = cc
+    of_found (Some y) is = cc
+
+-- nor has what is then held
+exchanged_plain : (outputs : List VirtualOutput) (new : List ObjectValue) (name : ℕ) (object : ObjectValue) → ArePlain new
+    → nodes_in object ≡ [] → nodes_in (exchanged outputs new name object) ≡ []
+exchanged_plain [] new name object come plain = plain
+exchanged_plain (o ∷ outputs) [] name object come plain = plain
+exchanged_plain (o ∷ outputs) (x ∷ new) name object come plain =
+    let Plain : ObjectValue → Type 0 = λ y. nodes_in y ≡ [] in
+    exchanged_plain outputs new name (cond (name == o.cell.name) x object) (All-tail Plain x new come)
+    (cond_both (name == o.cell.name) x object Plain (λ e. All-head Plain x new come) (λ e. plain))
+
+plain_exchanged : (objects : List Named) (outputs : List VirtualOutput) (new : List ObjectValue) (name : ℕ) → ArePlain new
+    → HoldsPlain objects name → HoldsPlain (exchanged_in outputs new objects) name
+plain_exchanged objects outputs new name come plain =
+    ap (option_map nodes_in)
+    (object_held-map (λ (o : Named). record o { object = exchanged outputs new o.name o.object }) (exchanged outputs new name) objects name
+    (λ o. refl) (λ o same. ap (λ n. exchanged outputs new n o.object) same))
+    ∙ of_found (object_held objects name) plain
+  where
+    of_found : (found : Option ObjectValue) → option_map nodes_in found ≡ Some []
+        → option_map nodes_in (option_map (exchanged outputs new name) found) ≡ Some []
+    of_found None is = absurd (cc)
+    of_found (Some x) is = ap Some (exchanged_plain outputs new name x come (let plain : nodes_in x ≡ [] = cc in plain))
+
+-- so objects can be exchanged again as a run ends
+pub exchanged_again : (objects begun left : List Named) (outputs : List VirtualOutput) (new : List ObjectValue) → AreVirtual objects outputs
+    → ArePlain new → begun ≡ exchanged_in outputs new objects → Lasts begun left → AreExchanged left outputs
+exchanged_again objects begun left outputs new virtual come begins lasts =
+    let once = virtual_exchanged objects outputs virtual in
+    record {
+      apart = virtual.apart;
+      plain = λ k d below.
+          let name = (get_or outputs k d).cell.name in
+          nodes-last (object_held left name) (object_held begun name) (held-lasts begun left name lasts.lasting)
+          ∙ ap (λ l. option_map nodes_in (object_held l name)) begins
+          ∙ plain_exchanged objects outputs new name come (once.plain k d below);
+    }

@@ -5,8 +5,9 @@ use Rattle.std.specs.List.{AllPairs, list_any, filter, flat_map}
 use Rattle.std.specs.List.Sorted.{IsStrictlyIncreasing}
 use Rattle.std.specs.Option.{option_map, option_and_then}
 use Rattle.std.proofs.lemmas.Bool.{false_from_ne_true, cases_Bool, cond_both, eqb-true, eq-eqb, or_parts, or_left, or_right, or_from}
-use Rattle.std.proofs.lemmas.List.{length-map}
+use Rattle.std.proofs.lemmas.List.{length-map, get_or-map}
 use Rattle.std.proofs.lemmas.List.Elements.{All-head, All-tail}
+use Rattle.std.proofs.lemmas.List.Kept.{AllPairs-from_increasing}
 use Rattle.std.proofs.Math.ListN.{get_or-map as get_or-map_default}
 use Rattle.vx_base.specs.declared.kind.Kind.{Kind}
 use Rattle.vx_base.specs.declared.kind.Kind.TheVariants as kind
@@ -20,11 +21,7 @@ use Rattle.vx_base.specs.Node.{IsNode, given, inputs, outputs, operands, second_
 use Rattle.vx_base.specs.Object.{ObjectValue, ImageObject, VirtualObject, object_kind}
 use Rattle.vx_base.specs.Outputs.{written_by}
 use Rattle.object_table.specs.Delay.{in_slot}
-use Rattle.object_table.specs.declared.names.Entry.{Entry}
-use Rattle.object_table.specs.Names.{IsNames}
-use Rattle.object_table.specs.Named.{Named, named, object_held, held, with_written}
-use Rattle.object_table.proofs.NamedLemmas.{increasing-named}
-use Rattle.graph_run.proofs.ByNameLemmas.{order_there}
+use Rattle.object_table.specs.Named.{Named, object_held, held, with_written}
 use Rattle.graph_verify.specs.declared.known.VirtualOutput.{VirtualOutput}
 use Rattle.graph_verify.specs.declared.operand.Operand.{Operand}
 use Rattle.graph_verify.specs.declared.operand.Operand.TheVariants.{Image, Delay, Virtual}
@@ -368,22 +365,29 @@ module _ (objects : List Named) (nodes : List Node) (v : Verified) (work : ℕ) 
 
 -- ---- a graph that is ready to run on what a table holds
 
-module _ (next : ℕ) (entries : List (Entry ObjectValue)) (names : IsNames next entries) (nodes : List Node) (v : Verified)
-    (h : IsReady (map named entries) nodes v) where
-  abbrev held_objects : List Named
-  held_objects = map named entries
+-- names that increase, each below all later ones
+pairs_of : (objects : List Named) → IsStrictlyIncreasing (names_of objects) → AllPairs (λ a b. a.name < b.name) objects
+pairs_of objects h i j d less within =
+    let pair =
+    AllPairs-from_increasing (names_of objects) h i j 0 less (omega (arith, within, length-map objects (λ (o : Named). o.name))) in
+    omega (
+      arith,
+      pair,
+      get_or-map (λ (o : Named). o.name) objects i d 0 (omega (arith, less, within)),
+      get_or-map (λ (o : Named). o.name) objects j d 0 within,
+    )
 
-  pub ready_outputs : AreVirtual held_objects v.virtual_outputs.items
-  ready_outputs = are_virtual held_objects nodes v h.runs.0 h.verified h.runs.1
+module _ (objects : List Named) (names : IsStrictlyIncreasing (names_of objects)) (nodes : List Node) (v : Verified)
+    (h : IsReady objects nodes v) where
+  pub ready_outputs : AreVirtual objects v.virtual_outputs.items
+  ready_outputs = are_virtual objects nodes v h.runs.0 h.verified h.runs.1
 
-  pub ready_steps : CanRunInTurn v.steps.items (begun_with v.virtual_outputs.items held_objects)
+  pub ready_steps : CanRunInTurn v.steps.items (begun_with v.virtual_outputs.items objects)
   ready_steps =
-      steps_run held_objects nodes v h.runs.0 h.verified h.runs.1 h.cells (In-from_All IsNode nodes h.are_nodes)
-      (In-from_All (λ n. All (λ operand. StandsFor (operand_held held_objects operand.0) operand.1) (operands n)) nodes h.kinds)
-      (increasing-named next entries names)
+      steps_run objects nodes v h.runs.0 h.verified h.runs.1 h.cells (In-from_All IsNode nodes h.are_nodes)
+      (In-from_All (λ n. All (λ operand. StandsFor (operand_held objects operand.0) operand.1) (operands n)) nodes h.kinds)
+      names
 
-  pub ready_run : forgotten held_objects (one_by_one v.steps.items (begun_with v.virtual_outputs.items held_objects))
-      ≡ run (resolved (operand_held held_objects) nodes) nodes held_objects
-  ready_run =
-      run_is held_objects nodes v h.runs.0 h.verified h.runs.1 h.cells (order_there entries names.named.names)
-      (increasing-named next entries names)
+  pub ready_run : forgotten objects (one_by_one v.steps.items (begun_with v.virtual_outputs.items objects))
+      ≡ run (resolved (operand_held objects) nodes) nodes objects
+  ready_run = run_is objects nodes v h.runs.0 h.verified h.runs.1 h.cells (pairs_of objects names) names

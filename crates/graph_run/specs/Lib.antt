@@ -2,9 +2,7 @@ pub mod Run
 pub mod Graph
 pub mod Operands
 pub mod Solution
-pub mod Frame
 pub mod Lasting
-pub mod Places
 pub mod Steps
 pub mod Turns
 pub mod Examples

@@ -6,9 +6,10 @@ use Rattle.vx_base.specs.declared.kind.Kind.TheVariants as kind
 use Rattle.vx_base.specs.declared.node.Node.{Node}
 use Rattle.vx_base.specs.Cell.{Cell}
 use Rattle.vx_base.specs.Image.{new_image}
-use Rattle.vx_base.specs.Object.{ObjectValue, ImageObject, DelayObject, DistributionObject, ExtremesObject, object_kind, new_distribution, no_extremes}
+use Rattle.vx_base.specs.Object.{ObjectValue, ImageObject, DelayObject, GraphObject, object_kind}
 use Rattle.vx_base.specs.Outputs.{written_by}
 use Rattle.object_table.specs.Named.{Named, held}
+use Rattle.object_table.specs.Skeleton.{skeleton}
 use Rattle.graph_verify.specs.Links.{is_written}
 
 -- the kind of what a cell holds
@@ -23,13 +24,13 @@ WritesNo k nodes objects = (cell : Cell) → is_written nodes cell ≡ true → 
 abbrev pub ReadImages : List Node → List Named → Type 0
 ReadImages nodes objects = All (λ n. kind_held objects n.in1 ≡ Some kind.Image) nodes
 
--- what no node changes of an object: its kind, an image's format, a distribution's bins; a delay's images are in its slots
+-- what no node changes of an object, whatever stands in its cells: of an image the format, all of a graph, and of others the skeleton; a
+-- delay's images are in its slots
 abbrev pub form_of : ObjectValue → ObjectValue
 form_of (ImageObject image) = ImageObject (new_image 0 0 image.format)
-form_of (DistributionObject distribution) = DistributionObject (new_distribution distribution.bins)
-form_of (ExtremesObject extremes) = ExtremesObject no_extremes
 form_of (DelayObject images) = DelayObject []
-form_of other = other
+form_of (GraphObject graph) = GraphObject graph
+form_of other = skeleton other
 
 -- the form of what a cell holds
 abbrev pub form_held : List Named → Cell → Option ObjectValue

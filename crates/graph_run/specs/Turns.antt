@@ -10,8 +10,8 @@ use Rattle.vx_base.specs.Image.{new_image}
 use Rattle.vx_base.specs.Node.{IsNode, operands}
 use Rattle.vx_base.specs.Object.{ObjectValue, ImageObject, object_kind}
 use Rattle.vx_base.specs.Outputs.{written_by}
-use Rattle.object_table.specs.declared.names.Entry.{Entry}
 use Rattle.object_table.specs.Named.{Named, object_held, held, with_written}
+use Rattle.object_table.specs.Uses.{nodes_in}
 use Rattle.graph_verify.specs.declared.known.VirtualOutput.{VirtualOutput}
 use Rattle.graph_verify.specs.Operand.{operands_of}
 use Rattle.graph_verify.specs.Verdict.{verdict_on}
@@ -41,15 +41,19 @@ pub record AreVirtual (objects : List Named) (outputs : List VirtualOutput) : Ty
   pub apart : AllPairs (λ a b. a.cell.name ≢ b.cell.name) outputs
   pub held : All (λ o. option_map object_kind (object_held objects o.cell.name) ≡ Some kind.VirtualImage) outputs
 
+-- distinct names, under which objects without nodes are held
+pub record AreExchanged (objects : List Named) (outputs : List VirtualOutput) : Type 0 where
+  pub apart : AllPairs (λ a b. a.cell.name ≢ b.cell.name) outputs
+  pub plain : All (λ o. option_map nodes_in (object_held objects o.cell.name) ≡ Some []) outputs
+
 -- the object under a name, once objects have come in the places of those under the names of outputs
 abbrev pub exchanged : List VirtualOutput → List ObjectValue → ℕ → ObjectValue → ObjectValue
 exchanged (o ∷ outputs) (new ∷ others) name object = exchanged outputs others name (if name == o.cell.name then new else object)
 exchanged outputs new name object = object
 
--- what is held in a table then
-abbrev pub exchanged_in : List VirtualOutput → List ObjectValue → List (Entry ObjectValue) → List (Entry ObjectValue)
-exchanged_in outputs new entries =
-    map {A = Entry ObjectValue} {B = Entry ObjectValue} (λ e. record e { object = exchanged outputs new e.name e.object }) entries
+-- what is held then
+abbrev pub exchanged_in : List VirtualOutput → List ObjectValue → List Named → List Named
+exchanged_in outputs new objects = map {A = Named} {B = Named} (λ o. record o { object = exchanged outputs new o.name o.object }) objects
 
 -- the objects that were there before; where a name is nobody's, the one that came
 abbrev pub handed_out : List VirtualOutput → List ObjectValue → List Named → List ObjectValue
@@ -62,5 +66,4 @@ cleared outputs = map (λ o. ImageObject (new_image o.desc.width o.desc.height o
 
 -- the objects, where virtual images are cleared images
 abbrev pub begun_with : List VirtualOutput → List Named → List Named
-begun_with outputs objects =
-    map {A = Named} {B = Named} (λ o. record o { object = exchanged outputs (cleared outputs) o.name o.object }) objects
+begun_with outputs objects = exchanged_in outputs (cleared outputs) objects

@@ -6,8 +6,8 @@
 //! runs it there. What a run of a graph means is defined in rounds of all its nodes at once.
 //!
 //! - `kernel`: the kernel of each function
-//! - `operand`, `places`: objects as operands, and where those of a node stand
-//! - `step`: a node that runs on the objects at the places of its operands
+//! - `operand`: objects as operands
+//! - `step`: a node that runs on what its cells hold
 //! - `verify`: the verdict on a graph, and the order in which its nodes run
 //! - `runs`: a graph that runs
 //! - `laws`: what the definitions of runs mean
@@ -18,14 +18,12 @@ pub mod examples;
 mod kernel;
 pub mod laws;
 mod operand;
-mod places;
 mod runs;
 mod step;
 mod verify;
 
 pub use kernel::run_node;
-pub use operand::operand_of;
-pub use places::Places;
+pub use operand::{operand_in, operand_of};
 pub use runs::run;
 pub use step::run_once;
 pub use verify::verify_in;

@@ -1,70 +1,71 @@
-//! Nodes that run on the objects of a table, at the places of their operands.
-ghost use Rattle.std.specs.Prelude.{◌≡◌, ◌≢◌, ◌<◌, [], length, map, pos, All, None, Some, IfSome};
+//! Nodes that run on what their cells hold in a table.
+ghost use Rattle.std.specs.Prelude.{◌≡◌, ◌≢◌, [], length, map, pos, is_some, IsTrue, All, Some, IfSome};
+ghost use Rattle.std.specs.List.Sorted.{IsStrictlyIncreasing};
+ghost use Rattle.std.specs.Option.{option_map};
 ghost use Rattle.vx_base.specs.declared.format.Format.TheVariants.{U8, S16, U32};
-ghost use Rattle.vx_base.specs.Rectangle.{empty};
-ghost use Rattle.vx_base.specs.Image.{IsImage, image_over};
 ghost use Rattle.vx_base.specs.declared.kind.Kind.TheVariants as kind;
-ghost use Rattle.vx_base.specs.Object.{ExtremesObject, IsObject, object_kind};
 ghost use Rattle.vx_base.specs.Description.{sample_count};
-ghost use Rattle.vx_base.specs.Outputs.{node_image, written_by};
 ghost use Rattle.vx_base.specs.Function.{parameters};
+ghost use Rattle.vx_base.specs.Image.{IsImage, image_over};
+ghost use Rattle.vx_base.specs.Object.{ExtremesObject, IsObject, object_kind};
+ghost use Rattle.vx_base.specs.Outputs.{node_image, written_by};
+ghost use Rattle.vx_base.specs.Rectangle.{empty};
 ghost use Rattle.vx_base.specs.Statistics.{extremes};
 ghost use Rattle.image_core.specs.Second.{second_object};
-ghost use Rattle.std.specs.Option.{option_map};
-ghost use Rattle.object_table.specs.Names.{IsNames};
-ghost use Rattle.object_table.specs.Named.{named, held, with_written};
-ghost use Rattle.object_table.specs.Table.{entry_at, object_at, image_at, replaced, with_objects, IsPlace, HasImageAt};
+ghost use Rattle.object_table.specs.Context.{with_objects, cell_of};
+ghost use Rattle.object_table.specs.Delay.{in_slot, object_in};
+ghost use Rattle.object_table.specs.Object.{distribution_value};
+ghost use Rattle.object_table.specs.Named.{held, with_object, with_written};
+ghost use Rattle.object_table.specs.Table.{object_under, IsUnder, cell_object, image_held, HoldsImage};
 ghost use Rattle.graph_run.specs.Lasting.{Lasts};
-ghost use Rattle.graph_run.specs.Steps.{CanRunTo, Runs, RunsTo, IsRead, counted_in, output_at, written_at};
+ghost use Rattle.graph_run.specs.Steps.{Holds, CanRunTo, RunsTo, IsRead, counted_in, with_output};
+ghost use Rattle.graph_run.specs.Turns.{CanRunNow};
 
 use crate::kernel::run_node;
-use crate::places::Places;
 use image_core::{Image, ImageMut, Second};
-use object_table::{Content, Object, Place, Table};
+use object_table::{Content, Object, Table};
 use stat_kernels::{histogram, min_max};
-use vx_base::{Desc, GREATEST_BINS, Kind, Node, Output, Rect, Samples};
+use vx_base::{Bins, Desc, GREATEST_BINS, Kind, Node, ObjRef, Output, Rect, Samples};
 
-/// Runs a node that nothing refuses on the objects at these places. It takes no memory.
-pub fn run_once(table: &mut Table, node: &Node, places: Places)
-    requires objects { All (λ e. IsObject e.object) table.old.objects }
-    requires runs { Runs (map named table.old.objects) node.now places }
-    ensures value { map named table.new.objects ≡ with_written (map named table.old.objects)
-        (written_by node.now (held (map named table.old.objects))) }
-    ensures next { table.new.next ≡ table.old.next }
+/// Runs a node that nothing refuses on what its cells hold in a table. It takes no memory.
+pub fn run_once(table: &mut Table, node: &Node)
+    requires objects { All (λ o. IsObject o.object) table.old.objects }
+    requires names { IsStrictlyIncreasing (map (λ o. o.name) table.old.objects) }
+    requires runs { CanRunNow table.old.objects node.now }
+    ensures value { table.new ≡ with_objects table.old (with_written table.old.objects
+        (written_by node.now (held table.old.objects))) }
     ensures lasts { Lasts table.old.objects table.new.objects }
 {
-    run_at(table, node, Output::First, places, places.out1);
-    run_at(table, node, Output::Second, places, places.out2);
+    run_to(table, node, Output::First, node.out1);
+    run_to(table, node, Output::Second, node.out2);
 }
 
-/// Runs a node on the objects at these places, to one of its outputs, if it has that. The inputs
-/// are none of the outputs, and are read where they stand. It takes no memory.
-fn run_at(table: &mut Table, node: &Node, which: Output, places: Places, output: Option<Place>)
-    requires { IfSome output (RunsTo table.old.objects node.now places) }
-    ensures value { table.new ≡ with_objects table.old (written_at table.old.objects node.now which places output) }
-    ensures names { IfSome output (λ _. IsNames table.old.next table.old.objects) }
+/// Runs a node to one of its outputs, if it has that. The inputs are none of the outputs, and are
+/// read where they stand. It takes no memory.
+fn run_to(table: &mut Table, node: &Node, which: Output, output: Option<ObjRef>)
+    requires { IfSome output (RunsTo table.old.objects node.now) }
+    ensures { table.new ≡ with_objects table.old (with_output table.old.objects node.now which output) }
 {
     if let Some(output) = output {
         match node.function.parameters().output {
-            Kind::Image => write_at(table, node, which, places, output),
-            Kind::Distribution => count_at(table, places.in1, output.index),
-            Kind::Extremes => locate_at(table, places.in1, output.index),
+            Kind::Image => write_to(table, node, which, output),
+            Kind::Distribution => count_to(table, node.in1, output.name()),
+            Kind::Extremes => locate_to(table, node.in1, output.name()),
             _ => unreachable!(),
         }
     }
 }
 
 /// Writes what a node gives to an output that is an image.
-fn write_at(table: &mut Table, node: &Node, which: Output, places: Places, output: Place)
-    requires runs { RunsTo table.old.objects node.now places output }
+fn write_to(table: &mut Table, node: &Node, which: Output, output: ObjRef)
+    requires runs { RunsTo table.old.objects node.now output }
     requires kind { (parameters node.now.function).output ≡ kind.Image }
-    ensures value { table.new ≡ with_objects table.old (replaced table.old.objects output (output_at table.old.objects node.now which places output)) }
-    ensures names { IsNames table.old.next table.old.objects }
+    ensures { table.new ≡ with_objects table.old (with_output table.old.objects node.now which (Some output)) }
 {
-    let desc = table.image_at(output).desc();
+    let desc = table.image(output).desc();
     let samples = table.take(output);
-    let first = table.image_at(places.in1).image();
-    let second = second_at(table, places.in2);
+    let first = table.image(node.in1).image();
+    let second = second_held(table, node.in2);
     let (samples, valid) = match samples {
         Samples::U8(mut samples) => {
             let valid = run_u8(desc, &mut samples, node, which, &first, &second);
@@ -82,51 +83,73 @@ fn write_at(table: &mut Table, node: &Node, which: Output, places: Places, outpu
     table.put(output, samples, valid);
 }
 
-/// Counts the valid samples of a U8 image in the bins of the distribution at an index.
-fn count_at(table: &mut Table, input: Place, output: usize)
-    requires input { HasImageAt table.old.objects input }
-    requires image { IsImage (image_at table.old.objects input) }
-    requires format { (image_at table.old.objects input).format ≡ U8 }
-    requires output { output < length table.old.objects }
-    requires kind { object_kind (entry_at table.old.objects output).object ≡ kind.Distribution }
-    ensures value { table.new ≡ with_objects table.old (replaced table.old.objects (record { index = output; slot = None }) (counted_in (image_at table.old.objects input) (entry_at table.old.objects output).object)) }
-    ensures names { IsNames table.old.next table.old.objects }
+/// Counts the valid samples of a U8 image in the bins of the distribution under a name.
+fn count_to(table: &mut Table, input: ObjRef, output: u32)
+    requires input { HoldsImage table.old.objects input }
+    requires image { IsImage (image_held table.old.objects input) }
+    requires format { (image_held table.old.objects input).format ≡ U8 }
+    requires kind { IsUnder table.old.objects kind.Distribution output }
+    ensures { table.new ≡ with_objects table.old (with_object table.old.objects (cell_of output) (counted_in (image_held table.old.objects input) (object_under table.old.objects output))) }
 {
-    let bins = match table.object(output).content() {
-        Content::Distribution(distribution) => distribution.bins(),
-        _ => unreachable!(),
+    let bins = match table.get_held(output) {
+        Some(object) => bins_of(object),
+        None => unreachable!(),
     };
     let mut room = [0; GREATEST_BINS];
     let counts = &mut room[..usize::from(bins.bins())];
-    histogram(&table.image_at(input).image(), bins, counts);
+    histogram(&table.image(input).image(), bins, counts);
     table.set_counts(output, counts);
 }
 
-/// Finds the extremes of an image, for the object at an index.
-fn locate_at(table: &mut Table, input: Place, output: usize)
-    requires input { HasImageAt table.old.objects input }
-    requires image { IsImage (image_at table.old.objects input) }
-    requires format { (image_at table.old.objects input).format ≢ U32 }
-    requires output { output < length table.old.objects }
-    requires kind { object_kind (entry_at table.old.objects output).object ≡ kind.Extremes }
-    ensures value { table.new ≡ with_objects table.old (replaced table.old.objects (record { index = output; slot = None }) (ExtremesObject (extremes (image_at table.old.objects input)))) }
-    ensures names { IsNames table.old.next table.old.objects }
+/// The bins of the distribution that an object is.
+fn bins_of(object: &Object) -> Bins
+    requires { object_kind object.now ≡ kind.Distribution }
+    ensures { result ≡ (distribution_value object.now).bins }
 {
-    let extremes = min_max(&table.image_at(input).image());
+    match object.content() {
+        Content::Distribution(distribution) => distribution.bins(),
+        _ => unreachable!(),
+    }
+}
+
+/// Finds the extremes of an image, for the object under a name.
+fn locate_to(table: &mut Table, input: ObjRef, output: u32)
+    requires input { HoldsImage table.old.objects input }
+    requires image { IsImage (image_held table.old.objects input) }
+    requires format { (image_held table.old.objects input).format ≢ U32 }
+    requires kind { IsUnder table.old.objects kind.Extremes output }
+    ensures { table.new ≡ with_objects table.old (with_object table.old.objects (cell_of output) (ExtremesObject (extremes (image_held table.old.objects input)))) }
+{
+    let extremes = min_max(&table.image(input).image());
     table.set_extremes(output, extremes);
 }
 
 /// What a node reads beside its first input, lent to its kernel.
-fn second_at(table: &Table, place: Option<Place>) -> Second<'_>
-    requires place { IfSome place (IsPlace table.now.objects) }
-    requires object { IfSome (option_map (object_at table.now.objects) place) IsObject }
-    requires kind { IfSome (option_map (object_at table.now.objects) place) (λ object. IsRead (object_kind object)) }
-    ensures { second_object result ≡ option_map (object_at table.now.objects) place }
+fn second_held(table: &Table, cell: Option<ObjRef>) -> Second<'_>
+    requires there { IfSome cell (Holds table.now.objects) }
+    requires object { IfSome (option_map (cell_object table.now.objects) cell) IsObject }
+    requires kind { IfSome (option_map (cell_object table.now.objects) cell) (λ object. IsRead (object_kind object)) }
+    ensures { second_object result ≡ option_map (cell_object table.now.objects) cell }
 {
-    match place {
-        None => Second::Nothing,
-        Some(Place { index, slot: None }) => second_of(table.object(index)),
-        Some(place) => Second::Image(table.image_at(place).image()),
+    let Some(cell) = cell else {
+        return Second::Nothing;
+    };
+    match table.get_held(cell.name()) {
+        Some(object) => second_in(object, cell.slot()),
+        None => unreachable!(),
+    }
+}
+
+/// What stands in a slot, or the object itself, lent to a kernel.
+fn second_in(object: &Object, slot: Option<u8>) -> Second<'_>
+    requires there { IsTrue (is_some (in_slot slot object.now)) }
+    requires object { IsObject (object_in slot object.now) }
+    requires kind { IsRead (object_kind (object_in slot object.now)) }
+    ensures { second_object result ≡ Some (object_in slot object.now) }
+{
+    match slot {
+        None => second_of(object),
+        Some(_) => Second::Image(object.image(slot).image()),
     }
 }
 

@@ -2,7 +2,6 @@
 ghost use Rattle.std.specs.Prelude.{◌≡◌, IsTrue, None, Some, All, map, IfOk, IfErr, OnOk};
 ghost use Rattle.std.specs.Option.{option_map};
 ghost use Rattle.vx_base.specs.Graph.{nodes_of};
-ghost use Rattle.object_table.specs.Named.{named};
 ghost use Rattle.graph_verify.specs.Linked.{linked_nodes, AreOperands};
 ghost use Rattle.graph_verify.specs.Operand.{is_image, operands_of};
 ghost use Rattle.graph_verify.specs.Verdict.{verdict};
@@ -24,14 +23,14 @@ pub fn verify_in(
     graph: &Graph,
     work: u64,
 ) -> Result<Verified, VerifyFault>
-    requires { All (λ n. IsTrue (is_image (operand_held (map named table.now.objects) n.in1)))
+    requires { All (λ n. IsTrue (is_image (operand_held table.now.objects n.in1)))
         (nodes_of graph.now) }
-    ensures verified { IfOk result (IsVerified (operand_held (map named table.now.objects))
+    ensures verified { IfOk result (IsVerified (operand_held table.now.objects)
         (nodes_of graph.now)) }
-    ensures ok { OnOk result (verdict work (operand_held (map named table.now.objects))
+    ensures ok { OnOk result (verdict work (operand_held table.now.objects)
         (nodes_of graph.now) ≡ None) }
     ensures refused { IfErr result (λ fault. IfRefused fault (λ v.
-        verdict work (operand_held (map named table.now.objects)) (nodes_of graph.now) ≡ Some v)) }
+        verdict work (operand_held table.now.objects) (nodes_of graph.now) ≡ Some v)) }
 {
     let nodes = linked(alloc, table, graph.nodes())?;
     verify(alloc, &nodes, work)
@@ -40,7 +39,7 @@ pub fn verify_in(
 /// Nodes beside what their cells are to them.
 fn linked(alloc: Global, table: &Table, nodes: &[Numbered]) -> Result<Vec<Linked>, AllocError>
     ensures nodes { IfOk result (λ linked. linked_nodes linked.items ≡ map (λ n. n.node) nodes.now) }
-    ensures operands { IfOk result (λ linked. AreOperands (operand_held (map named table.now.objects)) linked.items) }
+    ensures operands { IfOk result (λ linked. AreOperands (operand_held table.now.objects) linked.items) }
 {
     let mut linked = Vec::new(alloc);
     for numbered in nodes {
@@ -53,7 +52,7 @@ fn linked(alloc: Global, table: &Table, nodes: &[Numbered]) -> Result<Vec<Linked
 
 /// What the cells of a node are to it.
 fn operands_held(table: &Table, node: &Node) -> Operands
-    ensures { result ≡ operands_of (operand_held (map named table.now.objects)) node.now }
+    ensures { result ≡ operands_of (operand_held table.now.objects) node.now }
 {
     Operands {
         in1: operand_held(table, node.in1),
@@ -65,7 +64,7 @@ fn operands_held(table: &Table, node: &Node) -> Operands
 
 /// What a cell is to a node, if it is there.
 fn operand_held_if(table: &Table, cell: Option<ObjRef>) -> Option<Operand>
-    ensures { result ≡ option_map (operand_held (map named table.now.objects)) cell }
+    ensures { result ≡ option_map (operand_held table.now.objects) cell }
 {
     match cell {
         None => None,
@@ -75,10 +74,10 @@ fn operand_held_if(table: &Table, cell: Option<ObjRef>) -> Option<Operand>
 
 /// What a cell is to a node of a graph, for which its name needn't be live.
 fn operand_held(table: &Table, cell: ObjRef) -> Operand
-    ensures { result ≡ operand_held (map named table.now.objects) cell }
+    ensures { result ≡ operand_held table.now.objects cell }
 {
-    match table.index_of_held(cell.name()) {
+    match table.get_held(cell.name()) {
         None => Operand::Delay,
-        Some(index) => operand_in(table.object(index), cell.slot()).unwrap_or(Operand::Delay),
+        Some(object) => operand_in(object, cell.slot()).unwrap_or(Operand::Delay),
     }
 }

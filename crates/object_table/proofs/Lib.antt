@@ -1,10 +1,8 @@
 mod StoredLemmas
 pub mod DelayLemmas
 pub mod SlotLemmas
+pub mod SkeletonLaws
 pub mod HeldLemmas
-pub mod SearchLemmas
-pub mod NamesLemmas
+pub mod EntryLemmas
 pub mod UseLemmas
-pub mod NamedLemmas
-mod OperandLemmas
-mod TableLemmas
+pub mod GraphLemmas

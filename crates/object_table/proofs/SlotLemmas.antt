@@ -109,16 +109,3 @@ IsDelay-set images k image h is same =
       each = All-set IsImage images k image is h.each;
       alike = subst (λ (l : List Description). AllPairs (λ d e. d ≡ e) l) (sym same) h.alike;
     }
-
--- an image of the same description leaves an object
-pub IsObject-with_slot : (slot : Option ℕ) (image : ImageValue) (object : ObjectValue) → IsImage image → description_of image ≡ description_of (image_value (object_in slot object)) → IsObject object → IsObject (with_slot slot (ImageObject image) object)
-IsObject-with_slot None image object is same h = is
-IsObject-with_slot (Some k) image (DelayObject images) is same h = IsDelay-set images k image h is (map-set_same description_of images k image (new_image 0 0 U8) (same ∙ ap description_of read))
-  where
-    read : image_value (object_in (Some k) (DelayObject images)) ≡ get_or images k (new_image 0 0 U8)
-    read = either (cases_lt k (length images))
-      where
-        either : (k < length images) ⊎ (length images ≤ k) → image_value (object_in (Some k) (DelayObject images)) ≡ get_or images k (new_image 0 0 U8)
-        either (inl less) = ap (λ o. image_value (unwrap_or (option_map ImageObject o) (ImageObject (new_image 0 0 U8)))) (slice_get-get_or images k (new_image 0 0 U8) less)
-        either (inr past) = ap (λ o. image_value (unwrap_or (option_map ImageObject o) (ImageObject (new_image 0 0 U8)))) (slice_get_past images k past) ∙ sym (get_or_past images k (new_image 0 0 U8) past)
-IsObject-with_slot (Some k) image other is same h = h

@@ -1,273 +1,221 @@
--- Uses that nodes begin and end, one name after the other.
-use Rattle.std.proofs.Common.{◌≡◌, ℕ, ◌+◌, ◌-◌, ◌<◌, ◌≤◌, ◌⊎◌, inl, inr, Bool, true, false, cond, List, [], ◌∷◌, ◌++◌, map, IsTrue, zero, suc, refl, sym, ap, subst, ◌∙◌, arith}
-use Rattle.std.specs.Prelude.{All, Any, ◌==◌, ◌||◌, nat_lt}
-use Rattle.std.proofs.lemmas.Bool.{cases_lt, lt-ltb, le-ltb, eq-eqb, eqb-true}
-use Rattle.std.proofs.lemmas.List.{length-map, get_or-map}
-use Rattle.std.proofs.lemmas.List.Elements.{All-head, All-tail, All-map, All-weaker, All-filter, All-push}
-use Rattle.std.proofs.lemmas.List.Sums.{sum_by-append, sum_by-cons}
-use Rattle.object_table.specs.declared.names.Entry.{Entry}
-use Rattle.object_table.specs.Names.{is_held, held_of, changed, with_entry, released, used, unused}
-use Rattle.object_table.specs.Uses.{times, with_uses, used_all, unused_all, HaveRoom, HaveUses, AreUses}
-use Rattle.object_table.proofs.NamesLemmas.{All-changed}
+-- How often nodes use what is held.
+use Rattle.std.proofs.Common.{◌≡◌, ℕ, ◌+◌, ◌-◌, ◌*◌, ◌<◌, ◌≤◌, Bool, true, false, cond, List, [], ◌∷◌, ◌++◌, length, map, get_or, take, Option, Some, None, refl, sym, ap, subst, ◌∙◌, arith}
+use Rattle.std.specs.Prelude.{All, ◌==◌, sum_by, unwrap_or}
+use Rattle.std.specs.Ordering.{nat_cmp}
+use Rattle.std.specs.Map.{keys_of, values_of, lookup, set_value}
+use Rattle.std.specs.BTreeMap.{is_at}
+use Rattle.std.specs.List.{flat_map}
+use Rattle.std.specs.Option.{option_map}
+use Rattle.std.proofs.lemmas.List.{map-append, length-map, take_more, get_or-map, flat_map_more}
+use Rattle.std.proofs.lemmas.List.Elements.{All-map, All-filter}
+use Rattle.std.proofs.lemmas.List.Sums.{sum_by-append, sum_by-cons, sum_by-le, count_by-le-length, length-filter}
+use Rattle.std.proofs.lemmas.Map.Keys.{sorted_tail}
+use Rattle.vx_base.specs.declared.node.Node.{Node}
+use Rattle.vx_base.specs.declared.numbered.Numbered.{Numbered}
+use Rattle.vx_base.specs.Cell.{Cell}
+use Rattle.vx_base.specs.Node.{given}
+use Rattle.vx_base.specs.Object.{ObjectValue, object_bytes, object_kind}
+use Rattle.object_table.specs.declared.table.Entry.{Entry}
+use Rattle.object_table.specs.Context.{charge_of}
+use Rattle.object_table.specs.Named.{Named}
+use Rattle.object_table.specs.Table.{named, is_kept, kept, nodes_at, used_more, used_less}
+use Rattle.object_table.specs.Uses.{used_names, nodes_in, times}
+use Rattle.object_table.proofs.EntryLemmas.{InOrder, same_name, past_head, charge_is}
 
-pub times-append : (name : ℕ) (names others : List ℕ) → times name (names ++ others) ≡ times name names + times name others
-times-append name names others = sum_by-append (λ other. cond (name == other) 1 0) names others
+-- how often a name stands in two lists
+pub times-append : (name : ℕ) (first second : List ℕ) → times name (first ++ second) ≡ times name first + times name second
+times-append name first second = sum_by-append (λ other. cond (name == other) 1 0) first second
 
-times-one : (name other : ℕ) → times name (other ∷ []) ≡ cond (name == other) 1 0
-times-one name other = sum_by-cons (λ other. cond (name == other) 1 0) other [] ∙ omega arith
+-- ---- entries whose uses are more, or less, by as often as their names stand in a list
 
--- what holds of each name of a list holds of each that stands there
-pub times-each : (P : ℕ → Type 0) (names : List ℕ) → All P names → (name : ℕ) → 0 < times name names → P name
-times-each P [] h name more = absurd (omega (arith, more))
-times-each P (other ∷ names) h name more =
-    either (name == other) refl (times-each P names (All-tail P other names h) name)
-  where
-    split : times name (other ∷ names) ≡ cond (name == other) 1 0 + times name names
-    split = sum_by-cons (λ (n : ℕ). cond (name == n) 1 0) other names
+-- an entry of other uses
+abbrev pub with_uses : Entry → ℕ → Entry
+with_uses n uses = record n { uses = uses }
 
-    either : (b : Bool) → (name == other) ≡ b → (0 < times name names → P name) → P name
-    either true same others = subst P (sym (eqb-true name other same)) (All-head P other names h)
-    either false apart others = others (omega (arith, more, split, ap (λ b. let n : ℕ = cond b 1 0 in n) apart))
+-- `used_more` or `used_less`, as the operation says
+abbrev pub used : (ℕ → ℕ → ℕ) → List ℕ → List (ℕ × Entry) → List (ℕ × Entry)
+used op names entries = map {A = ℕ × Entry} {B = ℕ × Entry} (λ e. (e.0, with_uses e.1 (op e.1.uses (times e.0 names)))) entries
 
--- what isn't held with fewer uses isn't with even fewer
-still_dropped : (live : Bool) (uses some all : ℕ) → some ≤ all → (live || nat_lt 0 (uses - some)) ≡ false → (live || nat_lt 0 (uses - all)) ≡ false
-still_dropped true uses some all le dropped = dropped
-still_dropped false uses some all le dropped = none (cases_lt 0 (uses - some))
-  where
-    none : (0 < uses - some) ⊎ (uses - some ≤ 0) → nat_lt 0 (uses - all) ≡ false
-    none (inl more) = let held : nat_lt 0 (uses - some) ≡ true = lt-ltb 0 (uses - some) more in cc
-    none (inr less) = le-ltb 0 (uses - all) (omega (arith, le, less))
+-- what it takes to use twice
+pub record IsUse (op : ℕ → ℕ → ℕ) : Type 0 where
+  pub nothing : (n : ℕ) → op n 0 ≡ n
+  pub twice : (n a b : ℕ) → op (op n a) b ≡ op n (a + b)
 
-module _ {O : Type 0} where
-  same_uses : (e : Entry O) (n : ℕ) → n ≡ e.uses → with_uses n e ≡ e
-  same_uses e n is = ap (λ (m : ℕ). with_uses m e) is
+abbrev pub more : ℕ → ℕ → ℕ
+more n k = n + k
 
-  -- ---- uses that begin
+abbrev pub less : ℕ → ℕ → ℕ
+less n k = n - k
 
-  pub used_all-none : (entries : List (Entry O)) → used_all [] entries ≡ entries
-  used_all-none [] = refl
-  used_all-none (e ∷ entries) = ap (λ o. o ∷ used_all [] entries) (same_uses e (e.uses + 0) (omega arith)) ∙ ap (λ l. e ∷ l) (used_all-none entries)
+pub more_is : IsUse more
+more_is = record { nothing = λ n. omega arith; twice = λ n a b. omega arith }
 
-  pub used_all-one : (name : ℕ) (entries : List (Entry O)) → used_all (name ∷ []) entries ≡ used name entries
-  used_all-one name [] = refl
-  used_all-one name (e ∷ entries) =
-      ap (λ o. o ∷ used_all (name ∷ []) entries) (ap (λ (n : ℕ). with_uses (e.uses + n) e) (times-one e.name name) ∙ either (e.name == name))
-      ∙ ap (λ l. cond (e.name == name) (with_uses (e.uses + 1) e) e ∷ l) (used_all-one name entries)
+pub less_is : IsUse less
+less_is = record { nothing = λ n. omega arith; twice = λ n a b. omega arith }
+
+module _ (op : ℕ → ℕ → ℕ) (is : IsUse op) where
+  -- no names change nothing
+  pub used-nil : (entries : List (ℕ × Entry)) → used op [] entries ≡ entries
+  used-nil [] = refl
+  used-nil (e ∷ entries) =
+      ap (λ n. let d : ℕ × Entry = (e.0, with_uses e.1 n) in d ∷ used op [] entries) (is.nothing e.1.uses)
+      ∙ ap (λ l. e ∷ l) (used-nil entries)
+
+  -- names after others
+  pub used-append : (first second : List ℕ) (entries : List (ℕ × Entry)) → used op second (used op first entries) ≡ used op (first ++ second) entries
+  used-append first second [] = refl
+  used-append first second (e ∷ entries) =
+      ap (λ n. let d : ℕ × Entry = (e.0, with_uses e.1 n) in d ∷ used op second (used op first entries))
+      (is.twice e.1.uses (times e.0 first) (times e.0 second) ∙ ap (op e.1.uses) (sym (times-append e.0 first second)))
+      ∙ ap (λ l. (e.0, with_uses e.1 (op e.1.uses (times e.0 (first ++ second)))) ∷ l) (used-append first second entries)
+
+  -- a name that isn't there
+  pub used-none : (entries : List (ℕ × Entry)) (name : ℕ) → lookup (is_at (nat_cmp name)) entries ≡ None → entries ≡ used op (name ∷ []) entries
+  used-none [] name none = refl
+  used-none (e ∷ entries) name none =
+      either (is_at (nat_cmp name) e.0) none (used-none entries name)
+      ∙ ap (λ b. let d : ℕ × Entry = (e.0, with_uses e.1 (op e.1.uses (0 + cond b 1 0))) in d ∷ used op (name ∷ []) entries) (same_name name e.0)
     where
-      either : (b : Bool) → with_uses (e.uses + cond b 1 0) e ≡ cond b (with_uses (e.uses + 1) e) e
-      either true = refl
-      either false = same_uses e (e.uses + 0) (omega arith)
+      either : (b : Bool) → cond b (Some e.1) (lookup (is_at (nat_cmp name)) entries) ≡ None → (lookup (is_at (nat_cmp name)) entries ≡ None → entries ≡ used op (name ∷ []) entries)
+          → e ∷ entries ≡ (let d : ℕ × Entry = (e.0, with_uses e.1 (op e.1.uses (0 + cond b 1 0))) in d ∷ used op (name ∷ []) entries)
+      either true none rest = cc
+      either false none rest =
+          ap (λ l. e ∷ l) (rest none)
+          ∙ ap (λ n. let d : ℕ × Entry = (e.0, with_uses e.1 n) in d ∷ used op (name ∷ []) entries) (sym (is.nothing e.1.uses))
 
-  pub used_all-append : (names others : List ℕ) (entries : List (Entry O)) → used_all others (used_all names entries) ≡ used_all (names ++ others) entries
-  used_all-append names others [] = refl
-  used_all-append names others (e ∷ entries) =
-      ap (λ (n : ℕ). with_uses n e ∷ used_all others (used_all names entries)) (omega (arith, times-append e.name names others))
-      ∙ ap (λ l. with_uses (e.uses + times e.name (names ++ others)) e ∷ l) (used_all-append names others entries)
-
-  -- one more name at the end
-  pub used_all-more : (names : List ℕ) (name : ℕ) (entries : List (Entry O)) → used name (used_all names entries) ≡ used_all (names ++ name ∷ []) entries
-  used_all-more names name entries = sym (used_all-one name (used_all names entries)) ∙ used_all-append names (name ∷ []) entries
-
-  -- ---- uses that end
-
-  pub unused_all-none : (entries : List (Entry O)) → All (λ e. IsTrue (is_held e)) entries → unused_all [] entries ≡ entries
-  unused_all-none [] h = refl
-  unused_all-none (e ∷ entries) h =
-      let Held : Entry O → Type 0 = λ e. IsTrue (is_held e) in
-      ap (λ o. cond (is_held o) (o ∷ unused_all [] entries) (unused_all [] entries)) (same_uses e (e.uses - 0) (omega arith))
-      ∙ ap (λ b. cond b (e ∷ unused_all [] entries) (unused_all [] entries)) (All-head Held e entries h)
-      ∙ ap (λ l. e ∷ l) (unused_all-none entries (All-tail Held e entries h))
-
-  pub unused_all-one : (name : ℕ) (entries : List (Entry O)) → unused_all (name ∷ []) entries ≡ unused name entries
-  unused_all-one name entries = ap held_of (each entries)
+  -- a name that is there
+  pub used-one : (entries : List (ℕ × Entry)) (name : ℕ) (old : Entry) → InOrder entries → lookup (is_at (nat_cmp name)) entries ≡ Some old
+      → set_value (is_at (nat_cmp name)) entries (with_uses old (op old.uses 1)) ≡ used op (name ∷ []) entries
+  used-one [] name old order found = cc
+  used-one (e ∷ entries) name old order found =
+      either (is_at (nat_cmp name) e.0) refl found (used-one entries name old (sorted_tail nat_cmp e.0 (keys_of entries) order))
+      ∙ ap (λ b. let d : ℕ × Entry = (e.0, with_uses e.1 (op e.1.uses (0 + cond b 1 0))) in d ∷ used op (name ∷ []) entries) (same_name name e.0)
     where
-      either : (e : Entry O) (b : Bool) → with_uses (e.uses - cond b 1 0) e ≡ cond b (with_uses (e.uses - 1) e) e
-      either e true = refl
-      either e false = same_uses e (e.uses - 0) (omega arith)
+      either : (b : Bool) → is_at (nat_cmp name) e.0 ≡ b → cond b (Some e.1) (lookup (is_at (nat_cmp name)) entries) ≡ Some old
+          → (lookup (is_at (nat_cmp name)) entries ≡ Some old → set_value (is_at (nat_cmp name)) entries (with_uses old (op old.uses 1)) ≡ used op (name ∷ []) entries)
+          → cond b ((e.0, with_uses old (op old.uses 1)) ∷ entries) (e ∷ set_value (is_at (nat_cmp name)) entries (with_uses old (op old.uses 1)))
+          ≡ (let d : ℕ × Entry = (e.0, with_uses e.1 (op e.1.uses (0 + cond b 1 0))) in d ∷ used op (name ∷ []) entries)
+      either true here found rest =
+          let same : old ≡ e.1 = cc in
+          ap (λ (x : Entry). let d : ℕ × Entry = (e.0, with_uses x (op x.uses 1)) in d ∷ entries) same
+          ∙ ap (λ l. let d : ℕ × Entry = (e.0, with_uses e.1 (op e.1.uses 1)) in d ∷ l) (used-none entries name (past_head e entries name order here))
+      either false here found rest =
+          ap (λ l. e ∷ l) (rest found)
+          ∙ ap (λ n. let d : ℕ × Entry = (e.0, with_uses e.1 n) in d ∷ used op (name ∷ []) entries) (sym (is.nothing e.1.uses))
 
-      each : (entries : List (Entry O)) → map (λ e. with_uses (e.uses - times e.name (name ∷ [])) e) entries ≡ changed name (λ e. with_uses (e.uses - 1) e) entries
-      each [] = refl
-      each (e ∷ entries) =
-          ap (λ o. o ∷ map (λ e. with_uses (e.uses - times e.name (name ∷ [])) e) entries) (ap (λ (n : ℕ). with_uses (e.uses - n) e) (times-one e.name name) ∙ either e (e.name == name))
-          ∙ ap (λ l. cond (e.name == name) (with_uses (e.uses - 1) e) e ∷ l) (each entries)
-
-  pub unused_all-append : (names others : List ℕ) (entries : List (Entry O)) → unused_all others (unused_all names entries) ≡ unused_all (names ++ others) entries
-  unused_all-append names others [] = refl
-  unused_all-append names others (e ∷ entries) = either (is_held (with_uses (e.uses - times e.name names) e)) refl (unused_all-append names others entries)
+  -- the objects stay
+  pub objects-used : {X : Type 0} (g : ObjectValue → X) (name : ℕ) (names : List ℕ) (entries : List (ℕ × Entry))
+      → option_map (λ e. g e.object) (lookup (is_at (nat_cmp name)) (used op names entries)) ≡ option_map (λ e. g e.object) (lookup (is_at (nat_cmp name)) entries)
+  objects-used g name names [] = refl
+  objects-used g name names (e ∷ entries) = either (is_at (nat_cmp name) e.0) (objects-used g name names entries)
     where
-      left : ℕ
-      left = e.uses - times e.name names
+      either : (b : Bool) → option_map (λ e. g e.object) (lookup (is_at (nat_cmp name)) (used op names entries)) ≡ option_map (λ e. g e.object) (lookup (is_at (nat_cmp name)) entries)
+          → option_map (λ e. g e.object) (cond b (Some (with_uses e.1 (op e.1.uses (times e.0 names)))) (lookup (is_at (nat_cmp name)) (used op names entries)))
+          ≡ option_map (λ e. g e.object) (cond b (Some e.1) (lookup (is_at (nat_cmp name)) entries))
+      either true rest = refl
+      either false rest = rest
 
-      after : List (Entry O)
-      after = unused_all (names ++ others) entries
+  -- the operands of a node, one after the other
+  pub used-node : (node : Node) (old first second third last : List (ℕ × Entry))
+      → first ≡ used op (node.in1.name ∷ []) old
+      → second ≡ used op (map (λ cell. cell.name) (given node.in2)) first
+      → third ≡ used op (map (λ cell. cell.name) (given node.out1)) second
+      → last ≡ used op (map (λ cell. cell.name) (given node.out2)) third
+      → last ≡ used op (used_names node) old
+  used-node node old first second third last at_first at_second at_third at_last =
+      let name : Cell → ℕ = λ cell. cell.name in
+      let a : List ℕ = node.in1.name ∷ [] in
+      let b = map name (given node.in2) in
+      let c = map name (given node.out1) in
+      let d = map name (given node.out2) in
+      let two : second ≡ used op (a ++ b) old = at_second ∙ ap (used op b) at_first ∙ used-append a b old in
+      let outs : third ≡ used op c second = at_third in
+      let four : last ≡ used op (c ++ d) second = at_last ∙ ap (used op d) outs ∙ used-append c d second in
+      let names : (a ++ b) ++ (c ++ d) ≡ used_names node =
+      ap (λ l. (a ++ b) ++ l) (sym (map-append name (given node.out1) (given node.out2)))
+      ∙ sym (map-append name (node.in1 ∷ given node.in2) (given node.out1 ++ given node.out2)) in
+      four ∙ ap (used op (c ++ d)) two ∙ used-append (a ++ b) (c ++ d) old ∙ ap (λ l. used op l old) names
 
-      both : times e.name (names ++ others) ≡ times e.name names + times e.name others
-      both = times-append e.name names others
+-- an operand that there is
+pub used-operand : (op : ℕ → ℕ → ℕ) (operand : Option Cell) (cell : Cell) (name : ℕ) (entries : List (ℕ × Entry)) → operand ≡ Some cell → name ≡ cell.name
+    → used op (name ∷ []) entries ≡ used op (map (λ cell. cell.name) (given operand)) entries
+used-operand op operand cell name entries some same =
+    ap (λ n. used op (n ∷ []) entries) same ∙ ap (λ (o : Option Cell). used op (map (λ cell. cell.name) (given o)) entries) (sym some)
 
-      either : (b : Bool) → is_held (with_uses left e) ≡ b → unused_all others (unused_all names entries) ≡ after
-          → unused_all others (cond b (with_uses left e ∷ unused_all names entries) (unused_all names entries)) ≡ unused_all (names ++ others) (e ∷ entries)
-      either true held rest =
-          ap (λ (n : ℕ). cond (is_held (with_uses n e)) (with_uses n e ∷ unused_all others (unused_all names entries)) (unused_all others (unused_all names entries))) (omega (arith, both))
-          ∙ ap (λ l. let o : Entry O = with_uses (e.uses - times e.name (names ++ others)) e in cond (is_held o) (o ∷ l) l) rest
-      either false dropped rest =
-          rest
-          ∙ sym (ap (λ b. cond b (with_uses (e.uses - times e.name (names ++ others)) e ∷ after) after)
-          (still_dropped e.live e.uses (times e.name names) (times e.name (names ++ others)) (omega (arith, both)) dropped))
+-- an operand that there isn't
+pub used-nothing : (op : ℕ → ℕ → ℕ) (is : IsUse op) (operand : Option Cell) (entries : List (ℕ × Entry)) → operand ≡ None → entries ≡ used op (map (λ cell. cell.name) (given operand)) entries
+used-nothing op is operand entries none =
+    sym (used-nil op is entries) ∙ ap (λ (o : Option Cell). used op (map (λ cell. cell.name) (given o)) entries) (sym none)
 
-  -- one more name at the end
-  pub unused_all-more : (names : List ℕ) (name : ℕ) (entries : List (Entry O)) → unused name (unused_all names entries) ≡ unused_all (names ++ name ∷ []) entries
-  unused_all-more names name entries = sym (unused_all-one name (unused_all names entries)) ∙ unused_all-append names (name ∷ []) entries
+-- more uses are no more than there are names
+pub uses_within : (limit : ℕ) (names : List ℕ) (entries : List (ℕ × Entry)) → All (λ e. e.1.uses ≤ limit) entries → All (λ e. e.1.uses ≤ limit + length names) (used_more names entries)
+uses_within limit names entries h =
+    All-map {X = ℕ × Entry} (λ e. e.1.uses ≤ limit + length names) {Y = ℕ × Entry} (λ e. (e.0, with_uses e.1 (e.1.uses + times e.0 names))) entries
+    (λ k d below. omega (arith, h k d below, count_by-le-length (λ other. (get_or entries k d).0 == other) names))
 
-  -- ---- lists of uses that can begin, and that can end
+one_operand : (operand : Option Cell) → length (map (λ cell. cell.name) (given operand)) ≤ 1
+one_operand None = omega arith
+one_operand (Some cell) = omega arith
 
-  any_weaker : (P Q : Entry O → Type 0) (entries : List (Entry O)) → ((e : Entry O) → P e → Q e) → Any P entries → Any Q entries
-  any_weaker P Q entries f (k, e, within, read, is) = (k, e, within, read, f e is)
+-- one operand is one use more at most
+pub uses_after : (limit : ℕ) (operand : Option Cell) (entries after : List (ℕ × Entry)) → All (λ e. e.1.uses ≤ limit) entries → after ≡ used_more (map (λ cell. cell.name) (given operand)) entries
+    → All (λ e. e.1.uses ≤ limit + 1) after
+uses_after limit operand entries after h then =
+    let names = map (λ cell. cell.name) (given operand) in
+    let within = uses_within limit names entries h in
+    subst (λ (l : List (ℕ × Entry)). All (λ e. e.1.uses ≤ limit + 1) l) (sym then) (λ k d below. omega (arith, within k d below, one_operand operand))
 
-  pub any_here : (P : Entry O → Type 0) (e : Entry O) (entries : List (Entry O)) → P e → Any P (e ∷ entries)
-  any_here P e entries is = (zero, e, omega arith, refl, is)
+-- ---- the nodes of a graph, one after the other
 
-  pub any_later : (P : Entry O → Type 0) (e : Entry O) (entries : List (Entry O)) → Any P entries → Any P (e ∷ entries)
-  any_later P e entries (k, o, within, read, is) = (suc k, o, omega (arith, within), read, is)
+module _ (graph : ℕ) (names : List ℕ) (old now : List (ℕ × Entry)) (then : now ≡ used_less names old) where
+  -- what is held under the name stays of its kind
+  pub kind_kept : option_map (λ e. object_kind e.object) (lookup (is_at (nat_cmp graph)) now) ≡ option_map (λ e. object_kind e.object) (lookup (is_at (nat_cmp graph)) old)
+  kind_kept = ap (λ l. option_map (λ e. object_kind e.object) (lookup (is_at (nat_cmp graph)) l)) then ∙ objects-used less less_is object_kind graph names old
 
-  any_split : (P : Entry O → Type 0) (e : Entry O) (entries : List (Entry O)) → Any P (e ∷ entries) → P e ⊎ Any P entries
-  any_split P e entries (zero, o, within, read, is) = inl (subst P (sym read) is)
-  any_split P e entries (suc k, o, within, read, is) = inr (k, o, omega (arith, within), read, is)
+  -- and keeps its nodes
+  pub nodes_kept : nodes_at graph now ≡ nodes_at graph old
+  nodes_kept = ap (nodes_at graph) then ∙ ap (λ o. unwrap_or o []) (objects-used less less_is nodes_in graph names old)
 
-  any_mapped : (P Q : Entry O → Type 0) (f : Entry O → Entry O) (entries : List (Entry O)) → ((e : Entry O) → P e → Q (f e)) → Any P entries → Any Q (map f entries)
-  any_mapped P Q f entries to (k, e, within, read, is) = (k, f e, omega (arith, within, length-map entries f), get_or-map f entries k e (f e) within ∙ ap f read, to e is)
+  -- which are as many as before
+  pub count_kept : (counted found : List Numbered) → map (λ n. n.node) counted ≡ nodes_at graph old → map (λ n. n.node) found ≡ nodes_at graph now → length found ≡ length counted
+  count_kept counted found before after =
+      let same : map (λ n. n.node) found ≡ map (λ n. n.node) counted = after ∙ nodes_kept ∙ sym before in
+      sym (length-map found (λ n. n.node)) ∙ ap length same ∙ length-map counted (λ n. n.node)
 
-  -- what is used more often than its name stands in a list is held once as many uses have ended
-  uses_left : (names : List ℕ) (name n : ℕ) (entries : List (Entry O)) → 0 < n → Any (λ e. (e.name ≡ name) × (times name names + n ≤ e.uses)) entries → Any (λ e. (e.name ≡ name) × (n ≤ e.uses)) (unused_all names entries)
-  uses_left names name n [] more (k, e, within, read, is) = absurd (omega (arith, within))
-  uses_left names name n (e ∷ entries) more any =
-      either (any_split (λ e. (e.name ≡ name) × (times name names + n ≤ e.uses)) e entries any) (uses_left names name n entries more)
-    where
-      Left : Entry O → Type 0
-      Left e = (e.name ≡ name) × (n ≤ e.uses)
+-- one node more
+pub node_more : (nodes : List Node) (found : List Numbered) (k : ℕ) (item : Numbered) (node : Node) (old now next : List (ℕ × Entry)) → now ≡ used_less (flat_map used_names (take k nodes)) old
+    → map (λ n. n.node) found ≡ nodes → k < length found → node ≡ (get_or found k item).node → next ≡ used_less (used_names node) now
+    → next ≡ used_less (flat_map used_names (take (k + 1) nodes)) old
+node_more nodes found k item node old now next so_far nodes_found there is then =
+    let within : k < length nodes = omega (arith, there, ap length nodes_found, length-map found (λ n. n.node)) in
+    let at : get_or nodes k node ≡ node = ap (λ l. get_or l k node) (sym nodes_found) ∙ get_or-map (λ (n : Numbered). n.node) found k item node there ∙ sym is in
+    let names : flat_map used_names (take k nodes) ++ used_names node ≡ flat_map used_names (take (k + 1) nodes) =
+    flat_map_more used_names [] (take k nodes) node
+    ∙ ap (flat_map used_names) (ap (λ n. take k nodes ++ n ∷ []) (sym at) ∙ sym (take_more nodes k node within)) in
+    then ∙ ap (used_less (used_names node)) so_far ∙ used-append less less_is (flat_map used_names (take k nodes)) (used_names node) old ∙ ap (λ l. used_less l old) names
 
-      o : Entry O
-      o = with_uses (e.uses - times e.name names) e
+-- ---- what entries are charged
 
-      rest : List (Entry O)
-      rest = unused_all names entries
+abbrev pub bytes_of : List Entry → ℕ
+bytes_of values = sum_by (λ e. object_bytes e.object) values
 
-      or_true : (b : Bool) → (b || true) ≡ true
-      or_true true = refl
-      or_true false = refl
+bytes_of-cons : (e : Entry) (values : List Entry) → bytes_of (e ∷ values) ≡ object_bytes e.object + bytes_of values
+bytes_of-cons e values = sum_by-cons (λ (e : Entry). object_bytes e.object) e values
 
-      kept : (b : Bool) → Any Left rest → Any Left (cond b (o ∷ rest) rest)
-      kept true later = any_later Left o rest later
-      kept false later = later
+-- what was summed and what is left make the whole, also after one value more
+pub sum_more : (charge bytes total : ℕ) (e : Entry) (left rest : List Entry) → charge + bytes_of left ≡ total → left ≡ e ∷ rest → bytes ≡ object_bytes e.object → (charge + bytes) + bytes_of rest ≡ total
+sum_more charge bytes total e left rest so_far is one = omega (arith, so_far, ap bytes_of is, bytes_of-cons e rest, one)
 
-      either : ((e.name ≡ name) × (times name names + n ≤ e.uses)) ⊎ Any (λ e. (e.name ≡ name) × (times name names + n ≤ e.uses)) entries
-          → (Any (λ e. (e.name ≡ name) × (times name names + n ≤ e.uses)) entries → Any Left rest) → Any Left (cond (is_held o) (o ∷ rest) rest)
-      either (inl is) others =
-          let left : n ≤ o.uses = omega (arith, is.1, ap (λ m. times m names) is.0) in
-          let held : is_held o ≡ true = ap (λ b. e.live || b) (lt-ltb 0 o.uses (omega (arith, left, more))) ∙ or_true e.live in
-          subst (λ b. Any Left (cond b (o ∷ rest) rest)) (sym held) (any_here Left o rest (is.0, left))
-      either (inr later) others = kept (is_held o) (others later)
+pub bytes_charged : (entries : List (ℕ × Entry)) → bytes_of (values_of entries) ≡ charge_of (map named entries)
+bytes_charged [] = refl
+bytes_charged (e ∷ entries) =
+    bytes_of-cons e.1 (values_of entries) ∙ ap (λ n. object_bytes e.1.object + n) (bytes_charged entries)
+    ∙ sym (sum_by-cons (λ (o : Named). object_bytes o.object) (named e) (map named entries))
 
-  pub HaveUses-first : (names others : List ℕ) (entries : List (Entry O)) → HaveUses (names ++ others) entries → HaveUses names entries
-  HaveUses-first names others entries h name more =
-      let both = times-append name names others in
-      any_weaker (λ e. (e.name ≡ name) × (times name (names ++ others) ≤ e.uses)) (λ e. (e.name ≡ name) × (times name names ≤ e.uses)) entries
-      (λ e is. (is.0, omega (arith, both, is.1))) (h name (omega (arith, both, more)))
-
-  pub HaveUses-others : (names others : List ℕ) (entries : List (Entry O)) → HaveUses (names ++ others) entries → HaveUses others (unused_all names entries)
-  HaveUses-others names others entries h name more =
-      let both = times-append name names others in
-      uses_left names name (times name others) entries more
-      (any_weaker (λ e. (e.name ≡ name) × (times name (names ++ others) ≤ e.uses)) (λ e. (e.name ≡ name) × (times name names + times name others ≤ e.uses)) entries
-      (λ e is. (is.0, omega (arith, both, is.1))) (h name (omega (arith, both, more))))
-
-  pub HaveUses-one : (name : ℕ) (entries : List (Entry O)) → HaveUses (name ∷ []) entries → Any (λ e. (e.name ≡ name) × (0 < e.uses)) entries
-  HaveUses-one name entries h =
-      let once : times name (name ∷ []) ≡ 1 = times-one name name ∙ ap (λ b. let n : ℕ = cond b 1 0 in n) (eq-eqb name name refl) in
-      any_weaker (λ e. (e.name ≡ name) × (times name (name ∷ []) ≤ e.uses)) (λ e. (e.name ≡ name) × (0 < e.uses)) entries
-      (λ e is. (is.0, omega (arith, once, is.1))) (h name (omega (arith, once)))
-
-  pub HaveRoom-first : (names others : List ℕ) (entries : List (Entry O)) → HaveRoom (names ++ others) entries → HaveRoom names entries
-  HaveRoom-first names others entries h name more =
-      let both = times-append name names others in
-      any_weaker (λ e. (e.name ≡ name) × (e.uses + times name (names ++ others) ≤ 4294967295)) (λ e. (e.name ≡ name) × (e.uses + times name names ≤ 4294967295)) entries
-      (λ e is. (is.0, omega (arith, both, is.1))) (h name (omega (arith, both, more)))
-
-  pub HaveRoom-others : (names others : List ℕ) (entries : List (Entry O)) → HaveRoom (names ++ others) entries → HaveRoom others (used_all names entries)
-  HaveRoom-others names others entries h name more =
-      let both = times-append name names others in
-      any_mapped (λ e. (e.name ≡ name) × (e.uses + times name (names ++ others) ≤ 4294967295)) (λ e. (e.name ≡ name) × (e.uses + times name others ≤ 4294967295))
-      (λ e. with_uses (e.uses + times e.name names) e) entries
-      (λ e is. (is.0, omega (arith, both, is.1, ap (λ m. times m names) is.0))) (h name (omega (arith, both, more)))
-
-  pub HaveRoom-one : (name : ℕ) (entries : List (Entry O)) → HaveRoom (name ∷ []) entries → Any (λ e. (e.name ≡ name) × (e.uses < 4294967295)) entries
-  HaveRoom-one name entries h =
-      let once : times name (name ∷ []) ≡ 1 = times-one name name ∙ ap (λ b. let n : ℕ = cond b 1 0 in n) (eq-eqb name name refl) in
-      any_weaker (λ e. (e.name ≡ name) × (e.uses + times name (name ∷ []) ≤ 4294967295)) (λ e. (e.name ≡ name) × (e.uses < 4294967295)) entries
-      (λ e is. (is.0, omega (arith, once, is.1))) (h name (omega (arith, once)))
-
-  -- where each entry is used as often as its name says, the names have the uses and the room that they say
-  with_use : (uses : ℕ → ℕ) (entries : List (Entry O)) (name : ℕ) → AreUses uses entries → Any (λ e. e.name ≡ name) entries → Any (λ e. (e.name ≡ name) × (e.uses ≡ uses name)) entries
-  with_use uses entries name h (k, e, within, read, is) =
-      (k, e, within, read, (is, ap (λ (o : Entry O). o.uses) (sym read) ∙ h k e within ∙ ap (λ (o : Entry O). uses o.name) read ∙ ap uses is))
-
-  pub HaveUses-from : (uses : ℕ → ℕ) (names : List ℕ) (entries : List (Entry O)) → AreUses uses entries → ((name : ℕ) → 0 < times name names → Any (λ e. e.name ≡ name) entries)
-      → ((name : ℕ) → times name names ≤ uses name) → HaveUses names entries
-  HaveUses-from uses names entries h held enough name more =
-      any_weaker (λ e. (e.name ≡ name) × (e.uses ≡ uses name)) (λ e. (e.name ≡ name) × (times name names ≤ e.uses)) entries
-      (λ e is. (is.0, omega (arith, is.1, enough name))) (with_use uses entries name h (held name more))
-
-  pub HaveRoom-from : (uses : ℕ → ℕ) (names : List ℕ) (entries : List (Entry O)) → AreUses uses entries → ((name : ℕ) → 0 < times name names → Any (λ e. e.name ≡ name) entries)
-      → ((name : ℕ) → uses name + times name names ≤ 4294967295) → HaveRoom names entries
-  HaveRoom-from uses names entries h held room name more =
-      any_weaker (λ e. (e.name ≡ name) × (e.uses ≡ uses name)) (λ e. (e.name ≡ name) × (e.uses + times name names ≤ 4294967295)) entries
-      (λ e is. (is.0, omega (arith, is.1, room name))) (with_use uses entries name h (held name more))
-
-  -- ---- what is used as often as its name says
-
-  uses-changed : (uses : ℕ → ℕ) (name : ℕ) (change : Entry O → Entry O) (entries : List (Entry O)) → ((e : Entry O) → e.uses ≡ uses e.name → (change e).uses ≡ uses (change e).name)
-      → AreUses uses entries → AreUses uses (changed name change entries)
-  uses-changed uses name change entries keeps h =
-      All-map (λ (e : Entry O). e.uses ≡ uses e.name) (λ e. cond (e.name == name) (change e) e) entries
-      (All-weaker (λ e. e.uses ≡ uses e.name) (λ e. (cond (e.name == name) (change e) e).uses ≡ uses (cond (e.name == name) (change e) e).name) (λ e is. either (e.name == name) e is) entries h)
-    where
-      either : (b : Bool) (e : Entry O) → e.uses ≡ uses e.name → (cond b (change e) e).uses ≡ uses (cond b (change e) e).name
-      either true e is = keeps e is
-      either false e is = is
-
-  pub AreUses-ended : (uses : ℕ → ℕ) (name : ℕ) (entries : List (Entry O)) → AreUses uses entries → AreUses uses (changed name (λ e. record e { live = false }) entries)
-  AreUses-ended uses name entries = uses-changed uses name (λ e. record e { live = false }) entries (λ e is. is)
-
-  pub AreUses-held_of : (uses : ℕ → ℕ) (entries : List (Entry O)) → AreUses uses entries → AreUses uses (held_of entries)
-  AreUses-held_of uses entries h = All-filter is_held (λ e. e.uses ≡ uses e.name) entries h
-
-  pub AreUses-released : (uses : ℕ → ℕ) (name : ℕ) (entries : List (Entry O)) → AreUses uses entries → AreUses uses (released name entries)
-  AreUses-released uses name entries h = AreUses-held_of uses (changed name (λ e. record e { live = false }) entries) (AreUses-ended uses name entries h)
-
-  pub AreUses-used_all : (uses : ℕ → ℕ) (names : List ℕ) (entries : List (Entry O)) → AreUses uses entries → AreUses (λ name. uses name + times name names) (used_all names entries)
-  AreUses-used_all uses names entries h =
-      All-map (λ (e : Entry O). e.uses ≡ uses e.name + times e.name names) (λ e. with_uses (e.uses + times e.name names) e) entries
-      (All-weaker (λ e. e.uses ≡ uses e.name) (λ e. e.uses + times e.name names ≡ uses e.name + times e.name names) (λ e is. ap (λ n. n + times e.name names) is) entries h)
-
-  pub AreUses-fewer : (uses : ℕ → ℕ) (names : List ℕ) (entries : List (Entry O)) → AreUses uses entries → AreUses (λ name. uses name - times name names) (map (λ e. with_uses (e.uses - times e.name names) e) entries)
-  AreUses-fewer uses names entries h =
-      All-map (λ (e : Entry O). e.uses ≡ uses e.name - times e.name names) (λ e. with_uses (e.uses - times e.name names) e) entries
-      (All-weaker (λ e. e.uses ≡ uses e.name) (λ e. e.uses - times e.name names ≡ uses e.name - times e.name names) (λ e is. ap (λ n. n - times e.name names) is) entries h)
-
-  pub AreUses-unused_all : (uses : ℕ → ℕ) (names : List ℕ) (entries : List (Entry O)) → AreUses uses entries → AreUses (λ name. uses name - times name names) (unused_all names entries)
-  AreUses-unused_all uses names entries h = AreUses-held_of (λ name. uses name - times name names) (map (λ e. with_uses (e.uses - times e.name names) e) entries) (AreUses-fewer uses names entries h)
-
-  pub AreUses-with_entry : (uses : ℕ → ℕ) (name : ℕ) (object : O) (entries : List (Entry O)) → uses name ≡ 0 → AreUses uses entries → AreUses uses (with_entry name object entries)
-  AreUses-with_entry uses name object entries none h = All-push (λ e. e.uses ≡ uses e.name) entries (record { name = name; live = true; uses = 0; object = object }) h (sym none)
-
-  -- ---- what holds of each object stays true
-
-  pub All-released : (P : O → Type 0) (name : ℕ) (entries : List (Entry O)) → All (λ e. P e.object) entries → All (λ e. P e.object) (released name entries)
-  All-released P name entries h =
-      All-filter is_held (λ e. P e.object) (changed name (λ e. record e { live = false }) entries) (All-changed P entries name (λ e. record e { live = false }) (λ e. refl) h)
-
-  pub All-used_all : (P : O → Type 0) (names : List ℕ) (entries : List (Entry O)) → All (λ e. P e.object) entries → All (λ e. P e.object) (used_all names entries)
-  All-used_all P names entries h = All-map (λ (e : Entry O). P e.object) (λ e. with_uses (e.uses + times e.name names) e) entries h
-
-  pub All-unused_all : (P : O → Type 0) (names : List ℕ) (entries : List (Entry O)) → All (λ e. P e.object) entries → All (λ e. P e.object) (unused_all names entries)
-  All-unused_all P names entries h =
-      All-filter is_held (λ e. P e.object) (map (λ e. with_uses (e.uses - times e.name names) e) entries) (All-map (λ (e : Entry O). P e.object) (λ e. with_uses (e.uses - times e.name names) e) entries h)
+-- 1,024 objects, each charged no more than 16 of the largest images
+pub bytes_small : (entries : List (ℕ × Entry)) → length entries ≤ 1024 → All (λ e. object_bytes e.1.object ≤ 16 * 67108864) entries → bytes_of (values_of (kept entries)) ≤ 1024 * (16 * 67108864)
+bytes_small entries few each =
+    let held = kept entries in
+    let bytes : ℕ × Entry → ℕ = λ e. object_bytes e.1.object in
+    let sum : sum_by bytes held ≤ length held * (16 * 67108864) = sum_by-le bytes (16 * 67108864) held (All-filter is_kept (λ e. object_bytes e.1.object ≤ 16 * 67108864) entries each) in
+    omega (arith, few, sum, length-filter is_kept entries, count_by-le-length is_kept entries, bytes_charged held, charge_is held)

@@ -1,6 +1,8 @@
 pub mod Delay
 pub mod Object
-pub mod Names
+pub mod Skeleton
+pub mod Named
+pub mod Context
+pub mod Holds
 pub mod Uses
 pub mod Table
-pub mod Named

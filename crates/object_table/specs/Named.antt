@@ -3,7 +3,6 @@ use Rattle.std.specs.Prelude.{ℕ, ◌==◌, Bool, if◌then◌else◌, List, []
 use Rattle.std.specs.Option.{option_map, option_and_then}
 use Rattle.vx_base.specs.Cell.{Cell}
 use Rattle.vx_base.specs.Object.{ObjectValue}
-use Rattle.object_table.specs.declared.names.Entry.{Entry}
 use Rattle.object_table.specs.Delay.{in_slot, with_slot}
 
 -- an object, its name, and whether that is live
@@ -11,10 +10,6 @@ pub record Named : Type 0 where
   pub name : ℕ
   pub live : Bool
   pub object : ObjectValue
-
--- what is held in a table, by name
-abbrev pub named : Entry ObjectValue → Named
-named e = record { name = e.name; live = e.live; object = e.object }
 
 -- the object that is held under this name, whether that is live or not
 abbrev pub object_held : List Named → ℕ → Option ObjectValue

@@ -1,89 +1,90 @@
--- The objects of a client.
-use Rattle.std.specs.Prelude.{ℕ, ◌≡◌, ◌<◌, ◌≤◌, ◌+◌, ◌*◌, IsTrue, is_some, None, List, [], length, sum_by, slice_index_or, slice_set, All, true}
+-- The objects of a client in a map by name.
+use Rattle.std.specs.Prelude.{ℕ, ◌≡◌, ◌<◌, ◌≤◌, ◌+◌, ◌*◌, ◌-◌, ◌==◌, Bool, ◌||◌, nat_lt, if◌then◌else◌, Option, Some, List, [], length, map, filter, All, unwrap_or}
+use Rattle.std.specs.List.Sorted.{IsStrictlyIncreasing}
+use Rattle.std.specs.Option.{option_map}
+use Rattle.std.specs.Ordering.{nat_cmp}
+use Rattle.std.specs.Map.{lookup}
+use Rattle.std.specs.BTreeMap.{is_at}
 use Rattle.vx_base.specs.declared.format.Format.TheVariants.{U8}
+use Rattle.vx_base.specs.declared.kind.Kind.{Kind}
 use Rattle.vx_base.specs.declared.kind.Kind.TheVariants as kind
+use Rattle.vx_base.specs.declared.node.Node.{Node}
+use Rattle.vx_base.specs.Cell.{Cell}
 use Rattle.vx_base.specs.Graph.{GraphValue}
 use Rattle.vx_base.specs.Image.{ImageValue, new_image}
-use Rattle.vx_base.specs.Object.{ObjectValue, ImageObject, GraphObject, object_bytes, object_kind}
-use Rattle.object_table.specs.declared.names.Entry.{Entry}
-use Rattle.object_table.specs.Names.{IsNames, with_entry}
-use Rattle.object_table.specs.declared.place.Place.{Place}
-use Rattle.object_table.specs.Delay.{in_slot, object_in, with_slot, HasImage}
+use Rattle.vx_base.specs.Object.{ObjectValue, ImageObject, object_bytes, object_kind}
+use Rattle.object_table.specs.declared.table.Entry.{Entry}
+use Rattle.object_table.specs.Context.{charge_of}
+use Rattle.object_table.specs.Named.{Named, object_held, held}
 use Rattle.object_table.specs.Object.{image_value, graph_value}
+use Rattle.object_table.specs.Uses.{nodes_in, names_used, times}
 
--- the name that comes next, and what is held, in the order of the names
-pub record TableValue : Type 0 where
-  pub next : ℕ
-  pub objects : List (Entry ObjectValue)
+-- ---- what a name and a cell stand for
 
--- no object, and name 1 next
-abbrev pub new_table : TableValue
-new_table = record { next = 1; objects = [] }
+-- the object that is held under a name, where there is one
+abbrev pub object_under : List Named → ℕ → ObjectValue
+object_under objects name = unwrap_or (object_held objects name) (ImageObject (new_image 0 0 U8))
 
--- what a client is charged for its objects
-abbrev pub charge_of : List (Entry ObjectValue) → ℕ
-charge_of objects = sum_by (λ e. object_bytes e.object) objects
+-- an object of this kind is held under the name
+abbrev pub IsUnder : List Named → Kind → ℕ → Type 0
+IsUnder objects wanted name = option_map object_kind (object_held objects name) ≡ Some wanted
 
--- the table with one more object, under the next name
-abbrev pub with_new : TableValue → ObjectValue → TableValue
-with_new t object = record { next = t.next + 1; objects = with_entry t.next object t.objects }
+-- the graph that is held under a name
+abbrev pub graph_under : List Named → ℕ → GraphValue
+graph_under objects name = graph_value (object_under objects name)
 
--- the table with other objects under its names
-abbrev pub with_objects : TableValue → List (Entry ObjectValue) → TableValue
-with_objects t objects = record { next = t.next; objects = objects }
+-- the object that a cell holds, where it holds one
+abbrev pub cell_object : List Named → Cell → ObjectValue
+cell_object objects cell = unwrap_or (held objects cell) (ImageObject (new_image 0 0 U8))
 
--- ---- places
+-- the image that a cell holds
+abbrev pub image_held : List Named → Cell → ImageValue
+image_held objects cell = image_value (cell_object objects cell)
 
--- what is read past the last object
-abbrev pub no_object : Entry ObjectValue
-no_object = record { name = 0; live = true; uses = 0; object = ImageObject (new_image 0 0 U8) }
+-- a cell holds an image
+abbrev pub HoldsImage : List Named → Cell → Type 0
+HoldsImage objects cell = option_map object_kind (held objects cell) ≡ Some kind.Image
 
--- what is held at an index
-abbrev pub entry_at : List (Entry ObjectValue) → ℕ → Entry ObjectValue
-entry_at objects index = slice_index_or objects index no_object
+-- ---- entries
 
--- what stands at a place
-abbrev pub object_at : List (Entry ObjectValue) → Place → ObjectValue
-object_at objects place = object_in place.slot (entry_at objects place.index).object
+-- what an entry of the map shows
+abbrev pub named : ℕ × Entry → Named
+named e = record { name = e.0; live = e.1.live; object = e.1.object }
 
-abbrev pub image_at : List (Entry ObjectValue) → Place → ImageValue
-image_at objects place = image_value (object_at objects place)
+-- the nodes of the graph under a name
+abbrev pub nodes_at : ℕ → List (ℕ × Entry) → List Node
+nodes_at name entries = unwrap_or (option_map (λ e. nodes_in e.object) (lookup (is_at (nat_cmp name)) entries)) []
 
--- a place at which an object stands
-pub record IsPlace (objects : List (Entry ObjectValue)) (place : Place) : Type 0 where
-  pub within : place.index < length objects
-  pub there : IsTrue (is_some (in_slot place.slot (entry_at objects place.index).object))
+-- the entries, of which the one of this name is changed
+abbrev pub changed : ℕ → (Entry → Entry) → List (ℕ × Entry) → List (ℕ × Entry)
+changed name change entries = map (λ e. if e.0 == name then (e.0, change e.1) else e) entries
 
--- a place at which an image stands
-pub record HasImageAt (objects : List (Entry ObjectValue)) (place : Place) : Type 0 where
-  pub within : place.index < length objects
-  pub image : HasImage place.slot (entry_at objects place.index).object
+-- the entries, each used so much more often, or less, as its name stands in a list
+abbrev pub used_more : List ℕ → List (ℕ × Entry) → List (ℕ × Entry)
+used_more names entries = map {A = ℕ × Entry} {B = ℕ × Entry} (λ e. let n : Entry = e.1 in (e.0, record n { uses = n.uses + times e.0 names })) entries
 
--- the objects, with another at a place
-abbrev pub replaced : List (Entry ObjectValue) → Place → ObjectValue → List (Entry ObjectValue)
-replaced objects place object =
-    let e = entry_at objects place.index in
-    slice_set objects place.index (record e { object = with_slot place.slot object e.object })
+abbrev pub used_less : List ℕ → List (ℕ × Entry) → List (ℕ × Entry)
+used_less names entries = map {A = ℕ × Entry} {B = ℕ × Entry} (λ e. let n : Entry = e.1 in (e.0, record n { uses = n.uses - times e.0 names })) entries
 
--- ---- graphs
+-- whether an entry is held: its name is live, or a node uses it
+abbrev pub is_kept : ℕ × Entry → Bool
+is_kept e = e.1.live || nat_lt 0 e.1.uses
 
--- the graph at an index
-abbrev pub graph_at : List (Entry ObjectValue) → ℕ → GraphValue
-graph_at objects index = graph_value (entry_at objects index).object
-
--- the objects, with another graph at an index
-abbrev pub with_graph : List (Entry ObjectValue) → ℕ → GraphValue → List (Entry ObjectValue)
-with_graph objects index graph = replaced objects (record { index = index; slot = None }) (GraphObject graph)
-
--- an index at which a graph stands
-pub record HasGraphAt (objects : List (Entry ObjectValue)) (index : ℕ) : Type 0 where
-  pub within : index < length objects
-  pub kind : object_kind (entry_at objects index).object ≡ kind.Graph
+-- the entries that are held still
+abbrev pub kept : List (ℕ × Entry) → List (ℕ × Entry)
+kept entries = filter is_kept entries
 
 -- ---- what a table keeps
 
--- names that are in order and held, and the sum of what the objects are charged, none more than 16 of the largest images
-pub record IsTable (next charge : ℕ) (objects : List (Entry ObjectValue)) : Type 0 where
-  pub names : IsNames next objects
-  pub charged : charge ≡ charge_of objects
-  pub each : All (λ e. object_bytes e.object ≤ 16 * 67108864) objects
+-- names in their order, below the next; at most 1,024 objects, each charged no more than 16 of the largest images, none a graph of
+-- more than 256 nodes; the sum of their charges; how often the nodes of unreleased graphs use each; and no node uses a name to come
+pub record IsTable (next charge : ℕ) (entries : List (ℕ × Entry)) : Type 0 where
+  pub names : IsStrictlyIncreasing (map (λ e. e.0) entries)
+  pub below : All (λ e. e.0 < next) entries
+  pub left : next ≤ 4294967296
+  pub count : length entries ≤ 1024
+  pub each : All (λ e. object_bytes e.1.object ≤ 16 * 67108864) entries
+  pub nodes : All (λ e. length (nodes_in e.1.object) ≤ 256) entries
+  pub charged : charge ≡ charge_of (map named entries)
+  pub uses : All (λ e. e.1.uses ≡ times e.0 (names_used (map named entries))) entries
+  pub given : All (λ name. name < next) (names_used (map named entries))

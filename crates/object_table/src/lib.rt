@@ -9,19 +9,15 @@
 //! - `distribution`: bins, and the counts of a histogram
 //! - `object`: an image, a lookup table, a threshold, a delay, a convolution, a distribution,
 //!   extremes, a graph or a virtual image
-//! - `names`: what is held under names, of whatever type: names and uses
-//! - `table`, `place`: objects under their names, with their charge; where an object stands, and
-//!   images that are written there
-//! - `table::graphs`, `table::uses`: graphs of a table, and how their nodes use what it holds
+//! - `table`: objects under their names, with their charge; what is read and written by name or cell
+//! - `table::graphs`: graphs of a table, and how their nodes use what it holds
 //! - `fault`: why a call isn't done
 #![tactic(auto)]
 
 mod delay;
 mod distribution;
 mod fault;
-mod names;
 mod object;
-mod place;
 mod stored;
 mod table;
 
@@ -29,6 +25,5 @@ pub use delay::Delay;
 pub use distribution::Distribution;
 pub use fault::{InsertFault, TableFault};
 pub use object::{Content, Object};
-pub use place::Place;
 pub use stored::Stored;
 pub use table::Table;

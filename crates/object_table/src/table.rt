@@ -1,67 +1,87 @@
 //! Objects under their names, with their charge.
-ghost use Rattle.std.specs.Prelude.{◌≡◌, ◌+◌, ◌*◌, ◌<◌, ◌≤◌, ◌==◌, IsTrue, unwrap_or, is_none, Some, None, [], if◌then◌else◌, length, position, Any, All, IfOk, IfErr, OnOk, OnErr, Ok, Err};
+ghost use Rattle.std.specs.Prelude.{◌≡◌, ◌*◌, ◌≤◌, IsTrue, IsSome, is_none, Some, None, [], if◌then◌else◌, length, map, IfOk, IfErr, OnOk, OnErr};
 ghost use Rattle.std.specs.Option.{option_map};
 ghost use Rattle.vx_base.specs.declared.kind.Kind.TheVariants as kind;
 ghost use Rattle.vx_base.specs.Rectangle.{IsWithin};
 ghost use Rattle.vx_base.specs.Image.{IsImage, description_of, with_valid};
-ghost use Rattle.vx_base.specs.Object.{ImageObject, ExtremesObject, IsObject, object_bytes, object_kind};
+ghost use Rattle.vx_base.specs.Object.{ImageObject, ExtremesObject, IsObject};
 ghost use Rattle.vx_base.specs.Picture.{values, samples_format, pictured};
 ghost use Rattle.object_table.specs.declared.fault.TableFault.TheVariants.{InvalidReference, NoMemory, NoResources};
-ghost use Rattle.object_table.specs.Names.{is_live_as, object_named, can_insert, released, used, unused, IsNames};
+ghost use Rattle.object_table.specs.Context.{new_context, object_named, charge_of, can_insert, with_new, with_objects, cell_of};
+ghost use Rattle.object_table.specs.Named.{object_held, with_object};
 ghost use Rattle.object_table.specs.Object.{distribution_value, aged_object, with_samples, with_counts};
-ghost use Rattle.object_table.specs.Table.{new_table, charge_of, with_new, with_objects, entry_at, object_at, image_at, replaced, HasImageAt};
+ghost use Rattle.object_table.specs.Table.{object_under, IsUnder, cell_object, image_held, HoldsImage};
+ghost use Rattle.object_table.specs.Uses.{nodes_in};
 
 mod graphs;
-mod uses;
 
 use crate::fault::{InsertFault, TableFault};
-use crate::names::Names;
 use crate::object::Object;
-use crate::place::Place;
 use crate::stored::Stored;
 use std::alloc::Global;
+use std::collections::BTreeMap;
 use std::marker::Model;
 use std::mem;
-use vx_base::{Extremes, Picture, Rect, Samples};
+use vx_base::{Extremes, ObjRef, Picture, Rect, Samples};
 
-/// The objects that a client holds, in the order of their names, and the name that comes next.
+/// Each name is below this: 2^32.
+const END_OF_NAMES: u64 = 4_294_967_296;
+
+/// The greatest number of objects that are held.
+const GREATEST_COUNT: usize = 1024;
+
+/// What is held under a name: the name is live, or nodes use what it stands for.
+#[derive(Drop)]
+pub struct Entry {
+    pub live: bool,
+    pub uses: u32,
+    pub object: Object,
+}
+
+/// The objects that a client holds, by their names, and the name that comes next.
 #[derive(Drop)]
 pub struct Table {
-    names: Names<Object>,
+    alloc: Global,
+    next: u64,
     charge: u64,
+    entries: BTreeMap<u32, Entry>,
 }
 
 impl Model for Table {
-    ghost use Rattle.object_table.specs.Table.{TableValue, IsTable};
+    ghost use Rattle.std.specs.Prelude.{map};
+    ghost use Rattle.object_table.specs.Context.{Context};
+    ghost use Rattle.object_table.specs.Table.{named, IsTable};
 
-    ghost Value = { TableValue };
+    ghost Value = { Context };
 
-    ghost view = { λ t. record { next = t.names.next; objects = t.names.entries.items } };
+    ghost view = { λ t. record { next = t.next; objects = map named t.entries.entries } };
 
-    ghost invariant = { λ t. IsTable t.names.next t.charge t.names.entries.items };
+    ghost invariant = { λ t. IsTable t.next t.charge t.entries.entries };
 }
 
 impl Table {
     /// A table without objects. Name 1 comes next.
     pub fn new(alloc: Global) -> Table
-        ensures { result ≡ new_table }
+        ensures { result ≡ new_context }
     {
         Table {
-            names: Names::new(alloc),
+            alloc,
+            next: 1,
             charge: 0,
+            entries: BTreeMap::new(alloc),
         }
     }
 
     /// The allocator of the objects' table.
     pub fn allocator(&self) -> Global {
-        *self.names.entries.allocator()
+        self.alloc
     }
 
     /// How many objects are held.
     pub fn held(&self) -> usize
         ensures { result ≡ length self.now.objects }
     {
-        self.names.entries.len()
+        self.entries.len()
     }
 
     /// What the client is charged for its objects, in bytes.
@@ -74,239 +94,183 @@ impl Table {
 
     /// Whether one more object can be held: a name is left, and fewer than 1,024 are held.
     pub fn can_insert(&self) -> bool
-        ensures { result ≡ can_insert self.now.next self.now.objects }
+        ensures { result ≡ can_insert self.now }
     {
-        self.names.can_insert()
+        self.next < END_OF_NAMES && self.entries.len() < GREATEST_COUNT
     }
 
-    /// Holds an object under the next name, which is live. Each fault hands the object back, and
-    /// has changed nothing.
+    /// Holds an object under the next name, which is live; a graph has no nodes yet. Each fault
+    /// hands the object back, and has changed nothing.
     pub fn insert(&mut self, object: Object) -> Result<u32, InsertFault>
+        requires { nodes_in object ≡ [] }
         ensures name { IfOk result (λ name. name ≡ self.old.next) }
         ensures ok { OnOk result (self.new ≡ with_new self.old object) }
-        ensures room { OnOk result (IsTrue (can_insert self.old.next self.old.objects)) }
-        ensures fault { IfErr result (λ e. e.fault ≡ (if can_insert self.old.next self.old.objects then NoMemory else NoResources)) }
+        ensures room { OnOk result (IsTrue (can_insert self.old)) }
+        ensures fault { IfErr result (λ e. e.fault ≡ (if can_insert self.old then NoMemory else NoResources)) }
         ensures err { OnErr result (self.new ≡ self.old) }
         ensures handed_back { IfErr result (λ e. e.object ≡ object) }
-        ensures names { IsNames self.old.next self.old.objects }
     {
-        if !self.names.can_insert() {
+        if !self.can_insert() {
             return Err(InsertFault {
                 fault: TableFault::NoResources,
                 object,
             });
         }
+        let name = self.next as u32;
         let bytes = object.bytes() as u64;
-        match self.names.insert(object) {
-            Ok(name) => {
+        let entry = Entry {
+            live: true,
+            uses: 0,
+            object,
+        };
+        match self.entries.insert(name, entry) {
+            Ok(_) => {
+                self.next += 1;
                 self.charge += bytes;
                 Ok(name)
             }
-            Err(object) => Err(InsertFault {
+            Err(failed) => Err(InsertFault {
                 fault: TableFault::NoMemory,
-                object,
+                object: failed.value.1.object,
             }),
         }
-    }
-
-    /// The index of the object whose live name this is. What a table keeps of its names is known
-    /// to who asks.
-    pub fn index_of(&self, name: u32) -> Option<usize>
-        ensures index { result ≡ position (is_live_as name) self.now.objects }
-        ensures names { IsNames self.now.next self.now.objects }
-    {
-        self.names.index_of(name)
-    }
-
-    /// The index of the object that is held under this name, which may be released.
-    pub fn index_of_held(&self, name: u32) -> Option<usize>
-        ensures index { result ≡ position (λ e. e.name == name) self.now.objects }
-        ensures names { IsNames self.now.next self.now.objects }
-    {
-        self.names.search(name)
-    }
-
-    /// The names are in their order, and what has them is held, which the prover knows where they
-    /// are read.
-    pub fn is_named(&self)
-        ensures { IsNames self.now.next self.now.objects }
-    {
-        let _names = &self.names;
-    }
-
-    /// The object at an index.
-    pub fn object(&self, index: usize) -> &Object
-        requires { index < length self.now.objects }
-        ensures { result.now ≡ (entry_at self.now.objects index).object }
-    {
-        let entry = &self.names.entries[index];
-        &entry.object
-    }
-
-    /// The image at a place.
-    pub fn image_at(&self, place: Place) -> &Stored
-        requires { HasImageAt self.now.objects place }
-        ensures { result.now ≡ image_at self.now.objects place }
-    {
-        self.object(place.index).image(place.slot)
     }
 
     /// The object whose live name this is.
     pub fn get(&self, name: u32) -> Result<&Object, TableFault>
         ensures ok { IfOk result (λ object. object_named self.now.objects name ≡ Some object.now) }
+        ensures held { IfOk result (λ object. object_held self.now.objects name ≡ Some object.now) }
         ensures err { IfErr result (λ fault. (fault ≡ InvalidReference) × (object_named self.now.objects name ≡ None)) }
     {
-        match self.names.index_of(name) {
-            Some(index) => Ok(self.object(index)),
-            None => Err(TableFault::InvalidReference),
+        match self.entries.get(&name) {
+            Some(entry) if entry.live => Ok(&entry.object),
+            _ => Err(TableFault::InvalidReference),
         }
     }
 
-    /// Ends a name. What no node uses is no longer held, and its memory is given back.
-    pub fn release(&mut self, name: u32) -> Result<(), TableFault>
-        ensures result { result ≡ (if is_none (object_named self.old.objects name) then Err InvalidReference else Ok tt) }
-        ensures ok { OnOk result (self.new ≡ with_objects self.old (released name self.old.objects)) }
-        ensures err { OnErr result (self.new ≡ self.old) }
-        ensures names { IsNames self.new.next self.new.objects }
+    /// The object that is held under this name, which may be released.
+    pub fn get_held(&self, name: u32) -> Option<&Object>
+        ensures { option_map (λ object. object.now) result ≡ object_held self.now.objects name }
     {
-        let Some(index) = self.names.index_of(name) else {
-            return Err(TableFault::InvalidReference);
-        };
-        let object = self.names.release_at(index);
-        self.charge = discharged(self.charge, object);
-        Ok(())
-    }
-
-    /// One more node uses the object that is held under a name, which fewer than 2^32 - 1 use.
-    pub fn use_by(&mut self, name: u32)
-        requires { Any (λ e. (e.name ≡ name) × (e.uses < 4294967295)) self.old.objects }
-        ensures value { self.new ≡ with_objects self.old (used name self.old.objects) }
-        ensures names { IsNames self.new.next self.new.objects }
-    {
-        if let Some(index) = self.names.search(name) {
-            self.names.use_at(index);
+        match self.entries.get(&name) {
+            Some(entry) => Some(&entry.object),
+            None => None,
         }
     }
 
-    /// A node ends its use of the object that is held under a name. What is then neither named nor
-    /// used is no longer held.
-    pub fn unuse(&mut self, name: u32)
-        requires { Any (λ e. (e.name ≡ name) × (0 < e.uses)) self.old.objects }
-        ensures value { self.new ≡ with_objects self.old (unused name self.old.objects) }
-        ensures names { IsNames self.new.next self.new.objects }
+    /// The image that a cell holds.
+    pub fn image(&self, cell: ObjRef) -> &Stored
+        requires { HoldsImage self.now.objects cell }
+        ensures { result.now ≡ image_held self.now.objects cell }
     {
-        if let Some(index) = self.names.search(name) {
-            let object = self.names.unuse_at(index);
-            self.charge = discharged(self.charge, object);
+        match self.entries.get(&cell.name()) {
+            Some(entry) => entry.object.image(cell.slot()),
+            None => unreachable!(),
         }
     }
 
-    /// The object at an index and the given one change places. Name, mark and uses stay, and the
-    /// charge is that of the new object. It takes no memory.
-    pub fn exchange(&mut self, index: usize, object: &mut Object)
-        requires { index < length self.old.objects }
-        ensures value { self.new ≡ with_objects self.old (replaced self.old.objects (record { index = index; slot = None }) object.old) }
-        ensures handed_out { object.new ≡ (entry_at self.old.objects index).object }
-        ensures names { IsNames self.old.next self.old.objects }
+    /// The object under a name and the given one change places; neither is a graph with nodes. Name
+    /// and uses stay, and the charge is that of the new object. It takes no memory.
+    pub fn exchange(&mut self, name: u32, object: &mut Object)
+        requires held { IsSome (object_held self.old.objects name) }
+        requires gone { nodes_in (object_under self.old.objects name) ≡ [] }
+        requires come { nodes_in object.old ≡ [] }
+        ensures value { self.new ≡ with_objects self.old (with_object self.old.objects (cell_of name) object.old) }
+        ensures handed_out { object.new ≡ object_under self.old.objects name }
     {
         let come = object.bytes() as u64;
-        let entry = &mut self.names.entries[index];
+        let Some(entry) = self.entries.get_mut(&name) else {
+            unreachable!()
+        };
         let gone = entry.object.bytes() as u64;
         mem::swap(&mut entry.object, object);
         self.charge = self.charge - gone + come;
     }
 
-    /// Writes a picture to the image at a place; both are of one description.
-    pub fn write(&mut self, place: Place, picture: &Picture)
-        requires there { HasImageAt self.old.objects place }
-        requires object { IsObject (entry_at self.old.objects place.index).object }
-        requires same { description_of (image_at self.old.objects place) ≡ picture.now.description }
-        ensures value { self.new ≡ with_objects self.old (replaced self.old.objects place (ImageObject (pictured picture.now))) }
+    /// Writes a picture to the image that a cell holds; both are of one description.
+    pub fn write(&mut self, cell: ObjRef, picture: &Picture)
+        requires there { HoldsImage self.old.objects cell }
+        requires object { IsObject (object_under self.old.objects cell.name) }
+        requires same { description_of (image_held self.old.objects cell) ≡ picture.now.description }
+        ensures value { self.new ≡ with_objects self.old (with_object self.old.objects cell (ImageObject (pictured picture.now))) }
         ensures image { IsImage (pictured picture.now) }
-        ensures names { IsNames self.old.next self.old.objects }
     {
-        let entry = &mut self.names.entries[place.index];
-        entry.object.write(place.slot, picture);
+        let Some(entry) = self.entries.get_mut(&cell.name()) else {
+            unreachable!()
+        };
+        entry.object.write(cell.slot(), picture);
     }
 
-    /// Makes these places of the image at a place the valid ones, and each sample outside them 0.
-    pub fn set_valid(&mut self, place: Place, valid: Rect)
-        requires there { HasImageAt self.old.objects place }
-        requires object { IsObject (entry_at self.old.objects place.index).object }
-        requires room { IsWithin valid (image_at self.old.objects place).width (image_at self.old.objects place).height }
-        ensures value { self.new ≡ with_objects self.old (replaced self.old.objects place (ImageObject (with_valid valid (image_at self.old.objects place)))) }
-        ensures names { IsNames self.old.next self.old.objects }
+    /// Makes these places of the image that a cell holds the valid ones, and each sample outside
+    /// them 0.
+    pub fn set_valid(&mut self, cell: ObjRef, valid: Rect)
+        requires there { HoldsImage self.old.objects cell }
+        requires object { IsObject (object_under self.old.objects cell.name) }
+        requires room { IsWithin valid (image_held self.old.objects cell).width (image_held self.old.objects cell).height }
+        ensures { self.new ≡ with_objects self.old (with_object self.old.objects cell (ImageObject (with_valid valid (image_held self.old.objects cell)))) }
     {
-        let entry = &mut self.names.entries[place.index];
-        entry.object.set_valid(place.slot, valid);
+        let Some(entry) = self.entries.get_mut(&cell.name()) else {
+            unreachable!()
+        };
+        entry.object.set_valid(cell.slot(), valid);
     }
 
-    /// Takes out the samples of the image at a place, so that they can be written while other
-    /// images are read; `put` brings them back.
-    pub fn take(&mut self, place: Place) -> Samples
-        requires { HasImageAt self.old.objects place }
-        ensures value { values result ≡ (image_at self.old.objects place).samples }
-        ensures format { samples_format result ≡ (image_at self.old.objects place).format }
-        ensures names { IsNames self.old.next self.old.objects }
-        ensures left { self.new ≡ with_objects self.old (replaced self.old.objects place (with_samples (object_at self.old.objects place) (image_at self.old.objects place).valid [])) }
+    /// Takes out the samples of the image that a cell holds; `put` brings them back.
+    pub fn take(&mut self, cell: ObjRef) -> Samples
+        requires { HoldsImage self.old.objects cell }
+        ensures value { values result ≡ (image_held self.old.objects cell).samples }
+        ensures format { samples_format result ≡ (image_held self.old.objects cell).format }
+        ensures left { self.new ≡ with_objects self.old (with_object self.old.objects cell (with_samples (cell_object self.old.objects cell) (image_held self.old.objects cell).valid [])) }
     {
-        let entry = &mut self.names.entries[place.index];
-        entry.object.take(place.slot)
+        let Some(entry) = self.entries.get_mut(&cell.name()) else {
+            unreachable!()
+        };
+        entry.object.take(cell.slot())
     }
 
-    /// Gives the image at a place these samples, and this valid rectangle.
-    pub fn put(&mut self, place: Place, samples: Samples, valid: Rect)
-        requires there { HasImageAt self.old.objects place }
-        requires format { samples_format samples ≡ (image_at self.old.objects place).format }
-        ensures { self.new ≡ with_objects self.old (replaced self.old.objects place (with_samples (object_at self.old.objects place) valid (values samples))) }
+    /// Gives the image that a cell holds these samples, and this valid rectangle.
+    pub fn put(&mut self, cell: ObjRef, samples: Samples, valid: Rect)
+        requires there { HoldsImage self.old.objects cell }
+        requires format { samples_format samples ≡ (image_held self.old.objects cell).format }
+        ensures { self.new ≡ with_objects self.old (with_object self.old.objects cell (with_samples (cell_object self.old.objects cell) valid (values samples))) }
     {
-        let entry = &mut self.names.entries[place.index];
-        entry.object.put(place.slot, samples, valid);
+        let Some(entry) = self.entries.get_mut(&cell.name()) else {
+            unreachable!()
+        };
+        entry.object.put(cell.slot(), samples, valid);
     }
 
-    /// Ages the delay at an index. It takes no memory.
-    pub fn age(&mut self, index: usize)
-        requires within { index < length self.old.objects }
-        requires kind { object_kind (entry_at self.old.objects index).object ≡ kind.Delay }
-        ensures value { self.new ≡ with_objects self.old (replaced self.old.objects (record { index = index; slot = None }) (aged_object (entry_at self.old.objects index).object)) }
-        ensures names { IsNames self.old.next self.old.objects }
+    /// Ages the delay under a name. It takes no memory.
+    pub fn age(&mut self, name: u32)
+        requires { IsUnder self.old.objects kind.Delay name }
+        ensures { self.new ≡ with_objects self.old (with_object self.old.objects (cell_of name) (aged_object (object_under self.old.objects name))) }
     {
-        let entry = &mut self.names.entries[index];
+        let Some(entry) = self.entries.get_mut(&name) else {
+            unreachable!()
+        };
         entry.object.age();
     }
 
-    /// Replaces the counts of the distribution at an index by these, one for each bin. It takes no
-    /// memory.
-    pub fn set_counts(&mut self, index: usize, counts: &[u32])
-        requires within { index < length self.old.objects }
-        requires kind { object_kind (entry_at self.old.objects index).object ≡ kind.Distribution }
-        requires size { length counts.now ≡ (distribution_value (entry_at self.old.objects index).object).bins.bins }
-        ensures value { self.new ≡ with_objects self.old (replaced self.old.objects (record { index = index; slot = None }) (with_counts (entry_at self.old.objects index).object counts.now)) }
-        ensures names { IsNames self.old.next self.old.objects }
+    /// Replaces the counts of the distribution under a name by these, one for each bin.
+    pub fn set_counts(&mut self, name: u32, counts: &[u32])
+        requires kind { IsUnder self.old.objects kind.Distribution name }
+        requires size { length counts.now ≡ (distribution_value (object_under self.old.objects name)).bins.bins }
+        ensures { self.new ≡ with_objects self.old (with_object self.old.objects (cell_of name) (with_counts (object_under self.old.objects name) counts.now)) }
     {
-        let entry = &mut self.names.entries[index];
+        let Some(entry) = self.entries.get_mut(&name) else {
+            unreachable!()
+        };
         entry.object.set_counts(counts);
     }
 
-    /// Replaces the extremes at an index by these.
-    pub fn set_extremes(&mut self, index: usize, extremes: Extremes)
-        requires within { index < length self.old.objects }
-        requires kind { object_kind (entry_at self.old.objects index).object ≡ kind.Extremes }
-        ensures value { self.new ≡ with_objects self.old (replaced self.old.objects (record { index = index; slot = None }) (ExtremesObject extremes)) }
-        ensures names { IsNames self.old.next self.old.objects }
+    /// Replaces the extremes under a name by these.
+    pub fn set_extremes(&mut self, name: u32, extremes: Extremes)
+        requires { IsUnder self.old.objects kind.Extremes name }
+        ensures { self.new ≡ with_objects self.old (with_object self.old.objects (cell_of name) (ExtremesObject extremes)) }
     {
-        let entry = &mut self.names.entries[index];
+        let Some(entry) = self.entries.get_mut(&name) else {
+            unreachable!()
+        };
         entry.object.set_extremes(extremes);
-    }
-}
-
-/// A charge without that of an object that is no longer held, whose memory is given back.
-fn discharged(charge: u64, object: Option<Object>) -> u64
-    requires { unwrap_or (option_map object_bytes object) 0 ≤ charge }
-    ensures { result + unwrap_or (option_map object_bytes object) 0 ≡ charge }
-{
-    match object {
-        None => charge,
-        Some(object) => charge - object.bytes() as u64,
     }
 }

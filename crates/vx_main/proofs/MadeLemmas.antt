@@ -16,7 +16,8 @@ use Rattle.client_model.specs.declared.request.Request.TheVariants.{OpenContext,
 use Rattle.client_model.specs.declared.reply.Reply.{Reply}
 use Rattle.client_model.specs.declared.reply.Reply.TheVariants.{Text}
 use Rattle.client_model.specs.Allowance.{Allowance, default_allowance}
-use Rattle.client_model.specs.Context.{State, World, new_context, state_of, charge_of}
+use Rattle.object_table.specs.Context.{new_context, charge_of}
+use Rattle.client_model.specs.Context.{State, World, state_of}
 use Rattle.client_model.specs.Answer.{answer_to}
 use Rattle.vx_main.specs.declared.job.Job.{Job}
 use Rattle.vx_main.specs.declared.job.Operation.{Operation}

@@ -6,7 +6,8 @@ use Rattle.vx_base.specs.Cell.{Cell}
 use Rattle.vx_base.specs.Image.{IsImage}
 use Rattle.client_model.specs.declared.request.Request.{Request}
 use Rattle.client_model.specs.Allowance.{Allowance}
-use Rattle.client_model.specs.Context.{Context, State}
+use Rattle.object_table.specs.Context.{Context}
+use Rattle.client_model.specs.Context.{State}
 use Rattle.client_model.specs.Operands.{image_of}
 use Rattle.client_model.specs.Request.{IsRequest}
 use Rattle.client_model.specs.States.{KeepsLimits}

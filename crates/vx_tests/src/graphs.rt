@@ -1,9 +1,12 @@
 //! Graphs and the numbers of their nodes, and outlines of images that aren't there.
-ghost use Rattle.std.specs.Prelude.{◌≡◌};
-ghost use Rattle.object_table.specs.Table.{new_table};
+ghost use Rattle.std.specs.Prelude.{◌≡◌, ◌∷◌, [], IfOk, IsTrue, is_some, true};
+ghost use Rattle.vx_base.specs.declared.kind.Kind.TheVariants as kind;
+ghost use Rattle.object_table.specs.Context.{object_named};
+ghost use Rattle.object_table.specs.Table.{IsUnder};
+ghost use Rattle.object_table.specs.Uses.{used_names};
 
 use graph_verify::{Graph, GraphFault, Linked, Operand, Operands, Verdict, VerifyFault, verify};
-use object_table::{Content, Object, Table};
+use object_table::{Content, Object, Stored, Table, TableFault};
 use std::alloc::Global;
 use std::test::Fail;
 use vx_base::{
@@ -11,7 +14,9 @@ use vx_base::{
 };
 
 /// Not of the image of one name to that of another.
-fn not(input: u32, output: u32) -> Result<NodeSpec, Fail> {
+fn not(input: u32, output: u32) -> Result<NodeSpec, Fail>
+    ensures { IfOk result (λ n. used_names n ≡ input ∷ output ∷ []) }
+{
     let node = Node {
         function: Function::NotBits,
         border: Border::Undefined,
@@ -110,29 +115,87 @@ fn a_verified_graph_has_an_order_and_descriptions(rt: HostRuntime) -> Result<(),
     Ok(())
 }
 
-/// The graph of a new table: how many nodes it has once one was added, and a second one and that
-/// removed.
-fn nodes_in_a_table(alloc: Global, table: &mut Table, node: NodeSpec) -> Result<[usize; 2], Fail>
-    requires { table.old ≡ new_table }
+/// A table that holds images of four samples named 1 and 2, and a graph named 3.
+fn images_and_a_graph(alloc: Global) -> Result<Table, Fail> {
+    let desc = Desc::new(2, 2, Format::U8).ok_or("within the limits")?;
+    let mut table = Table::new(alloc);
+    for _ in 0..2 {
+        let image = Object::new(Content::Image(Stored::new(alloc, desc)?));
+        table.insert(image).ok().ok_or("no memory")?;
+    }
+    let graph = Object::new(Content::Graph(Graph::new(alloc)));
+    table.insert(graph).ok().ok_or("no memory")?;
+    Ok(table)
+}
+
+/// Whether the name is a graph's.
+fn is_graph(table: &Table, name: u32) -> bool
+    ensures kind { result ≡ true → IsUnder table.now.objects kind.Graph name }
+    ensures live { result ≡ true → IsTrue (is_some (object_named table.now.objects name)) }
 {
-    let Ok(_) = table.insert(Object::new(Content::Graph(Graph::new(alloc)))) else {
-        return Err("no memory".into());
-    };
-    let Ok(1) = table.add_node(0, node) else {
-        return Err("no memory".into());
-    };
-    let first = table.graph(0).nodes().len();
-    let Ok(_) = table.remove_node(0, 1) else {
-        return Err("it has the number".into());
-    };
-    let graph = table.take_graph(0);
-    Ok([first, graph.nodes().len()])
+    match table.get(name) {
+        Ok(object) => object.kind() == Kind::Graph,
+        Err(_) => false,
+    }
+}
+
+/// Adds the node Not, from the image of one name to that of another, to the graph of a name.
+fn add_not(table: &mut Table, graph: u32, input: u32, output: u32) -> Result<u32, Fail> {
+    let node = not(input, output)?;
+    if !is_graph(table, graph)
+        || table.get_held(input).is_none()
+        || table.get_held(output).is_none()
+    {
+        return Err("not there".into());
+    }
+    Ok(table.add_node(graph, node).ok().ok_or("no room")?)
+}
+
+/// Removes a node of the graph of a name.
+fn remove_node(table: &mut Table, graph: u32, number: u32) -> Result<(), Fail> {
+    if !is_graph(table, graph) {
+        return Err("not there".into());
+    }
+    Ok(table.remove_node(graph, number).or(Err("no such node"))?)
+}
+
+/// How many nodes the graph of a name has.
+fn count_of_nodes(table: &Table, name: u32) -> usize {
+    if is_graph(table, name) {
+        table.graph(name).nodes().len()
+    } else {
+        0
+    }
 }
 
 #[test]
-fn a_table_holds_graphs(rt: HostRuntime) -> Result<(), Fail> {
-    let nodes = nodes_in_a_table(rt.alloc(), &mut Table::new(rt.alloc()), not(1, 2)?)?;
-    assert_eq!(rt; nodes, [1, 0]);
+fn what_a_node_uses_is_held(rt: HostRuntime) -> Result<(), Fail> {
+    let mut table = images_and_a_graph(rt.alloc())?;
+    assert_eq!(rt; add_not(&mut table, 3, 1, 2)?, 1);
+    assert_eq!(rt; add_not(&mut table, 3, 1, 1)?, 2);
+    assert_eq!(rt; count_of_nodes(&table, 3), 2);
+    assert_eq!(rt; table.release(1), Ok(()));
+    assert_eq!(rt; table.release(1), Err(TableFault::InvalidReference));
+    assert!(rt; table.get(1).is_err() && table.get_held(1).is_some());
+    assert_eq!(rt; (table.held(), table.charged_bytes()), (3, 8));
+    remove_node(&mut table, 3, 1)?;
+    assert_eq!(rt; (table.held(), table.charged_bytes()), (3, 8));
+    remove_node(&mut table, 3, 2)?;
+    assert!(rt; table.get_held(1).is_none());
+    assert_eq!(rt; (table.held(), table.charged_bytes()), (2, 4));
+    assert_eq!(rt; count_of_nodes(&table, 3), 0);
+    Ok(())
+}
+
+#[test]
+fn a_released_graph_uses_nothing(rt: HostRuntime) -> Result<(), Fail> {
+    let mut table = images_and_a_graph(rt.alloc())?;
+    assert_eq!(rt; add_not(&mut table, 3, 1, 2)?, 1);
+    assert_eq!(rt; table.release(2), Ok(()));
+    assert_eq!(rt; (table.held(), table.charged_bytes()), (3, 8));
+    assert_eq!(rt; table.release(3), Ok(()));
+    assert!(rt; table.get_held(2).is_none() && table.get(1).is_ok());
+    assert_eq!(rt; (table.held(), table.charged_bytes()), (1, 4));
     Ok(())
 }
 

@@ -9,8 +9,8 @@
 //! - `adapters`: what std's readers and writers answer, through `FromRead` and `FromWrite`
 //! - `requests`: requests as bytes, and back; texts of faults
 //! - `clients`: what a client with a small quota may hold
-//! - `tables`: names, uses and the charge of a table, and objects that are set
-//! - `graphs`: graphs and the numbers of their nodes
+//! - `tables`: names and the charge of a table, and objects that are set
+//! - `graphs`: graphs, the numbers of their nodes, and what these use in a table
 //! - `values`: rectangles, codes and tables
 //! - `images`: images that are valid in a part
 //! - `rows`: the kernels of lane_rows, at lengths around that of a block

@@ -1,6 +1,7 @@
-//! Names, uses and the charge of a table, the slots of a delay, and objects that are set.
-ghost use Rattle.std.specs.Prelude.{◌≡◌};
-ghost use Rattle.object_table.specs.Table.{new_table};
+//! Names and the charge of a table, the slots of a delay, and objects that are set.
+ghost use Rattle.std.specs.Prelude.{◌≡◌, [], IfOk};
+ghost use Rattle.object_table.specs.Object.{value_of};
+ghost use Rattle.object_table.specs.Uses.{nodes_in};
 
 use object_table::{Content, Delay, Distribution, Object, Stored, Table, TableFault};
 use std::alloc::Global;
@@ -8,7 +9,9 @@ use std::test::Fail;
 use vx_base::{Bins, Convolution, Desc, Extremes, Format, Kind, SlotCount};
 
 /// An image of 2 by 2 samples of U8.
-fn image(alloc: Global) -> Result<Object, Fail> {
+fn image(alloc: Global) -> Result<Object, Fail>
+    ensures { IfOk result (λ object. nodes_in object ≡ []) }
+{
     let desc = Desc::new(2, 2, Format::U8).ok_or("within the limits")?;
     Ok(Object::new(Content::Image(Stored::new(alloc, desc)?)))
 }
@@ -31,40 +34,12 @@ fn names_follow_each_other(rt: HostRuntime) -> Result<(), Fail> {
     assert_eq!(rt; insert(alloc, &mut table)?, 5);
     assert_eq!(rt; table.held(), 4);
     assert_eq!(rt; table.charged_bytes(), 16);
-    assert_eq!(rt; table.index_of(5), Some(3));
-    assert_eq!(rt; table.index_of(4), None);
+    assert!(rt; table.get_held(5).is_some());
+    assert!(rt; table.get_held(4).is_none());
     let found = table.get(3).map(|object| object.kind());
     assert_eq!(rt; found, Ok(Kind::Image));
     let lost = table.get(4).map(|object| object.kind());
     assert_eq!(rt; lost, Err(TableFault::InvalidReference));
-    Ok(())
-}
-
-/// How many objects are held, and what they are charged: after a use and the name's release, and
-/// after the use's end.
-fn held_by_a_use(table: &mut Table, object: Object) -> Result<[(usize, u64); 2], Fail>
-    requires { table.old ≡ new_table }
-{
-    let Ok(_) = table.insert(object) else {
-        return Err("no memory".into());
-    };
-    table.use_by(1);
-    let Ok(()) = table.release(1) else {
-        return Err("its name is live".into());
-    };
-    if table.index_of(1).is_some() || table.index_of_held(1) != Some(0) {
-        return Err("held, and not live".into());
-    }
-    let used = (table.held(), table.charged_bytes());
-    table.unuse(1);
-    Ok([used, (table.held(), table.charged_bytes())])
-}
-
-#[test]
-fn what_is_used_is_held(rt: HostRuntime) -> Result<(), Fail> {
-    let object = image(rt.alloc())?;
-    let held = held_by_a_use(&mut Table::new(rt.alloc()), object)?;
-    assert_eq!(rt; held, [(1, 4), (0, 0)]);
     Ok(())
 }
 
@@ -104,8 +79,10 @@ fn a_delay_has_its_slots(rt: HostRuntime) -> Result<(), Fail> {
     Ok(())
 }
 
-/// Holds these contents, under this name.
-fn hold(table: &mut Table, content: Content) -> Result<u32, Fail> {
+/// Holds these contents, which are no graph with nodes, under this name.
+fn hold(table: &mut Table, content: Content) -> Result<u32, Fail>
+    requires { nodes_in (value_of content) ≡ [] }
+{
     let object = Object::new(content);
     Ok(table.insert(object).ok().ok_or("no memory")?)
 }
@@ -142,16 +119,13 @@ fn counts_of(table: &Table, name: u32) -> Option<&[u32]> {
     }
 }
 
-/// Gives the distribution at an index these counts, if one of so many bins is there.
-fn set_counts(table: &mut Table, index: usize, counts: &[u32]) -> bool {
-    if index >= table.held() {
-        return false;
-    }
-    match table.object(index).content() {
-        Content::Distribution(held) if held.counts().len() == counts.len() => {}
+/// Gives the distribution of this name these counts, if it is one of so many bins.
+fn set_counts(table: &mut Table, name: u32, counts: &[u32]) -> bool {
+    match table.get_held(name).map(|object| object.content()) {
+        Some(Content::Distribution(held)) if held.counts().len() == counts.len() => {}
         _ => return false,
     }
-    table.set_counts(index, counts);
+    table.set_counts(name, counts);
     true
 }
 
@@ -168,11 +142,11 @@ fn a_distribution_has_the_last_counts(rt: HostRuntime) -> Result<(), Fail> {
     assert_eq!(rt; kind_of(&table, name), Some((Kind::Distribution, 0)));
     assert!(rt; counts_of(&table, name) == Some(&[0, 0, 0, 0]));
     for counts in [[1, 2, 3, 4], [4294967295, 0, 0, 7], [0, 1, 0, 0]] {
-        assert!(rt; set_counts(&mut table, 1, &counts));
+        assert!(rt; set_counts(&mut table, name, &counts));
         assert!(rt; counts_of(&table, name) == Some(&counts));
     }
-    assert!(rt; !set_counts(&mut table, 1, &[1, 2, 3]));
-    assert!(rt; !set_counts(&mut table, 0, &[1, 2, 3, 4]));
+    assert!(rt; !set_counts(&mut table, name, &[1, 2, 3]));
+    assert!(rt; !set_counts(&mut table, 1, &[1, 2, 3, 4]));
     assert_eq!(rt; table.charged_bytes(), 4);
     Ok(())
 }
@@ -185,12 +159,13 @@ fn extremes_of(table: &Table, name: u32) -> Option<Extremes> {
     }
 }
 
-/// Makes these the extremes at an index, if there are some.
-fn set_extremes(table: &mut Table, index: usize, extremes: Extremes) -> bool {
-    if index >= table.held() || table.object(index).kind() != Kind::Extremes {
-        return false;
+/// Makes these the extremes of this name, if it has some.
+fn set_extremes(table: &mut Table, name: u32, extremes: Extremes) -> bool {
+    match table.get_held(name) {
+        Some(object) if object.kind() == Kind::Extremes => {}
+        _ => return false,
     }
-    table.set_extremes(index, extremes);
+    table.set_extremes(name, extremes);
     true
 }
 
@@ -219,10 +194,10 @@ fn extremes_are_the_last(rt: HostRuntime) -> Result<(), Fail> {
     assert_eq!(rt; kind_of(&table, name), Some((Kind::Extremes, 0)));
     assert_eq!(rt; extremes_of(&table, name), Some(nowhere));
     for extremes in [found, nowhere] {
-        assert!(rt; set_extremes(&mut table, 1, extremes));
+        assert!(rt; set_extremes(&mut table, name, extremes));
         assert_eq!(rt; extremes_of(&table, name), Some(extremes));
     }
-    assert!(rt; !set_extremes(&mut table, 0, found));
+    assert!(rt; !set_extremes(&mut table, 1, found));
     assert_eq!(rt; kind_of(&table, 1), Some((Kind::Image, 4)));
     Ok(())
 }

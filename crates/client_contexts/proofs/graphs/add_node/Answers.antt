@@ -1,10 +1,40 @@
-use Rattle.std.proofs.Common.{subst, sym}
-use Rattle.graph_run.specs.Places.{entry_at}
+use Rattle.std.proofs.Common.{rules, Ok, ap, sym, subst, ◌∙◌, ◌==◌, Some, ◌∷◌}
+use Rattle.vx_base.specs.declared.kind.Kind.TheVariants as kind
+use Rattle.vx_base.specs.declared.node.Node.{Node}
+use Rattle.vx_base.specs.Node.{operands}
+use Rattle.object_table.specs.Context.{cell_of}
+use Rattle.client_model.specs.declared.reply.Reply.TheVariants as reply
+use Rattle.client_model.specs.Operands.{operands_refusal}
+use Rattle.client_model.specs.Graphs.{add_node}
 use Rattle.client_model.proofs.HoldLaws.{OperandsStand}
+use Rattle.client_model.proofs.GraphStepLaws.{add_node_keeps}
+use Rattle.client_contexts.proofs.KeptLemmas.{may_kept_by}
+use Rattle.client_contexts.proofs.AddLemmas.{names_held, node_added, node_refused}
 use Rattle.client_contexts.proofs.graphs.add_node.Goals as goal
 
-pub add_node-requires-clause-operands : goal.add_node-requires-clause-operands
-add_node-requires-clause-operands c =
-    let objects = c.args.context.now.objects in
-    subst (OperandsStand objects (entry_at objects c.in_ok-index.index).name) c.node.ensures.value
-    (subst (λ name. OperandsStand objects name c.node.result) (sym c.in_ok-index.ensures.ok.named) c.in_ok-index.ensures.operands)
+pub add_node-requires-clause-held : goal.add_node-requires-clause-held
+add_node-requires-clause-held c =
+    names_held c.args.table.now.objects c.args.graph c.args.node (subst (OperandsStand c.args.table.now.objects c.args.graph) c.node.ensures.value c.in_ok-find_graph_for.ensures.operands)
+
+pub returns-in_err-add_node-clause-comes : goal.returns-in_err-add_node-clause-comes
+returns-in_err-add_node-clause-comes c =
+    let found = c.in_ok-find_graph_for.ensures in
+    let known = found.err ∙ ap (λ (n : Node). operands_refusal (Some c.args.graph) c.args.table.now.objects ((cell_of c.args.graph, kind.Graph) ∷ operands n)) c.node.ensures.value in
+    let refused = node_refused c.requires.0 c.args.table.now c.args.graph c.requires.1 found.ok.0 found.ok.1 c.args.node known _ c.in_err-add_node.ensures.fault in
+    search (rules, refused)
+
+pub returns-clause-comes : goal.returns-clause-comes
+returns-clause-comes c =
+    let found = c.in_ok-find_graph_for.ensures in
+    let known = found.err ∙ ap (λ (n : Node). operands_refusal (Some c.args.graph) c.args.table.now.objects ((cell_of c.args.graph, kind.Graph) ∷ operands n)) c.node.ensures.value in
+    let added = c.in_ok-add_node.ensures in
+    node_added c.requires.0 c.args.table.now c.args.graph c.requires.1 found.ok.0 found.ok.1 c.args.node known _ _ added.room added.number added.ok
+
+pub returns-clause-kept : goal.returns-clause-kept
+returns-clause-kept c = λ limits h.
+    let found = c.in_ok-find_graph_for.ensures in
+    let known = found.err ∙ ap (λ (n : Node). operands_refusal (Some c.args.graph) c.args.table.now.objects ((cell_of c.args.graph, kind.Graph) ∷ operands n)) c.node.ensures.value in
+    let added = c.in_ok-add_node.ensures in
+    let comes = node_added limits c.args.table.now c.args.graph h found.ok.0 found.ok.1 c.args.node known _ _ added.room added.number added.ok in
+    may_kept_by (λ other. c.args.graph == other) limits (add_node c.args.table.now c.args.graph c.args.node) c.args.table.now c.add_node.new.self (Ok (reply.Node c.in_ok-add_node.field-0)) comes
+    (add_node_keeps limits c.args.table.now c.args.graph c.args.node h c.node.ensures.node) h

@@ -1,61 +1,69 @@
-use Rattle.std.proofs.Common.{◌∙◌, ap, sym, refl, subst, rules, Some, Ok}
+use Rattle.std.proofs.Common.{◌≡◌, ◌∙◌, true, false, ap, sym, refl, subst}
+use Rattle.std.specs.Prelude.{Some, None, Ok}
 use Rattle.std.specs.List.{list_any}
 use Rattle.vx_base.specs.declared.node.Node.{Node}
 use Rattle.vx_base.specs.Node.{IsNode}
-use Rattle.client_model.specs.Context.{Context}
+use Rattle.object_table.specs.Context.{Context}
 use Rattle.graph_verify.specs.Operand.{is_virtual}
 use Rattle.graph_verify.specs.Verdict.{verdict_on}
 use Rattle.client_model.specs.declared.reply.Reply.TheVariants.{Empty}
-use Rattle.client_model.specs.Refusal.{Outcome}
 use Rattle.client_model.specs.Immediate.{immediate}
+use Rattle.client_model.specs.Refusal.{Outcome}
+use Rattle.client_model.proofs.NodeStepLaws.{immediate_keeps}
+use Rattle.client_model.proofs.OutcomeLaws.{Keeps}
 use Rattle.client_contexts.specs.Steps.{all_operands}
-use Rattle.client_contexts.proofs.ImmediateLemmas.{operands_refuse, away_refuses, verdict_refuses, nothing_refuses, all_stand}
+use Rattle.client_contexts.proofs.ImmediateLemmas.{away_refuses, verdict_refuses, nothing_refuses, all_of_kind}
 use Rattle.client_contexts.proofs.immediate.run_at_once.Goals as goal
 
-pub returns-in_err-places : goal.returns-in_err-places
-returns-in_err-places c =
-    let e = ap (λ (n : Node). immediate c.args.context.now n) (sym c.node-node.ensures.value)
-    ∙ operands_refuse c.args.context.now c.node-node.result c.in_err-places.field-0.0 c.in_err-places.ensures.err in
-    search (rules, e)
-
-pub returns-then-has_virtual : goal.returns-then-has_virtual
-returns-then-has_virtual c =
+pub returns-then-has_virtual-clause-comes : goal.returns-then-has_virtual-clause-comes
+returns-then-has_virtual-clause-comes c =
+    let t = c.args.table.now in
     record {
       done = tt;
-      refused = ap (λ (n : Node). immediate c.args.context.now n) (sym c.node-node.ensures.value)
-          ∙ away_refuses c.args.context.now c.node-node.result c.in_ok-places.places c.in_ok-places.ensures.ok c.in_ok-places.ensures.err
-          (ap (λ o. list_any is_virtual (all_operands o)) (sym c.operands_at-operands.ensures) ∙ sym c.has_virtual.ensures ∙ c.if-has_virtual.true);
+      refused =
+          ap (λ (n : Node). immediate t n) (sym c.node-node.ensures.value)
+          ∙ away_refuses t c.node-node.result c.in-Ok.ensures.found c.in-Ok.ensures.err
+          (ap (λ o. list_any is_virtual (all_operands o)) (sym c.in-Ok.ensures.ok) ∙ sym c.has_virtual.ensures ∙ c.if-has_virtual.true);
       kept = refl;
     }
 
-pub run-requires : goal.run-requires
-run-requires c =
+pub returns-in-Some-clause-comes : goal.returns-in-Some-clause-comes
+returns-in-Some-clause-comes c =
+    let t = c.args.table.now in
+    record {
+      done = tt;
+      refused =
+          ap (λ (n : Node). immediate t n) (sym c.node-node.ensures.value)
+          ∙ verdict_refuses t c.node-node.result c.in-Ok.ensures.found c.in-Ok.ensures.err
+          (ap (λ o. list_any is_virtual (all_operands o)) (sym c.in-Ok.ensures.ok) ∙ sym c.has_virtual.ensures ∙ c.if-has_virtual.false) c.in-Some.verdict
+          (ap (verdict_on c.node-node.result) (sym c.in-Ok.ensures.ok) ∙ sym c.verdict_on.ensures ∙ c.in-Some.is);
+      kept = refl;
+    }
+
+pub run_once-requires-clause-runs : goal.run_once-requires-clause-runs
+run_once-requires-clause-runs c =
     record {
       node = subst IsNode (sym c.node-node.ensures.value) c.node-node.ensures.node;
-      places = all_stand c.args.context.now c.node-node.result c.in_ok-places.places c.in_ok-places.ensures.ok c.in_ok-places.ensures.err
-          (ap (λ o. list_any is_virtual (all_operands o)) (sym c.operands_at-operands.ensures) ∙ sym c.has_virtual.ensures ∙ c.if-has_virtual.false);
-      verdict = ap (λ o. verdict_on c.node-node.result o) (sym c.operands_at-operands.ensures) ∙ sym c.verdict_on.ensures ∙ c.in_default.is;
+      kinds =
+          all_of_kind c.args.table.now c.node-node.result c.in-Ok.ensures.found c.in-Ok.ensures.err
+          (ap (λ o. list_any is_virtual (all_operands o)) (sym c.in-Ok.ensures.ok) ∙ sym c.has_virtual.ensures ∙ c.if-has_virtual.false);
+      verdict = ap (verdict_on c.node-node.result) (sym c.in-Ok.ensures.ok) ∙ sym c.verdict_on.ensures ∙ c.in_default.is;
     }
 
-pub returns-in-Some : goal.returns-in-Some
-returns-in-Some c =
+pub returns-clause-comes : goal.returns-clause-comes
+returns-clause-comes c =
+    let t = c.args.table.now in
     record {
-      done = tt;
-      refused = ap (λ (n : Node). immediate c.args.context.now n) (sym c.node-node.ensures.value)
-          ∙ verdict_refuses c.args.context.now c.node-node.result c.in_ok-places.places c.in_ok-places.ensures.ok c.in_ok-places.ensures.err
-          (ap (λ o. list_any is_virtual (all_operands o)) (sym c.operands_at-operands.ensures) ∙ sym c.has_virtual.ensures ∙ c.if-has_virtual.false) c.in-Some.verdict
-          (ap (λ o. verdict_on c.node-node.result o) (sym c.operands_at-operands.ensures) ∙ sym c.verdict_on.ensures ∙ c.in-Some.is);
-      kept = refl;
-    }
-
-pub returns : goal.returns
-returns c =
-    record {
-      done = ap (λ (n : Node). immediate c.args.context.now n) (sym c.node-node.ensures.value)
-          ∙ nothing_refuses c.args.context.now c.node-node.result c.in_ok-places.places c.in_ok-places.ensures.ok c.in_ok-places.ensures.err
-          (ap (λ o. list_any is_virtual (all_operands o)) (sym c.operands_at-operands.ensures) ∙ sym c.has_virtual.ensures ∙ c.if-has_virtual.false)
-          (ap (λ o. verdict_on c.node-node.result o) (sym c.operands_at-operands.ensures) ∙ sym c.verdict_on.ensures ∙ c.in_default.is)
-          ∙ ap (λ (after : Context). let done : Outcome = Ok (Empty, Some after) in done) (sym c.run.ensures);
+      done =
+          ap (λ (n : Node). immediate t n) (sym c.node-node.ensures.value)
+          ∙ nothing_refuses t c.node-node.result c.in-Ok.ensures.found c.in-Ok.ensures.err
+          (ap (λ o. list_any is_virtual (all_operands o)) (sym c.in-Ok.ensures.ok) ∙ sym c.has_virtual.ensures ∙ c.if-has_virtual.false)
+          (ap (verdict_on c.node-node.result) (sym c.in-Ok.ensures.ok) ∙ sym c.verdict_on.ensures ∙ c.in_default.is)
+          ∙ ap (λ (after : Context). let done : Outcome = Ok (Empty, Some after) in done) (sym c.run_once.ensures.value);
       refused = tt;
       kept = tt;
     }
+
+pub returns-clause-kept : goal.returns-clause-kept
+returns-clause-kept c = λ limits. λ h.
+    (subst (Keeps limits c.args.table.now) (returns-clause-comes c).done (immediate_keeps limits c.args.table.now c.args.node h c.node-node.ensures.node)).keeps

@@ -1,5 +1,4 @@
-use Rattle.std.proofs.Common.{◌≡◌, drop, map}
-use Rattle.object_table.specs.Named.{named}
+use Rattle.std.proofs.Common.{◌≡◌, drop}
 use Rattle.graph_run.specs.Graph.{one_by_one}
 use Rattle.graph_run.specs.Lasting.{Lasts}
 use Rattle.graph_run.specs.Turns.{CanRunInTurn}
@@ -9,8 +8,8 @@ use Rattle.graph_run.proofs.runs.run_steps.Given as goal
 abbrev pub invariant-loop-node : goal.invariant-loop-node
 invariant-loop-node l =
     record {
-      runs : CanRunInTurn (drop l.node-index l.steps) (map named l.table.objects);
-      value : one_by_one (drop l.node-index l.steps) (map named l.table.objects) ≡ one_by_one l.steps (map named l.initial.table.objects);
+      runs : CanRunInTurn (drop l.node-index l.steps) l.table.objects;
+      value : one_by_one (drop l.node-index l.steps) l.table.objects ≡ one_by_one l.steps l.initial.table.objects;
       next : l.table.next ≡ l.initial.table.next;
       lasts : Lasts l.initial.table.objects l.table.objects;
     }

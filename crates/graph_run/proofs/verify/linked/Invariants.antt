@@ -1,5 +1,4 @@
 use Rattle.std.proofs.Common.{◌≡◌, map, take}
-use Rattle.object_table.specs.Named.{named}
 use Rattle.graph_verify.specs.Linked.{linked_nodes, AreOperands}
 use Rattle.graph_run.specs.Operands.{operand_held}
 use Rattle.graph_run.proofs.verify.linked.Given as goal
@@ -7,5 +6,5 @@ use Rattle.graph_run.proofs.verify.linked.Given as goal
 abbrev pub invariant-loop-numbered : goal.invariant-loop-numbered
 invariant-loop-numbered l = record {
   nodes : linked_nodes l.linked.items ≡ map (λ n. n.node) (take l.numbered-index l.nodes);
-  operands : AreOperands (operand_held (map named l.table.objects)) l.linked.items;
+  operands : AreOperands (operand_held l.table.objects) l.linked.items;
 }

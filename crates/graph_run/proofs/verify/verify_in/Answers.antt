@@ -2,7 +2,6 @@ use Rattle.std.proofs.Common.{◌≡◌, ◌∙◌, IsTrue, map, sym, ap, subst}
 use Rattle.std.specs.Prelude.{All}
 use Rattle.vx_base.specs.declared.numbered.Numbered.{Numbered}
 use Rattle.vx_base.specs.Graph.{nodes_of}
-use Rattle.object_table.specs.Named.{named}
 use Rattle.graph_verify.specs.Linked.{linked_nodes, AreOperands}
 use Rattle.graph_verify.specs.Operand.{is_image}
 use Rattle.graph_run.specs.Operands.{operand_held}
@@ -11,7 +10,7 @@ use Rattle.graph_run.proofs.verify.verify_in.Goals as goal
 
 pub verify-requires-clause-images : goal.verify-requires-clause-images
 verify-requires-clause-images c =
-    let is = operand_held (map named c.args.table.now.objects) in
+    let is = operand_held c.args.table.now.objects in
     let nodes : linked_nodes c.deref.result.now ≡ nodes_of c.args.graph.now =
     ap linked_nodes c.deref.ensures.value ∙ c.in_ok-nodes.ensures.nodes ∙ ap (map (λ (n : Numbered). n.node)) c.nodes.ensures.nodes in
     images_are is c.deref.result.now (subst (AreOperands is) (sym c.deref.ensures.value) c.in_ok-nodes.ensures.operands)
@@ -19,7 +18,7 @@ verify-requires-clause-images c =
 
 pub returns-clause-refused : goal.returns-clause-refused
 returns-clause-refused c =
-    let is = operand_held (map named c.args.table.now.objects) in
+    let is = operand_held c.args.table.now.objects in
     let nodes : linked_nodes c.deref.result.now ≡ nodes_of c.args.graph.now =
     ap linked_nodes c.deref.ensures.value ∙ c.in_ok-nodes.ensures.nodes ∙ ap (map (λ (n : Numbered). n.node)) c.nodes.ensures.nodes in
     refused_is is c.deref.result.now (nodes_of c.args.graph.now) c.args.work c.verify.result nodes

@@ -1,7 +1,5 @@
-use Rattle.object_table.proofs.TableLemmas.{charge_limit}
+use Rattle.object_table.proofs.EntryLemmas.{charge_limit}
 use Rattle.object_table.proofs.table.Table.charged_bytes.Goals as goal
 
 pub returns-clause-limit : goal.returns-clause-limit
-returns-clause-limit c =
-    let s = c.self.inside in
-    charge_limit s.names.next s.charge s.names.entries.items c.self.invariant
+returns-clause-limit c = let s = c.self.inside in charge_limit s.next s.charge s.entries.entries c.self.invariant

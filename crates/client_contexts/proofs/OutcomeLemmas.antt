@@ -1,0 +1,54 @@
+-- Images that are found and changed, and what that keeps of the limits.
+use Rattle.std.proofs.Common.{◌≡◌, ℕ, Option, Some, None, IfOk, IfSome, subst}
+use Rattle.std.specs.Prelude.{unwrap_or}
+use Rattle.std.specs.Option.{option_map, option_and_then}
+use Rattle.vx_base.specs.declared.format.Format.TheVariants.{U8}
+use Rattle.vx_base.specs.declared.kind.Kind.{Kind}
+use Rattle.vx_base.specs.declared.kind.Kind.TheVariants as kind
+use Rattle.vx_base.specs.Cell.{Cell}
+use Rattle.vx_base.specs.Rectangle.{Rectangle, IsRectangle}
+use Rattle.vx_base.specs.Image.{ImageValue, IsImage, new_image, description_of, with_valid}
+use Rattle.vx_base.specs.Picture.{PictureValue, IsPicture, pictured}
+use Rattle.vx_base.specs.Object.{ObjectValue, ImageObject, IsObject, object_kind}
+use Rattle.object_table.specs.Context.{Context, with_objects}
+use Rattle.object_table.specs.Delay.{in_slot}
+use Rattle.object_table.specs.Named.{object_held, with_object}
+use Rattle.object_table.specs.Table.{object_under, HoldsImage}
+use Rattle.object_table.proofs.HeldLemmas.{object_held_has}
+use Rattle.client_model.specs.declared.reply.Reply.TheVariants.{Empty}
+use Rattle.client_model.specs.Allowance.{Allowance}
+use Rattle.client_model.specs.Refusal.{unless}
+use Rattle.client_model.specs.Images.{picture_refusal, write_to, valid_refusal, set_valid_of}
+use Rattle.client_model.specs.States.{KeepsLimits}
+use Rattle.client_model.proofs.OutcomeLaws.{Keeps}
+use Rattle.client_model.proofs.ImageStepLaws.{image_of_is, write_image_keeps, set_valid_keeps}
+use Rattle.client_contexts.specs.Lookup.{IsImageOf}
+
+-- ---- what is found
+
+-- the image that a reference names is one
+pub image_is : (limits : Allowance) (c : Context) (cell : Cell) (image : ImageValue) → KeepsLimits limits c → IsImageOf c.objects cell image → IsImage image
+image_is limits c cell image h found = subst (λ r. IfOk r IsImage) found.image (image_of_is limits c cell h)
+
+-- so is what is held under a name, where a cell of that name holds anything
+under_is : (found : Option ObjectValue) (slot : Option ℕ) (k : Kind) → option_map object_kind (option_and_then (in_slot slot) found) ≡ Some k → IfSome found IsObject → IsObject (unwrap_or found (ImageObject (new_image 0 0 U8)))
+under_is None slot k there is = cc
+under_is (Some object) slot k there is = is
+
+-- the object that holds an image is one
+pub holder_is : (limits : Allowance) (c : Context) (cell : Cell) → KeepsLimits limits c → HoldsImage c.objects cell → IsObject (object_under c.objects cell.name)
+holder_is limits c cell h there = under_is (object_held c.objects cell.name) cell.slot kind.Image there (object_held_has IsObject c.objects cell.name h.objects)
+
+-- ---- what is changed
+
+-- a picture that isn't refused is written
+pub written_keeps : (limits : Allowance) (c : Context) (cell : Cell) (image : ImageValue) (p : PictureValue) → KeepsLimits limits c → IsImageOf c.objects cell image → IsPicture p → picture_refusal (description_of image) p.description ≡ None → KeepsLimits limits (with_objects c (with_object c.objects cell (ImageObject (pictured p))))
+written_keeps limits c cell image p h found is allowed =
+    (subst (λ refusal. Keeps limits c (unless refusal Empty (with_objects c (with_object c.objects cell (ImageObject (pictured p)))))) allowed
+    (subst (λ i. Keeps limits c (write_to i c cell p)) found.image (write_image_keeps limits c cell p h is))).keeps
+
+-- a rectangle that isn't refused becomes the valid one
+pub set_keeps : (limits : Allowance) (c : Context) (cell : Cell) (image : ImageValue) (valid : Rectangle) → KeepsLimits limits c → IsImageOf c.objects cell image → IsRectangle valid → valid_refusal (description_of image) valid ≡ None → KeepsLimits limits (with_objects c (with_object c.objects cell (ImageObject (with_valid valid image))))
+set_keeps limits c cell image valid h found is allowed =
+    (subst (λ refusal. Keeps limits c (unless refusal Empty (with_objects c (with_object c.objects cell (ImageObject (with_valid valid image)))))) allowed
+    (subst (λ i. Keeps limits c (set_valid_of i c cell valid)) found.image (set_valid_keeps limits c cell valid h is.bounds))).keeps

@@ -1,0 +1,21 @@
+use Rattle.std.proofs.Common.{◌∙◌, ap, sym, subst}
+use Rattle.object_table.specs.Context.{with_objects}
+use Rattle.object_table.specs.Named.{with_object}
+use Rattle.vx_base.specs.Image.{ImageValue, with_valid}
+use Rattle.vx_base.specs.Object.{ImageObject}
+use Rattle.client_model.specs.Images.{valid_refusal}
+use Rattle.client_model.specs.States.{KeepsLimits}
+use Rattle.client_contexts.proofs.OutcomeLemmas.{holder_is, set_keeps}
+use Rattle.client_contexts.proofs.images.set_valid.Goals as goal
+
+pub set_valid-requires-clause-object : goal.set_valid-requires-clause-object
+set_valid-requires-clause-object c = holder_is c.requires.0 c.args.table.now c.args.reference c.requires.1 c.in_ok-find_image.ensures.ok.there
+
+pub returns-clause-kept : goal.returns-clause-kept
+returns-clause-kept c = λ limits h.
+    let before = c.args.table.now in
+    let found = c.in_ok-find_image.ensures.ok in
+    let allowed = ap (λ d. valid_refusal d c.args.valid) (sym c.desc-desc.ensures) ∙ sym c.valid_refusal.ensures ∙ c.in_default.is in
+    let kept = set_keeps limits before c.args.reference c.in_ok-find_image.field-0.now c.args.valid h found c.is_rectangle.ensures allowed in
+    subst (KeepsLimits limits) (sym c.set_valid.ensures)
+    (subst (λ (image : ImageValue). KeepsLimits limits (with_objects before (with_object before.objects c.args.reference (ImageObject (with_valid c.args.valid image))))) (sym found.held) kept)

@@ -1,0 +1,38 @@
+//! Room for one more object of a client, and objects that are held anew.
+ghost use Rattle.std.specs.Prelude.{◌≡◌, ◌*◌, ◌≤◌, if◌then◌else◌, IsTrue, [], Ok, Err};
+ghost use Rattle.vx_base.specs.Object.{IsObject, object_bytes};
+ghost use Rattle.object_table.specs.Uses.{nodes_in};
+ghost use Rattle.client_model.specs.declared.refusal.Refusal.TheVariants.{NoResources};
+ghost use Rattle.client_model.specs.Context.{has_room};
+ghost use Rattle.client_model.specs.Images.{create};
+ghost use Rattle.client_model.specs.States.{KeepsLimits};
+ghost use Rattle.client_contexts.specs.Steps.{MayComeTo};
+
+use crate::fault::RequestFault;
+use client_model::{Limits, Refusal, Reply};
+use object_table::{Object, Table};
+
+/// Room for an object that is charged so many bytes, at most those of 16 of the largest images.
+/// `NoResources` unless a name is left, fewer than 1,024 objects are held, and the quota allows it.
+pub fn look_for_room(table: &Table, limits: Limits, bytes: usize) -> Result<(), Refusal>
+    requires { bytes ≤ 16 * 67108864 }
+    ensures { result ≡ (if has_room limits table.now bytes then Ok tt else Err NoResources) }
+{
+    let charge = table.charged_bytes() + bytes as u64;
+    if table.can_insert() && charge <= limits.quota() {
+        Ok(())
+    } else {
+        Err(Refusal::NoResources)
+    }
+}
+
+/// Holds a new object, for which there is room, and says its name. A graph has no nodes yet.
+pub fn hold(table: &mut Table, limits: Limits, object: Object) -> Result<Reply, RequestFault>
+    requires room { IsTrue (has_room limits table.old (object_bytes object)) }
+    requires object { IsObject object }
+    requires plain { nodes_in object ≡ [] }
+    ensures comes { MayComeTo (create limits table.old object) table.old table.new result }
+    ensures kept { KeepsLimits limits table.old → KeepsLimits limits table.new }
+{
+    Ok(Reply::Name(table.insert(object)?))
+}

@@ -1,0 +1,178 @@
+-- What cells hold where one of them is written.
+use Rattle.std.proofs.Common.{◌≡◌, ◌≢◌, ℕ, ◌<◌, Bool, true, false, cond, IsTrue, List, [], ◌∷◌, map, Option, Some, None, refl, sym, ap, subst, ◌∙◌, arith}
+use Rattle.std.specs.Prelude.{All, ◌==◌, is_some, unwrap_or, IfSome}
+use Rattle.std.specs.List.Sorted.{IsStrictlyIncreasing}
+use Rattle.std.specs.Option.{option_map, option_and_then}
+use Rattle.std.proofs.lemmas.Bool.{eq-eqb, eqb-true}
+use Rattle.std.proofs.lemmas.List.Elements.{All-head, All-tail, All-weaker}
+use Rattle.vx_base.specs.declared.format.Format.TheVariants.{U8}
+use Rattle.vx_base.specs.declared.kind.Kind.{Kind}
+use Rattle.vx_base.specs.declared.kind.Kind.TheVariants as kind
+use Rattle.vx_base.specs.declared.node.Node.{Node}
+use Rattle.vx_base.specs.Cell.{Cell}
+use Rattle.vx_base.specs.Image.{ImageValue, new_image}
+use Rattle.vx_base.specs.Object.{ObjectValue, ImageObject, IsObject, object_kind}
+use Rattle.object_table.specs.Delay.{in_slot, with_slot}
+use Rattle.object_table.specs.Named.{Named, object_held, held, with_object, with_written}
+use Rattle.object_table.specs.Table.{cell_object, HoldsImage}
+use Rattle.object_table.proofs.HeldLemmas.{names_of, HasObject, held_alone, All-with_object, map-with_object}
+use Rattle.object_table.proofs.SkeletonLaws.{IsObject-with_slot}
+use Rattle.object_table.proofs.SlotLemmas.{with_slot_twice, with_slot_there, with_slot_beside}
+use Rattle.graph_verify.specs.declared.operand.Operand.TheVariants.{Delay}
+use Rattle.graph_verify.specs.Operand.{operand_of}
+use Rattle.graph_run.specs.Operands.{operand_held}
+use Rattle.graph_run.specs.Lasting.{lasting, lasting_named, Lasts}
+use Rattle.graph_run.specs.Steps.{Holds, TwoSlots, AreApart}
+use Rattle.graph_run.specs.Turns.{HoldsKind}
+use Rattle.graph_run.proofs.HeldLaws.{object_held-with_object}
+use Rattle.graph_run.proofs.LastingLemmas.{skeletons-last, lasting-with_slot, cell-lasts, Lasts-trans, Lasts-names}
+
+-- two slots of one object
+other_slot : (j k : Option ℕ) (new object : ObjectValue) → TwoSlots j k → in_slot j (with_slot k new object) ≡ in_slot j object
+other_slot (Some j) (Some k) new object apart = with_slot_beside j k new object apart
+other_slot None k new object apart = absurd apart
+other_slot (Some j) None new object apart = absurd apart
+
+module _ (objects : List Named) (q : Cell) where
+  -- what stands apart stays
+  pub beside : (p : Cell) (new : ObjectValue) → AreApart p q → held (with_object objects q new) p ≡ held objects p
+  beside p new apart = ap (option_and_then (in_slot p.slot)) (object_held-with_object objects q new p.name) ∙ either (p.name == q.name) refl (object_held objects p.name)
+    where
+      either : (b : Bool) → (p.name == q.name) ≡ b → (o : Option ObjectValue) → option_and_then (in_slot p.slot) (option_map (λ x. cond b (with_slot q.slot new x) x) o) ≡ option_and_then (in_slot p.slot) o
+      either b same None = refl
+      either true same (Some x) = other_slot p.slot q.slot new x (apart (eqb-true p.name q.name same))
+      either false same (Some x) = refl
+
+  pub object_beside : (p : Cell) (new : ObjectValue) → AreApart p q → cell_object (with_object objects q new) p ≡ cell_object objects p
+  object_beside p new apart = ap (λ o. unwrap_or o (ImageObject (new_image 0 0 U8))) (beside p new apart)
+
+  pub object_if_beside : (p : Option Cell) (new : ObjectValue) → IfSome p (λ c. AreApart c q) → option_map (cell_object (with_object objects q new)) p ≡ option_map (cell_object objects) p
+  object_if_beside None new apart = refl
+  object_if_beside (Some p) new apart = ap Some (object_beside p new apart)
+
+  pub holds_beside : (p : Cell) (new : ObjectValue) → AreApart p q → Holds objects p → Holds (with_object objects q new) p
+  holds_beside p new apart h = subst (λ (o : Option ObjectValue). IsTrue (is_some o)) (sym (beside p new apart)) h
+
+  pub hold_beside : (p : Option Cell) (new : ObjectValue) → IfSome p (λ c. AreApart c q) → IfSome p (Holds objects) → IfSome p (Holds (with_object objects q new))
+  hold_beside None new apart h = tt
+  hold_beside (Some p) new apart h = holds_beside p new apart h
+
+  pub image_beside : (p : Cell) (new : ObjectValue) → AreApart p q → HoldsImage objects p → HoldsImage (with_object objects q new) p
+  image_beside p new apart h = ap (option_map object_kind) (beside p new apart) ∙ h
+
+-- an image that is written over an image stands there
+module _ (objects : List Named) (q : Cell) (h : HoldsImage objects q) (image : ImageValue) where
+  pub held_after : held (with_object objects q (ImageObject image)) q ≡ Some (ImageObject image)
+  held_after =
+      ap (option_and_then (in_slot q.slot)) (object_held-with_object objects q (ImageObject image) q.name)
+      ∙ ap (λ b. option_and_then (in_slot q.slot) (option_map (λ x. cond b (with_slot q.slot (ImageObject image) x) x) (object_held objects q.name))) (eq-eqb q.name q.name refl)
+      ∙ there (object_held objects q.name) h
+    where
+      there : (o : Option ObjectValue) → option_map object_kind (option_and_then (in_slot q.slot) o) ≡ Some kind.Image → option_and_then (in_slot q.slot) (option_map (with_slot q.slot (ImageObject image)) o) ≡ Some (ImageObject image)
+      there None h = cc
+      there (Some x) h = with_slot_there q.slot image x h
+
+  pub object_after : cell_object (with_object objects q (ImageObject image)) q ≡ ImageObject image
+  object_after = ap (λ o. unwrap_or o (ImageObject (new_image 0 0 U8))) held_after
+
+  pub image_after : HoldsImage (with_object objects q (ImageObject image)) q
+  image_after = ap (option_map object_kind) held_after
+
+-- an image over what was written
+pub with_object_twice : (objects : List Named) (q : Cell) (left : ObjectValue) (image : ImageValue) → with_object (with_object objects q left) q (ImageObject image) ≡ with_object objects q (ImageObject image)
+with_object_twice [] q left image = refl
+with_object_twice (o ∷ objects) q left image = ap (λ p. p ∷ with_object (with_object objects q left) q (ImageObject image)) (either (o.name == q.name) refl) ∙ ap (λ l. cond (o.name == q.name) (record o { object = with_slot q.slot (ImageObject image) o.object }) o ∷ l) (with_object_twice objects q left image)
+  where
+    once : Bool → Named
+    once b = cond b (record o { object = with_slot q.slot left o.object }) o
+
+    either : (b : Bool) → (o.name == q.name) ≡ b → cond ((once b).name == q.name) (record (once b) { object = with_slot q.slot (ImageObject image) (once b).object }) (once b) ≡ cond b (record o { object = with_slot q.slot (ImageObject image) o.object }) o
+    either true same = ap (λ b. cond b (record (once true) { object = with_slot q.slot (ImageObject image) (once true).object }) (once true)) same ∙ ap (λ (x : ObjectValue). let p : Named = record o { object = x } in p) (with_slot_twice q.slot image left o.object)
+    either false same = ap (λ b. cond b (record o { object = with_slot q.slot (ImageObject image) o.object }) o) same
+
+-- ---- what stands in a cell
+
+-- what a cell holds
+pub there_is : (objects : List Named) (cell : Cell) → Holds objects cell → held objects cell ≡ Some (cell_object objects cell)
+there_is objects cell h = found (held objects cell) h
+  where
+    found : (o : Option ObjectValue) → IsTrue (is_some o) → o ≡ Some (unwrap_or o (ImageObject (new_image 0 0 U8)))
+    found None h = cc
+    found (Some x) h = refl
+
+pub holds_image : (objects : List Named) (cell : Cell) → Holds objects cell → object_kind (cell_object objects cell) ≡ kind.Image → HoldsImage objects cell
+holds_image objects cell h is = ap (option_map object_kind) (there_is objects cell h) ∙ ap Some is
+
+pub kind_there : (objects : List Named) (operand : Cell × Kind) → HoldsKind objects operand → object_kind (cell_object objects operand.0) ≡ operand.1
+kind_there objects operand h = found (held objects operand.0) h
+  where
+    found : (o : Option ObjectValue) → option_map object_kind o ≡ Some operand.1 → object_kind (unwrap_or o (ImageObject (new_image 0 0 U8))) ≡ operand.1
+    found None h = cc
+    found (Some x) h = cc
+
+pub holds_there : (objects : List Named) (operand : Cell × Kind) → HoldsKind objects operand → Holds objects operand.0
+holds_there objects operand h = found (held objects operand.0) h
+  where
+    found : (o : Option ObjectValue) → option_map object_kind o ≡ Some operand.1 → IsTrue (is_some o)
+    found None h = cc
+    found (Some x) h = refl
+
+-- an operand is what the cell holds
+pub operand_there : (objects : List Named) (cell : Cell) → Holds objects cell → operand_held objects cell ≡ operand_of (cell_object objects cell)
+operand_there objects cell h = ap (λ o. unwrap_or (option_map operand_of o) Delay) (there_is objects cell h)
+
+-- ---- what lasts
+
+-- where names increase, what holds of the object of a name holds of each of that name
+pub held_once : (objects : List Named) (name : ℕ) (x : ObjectValue) → IsStrictlyIncreasing (names_of objects) → object_held objects name ≡ Some x → All (HasObject name x) objects
+held_once objects name x names found = subst (λ (o : Option ObjectValue). IfSome o (λ object. All (HasObject name object) objects)) found (held_alone objects name names)
+
+-- an object that may be written to a cell: as much lasts of it as of the one there
+pub record IsReplacement (objects : List Named) (w : Cell × ObjectValue) : Type 0 where
+  pub is_object : IsObject w.1
+  pub lasts : option_map lasting (held objects w.0) ≡ Some (lasting w.1)
+
+module _ (objects : List Named) (w : Cell × ObjectValue) (may : IsReplacement objects w) where
+  -- among others of which as much lasts it still may
+  pub replaced_after : (others : List Named) → Lasts objects others → IsReplacement others w
+  replaced_after others h = record { is_object = may.is_object; lasts = cell-lasts objects others w.0 h.lasting ∙ may.lasts }
+
+  -- where names increase, it is written there
+  pub Lasts-with_object : IsStrictlyIncreasing (names_of objects) → All (λ o. IsObject o.object) objects → Lasts objects (with_object objects w.0 w.1)
+  Lasts-with_object names are = found (object_held objects w.0.name) refl
+    where
+      slot : Option ℕ
+      slot = w.0.slot
+
+      fits : (x : ObjectValue) → object_held objects w.0.name ≡ Some x → (o : Named) → o.object ≡ x → option_map lasting (in_slot slot o.object) ≡ Some (lasting w.1)
+      fits x e o at = ap (λ y. option_map lasting (in_slot slot y)) at ∙ ap (λ y. option_map lasting (option_and_then (in_slot slot) y)) (sym e) ∙ may.lasts
+
+      found : (object : Option ObjectValue) → object_held objects w.0.name ≡ object → Lasts objects (with_object objects w.0 w.1)
+      found None e =
+          let no : ◌≡◌ {A = Option (ObjectValue × List Node)} None (Some (lasting w.1)) = ap (λ y. option_map lasting (option_and_then (in_slot slot) y)) (sym e) ∙ may.lasts in
+          absurd (cc)
+      found (Some x) e =
+          let only = held_once objects w.0.name x names e in
+          record {
+            objects =
+                All-with_object (λ o. IsObject o.object) (HasObject w.0.name x) objects w.0 w.1
+                (λ o at before named. IsObject-with_slot slot w.1 o.object (skeletons-last (in_slot slot o.object) (Some w.1) (fits x e o (at named))) may.is_object before) only are;
+            lasting =
+                map-with_object lasting_named objects w.0 w.1
+                (All-weaker (HasObject w.0.name x) (λ o. o.name ≡ w.0.name → lasting_named (record o { object = with_slot slot w.1 o.object }) ≡ lasting_named o)
+                (λ o at named. kept o (lasting-with_slot slot w.1 o.object (fits x e o (at named)))) objects only);
+          }
+        where
+          kept : (o : Named) → lasting (with_slot slot w.1 o.object) ≡ lasting o.object → lasting_named (record o { object = with_slot slot w.1 o.object }) ≡ lasting_named o
+          kept o same = ap (λ (left : ObjectValue × List Node). let made : Named × List Node = (record o { object = left.0 }, left.1) in made) same
+
+-- so are several, one after the other
+pub Lasts-with_written : (objects : List Named) (written : List (Cell × ObjectValue)) → IsStrictlyIncreasing (names_of objects) → All (λ o. IsObject o.object) objects
+    → All (IsReplacement objects) written → Lasts objects (with_written objects written)
+Lasts-with_written objects [] names are may = record { objects = are; lasting = refl }
+Lasts-with_written objects (w ∷ written) names are may =
+    let after : List Named = with_object objects w.0 w.1 in
+    let one = Lasts-with_object objects w (All-head (IsReplacement objects) w written may) names are in
+    Lasts-trans objects after (with_written after written) one
+    (Lasts-with_written after written (Lasts-names objects after one names) one.objects
+    (All-weaker (IsReplacement objects) (IsReplacement after) (λ other also. replaced_after objects other also after one) written (All-tail (IsReplacement objects) w written may)))

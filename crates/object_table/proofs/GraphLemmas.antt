@@ -1,0 +1,679 @@
+-- Nodes that come and go, the names that they use, and what is held then.
+use Rattle.std.proofs.Common.{◌≡◌, ℕ, ◌+◌, ◌-◌, ◌*◌, ◌<◌, ◌≤◌, zero, suc, Bool, true, false, cond, List, [], ◌∷◌, ◌++◌, Option, Some, None, length, map, get_or, IsTrue, refl, sym, ap, subst, ◌∙◌, arith}
+use Rattle.std.specs.Prelude.{All, ◌==◌, ◌&&◌, ◌||◌, not, nat_lt, find, filter, sum_by, is_some}
+use Rattle.std.specs.List.{list_any, flat_map, AllPairs}
+use Rattle.std.specs.List.Sorted.{IsStrictlyIncreasing}
+use Rattle.std.specs.Map.{keys_of, lookup, set_value}
+use Rattle.std.specs.BTreeMap.{is_at}
+use Rattle.std.specs.Option.{option_map}
+use Rattle.std.specs.Ordering.{nat_cmp}
+use Rattle.std.proofs.lemmas.Bool.{eqb-true, eqb-false, ne_eqb, eq-eqb, lt-ltb, ltb-true, false≢true, and_parts}
+use Rattle.std.proofs.lemmas.Cmp.{nat_cmp_total, eq_by_cmp_equiv}
+use Rattle.std.proofs.lemmas.Grind.{flat_map-append}
+use Rattle.std.proofs.lemmas.List.{map-append, length-map, length-append, get_or-map}
+use Rattle.std.proofs.lemmas.List.Concat.{length-flat_map}
+use Rattle.std.proofs.lemmas.List.Elements.{All-nil, All-cons, All-head, All-tail, All-append, All-map, All-weaker, All-filter}
+use Rattle.std.proofs.lemmas.List.Folds.{flat_map-map, list_any-append}
+use Rattle.std.proofs.lemmas.List.Kept.{AllPairs-filter, AllPairs-from_increasing}
+use Rattle.std.proofs.lemmas.List.Sums.{sum_by-cons, sum_by-append, sum_by-le, length-filter, count_by-le-length}
+use Rattle.std.proofs.lemmas.Map.{lookup-none, keys-set_value, length-set_value}
+use Rattle.std.proofs.lemmas.Map.Entries.{none_past_head}
+use Rattle.std.proofs.lemmas.Map.Steps.{set_value_same}
+use Rattle.std.proofs.lemmas.Map.Keys.{sorted_tail, IsDistinct-from_sorted}
+use Rattle.vx_base.specs.declared.format.Format.TheVariants.{U8}
+use Rattle.vx_base.specs.declared.kind.Kind.{Kind}
+use Rattle.vx_base.specs.declared.kind.Kind.TheVariants as kind
+use Rattle.vx_base.specs.declared.node.Node.{Node}
+use Rattle.vx_base.specs.declared.numbered.Numbered.{Numbered}
+use Rattle.vx_base.specs.Cell.{Cell}
+use Rattle.vx_base.specs.Function.{parameters}
+use Rattle.vx_base.specs.Graph.{GraphValue, IsGraph, nodes_of, can_add, with_node, without_node}
+use Rattle.vx_base.specs.Image.{new_image}
+use Rattle.vx_base.specs.Node.{given, with_kind, second_kind, operands}
+use Rattle.vx_base.specs.Object.{ObjectValue, ImageObject, GraphObject, object_bytes, object_kind}
+use Rattle.object_table.specs.declared.table.Entry.{Entry}
+use Rattle.object_table.specs.Context.{Context, charge_of, object_named}
+use Rattle.object_table.specs.Holds.{names_it, uses, is_used, is_held, still_held, unnamed}
+use Rattle.object_table.specs.Named.{Named, object_held}
+use Rattle.object_table.specs.Object.{graph_value}
+use Rattle.object_table.specs.Table.{named, used_more, used_less, is_kept, kept, IsTable}
+use Rattle.object_table.specs.Uses.{used_names, nodes_in, names_used_by, names_used, times}
+use Rattle.object_table.proofs.EntryLemmas.{same_name, InOrder, in_order, named_is, if_live, All-written, sum-written, charge_is}
+
+-- ---- how often a name stands in a list
+
+times-cons : (name other : ℕ) (names : List ℕ) → times name (other ∷ names) ≡ cond (name == other) 1 0 + times name names
+times-cons name other names = sum_by-cons (λ other. cond (name == other) 1 0) other names
+
+times-append : (name : ℕ) (names others : List ℕ) → times name (names ++ others) ≡ times name names + times name others
+times-append name names others = sum_by-append (λ other. cond (name == other) 1 0) names others
+
+-- whether a name stands there
+any_times : (name : ℕ) (names : List ℕ) → nat_lt 0 (times name names) ≡ list_any (λ other. name == other) names
+any_times name [] = refl
+any_times name (other ∷ names) = ap (nat_lt 0) (times-cons name other names) ∙ either (name == other) (any_times name names)
+  where
+    either : (b : Bool) → nat_lt 0 (times name names) ≡ list_any (λ other. name == other) names → nat_lt 0 (cond b 1 0 + times name names) ≡ (b || list_any (λ other. name == other) names)
+    either true others = lt-ltb 0 (1 + times name names) (omega arith)
+    either false others = ap (nat_lt 0) (omega arith) ∙ others
+
+-- ---- lists of lists
+
+All-front : (P : ℕ → Type 0) (xs ys : List ℕ) → All P (xs ++ ys) → All P xs
+All-front P [] ys h = All-nil P
+All-front P (x ∷ xs) ys h = All-cons P x xs (All-head P x (xs ++ ys) h) (All-front P xs ys (All-tail P x (xs ++ ys) h))
+
+All-back : (P : ℕ → Type 0) (xs ys : List ℕ) → All P (xs ++ ys) → All P ys
+All-back P [] ys h = h
+All-back P (x ∷ xs) ys h = All-back P xs ys (All-tail P x (xs ++ ys) h)
+
+module _ {X : Type 0} (f : X → List ℕ) where
+  times-flat_map : (name : ℕ) (xs : List X) → times name (flat_map f xs) ≡ sum_by (λ x. times name (f x)) xs
+  times-flat_map name [] = refl
+  times-flat_map name (x ∷ xs) =
+      times-append name (f x) (flat_map f xs) ∙ ap (λ n. times name (f x) + n) (times-flat_map name xs) ∙ sym (sum_by-cons (λ x. times name (f x)) x xs)
+
+  All-flat_map : (P : ℕ → Type 0) (xs : List X) → All (λ x. All P (f x)) xs → All P (flat_map f xs)
+  All-flat_map P [] h = All-nil P
+  All-flat_map P (x ∷ xs) h = All-append P (f x) (flat_map f xs) (All-head (λ x. All P (f x)) x xs h) (All-flat_map P xs (All-tail (λ x. All P (f x)) x xs h))
+
+  All-parts : (P : ℕ → Type 0) (xs : List X) → All P (flat_map f xs) → All (λ x. All P (f x)) xs
+  All-parts P [] h = All-nil (λ x. All P (f x))
+  All-parts P (x ∷ xs) h = All-cons (λ x. All P (f x)) x xs (All-front P (f x) (flat_map f xs) h) (All-parts P xs (All-back P (f x) (flat_map f xs) h))
+
+  any-flat_map : (p : ℕ → Bool) (xs : List X) → list_any p (flat_map f xs) ≡ list_any (λ x. list_any p (f x)) xs
+  any-flat_map p [] = refl
+  any-flat_map p (x ∷ xs) = list_any-append p (f x) (flat_map f xs) ∙ ap (λ b. list_any p (f x) || b) (any-flat_map p xs)
+
+any_map : {X Y : Type 0} (p : Y → Bool) (f : X → Y) (xs : List X) → list_any p (map f xs) ≡ list_any (λ x. p (f x)) xs
+any_map p f [] = refl
+any_map p f (x ∷ xs) = ap (λ b. p (f x) || b) (any_map p f xs)
+
+any_alike : {X : Type 0} (p q : X → Bool) (xs : List X) → All (λ x. p x ≡ q x) xs → list_any p xs ≡ list_any q xs
+any_alike p q [] h = refl
+any_alike p q (x ∷ xs) h = ap (λ b. b || list_any p xs) (All-head (λ x. p x ≡ q x) x xs h) ∙ ap (λ b. q x || b) (any_alike p q xs (All-tail (λ x. p x ≡ q x) x xs h))
+
+-- ---- the names of a node's operands
+
+-- they are the cells that it reads and writes
+names_of_operands : (n : Node) → map (λ (operand : Cell × Kind). operand.0.name) (operands n) ≡ used_names n
+names_of_operands n = each n.in2 n.out1 n.out2
+  where
+    each : (in2 out1 out2 : Option Cell) → map (λ (operand : Cell × Kind). operand.0.name) ((n.in1, kind.Image) ∷ (with_kind (second_kind n) in2 ++ (with_kind (parameters n.function).output out1 ++ with_kind (parameters n.function).output out2)))
+        ≡ map (λ (cell : Cell). cell.name) ((n.in1 ∷ given in2) ++ (given out1 ++ given out2))
+    each None None None = refl
+    each None None (Some c) = refl
+    each None (Some b) None = refl
+    each None (Some b) (Some c) = refl
+    each (Some a) None None = refl
+    each (Some a) None (Some c) = refl
+    each (Some a) (Some b) None = refl
+    each (Some a) (Some b) (Some c) = refl
+
+-- a node has at most four
+four_names : (n : Node) → length (used_names n) ≤ 4
+four_names n = each n.in2 n.out1 n.out2
+  where
+    each : (in2 out1 out2 : Option Cell) → length (map (λ (cell : Cell). cell.name) ((n.in1 ∷ given in2) ++ (given out1 ++ given out2))) ≤ 4
+    each None None None = omega arith
+    each None None (Some c) = omega arith
+    each None (Some b) None = omega arith
+    each None (Some b) (Some c) = omega arith
+    each (Some a) None None = omega arith
+    each (Some a) None (Some c) = omega arith
+    each (Some a) (Some b) None = omega arith
+    each (Some a) (Some b) (Some c) = omega arith
+
+-- the names of an object's nodes
+abbrev pub names_in : ObjectValue → List ℕ
+names_in object = flat_map used_names (nodes_in object)
+
+-- ---- a graph with one node more, or less
+
+times-with_node : (g : GraphValue) (n : Node) (name : ℕ) → times name (names_in (GraphObject (with_node g n))) ≡ times name (names_in (GraphObject g)) + times name (used_names n)
+times-with_node g n name =
+    let added : Numbered = record { number = g.next; node = n } in
+    ap (λ nodes. times name (flat_map used_names nodes)) (map-append (λ (m : Numbered). m.node) g.nodes (added ∷ []))
+    ∙ ap (times name) (flat_map-append used_names (nodes_of g) (n ∷ []))
+    ∙ times-append name (names_in (GraphObject g)) (used_names n ++ [])
+    ∙ ap (λ k. times name (names_in (GraphObject g)) + k) (times-append name (used_names n) [] ∙ omega arith)
+
+All-with_node : (P : ℕ → Type 0) (g : GraphValue) (n : Node) → All P (names_in (GraphObject g)) → All P (used_names n) → All P (names_in (GraphObject (with_node g n)))
+All-with_node P g n h new =
+    let added : Numbered = record { number = g.next; node = n } in
+    subst (All P)
+    (sym
+    (ap (flat_map used_names) (map-append (λ (m : Numbered). m.node) g.nodes (added ∷ []))
+    ∙ flat_map-append used_names (nodes_of g) (n ∷ [])))
+    (All-append P (names_in (GraphObject g)) (used_names n ++ []) h (All-append P (used_names n) [] new (All-nil P)))
+
+-- without the node of a number
+times_left : (number : ℕ) (nodes : List Numbered) (node : Node) (name : ℕ) → AllPairs (λ a b. a.number < b.number) nodes → find (λ n. n.number == number) nodes ≡ Some (record { number = number; node = node })
+    → sum_by (λ n. times name (used_names n.node)) (filter (λ n. not (n.number == number)) nodes) + times name (used_names node) ≡ sum_by (λ n. times name (used_names n.node)) nodes
+times_left number [] node name increase found = cc
+times_left number (n ∷ nodes) node name increase found = either (n.number == number) refl found (times_left number nodes node name later)
+  where
+    weight : Numbered → ℕ
+    weight m = times name (used_names m.node)
+
+    rest : List Numbered
+    rest = filter (λ m. not (m.number == number)) nodes
+
+    later : AllPairs (λ a b. a.number < b.number) nodes
+    later i j d less below = increase (suc i) (suc j) d (omega (arith, less)) (omega (arith, below))
+
+    -- no later node has the number of an earlier one
+    all_stay : (ms : List Numbered) → All (λ m. n.number < m.number) ms → n.number ≡ number → filter (λ m. not (m.number == number)) ms ≡ ms
+    all_stay [] above same = refl
+    all_stay (m ∷ ms) above same =
+        let apart : (m.number == number) ≡ false = ne_eqb m.number number (λ e. omega (arith, e, same, All-head (λ m. n.number < m.number) m ms above)) in
+        ap (λ b. cond (not b) (m ∷ filter (λ k. not (k.number == number)) ms) (filter (λ k. not (k.number == number)) ms)) apart
+        ∙ ap (λ l. m ∷ l) (all_stay ms (All-tail (λ m. n.number < m.number) m ms above) same)
+
+    above : All (λ m. n.number < m.number) nodes
+    above k d below = increase zero (suc k) d (omega arith) (omega (arith, below))
+
+    either : (b : Bool) → (n.number == number) ≡ b → cond b (Some n) (find (λ m. m.number == number) nodes) ≡ Some (record { number = number; node = node })
+        → (find (λ m. m.number == number) nodes ≡ Some (record { number = number; node = node }) → sum_by weight rest + times name (used_names node) ≡ sum_by weight nodes)
+        → sum_by weight (cond (not b) (n ∷ rest) rest) + times name (used_names node) ≡ sum_by weight (n ∷ nodes)
+    either true same is others =
+        let this : n ≡ record { number = number; node = node } = cc in
+        omega (arith, ap (sum_by weight) (all_stay nodes above (eqb-true n.number number same)), ap weight this, sum_by-cons weight n nodes)
+    either false apart is others = omega (arith, sum_by-cons weight n rest, sum_by-cons weight n nodes, others is)
+
+times-without_node : (g : GraphValue) (number : ℕ) (node : Node) (name : ℕ) → IsGraph g → find (λ n. n.number == number) g.nodes ≡ Some (record { number = number; node = node })
+    → times name (names_in (GraphObject (without_node g number))) + times name (used_names node) ≡ times name (names_in (GraphObject g))
+times-without_node g number node name h found =
+    let sum = λ (nodes : List Numbered). ap (times name) (flat_map-map used_names (λ (n : Numbered). n.node) nodes) ∙ times-flat_map (λ (n : Numbered). used_names n.node) name nodes in
+    omega (arith, sum (filter (λ n. not (n.number == number)) g.nodes), sum g.nodes, times_left number g.nodes node name h.numbers found)
+
+All-without_node : (P : ℕ → Type 0) (g : GraphValue) (number : ℕ) → All P (names_in (GraphObject g)) → All P (names_in (GraphObject (without_node g number)))
+All-without_node P g number h =
+    let test : Numbered → Bool = λ n. not (n.number == number) in
+    let names : Numbered → List ℕ = λ n. used_names n.node in
+    let flat = λ (nodes : List Numbered). flat_map-map used_names (λ (n : Numbered). n.node) nodes in
+    subst (All P) (sym (flat (filter test g.nodes)))
+    (All-flat_map names P (filter test g.nodes) (All-filter test (λ n. All P (names n)) g.nodes (All-parts names P g.nodes (subst (All P) (flat g.nodes) h))))
+
+-- an object of a graph's kind is a graph
+graph_is : (object : ObjectValue) → object_kind object ≡ kind.Graph → object ≡ GraphObject (graph_value object)
+graph_is (GraphObject graph) h = refl
+graph_is other h = cc
+
+-- ---- whether a name is used
+
+eqb-sym : (a b : ℕ) → (a == b) ≡ (b == a)
+eqb-sym a b = either (a == b) refl
+  where
+    either : (t : Bool) → (a == b) ≡ t → (a == b) ≡ (b == a)
+    either true same = same ∙ sym (eq-eqb b a (sym (eqb-true a b same)))
+    either false apart = apart ∙ sym (ne_eqb b a (λ same. eqb-false a b apart (sym same)))
+
+-- by the nodes of one object
+named_by : (name : ℕ) (n : Node) → list_any (λ other. name == other) (used_names n) ≡ list_any (λ operand. operand.0.name == name) (operands n)
+named_by name n =
+    ap (list_any (λ other. name == other)) (sym (names_of_operands n))
+    ∙ any_map (λ other. name == other) (λ (operand : Cell × Kind). operand.0.name) (operands n)
+    ∙ any_alike (λ operand. name == operand.0.name) (λ operand. operand.0.name == name) (operands n) (λ k d below. eqb-sym name (get_or (operands n) k d).0.name)
+
+used_in : (name : ℕ) (object : ObjectValue) → list_any (λ other. name == other) (flat_map used_names (nodes_in object)) ≡ uses object name
+used_in name (GraphObject g) =
+    any-flat_map used_names (λ other. name == other) (nodes_of g)
+    ∙ any_map (λ n. list_any (λ other. name == other) (used_names n)) (λ (n : Numbered). n.node) g.nodes
+    ∙ any_alike (λ n. list_any (λ other. name == other) (used_names n.node)) (names_it name) g.nodes (λ k d below. named_by name (get_or g.nodes k d).node)
+used_in name other = refl
+
+used_live : (name : ℕ) (o : Named) → list_any (λ other. name == other) (names_used_by o) ≡ (o.live && uses o.object name)
+used_live name o = either o.live
+  where
+    either : (b : Bool) → list_any (λ other. name == other) (cond b (flat_map used_names (nodes_in o.object)) []) ≡ (b && uses o.object name)
+    either true = used_in name o.object
+    either false = refl
+
+-- by those of all unreleased graphs
+pub is_used_there : (objects : List Named) (name : ℕ) → nat_lt 0 (times name (names_used objects)) ≡ is_used objects name
+is_used_there objects name =
+    any_times name (names_used objects)
+    ∙ any-flat_map names_used_by (λ other. name == other) objects
+    ∙ any_alike (λ o. list_any (λ other. name == other) (names_used_by o)) (λ o. o.live && uses o.object name) objects (λ k d below. used_live name (get_or objects k d))
+
+-- ---- entries
+
+-- the names that an entry's nodes use
+abbrev pub used_by : ℕ × Entry → List ℕ
+used_by e = names_used_by (named e)
+
+used_is : (entries : List (ℕ × Entry)) → names_used (map named entries) ≡ flat_map used_by entries
+used_is entries = flat_map-map names_used_by named entries
+
+used_when_live : (k : ℕ) (e : Entry) → e.live ≡ true → used_by (k, e) ≡ names_in e.object
+used_when_live k e live = ap (λ b. cond b (names_in e.object) []) live
+
+-- what a table keeps of its entries, but for their charge and how often they are used
+pub record AreEntries (next : ℕ) (entries : List (ℕ × Entry)) : Type 0 where
+  pub names : IsStrictlyIncreasing (map (λ e. e.0) entries)
+  pub below : All (λ e. e.0 < next) entries
+  pub left : next ≤ 4294967296
+  pub count : length entries ≤ 1024
+  pub each : All (λ e. object_bytes e.1.object ≤ 16 * 67108864) entries
+  pub nodes : All (λ e. length (nodes_in e.1.object) ≤ 256) entries
+  pub given : All (λ e. All (λ name. name < next) (used_by e)) entries
+
+entries_of : (next charge : ℕ) (entries : List (ℕ × Entry)) → IsTable next charge entries → AreEntries next entries
+entries_of next charge entries t =
+    record {
+      names = t.names;
+      below = t.below;
+      left = t.left;
+      count = t.count;
+      each = t.each;
+      nodes = t.nodes;
+      given = All-parts used_by (λ name. name < next) entries (subst (All (λ name. name < next)) (used_is entries) t.given);
+    }
+
+table_of : (next charge : ℕ) (entries : List (ℕ × Entry)) → AreEntries next entries → charge ≡ charge_of (map named entries) → All (λ e. e.1.uses ≡ times e.0 (names_used (map named entries))) entries → IsTable next charge entries
+table_of next charge entries h charged uses =
+    record {
+      names = h.names;
+      below = h.below;
+      left = h.left;
+      count = h.count;
+      each = h.each;
+      nodes = h.nodes;
+      charged = charged;
+      uses = uses;
+      given = subst (All (λ name. name < next)) (sym (used_is entries)) (All-flat_map used_by (λ name. name < next) entries h.given);
+    }
+
+-- all names that are used are few enough
+used_limit : (entries : List (ℕ × Entry)) → length entries ≤ 1024 → All (λ e. length (nodes_in e.1.object) ≤ 256) entries → length (names_used (map named entries)) ≤ 1024 * 1024
+used_limit entries count nodes =
+    let each : sum_by (λ e. length (used_by e)) entries ≤ length entries * 1024 = sum_by-le (λ e. length (used_by e)) 1024 entries (All-weaker (λ e. length (nodes_in e.1.object) ≤ 256) (λ e. length (used_by e) ≤ 1024) one entries nodes) in
+    omega (arith, each, count, ap length (used_is entries), length-flat_map used_by entries)
+  where
+    one : (e : ℕ × Entry) → length (nodes_in e.1.object) ≤ 256 → length (used_by e) ≤ 1024
+    one e few = either e.1.live
+      where
+        either : (b : Bool) → length (cond b (names_in e.1.object) []) ≤ 1024
+        either true =
+            let each : sum_by (λ n. length (used_names n)) (nodes_in e.1.object) ≤ length (nodes_in e.1.object) * 4 =
+            sum_by-le (λ n. length (used_names n)) 4 (nodes_in e.1.object) (λ k d below. four_names (get_or (nodes_in e.1.object) k d)) in
+            omega (arith, each, few, length-flat_map used_names (nodes_in e.1.object))
+        either false = omega arith
+
+-- a name that is held is below the next
+pub held_below : (next : ℕ) (entries : List (ℕ × Entry)) (name : ℕ) → All (λ e. e.0 < next) entries → IsTrue (is_some (object_held (map named entries) name)) → name < next
+held_below next [] name h there = absurd (false≢true there)
+held_below next (e ∷ entries) name h there = either (e.0 == name) refl there (held_below next entries name (All-tail (λ e. e.0 < next) e entries h))
+  where
+    either : (b : Bool) → (e.0 == name) ≡ b → IsTrue (is_some (option_map (λ (o : Named). o.object) (cond b (Some (named e)) (find (λ o. o.name == name) (map named entries)))))
+        → (IsTrue (is_some (object_held (map named entries) name)) → name < next) → name < next
+    either true same there others = omega (arith, eqb-true e.0 name same, All-head (λ e. e.0 < next) e entries h)
+    either false apart there others = others there
+
+-- ---- an entry that is written
+
+-- what is found at the head isn't found behind it
+past_head : (e : ℕ × Entry) (entries : List (ℕ × Entry)) (name : ℕ) → InOrder (e ∷ entries) → is_at (nat_cmp name) e.0 ≡ true → lookup (is_at (nat_cmp name)) entries ≡ None
+past_head e entries name order here =
+    lookup-none (is_at (nat_cmp name)) entries (none_past_head (eq_by_cmp_equiv nat_cmp_total) name e entries (IsDistinct-from_sorted nat_cmp (keys_of (e ∷ entries)) order) here)
+
+none_unnamed : (entries : List (ℕ × Entry)) (name : ℕ) → lookup (is_at (nat_cmp name)) entries ≡ None → unnamed (map named entries) name ≡ map named entries
+none_unnamed [] name none = refl
+none_unnamed (e ∷ entries) name none =
+    ap (λ b. let o = named e in cond b (record o { live = false }) o ∷ unnamed (map named entries) name) (sym (same_name name e.0))
+    ∙ either (is_at (nat_cmp name) e.0) none (none_unnamed entries name)
+  where
+    either : (b : Bool) → cond b (Some e.1) (lookup (is_at (nat_cmp name)) entries) ≡ None → (lookup (is_at (nat_cmp name)) entries ≡ None → unnamed (map named entries) name ≡ map named entries)
+        → (let o = named e in cond b (record o { live = false }) o ∷ unnamed (map named entries) name) ≡ named e ∷ map named entries
+    either true none rest = cc
+    either false none rest = ap (λ l. named e ∷ l) (rest none)
+
+-- one that isn't live from now on
+pub named-unlive : (entries : List (ℕ × Entry)) (name : ℕ) (old : Entry) → InOrder entries → lookup (is_at (nat_cmp name)) entries ≡ Some old
+    → map named (set_value (is_at (nat_cmp name)) entries (record old { live = false })) ≡ unnamed (map named entries) name
+named-unlive [] name old order found = cc
+named-unlive (e ∷ entries) name old order found =
+    either (is_at (nat_cmp name) e.0) refl found (named-unlive entries name old (sorted_tail nat_cmp e.0 (keys_of entries) order))
+    ∙ ap (λ b. let o = named e in cond b (record o { live = false }) o ∷ unnamed (map named entries) name) (same_name name e.0)
+  where
+    new : Entry
+    new = record old { live = false }
+
+    either : (b : Bool) → is_at (nat_cmp name) e.0 ≡ b → cond b (Some e.1) (lookup (is_at (nat_cmp name)) entries) ≡ Some old
+        → (lookup (is_at (nat_cmp name)) entries ≡ Some old → map named (set_value (is_at (nat_cmp name)) entries new) ≡ unnamed (map named entries) name)
+        → map named (cond b ((e.0, new) ∷ entries) (e ∷ set_value (is_at (nat_cmp name)) entries new)) ≡ (let o = named e in cond b (record o { live = false }) o ∷ unnamed (map named entries) name)
+    either true here found rest =
+        let same : old ≡ e.1 = cc in
+        ap (λ (x : Entry). let o : Named = record { name = e.0; live = false; object = x.object } in o ∷ map named entries) same
+        ∙ ap (λ l. let o : Named = record { name = e.0; live = false; object = e.1.object } in o ∷ l) (sym (none_unnamed entries name (past_head e entries name order here)))
+    either false here found rest = ap (λ l. named e ∷ l) (rest found)
+
+module _ (next charge : ℕ) (entries : List (ℕ × Entry)) (h : IsTable next charge entries) (name : ℕ) (old new : Entry) (found : lookup (is_at (nat_cmp name)) entries ≡ Some old) (same : new.uses ≡ old.uses) where
+  abbrev pub after : List (ℕ × Entry)
+  after = set_value (is_at (nat_cmp name)) entries new
+
+  charged-after : object_bytes new.object ≡ object_bytes old.object → charge ≡ charge_of (map named after)
+  charged-after bytes = omega (arith, h.charged, charge_is entries, charge_is after, sum-written (λ e. object_bytes e.1.object) entries name old new found, bytes)
+
+  -- each is used as often as before
+  uses-after : All (λ e. e.1.uses ≡ times e.0 (names_used (map named entries))) after
+  uses-after = All-written (λ e. e.1.uses ≡ times e.0 (names_used (map named entries))) entries name old new found (λ k h. same ∙ h) h.uses
+
+  pub few-uses : All (λ e. e.1.uses ≤ 1024 * 1024) after
+  few-uses =
+      All-weaker (λ e. e.1.uses ≡ times e.0 (names_used (map named entries))) (λ e. e.1.uses ≤ 1024 * 1024)
+      (λ e is. omega (arith, is, count_by-le-length (λ other. e.0 == other) (names_used (map named entries)), used_limit entries h.count h.nodes)) after uses-after
+
+  -- but other names are used
+  times-after : (n : ℕ) → times n (names_used (map named after)) + times n (used_by (name, old)) ≡ times n (names_used (map named entries)) + times n (used_by (name, new))
+  times-after n =
+      omega (
+        arith,
+        sum-written (λ e. times n (used_by e)) entries name old new found,
+        ap (times n) (used_is after) ∙ times-flat_map used_by n after,
+        ap (times n) (used_is entries) ∙ times-flat_map used_by n entries,
+      )
+
+  entries-after : (length (nodes_in old.object) ≤ 256 → length (nodes_in new.object) ≤ 256) → object_bytes new.object ≡ object_bytes old.object → ((k : ℕ) → All (λ n. n < next) (used_by (k, old)) → All (λ n. n < next) (used_by (k, new))) → AreEntries next after
+  entries-after few bytes given =
+      let t = entries_of next charge entries h in
+      let test = is_at (nat_cmp name) in
+      record {
+        names = subst IsStrictlyIncreasing (sym (keys-set_value test entries new)) t.names;
+        below = All-written (λ e. e.0 < next) entries name old new found (λ k h. h) t.below;
+        left = t.left;
+        count = omega (arith, t.count, length-set_value test entries new);
+        each = All-written (λ e. object_bytes e.1.object ≤ 16 * 67108864) entries name old new found (λ k h. omega (arith, h, bytes)) t.each;
+        nodes = All-written (λ e. length (nodes_in e.1.object) ≤ 256) entries name old new found (λ k h. few h) t.nodes;
+        given = All-written (λ e. All (λ n. n < next) (used_by e)) entries name old new found given t.given;
+      }
+
+-- ---- entries whose uses are counted anew
+
+module _ (f : ℕ → ℕ → ℕ) where
+  abbrev pub recounted : List (ℕ × Entry) → List (ℕ × Entry)
+  recounted entries = map {A = ℕ × Entry} {B = ℕ × Entry} (λ e. let n : Entry = e.1 in (e.0, record n { uses = f e.0 n.uses })) entries
+
+  -- nothing that is shown changes
+  pub named-recounted : (entries : List (ℕ × Entry)) → map named (recounted entries) ≡ map named entries
+  named-recounted [] = refl
+  named-recounted (e ∷ entries) = ap (λ l. named e ∷ l) (named-recounted entries)
+
+  keys-recounted : (entries : List (ℕ × Entry)) → map (λ (e : ℕ × Entry). e.0) (recounted entries) ≡ map (λ (e : ℕ × Entry). e.0) entries
+  keys-recounted [] = refl
+  keys-recounted (e ∷ entries) = ap (λ l. e.0 ∷ l) (keys-recounted entries)
+
+  entries-recounted : (next : ℕ) (entries : List (ℕ × Entry)) → AreEntries next entries → AreEntries next (recounted entries)
+  entries-recounted next entries h =
+      let step : ℕ × Entry → ℕ × Entry = λ e. let n : Entry = e.1 in (e.0, record n { uses = f e.0 n.uses }) in
+      record {
+        names = subst IsStrictlyIncreasing (sym (keys-recounted entries)) h.names;
+        below = All-map (λ (e : ℕ × Entry). e.0 < next) step entries h.below;
+        left = h.left;
+        count = omega (arith, h.count, length-map entries step);
+        each = All-map (λ (e : ℕ × Entry). object_bytes e.1.object ≤ 16 * 67108864) step entries h.each;
+        nodes = All-map (λ (e : ℕ × Entry). length (nodes_in e.1.object) ≤ 256) step entries h.nodes;
+        given = All-map (λ (e : ℕ × Entry). All (λ name. name < next) (used_by e)) step entries h.given;
+      }
+
+  -- they are used so often
+  uses-recounted : (entries : List (ℕ × Entry)) → All (λ e. f e.0 e.1.uses ≡ times e.0 (names_used (map named entries))) entries
+      → All (λ e. e.1.uses ≡ times e.0 (names_used (map named (recounted entries)))) (recounted entries)
+  uses-recounted entries h =
+      let step : ℕ × Entry → ℕ × Entry = λ e. let n : Entry = e.1 in (e.0, record n { uses = f e.0 n.uses }) in
+      subst (λ (l : List Named). All (λ e. e.1.uses ≡ times e.0 (names_used l)) (recounted entries)) (sym (named-recounted entries))
+      (All-map (λ (e : ℕ × Entry). e.1.uses ≡ times e.0 (names_used (map named entries))) step entries h)
+
+-- ---- what is held still
+
+-- keys in their order stay so where some go
+increasing-kept : (p : ℕ × Entry → Bool) (entries : List (ℕ × Entry)) → IsStrictlyIncreasing (map (λ (e : ℕ × Entry). e.0) entries) → IsStrictlyIncreasing (map (λ (e : ℕ × Entry). e.0) (filter p entries))
+increasing-kept p entries h k below =
+    let key : ℕ × Entry → ℕ = λ e. e.0 in
+    let rest : List (ℕ × Entry) = filter p entries in
+    let there = length-map rest key in
+    let d : ℕ × Entry = (0, record { live = false; uses = 0; object = ImageObject (new_image 0 0 U8) }) in
+    let pairs : AllPairs (λ (a b : ℕ × Entry). a.0 < b.0) entries = λ i j d less within.
+    omega (
+      arith,
+      AllPairs-from_increasing (map key entries) h i j d.0 less (omega (arith, within, length-map entries key)),
+      get_or-map key entries i d d.0 (omega (arith, less, within)),
+      get_or-map key entries j d d.0 within,
+    ) in
+    omega (
+      arith,
+      AllPairs-filter (λ (a b : ℕ × Entry). a.0 < b.0) p entries pairs k (k + 1) d (omega arith) (omega (arith, below, there)),
+      get_or-map key rest k d 0 (omega (arith, below, there)),
+      get_or-map key rest (k + 1) d 0 (omega (arith, below, there)),
+    )
+
+-- what goes isn't live, and so uses nothing
+used-kept : (entries : List (ℕ × Entry)) → flat_map used_by (kept entries) ≡ flat_map used_by entries
+used-kept [] = refl
+used-kept (e ∷ entries) = either e.1.live (nat_lt 0 e.1.uses) refl (used-kept entries)
+  where
+    either : (live b : Bool) → e.1.live ≡ live → flat_map used_by (kept entries) ≡ flat_map used_by entries
+        → flat_map used_by (cond (live || b) (e ∷ kept entries) (kept entries)) ≡ used_by e ++ flat_map used_by entries
+    either true b is rest = ap (λ l. used_by e ++ l) rest
+    either false true is rest = ap (λ l. used_by e ++ l) rest
+    either false false is rest = rest ∙ ap (λ b. cond b (names_in e.1.object) [] ++ flat_map used_by entries) (sym is)
+
+named-kept : (p : Named → Bool) (entries : List (ℕ × Entry)) → All (λ e. is_kept e ≡ p (named e)) entries → map named (kept entries) ≡ filter p (map named entries)
+named-kept p [] h = refl
+named-kept p (e ∷ entries) h =
+    ap (λ b. map named (cond b (e ∷ kept entries) (kept entries))) (All-head (λ e. is_kept e ≡ p (named e)) e entries h)
+    ∙ either (p (named e)) (named-kept p entries (All-tail (λ e. is_kept e ≡ p (named e)) e entries h))
+  where
+    either : (b : Bool) → map named (kept entries) ≡ filter p (map named entries) → map named (cond b (e ∷ kept entries) (kept entries)) ≡ cond b (named e ∷ filter p (map named entries)) (filter p (map named entries))
+    either true rest = ap (λ l. named e ∷ l) rest
+    either false rest = rest
+
+-- the entries that are kept show what is held still
+shown-kept : (entries : List (ℕ × Entry)) → All (λ e. e.1.uses ≡ times e.0 (names_used (map named entries))) entries → map named (kept entries) ≡ still_held (map named entries)
+shown-kept entries uses =
+    named-kept (is_held (map named entries)) entries
+    (All-weaker (λ e. e.1.uses ≡ times e.0 (names_used (map named entries))) (λ e. is_kept e ≡ is_held (map named entries) (named e))
+    (λ e is. ap (λ n. e.1.live || nat_lt 0 n) is ∙ ap (λ b. e.1.live || b) (is_used_there (map named entries) e.0)) entries uses)
+
+IsTable-kept : (next : ℕ) (entries : List (ℕ × Entry)) → AreEntries next entries → All (λ e. e.1.uses ≡ times e.0 (names_used (map named entries))) entries
+    → IsTable next (charge_of (map named (kept entries))) (kept entries)
+IsTable-kept next entries h uses =
+    let used : names_used (map named entries) ≡ names_used (map named (kept entries)) = used_is entries ∙ sym (used-kept entries) ∙ sym (used_is (kept entries)) in
+    table_of next (charge_of (map named (kept entries))) (kept entries)
+    (record {
+      names = increasing-kept is_kept entries h.names;
+      below = All-filter is_kept (λ e. e.0 < next) entries h.below;
+      left = h.left;
+      count = omega (arith, h.count, length-filter is_kept entries, count_by-le-length is_kept entries);
+      each = All-filter is_kept (λ e. object_bytes e.1.object ≤ 16 * 67108864) entries h.each;
+      nodes = All-filter is_kept (λ e. length (nodes_in e.1.object) ≤ 256) entries h.nodes;
+      given = All-filter is_kept (λ e. All (λ name. name < next) (used_by e)) entries h.given;
+    }) refl
+    (subst (λ (l : List ℕ). All (λ e. e.1.uses ≡ times e.0 l) (kept entries)) used (All-filter is_kept (λ e. e.1.uses ≡ times e.0 (names_used (map named entries))) entries uses))
+
+-- no name that is used less leaves all as they are
+pub used_less-none : (entries : List (ℕ × Entry)) → used_less [] entries ≡ entries
+used_less-none [] = refl
+used_less-none (e ∷ entries) =
+    ap (λ (n : ℕ). let o : Entry = e.1 in let d : ℕ × Entry = (e.0, record o { uses = n }) in d ∷ used_less [] entries) (omega arith) ∙ ap (λ l. e ∷ l) (used_less-none entries)
+
+-- ---- one node more
+
+module _ (next charge : ℕ) (entries : List (ℕ × Entry)) (h : IsTable next charge entries) (name : ℕ) (old new : Entry) (found : lookup (is_at (nat_cmp name)) entries ≡ Some old) (same : new.uses ≡ old.uses)
+    (bytes : object_bytes new.object ≡ object_bytes old.object) (live : old.live ≡ true) (still : new.live ≡ old.live) (graph : object_kind old.object ≡ kind.Graph) (node : Node) where
+  -- what the graph's nodes use
+  before_is : (k : ℕ) → used_by (k, old) ≡ names_in (GraphObject (graph_value old.object))
+  before_is k = used_when_live k old live ∙ ap names_in (graph_is old.object graph)
+
+  now_is : (k : ℕ) (g : GraphValue) → new.object ≡ GraphObject g → used_by (k, new) ≡ names_in (GraphObject g)
+  now_is k g is = used_when_live k new (still ∙ live) ∙ ap names_in is
+
+  pub IsTable-added : new.object ≡ GraphObject (with_node (graph_value old.object) node) → IsTrue (can_add (graph_value old.object)) → All (λ n. n < next) (used_names node)
+      → IsTable next charge (used_more (used_names node) (set_value (is_at (nat_cmp name)) entries new))
+  IsTable-added is room below =
+      let g = graph_value old.object in
+      let added : Numbered = record { number = g.next; node = node } in
+      let then : List (ℕ × Entry) = set_value (is_at (nat_cmp name)) entries new in
+      let f : ℕ → ℕ → ℕ = λ k u. u + times k (used_names node) in
+      let few : length (nodes_in new.object) ≤ 256 =
+      omega (
+        arith,
+        ltb-true (length g.nodes) 256 (and_parts (nat_lt g.next 4294967296) (nat_lt (length g.nodes) 256) room).1,
+        ap (λ o. length (nodes_in o)) is,
+        length-map (g.nodes ++ added ∷ []) (λ (n : Numbered). n.node),
+        length-append g.nodes (added ∷ []),
+      ) in
+      let are = entries-after next charge entries h name old new found same (λ _. few) bytes
+      (λ k given. subst (All (λ n. n < next)) (sym (now_is k (with_node g node) is)) (All-with_node (λ n. n < next) g node (subst (All (λ n. n < next)) (before_is k) given) below)) in
+      let more : (n : ℕ) → times n (names_used (map named then)) ≡ times n (names_used (map named entries)) + times n (used_names node) = λ n.
+      omega (arith, times-after next charge entries h name old new found same n, ap (times n) (before_is name), ap (times n) (now_is name (with_node g node) is), times-with_node g node n) in
+      table_of next charge (recounted f then) (entries-recounted f next then are) (charged-after next charge entries h name old new found same bytes ∙ ap charge_of (sym (named-recounted f then)))
+      (uses-recounted f then
+      (All-weaker (λ e. e.1.uses ≡ times e.0 (names_used (map named entries))) (λ e. e.1.uses + times e.0 (used_names node) ≡ times e.0 (names_used (map named then)))
+      (λ e uses. omega (arith, uses, more e.0)) then (uses-after next charge entries h name old new found same)))
+
+  -- ---- one node less
+
+  module _ (number : ℕ) (graph_holds : IsGraph (graph_value old.object)) (there : find (λ n. n.number == number) (graph_value old.object).nodes ≡ Some (record { number = number; node = node }))
+      (is : new.object ≡ GraphObject (without_node (graph_value old.object) number)) where
+    fewer-removed : (n : ℕ) → times n (names_used (map named entries)) ≡ times n (names_used (map named (set_value (is_at (nat_cmp name)) entries new))) + times n (used_names node)
+    fewer-removed n =
+        let g = graph_value old.object in
+        omega (arith, times-after next charge entries h name old new found same n, ap (times n) (before_is name), ap (times n) (now_is name (without_node g number) is), times-without_node g number node n graph_holds there)
+
+    entries-removed : AreEntries next (set_value (is_at (nat_cmp name)) entries new)
+    entries-removed =
+        let g = graph_value old.object in
+        let test : Numbered → Bool = λ n. not (n.number == number) in
+        let few : length (nodes_in new.object) ≤ 256 =
+        omega (arith, graph_holds.count, ap (λ o. length (nodes_in o)) is, length-map (filter test g.nodes) (λ (n : Numbered). n.node), length-filter test g.nodes, count_by-le-length test g.nodes) in
+        entries-after next charge entries h name old new found same (λ _. few) bytes
+        (λ k given. subst (All (λ n. n < next)) (sym (now_is k (without_node g number) is)) (All-without_node (λ n. n < next) g number (subst (All (λ n. n < next)) (before_is k) given)))
+
+-- ---- a name that ends
+
+module _ (next charge : ℕ) (entries : List (ℕ × Entry)) (h : IsTable next charge entries) (name : ℕ) (old : Entry) (found : lookup (is_at (nat_cmp name)) entries ≡ Some old) (live : old.live ≡ true) where
+  fewer-released : (n : ℕ) → times n (names_used (map named entries)) ≡ times n (names_used (map named (set_value (is_at (nat_cmp name)) entries (record old { live = false })))) + times n (names_in old.object)
+  fewer-released n =
+      let new : Entry = record old { live = false } in
+      let none : times n (used_by (name, new)) ≡ 0 = refl in
+      omega (arith, times-after next charge entries h name old new found refl n, none, ap (times n) (used_when_live name old live))
+
+  entries-released : AreEntries next (set_value (is_at (nat_cmp name)) entries (record old { live = false }))
+  entries-released = entries-after next charge entries h name old (record old { live = false }) found refl (λ few. few) refl (λ k given. All-nil (λ n. n < next))
+
+-- ---- what is held once names are used less
+
+-- entries that were changed and counted anew, and what is left when those not held are gone
+pub record AreLeft (next : ℕ) (changed less : List (ℕ × Entry)) : Type 0 where
+  pub each : All (λ e. object_bytes e.1.object ≤ 16 * 67108864) less
+  pub table : IsTable next (charge_of (map named (kept less))) (kept less)
+  pub shown : map named (kept less) ≡ still_held (map named changed)
+
+module _ (next charge : ℕ) (entries : List (ℕ × Entry)) (h : IsTable next charge entries) (name : ℕ) (old new : Entry) (found : lookup (is_at (nat_cmp name)) entries ≡ Some old) (same : new.uses ≡ old.uses) (gone : List ℕ)
+    (fewer : (n : ℕ) → times n (names_used (map named entries)) ≡ times n (names_used (map named (set_value (is_at (nat_cmp name)) entries new))) + times n gone)
+    (are : AreEntries next (set_value (is_at (nat_cmp name)) entries new)) (less : List (ℕ × Entry)) (is : less ≡ used_less gone (set_value (is_at (nat_cmp name)) entries new)) where
+  abbrev then : List (ℕ × Entry)
+  then = set_value (is_at (nat_cmp name)) entries new
+
+  abbrev anew : ℕ → ℕ → ℕ
+  anew k u = u - times k gone
+
+  named-less : map named less ≡ map named then
+  named-less = ap (map named) is ∙ named-recounted anew then
+
+  entries-less : AreEntries next less
+  entries-less = subst (AreEntries next) (sym is) (entries-recounted anew next then are)
+
+  uses-less : All (λ e. e.1.uses ≡ times e.0 (names_used (map named less))) less
+  uses-less =
+      subst (λ (l : List (ℕ × Entry)). All (λ e. e.1.uses ≡ times e.0 (names_used (map named l))) l) (sym is)
+      (uses-recounted anew then
+      (All-weaker (λ e. e.1.uses ≡ times e.0 (names_used (map named entries))) (λ e. e.1.uses - times e.0 gone ≡ times e.0 (names_used (map named then)))
+      (λ e uses. omega (arith, uses, fewer e.0)) then (uses-after next charge entries h name old new found same)))
+
+  -- what is left
+  pub are-left : AreLeft next then less
+  are-left =
+      record {
+        each = entries-less.each;
+        table = IsTable-kept next less entries-less uses-less;
+        shown = shown-kept less uses-less ∙ ap still_held named-less;
+      }
+
+module _ (next charge : ℕ) (entries : List (ℕ × Entry)) (h : IsTable next charge entries) (name : ℕ) (old : Entry) (found : lookup (is_at (nat_cmp name)) entries ≡ Some old) (live : old.live ≡ true) (less : List (ℕ × Entry)) where
+  -- once a graph has lost a node
+  pub removed-left : (object : ObjectValue) → object_bytes object ≡ object_bytes old.object → object_kind old.object ≡ kind.Graph → (node : Node) (number : ℕ) → IsGraph (graph_value old.object)
+      → find (λ n. n.number == number) (graph_value old.object).nodes ≡ Some (record { number = number; node = node }) → object ≡ GraphObject (without_node (graph_value old.object) number)
+      → less ≡ used_less (used_names node) (set_value (is_at (nat_cmp name)) entries (record old { object = object })) → AreLeft next (set_value (is_at (nat_cmp name)) entries (record old { object = object })) less
+  removed-left object bytes graph node number holds there is =
+      let new : Entry = record old { object = object } in
+      are-left next charge entries h name old new found refl (used_names node)
+      (fewer-removed next charge entries h name old new found refl bytes live refl graph node number holds there is)
+      (entries-removed next charge entries h name old new found refl bytes live refl graph node number holds there is) less
+
+  -- once a name isn't live
+  pub released-left : less ≡ used_less (names_in old.object) (set_value (is_at (nat_cmp name)) entries (record old { live = false })) → AreLeft next (set_value (is_at (nat_cmp name)) entries (record old { live = false })) less
+  released-left is =
+      are-left next charge entries h name old (record old { live = false }) found refl (names_in old.object) (fewer-released next charge entries h name old found live) (entries-released next charge entries h name old found live) less is
+
+-- what is written is found
+pub found-written : (entries : List (ℕ × Entry)) (name : ℕ) (old new : Entry) → lookup (is_at (nat_cmp name)) entries ≡ Some old → lookup (is_at (nat_cmp name)) (set_value (is_at (nat_cmp name)) entries new) ≡ Some new
+found-written [] name old new found = cc
+found-written (e ∷ entries) name old new found = either (is_at (nat_cmp name) e.0) refl found (found-written entries name old new)
+  where
+    test : ℕ → Bool
+    test = is_at (nat_cmp name)
+
+    either : (b : Bool) → test e.0 ≡ b → cond b (Some e.1) (lookup test entries) ≡ Some old → (lookup test entries ≡ Some old → lookup test (set_value test entries new) ≡ Some new)
+        → lookup test (cond b ((e.0, new) ∷ entries) (e ∷ set_value test entries new)) ≡ Some new
+    either true here found rest = ap (λ b. cond b (Some new) (lookup test entries)) here
+    either false here found rest = ap (λ b. cond b (Some e.1) (lookup test (set_value test entries new))) here ∙ rest found
+
+-- the same table, where its parts are the same
+pub IsTable-same : (next more charge sum : ℕ) (entries others : List (ℕ × Entry)) → more ≡ next → sum ≡ charge → others ≡ entries → IsTable next charge entries → IsTable more sum others
+IsTable-same next more charge sum entries others n c e t =
+    subst (λ (l : List (ℕ × Entry)). IsTable more sum l) (sym e) (subst (λ (k : ℕ). IsTable more k entries) (sym c) (subst (λ (k : ℕ). IsTable k charge entries) (sym n) t))
+
+-- ---- a table that shows a context
+
+no_name : (entries : List (ℕ × Entry)) (name : ℕ) → lookup (is_at (nat_cmp name)) entries ≡ None → object_named (map named entries) name ≡ None
+no_name [] name none = refl
+no_name (e ∷ entries) name none =
+    ap (λ b. option_map (λ (o : Named). o.object) (cond (e.1.live && b) (Some (named e)) (find (λ o. o.live && o.name == name) (map named entries)))) (sym (same_name name e.0))
+    ∙ either (is_at (nat_cmp name) e.0) e.1.live none (no_name entries name)
+  where
+    either : (b live : Bool) → cond b (Some e.1) (lookup (is_at (nat_cmp name)) entries) ≡ None → (lookup (is_at (nat_cmp name)) entries ≡ None → object_named (map named entries) name ≡ None)
+        → option_map (λ (o : Named). o.object) (cond (live && b) (Some (named e)) (find (λ o. o.live && o.name == name) (map named entries))) ≡ None
+    either true live none rest = cc
+    either false true none rest = rest none
+    either false false none rest = rest none
+
+-- an entry that is as it was
+pub unchanged : (entries : List (ℕ × Entry)) (name : ℕ) (old : Entry) (object : ObjectValue) → lookup (is_at (nat_cmp name)) entries ≡ Some old → object ≡ old.object
+    → set_value (is_at (nat_cmp name)) entries (record old { object = object }) ≡ entries
+unchanged entries name old object found is =
+    ap (λ (o : ObjectValue). set_value (is_at (nat_cmp name)) entries (record old { object = o })) is ∙ set_value_same (is_at (nat_cmp name)) entries old found
+
+module _ (t : Context) (next charge : ℕ) (entries : List (ℕ × Entry)) (view : ◌≡◌ {A = Context} (record { next = next; objects = map named entries }) t) (h : IsTable next charge entries) where
+  -- nothing has a name that isn't found
+  pub none_there : (name : ℕ) → lookup (is_at (nat_cmp name)) entries ≡ None → object_named t.objects name ≡ None
+  none_there name none = ap (λ (c : Context). object_named c.objects name) (sym view) ∙ no_name entries name none
+
+  -- the object of a live name
+  pub named_there : (name : ℕ) (old : Entry) → lookup (is_at (nat_cmp name)) entries ≡ Some old → object_named t.objects name ≡ if_live old
+  named_there name old found = ap (λ (c : Context). object_named c.objects name) (sym view) ∙ named_is entries name old (in_order entries h.names) found
+
+  pub live_there : (name : ℕ) (old : Entry) → lookup (is_at (nat_cmp name)) entries ≡ Some old → IsTrue (is_some (object_named t.objects name)) → old.live ≡ true
+  live_there name old found some = either old.live refl (ap is_some (sym (named_there name old found)) ∙ some)
+    where
+      either : (b : Bool) → old.live ≡ b → is_some (if_live old) ≡ true → old.live ≡ true
+      either true is some = is
+      either false is some = let no : is_some (if_live old) ≡ false = ap (λ b. is_some (cond b (Some old.object) None)) is in absurd (false≢true (sym no ∙ some))
+
+  -- names that are held are below the next
+  pub all_below : (names : List ℕ) → All (λ name. IsTrue (is_some (object_held t.objects name))) names → All (λ n. n < next) names
+  all_below names held =
+      All-weaker (λ name. IsTrue (is_some (object_held t.objects name))) (λ n. n < next)
+      (λ name some. held_below next entries name h.below (ap (λ (c : Context). is_some (object_held c.objects name)) view ∙ some)) names held

@@ -1,5 +1,0 @@
-use Rattle.object_table.proofs.TableLemmas.{IsTable-set}
-use Rattle.object_table.proofs.table.Table.take_graph.Goals as goal
-
-pub invariant_of-self : goal.invariant_of-self
-invariant_of-self c = IsTable-set c.take_graph.new.self c.self.invariant c.self.view_is c.requires.within c.index_mut-entry.ensures.value c.take_graph.ensures.bytes

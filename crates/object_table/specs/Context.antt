@@ -1,0 +1,44 @@
+-- One client's context: OpenVX 1.3, "Object: Context".
+use Rattle.std.specs.Prelude.{ℕ, ◌+◌, ◌==◌, true, ◌&&◌, Bool, nat_lt, List, [], ◌∷◌, ◌++◌, length, sum_by, find, Option, None}
+use Rattle.std.specs.Option.{option_map}
+use Rattle.vx_base.specs.Cell.{Cell}
+use Rattle.vx_base.specs.Graph.{GraphValue}
+use Rattle.vx_base.specs.Object.{ObjectValue, GraphObject, object_bytes}
+use Rattle.object_table.specs.Named.{Named, with_object}
+
+-- the name that comes next, and the objects in the order of their names
+pub record Context : Type 0 where
+  pub next : ℕ
+  pub objects : List Named
+
+-- a new context: no object, and name 1 next
+abbrev pub new_context : Context
+new_context = record { next = 1; objects = [] }
+
+-- the object whose live name this is
+abbrev pub object_named : List Named → ℕ → Option ObjectValue
+object_named objects name = option_map (λ o. o.object) (find (λ o. o.live && o.name == name) objects)
+
+-- what a context is charged for its objects
+abbrev pub charge_of : List Named → ℕ
+charge_of objects = sum_by (λ o. object_bytes o.object) objects
+
+-- whether one more object can be held: a name is left, and fewer than 1,024 are held
+abbrev pub can_insert : Context → Bool
+can_insert c = nat_lt c.next 4294967296 && nat_lt (length c.objects) 1024
+
+-- the context with one more object, under the next name
+abbrev pub with_new : Context → ObjectValue → Context
+with_new c object = record { next = c.next + 1; objects = c.objects ++ record { name = c.next; live = true; object = object } ∷ [] }
+
+-- the context with other objects under its names
+abbrev pub with_objects : Context → List Named → Context
+with_objects c objects = record { next = c.next; objects = objects }
+
+-- the cell of an object without slots
+abbrev pub cell_of : ℕ → Cell
+cell_of name = record { name = name; slot = None }
+
+-- the objects, of which the graph of this name is another
+abbrev pub with_graph : List Named → ℕ → GraphValue → List Named
+with_graph objects name graph = with_object objects (cell_of name) (GraphObject graph)

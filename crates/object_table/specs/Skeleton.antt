@@ -1,0 +1,21 @@
+-- What no write and no run changes of an object: the attributes that it was made with. OpenVX 1.3 has them as read-only attributes,
+-- as VX_IMAGE_WIDTH, VX_DELAY_SLOTS or VX_DISTRIBUTION_BINS.
+use Rattle.std.specs.Prelude.{[], map}
+use Rattle.vx_base.specs.Graph.{new_graph}
+use Rattle.vx_base.specs.Image.{ImageValue, image_over, description_of}
+use Rattle.vx_base.specs.Object.{ObjectValue, ImageObject, DelayObject, DistributionObject, ExtremesObject, GraphObject, no_extremes}
+use Rattle.vx_base.specs.Rectangle.{empty}
+
+-- an image's size and format
+abbrev pub image_skeleton : ImageValue → ImageValue
+image_skeleton image = image_over (description_of image) empty []
+
+-- of an image its size and format, of a delay those of each of its images, of a distribution its bins, of extremes and of a graph
+-- that they are such; all of a table, a threshold, a matrix and a virtual image
+abbrev pub skeleton : ObjectValue → ObjectValue
+skeleton (ImageObject image) = ImageObject (image_skeleton image)
+skeleton (DelayObject images) = DelayObject (map image_skeleton images)
+skeleton (DistributionObject distribution) = DistributionObject (record { bins = distribution.bins; counts = [] })
+skeleton (ExtremesObject extremes) = ExtremesObject no_extremes
+skeleton (GraphObject graph) = GraphObject new_graph
+skeleton other = other
