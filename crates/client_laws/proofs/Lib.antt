@@ -3,4 +3,6 @@ mod StatisticStepLaws
 mod RoundLaws
 pub mod RunStepLaws
 pub mod StepLaws
+pub mod StandLaws
+mod VerdictLaws
 pub mod StayLaws

@@ -1,18 +1,24 @@
 -- What stays of the objects that are held, as requests are answered.
 use Rattle.std.proofs.Common.{◌≡◌, ◌≢◌, ℕ, ◌<◌, false, IsTrue, List, [], ◌∷◌, Option, Some, None, IfSome, refl, sym, ap, subst, ◌∙◌, arith}
-use Rattle.std.specs.Prelude.{All, IsSome, MatchOption}
+use Rattle.std.specs.Prelude.{All, IsSome, MatchOption, Ok, unwrap_or}
 use Rattle.std.specs.Option.{option_map, option_and_then}
 use Rattle.std.proofs.lemmas.List.Elements.{All-nil, All-cons, All-head, All-tail}
 use Rattle.std.proofs.lemmas.Option.{IfSome_then}
+use Rattle.vx_base.specs.declared.node.Node.{Node}
 use Rattle.vx_base.specs.Cell.{Cell}
-use Rattle.vx_base.specs.Object.{ObjectValue}
-use Rattle.object_table.specs.Context.{Context}
+use Rattle.vx_base.specs.Graph.{GraphValue, nodes_of}
+use Rattle.vx_base.specs.Object.{ObjectValue, GraphObject}
+use Rattle.object_table.specs.Context.{Context, object_named}
 use Rattle.object_table.specs.Delay.{in_slot}
 use Rattle.object_table.specs.Named.{Named, object_held, held}
 use Rattle.object_table.specs.Skeleton.{skeleton}
 use Rattle.object_table.specs.Uses.{nodes_in}
+use Rattle.object_table.proofs.HeldLemmas.{named_has}
 use Rattle.object_table.proofs.SkeletonLaws.{option_map-told, slots_alike}
+use Rattle.graph_verify.specs.declared.operand.Operand.TheVariants.{Delay}
 use Rattle.graph_verify.specs.Operand.{operand_of}
+use Rattle.graph_verify.specs.Verdict.{verdict}
+use Rattle.graph_run.specs.Operands.{operand_held}
 use Rattle.graph_run.proofs.OperandLaws.{operand-skeleton}
 use Rattle.client_model.specs.declared.request.Request.{Request}
 use Rattle.client_model.specs.declared.request.Request.TheVariants.{ReleaseContext}
@@ -20,9 +26,14 @@ use Rattle.client_model.specs.Allowance.{Allowance}
 use Rattle.client_model.specs.Context.{State}
 use Rattle.client_model.specs.Request.{IsRequest}
 use Rattle.client_model.specs.Answer.{answer_to}
+use Rattle.client_model.specs.Graphs.{as_graph, graph_named, graph_verdict}
 use Rattle.client_model.specs.States.{KeepsLimits, IsLater, Stays, state_after, changes_nodes}
 use Rattle.client_model.proofs.StateLaws.{Leaves, stays_alike}
+use Rattle.client_model.proofs.HoldLaws.{OperandsStand}
+use Rattle.client_model.proofs.NamedLaws.{held_if_live}
+use Rattle.client_laws.proofs.StandLaws.{cells_stand}
 use Rattle.client_laws.proofs.StepLaws.{answer_leaves, state_after_keeps}
+use Rattle.client_laws.proofs.VerdictLaws.{IsNamed, verdict_alike}
 
 -- what stays from one list to a next, and from that to another, stays from the first to the last
 stays_on : {X : Type 0} (part : ObjectValue → X) (before between after : List Named) (name : ℕ) → Stays part before between name → Stays part between after name → Stays part before after name
@@ -64,9 +75,9 @@ pub skeletons_stay : (limits : Allowance) (c later : Context) (requests : List R
 skeletons_stay limits c later requests name is known =
     through skeleton limits name (λ _. Unit {0}) (λ request before after leave left given. left.skeletons name given) requests c later is (λ k d below. tt) known
 
-pub nodes_stay : (limits : Allowance) (c later : Context) (requests : List Request) (name : ℕ) → IsLater limits c requests later → name < c.next
-    → All (λ request. changes_nodes request name ≡ false) requests → Stays nodes_in c.objects later.objects name
-nodes_stay limits c later requests name is known leave =
+pub nodes_stay : (limits : Allowance) (c later : Context) (requests : List Request) (name : ℕ) → IsLater limits c requests later
+    → All (λ request. changes_nodes request name ≡ false) requests → name < c.next → Stays nodes_in c.objects later.objects name
+nodes_stay limits c later requests name is leave known =
     through nodes_in limits name (λ request. changes_nodes request name ≡ false) (λ request before after same left given. left.nodes name given same) requests c later is leave known
 
 -- the context after one request
@@ -97,3 +108,47 @@ operand_stays before after cell stays there = found (object_held after cell.name
 -- the limits are kept later too
 pub later_keeps : (limits : Allowance) (c later : Context) (requests : List Request) → IsLater limits c requests later → KeepsLimits limits later
 later_keeps limits c later requests is = subst (λ (state : State). IfSome state (KeepsLimits limits)) is.state (state_after_keeps limits (Some c) requests is.keeps is.are)
+
+-- ---- verdicts
+
+-- a graph of a live name is held, and its nodes find what they name
+module _ (limits : Allowance) (c : Context) (name : ℕ) (h : KeepsLimits limits c) where
+  pub graph_held : (graph : GraphValue) → graph_named c.objects name ≡ Ok graph → object_held c.objects name ≡ Some (GraphObject graph)
+  graph_held graph e = found (object_named c.objects name) e (held_if_live c.objects name h.names)
+    where
+      found : (o : Option ObjectValue) → as_graph o ≡ Ok graph → IfSome o (λ object. object_held c.objects name ≡ Some object) → object_held c.objects name ≡ Some (GraphObject graph)
+      found None is live = absurd (cc)
+      found (Some (GraphObject g)) is live = let same : g ≡ graph = cc in live ∙ ap (λ (x : GraphValue). Some (GraphObject x)) same
+      found (Some other) is live = absurd (cc)
+
+  -- so each cell that they name holds something, under a name that was given
+  pub nodes_find : (nodes : List Node) → option_map nodes_in (object_held c.objects name) ≡ Some nodes → (cell : Cell) → IsNamed nodes cell → IsSome (object_held c.objects cell.name) × (cell.name < c.next)
+  nodes_find nodes e cell named =
+      of_cell (object_held c.objects cell.name) ((cells_stand c.objects name nodes (stood (object_held c.objects name) e (named_has (λ n x. All (OperandsStand c.objects n) (nodes_in x)) c.objects name h.nodes))).found named.0 cell named.1 named.2)
+      (named_has (λ n x. n < c.next) c.objects cell.name h.below)
+    where
+      stood : (o : Option ObjectValue) → option_map nodes_in o ≡ Some nodes → IfSome o (λ x. All (OperandsStand c.objects name) (nodes_in x)) → All (OperandsStand c.objects name) nodes
+      stood None is stand = absurd (cc)
+      stood (Some x) is stand = let same : nodes_in x ≡ nodes = cc in subst (All (OperandsStand c.objects name)) same stand
+
+      of_cell : (o : Option ObjectValue) → option_map operand_of (option_and_then (in_slot cell.slot) o) ≡ Some (operand_held c.objects cell) → IfSome o (λ x. cell.name < c.next) → IsSome o × (cell.name < c.next)
+      of_cell None is below = absurd (cc)
+      of_cell (Some x) is below = (refl, below)
+
+-- the verdict on a graph whose nodes stay stays
+pub verdict_stays : (limits : Allowance) (c later : Context) (requests : List Request) (name : ℕ) (before after : GraphValue) → IsLater limits c requests later
+    → All (λ request. changes_nodes request name ≡ false) requests → graph_named c.objects name ≡ Ok before → graph_named later.objects name ≡ Ok after
+    → graph_verdict limits later.objects after ≡ graph_verdict limits c.objects before
+verdict_stays limits c later requests name before after is leave was now =
+    let nodes = nodes_of after in
+    let then = later_keeps limits c later requests is in
+    let known : name < c.next = subst (λ (o : Option ObjectValue). IfSome o (λ x. name < c.next)) (graph_held limits c name is.keeps before was) (named_has (λ n x. n < c.next) c.objects name is.keeps.below) in
+    let stay : option_map nodes_in (object_held c.objects name) ≡ Some nodes =
+    subst (λ (o : Option ObjectValue). IfSome o (λ x. option_map nodes_in (object_held c.objects name) ≡ Some (nodes_in x))) (graph_held limits later name then after now) (nodes_stay limits c later requests name is leave known) in
+    let same : nodes_of before ≡ nodes = (let both = sym (ap (option_map nodes_in) (graph_held limits c name is.keeps before was)) ∙ stay in cc) in
+    verdict_alike nodes (operand_held later.objects) (operand_held c.objects)
+    (λ cell named.
+    let there = nodes_find limits later name then nodes (ap (option_map nodes_in) (graph_held limits later name then after now)) cell named in
+    let given = nodes_find limits c name is.keeps nodes stay cell named in
+    ap (λ o. unwrap_or o Delay) (operand_stays c.objects later.objects cell (skeletons_stay limits c later requests cell.name is given.1) there.0)) limits.work
+    ∙ ap (verdict limits.work (operand_held c.objects)) (sym same)

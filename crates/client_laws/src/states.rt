@@ -1,9 +1,11 @@
 //! Laws of the states of clients.
-ghost use Rattle.std.specs.Prelude.{◌≡◌, ◌≢◌, ℕ, ◌<◌, false, List, All, Some, None, IfSome, IsSome};
+ghost use Rattle.std.specs.Prelude.{◌≡◌, ◌≢◌, ℕ, ◌<◌, false, List, All, Some, None, IfSome};
+ghost use Rattle.std.specs.Prelude.{IsSome, Ok};
 ghost use Rattle.std.specs.Option.{option_map};
 ghost use Rattle.vx_base.specs.Cell.{Cell};
 ghost use Rattle.vx_base.specs.declared.code.Code.{Code};
 ghost use Rattle.vx_base.specs.declared.code.Code.TheVariants.{Success, NoMemory};
+ghost use Rattle.vx_base.specs.Graph.{GraphValue};
 ghost use Rattle.object_table.specs.Context.{Context};
 ghost use Rattle.object_table.specs.Named.{object_held, held};
 ghost use Rattle.object_table.specs.Skeleton.{skeleton};
@@ -15,7 +17,9 @@ ghost use Rattle.client_model.specs.Allowance.{Allowance};
 ghost use Rattle.client_model.specs.Context.{State};
 ghost use Rattle.client_model.specs.Request.{IsRequest};
 ghost use Rattle.client_model.specs.Answer.{answer_to};
-ghost use Rattle.client_model.specs.States.{KeepsLimits, IsLater, Stays, state_after, changes_nodes};
+ghost use Rattle.client_model.specs.Graphs.{graph_named, graph_verdict};
+ghost use Rattle.client_model.specs.States.{KeepsLimits, state_after};
+ghost use Rattle.client_model.specs.States.{IsLater, Stays, changes_nodes};
 
 /// Whatever a client without a context asks for, its objects are then objects: each image has
 /// samples of its format and is 0 outside its valid rectangle; their names are distinct and below
@@ -28,22 +32,31 @@ pub fn limits_are_kept()
 
 /// What is held under a name keeps its skeleton until it is gone, whatever its client asks for but
 /// ReleaseContext: its kind, its sizes, formats, slots and bins, and all of a table, a threshold, a
-/// matrix or a declared outline. A graph keeps its nodes until one is added to it or removed from it.
-/// So each cell is the same operand as long as something is held under its name.
+/// matrix or a declared outline. A graph keeps its nodes until one is added to it or removed from
+/// it. So each cell is the same operand as long as something is held under its name, and the verdict
+/// on a graph stays what it was, SUCCESS or not, until a node is added to it or removed from it.
 pub fn what_is_held_stays()
     ensures after_one { (limits : Allowance) (c later : Context) (request : Request) (name : ℕ) →
-        KeepsLimits limits c → IsRequest request → (answer_to limits (Some c) request).1 ≡ Some later →
+        KeepsLimits limits c → IsRequest request →
+        (answer_to limits (Some c) request).1 ≡ Some later →
         name < c.next → Stays skeleton c.objects later.objects name }
-    ensures skeletons { (limits : Allowance) (c later : Context) (requests : List Request) (name : ℕ) →
-        IsLater limits c requests later → name < c.next → Stays skeleton c.objects later.objects name }
+    ensures skeletons { (limits : Allowance) (c later : Context) (requests : List Request)
+        (name : ℕ) → IsLater limits c requests later →
+        name < c.next → Stays skeleton c.objects later.objects name }
     ensures nodes { (limits : Allowance) (c later : Context) (requests : List Request) (name : ℕ) →
-        IsLater limits c requests later → name < c.next →
+        IsLater limits c requests later →
         All (λ request. changes_nodes request name ≡ false) requests →
-        Stays nodes_in c.objects later.objects name }
-    ensures operands { (limits : Allowance) (c later : Context) (requests : List Request) (cell : Cell) →
-        IsLater limits c requests later → cell.name < c.next →
-        IsSome (object_held later.objects cell.name) →
-        option_map operand_of (held later.objects cell) ≡ option_map operand_of (held c.objects cell) }
+        name < c.next → Stays nodes_in c.objects later.objects name }
+    ensures operands { (limits : Allowance) (c later : Context) (requests : List Request)
+        (cell : Cell) → IsLater limits c requests later →
+        cell.name < c.next → IsSome (object_held later.objects cell.name) →
+        option_map operand_of (held later.objects cell)
+        ≡ option_map operand_of (held c.objects cell) }
+    ensures verdicts { (limits : Allowance) (c later : Context) (requests : List Request)
+        (name : ℕ) (before after : GraphValue) → IsLater limits c requests later →
+        All (λ request. changes_nodes request name ≡ false) requests →
+        graph_named c.objects name ≡ Ok before → graph_named later.objects name ≡ Ok after →
+        graph_verdict limits later.objects after ≡ graph_verdict limits c.objects before }
 {}
 
 /// A reply that is a refusal leaves the state, and its code is neither SUCCESS nor NO_MEMORY.

@@ -1,5 +1,5 @@
 -- What an object is as a run begins, and what the verdict took it for.
-use Rattle.std.proofs.Common.{◌≡◌, ◌⊎◌, inl, inr, ℕ, zero, suc, ◌≤◌, Bool, true, false, List, [], ◌∷◌, Option, Some, None, IfSome, refl, sym, ap, subst}
+use Rattle.std.proofs.Common.{◌≡◌, ◌⊎◌, inl, inr, ℕ, zero, suc, ◌≤◌, Bool, true, false, List, [], ◌∷◌, Option, Some, None, IfSome, refl, sym, ap, subst, arith}
 use Rattle.std.specs.Prelude.{is_some, unwrap_or, slice_get}
 use Rattle.std.specs.Option.{option_map, option_and_then, option_or}
 use Rattle.std.proofs.lemmas.Bool.{and_parts, cond_both}
@@ -43,23 +43,12 @@ pub record IsSmall (o : Outline) : Type 0 where
   pub height : IfSome o.height (λ n. n ≤ 4096)
 
 filled_small : (a b : Outline) → IsSmall a → IsSmall b → IsSmall (filled a b)
-filled_small a b h k = record { width = either a.width b.width h.width k.width; height = either a.height b.height h.height k.height }
-  where
-    either : (n m : Option ℕ) → IfSome n (λ i. i ≤ 4096) → IfSome m (λ i. i ≤ 4096) → IfSome (option_or n m) (λ i. i ≤ 4096)
-    either None m p q = q
-    either (Some n) m p q = p
+filled_small a b h k = grind arith
 
 -- what is declared of an object is
 pub object_small : (object : Option ObjectValue) → IfSome object IsObject → IsSmall (operand_outline (unwrap_or (option_map operand_of object) Delay))
 object_small (Some (ImageObject image)) is = record { width = is.sides.0; height = is.sides.1 }
-object_small (Some (VirtualObject image)) is =
-    let o = image.declared in
-    let sides = and_parts (may_be_side o.width) (may_be_side o.height) is.declared in
-    record { width = each o.width sides.0; height = each o.height sides.1 }
-  where
-    each : (n : Option ℕ) → may_be_side n ≡ true → IfSome n (λ k. k ≤ 4096)
-    each None h = tt
-    each (Some k) h = side k h
+object_small (Some (VirtualObject image)) is = grind arith
 object_small other is = record { width = tt; height = tt }
 
 -- so is what is known after rounds
@@ -77,11 +66,7 @@ module _ (is : Cell → Operand) (small : (cell : Cell) → IsSmall (operand_out
 
 -- so is an image of which all is known
 closed_small : (o : Outline) → IsSmall o → IfSome (closed o) (λ d. (d.width ≤ 4096) × (d.height ≤ 4096))
-closed_small o h = all_known o.width o.height o.format h.width h.height
-  where
-    all_known : (width height : Option ℕ) (format : Option Format) → IfSome width (λ n. n ≤ 4096) → IfSome height (λ n. n ≤ 4096) → IfSome (described_by width height format) (λ d. (d.width ≤ 4096) × (d.height ≤ 4096))
-    all_known (Some width) (Some height) (Some format) w h = (w, h)
-    all_known width height format w h = tt
+closed_small o h = grind arith
 
 -- ---- an object as a run begins
 
@@ -104,12 +89,7 @@ slot_as_begun k other false operand = refl
 
 -- and so does the image that stands there
 pub image_as_begun : (k : ℕ) (object : ObjectValue) (written : Bool) (operand : Operand) → option_map (λ x. begun_if written x operand) (in_slot (Some k) object) ≡ in_slot (Some k) object
-image_as_begun k (DelayObject images) written operand = each written (slice_get images k)
-  where
-    each : (b : Bool) (found : Option ImageValue) → option_map (λ x. begun_if b x operand) (option_map ImageObject found) ≡ option_map ImageObject found
-    each b None = refl
-    each true (Some image) = refl
-    each false (Some image) = refl
+image_as_begun k (DelayObject images) written operand = grind arith
 image_as_begun k other written operand = refl
 
 -- ---- what the verdict takes an object for
@@ -120,11 +100,7 @@ Taken known actual = (known ≡ actual) ⊎ ((is_virtual_operand actual ≡ true
 
 pub taken_as_begun : (object : ObjectValue) (known : Outline) (written : Bool) → (is_virtual object ≡ true → written ≡ true)
     → Taken (as_known (operand_of object) known) (operand_of (begun_if written object (as_known (operand_of object) known)))
-taken_as_begun (VirtualObject image) known true h = of_closed (closed known)
-  where
-    of_closed : (d : Option Description) → Taken (as_described known d) (operand_of (begun_as (VirtualObject image) (as_described known d)))
-    of_closed None = inr (refl, refl)
-    of_closed (Some d) = inl refl
+taken_as_begun (VirtualObject image) known true h = grind arith
 taken_as_begun (VirtualObject image) known false h = let never = h refl in absurd (cc)
 taken_as_begun other known true h = inl refl
 taken_as_begun other known false h = inl refl
@@ -132,12 +108,7 @@ taken_as_begun other known false h = inl refl
 -- an object that stands for a kind still does
 pub kind_as_begun : (object : ObjectValue) (written : Bool) (operand : Operand) (wanted : Kind) → is_taken wanted ≡ true → stands_for (object_kind object) wanted ≡ true
     → stands_for (operand_kind (operand_of (begun_if written object operand))) wanted ≡ true
-kind_as_begun (VirtualObject image) true (Image d) wanted taken h = as_image wanted taken h
-  where
-    as_image : (k : Kind) → is_taken k ≡ true → stands_for kind.VirtualImage k ≡ true → stands_for kind.Image k ≡ true
-    as_image kind.Image t s = refl
-    as_image kind.VirtualImage t s = cc
-    as_image other t s = cc
+kind_as_begun (VirtualObject image) true (Image d) wanted taken h = grind (arith, is_taken)
 kind_as_begun (VirtualObject image) true operand wanted taken h = h
 kind_as_begun other true operand wanted taken h = subst (λ k. stands_for k wanted ≡ true) (sym (kind-operand other)) h
 kind_as_begun other false operand wanted taken h = subst (λ k. stands_for k wanted ≡ true) (sym (kind-operand other)) h
@@ -167,27 +138,12 @@ second_as_taken : (function : Function) (first : Format) (out : Option Format) (
     → SecondTaken (unwrap_or (parameters function).second_input kind.Image) known actual → takes_formats function first (option_and_then operand_format known) out ≡ true
     → (option_and_then operand_format known ≡ option_and_then operand_format actual) × IfSome actual (λ o. (parameters function).second_input ≡ Some (operand_kind o))
 second_as_taken function first out None None there taken takes = (refl, tt)
-second_as_taken function first out (Some known) (Some (Virtual declared)) there taken takes =
-    let no_format : operand_format known ≡ None = elim taken.0 [ inl e ↦ ap operand_format e | inr other ↦ other.1 ] in
-    let none = no_second function first out (subst (λ format. takes_formats function first format out ≡ true) no_format takes) in
-    let some : false ≡ true = subst (λ (k : Option Kind). is_some k ≡ true) none (there refl) in
-    absurd (cc)
-second_as_taken function first out (Some known) (Some actual) there taken takes =
-    let same : known ≡ actual = elim taken.0 [ inl e ↦ e | inr other ↦ let never = other.0 in absurd (cc) ] in
-    (ap operand_format same, as_wanted (parameters function).second_input (there refl) (stands_for_equal (operand_kind actual) _ taken.1 (λ e. absurd (cc))))
-  where
-    as_wanted : (wanted : Option Kind) → is_some wanted ≡ true → unwrap_or wanted kind.Image ≡ operand_kind actual → wanted ≡ Some (operand_kind actual)
-    as_wanted None some e = absurd (cc)
-    as_wanted (Some k) some e = ap Some e
+second_as_taken function first out (Some known) (Some (Virtual declared)) there taken takes = grind arith
+second_as_taken function first out (Some known) (Some actual) there taken takes = grind (arith, stands_for_equal (operand_kind actual) _ taken.1 (λ e. absurd (cc)))
 second_as_taken function first out known actual there taken takes = absurd taken
 
 -- what a node can give to an output that suits as it is taken
 pub give_as_taken : (n : Node) → IsNode n → (dfirst first dout out : Operand) (dsecond second : Option Operand) → (is_some dsecond ≡ true → is_some (parameters n.function).second_input ≡ true)
     → Taken dfirst first → Taken dout out → SecondTaken (second_kind n) dsecond second → Suits n.function dfirst (option_and_then operand_format dsecond) dout → CanGive n.function first second out
-give_as_taken n node dfirst (Image d) dout (Image e) dsecond second there first_taken out_taken second_taken suits =
-    let Fit : Operand → Operand → Type 0 = λ a b. Suits n.function a (option_and_then operand_format dsecond) b in
-    let as_taken : Suits n.function (Image d) (option_and_then operand_format dsecond) (Image e) =
-    subst (λ b. Fit (Image d) b) (taken_image dout e out_taken) (subst (λ a. Fit a dout) (taken_image dfirst d first_taken) suits) in
-    let right = second_as_taken n.function d.format (Some e.format) dsecond second there second_taken as_taken.formats in
-    record { formats = subst (λ format. takes_formats n.function d.format format (Some e.format) ≡ true) right.0 as_taken.formats; size = as_taken.size; kind = right.1 }
+give_as_taken n node dfirst (Image d) dout (Image e) dsecond second there first_taken out_taken second_taken suits = grind (arith, Suits, taken_image)
 give_as_taken n node dfirst first dout out dsecond second there first_taken out_taken second_taken suits = tt

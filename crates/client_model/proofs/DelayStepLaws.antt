@@ -47,15 +47,11 @@ create_delay_keeps limits c cell slots h is = create_like_keeps limits c (image_
 
 -- there are as many images as before
 length-aged : (images : List ImageValue) → length (aged images) ≡ length images
-length-aged images =
-    let n = length images - 1 in
-    omega (arith, length-append (drop n images) (take n images), length-drop n images, length-take n images)
+length-aged images = grind (arith, length-append, length-drop, length-take)
 
 -- what holds of each image still does
 All-aged : (P : ImageValue → Type 0) (images : List ImageValue) → All P images → All P (aged images)
-All-aged P images h =
-    let n = length images - 1 in
-    All-append P (drop n images) (take n images) (All-drop P n images h) (All-take P n images h)
+All-aged P images h = search (rules, All-append, All-drop, All-take)
 
 -- images of one description have one skeleton
 skeletons_alike : (d : Description) (images : List ImageValue) → All (λ image. description_of image ≡ d) images → map image_skeleton images ≡ replicate (length images) (image_over d empty [])
@@ -81,12 +77,7 @@ of_common images is k default below =
 -- it is a delay still
 pub aged_is : (images : List ImageValue) → IsDelay images → IsDelay (aged images)
 aged_is images is =
-    record {
-      least = omega (arith, is.least, length-aged images);
-      greatest = omega (arith, is.greatest, length-aged images);
-      each = All-aged IsImage images is.each;
-      alike = alike (common images) (aged images) (All-aged (λ image. description_of image ≡ common images) images (of_common images is));
-    }
+    grind (arith, length-aged images, All-aged IsImage images is.each, alike (common images) (aged images) (All-aged (λ image. description_of image ≡ common images) images (of_common images is)), All-aged (λ image. description_of image ≡ common images) images (of_common images is), of_common images is)
 
 -- of which as much lasts
 aged_lasts : (images : List ImageValue) → IsDelay images → lasting (DelayObject (aged images)) ≡ lasting (DelayObject images)

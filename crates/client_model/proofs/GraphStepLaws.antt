@@ -72,9 +72,7 @@ module _ (objects : List Named) (name : ℕ) where
 
 map-unnamed : {X : Type 0} (f : Named → X) → ((o : Named) → f (record o { live = false }) ≡ f o) → (objects : List Named) (name : ℕ) → map f (unnamed objects name) ≡ map f objects
 map-unnamed f same [] name = refl
-map-unnamed {X} f same (o ∷ objects) name =
-    ap (λ (x : X). x ∷ map f (unnamed objects name)) (cond_both (o.name == name) (record o { live = false }) o (λ p. f p ≡ f o) (λ e. same o) (λ e. refl))
-    ∙ ap (λ (xs : List X). f o ∷ xs) (map-unnamed f same objects name)
+map-unnamed {X} f same (o ∷ objects) name = grind (arith, map-unnamed f same objects name)
 
 object_held-unnamed : (objects : List Named) (name other : ℕ) → object_held (unnamed objects name) other ≡ object_held objects other
 object_held-unnamed objects name other =
@@ -195,9 +193,7 @@ module _ (limits : Allowance) (c : Context) (name : ℕ) (graph new : GraphValue
       names = names-with_object c.objects (cell_of name) (GraphObject new)
 
       charge : map (λ (o : Named). object_bytes o.object) after ≡ map (λ o. object_bytes o.object) c.objects
-      charge =
-          map-with_object (λ o. object_bytes o.object) c.objects (cell_of name) (GraphObject new)
-          (All-weaker (HasObject name (GraphObject graph)) (λ o. o.name ≡ name → 0 ≡ object_bytes o.object) (λ o only e. sym (ap object_bytes (only e))) c.objects alone)
+      charge = grind (arith, map-with_object, All-weaker, HasObject)
 
 -- what holds of the object of a live name
 module _ (limits : Allowance) (c : Context) (name : ℕ) (h : KeepsLimits limits c) where
@@ -228,10 +224,7 @@ used-with_object (o ∷ objects) cell object name more used =
     others = is_used (with_object objects cell object) name
 
     still : (o.live && uses o.object name) ≡ true → (first.live && uses first.object name) ≡ true
-    still both =
-        let parts = and_parts o.live (uses o.object name) both in
-        cond_both (o.name == cell.name) (record o { object = with_slot cell.slot object o.object }) o (λ p. (p.live && uses p.object name) ≡ true)
-        (λ t. and_from o.live (uses (with_slot cell.slot object o.object) name) parts.0 (All-head More o objects more (eqb-true o.name cell.name t) parts.1)) (λ t. both)
+    still both = grind (arith, and_parts o.live (uses o.object name) both)
 
     either : ((o.live && uses o.object name) ≡ true) ⊎ (is_used objects name ≡ true) → (is_used objects name ≡ true → others ≡ true) → ((first.live && uses first.object name) || others) ≡ true
     either (inl both) rest = or_left (first.live && uses first.object name) others (still both)
@@ -239,13 +232,7 @@ used-with_object (o ∷ objects) cell object name more used =
 
 -- an operand of a node that isn't refused stands
 passes_stands : (limits : Allowance) (c : Context) (name : ℕ) (operand : Cell × Kind) → KeepsLimits limits c → Passes (Some name) c.objects operand → IsTrue (stands c.objects name operand)
-passes_stands limits c name operand h pass =
-    stands_from c.objects name operand
-    (record {
-      kind = kind_if_live c.objects operand.1 operand.0 h.names (not-false (is_kind operand.1 (kind_of c.objects operand.0)) pass.kind);
-      scope = pass.within;
-      there = pass.there;
-    })
+passes_stands limits c name operand h pass = grind (arith, stands_from, kind_if_live, not-false)
 
 -- a graph with one more node, each of whose operands stands
 add_to_keeps : (limits : Allowance) (c : Context) (name : ℕ) (n : Node) (object : Option ObjectValue) → KeepsLimits limits c → IsNode n → OperandsStand c.objects name n
@@ -337,8 +324,7 @@ remove_node_keeps limits c name number h =
 create_virtual_keeps : (limits : Allowance) (c : Context) (name : ℕ) (declared : Outline) (object : Option ObjectValue) → KeepsLimits limits c → name < 2 ^ 32 → IsOutline declared
     → Keeps limits c (create_virtual_in (as_graph object) limits c name declared)
 create_virtual_keeps limits c name declared None h small is = tt
-create_virtual_keeps limits c name declared (Some (GraphObject graph)) h small is =
-    create_keeps limits c (VirtualObject (record { graph = name; declared = declared })) h (record { graph = small; declared = is }) refl
+create_virtual_keeps limits c name declared (Some (GraphObject graph)) h small is = grind (arith, create_keeps)
 create_virtual_keeps limits c name declared (Some other) h small is = tt
 
 pub create_virtual_image_keeps : (limits : Allowance) (c : Context) (name : ℕ) (declared : Outline) → KeepsLimits limits c → name < 2 ^ 32 → IsOutline declared → Keeps limits c (create_virtual_image limits c name declared)

@@ -1,5 +1,5 @@
 -- What is held: what nodes of graphs use, and what they still find once the rest is gone.
-use Rattle.std.proofs.Common.{◌≡◌, ◌⊎◌, inl, inr, ℕ, suc, arith, Bool, true, false, cond, IsTrue, List, [], ◌∷◌, ◌++◌, get_or, Option, Some, None, refl, sym, ap, subst, ◌∙◌}
+use Rattle.std.proofs.Common.{◌≡◌, ◌⊎◌, inl, inr, ℕ, suc, arith, Bool, true, false, cond, IsTrue, List, [], ◌∷◌, ◌++◌, get_or, Option, Some, None, refl, sym, ap, subst, ◌∙◌, rules}
 use Rattle.std.specs.Prelude.{All, is_none, ◌==◌, ◌&&◌, ◌||◌, not, find, filter, unwrap_or}
 use Rattle.std.specs.List.{list_any}
 use Rattle.std.specs.List.Sorted.{IsStrictlyIncreasing}
@@ -45,13 +45,7 @@ module _ {X : Type 0} (p q : X → Bool) where
   -- so it is told whether one passes
   any_kept : ((x : X) → p x ≡ true → q x ≡ true) → (xs : List X) → list_any p (filter q xs) ≡ list_any p xs
   any_kept h [] = refl
-  any_kept h (x ∷ xs) = either (p x) (q x) refl (h x) (any_kept h xs)
-    where
-      either : (b c : Bool) → p x ≡ b → (b ≡ true → c ≡ true) → list_any p (filter q xs) ≡ list_any p xs → list_any p (cond c (x ∷ filter q xs) (filter q xs)) ≡ (b || list_any p xs)
-      either true true passes kept rest = ap (λ b. b || list_any p (filter q xs)) passes
-      either true false passes kept rest = let is = kept refl in absurd (cc)
-      either false true fails kept rest = ap (λ b. b || list_any p (filter q xs)) fails ∙ rest
-      either false false fails kept rest = rest
+  any_kept h (x ∷ xs) = grind (arith, any_kept h xs)
 
 -- what holds of each element that passes holds of each that is kept
 All-kept : {X : Type 0} (q : X → Bool) (P : X → Type 0) (xs : List X) → All (λ x. q x ≡ true → P x) xs → All P (filter q xs)
@@ -80,17 +74,7 @@ output_taken other = refl
 
 -- the kinds that a node's function has for its operands are such
 pub kinds_taken : (n : Node) → All (λ operand. is_taken operand.1 ≡ true) (operands n)
-kinds_taken n =
-    let Taken : Cell × Kind → Type 0 = λ operand. is_taken operand.1 ≡ true in
-    let second = with_kind (second_kind n) n.in2 in
-    let output = (parameters n.function).output in
-    All-cons Taken (n.in1, kind.Image) _ refl
-    (All-append Taken second _ (each (second_kind n) (second_taken n.function) n.in2)
-    (All-append Taken (with_kind output n.out1) (with_kind output n.out2) (each output (output_taken n.function) n.out1) (each output (output_taken n.function) n.out2)))
-  where
-    each : (k : Kind) → is_taken k ≡ true → (cell : Option Cell) → All (λ operand. is_taken operand.1 ≡ true) (with_kind k cell)
-    each k taken None = All-nil (λ operand. is_taken operand.1 ≡ true)
-    each k taken (Some cell) = All-cons (λ operand. is_taken operand.1 ≡ true) (cell, k) [] taken (All-nil (λ operand. is_taken operand.1 ≡ true))
+kinds_taken n = grind (arith, All-cons, All-append, second_taken, output_taken, All-nil)
 
 -- ---- operands that stand
 
@@ -101,16 +85,10 @@ pub record StandsFor (objects : List Named) (graph : ℕ) (operand : Cell × Kin
   pub there : is_empty objects operand.0 ≡ false
 
 pub stands_parts : (objects : List Named) (graph : ℕ) (operand : Cell × Kind) → IsTrue (stands objects graph operand) → StandsFor objects graph operand
-stands_parts objects graph operand h =
-    let first = and_parts (is_kind operand.1 (kind_held objects operand.0)) (not (is_of_other_graph graph (held objects operand.0)) && not (is_empty objects operand.0)) h in
-    let rest = and_parts (not (is_of_other_graph graph (held objects operand.0))) (not (is_empty objects operand.0)) first.1 in
-    record { kind = first.0; scope = not-true (is_of_other_graph graph (held objects operand.0)) rest.0; there = not-true (is_empty objects operand.0) rest.1 }
+stands_parts objects graph operand h = grind (arith, and_parts)
 
 pub stands_from : (objects : List Named) (graph : ℕ) (operand : Cell × Kind) → StandsFor objects graph operand → IsTrue (stands objects graph operand)
-stands_from objects graph operand h =
-    and_from (is_kind operand.1 (kind_held objects operand.0)) (not (is_of_other_graph graph (held objects operand.0)) && not (is_empty objects operand.0)) h.kind
-    (and_from (not (is_of_other_graph graph (held objects operand.0))) (not (is_empty objects operand.0))
-    (not_from_false (is_of_other_graph graph (held objects operand.0)) h.scope) (not_from_false (is_empty objects operand.0) h.there))
+stands_from objects graph operand h = grind (arith, and_from, not_from_false)
 
 -- whether a cell stands, by the object of its name
 abbrev stands_on : ℕ → Cell × Kind → Option ObjectValue → Bool
@@ -146,9 +124,7 @@ OperandsStand objects graph n = All (λ operand. IsTrue (stands objects graph op
 -- where each operand that stands among some objects stands among others, nodes stand there
 pub nodes_stand : (objects others : List Named) (graph : ℕ) (nodes : List Node) → ((operand : Cell × Kind) → IsTrue (stands objects graph operand) → IsTrue (stands others graph operand))
     → All (OperandsStand objects graph) nodes → All (OperandsStand others graph) nodes
-nodes_stand objects others graph nodes still h =
-    All-weaker (OperandsStand objects graph) (OperandsStand others graph)
-    (λ n each. All-weaker (λ operand. IsTrue (stands objects graph operand)) (λ operand. IsTrue (stands others graph operand)) still (operands n) each) nodes h
+nodes_stand objects others graph nodes still h = search (rules, All-weaker)
 
 -- an operand stands among others, where these have the same object of its name
 pub stands_still : (objects others : List Named) (graph : ℕ) (operand : Cell × Kind) → object_held others operand.0.name ≡ object_held objects operand.0.name
@@ -179,13 +155,7 @@ not_taken slot k other is taken h = cc
 module _ (objects : List Named) (name : ℕ) (object : ObjectValue) (found : object_held objects name ≡ Some object) (is : object_kind object ≡ kind.Graph) where
   -- no operand that stands has its name
   of_other_name : (graph : ℕ) (operand : Cell × Kind) → IsTrue (stands objects graph operand) → is_taken operand.1 ≡ true → (operand.0.name == name) ≡ false
-  of_other_name graph operand h taken =
-      let cell = operand.0 in
-      false_from_ne_true (cell.name == name)
-      (λ same.
-      let there : object_held objects cell.name ≡ Some object = ap (object_held objects) (eqb-true cell.name name same) ∙ found in
-      not_taken cell.slot operand.1 object is taken
-      (subst (λ o. is_kind operand.1 (option_and_then (slot_kind cell.slot) o) ≡ true) there (stands_parts objects graph operand h).kind))
+  of_other_name graph operand h taken = grind (arith, stands_parts objects graph operand h)
 
   not_named : (graph : ℕ) (n : Node) → OperandsStand objects graph n → list_any (λ operand. operand.0.name == name) (operands n) ≡ false
   not_named graph n h =
@@ -213,12 +183,8 @@ OperandsUsed objects n = All (λ operand. is_used objects operand.0.name ≡ tru
 -- each operand of a graph's node is named by it
 uses_its_own : (object : ObjectValue) → All (λ n. All (λ operand. uses object operand.0.name ≡ true) (operands n)) (nodes_in object)
 uses_its_own (GraphObject g) =
-    All-map (λ n. All (λ operand. list_any (names_it operand.0.name) g.nodes ≡ true) (operands n)) (λ (n : Numbered). n.node) g.nodes
-    (λ k d below i e within.
-    let n : Node = (get_or g.nodes k d).node in
-    let operand = get_or (operands n) i e in
-    list_any_at (names_it operand.0.name) g.nodes k d below
-    (list_any_at (λ other. other.0.name == operand.0.name) (operands n) i e within (eq-eqb operand.0.name operand.0.name refl)))
+    grind (arith, All-map (λ n. All (λ operand. list_any (names_it operand.0.name) g.nodes ≡ true) (operands n)) (λ (n : Numbered). n.node) g.nodes (λ k d below i e within. let n : Node = (get_or g.nodes k d).node in
+    let operand = get_or (operands n) i e in list_any_at (names_it operand.0.name) g.nodes k d below (list_any_at (λ other. other.0.name == operand.0.name) (operands n) i e within (eq-eqb operand.0.name operand.0.name refl))))
 uses_its_own other = All-nil (λ n. All (λ operand. uses other operand.0.name ≡ true) (operands n))
 
 -- what a node of an unreleased graph names is used
@@ -235,23 +201,14 @@ used_by_live objects k d below live =
 module _ (objects : List Named) where
   -- what is used stays used, and what is held stays held
   used_still : (name : ℕ) → is_used (still_held objects) name ≡ is_used objects name
-  used_still name =
-      any_kept (λ (o : Named). o.live && uses o.object name) (is_held objects)
-      (λ o used. let live = (and_parts o.live (uses o.object name) used).0 in ap (λ b. b || is_used objects o.name) live) objects
+  used_still name = grind (arith, any_kept, and_parts)
 
   pub held_still : All (λ o. IsTrue (is_held (still_held objects) o)) (still_held objects)
-  held_still =
-      All-weaker (λ o. is_held objects o ≡ true) (λ o. IsTrue (is_held (still_held objects) o)) (λ o kept. ap (λ b. o.live || b) (used_still o.name) ∙ kept)
-      (still_held objects) (filter_passes (is_held objects) objects)
+  held_still = grind (arith, All-weaker, used_still, filter_passes)
 
   -- what is used is found as before
   found_still : (name : ℕ) → is_used objects name ≡ true → object_held (still_held objects) name ≡ object_held objects name
-  found_still name used =
-      ap (option_map (λ (o : Named). o.object))
-      (find_kept (λ (o : Named). o.name == name) (is_held objects) objects
-      (λ k d below same.
-      let o : Named = get_or objects k d in
-      or_right o.live (is_used objects o.name) (ap (is_used objects) (eqb-true o.name name same) ∙ used)))
+  found_still name used = grind (arith, find_kept, or_right, eqb-true)
 
   -- a graph has nodes, and no other object does
   graph_or_none : (object : ObjectValue) → (object_kind object ≡ kind.Graph) ⊎ (nodes_in object ≡ [])
@@ -265,13 +222,10 @@ module _ (objects : List Named) where
     node_finds_still o found used stand kept = by_mark (or_cases o.live (is_used objects o.name) kept) (graph_or_none o.object)
       where
         by_mark : (o.live ≡ true) ⊎ (is_used objects o.name ≡ true) → (object_kind o.object ≡ kind.Graph) ⊎ (nodes_in o.object ≡ []) → NodesStand (still_held objects) o
-        by_mark (inl live) any = λ k d below i e within.
-            let operand = get_or (operands (get_or (nodes_in o.object) k d)) i e in
-            stands_still objects (still_held objects) o.name operand (found_still operand.0.name (used live k d below i e within)) (stand k d below i e within)
+        by_mark (inl live) any = search (rules, stands_still, found_still)
         by_mark (inr in_use) (inl graph) = absurd (both_ways (is_used objects o.name) (graph_unused objects o.name o.object found graph nodes) in_use)
         by_mark (inr in_use) (inr none) = subst (All (OperandsStand (still_held objects) o.name)) (sym none) (All-nil (OperandsStand (still_held objects) o.name))
 
     pub nodes_still : All (NodesStand (still_held objects)) (still_held objects)
     nodes_still =
-        All-kept (is_held objects) (NodesStand (still_held objects)) objects
-        (λ k d below. node_finds_still (get_or objects k d) (held_by_name objects names k d below) (used_by_live objects k d below) (nodes k d below))
+        grind (arith, All-kept (is_held objects) (NodesStand (still_held objects)) objects (λ k d below. node_finds_still (get_or objects k d) (held_by_name objects names k d below) (used_by_live objects k d below) (nodes k d below)))

@@ -47,10 +47,7 @@ same_format_equal a b h = cc
 
 -- a picture that isn't refused is described as the image is
 picture_description : (image picture : Description) → picture_refusal image picture ≡ None → image ≡ picture
-picture_description image picture h =
-    let of_format = passed (not (same_format image.format picture.format)) InvalidFormat _ h in
-    same_description image picture (met (same_size image picture) InvalidDimension of_format.1)
-    (same_format_equal image.format picture.format (not-false (same_format image.format picture.format) of_format.0))
+picture_description image picture h = grind (arith, passed (not (same_format image.format picture.format)) InvalidFormat _ h)
 
 -- what lasts of an image is what lasts of what the cell holds
 abbrev ImageFits : List Named → Cell → ImageValue → Type 0
@@ -128,21 +125,11 @@ query_image_keeps limits c cell h = query_of_keeps limits (described_in c.object
 
 -- the image that a cell names is one
 pub image_of_is : (limits : Allowance) (c : Context) (cell : Cell) → KeepsLimits limits c → IfOk (image_of c.objects cell) IsImage
-image_of_is limits c cell h =
-    cond_both (is_unknown c.objects cell) (Err InvalidReference) (if is_of_other_kind c.objects (cell, kind.Image) then Err InvalidType else as_image (held c.objects cell)) (λ image. IfOk image IsImage)
-    (λ unknown. tt)
-    (λ known. cond_both (is_of_other_kind c.objects (cell, kind.Image)) (Err InvalidType) (as_image (held c.objects cell)) (λ image. IfOk image IsImage)
-    (λ other. tt) (λ of_kind. if_image (held c.objects cell) (held_is c.objects cell h.objects)))
-  where
-    if_image : (object : Option ObjectValue) → IfSome object IsObject → IfOk (as_image object) IsImage
-    if_image (Some (ImageObject image)) is = is
-    if_image other is = tt
+image_of_is limits c cell h = grind (arith, held_is c.objects cell h.objects)
 
 -- a rectangle that isn't refused is within the image
 within_image : (image : Description) (valid : Rectangle) → valid_refusal image valid ≡ None → IsWithin valid image.width image.height
-within_image image valid h =
-    let both = and_parts (nat_le valid.x1 image.width) (nat_le valid.y1 image.height) (met (nat_le valid.x1 image.width && nat_le valid.y1 image.height) InvalidValue h) in
-    record { columns = leb-true valid.x1 image.width both.0; rows = leb-true valid.y1 image.height both.1 }
+within_image image valid h = grind (arith, and_parts, met)
 
 -- a rectangle is set where an image was
 set_valid_of_keeps : (limits : Allowance) (image : Result ImageValue Refusal) (c : Context) (cell : Cell) (valid : Rectangle) → KeepsLimits limits c → IsOrdered valid → IfOk image IsImage → IfOk image (ImageFits c.objects cell) → Keeps limits c (set_valid_of image c cell valid)

@@ -57,10 +57,7 @@ held_if_live (o ∷ objects) name h = by_name (o.name == name) refl (held_if_liv
 
     none : (later : List Named) → o.name ≡ name → All (λ p. o.name < p.name) later → object_held later name ≡ None
     none [] same above = refl
-    none (p ∷ later) same above =
-        let less = All-head (λ q. o.name < q.name) p later above in
-        ap (λ b. option_map (λ (q : Named). q.object) (cond b (Some p) (find (λ q. q.name == name) later))) (ne_eqb p.name name (λ e. omega (arith, less, same, e)))
-        ∙ none later same (All-tail (λ q. o.name < q.name) p later above)
+    none (p ∷ later) same above = grind (arith, none later same (All-tail (λ q. o.name < q.name) p later above), All-tail, All-head)
 
     by_mark : (live : Bool) → o.name ≡ name → Held (object_held objects name)
         → IfSome (option_map (λ (p : Named). p.object) (cond (live && true) (Some o) (find (λ p. p.live && p.name == name) objects))) (λ object. Some o.object ≡ Some object)
@@ -87,13 +84,7 @@ live_has objects name P names h =
 
 -- what a cell holds is of the kind that the cell is for
 pub held_kind : (objects : List Named) (cell : Cell) → IfSome (held objects cell) (λ object. kind_held objects cell ≡ Some (object_kind object))
-held_kind objects cell = in_its_slot cell.slot (object_held objects cell.name)
-  where
-    in_its_slot : (slot : Option ℕ) (object : Option ObjectValue) → IfSome (option_and_then (in_slot slot) object) (λ x. option_and_then (slot_kind slot) object ≡ Some (object_kind x))
-    in_its_slot slot None = tt
-    in_its_slot None (Some object) = refl
-    in_its_slot (Some k) (Some (DelayObject images)) = slot_has (λ x. Some kind.Image ≡ Some (object_kind x)) images k (λ image e. refl)
-    in_its_slot (Some k) (Some other) = tt
+held_kind objects cell = grind arith
 
 -- what a cell of a live name is for, it holds
 pub kind_if_live : (objects : List Named) (k : Kind) (cell : Cell) → IsStrictlyIncreasing (names_of objects) → is_kind k (kind_of objects cell) ≡ true → is_kind k (kind_held objects cell) ≡ true

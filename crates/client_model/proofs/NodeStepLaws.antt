@@ -176,13 +176,7 @@ stands_for_equal a wanted h not_virtual = same_kind_equal wanted a h
 -- where each second input that is there is of the kind that a node is to have, it is of that which its function has
 pub second_right : (look : Cell → Option Operand) (n : Node) → IsNode n → IfSome n.in2 (λ cell. IfSome (look cell) (λ o. second_kind n ≡ operand_kind o))
     → IfSome (option_and_then look n.in2) (λ o. (parameters n.function).second_input ≡ Some (operand_kind o))
-second_right look n node h = of_kind (parameters n.function).second_input n.in2 (second_there n node.shape) h
-  where
-    of_kind : (wanted : Option Kind) (cell : Option Cell) → IsTrue (if is_some wanted then is_some cell else is_none cell) → IfSome cell (λ x. IfSome (look x) (λ o. unwrap_or wanted kind.Image ≡ operand_kind o))
-        → IfSome (option_and_then look cell) (λ o. wanted ≡ Some (operand_kind o))
-    of_kind wanted None there right = tt
-    of_kind None (Some x) there right = absurd (cc)
-    of_kind (Some k) (Some x) there right = IfSome_then (look x) right (λ o e. ap Some e)
+second_right look n node h = grind (arith, second_there n node.shape)
 
 -- ---- a node that isn't refused
 
@@ -198,22 +192,13 @@ pub record IsOwn (objects : List Named) (operand : Cell × Kind) : Type 0 where
 
 -- an operand that passes, and that is no virtual image, is of the kind that is wanted there
 of_wanted : (objects : List Named) (operand : Cell × Kind) → IsOwn objects operand → IfSome (operand_in objects operand.0) (λ o. operand.1 ≡ operand_kind o)
-of_wanted objects operand h = of_found (held objects operand.0) (held_kind objects operand.0) h.real
-  where
-    of_found : (found : Option ObjectValue) → IfSome found (λ x. kind_held objects operand.0 ≡ Some (object_kind x)) → is_some_virtual found ≡ false → IfSome (option_map operand_of found) (λ o. operand.1 ≡ operand_kind o)
-    of_found None is real = tt
-    of_found (Some (VirtualObject image)) is real = absurd (cc)
-    of_found (Some x) is real =
-        stands_for_equal (object_kind x) operand.1 (subst (λ k. is_kind operand.1 k ≡ true) is h.kind) (λ e. absurd (cc)) ∙ sym (kind-operand x)
+of_wanted objects operand h = grind (arith, held_kind objects operand.0)
 
 -- where both suit, both can be given to
 both_give : (function : Function) (first : Option ObjectValue) (second out1 out2 : Option Operand) → IfSome second (λ o. (parameters function).second_input ≡ Some (operand_kind o))
     → IfSome first (BothSuit function (option_and_then operand_format second) out1 out2) → CanGiveTo function (option_map operand_of first) second out1 × CanGiveTo function (option_map operand_of first) second out2
 both_give function None second out1 out2 right suit = (tt, tt)
-both_give function (Some a) second out1 out2 right suit = (
-  IfSome_then out1 suit.0 (λ o suits. suits_give function (operand_of a) o second suits right),
-  IfSome_then out2 suit.1 (λ o suits. suits_give function (operand_of a) o second suits right),
-)
+both_give function (Some a) second out1 out2 right suit = grind (arith, IfSome_then, out1, suits_give, right, out2)
 
 -- a node that isn't refused can give to its outputs
 not_refused : (limits : Allowance) (c : Context) (n : Node) → KeepsLimits limits c → IsNode n → node_refusal c.objects n ≡ None → CanRunOn (operand_in c.objects) n

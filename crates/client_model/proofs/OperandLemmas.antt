@@ -1,5 +1,5 @@
 -- A node's operands one by one, and what a node gives to its outputs.
-use Rattle.std.proofs.Common.{◌≡◌, true, List, [], ◌++◌, length, Option, Some, None, IfSome, refl}
+use Rattle.std.proofs.Common.{◌≡◌, true, List, [], ◌++◌, length, Option, Some, None, IfSome, refl, arith}
 use Rattle.std.specs.Prelude.{All, ◌==◌, unsigned_abs}
 use Rattle.std.specs.List.{count_by}
 use Rattle.std.specs.Option.{option_map, option_and_then}
@@ -49,12 +49,7 @@ same_formats (Some other) = refl
 
 -- descriptions of one size and format are one
 pub same_description : (a b : Description) → same_size a b ≡ true → a.format ≡ b.format → a ≡ b
-same_description a b size format =
-    let both = and_parts (a.width == b.width) (a.height == b.height) size in
-    let w = eqb-true a.width b.width both.0 in
-    let h = eqb-true a.height b.height both.1 in
-    let e : record { width = a.width; height = a.height; format = a.format } ≡ record { width = b.width; height = b.height; format = b.format } = cc in
-    e
+same_description a b size format = grind (arith, and_parts (a.width == b.width) (a.height == b.height) size)
 
 -- there is a count for each bin
 pub length-histogram : (bins : BinsValue) (a : ImageValue) → length (histogram bins a) ≡ bins.bins

@@ -49,23 +49,11 @@ new_context_keeps limits =
 
 -- what room for an object means
 has_room_means : (limits : Allowance) (c : Context) (bytes : ℕ) → IsTrue (has_room limits c bytes) → (c.next < 4294967296) × ((length c.objects < 1024) × (charge_of c.objects + bytes ≤ limits.quota))
-has_room_means limits c bytes h =
-    let both = and_parts (can_insert c) (nat_le (charge_of c.objects + bytes) limits.quota) h in
-    let one = and_parts (nat_lt c.next 4294967296) (nat_lt (length c.objects) 1024) both.0 in
-    (ltb-true c.next 4294967296 one.0, (ltb-true (length c.objects) 1024 one.1, leb-true (charge_of c.objects + bytes) limits.quota both.1))
+has_room_means limits c bytes h = grind (arith, and_parts (can_insert c) (nat_le (charge_of c.objects + bytes) limits.quota) h)
 
 -- what is held stays so with one object more
 held_more : (objects : List Named) (new : Named) (o : Named) → IsTrue (is_held objects o) → IsTrue (is_held (objects ++ new ∷ []) o)
-held_more objects new o h = by_mark (or_cases o.live (is_used objects o.name) h)
-  where
-    after : List Named
-    after = objects ++ new ∷ []
-
-    by_mark : (o.live ≡ true) ⊎ (is_used objects o.name ≡ true) → (o.live || is_used after o.name) ≡ true
-    by_mark (inl live) = or_left o.live (is_used after o.name) live
-    by_mark (inr used) =
-        or_right o.live (is_used after o.name)
-        (list_any-append (λ p. p.live && uses p.object o.name) objects (new ∷ []) ∙ or_left (is_used objects o.name) (is_used (new ∷ []) o.name) used)
+held_more objects new o h = grind (arith, or_cases o.live (is_used objects o.name) h, list_any-append (λ p. p.live && uses p.object o.name) objects (new ∷ []))
 
 -- where there is room for an object, the limits are kept with it; a new graph has no nodes
 pub with_new_keeps : (limits : Allowance) (c : Context) (object : ObjectValue) → KeepsLimits limits c → IsObject object → nodes_in object ≡ [] → IsTrue (has_room limits c (object_bytes object)) → KeepsLimits limits (with_new c object)

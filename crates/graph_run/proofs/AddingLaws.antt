@@ -1,5 +1,5 @@
 -- The order in which nodes were added makes no difference.
-use Rattle.std.proofs.Common.{◌≡◌, ℕ, zero, suc, ◌<◌, Bool, true, false, List, length, map, refl, sym, ap, subst, ◌∙◌, inl, inr}
+use Rattle.std.proofs.Common.{◌≡◌, ℕ, zero, suc, ◌<◌, Bool, true, false, List, length, map, refl, sym, ap, subst, ◌∙◌, inl, inr, arith}
 use Rattle.std.specs.List.{list_any, AllPairs}
 use Rattle.std.specs.List.Sorted.{IsPermutation}
 use Rattle.std.proofs.lemmas.Bool.{cases_Bool}
@@ -27,35 +27,17 @@ use Rattle.graph_run.proofs.RoundLaws.{round_written, round_other, seen-rounds, 
 use Rattle.graph_run.proofs.BegunLaws.{labels-begun, begun-same, WritesNo-begun}
 
 same_any : {X : Type 0} (p : X → Bool) (xs ys : List X) → AllIn xs ys → AllIn ys xs → list_any p xs ≡ list_any p ys
-same_any {X} p xs ys to from = elim (cases_Bool (list_any p xs)) [
-  | inl e ↦ e ∙ sym (passes xs ys to e)
-  | inr e ↦ elim (cases_Bool (list_any p ys)) [
-    | inl f ↦ (let g = passes ys xs from f in absurd (cc))
-    | inr f ↦ e ∙ sym f
-  ]
-]
-  where
-    passes : (zs ws : List X) → AllIn zs ws → list_any p zs ≡ true → list_any p ws ≡ true
-    passes zs ws within e = let r = In-from_any p zs e in any-from_In p r.0 ws (within r.0 r.1) r.2
+same_any {X} p xs ys to from = grind (arith, cases_Bool, In-from_any, any-from_In)
 
 -- ---- rounds of anything
 
 module _ {N C V : Type 0} (writes : N → C → Bool) (value : N → (C → V) → C → V) (nodes others : List N) (one : cells.OneWriter writes nodes) (to : AllIn nodes others) (from : AllIn others nodes) where
   same_round : (held : C → V) (c : C) → cells.round writes value nodes held c ≡ cells.round writes value others held c
-  same_round held c = elim (cases_Bool (list_any (λ n. writes n c) nodes)) [
-    | inl e ↦
-        (let r = In-from_any (λ n. writes n c) nodes e in
-        round_written writes value nodes held c r.0 one r.1 r.2
-        ∙ sym (round_written writes value others held c r.0 (λ m n d i j. one m n d (from m i) (from n j)) (to r.0 r.1) r.2))
-    | inr e ↦
-        round_other writes value nodes held c e
-        ∙ sym (round_other writes value others held c (sym (same_any (λ n. writes n c) nodes others to from) ∙ e))
-  ]
+  same_round held c = grind (arith, cases_Bool, In-from_any, round_written, round_other, same_any)
 
   pub cell_rounds : (k : ℕ) (held : C → V) → cells.rounds writes value nodes k held ≡ cells.rounds writes value others k held
   cell_rounds zero held = refl
-  cell_rounds (suc k) held =
-      ap (cells.round writes value nodes) (cell_rounds k held) ∙ fun_ext (same_round (cells.rounds writes value others k held))
+  cell_rounds (suc k) held = grind (arith, cell_rounds k held, same_round (cells.rounds writes value others k held))
 
 -- ---- rounds of objects
 
@@ -74,18 +56,10 @@ module _ (nodes others : List Node) (two : two_writers nodes ≡ false) (to : Al
       same_objects (rounds nodes k objects) (rounds others k objects) (subst (λ z. Rising z) (sym labels) up) (labels ∙ sym (labels-rounds others k objects)) (λ c. ap (λ f. f c) same)
 
   same_resolved : (is : Cell → Operand) → resolved is nodes ≡ resolved is others
-  same_resolved is =
-      let known = cell_rounds writes (written_outline is) nodes others (one_writer nodes two) to from (length nodes) (λ cell. operand_outline (is cell)) in
-      let outlined : outlines is nodes ≡ outlines is others = known ∙ ap (λ k. cells.rounds writes (written_outline is) others k (λ cell. operand_outline (is cell))) long in
-      fun_ext (λ cell. ap (λ f. as_known (is cell) (f cell)) outlined)
+  same_resolved is = grind (arith, cell_rounds, one_writer)
 
   same_run : (is : Cell → Operand) (objects : List Named) → Rising (map label_of objects) → WritesNo kind.Delay nodes objects → run is nodes objects ≡ run is others objects
-  same_run is objects up whole =
-      let start : List Named = map (begun is nodes) objects in
-      ap (forgotten objects)
-      (object_rounds (length nodes) start (subst (λ z. Rising z) (sym (labels-begun is nodes objects)) up) (WritesNo-begun is nodes objects whole)
-      ∙ ap (λ k. rounds others k start) long
-      ∙ ap (rounds others (length others)) (begun-same is nodes others (λ c. same_any (λ n. writes n c) nodes others to from) objects))
+  same_run is objects up whole = grind (arith, object_rounds, Rising, labels-begun, WritesNo-begun, begun-same, same_any)
 
 pub same_graph : (is : Cell → Operand) (nodes others : List Node) (objects : List Named) → IsPermutation nodes others → two_writers nodes ≡ false → AllPairs (λ a b. a.name < b.name) objects
     → WritesNo kind.Delay nodes objects → run (resolved is nodes) nodes objects ≡ run (resolved is others) others objects

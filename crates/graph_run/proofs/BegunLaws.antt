@@ -1,5 +1,5 @@
 -- What virtual images are as a run begins and ends.
-use Rattle.std.proofs.Common.{◌≡◌, ◌≢◌, ℕ, true, false, if◌then◌else◌, eqb, List, [], ◌∷◌, map, refl, sym, ap, subst, ◌∙◌, inl, inr, Option, Some, None, ◌⊎◌, Bool}
+use Rattle.std.proofs.Common.{◌≡◌, ◌≢◌, ℕ, true, false, if◌then◌else◌, eqb, List, [], ◌∷◌, map, refl, sym, ap, subst, ◌∙◌, inl, inr, Option, Some, None, ◌⊎◌, Bool, arith}
 use Rattle.std.specs.Prelude.{◌⊎◌}
 use Rattle.std.specs.Option.{option_map, option_and_then}
 use Rattle.std.proofs.lemmas.Bool.{cases_Bool}
@@ -29,26 +29,16 @@ begun_under is nodes name x = if is_written nodes (record { name = name; slot = 
 
 pub object_held-begun : (is : Cell → Operand) (nodes : List Node) (objects : List Named) (name : ℕ)
     → object_held (map (begun is nodes) objects) name ≡ option_map (begun_under is nodes name) (object_held objects name)
-object_held-begun is nodes objects name =
-    object_held-map (begun is nodes) (begun_under is nodes name) objects name
-    (λ o. elim (cases_Bool (is_written nodes (record { name = o.name; slot = None }))) [ inl w ↦ rw w refl | inr w ↦ rw w refl ])
-    (λ o same. subst (λ z. (begun is nodes o).object ≡ begun_under is nodes z o.object) same
-    (elim (cases_Bool (is_written nodes (record { name = o.name; slot = None }))) [ inl w ↦ rw w refl | inr w ↦ rw w refl ]))
+object_held-begun is nodes objects name = grind (arith, object_held-map, cases_Bool)
 
 pub labels-begun : (is : Cell → Operand) (nodes : List Node) (objects : List Named) → map label_of (map (begun is nodes) objects) ≡ map label_of objects
 labels-begun is nodes [] = refl
-labels-begun is nodes (o ∷ objects) = elim (cases_Bool (is_written nodes (record { name = o.name; slot = None }))) [
-  | inl w ↦ rw w (ap (λ z. label_of o ∷ z) (labels-begun is nodes objects))
-  | inr w ↦ rw w (ap (λ z. label_of o ∷ z) (labels-begun is nodes objects))
-]
+labels-begun is nodes (o ∷ objects) = grind (arith, labels-begun is nodes objects, cases_Bool (is_written nodes (record { name = o.name; slot = None })))
 
 -- what is written alike begins alike
 pub begun-same : (is : Cell → Operand) (nodes others : List Node) → ((c : Cell) → is_written nodes c ≡ is_written others c) → (objects : List Named) → map (begun is nodes) objects ≡ map (begun is others) objects
 begun-same is nodes others same [] = refl
-begun-same is nodes others same (o ∷ objects) =
-    let cell : Cell = record { name = o.name; slot = None } in
-    ap (λ b. (if b then record o { object = begun_as o.object (is cell) } else o) ∷ map (begun is nodes) objects) (same cell)
-    ∙ ap (λ z. begun is others o ∷ z) (begun-same is nodes others same objects)
+begun-same is nodes others same (o ∷ objects) = grind (arith, begun-same is nodes others same objects)
 
 delay_before : (slot : Option ℕ) (x : ObjectValue) (operand : Operand) → option_map object_kind (in_slot slot (begun_as x operand)) ≡ Some kind.Delay → option_map object_kind (in_slot slot x) ≡ Some kind.Delay
 delay_before None (VirtualObject v) (Image d) h = absurd (cc h)
@@ -58,16 +48,7 @@ delay_before slot x operand h = h
 
 -- no delay comes of a virtual image
 pub WritesNo-begun : (is : Cell → Operand) (nodes : List Node) (objects : List Named) → WritesNo kind.Delay nodes objects → WritesNo kind.Delay nodes (map (begun is nodes) objects)
-WritesNo-begun is nodes objects whole c w h =
-    whole c w (before (object_held objects c.name) (ap (λ z. option_map object_kind (option_and_then (in_slot c.slot) z)) (sym (object_held-begun is nodes objects c.name)) ∙ h))
-  where
-    before : (o : Option ObjectValue) → option_map object_kind (option_and_then (in_slot c.slot) (option_map (begun_under is nodes c.name) o)) ≡ Some kind.Delay
-        → option_map object_kind (option_and_then (in_slot c.slot) o) ≡ Some kind.Delay
-    before None h = absurd (cc h)
-    before (Some x) h = elim (cases_Bool (is_written nodes (record { name = c.name; slot = None }))) [
-      | inl e ↦ delay_before c.slot x (is (record { name = c.name; slot = None })) (rw e at h)
-      | inr e ↦ (let g : option_map object_kind (in_slot c.slot x) ≡ Some kind.Delay = rw e at h in g)
-    ]
+WritesNo-begun is nodes objects whole c w h = grind (arith, object_held-begun is nodes objects c.name)
 
 -- ---- where no virtual image is written
 
@@ -85,33 +66,13 @@ no_slot_of_virtual k x h = absurd (cc h)
 
 -- nothing changes as the run begins
 pub nothing_begun : (is : Cell → Operand) (nodes : List Node) (objects : List Named) → Rising (map label_of objects) → WritesNo kind.VirtualImage nodes objects → map (begun is nodes) objects ≡ objects
-nothing_begun is nodes objects up real =
-    let labels = labels-begun is nodes objects in
-    by_names (map (begun is nodes) objects) objects (subst (λ z. Rising z) (sym labels) up) labels
-    (λ name. object_held-begun is nodes objects name ∙ same name (object_held objects name) refl)
-  where
-    same : (name : ℕ) (o : Option ObjectValue) → object_held objects name ≡ o → option_map (begun_under is nodes name) o ≡ o
-    same name None e = refl
-    same name (Some x) e = elim (cases_Bool (is_written nodes (record { name = name; slot = None }))) [
-      | inl w ↦
-          (let kept = begun_other x (is (record { name = name; slot = None }))
-          (λ k. real (record { name = name; slot = None }) w (ap (λ z. option_map object_kind (option_and_then (in_slot None) z)) e ∙ ap Some k)) in
-          rw w (ap {B = Option ObjectValue} Some kept))
-      | inr w ↦ rw w refl
-    ]
+nothing_begun is nodes objects up real = grind (arith, labels-begun, by_names, Rising, object_held-begun, cases_Bool)
 
 -- what stands under a name that isn't written stays
 pub object_held-unwritten : (ws : List (Cell × ObjectValue)) (objects : List Named) (name : ℕ) → ((w : Cell × ObjectValue) → In w ws → eqb name (w.0).name ≡ false)
     → object_held (with_written objects ws) name ≡ object_held objects name
 object_held-unwritten [] objects name h = refl
-object_held-unwritten (w ∷ ws) objects name h =
-    object_held-unwritten ws (with_object objects w.0 w.1) name (λ v i. h v (inr i))
-    ∙ object_held-with_object objects w.0 w.1 name
-    ∙ (let e = h w (inl refl) in rw e (same (object_held objects name)))
-  where
-    same : (o : Option ObjectValue) → option_map (λ x. x) o ≡ o
-    same None = refl
-    same (Some x) = refl
+object_held-unwritten (w ∷ ws) objects name h = grind (arith, object_held-unwritten ws (with_object objects w.0 w.1) name (λ v i. h v (inr i)), object_held-with_object objects w.0 w.1 name)
 
 abbrev kept_virtual : Option ObjectValue → Option ObjectValue → Option ObjectValue
 kept_virtual (Some x) (Some y) = Some (if is_virtual x then x else y)
@@ -156,10 +117,7 @@ nothing_forgotten before after up labels stays =
     (λ name. object_held-forgotten before after labels name ∙ kept (object_held before name) (object_held after name) (stays name))
   where
     kept : (o p : Option ObjectValue) → ((x : ObjectValue) → o ≡ Some x → is_virtual x ≡ true → p ≡ Some x) → kept_virtual o p ≡ p
-    kept (Some x) (Some y) h = elim (cases_Bool (is_virtual x)) [
-      | inl v ↦ rw v (sym (h x refl v))
-      | inr v ↦ rw v refl
-    ]
+    kept (Some x) (Some y) h = grind (arith, cases_Bool (is_virtual x))
     kept (Some x) None h = refl
     kept None p h = refl
 

@@ -36,12 +36,7 @@ other_slot (Some j) None new object apart = absurd apart
 module _ (objects : List Named) (q : Cell) where
   -- what stands apart stays
   pub beside : (p : Cell) (new : ObjectValue) → AreApart p q → held (with_object objects q new) p ≡ held objects p
-  beside p new apart = ap (option_and_then (in_slot p.slot)) (object_held-with_object objects q new p.name) ∙ either (p.name == q.name) refl (object_held objects p.name)
-    where
-      either : (b : Bool) → (p.name == q.name) ≡ b → (o : Option ObjectValue) → option_and_then (in_slot p.slot) (option_map (λ x. cond b (with_slot q.slot new x) x) o) ≡ option_and_then (in_slot p.slot) o
-      either b same None = refl
-      either true same (Some x) = other_slot p.slot q.slot new x (apart (eqb-true p.name q.name same))
-      either false same (Some x) = refl
+  beside p new apart = grind (arith, object_held-with_object, other_slot, eqb-true)
 
   pub object_beside : (p : Cell) (new : ObjectValue) → AreApart p q → cell_object (with_object objects q new) p ≡ cell_object objects p
   object_beside p new apart = ap (λ o. unwrap_or o (ImageObject (new_image 0 0 U8))) (beside p new apart)
@@ -63,14 +58,7 @@ module _ (objects : List Named) (q : Cell) where
 -- an image that is written over an image stands there
 module _ (objects : List Named) (q : Cell) (h : HoldsImage objects q) (image : ImageValue) where
   pub held_after : held (with_object objects q (ImageObject image)) q ≡ Some (ImageObject image)
-  held_after =
-      ap (option_and_then (in_slot q.slot)) (object_held-with_object objects q (ImageObject image) q.name)
-      ∙ ap (λ b. option_and_then (in_slot q.slot) (option_map (λ x. cond b (with_slot q.slot (ImageObject image) x) x) (object_held objects q.name))) (eq-eqb q.name q.name refl)
-      ∙ there (object_held objects q.name) h
-    where
-      there : (o : Option ObjectValue) → option_map object_kind (option_and_then (in_slot q.slot) o) ≡ Some kind.Image → option_and_then (in_slot q.slot) (option_map (with_slot q.slot (ImageObject image)) o) ≡ Some (ImageObject image)
-      there None h = cc
-      there (Some x) h = with_slot_there q.slot image x h
+  held_after = grind (arith, object_held-with_object, eq-eqb, with_slot_there)
 
   pub object_after : cell_object (with_object objects q (ImageObject image)) q ≡ ImageObject image
   object_after = ap (λ o. unwrap_or o (ImageObject (new_image 0 0 U8))) held_after
@@ -81,41 +69,22 @@ module _ (objects : List Named) (q : Cell) (h : HoldsImage objects q) (image : I
 -- an image over what was written
 pub with_object_twice : (objects : List Named) (q : Cell) (left : ObjectValue) (image : ImageValue) → with_object (with_object objects q left) q (ImageObject image) ≡ with_object objects q (ImageObject image)
 with_object_twice [] q left image = refl
-with_object_twice (o ∷ objects) q left image = ap (λ p. p ∷ with_object (with_object objects q left) q (ImageObject image)) (either (o.name == q.name) refl) ∙ ap (λ l. cond (o.name == q.name) (record o { object = with_slot q.slot (ImageObject image) o.object }) o ∷ l) (with_object_twice objects q left image)
-  where
-    once : Bool → Named
-    once b = cond b (record o { object = with_slot q.slot left o.object }) o
-
-    either : (b : Bool) → (o.name == q.name) ≡ b → cond ((once b).name == q.name) (record (once b) { object = with_slot q.slot (ImageObject image) (once b).object }) (once b) ≡ cond b (record o { object = with_slot q.slot (ImageObject image) o.object }) o
-    either true same = ap (λ b. cond b (record (once true) { object = with_slot q.slot (ImageObject image) (once true).object }) (once true)) same ∙ ap (λ (x : ObjectValue). let p : Named = record o { object = x } in p) (with_slot_twice q.slot image left o.object)
-    either false same = ap (λ b. cond b (record o { object = with_slot q.slot (ImageObject image) o.object }) o) same
+with_object_twice (o ∷ objects) q left image = grind (arith, with_object_twice objects q left image, with_slot_twice q.slot image left o.object)
 
 -- ---- what stands in a cell
 
 -- what a cell holds
 pub there_is : (objects : List Named) (cell : Cell) → Holds objects cell → held objects cell ≡ Some (cell_object objects cell)
-there_is objects cell h = found (held objects cell) h
-  where
-    found : (o : Option ObjectValue) → IsTrue (is_some o) → o ≡ Some (unwrap_or o (ImageObject (new_image 0 0 U8)))
-    found None h = cc
-    found (Some x) h = refl
+there_is objects cell h = grind arith
 
 pub holds_image : (objects : List Named) (cell : Cell) → Holds objects cell → object_kind (cell_object objects cell) ≡ kind.Image → HoldsImage objects cell
 holds_image objects cell h is = ap (option_map object_kind) (there_is objects cell h) ∙ ap Some is
 
 pub kind_there : (objects : List Named) (operand : Cell × Kind) → HoldsKind objects operand → object_kind (cell_object objects operand.0) ≡ operand.1
-kind_there objects operand h = found (held objects operand.0) h
-  where
-    found : (o : Option ObjectValue) → option_map object_kind o ≡ Some operand.1 → object_kind (unwrap_or o (ImageObject (new_image 0 0 U8))) ≡ operand.1
-    found None h = cc
-    found (Some x) h = cc
+kind_there objects operand h = grind arith
 
 pub holds_there : (objects : List Named) (operand : Cell × Kind) → HoldsKind objects operand → Holds objects operand.0
-holds_there objects operand h = found (held objects operand.0) h
-  where
-    found : (o : Option ObjectValue) → option_map object_kind o ≡ Some operand.1 → IsTrue (is_some o)
-    found None h = cc
-    found (Some x) h = refl
+holds_there objects operand h = grind arith
 
 -- an operand is what the cell holds
 pub operand_there : (objects : List Named) (cell : Cell) → Holds objects cell → operand_held objects cell ≡ operand_of (cell_object objects cell)

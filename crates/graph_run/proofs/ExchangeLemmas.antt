@@ -30,41 +30,20 @@ HoldsPlain objects name = option_map nodes_in (object_held objects name) ≡ Som
 
 -- something is held there
 pub plain_there : (objects : List Named) (name : ℕ) → HoldsPlain objects name → IsSome (object_held objects name)
-plain_there objects name h = of_found (object_held objects name) h
-  where
-    of_found : (found : Option ObjectValue) → option_map nodes_in found ≡ Some [] → IsSome found
-    of_found None is = cc
-    of_found (Some object) is = refl
+plain_there objects name h = grind arith
 
 pub plain_under : (objects : List Named) (name : ℕ) → HoldsPlain objects name → nodes_in (object_under objects name) ≡ []
-plain_under objects name h = of_found (object_held objects name) h
-  where
-    of_found : (found : Option ObjectValue) → option_map nodes_in found ≡ Some [] → nodes_in (unwrap_or found (ImageObject (new_image 0 0 U8))) ≡ []
-    of_found None is = cc
-    of_found (Some object) is = cc
+plain_under objects name h = grind arith
 
 -- it is what is held there, whatever is given in its place
 pub under_is : (objects : List Named) (name : ℕ) (other : ObjectValue) → HoldsPlain objects name
     → object_under objects name ≡ unwrap_or (object_held objects name) other
-under_is objects name other h = of_found (object_held objects name) h
-  where
-    of_found : (found : Option ObjectValue) → option_map nodes_in found ≡ Some []
-        → unwrap_or found (ImageObject (new_image 0 0 U8)) ≡ unwrap_or found other
-    of_found None is = cc
-    of_found (Some object) is = refl
+under_is objects name other h = grind arith
 
 -- an object without nodes in the place of one
 pub plain_after : (objects : List Named) (name other : ℕ) (object : ObjectValue) → nodes_in object ≡ [] → HoldsPlain objects other
     → HoldsPlain (with_object objects (cell_of name) object) other
-plain_after objects name other object plain h =
-    ap (option_map nodes_in) (object_held-with_object objects (cell_of name) object other)
-    ∙ either (other == name) (object_held objects other) h
-  where
-    either : (b : Bool) (found : Option ObjectValue) → option_map nodes_in found ≡ Some []
-        → option_map nodes_in (option_map (λ x. cond b object x) found) ≡ Some []
-    either b None is = cc
-    either true (Some x) is = ap Some plain
-    either false (Some x) is = is
+plain_after objects name other object plain h = grind (arith, object_held-with_object objects (cell_of name) object other)
 
 -- ---- one after the other
 
@@ -72,30 +51,12 @@ plain_after objects name other object plain h =
 exchanged_in-cons : (o : VirtualOutput) (outputs : List VirtualOutput) (new : ObjectValue) (others : List ObjectValue) (objects : List Named)
     → exchanged_in outputs others (with_object objects (cell_of o.cell.name) new) ≡ exchanged_in (o ∷ outputs) (new ∷ others) objects
 exchanged_in-cons o outputs new others [] = refl
-exchanged_in-cons o outputs new others (p ∷ objects) =
-    ap (λ k. k ∷ exchanged_in outputs others (with_object objects (cell_of o.cell.name) new)) (each (p.name == o.cell.name))
-    ∙ ap (λ l. record p { object = exchanged outputs others p.name (cond (p.name == o.cell.name) new p.object) } ∷ l)
-    (exchanged_in-cons o outputs new others objects)
-  where
-    changed_if : Bool → Named
-    changed_if b = cond b (record p { object = new }) p
-
-    each : (b : Bool)
-        → ◌≡◌ {A = Named} (record (changed_if b) { object = exchanged outputs others (changed_if b).name (changed_if b).object }) (record p { object = exchanged outputs others p.name (cond b new p.object) })
-    each true = refl
-    each false = refl
+exchanged_in-cons o outputs new others (p ∷ objects) = grind (arith, exchanged_in-cons o outputs new others objects)
 
 -- what is held under another name stays
 held_beside : (objects : List Named) (name other : ℕ) (object : ObjectValue) → name ≢ other
     → object_held (with_object objects (cell_of name) object) other ≡ object_held objects other
-held_beside objects name other object apart =
-    object_held-with_object objects (cell_of name) object other
-    ∙ ap (λ b. option_map (λ x. cond b object x) (object_held objects other)) (ne_eqb other name (λ e. apart (sym e)))
-    ∙ same (object_held objects other)
-  where
-    same : (found : Option ObjectValue) → option_map (λ x. x) found ≡ found
-    same None = refl
-    same (Some x) = refl
+held_beside objects name other object apart = grind (arith, object_held-with_object objects (cell_of name) object other, ne_eqb other name (λ e. apart (sym e)))
 
 -- so the objects that are handed out later are those that stood there before
 handed_beside : (outputs : List VirtualOutput) (new : List ObjectValue) (objects : List Named) (name : ℕ) (object : ObjectValue)
@@ -104,60 +65,34 @@ handed_beside : (outputs : List VirtualOutput) (new : List ObjectValue) (objects
 handed_beside [] new objects name object apart = refl
 handed_beside (o ∷ outputs) [] objects name object apart = refl
 handed_beside (o ∷ outputs) (x ∷ new) objects name object apart =
-    ap (λ k. unwrap_or k x ∷ handed_out outputs new (with_object objects (cell_of name) object))
-    (held_beside objects name o.cell.name object (All-head (λ (o : VirtualOutput). name ≢ o.cell.name) o outputs apart))
-    ∙ ap (λ l. unwrap_or (object_held objects o.cell.name) x ∷ l)
-    (handed_beside outputs new objects name object (All-tail (λ (o : VirtualOutput). name ≢ o.cell.name) o outputs apart))
+    grind (arith, handed_beside outputs new objects name object (All-tail (λ (o : VirtualOutput). name ≢ o.cell.name) o outputs apart), held_beside objects name o.cell.name object (All-head (λ (o : VirtualOutput). name ≢ o.cell.name) o outputs apart), All-head (λ (o : VirtualOutput). name ≢ o.cell.name) o outputs apart, All-tail (λ (o : VirtualOutput). name ≢ o.cell.name) o outputs apart)
 
 -- the outputs after one have other names
 later_apart : (outputs : List VirtualOutput) (k : ℕ) (o : VirtualOutput) → AllPairs (λ a b. a.cell.name ≢ b.cell.name) outputs
     → k < length outputs → o ≡ get_or outputs k o → All (λ p. o.cell.name ≢ p.cell.name) (drop (k + 1) outputs)
-later_apart outputs k o apart within read j d below same =
-    apart k (k + 1 + j) d (omega arith) (omega (arith, below, length-drop (k + 1) outputs))
-    (ap (λ (p : VirtualOutput). p.cell.name) (sym (get_or_read outputs k o within read d)) ∙ same
-    ∙ ap (λ (p : VirtualOutput). p.cell.name) (get_or-drop (k + 1) outputs j d))
+later_apart outputs k o apart within read j d below same = grind (arith, length-drop (k + 1) outputs, get_or_read outputs k o within read d, get_or-drop (k + 1) outputs j d)
 
 -- an output and an object that were not looked at yet
 module _ (outputs : List VirtualOutput) (objects : List ObjectValue) (held : List Named) (k : ℕ) (o : VirtualOutput) (x y : ObjectValue)
     (within : k < length outputs) (count : length objects ≡ length outputs)
     (output : o ≡ get_or outputs k o) (object : x ≡ get_or objects k x) where
   next_output : drop k outputs ≡ o ∷ drop (k + 1) outputs
-  next_output =
-      let one : suc k ≡ k + 1 =
-      omega arith in drop-cons outputs k o within ∙ ap (λ p. p ∷ drop (suc k) outputs) (sym output) ∙ ap (λ n. o ∷ drop n outputs) one
+  next_output = grind (arith, drop-cons outputs k o within)
 
   next_object : drop k objects ≡ x ∷ drop (k + 1) objects
-  next_object =
-      let one : suc k ≡ k + 1 =
-      omega arith in drop-cons objects k x (omega (arith, within, count)) ∙ ap (λ p. p ∷ drop (suc k) objects) (sym object)
-      ∙ ap (λ n. x ∷ drop n objects) one
+  next_object = grind (arith, drop-cons objects k x (omega (arith, within, count)))
 
   others_left : drop (k + 1) (set objects k y) ≡ drop (k + 1) objects
   others_left = drop-set-lt (k + 1) objects k y (omega arith)
 
   pub exchanged_next : exchanged_in (drop (k + 1) outputs) (drop (k + 1) (set objects k y)) (with_object held (cell_of o.cell.name) x)
       ≡ exchanged_in (drop k outputs) (drop k objects) held
-  exchanged_next =
-      ap (λ l. exchanged_in (drop (k + 1) outputs) l (with_object held (cell_of o.cell.name) x)) others_left
-      ∙ exchanged_in-cons o (drop (k + 1) outputs) x (drop (k + 1) objects) held
-      ∙ ap (λ l. exchanged_in l (x ∷ drop (k + 1) objects) held) (sym next_output)
-      ∙ ap (λ l. exchanged_in (drop k outputs) l held) (sym next_object)
+  exchanged_next = grind (arith, others_left, exchanged_in-cons, next_output, next_object)
 
   pub handed_next : AllPairs (λ a b. a.cell.name ≢ b.cell.name) outputs → y ≡ unwrap_or (object_held held o.cell.name) x
       → take (k + 1) (set objects k y) ++ handed_out (drop (k + 1) outputs) (drop (k + 1) (set objects k y)) (with_object held (cell_of o.cell.name) x)
       ≡ take k objects ++ handed_out (drop k outputs) (drop k objects) held
-  handed_next apart is =
-      let rest = handed_out (drop (k + 1) outputs) (drop (k + 1) objects) held in
-      ap (λ l. l ++ handed_out (drop (k + 1) outputs) (drop (k + 1) (set objects k y)) (with_object held (cell_of o.cell.name) x))
-      (take_more_set objects k y (omega (arith, within, count)))
-      ∙ ap
-      (λ l. (take k objects ++ y ∷ []) ++ handed_out (drop (k + 1) outputs) l (with_object held (cell_of o.cell.name) x)) others_left
-      ∙ ap (λ l. (take k objects ++ y ∷ []) ++ l)
-      (handed_beside (drop (k + 1) outputs) (drop (k + 1) objects) held o.cell.name x (later_apart outputs k o apart within output))
-      ∙ append_assoc (take k objects) (y ∷ []) rest
-      ∙ ap (λ z. take k objects ++ z ∷ rest) is
-      ∙ ap (λ l. take k objects ++ handed_out l (x ∷ drop (k + 1) objects) held) (sym next_output)
-      ∙ ap (λ l. take k objects ++ handed_out (drop k outputs) l held) (sym next_object)
+  handed_next apart is = grind (arith, take_more_set, others_left, handed_beside, later_apart, append_assoc, next_output, next_object)
 
 -- where no output is left nothing changes
 exchanged_in-nil : (left : List ObjectValue) (objects : List Named) → exchanged_in [] left objects ≡ objects
@@ -166,10 +101,7 @@ exchanged_in-nil left (o ∷ objects) = ap (λ l. o ∷ l) (exchanged_in-nil lef
 
 pub exchanged_all : (outputs : List VirtualOutput) (left : List ObjectValue) (k : ℕ) (new old : Context) (objects : List Named)
     → length outputs ≤ k → new.next ≡ old.next → exchanged_in (drop k outputs) left new.objects ≡ objects → new ≡ with_objects old objects
-exchanged_all outputs left k new old objects past next is =
-    let same : new.objects ≡ objects =
-    sym (exchanged_in-nil left new.objects) ∙ ap (λ l. exchanged_in l left new.objects) (sym (drop_all k outputs past)) ∙ is in
-    ap (λ (n : ℕ). let t : Context = record { next = n; objects = new.objects } in t) next ∙ ap (with_objects old) same
+exchanged_all outputs left k new old objects past next is = grind (arith, exchanged_in-nil left new.objects, drop_all k outputs past)
 
 -- ---- cleared images
 
@@ -177,10 +109,4 @@ exchanged_all outputs left k new old objects past next is =
 pub cleared_more : (outputs : List VirtualOutput) (k : ℕ) (o : VirtualOutput) (images : List ObjectValue) (object : ObjectValue)
     → k < length outputs → o ≡ get_or outputs k o → images ≡ cleared (take k outputs)
     → object ≡ ImageObject (new_image o.desc.width o.desc.height o.desc.format) → images ++ object ∷ [] ≡ cleared (take (k + 1) outputs)
-cleared_more outputs k o images object within read is made =
-    let image : VirtualOutput → ObjectValue = λ p. ImageObject (new_image p.desc.width p.desc.height p.desc.format) in
-    ap (λ l. l ++ object ∷ []) is
-    ∙ ap (λ x. cleared (take k outputs) ++ x ∷ []) made
-    ∙ sym (map_push image (take k outputs) o)
-    ∙ ap (λ p. cleared (take k outputs ++ p ∷ [])) read
-    ∙ ap cleared (sym (take_more outputs k o within))
+cleared_more outputs k o images object within read is made = grind (arith, take_more outputs k o within, map_push, take_more)

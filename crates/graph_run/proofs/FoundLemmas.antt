@@ -1,5 +1,5 @@
 -- What the cells of nodes hold in a table, and what it is to the nodes.
-use Rattle.std.proofs.Common.{◌≡◌, ℕ, ◌<◌, ◌+◌, List, [], ◌∷◌, ◌++◌, map, length, take, get_or, Option, Some, None, IsTrue, sym, ap, subst, ◌∙◌}
+use Rattle.std.proofs.Common.{◌≡◌, ℕ, ◌<◌, ◌+◌, List, [], ◌∷◌, ◌++◌, map, length, take, get_or, Option, Some, None, IsTrue, sym, ap, subst, ◌∙◌, arith}
 use Rattle.std.specs.Prelude.{IfSome, unwrap_or, All, Result, Ok, Err, IfErr}
 use Rattle.std.specs.Option.{option_map, option_and_then}
 use Rattle.std.proofs.lemmas.List.{map-append, take_more}
@@ -36,10 +36,7 @@ operand_nowhere objects cell none = ap (λ o. unwrap_or (option_map operand_of (
 pub operand_there : (objects : List Named) (cell : Cell) (object : ObjectValue) (found : Option Operand) (operand : Operand)
     → Some object ≡ object_held objects cell.name → found ≡ option_map operand_of (in_slot cell.slot object) → operand ≡ unwrap_or found Delay
     → operand ≡ operand_held objects cell
-operand_there objects cell object found operand is in_it as_it =
-    as_it
-    ∙ ap (λ o. unwrap_or o Delay) in_it
-    ∙ ap (λ o. unwrap_or (option_map operand_of (option_and_then (in_slot cell.slot) o)) Delay) is
+operand_there objects cell object found operand is in_it as_it = grind arith
 
 -- ---- nodes beside what their cells are
 
@@ -48,22 +45,12 @@ pub linked_more : (is : Cell → Operand) (nodes : List Numbered) (i : ℕ) (num
     → linked_nodes done ≡ map (λ n. n.node) (take i nodes) → AreOperands is done → l.node ≡ numbered.node → l.operands ≡ operands_of is l.node → new ≡ done ++ l ∷ []
     → (linked_nodes new ≡ map (λ n. n.node) (take (i + 1) nodes)) × AreOperands is new
 linked_more is nodes i numbered done new l within read before each node operands pushed =
-    let more : take (i + 1) nodes ≡ take i nodes ++ numbered ∷ [] = take_more nodes i numbered within ∙ ap (λ (n : Numbered). take i nodes ++ n ∷ []) (sym read) in (
-      ap linked_nodes pushed
-          ∙ map-append (λ (k : Linked). k.node) done (l ∷ [])
-          ∙ ap (λ k. k ++ l.node ∷ []) before
-          ∙ ap (λ (n : Node). map (λ (k : Numbered). k.node) (take i nodes) ++ n ∷ []) node
-          ∙ sym (map-append (λ (k : Numbered). k.node) (take i nodes) (numbered ∷ []))
-          ∙ ap (map (λ (k : Numbered). k.node)) (sym more),
-      subst (AreOperands is) (sym pushed) (All-push (λ (k : Linked). k.operands ≡ operands_of is k.node) done l each operands),
-    )
+    grind (arith, take_more nodes i numbered within, map-append (λ (k : Linked). k.node) done (l ∷ []), map-append (λ (k : Numbered). k.node) (take i nodes) (numbered ∷ []), All-push (λ (k : Linked). k.operands ≡ operands_of is k.node) done l each operands, take_more, map-append, All-push)
 
 -- the first input of each is an image, as a cell
 pub images_are : (is : Cell → Operand) (linked : List Linked) → AreOperands is linked → All (λ n. IsTrue (is_image (is n.in1))) (linked_nodes linked)
     → All (λ l. IsTrue (is_image l.operands.in1)) linked
-images_are is linked operands images k d below =
-    ap (λ (o : Operands). is_image o.in1) (operands k d below)
-    ∙ All-from_map (λ n. IsTrue (is_image (is n.in1))) (λ (l : Linked). l.node) linked images k d below
+images_are is linked operands images k d below = grind (arith, All-from_map (λ n. IsTrue (is_image (is n.in1))) (λ (l : Linked). l.node) linked images k d below)
 
 -- why these nodes can't run
 pub refused_is : (is : Cell → Operand) (linked : List Linked) (nodes : List Node) (work : ℕ) (result : Result Verified VerifyFault) → linked_nodes linked ≡ nodes

@@ -1,5 +1,5 @@
 -- What cells hold after objects are written to some of them.
-use Rattle.std.proofs.Common.{◌≡◌, ℕ, Bool, true, false, ◌&&◌, if◌then◌else◌, eqb, List, [], ◌∷◌, ◌++◌, map, refl, sym, ap, subst, ◌∙◌, inl, inr, Option, Some, None, IsTrue}
+use Rattle.std.proofs.Common.{◌≡◌, ℕ, Bool, true, false, ◌&&◌, if◌then◌else◌, eqb, List, [], ◌∷◌, ◌++◌, map, refl, sym, ap, subst, ◌∙◌, inl, inr, Option, Some, None, IsTrue, arith, rules}
 use Rattle.std.specs.Prelude.{is_some}
 use Rattle.std.specs.Option.{option_map, option_and_then, option_or}
 use Rattle.std.proofs.lemmas.Bool.{cases_Bool, eqb-true, eqb-false}
@@ -58,10 +58,7 @@ whole_stays j new x = refl
 slot_written : (k j : Option ℕ) (new x : ObjectValue) → option_map form_of (in_slot j x) ≡ Some (form_of new) → is_delay new ≡ false
     → option_map shown (in_slot k (with_slot j new x)) ≡ (if same_slot k j then Some (shown new) else option_map shown (in_slot k x))
 slot_written None None new x f d = refl
-slot_written (Some k) None new x f d =
-    let same : form_of x ≡ form_of new = cc in
-    let plain : is_delay x ≡ false = sym (is_delay-form x) ∙ ap is_delay same ∙ is_delay-form new ∙ d in
-    ap (option_map shown) (no_slot k new d ∙ sym (no_slot k x plain))
+slot_written (Some k) None new x f d = grind (arith, is_delay x, is_delay-form x, is_delay-form new, no_slot k new d)
 slot_written None (Some j) new x f d = ap {B = Option ObjectValue} Some (whole_stays j new x)
 slot_written (Some k) (Some j) new x f d = elim (cases_Bool (eqb k j)) [
   | inl e ↦
@@ -77,16 +74,7 @@ slot_written (Some k) (Some j) new x f d = elim (cases_Bool (eqb k j)) [
 pub object_held-with_object : (objects : List Named) (cell : Cell) (new : ObjectValue) (name : ℕ)
     → object_held (with_object objects cell new) name ≡ option_map (λ x. if eqb name cell.name then with_slot cell.slot new x else x) (object_held objects name)
 object_held-with_object [] cell new name = refl
-object_held-with_object (o ∷ objects) cell new name = elim (cases_Bool (eqb o.name cell.name)) [
-  | inl k ↦ elim (cases_Bool (eqb o.name name)) [
-    | inl j ↦ (let e : eqb name cell.name ≡ true = ap (λ z. eqb z cell.name) (sym (eqb-true o.name name j)) ∙ k in rw (k, j, e) refl)
-    | inr j ↦ rw (k, j) (object_held-with_object objects cell new name)
-  ]
-  | inr k ↦ elim (cases_Bool (eqb o.name name)) [
-    | inl j ↦ (let e : eqb name cell.name ≡ false = ap (λ z. eqb z cell.name) (sym (eqb-true o.name name j)) ∙ k in rw (k, j, e) refl)
-    | inr j ↦ rw (k, j) (object_held-with_object objects cell new name)
-  ]
-]
+object_held-with_object (o ∷ objects) cell new name = grind (arith, object_held-with_object objects cell new name, cases_Bool (eqb o.name cell.name), cases_Bool (eqb o.name name))
 
 seen_written : (k j : Option ℕ) (same : Bool) (new : ObjectValue) (o : Option ObjectValue) → (same ≡ true → option_map form_of (option_and_then (in_slot j) o) ≡ Some (form_of new)) → is_delay new ≡ false
     → option_map shown (option_and_then (in_slot k) (option_map (λ x. if same then with_slot j new x else x) o)) ≡ (if same && same_slot k j then Some (shown new) else option_map shown (option_and_then (in_slot k) o))
@@ -99,27 +87,16 @@ seen_written k j true new (Some x) f d = slot_written k j new x (f refl) d
 pub seen-with_object : (objects : List Named) (cell : Cell) (new : ObjectValue) → IsWrite objects cell new → (c : Cell)
     → seen (with_object objects cell new) c ≡ (if same_cell c cell then Some (shown new) else seen objects c)
 seen-with_object objects cell new is c =
-    ap (λ z. option_map shown (option_and_then (in_slot c.slot) z)) (object_held-with_object objects cell new c.name)
-    ∙ seen_written c.slot cell.slot (eqb c.name cell.name) new (object_held objects c.name)
-    (λ e. ap (λ z. option_map form_of (option_and_then (in_slot cell.slot) (object_held objects z))) (eqb-true c.name cell.name e) ∙ is.form) is.whole
+    grind (arith, object_held-with_object objects cell new c.name, seen_written c.slot cell.slot (eqb c.name cell.name) new (object_held objects c.name) (λ e. ap (λ z. option_map form_of (option_and_then (in_slot cell.slot) (object_held objects z))) (eqb-true c.name cell.name e) ∙ is.form) is.whole)
 
 -- forms stay
 pub form-with_object : (objects : List Named) (cell : Cell) (new : ObjectValue) → IsWrite objects cell new → (c : Cell) → form_held (with_object objects cell new) c ≡ form_held objects c
-form-with_object objects cell new is c =
-    sym (form-seen (held (with_object objects cell new) c))
-    ∙ ap (option_map form_of) (seen-with_object objects cell new is c)
-    ∙ elim (cases_Bool (same_cell c cell)) [
-      | inl e ↦ rw e (ap {B = Option ObjectValue} Some (form-shown new) ∙ sym is.form ∙ ap (form_held objects) (sym (same_cell-true c cell e)))
-      | inr e ↦ rw e (form-seen (held objects c))
-    ]
+form-with_object objects cell new is c = search (rules, form-seen, seen-with_object, cases_Bool, form-shown, same_cell-true)
 
 -- names and labels stay
 pub labels-with_object : (objects : List Named) (cell : Cell) (new : ObjectValue) → map label_of (with_object objects cell new) ≡ map label_of objects
 labels-with_object [] cell new = refl
-labels-with_object (o ∷ objects) cell new = elim (cases_Bool (eqb o.name cell.name)) [
-  | inl k ↦ rw k (ap (λ z. label_of o ∷ z) (labels-with_object objects cell new))
-  | inr k ↦ rw k (ap (λ z. label_of o ∷ z) (labels-with_object objects cell new))
-]
+labels-with_object (o ∷ objects) cell new = grind (arith, labels-with_object objects cell new, cases_Bool (eqb o.name cell.name))
 
 -- ---- objects that are written one after the other
 
@@ -132,14 +109,8 @@ last_to c [] = None
 last_to c (w ∷ ws) = option_or (last_to c ws) (if same_cell c w.0 then Some w.1 else None)
 
 pub last_to-append : (c : Cell) (xs ys : List (Cell × ObjectValue)) → last_to c (xs ++ ys) ≡ option_or (last_to c ys) (last_to c xs)
-last_to-append c [] ys = right (last_to c ys)
-  where
-    right : (o : Option ObjectValue) → o ≡ option_or o None
-    right None = refl
-    right (Some x) = refl
-last_to-append c (w ∷ xs) ys =
-    ap (λ z. option_or z (if same_cell c w.0 then Some w.1 else None)) (last_to-append c xs ys)
-    ∙ or_assoc (last_to c ys) (last_to c xs) (if same_cell c w.0 then Some w.1 else None)
+last_to-append c [] ys = grind arith
+last_to-append c (w ∷ xs) ys = grind (arith, last_to-append c xs ys, or_assoc (last_to c ys) (last_to c xs) (if same_cell c w.0 then Some w.1 else None))
 
 AreWrites-after : (objects : List Named) (w : Cell × ObjectValue) (ws : List (Cell × ObjectValue)) → AreWrites objects (w ∷ ws) → AreWrites (with_object objects w.0 w.1) ws
 AreWrites-after objects w ws are = λ v i. let is = are v (inr i) in record {
@@ -157,15 +128,11 @@ one_more (Some x) old new same = refl
 pub seen-with_written : (ws : List (Cell × ObjectValue)) (objects : List Named) → AreWrites objects ws → (c : Cell)
     → seen (with_written objects ws) c ≡ option_or (option_map shown (last_to c ws)) (seen objects c)
 seen-with_written [] objects are c = refl
-seen-with_written (w ∷ ws) objects are c =
-    seen-with_written ws (with_object objects w.0 w.1) (AreWrites-after objects w ws are) c
-    ∙ ap (option_or (option_map shown (last_to c ws))) (seen-with_object objects w.0 w.1 (are w (inl refl)) c)
-    ∙ one_more (last_to c ws) (seen objects c) w.1 (same_cell c w.0)
+seen-with_written (w ∷ ws) objects are c = grind (arith, seen-with_written ws (with_object objects w.0 w.1) (AreWrites-after objects w ws are) c, AreWrites-after, seen-with_object, one_more)
 
 pub form-with_written : (ws : List (Cell × ObjectValue)) (objects : List Named) → AreWrites objects ws → (c : Cell) → form_held (with_written objects ws) c ≡ form_held objects c
 form-with_written [] objects are c = refl
-form-with_written (w ∷ ws) objects are c =
-    form-with_written ws (with_object objects w.0 w.1) (AreWrites-after objects w ws are) c ∙ form-with_object objects w.0 w.1 (are w (inl refl)) c
+form-with_written (w ∷ ws) objects are c = grind (arith, form-with_written ws (with_object objects w.0 w.1) (AreWrites-after objects w ws are) c, AreWrites-after, form-with_object)
 
 pub labels-with_written : (ws : List (Cell × ObjectValue)) (objects : List Named) → map label_of (with_written objects ws) ≡ map label_of objects
 labels-with_written [] objects = refl

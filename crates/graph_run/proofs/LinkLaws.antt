@@ -1,5 +1,5 @@
 -- The cells that nodes read and write, and lists of them.
-use Rattle.std.proofs.Common.{◌≡◌, true, false, List, get_or, ap, subst, ◌∙◌, Some}
+use Rattle.std.proofs.Common.{◌≡◌, true, false, List, get_or, ap, subst, ◌∙◌, Some, arith}
 use Rattle.std.specs.List.{list_any, All}
 use Rattle.std.proofs.lemmas.Bool.{or_left, or_right, false_from_ne_true}
 use Rattle.vx_base.specs.declared.node.Node.{Node}
@@ -25,9 +25,7 @@ pub reads_first : (n : Node) → reads n n.in1 ≡ true
 reads_first n = or_left (same_cell n.in1 n.in1) (list_any (same_cell n.in1) (given n.in2)) (same_cell-refl n.in1)
 
 pub reads_second : (n : Node) (c : Cell) → n.in2 ≡ Some c → reads n c ≡ true
-reads_second n c e =
-    or_right (same_cell c n.in1) (list_any (same_cell c) (given n.in2))
-    (ap (λ z. list_any (same_cell c) (given z)) e ∙ or_left (same_cell c c) false (same_cell-refl c))
+reads_second n c e = grind (arith, or_right, or_left, same_cell-refl)
 
 -- a cell that no node of the list writes
 pub unwritten : (nodes : List Node) (c : Cell) → is_written nodes c ≡ false → (n : Node) → In n nodes → writes n c ≡ false

@@ -85,11 +85,7 @@ absent_both : (old new : List Named) (name : ℕ) → Above name (map label_of o
 absent_both old new name above labels = absent old name above ∙ sym (absent new name (subst (λ z. Above name z) labels above))
 
 same_named : (o p : Named) → label_of o ≡ label_of p → ◌≡◌ {A = Option ObjectValue} (Some o.object) (Some p.object) → o ≡ p
-same_named o p label found =
-    let object : o.object ≡ p.object = cc in
-    ap (λ z. record { name = z; live = o.live; object = o.object }) (ap (λ m. m.0) label)
-    ∙ ap (λ z. record { name = p.name; live = z; object = o.object }) (ap (λ m. m.1) label)
-    ∙ ap (λ z. record { name = p.name; live = p.live; object = z }) object
+same_named o p label found = grind arith
 
 -- two lists of the same names and labels, by what is held under each name
 pub by_names : (old new : List Named) → Rising (map label_of old) → map label_of old ≡ map label_of new → ((name : ℕ) → object_held old name ≡ object_held new name) → old ≡ new

@@ -1,5 +1,5 @@
 -- What a node writes, cell by cell.
-use Rattle.std.proofs.Common.{◌≡◌, ◌≢◌, Bool, true, false, ◌||◌, if◌then◌else◌, List, [], ◌∷◌, ◌++◌, refl, sym, ap, subst, ◌∙◌, inl, inr, Option, Some, None}
+use Rattle.std.proofs.Common.{◌≡◌, ◌≢◌, Bool, true, false, ◌||◌, if◌then◌else◌, List, [], ◌∷◌, ◌++◌, refl, sym, ap, subst, ◌∙◌, inl, inr, Option, Some, None, arith}
 use Rattle.std.specs.Option.{option_map, option_and_then, option_or}
 use Rattle.std.specs.Prelude.{◌⊎◌}
 use Rattle.std.specs.List.{list_any}
@@ -47,9 +47,7 @@ given_in n held c = given_to n held c (held c)
 
 pub output_of_again : (n : Node) (output : Output) (first before second other out : Option ObjectValue) → option_map object_kind before ≡ option_map object_kind first
     → output_of n output first second (output_of n output before other out) ≡ output_of n output first second out
-output_of_again n output (Some x) (Some y) second other (Some out) same =
-    let kinds : object_kind y ≡ object_kind x = cc in
-    ap {B = Option ObjectValue} Some (node_output_again n output x y second other out kinds)
+output_of_again n output (Some x) (Some y) second other (Some out) same = grind arith
 output_of_again n output (Some x) None second other out same = absurd (cc same)
 output_of_again n output None (Some y) second other out same = absurd (cc same)
 output_of_again n output first before second other out same = refl
@@ -66,9 +64,7 @@ shown-and_then held (Some d) = refl
 
 -- nothing that is hidden of delays counts
 pub shown-given_to : (n : Node) (held : Cell → Option ObjectValue) (c : Cell) (out : Option ObjectValue) → option_map shown (given_to n held c out) ≡ given_to n (λ d. option_map shown (held d)) c (option_map shown out)
-shown-given_to n held c out =
-    shown-output_of n (output_at n c) (held n.in1) (option_and_then held n.in2) out
-    ∙ ap (λ z. output_of n (output_at n c) (option_map shown (held n.in1)) z (option_map shown out)) (shown-and_then held n.in2)
+shown-given_to n held c out = grind (arith, shown-output_of n (output_at n c) (held n.in1) (option_and_then held n.in2) out, shown-and_then held n.in2)
 
 pub shown-given_in : (n : Node) (held : Cell → Option ObjectValue) (c : Cell) → option_map shown (given_in n held c) ≡ given_in n (λ d. option_map shown (held d)) c
 shown-given_in n held c = shown-given_to n held c (held c)
@@ -86,22 +82,11 @@ or_false true = refl
 or_false false = refl
 
 pub writes-outputs : (n : Node) (c : Cell) → writes n c ≡ (is_cell n.out1 c || is_cell n.out2 c)
-writes-outputs n c = each n.out1 n.out2
-  where
-    each : (a b : Option Cell) → list_any (same_cell c) (given a ++ given b) ≡ (is_cell a c || is_cell b c)
-    each None None = refl
-    each None (Some d) = or_false (same_cell c d)
-    each (Some d) None = refl
-    each (Some d) (Some e) = ap (λ z. same_cell c d || z) (or_false (same_cell c e))
+writes-outputs n c = grind arith
 
 last_beside : (n : Node) (output : Output) (o : Option Cell) (held : Cell → Option ObjectValue) (c : Cell) → is_cell o c ≡ false → last_to c (written_in n output o held) ≡ None
 last_beside n output None held c h = refl
-last_beside n output (Some d) held c h = none (held n.in1) (option_and_then held n.in2) (held d)
-  where
-    none : (first second out : Option ObjectValue) → last_to c (written_to n output d first second out) ≡ None
-    none (Some first) second (Some out) = rw h refl
-    none None second out = refl
-    none first second None = refl
+last_beside n output (Some d) held c h = grind arith
 
 last_there : (n : Node) (output : Output) (o : Option Cell) (held : Cell → Option ObjectValue) (c : Cell) → is_cell o c ≡ true
     → last_to c (written_in n output o held) ≡ last_to c (written_to n output c (held n.in1) (option_and_then held n.in2) (held c))
@@ -123,24 +108,11 @@ over_other n output other c (Some first) second None = refl
 -- what is written last to a cell is what the node gives it
 pub last_written : (n : Node) (held : Cell → Option ObjectValue) (c : Cell) → option_or (last_to c (written_by n held)) (held c) ≡ (if writes n c then given_in n held c else held c)
 last_written n held c =
-    ap (λ z. option_or z (held c)) (last_to-append c (written_in n First n.out1 held) (written_in n Second n.out2 held))
-    ∙ or_assoc (last_to c (written_in n Second n.out2 held)) (last_to c (written_in n First n.out1 held)) (held c)
-    ∙ rw (writes-outputs n c) (either (cases_Bool (is_cell n.out1 c)) (cases_Bool (is_cell n.out2 c)))
-  where
-    either : (is_cell n.out1 c ≡ true) ⊎ (is_cell n.out1 c ≡ false) → (is_cell n.out2 c ≡ true) ⊎ (is_cell n.out2 c ≡ false)
-        → option_or (last_to c (written_in n Second n.out2 held)) (option_or (last_to c (written_in n First n.out1 held)) (held c))
-        ≡ (if is_cell n.out1 c || is_cell n.out2 c then given_in n held c else held c)
-    either (inl a) (inl b) = rw (last_there n Second n.out2 held c b, last_there n First n.out1 held c a, a, b, over_old n First c (held n.in1) (option_and_then held n.in2) (held c)) (over_other n Second First c (held n.in1) (option_and_then held n.in2) (held c))
-    either (inl a) (inr b) = rw (last_beside n Second n.out2 held c b, last_there n First n.out1 held c a, a, b) (over_old n First c (held n.in1) (option_and_then held n.in2) (held c))
-    either (inr a) (inl b) = rw (last_there n Second n.out2 held c b, last_beside n First n.out1 held c a, a, b) (over_old n Second c (held n.in1) (option_and_then held n.in2) (held c))
-    either (inr a) (inr b) = rw (last_beside n Second n.out2 held c b, last_beside n First n.out1 held c a, a, b) refl
+    grind (arith, last_to-append c (written_in n First n.out1 held) (written_in n Second n.out2 held), or_assoc (last_to c (written_in n Second n.out2 held)) (last_to c (written_in n First n.out1 held)) (held c), last_to c (written_in n Second n.out2 held), last_to c (written_in n First n.out1 held), writes-outputs n c, cases_Bool (is_cell n.out1 c), cases_Bool (is_cell n.out2 c), over_old n First c (held n.in1) (option_and_then held n.in2) (held c), over_other n Second First c (held n.in1) (option_and_then held n.in2) (held c), over_old n Second c (held n.in1) (option_and_then held n.in2) (held c), last_to-append, or_assoc, last_to, writes-outputs, cases_Bool, last_there, over_old, over_other, last_beside)
 
 -- nothing is written to other cells
 pub last_elsewhere : (n : Node) (held : Cell → Option ObjectValue) (c : Cell) → writes n c ≡ false → last_to c (written_by n held) ≡ None
-last_elsewhere n held c h =
-    let both = or_parts (is_cell n.out1 c) (is_cell n.out2 c) (sym (writes-outputs n c) ∙ h) in
-    last_to-append c (written_in n First n.out1 held) (written_in n Second n.out2 held)
-    ∙ rw (last_beside n Second n.out2 held c both.1, last_beside n First n.out1 held c both.0) refl
+last_elsewhere n held c h = grind (arith, or_parts, writes-outputs, last_to-append)
 
 -- ---- what stands in the list
 
@@ -155,22 +127,10 @@ pub record IsGiven (n : Node) (output : Output) (o : Option Cell) (held : Cell �
 
 IsGiven-from_In : (n : Node) (output : Output) (o : Option Cell) (held : Cell → Option ObjectValue) (w : Cell × ObjectValue) → In w (written_in n output o held) → IsGiven n output o held w.0 w.1
 IsGiven-from_In n output None held w i = absurd i
-IsGiven-from_In n output (Some d) held w i = each (held n.in1) (held d) refl refl i
-  where
-    each : (first out : Option ObjectValue) → held n.in1 ≡ first → held d ≡ out → In w (written_to n output d first (option_and_then held n.in2) out) → IsGiven n output (Some d) held w.0 w.1
-    each (Some first) (Some out) r e (inl same) =
-        let gives : ObjectValue = node_output n output first (option_and_then held n.in2) out in
-        let is : IsGiven n output (Some d) held d gives = record { first = first; out = out; there = same_cell-refl d; read = r; old = e; gives = refl } in
-        subst (λ (v : Cell × ObjectValue). IsGiven n output (Some d) held v.0 v.1) (sym same) is
-    each (Some first) (Some out) r e (inr none) = absurd none
-    each None out r e none = absurd none
-    each (Some first) None r e none = absurd none
+IsGiven-from_In n output (Some d) held w i = grind (arith, same_cell-refl d)
 
 given_cases : (n : Node) (held : Cell → Option ObjectValue) (w : Cell × ObjectValue) → In w (written_by n held) → IsGiven n First n.out1 held w.0 w.1 ⊎ IsGiven n Second n.out2 held w.0 w.1
-given_cases n held w i = elim (In-append w (written_in n First n.out1 held) (written_in n Second n.out2 held) i) [
-  | inl j ↦ inl (IsGiven-from_In n First n.out1 held w j)
-  | inr j ↦ inr (IsGiven-from_In n Second n.out2 held w j)
-]
+given_cases n held w i = grind (arith, In-append w (written_in n First n.out1 held) (written_in n Second n.out2 held) i)
 
 first_written : (n : Node) (c : Cell) → is_cell n.out1 c ≡ true → writes n c ≡ true
 first_written n c e = writes-outputs n c ∙ or_left (is_cell n.out1 c) (is_cell n.out2 c) e
@@ -187,49 +147,23 @@ written_held n held w i = elim (given_cases n held w i) [
 
 -- it has the form of what was held
 write_is : (objects : List Named) (n : Node) (output : Output) (o : Option Cell) (c : Cell) (object : ObjectValue) → kind_held objects c ≢ Some kind.Delay → IsGiven n output o (held objects) c object → IsWrite objects c object
-write_is objects n output o c object whole g =
-    let form : form_of object ≡ form_of g.out = ap form_of g.gives ∙ form-node_output n output g.first (option_and_then (held objects) n.in2) g.out in
-    let plain : is_delay g.out ≡ false = not_delay g.out (λ k. whole (ap (option_map object_kind) g.old ∙ ap Some k)) in
-    record {
-      form = ap (option_map form_of) g.old ∙ ap {B = Option ObjectValue} Some (sym form);
-      whole = sym (is_delay-form object) ∙ ap is_delay form ∙ is_delay-form g.out ∙ plain;
-    }
+write_is objects n output o c object whole g = grind (arith, form-node_output, is_delay, not_delay, is_delay-form)
 
 pub AreWrites-written : (objects : List Named) (n : Node) → ((c : Cell) → writes n c ≡ true → kind_held objects c ≢ Some kind.Delay) → AreWrites objects (written_by n (held objects))
-AreWrites-written objects n whole w i = elim (given_cases n (held objects) w i) [
-  | inl g ↦ write_is objects n First n.out1 w.0 w.1 (whole w.0 (first_written n w.0 g.there)) g
-  | inr g ↦ write_is objects n Second n.out2 w.0 w.1 (whole w.0 (second_written n w.0 g.there)) g
-]
+AreWrites-written objects n whole w i = grind (arith, given_cases n (held objects) w i, given_cases, write_is, first_written, second_written)
 
 -- ---- cells that hold what a node gives them
 
 other_cell : (n : Node) (c : Cell) → has_twice (outputs n) ≡ false → is_cell n.out1 c ≡ true → is_cell n.out2 c ≡ false
-other_cell n c h e = each n.out1 n.out2 h e
-  where
-    each : (a b : Option Cell) → has_twice (given a ++ given b) ≡ false → is_cell a c ≡ true → is_cell b c ≡ false
-    each None b h e = absurd (cc e)
-    each (Some d) None h e = refl
-    each (Some d) (Some x) h e =
-        ap (λ z. same_cell z x) (same_cell-true c d e) ∙ (or_parts (same_cell d x) false (or_parts (same_cell d x || false) false h).0).0
+other_cell n c h e = grind arith
 
 given_as : (n : Node) (output : Output) (o : Option Cell) (held : Cell → Option ObjectValue) (c : Cell) (object : ObjectValue) → output_at n c ≡ output → IsGiven n output o held c object → given_in n held c ≡ Some object
-given_as n output o held c object at g =
-    ap (λ z. output_of n z (held n.in1) (option_and_then held n.in2) (held c)) at
-    ∙ ap (λ z. output_of n output z (option_and_then held n.in2) (held c)) g.read
-    ∙ ap (λ z. output_of n output (Some g.first) (option_and_then held n.in2) z) g.old
-    ∙ ap {B = Option ObjectValue} Some (sym g.gives)
+given_as n output o held c object at g = grind arith
 
 -- where each output holds what the node gives it, all that the node writes is held
 pub given_holds : (n : Node) (held : Cell → Option ObjectValue) → has_twice (outputs n) ≡ false → ((c : Cell) → writes n c ≡ true → held c ≡ given_in n held c)
     → (w : Cell × ObjectValue) → In w (written_by n held) → held w.0 ≡ Some w.1
-given_holds n held once h w i = elim (given_cases n held w i) [
-  | inl g ↦
-      (let e = other_cell n w.0 once g.there in
-      h w.0 (first_written n w.0 g.there) ∙ given_as n First n.out1 held w.0 w.1 (rw e refl) g)
-  | inr g ↦
-      (let e = g.there in
-      h w.0 (second_written n w.0 g.there) ∙ given_as n Second n.out2 held w.0 w.1 (rw e refl) g)
-]
+given_holds n held once h w i = grind (arith, given_cases n held w i)
 
 held_last : (held : Cell → Option ObjectValue) (c : Cell) (ws : List (Cell × ObjectValue)) → ((w : Cell × ObjectValue) → In w ws → held w.0 ≡ Some w.1) → option_or (last_to c ws) (held c) ≡ held c
 held_last held c [] h = refl

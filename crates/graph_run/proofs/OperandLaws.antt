@@ -1,5 +1,5 @@
 -- What cells hold, as operands: as a graph begins to run, and as its nodes write.
-use Rattle.std.proofs.Common.{◌≡◌, ◌≢◌, ℕ, Bool, true, false, List, ◌++◌, map, refl, sym, ap, subst, ◌∙◌, inl, inr, Option, Some, None}
+use Rattle.std.proofs.Common.{◌≡◌, ◌≢◌, ℕ, Bool, true, false, List, ◌++◌, map, refl, sym, ap, subst, ◌∙◌, inl, inr, Option, Some, None, arith}
 use Rattle.std.specs.Prelude.{◌&&◌, ◌==◌, not, if◌then◌else◌, option_to_list, slice_get}
 use Rattle.std.specs.Option.{option_map, option_and_then}
 use Rattle.std.specs.List.{list_all, list_any}
@@ -64,10 +64,7 @@ virtual_there (Some k) x declared e = absurd (cc e)
 
 -- what isn't virtual begins as it was
 real_begins : (slot : Option ℕ) (x : ObjectValue) (operand found : Operand) → option_map operand_of (in_slot slot x) ≡ Some operand → is_virtual operand ≡ false → in_slot slot (begun_as x found) ≡ in_slot slot x
-real_begins None (VirtualObject v) operand found e real =
-    let same : Virtual v.declared ≡ operand = cc in
-    let never : true ≡ false = ap is_virtual same ∙ real in
-    absurd (cc never)
+real_begins None (VirtualObject v) operand found e real = grind arith
 real_begins (Some k) (VirtualObject v) operand found e real = absurd (cc e)
 real_begins slot x operand found e real = refl
 
@@ -83,13 +80,7 @@ known_kept operand known h = refl
 -- ---- a node's outputs as operands
 
 pub written_operand : (is : Cell → Operand) (n : Node) (c : Cell) → writes n c ≡ true → In (is c) (written_operands (operands_of is n))
-written_operand is n c w = subst (λ l. In (is c) l) (each n.out1 n.out2) (In-map is c (outputs n) (In-from_same c (outputs n) w))
-  where
-    each : (a b : Option Cell) → map is (given a ++ given b) ≡ (option_to_list (option_map is a) ++ option_to_list (option_map is b))
-    each None None = refl
-    each None (Some d) = refl
-    each (Some d) None = refl
-    each (Some d) (Some e) = refl
+written_operand is n c w = grind (arith, In-map is c (outputs n) (In-from_same c (outputs n) w), In-from_same c (outputs n) w)
 
 pub no_fault : (n : Node) (is : Cell → Operand) → verdict_on n (operands_of is n) ≡ None → node_fault n.function (operands_of is n) ≡ None
 no_fault n is h = last (writes_twice n) (reads_own_output n) (node_fault n.function (operands_of is n)) h
@@ -131,25 +122,10 @@ module _ (work : ℕ) (is : Cell → Operand) (nodes : List Node) (can : CanRun 
   -- an image stands for a virtual one that is written
   virtual_begins : (c : Cell) (x : ObjectValue) (v : VirtualImage) (d : Description) → ◌≡◌ {A = Option ℕ} c.slot None → x ≡ VirtualObject v → is_written nodes c ≡ true → known c ≡ Image d
       → option_map operand_of (in_slot c.slot (begun_under known nodes c.name x)) ≡ Some (known c)
-  virtual_begins c x v d none same w k =
-      let whole : c ≡ record { name = c.name; slot = None } = ap (λ (s : Option ℕ). let r : Cell = record { name = c.name; slot = s } in r) none in
-      ap (λ (s : Option ℕ). option_map operand_of (in_slot s (begun_under known nodes c.name x))) none
-      ∙ ap (λ y. Some (operand_of (begun_under known nodes c.name y))) same
-      ∙ as_image c.name (ap (is_written nodes) (sym whole) ∙ w) (ap known (sym whole) ∙ k)
-      ∙ ap Some (sym k)
-    where
-      as_image : (name : ℕ) → is_written nodes (record { name = name; slot = None }) ≡ true → known (record { name = name; slot = None }) ≡ Image d
-          → Some (operand_of (begun_under known nodes name (VirtualObject v))) ≡ Some (Image d)
-      as_image name e f =
-          ap (λ b. Some (operand_of (if b then begun_as (VirtualObject v) (known (record { name = name; slot = None })) else VirtualObject v))) e
-          ∙ ap (λ o. Some (operand_of (begun_as (VirtualObject v) o))) f
+  virtual_begins c x v d none same w k = grind arith
 
   real_stays : (c : Cell) (x : ObjectValue) → option_map operand_of (in_slot c.slot x) ≡ Some (is c) → is_virtual (is c) ≡ false → in_slot c.slot (begun_under known nodes c.name x) ≡ in_slot c.slot x
-  real_stays c x e real = either (is_written nodes (record { name = c.name; slot = None }))
-    where
-      either : (b : Bool) → in_slot c.slot (if b then begun_as x (known (record { name = c.name; slot = None })) else x) ≡ in_slot c.slot x
-      either true = real_begins c.slot x (is c) (known (record { name = c.name; slot = None })) e real
-      either false = refl
+  real_stays c x e real = grind arith
 
   module _ (objects : List Named) (stand : CellsStand is nodes objects) where
     abbrev begin : List Named
@@ -209,21 +185,7 @@ no_delay_written function e = cc
 
 -- no function writes a delay
 pub no_delay : (is : Cell → Operand) (nodes : List Node) (objects : List Named) → CellsStand is nodes objects → WritesNo kind.Delay nodes objects
-no_delay is nodes objects stand c w e =
-    let writer = In-from_any (λ m. writes m c) nodes w in
-    each (held objects c) (is c) (stand.found writer.0 c writer.1 (or_right (reads writer.0 c) (writes writer.0 c) writer.2)) (stand.kinds writer.0 c writer.1 writer.2) e
-  where
-    of_kind : (x : ObjectValue) (wanted : Kind) → StandsFor (operand_of x) wanted → object_kind x ≡ kind.Delay → wanted ≡ kind.Delay
-    of_kind (DelayObject images) wanted s k = sym s
-    of_kind x wanted s k = absurd (cc k)
-
-    each : (o : Option ObjectValue) (operand : Operand) → option_map operand_of o ≡ Some operand → StandsFor operand (parameters (In-from_any (λ m. writes m c) nodes w).0.function).output → option_map object_kind o ≡ Some kind.Delay → ⊥
-    each None operand f s k = cc
-    each (Some x) operand f s k =
-        let same : operand_of x ≡ operand = cc in
-        let delay : object_kind x ≡ kind.Delay = cc in
-        let output = (parameters (In-from_any (λ m. writes m c) nodes w).0.function).output in
-        no_delay_written (In-from_any (λ m. writes m c) nodes w).0.function (of_kind x output (subst (λ z. StandsFor z output) (sym same) s) delay)
+no_delay is nodes objects stand c w e = grind (arith, In-from_any, or_right, no_delay_written)
 
 -- what a node gives is of its first input's size, and of the format that is asked for
 described_one : (function : Function) (n : Node) (output : Output) (format : Format) (a : ImageValue) → description_of (image_of_one function n output format a) ≡ record { width = a.width; height = a.height; format = format }
@@ -236,10 +198,7 @@ described_node n output format a (Some (ImageObject b)) = refl
 described_node n output format a (Some second) = refl
 
 one_description : (a out : ImageValue) → same_size (description_of a) (description_of out) ≡ true → ◌≡◌ {A = Description} (record { width = a.width; height = a.height; format = out.format }) (description_of out)
-one_description a out same =
-    let sides = and_parts (a.width == out.width) (a.height == out.height) same in
-    ap (λ width. let d : Description = record { width = width; height = a.height; format = out.format } in d) (eqb-true a.width out.width sides.0)
-    ∙ ap (λ height. let d : Description = record { width = out.width; height = height; format = out.format } in d) (eqb-true a.height out.height sides.1)
+one_description a out same = grind (arith, and_parts (a.width == out.width) (a.height == out.height) same)
 
 -- an output of the first input's size stays the operand that it is
 output_kept : (n : Node) (output : Output) (first : ObjectValue) (second : Option ObjectValue) (out : ObjectValue) → are_of_one_size (operand_of first) (operand_of out) ≡ true
@@ -274,19 +233,11 @@ one_size n is c none w =
 
 operand_is : (o : Option ObjectValue) (x : ObjectValue) (operand : Operand) → option_map operand_of o ≡ Some operand → o ≡ Some x → operand_of x ≡ operand
 operand_is None x operand f e = absurd (cc e)
-operand_is (Some y) x operand f e =
-    let same : y ≡ x = cc in
-    let is : operand_of y ≡ operand = cc in
-    ap operand_of (sym same) ∙ is
+operand_is (Some y) x operand f e = grind arith
 
 module _ (is : Cell → Operand) (nodes : List Node) (objects : List Named) (stand : CellsStand is nodes objects) (n : Node) (i : In n nodes) (none : node_fault n.function (operands_of is n) ≡ None) where
   gives_alike : (c : Cell) → writes n c ≡ true → option_map operand_of (given_in n (held objects) c) ≡ option_map operand_of (held objects c)
-  gives_alike c w =
-      given_kept n (output_at n c) (held objects n.in1) (option_and_then (held objects) n.in2) (held objects c)
-      (λ x y e f.
-      ap (λ z. are_of_one_size z (operand_of y)) (operand_is (held objects n.in1) x (is n.in1) (stand.found n n.in1 i (or_left (reads n n.in1) (writes n n.in1) (reads_first n))) e)
-      ∙ ap (are_of_one_size (is n.in1)) (operand_is (held objects c) y (is c) (stand.found n c i (or_right (reads n c) (writes n c) w)) f)
-      ∙ one_size n is c none w)
+  gives_alike c w = grind (arith, given_kept, output_at, operand_is, or_left, reads_first, or_right, one_size)
 
   given_or_kept : (c : Cell) (b : Bool) → writes n c ≡ b → option_map operand_of (if b then given_in n (held objects) c else held objects c) ≡ option_map operand_of (held objects c)
   given_or_kept c true w = gives_alike c w
@@ -302,10 +253,7 @@ module _ (is : Cell → Operand) (nodes : List Node) (objects : List Named) (sta
   -- no cell becomes another operand
   pub operand_after : (c : Cell) → option_map operand_of (held (with_written objects (written_by n (held objects))) c) ≡ option_map operand_of (held objects c)
   operand_after c =
-      sym (operand-shown (held (with_written objects (written_by n (held objects))) c))
-      ∙ ap (option_map operand_of) (seen_after c)
-      ∙ operand-shown (if writes n c then given_in n (held objects) c else held objects c)
-      ∙ given_or_kept c (writes n c) refl
+      grind (arith, operand-shown (held (with_written objects (written_by n (held objects))) c), seen_after c, operand-shown (if writes n c then given_in n (held objects) c else held objects c), given_or_kept c (writes n c) refl)
 
   pub stands_after : CellsStand is nodes (with_written objects (written_by n (held objects)))
   stands_after = record { found = (λ m c j named. operand_after c ∙ stand.found m c j named); kinds = stand.kinds }

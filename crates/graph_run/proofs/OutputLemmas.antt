@@ -1,5 +1,5 @@
 -- What nodes write to an output, whose samples are taken out, and put back once they are written.
-use Rattle.std.proofs.Common.{◌≡◌, length, true, ℤ, refl, List, Option, ap, ◌∙◌, sym, [], Some, None, subst}
+use Rattle.std.proofs.Common.{◌≡◌, length, true, ℤ, refl, List, Option, ap, ◌∙◌, sym, [], Some, None, subst, arith}
 use Rattle.std.specs.Prelude.{unsigned_abs, ◌==◌, IfSome}
 use Rattle.std.specs.List.{count_by}
 use Rattle.std.proofs.lemmas.List.FromFn.{length-map-range_with_len}
@@ -36,17 +36,11 @@ length-histogram bins a = length-map-range_with_len (λ k. count_by (λ z. is_bi
 
 -- descriptions of one size and format are one
 pub same_description : (a b : Description) → same_size a b ≡ true → a.format ≡ b.format → a ≡ b
-same_description a b size format =
-    let both = and_parts (a.width == b.width) (a.height == b.height) size in
-    let w = eqb-true a.width b.width both.0 in
-    let h = eqb-true a.height b.height both.1 in
-    let e : record { width = a.width; height = a.height; format = a.format } ≡ record { width = b.width; height = b.height; format = b.format } = cc in
-    e
+same_description a b size format = grind (arith, and_parts (a.width == b.width) (a.height == b.height) size)
 
 -- an output keeps its description
 pub description_kept : (n : Node) (output : Output) (a : ImageValue) (second : Option ObjectValue) (out : ImageValue) → HaveSameSize out a → description_of (node_image n output out.format a second) ≡ description_of out
-description_kept n output a second out h =
-    described_node n output out.format a second ∙ sym (same_description (description_of out) (record { width = a.width; height = a.height; format = out.format }) h refl)
+description_kept n output a second out h = grind (arith, described_node, same_description)
 
 -- samples that a node has written, with the rectangle beside them
 module _ (n : Node) (output : Output) (a : ImageValue) (second : Option ObjectValue) (d : Description) (old : ImageValue) (area : Rectangle) (samples : List ℤ)
@@ -59,9 +53,7 @@ module _ (n : Node) (output : Output) (a : ImageValue) (second : Option ObjectVa
   kept = ap (λ f. description_of (node_image n output f a second)) (sym format_is) ∙ description_kept n output a second old h.size ∙ is
 
   pub stored_is : image_over d area (samples) ≡ node_image n output d.format a second
-  stored_is =
-      same_parts (image_over d area (samples)) (node_image n output d.format a second)
-      (sym (ap (λ (e : Description). e.width) kept)) (sym (ap (λ (e : Description). e.height) kept)) (sym (ap (λ (e : Description). e.format) kept)) valid written
+  stored_is = grind (arith, same_parts, kept)
 
 -- an object that is an image is one
 pub image_of_object : (object : ObjectValue) → object_kind object ≡ kind.Image → IsObject object → IsImage (image_value object)
@@ -133,11 +125,7 @@ module _ (objects : List Named) (n : Node) (which : Output) (output : Cell) (h :
     second_is_object = subst (λ (o : Option ObjectValue). IfSome o IsObject) (sym second_there) h.runs.second_is
 
     pub second_is_read : IfSome (option_map (cell_object after.objects) n.in2) (λ object. IsRead (object_kind object))
-    second_is_read = subst (λ (o : Option ObjectValue). IfSome o (λ object. IsRead (object_kind object))) (sym second_there) (read second h.runs.second_kind)
-      where
-        read : (o : Option ObjectValue) → IfSome o (λ object. (parameters n.function).second_input ≡ Some (object_kind object)) → IfSome o (λ object. IsRead (object_kind object))
-        read None is = tt
-        read (Some object) is = is_read n.function (object_kind object) is
+    second_is_read = grind (arith, second_there, is_read)
 
   module _ (d : Description) (image : ImageValue) (describes : d ≡ description_of image) (is_out : image ≡ out) where
     described : d ≡ description_of out
@@ -165,27 +153,11 @@ module _ (objects : List Named) (n : Node) (which : Output) (output : Cell) (h :
           → back ≡ with_objects after (with_object after.objects output (with_samples (cell_object after.objects output) area samples)) → d.format ≡ format → area ≡ (node_image n which format a b).valid → samples ≡ (node_image n which format a b).samples
           → back ≡ with_objects before (with_object objects output (output_of objects n which output))
       put_back is_left back area samples format is of_format valid written =
-          let same : node_image n which format a b ≡ node_image n which out.format first second =
-          ap (λ f. node_image n which f a b) (sym of_format ∙ ap (λ (k : Description). k.format) described)
-          ∙ ap (λ v. node_image n which out.format v b) (is_first ∙ first_there after left before taken)
-          ∙ ap (λ s. node_image n which out.format first s) (is_second ∙ second_there after left before taken) in
-          let image_is : image_over (description_of out) area samples ≡ node_image n which out.format first second =
-          stored_is n which first second (description_of out) out area samples refl can (valid ∙ ap (λ (i : ImageValue). i.valid) same) (written ∙ ap (λ (i : ImageValue). i.samples) same) in
-          let emptied : ImageValue = image_over (description_of out) out.valid [] in
-          is
-          ∙ ap (λ (t : Context). with_objects t (with_object t.objects output (with_samples (cell_object t.objects output) area samples))) taken
-          ∙ ap (with_objects before)
-          (ap (λ (o : ObjectValue). with_object (with_object objects output o) output (with_samples (cell_object (with_object objects output o) output) area samples)) is_left
-          ∙ ap (λ (o : ObjectValue). with_object (with_object objects output (ImageObject emptied)) output (with_samples o area samples)) (object_after objects output writes_image emptied)
-          ∙ with_object_twice objects output (ImageObject emptied) (image_over (description_of out) area samples)
-          ∙ ap (λ i. with_object objects output (ImageObject i)) image_is
-          ∙ ap (λ o. with_object objects output o) (of_images n which (cell_object objects n.in1) second (cell_object objects output) h.runs.first_kind out_kind))
+          grind (arith, first_there after left before taken, second_there after left before taken, of_images n which (cell_object objects n.in1) second (cell_object objects output) h.runs.first_kind out_kind, described, first_there, second_there, stored_is, can, object_after, writes_image, with_object_twice, of_images, out_kind)
 
   -- samples can be put back where they were taken out
   pub takes_back : (after before : Context) → after ≡ with_objects before (with_object objects output (with_samples (cell_object objects output) out.valid [])) → HoldsImage after.objects output
   takes_back after before taken = subst (λ (t : Context). HoldsImage t.objects output) (sym taken) (image_after objects output writes_image (image_over (description_of out) out.valid []))
 
   pub left_format : (after before : Context) → after ≡ with_objects before (with_object objects output (with_samples (cell_object objects output) out.valid [])) → (image_held after.objects output).format ≡ out.format
-  left_format after before taken =
-      ap (λ (t : Context). (image_held t.objects output).format) taken
-      ∙ ap (λ (o : ObjectValue). (image_value o).format) (object_after objects output writes_image (image_over (description_of out) out.valid []))
+  left_format after before taken = grind (arith, object_after objects output writes_image (image_over (description_of out) out.valid []))

@@ -1,5 +1,5 @@
 -- Rounds and runs of objects, as rounds and runs of what is seen at each cell.
-use Rattle.std.proofs.Common.{◌≡◌, ℕ, zero, suc, Bool, true, false, if◌then◌else◌, List, [], ◌∷◌, map, refl, sym, ap, ◌∙◌, inl, inr, Option, Some, None}
+use Rattle.std.proofs.Common.{◌≡◌, ℕ, zero, suc, Bool, true, false, if◌then◌else◌, List, [], ◌∷◌, map, refl, sym, ap, ◌∙◌, inl, inr, Option, Some, None, arith, rules}
 use Rattle.std.specs.Prelude.{◌⊎◌}
 use Rattle.std.specs.Option.{option_map, option_or}
 use Rattle.std.specs.List.{list_any, flat_map}
@@ -94,14 +94,11 @@ AreWrites-node : (nodes : List Node) (objects : List Named) → WritesNo kind.De
 AreWrites-node nodes objects whole n i = AreWrites-written objects n (λ c w. whole c (any-from_In (λ m. writes m c) n nodes i w))
 
 AreWrites-round : (nodes : List Node) (objects : List Named) → WritesNo kind.Delay nodes objects → AreWrites objects (flat_map (λ n. written_by n (held objects)) nodes)
-AreWrites-round nodes objects whole w i =
-    let r = In-from_flat_map (λ n. written_by n (held objects)) nodes w i in
-    AreWrites-node nodes objects whole r.0 r.1 w r.2
+AreWrites-round nodes objects whole w i = grind (arith, In-from_flat_map, AreWrites-node)
 
 -- where forms are the same, no delay is written as a whole either
 pub WritesNo-forms : (nodes : List Node) (old new : List Named) → ((c : Cell) → form_held new c ≡ form_held old c) → WritesNo kind.Delay nodes old → WritesNo kind.Delay nodes new
-WritesNo-forms nodes old new forms whole c w e =
-    whole c w (sym (kind-form_seen (held old c)) ∙ ap (option_map object_kind) (sym (forms c)) ∙ kind-form_seen (held new c) ∙ e)
+WritesNo-forms nodes old new forms whole c w e = grind (arith, kind-form_seen (held old c), kind-form_seen (held new c))
 
 -- ---- rounds and runs
 
@@ -122,11 +119,7 @@ seen-step nodes n objects whole i = fun_ext (λ c.
 
 pub form-rounds : (nodes : List Node) (k : ℕ) (objects : List Named) → WritesNo kind.Delay nodes objects → (c : Cell) → form_held (rounds nodes k objects) c ≡ form_held objects c
 form-rounds nodes zero objects whole c = refl
-form-rounds nodes (suc k) objects whole c =
-    let before : List Named = rounds nodes k objects in
-    let same = form-rounds nodes k objects whole in
-    form-with_written (flat_map (λ n. written_by n (held before)) nodes) before (AreWrites-round nodes before (WritesNo-forms nodes objects before same whole)) c
-    ∙ same c
+form-rounds nodes (suc k) objects whole c = search (rules, form-rounds nodes k objects whole, form-with_written, AreWrites-round, WritesNo-forms)
 
 pub seen-rounds : (nodes : List Node) (k : ℕ) (objects : List Named) → OneWriter writes nodes → WritesNo kind.Delay nodes objects
     → seen (rounds nodes k objects) ≡ cells.rounds writes given_in nodes k (seen objects)
@@ -138,9 +131,7 @@ seen-rounds nodes (suc k) objects one whole =
 
 pub labels-rounds : (nodes : List Node) (k : ℕ) (objects : List Named) → map label_of (rounds nodes k objects) ≡ map label_of objects
 labels-rounds nodes zero objects = refl
-labels-rounds nodes (suc k) objects =
-    let before : List Named = rounds nodes k objects in
-    labels-with_written (flat_map (λ n. written_by n (held before)) nodes) before ∙ labels-rounds nodes k objects
+labels-rounds nodes (suc k) objects = grind (arith, labels-rounds nodes k objects, labels-with_written)
 
 pub seen-one_by_one : (nodes steps : List Node) (objects : List Named) → WritesNo kind.Delay nodes objects → AllIn steps nodes
     → seen (one_by_one steps objects) ≡ cells.once writes given_in steps (seen objects)
@@ -154,5 +145,4 @@ seen-one_by_one nodes (n ∷ steps) objects whole within =
 
 pub labels-one_by_one : (steps : List Node) (objects : List Named) → map label_of (one_by_one steps objects) ≡ map label_of objects
 labels-one_by_one [] objects = refl
-labels-one_by_one (n ∷ steps) objects =
-    labels-one_by_one steps (with_written objects (written_by n (held objects))) ∙ labels-with_written (written_by n (held objects)) objects
+labels-one_by_one (n ∷ steps) objects = grind (arith, labels-one_by_one steps (with_written objects (written_by n (held objects))), labels-with_written)

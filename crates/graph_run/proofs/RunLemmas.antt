@@ -1,5 +1,5 @@
 -- Nodes on what their cells hold, and what they write.
-use Rattle.std.proofs.Common.{◌≡◌, ◌≢◌, ℕ, Bool, true, false, List, [], ◌∷◌, ◌++◌, Option, Some, None, IsTrue, refl, sym, ap, subst, ◌∙◌}
+use Rattle.std.proofs.Common.{◌≡◌, ◌≢◌, ℕ, Bool, true, false, List, [], ◌∷◌, ◌++◌, Option, Some, None, IsTrue, refl, sym, ap, subst, ◌∙◌, arith, rules}
 use Rattle.std.specs.Prelude.{All, ◌==◌, ◌||◌, ◌&&◌, not, slice_get, is_some, is_none, unwrap_or, if◌then◌else◌, IfSome, option_to_list}
 use Rattle.std.specs.List.{list_any, list_all}
 use Rattle.std.specs.List.Sorted.{IsStrictlyIncreasing}
@@ -63,13 +63,7 @@ two_slots (Some j) None object a b at_j at_k no_a no_b differ = cc
 
 -- two cells that aren't one are apart
 apart : (objects : List Named) (a b : Cell) (k l : Kind) → k ≢ kind.Delay → l ≢ kind.Delay → HoldsKind objects (a, k) → HoldsKind objects (b, l) → same_cell a b ≡ false → AreApart a b
-apart objects a b k l no_k no_l h i differ names =
-    let slots : same_slot a.slot b.slot ≡ false = sym (ap (λ t. t && same_slot a.slot b.slot) (eq-eqb a.name b.name names)) ∙ differ in
-    found (object_held objects a.name) h (ap (λ n. option_map object_kind (option_and_then (in_slot b.slot) (object_held objects n))) names ∙ i) slots
-  where
-    found : (o : Option ObjectValue) → option_map object_kind (option_and_then (in_slot a.slot) o) ≡ Some k → option_map object_kind (option_and_then (in_slot b.slot) o) ≡ Some l → same_slot a.slot b.slot ≡ false → TwoSlots a.slot b.slot
-    found None h i slots = cc
-    found (Some x) h i slots = two_slots a.slot b.slot x k l h i no_k no_l slots
+apart objects a b k l no_k no_l h i differ names = grind (arith, eq-eqb a.name b.name names)
 
 -- ---- what a node's function has
 
@@ -95,10 +89,7 @@ same_formats None = refl
 same_formats (Some object) = same_format object
 
 swapped : (a b : Description) → same_size a b ≡ true → same_size b a ≡ true
-swapped a b e =
-    let p = and_parts (a.width == b.width) (a.height == b.height) e in
-    ap (λ t. t && (b.height == a.height)) (eq-eqb b.width a.width (sym (eqb-true a.width b.width p.0)))
-    ∙ eq-eqb b.height a.height (sym (eqb-true a.height b.height p.1))
+swapped a b e = grind (arith, and_parts (a.width == b.width) (a.height == b.height) e)
 
 -- an image of the size of another
 object_fits : (a : ImageValue) (object : ObjectValue) → are_of_one_size (operand_of (ImageObject a)) (operand_of object) ≡ true → SecondHasSize a (Some object)
@@ -113,9 +104,7 @@ second_fits a (Some object) e = object_fits a object (and_parts (are_of_one_size
 in2_reads : (cell : Option Cell) (xs ys : List Cell) → list_any (λ a. list_any (same_cell a) (xs ++ ys)) (given cell) ≡ false
     → (list_any (λ a. list_any (same_cell a) xs) (given cell) ≡ false) × (list_any (λ a. list_any (same_cell a) ys) (given cell) ≡ false)
 in2_reads None xs ys e = (refl, refl)
-in2_reads (Some c) xs ys e =
-    let both = or_parts (list_any (same_cell c) xs) (list_any (same_cell c) ys) (sym (list_any-append (same_cell c) xs ys) ∙ (or_parts (list_any (same_cell c) (xs ++ ys)) false e).0) in
-    (ap (λ b. b || false) both.0, ap (λ b. b || false) both.1)
+in2_reads (Some c) xs ys e = grind (arith, or_parts, list_any-append)
 
 -- writes one after the other
 with_written-append : (objects : List Named) (written others : List (Cell × ObjectValue)) → with_written objects (written ++ others) ≡ with_written (with_written objects written) others
@@ -124,12 +113,7 @@ with_written-append objects (w ∷ written) others = with_written-append (with_o
 
 -- slots that differ differ the other way round
 apart_back : (p q : Cell) → AreApart p q → AreApart q p
-apart_back p q h e = slots p.slot q.slot (h (sym e))
-  where
-    slots : (j k : Option ℕ) → TwoSlots j k → TwoSlots k j
-    slots (Some j) (Some k) two = λ same. two (sym same)
-    slots None k two = absurd two
-    slots (Some j) None two = absurd two
+apart_back p q h e = grind arith
 
 -- what a node would write stays where another output of it is written
 module _ (l : List Named) (n : Node) (one other : Cell) (x : ObjectValue) (h : RunsTo l n other) (in1 : AreApart n.in1 one) (in2 : IfSome n.in2 (λ q. AreApart q one)) (out : AreApart other one) where
@@ -137,24 +121,10 @@ module _ (l : List Named) (n : Node) (one other : Cell) (x : ObjectValue) (h : R
   after = with_object l one x
 
   runs_beside : RunsTo after n other
-  runs_beside =
-      record {
-        in1 = image_beside l one n.in1 x in1 h.in1;
-        in2 = hold_beside l one n.in2 x in2 h.in2;
-        out = holds_beside l one other x out h.out;
-        in1_apart = h.in1_apart;
-        in2_apart = h.in2_apart;
-        runs =
-            subst (λ (o : ObjectValue). RunsOn n (cell_object after n.in1) (option_map (cell_object after) n.in2) o) (sym (object_beside l one other x out))
-            (subst (λ (o : Option ObjectValue). RunsOn n (cell_object after n.in1) o (cell_object l other)) (sym (object_if_beside l one n.in2 x in2))
-            (subst (λ (o : ObjectValue). RunsOn n o (option_map (cell_object l) n.in2) (cell_object l other)) (sym (object_beside l one n.in1 x in1)) h.runs));
-      }
+  runs_beside = search (rules, image_beside, hold_beside, holds_beside, object_beside, object_if_beside)
 
   output_beside : (which : Output) → output_of after n which other ≡ output_of l n which other
-  output_beside which =
-      ap (λ o. node_output n which o (option_map (cell_object after) n.in2) (cell_object after other)) (object_beside l one n.in1 x in1)
-      ∙ ap (λ o. node_output n which (cell_object l n.in1) o (cell_object after other)) (object_if_beside l one n.in2 x in2)
-      ∙ ap (λ o. node_output n which (cell_object l n.in1) (option_map (cell_object l) n.in2) o) (object_beside l one other x out)
+  output_beside which = grind (arith, object_beside l one n.in1 x in1, object_if_beside l one n.in2 x in2, object_beside l one other x out)
 
 -- what cells hold, as operands
 abbrev operands_there : List Named → Node → Operands
@@ -171,19 +141,7 @@ module _ (n : Node) (node : IsNode n) where
       → object_kind first ≡ kind.Image → object_kind out ≡ (parameters n.function).output → IsObject first → IfSome second IsObject → IsObject out → IfSome second (λ object. (parameters n.function).second_input ≡ Some (object_kind object))
       → Suits n.function (operand_of first) (option_and_then operand_format (option_map operand_of second)) (operand_of out) → list_all (are_of_one_size (operand_of first)) (option_to_list (option_map operand_of second)) ≡ true
       → RunsOn n first second out
-  runs_on (ImageObject a) second out h i is_first is_second is_out k suits sizes =
-      record {
-        node = node;
-        first_kind = refl;
-        second_kind = k;
-        out_kind = i;
-        first_is = is_first;
-        second_is = is_second;
-        out_is = is_out;
-        formats = ap (λ f. takes_formats n.function a.format f (object_format out)) (sym (same_formats second)) ∙ ap (λ f. takes_formats n.function a.format (option_and_then operand_format (option_map operand_of second)) f) (sym (same_format out)) ∙ suits.formats;
-        second_size = second_fits a second sizes;
-        out_size = object_fits a out suits.size;
-      }
+  runs_on (ImageObject a) second out h i is_first is_second is_out k suits sizes = grind (arith, same_formats, same_format, second_fits, object_fits)
   runs_on other second out h i is_first is_second is_out k suits sizes = cc
 
   -- a second input is what the function has there
@@ -207,16 +165,10 @@ module _ (n : Node) (node : IsNode n) where
 
     there : operands_of (operand_held objects) n ≡ operands_there objects n
     there =
-        ap (λ a. made a (option_map (operand_held objects) n.in2) (option_map (operand_held objects) n.out1) (option_map (operand_held objects) n.out2)) (operand_there objects n.in1 (holds_there objects (n.in1, kind.Image) h.in1))
-        ∙ ap (λ b. made (operand_of (cell_object objects n.in1)) b (option_map (operand_held objects) n.out1) (option_map (operand_held objects) n.out2)) (if_there n.in2 (second_kind n) h.in2)
-        ∙ ap (λ c. made (operand_of (cell_object objects n.in1)) (option_map operand_of (option_map (cell_object objects) n.in2)) c (option_map (operand_held objects) n.out2)) (if_there n.out1 wanted h.out1)
-        ∙ ap (made (operand_of (cell_object objects n.in1)) (option_map operand_of (option_map (cell_object objects) n.in2)) (option_map operand_of (option_map (cell_object objects) n.out1))) (if_there n.out2 wanted h.out2)
+        grind (arith, operand_there objects n.in1 (holds_there objects (n.in1, kind.Image) h.in1), holds_there objects (n.in1, kind.Image) h.in1, if_there n.in2 (second_kind n) h.in2, if_there n.out1 wanted h.out1, if_there n.out2 wanted h.out2)
 
     parts : (writes_twice n ≡ false) × (reads_own_output n ≡ false) × (node_fault n.function (operands_there objects n) ≡ None)
-    parts =
-        let one_writer = passed (writes_twice n) MultipleWriters _ (ap (verdict_on n) (sym there) ∙ verdict) in
-        let no_cycle = passed (reads_own_output n) InvalidGraph _ one_writer.1 in
-        (one_writer.0, no_cycle.0, no_cycle.1)
+    parts = grind (arith, passed, there)
 
     second_sizes : list_all (are_of_one_size (operand_of (cell_object objects n.in1))) (option_to_list (option_map operand_of (option_map (cell_object objects) n.in2))) ≡ true
     second_sizes =
@@ -260,8 +212,7 @@ module _ (n : Node) (node : IsNode n) where
 
     in1_apart : (list_any (same_cell n.in1) (given n.out1) ≡ false) × (list_any (same_cell n.in1) (given n.out2) ≡ false)
     in1_apart =
-        let reads = (or_parts (list_any (same_cell n.in1) (outputs n)) (list_any (λ a. list_any (same_cell a) (outputs n)) (given n.in2)) parts.1).0 in
-        or_parts (list_any (same_cell n.in1) (given n.out1)) (list_any (same_cell n.in1) (given n.out2)) (sym (list_any-append (same_cell n.in1) (given n.out1) (given n.out2)) ∙ reads)
+        grind (arith, or_parts (list_any (same_cell n.in1) (outputs n)) (list_any (λ a. list_any (same_cell a) (outputs n)) (given n.in2)) parts.1, list_any-append (same_cell n.in1) (given n.out1) (given n.out2), or_parts, list_any-append)
 
     in2_apart : (list_any (λ a. list_any (same_cell a) (given n.out1)) (given n.in2) ≡ false) × (list_any (λ a. list_any (same_cell a) (given n.out2)) (given n.in2) ≡ false)
     in2_apart = in2_reads n.in2 (given n.out1) (given n.out2) (or_parts (list_any (same_cell n.in1) (outputs n)) (list_any (λ a. list_any (same_cell a) (outputs n)) (given n.in2)) parts.1).1
@@ -302,10 +253,7 @@ module _ (n : Node) (node : IsNode n) where
         → with_written l (written_in n which cell (held objects)) ≡ with_output l n which cell
     written_one l which None s same = refl
     written_one l which (Some c) s same =
-        ap (λ o. with_written l (written_to n which c o (option_and_then (held objects) n.in2) (held objects c))) (there_is objects n.in1 (holds_there objects (n.in1, kind.Image) h.in1))
-        ∙ ap (λ o. with_written l (written_to n which c (Some (cell_object objects n.in1)) o (held objects c))) (second_held n.in2 (second_kind n) h.in2)
-        ∙ ap (λ o. with_written l (written_to n which c (Some (cell_object objects n.in1)) (option_map (cell_object objects) n.in2) o)) (there_is objects c (holds_there objects (c, wanted) s))
-        ∙ ap (with_object l c) (sym same)
+        grind (arith, there_is objects n.in1 (holds_there objects (n.in1, kind.Image) h.in1), holds_there objects (n.in1, kind.Image) h.in1, second_held n.in2 (second_kind n) h.in2, there_is objects c (holds_there objects (c, wanted) s), holds_there objects (c, wanted) s)
 
     same_first : (cell : Option Cell) → IfSome cell (λ c. output_of objects n First c ≡ output_of objects n First c)
     same_first None = tt
@@ -321,39 +269,25 @@ module _ (n : Node) (node : IsNode n) where
     -- what the node writes is what its outputs become
     pub written_is : with_written objects (written_by n (held objects)) ≡ with_output (with_output objects n First n.out1) n Second n.out2
     written_is =
-        with_written-append objects (written_in n First n.out1 (held objects)) (written_in n Second n.out2 (held objects))
-        ∙ ap (λ l. with_written l (written_in n Second n.out2 (held objects))) (written_one objects First n.out1 h.out1 (same_first n.out1))
-        ∙ written_one (with_output objects n First n.out1) Second n.out2 h.out2 (same_second n.out1 n.out2 runs_first runs_second two_outputs)
+        grind (arith, with_written-append objects (written_in n First n.out1 (held objects)) (written_in n Second n.out2 (held objects)), written_one objects First n.out1 h.out1 (same_first n.out1), same_first n.out1, written_one (with_output objects n First n.out1) Second n.out2 h.out2 (same_second n.out1 n.out2 runs_first runs_second two_outputs), same_second n.out1 n.out2 runs_first runs_second two_outputs)
 
 -- ---- what is written is an object
 
 -- only images stand in slots
 pub slot_none : (slot : Option ℕ) (object : ObjectValue) → IsTrue (is_some (in_slot slot object)) → object_kind (object_in slot object) ≢ kind.Image → slot ≡ None
 slot_none None object there other = refl
-slot_none (Some k) (DelayObject images) there other = absurd (other (of_slot (slice_get images k)))
-  where
-    of_slot : (image : Option ImageValue) → object_kind (unwrap_or (option_map ImageObject image) (ImageObject (new_image 0 0 U8))) ≡ kind.Image
-    of_slot None = refl
-    of_slot (Some image) = refl
+slot_none (Some k) (DelayObject images) there other = grind arith
 slot_none (Some k) object there other = cc
 
 -- an output that isn't an image is an object as a whole
 whole_cell : (l : List Named) (output : Cell) → Holds l output → object_kind (cell_object l output) ≢ kind.Image → output.slot ≡ None
-whole_cell l output holds other = found (object_held l output.name) holds other
-  where
-    found : (o : Option ObjectValue) → IsTrue (is_some (option_and_then (in_slot output.slot) o)) → object_kind (unwrap_or (option_and_then (in_slot output.slot) o) (ImageObject (new_image 0 0 U8))) ≢ kind.Image → output.slot ≡ None
-    found None holds other = cc
-    found (Some x) holds other = slot_none output.slot x holds other
+whole_cell l output holds other = grind arith
 
 as_whole : (output : Cell) → output.slot ≡ None → cell_of output.name ≡ output
 as_whole output none = ap (λ (slot : Option ℕ). let q : Cell = record { name = output.name; slot = slot } in q) (sym none)
 
 under_whole : (l : List Named) (name : ℕ) → cell_object l (cell_of name) ≡ object_under l name
-under_whole l name = found (object_held l name)
-  where
-    found : (o : Option ObjectValue) → unwrap_or (option_and_then (in_slot None) o) (ImageObject (new_image 0 0 U8)) ≡ unwrap_or o (ImageObject (new_image 0 0 U8))
-    found None = refl
-    found (Some x) = refl
+under_whole l name = grind arith
 
 extremes_written : (n : Node) (which : Output) (first : ObjectValue) (second : Option ObjectValue) (out : ObjectValue) → object_kind first ≡ kind.Image → object_kind out ≡ kind.Extremes → ExtremesObject (extremes (image_value first)) ≡ node_output n which first second out
 extremes_written n which (ImageObject a) second (ExtremesObject x) e f = refl
@@ -372,29 +306,18 @@ module _ (l : List Named) (n : Node) (which : Output) (output : Cell) (runs : Ru
     whole = whole_cell l output runs.out (λ image. other (sym (runs.runs.out_kind ∙ is) ∙ image))
 
     pub under_kind : IsUnder l k output.name
-    under_kind =
-        let kind_is : option_map object_kind (held l output) ≡ Some k = ap (option_map object_kind) (there_is l output runs.out) ∙ ap Some (runs.runs.out_kind ∙ is) in
-        found (object_held l output.name) (ap (λ (slot : Option ℕ). option_map object_kind (option_and_then (in_slot slot) (object_held l output.name))) (sym whole) ∙ kind_is)
-      where
-        found : (o : Option ObjectValue) → option_map object_kind (option_and_then (in_slot None) o) ≡ Some k → option_map object_kind o ≡ Some k
-        found None e = e
-        found (Some x) e = e
+    under_kind = grind (arith, there_is l output runs.out)
 
     object_is_under : cell_object l output ≡ object_under l output.name
     object_is_under = ap (cell_object l) (sym (as_whole output whole)) ∙ under_whole l output.name
 
   -- extremes that were found
   pub located_is : (parameters n.function).output ≡ kind.Extremes → with_object l (cell_of output.name) (ExtremesObject (extremes (image_held l n.in1))) ≡ with_output l n which (Some output)
-  located_is e =
-      ap (λ q. with_object l q (ExtremesObject (extremes (image_held l n.in1)))) (as_whole output (whole kind.Extremes e (λ image. cc)))
-      ∙ ap (with_object l output) (extremes_written n which (cell_object l n.in1) (option_map (cell_object l) n.in2) (cell_object l output) runs.runs.first_kind (runs.runs.out_kind ∙ e))
+  located_is e = grind (arith, as_whole, whole, extremes_written)
 
   -- counts that were made
   pub counted_is : (parameters n.function).output ≡ kind.Distribution → with_object l (cell_of output.name) (counted_in (image_held l n.in1) (object_under l output.name)) ≡ with_output l n which (Some output)
-  counted_is e =
-      ap (λ q. with_object l q (counted_in (image_held l n.in1) (object_under l output.name))) (as_whole output (whole kind.Distribution e (λ image. cc)))
-      ∙ ap (λ o. with_object l output (counted_in (image_held l n.in1) o)) (sym (object_is_under kind.Distribution e (λ image. cc)))
-      ∙ ap (with_object l output) (counts_written n which (cell_object l n.in1) (option_map (cell_object l) n.in2) (cell_object l output) runs.runs.first_kind (runs.runs.out_kind ∙ e))
+  counted_is e = grind (arith, as_whole, whole, object_is_under, counts_written)
 
   pub reads_an_image : IsImage (image_held l n.in1)
   reads_an_image = image_of_object (cell_object l n.in1) runs.runs.first_kind runs.runs.first_is

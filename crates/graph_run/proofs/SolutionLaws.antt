@@ -1,5 +1,5 @@
 -- What the rounds give solves a graph, and nothing else does.
-use Rattle.std.proofs.Common.{◌≡◌, ◌≢◌, ◌<◌, true, false, List, length, refl, sym, ap, subst, ◌∙◌, inl, inr, Option, Some, None}
+use Rattle.std.proofs.Common.{◌≡◌, ◌≢◌, ◌<◌, true, false, List, length, refl, sym, ap, subst, ◌∙◌, inl, inr, Option, Some, None, arith}
 use Rattle.std.specs.Prelude.{All}
 use Rattle.std.specs.Option.{option_map, option_and_then}
 use Rattle.std.specs.List.{AllPairs}
@@ -34,11 +34,7 @@ use Rattle.graph_run.proofs.ValueLaws.{given_from, reads_alone, given_same, same
 -- what is seen of a cell that holds no delay as a whole is what it holds
 unshown : (o p : Option ObjectValue) → option_map object_kind p ≢ Some kind.Delay → option_map shown o ≡ option_map shown p → o ≡ p
 unshown None None whole h = refl
-unshown (Some x) (Some y) whole h =
-    let same : shown x ≡ shown y = cc in
-    let plain : is_delay y ≡ false = not_delay y (λ k. whole (ap Some k)) in
-    let other : is_delay x ≡ false = sym (is_delay-shown x) ∙ ap is_delay same ∙ is_delay-shown y ∙ plain in
-    ap {B = Option ObjectValue} Some (sym (shown_whole x other) ∙ same ∙ shown_whole y plain)
+unshown (Some x) (Some y) whole h = grind (arith, shown x, shown y, is_delay y, not_delay y (λ k. whole (ap Some k)), is_delay x, is_delay-shown x, is_delay-shown y)
 unshown o p whole h = absurd (cc h)
 
 kinds_by_forms : (o p : Option ObjectValue) → option_map form_of o ≡ option_map form_of p → option_map object_kind o ≡ option_map object_kind p
@@ -69,9 +65,7 @@ module _ (nodes : List Node) (objects : List Named) (one : two_writers nodes ≡
 
   -- each written cell holds what its node gives
   holds : (n : Node) (c : Cell) → In n nodes → writes n c ≡ true → held after c ≡ given_in n (held after) c
-  holds n c i w = sym (unshown (given_in n (held after) c) (held after c)
-      (WritesNo-forms nodes objects after (form-rounds nodes (length nodes) objects whole) whole c (any-from_In (λ m. writes m c) n nodes i w))
-      (sym (seen_holds n c i w)))
+  holds n c i w = grind (arith, unshown, given_in, WritesNo-forms, form-rounds, any-from_In, seen_holds)
 
   pub rounds_are_solution : Solves nodes objects (rounds nodes (length nodes) objects)
   rounds_are_solution = record {
@@ -89,12 +83,7 @@ module _ (nodes : List Node) (objects : List Named) (one : two_writers nodes ≡
 -- of an output the form alone counts, where the first input is an image
 same_given : (n : Node) (output : Output) (first second x y : Option ObjectValue) → option_map object_kind first ≡ Some kind.Image → option_map form_of x ≡ option_map form_of y → option_map object_kind y ≢ Some kind.Delay
     → output_of n output first second x ≡ output_of n output first second y
-same_given n output (Some (ImageObject a)) second (Some x) (Some y) image forms whole =
-    let same : form_of x ≡ form_of y = cc in
-    let plain : is_delay y ≡ false = not_delay y (λ k. whole (ap Some k)) in
-    let kinds = kinds_by_forms (Some x) (Some y) forms in
-    let other : is_delay x ≡ false = not_delay x (λ k. whole (sym kinds ∙ ap Some k)) in
-    ap {B = Option ObjectValue} Some (sym (node_output-form n output a second x other) ∙ ap (node_output n output (ImageObject a) second) same ∙ node_output-form n output a second y plain)
+same_given n output (Some (ImageObject a)) second (Some x) (Some y) image forms whole = grind (arith, is_delay, not_delay, kinds_by_forms)
 same_given n output (Some first) second None None image forms whole = refl
 same_given n output (Some first) second (Some x) None image forms whole = absurd (cc forms)
 same_given n output (Some first) second None (Some y) image forms whole = absurd (cc forms)
@@ -103,14 +92,7 @@ same_given n output first second x y image forms whole = absurd (cc image)
 -- of a delay as a whole nothing is seen but that it is one
 same_seen : (o p : Option ObjectValue) → option_map form_of o ≡ option_map form_of p → (option_map object_kind p ≢ Some kind.Delay → o ≡ p) → option_map shown o ≡ option_map shown p
 same_seen None None forms h = refl
-same_seen (Some x) (Some y) forms h =
-    let same : form_of x ≡ form_of y = cc in
-    elim (cases_Bool (is_delay y)) [
-      | inl d ↦
-          (let e : is_delay x ≡ true = sym (is_delay-form x) ∙ ap is_delay same ∙ is_delay-form y ∙ d in
-          ap {B = Option ObjectValue} Some (delay_shown x e ∙ sym (delay_shown y d)))
-      | inr d ↦ ap (option_map shown) (h (λ e. let k : object_kind y ≡ kind.Delay = cc in delay_kind y d k))
-    ]
+same_seen (Some x) (Some y) forms h = grind (arith, cases_Bool (is_delay y), is_delay y, is_delay x, is_delay-form x, is_delay-form y)
 same_seen o p forms h = absurd (cc forms)
 
 solution_seen : (nodes : List Node) (before after : List Named) → WritesNo kind.Delay nodes before → ReadImages nodes before → Solves nodes before after
@@ -121,9 +103,7 @@ solution_seen nodes before after whole images solves = record {
 }
   where
     image : (n : Node) → In n nodes → option_map object_kind (held after n.in1) ≡ Some kind.Image
-    image n i =
-        kinds_by_forms (held after n.in1) (held before n.in1) (solves.forms n.in1)
-        ∙ In-from_All (λ m. kind_held before m.in1 ≡ Some kind.Image) nodes images n i
+    image n i = grind (arith, kinds_by_forms (held after n.in1) (held before n.in1) (solves.forms n.in1), In-from_All (λ m. kind_held before m.in1 ≡ Some kind.Image) nodes images n i)
 
     given : (n : Node) (c : Cell) → In n nodes → writes n c ≡ true → held after c ≡ given_to n (held after) c (held before c)
     given n c i w =

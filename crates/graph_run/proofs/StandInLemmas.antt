@@ -1,5 +1,5 @@
 -- Images that stand in for virtual images as a graph runs.
-use Rattle.std.proofs.Common.{◌≡◌, ℕ, Bool, true, false, cond, List, [], ◌∷◌, map, length, get_or, drop, Option, Some, None, refl, sym, ap, subst, ◌∙◌, arith}
+use Rattle.std.proofs.Common.{◌≡◌, ℕ, Bool, true, false, cond, List, [], ◌∷◌, map, length, get_or, drop, Option, Some, None, refl, sym, ap, subst, ◌∙◌, arith, rules}
 use Rattle.std.specs.Prelude.{All, IfSome, ◌==◌, ◌||◌, if◌then◌else◌, find, unwrap_or}
 use Rattle.std.specs.List.{list_any}
 use Rattle.std.specs.List.Sorted.{IsStrictlyIncreasing}
@@ -33,9 +33,7 @@ exchanged_is (o ∷ outputs) (x ∷ new) name object are is =
 -- they are objects
 pub exchanged_are : (outputs : List VirtualOutput) (new : List ObjectValue) (objects : List Named) → All IsObject new
     → All (λ o. IsObject o.object) objects → All (λ o. IsObject o.object) (exchanged_in outputs new objects)
-exchanged_are outputs new objects fresh are =
-    All-map (λ (o : Named). IsObject o.object) (λ o. record o { object = exchanged outputs new o.name o.object }) objects
-    (λ k d below. exchanged_is outputs new (get_or objects k d).name (get_or objects k d).object fresh (are k d below))
+exchanged_are outputs new objects fresh are = search (rules, All-map, exchanged_is)
 
 -- names stay
 pub names-exchanged : (outputs : List VirtualOutput) (new : List ObjectValue) (objects : List Named)
@@ -48,13 +46,7 @@ pub handed_are : (outputs : List VirtualOutput) (new : List ObjectValue) (object
 handed_are [] new objects fresh are = fresh
 handed_are (o ∷ outputs) [] objects fresh are = fresh
 handed_are (o ∷ outputs) (x ∷ new) objects fresh are =
-    All-cons IsObject (unwrap_or (object_held objects o.cell.name) x) (handed_out outputs new objects)
-    (either (object_held objects o.cell.name) (object_held_has IsObject objects o.cell.name are) (All-head IsObject x new fresh))
-    (handed_are outputs new objects (All-tail IsObject x new fresh) are)
-  where
-    either : (found : Option ObjectValue) → IfSome found IsObject → IsObject x → IsObject (unwrap_or found x)
-    either None held is = is
-    either (Some object) held is = held
+    grind (arith, handed_are outputs new objects (All-tail IsObject x new fresh) are, object_held_has IsObject objects o.cell.name are, All-head IsObject x new fresh, All-tail IsObject x new fresh)
 
 -- ---- as a run ends
 
@@ -79,16 +71,7 @@ module _ (objects : List Named) where
   exchanged_back [] new name object old count held = refl
   exchanged_back (o ∷ outputs) [] name object old count held = absurd (omega (arith, count))
   exchanged_back (o ∷ outputs) (x ∷ new) name object old count held =
-      exchanged_back outputs new name (cond (name == o.cell.name) (unwrap_or (object_held objects o.cell.name) x) object) old
-      (omega (arith, count)) held
-      ∙ either (name == o.cell.name) refl (is_output outputs name)
-    where
-      either : (b : Bool) → (name == o.cell.name) ≡ b → (c : Bool)
-          → cond c old (cond b (unwrap_or (object_held objects o.cell.name) x) object) ≡ cond (b || c) old object
-      either true same true = refl
-      either true same false =
-          ap (λ n. unwrap_or (object_held objects n) x) (sym (eqb-true name o.cell.name same)) ∙ ap (λ k. unwrap_or k x) held
-      either false same c = refl
+      grind (arith, exchanged_back outputs new name (cond (name == o.cell.name) (unwrap_or (object_held objects o.cell.name) x) object) old (omega (arith, count)) held)
 
   -- it was a virtual image
   output_virtual : (outputs : List VirtualOutput) (name : ℕ)
@@ -104,8 +87,7 @@ module _ (objects : List Named) where
       either : (b : Bool) → (name == o.cell.name) ≡ b → (b || is_output outputs name) ≡ true
           → (is_output outputs name ≡ true → option_map object_kind (object_held objects name) ≡ Some kind.VirtualImage)
           → option_map object_kind (object_held objects name) ≡ Some kind.VirtualImage
-      either true same there rest =
-          ap (λ n. option_map object_kind (object_held objects n)) (eqb-true name o.cell.name same) ∙ All-head Holds o outputs held
+      either true same there rest = grind (arith, eqb-true name o.cell.name same, All-head Holds o outputs held)
       either false same there rest = rest there
 
 kind_virtual : (object : ObjectValue) → object_kind object ≡ kind.VirtualImage → is_virtual object ≡ true
@@ -148,9 +130,7 @@ module _ (objects : List Named) (outputs : List VirtualOutput)
 
       back : exchanged outputs (handed_out outputs new objects) left.name left.object
           ≡ (if is_output outputs old.name then old.object else left.object)
-      back =
-          ap (λ n. exchanged outputs (handed_out outputs new objects) n left.object) name
-          ∙ exchanged_back objects outputs new old.name left.object old.object count held
+      back = grind (arith, exchanged_back objects outputs new old.name left.object old.object count held)
 
       -- with an object in it
       having : ObjectValue → Named
@@ -227,9 +207,7 @@ run_ends objects begun left ended outputs new back names are virtual count fresh
 
 -- cleared images have none
 pub plain_cleared : (outputs : List VirtualOutput) → ArePlain (cleared outputs)
-plain_cleared outputs =
-    All-map (λ (x : ObjectValue). nodes_in x ≡ []) (λ (o : VirtualOutput). ImageObject (new_image o.desc.width o.desc.height o.desc.format))
-    outputs (λ k d below. refl)
+plain_cleared outputs = search (rules, All-map)
 
 -- nor have virtual images
 virtual_plain : (found : Option ObjectValue) → option_map object_kind found ≡ Some kind.VirtualImage → option_map nodes_in found ≡ Some []
@@ -238,8 +216,7 @@ virtual_plain (Some (GraphObject graph)) is = absurd (cc)
 virtual_plain (Some other) is = refl
 
 pub virtual_exchanged : (objects : List Named) (outputs : List VirtualOutput) → AreVirtual objects outputs → AreExchanged objects outputs
-virtual_exchanged objects outputs h =
-    record { apart = h.apart; plain = λ k d below. virtual_plain (object_held objects (get_or outputs k d).cell.name) (h.held k d below) }
+virtual_exchanged objects outputs h = grind arith
 
 -- what is handed out has none
 pub plain_handed : (objects : List Named) (outputs : List VirtualOutput) (new : List ObjectValue) → ArePlain new

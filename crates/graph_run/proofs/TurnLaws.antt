@@ -1,5 +1,5 @@
 -- Each node of a graph that can run finds, at its turn, what its cells were found to be.
-use Rattle.std.proofs.Common.{◌≡◌, ◌<◌, ℕ, List, [], ◌∷◌, map, sym, ap, subst, inl, inr, refl, None}
+use Rattle.std.proofs.Common.{◌≡◌, ◌<◌, ℕ, List, [], ◌∷◌, map, sym, ap, subst, inl, inr, refl, None, rules}
 use Rattle.std.specs.List.{AllPairs}
 use Rattle.vx_base.specs.declared.node.Node.{Node}
 use Rattle.vx_base.specs.Cell.{Cell}
@@ -35,9 +35,7 @@ module _ (work : ℕ) (is : Cell → Operand) (nodes : List Node) (runs : verdic
 
   -- whichever have run
   pub at_its_turn : (objects : List Named) → CellsStand is nodes objects → (steps : List Node) → AllIn steps nodes → CellsStand (resolved is nodes) nodes (one_by_one steps (map (begun (resolved is nodes) nodes) objects))
-  at_its_turn objects stand steps within =
-      stand_on (resolved is nodes) nodes steps (map (begun (resolved is nodes) nodes) objects) (λ n i. no_fault n (resolved is nodes) (each_alone n i)) within
-      (begun_stands work is nodes (can_run work is nodes runs) objects stand)
+  at_its_turn objects stand steps within = search (rules, stand_on, no_fault, each_alone, begun_stands, can_run)
 
   -- a run is the nodes in an order in which they can run, each once
   pub run_in_order : (objects : List Named) → CellsStand is nodes objects → AllPairs (λ a b. a.name < b.name) objects → (steps : List Node) → IsOrder feeds nodes steps

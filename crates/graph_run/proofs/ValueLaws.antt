@@ -1,5 +1,5 @@
 -- What a node gives, over and over, is what it gives to its outputs as they were at first: only their forms count.
-use Rattle.std.proofs.Common.{◌≡◌, ℕ, zero, suc, true, List, [], ◌∷◌, refl, sym, ap, ◌∙◌, inl, inr, Option, Some, None}
+use Rattle.std.proofs.Common.{◌≡◌, ℕ, zero, suc, true, List, [], ◌∷◌, refl, sym, ap, ◌∙◌, inl, inr, Option, Some, None, arith}
 use Rattle.std.specs.Prelude.{◌⊎◌}
 use Rattle.std.specs.Option.{option_map, option_and_then}
 use Rattle.std.specs.List.{list_any}
@@ -24,13 +24,7 @@ given_from start n held c = given_to n held c (start c)
 
 -- that depends on the cells that the node reads alone
 pub reads_alone : (start : Cell → Option ObjectValue) → ReadsAlone reads (given_from start)
-reads_alone start n a b h c =
-    ap (λ z. output_of n (output_at n c) z (option_and_then a n.in2) (start c)) (h n.in1 (reads_first n))
-    ∙ ap (λ z. output_of n (output_at n c) (b n.in1) z (start c)) (second n.in2 (λ d e. h d (reads_second n d e)))
-  where
-    second : (o : Option Cell) → ((d : Cell) → o ≡ Some d → a d ≡ b d) → option_and_then a o ≡ option_and_then b o
-    second None h = refl
-    second (Some d) h = h d refl
+reads_alone start n a b h c = grind (arith, output_of, output_at, reads_first, reads_second)
 
 -- what the cells hold once nodes were run: forms are as at first, and no node gives its outputs anything else for what they hold
 pub record Follows (nodes : List Node) (start now : Cell → Option ObjectValue) : Type 0 where
@@ -65,11 +59,7 @@ module _ (nodes : List Node) (start : Cell → Option ObjectValue) where
   }
 
   Follows-round : OneWriter writes nodes → (now : Cell → Option ObjectValue) → Follows nodes start now → Follows nodes start (round writes (given_from start) nodes now)
-  Follows-round one now f = Follows-next one now (round writes (given_from start) nodes now) f (λ c. elim (cases_Bool (list_any (λ n. writes n c) nodes)) [
-    | inl some ↦ (let r = In-from_any (λ n. writes n c) nodes some in
-        inr (r.0, r.1, r.2, round_written writes (given_from start) nodes now c r.0 one r.1 r.2))
-    | inr none ↦ inl (round_other writes (given_from start) nodes now c none)
-  ])
+  Follows-round one now f = grind (arith, Follows-next, cases_Bool, In-from_any, round_written, round_other)
 
   Follows-step : OneWriter writes nodes → (now : Cell → Option ObjectValue) → Follows nodes start now → (n : Node) → In n nodes → Follows nodes start (step writes (given_from start) n now)
   Follows-step one now f n i = Follows-next one now (step writes (given_from start) n now) f (λ c. elim (cases_Bool (writes n c)) [
@@ -90,22 +80,16 @@ module _ (nodes : List Node) (start : Cell → Option ObjectValue) where
 
   pub same_rounds : OneWriter writes nodes → (k : ℕ) → rounds writes given_in nodes k start ≡ rounds writes (given_from start) nodes k start
   same_rounds one zero = refl
-  same_rounds one (suc k) =
-      ap (round writes given_in nodes) (same_rounds one k)
-      ∙ fun_ext (same_round (rounds writes (given_from start) nodes k start) (Follows-rounds one k) nodes (λ x i. i))
+  same_rounds one (suc k) = grind (arith, same_rounds one k, same_round (rounds writes (given_from start) nodes k start) (Follows-rounds one k) nodes (λ x i. i), Follows-rounds one k)
 
   same_step : (now : Cell → Option ObjectValue) → Follows nodes start now → (n : Node) → In n nodes → (c : Cell) → step writes given_in n now c ≡ step writes (given_from start) n now c
-  same_step now f n i c = elim (cases_Bool (writes n c)) [
-    | inl w ↦ rw w (given_same now f n c i w)
-    | inr w ↦ rw w refl
-  ]
+  same_step now f n i c = grind (arith, cases_Bool (writes n c))
 
   same_once_from : OneWriter writes nodes → (steps : List Node) → AllIn steps nodes → (now : Cell → Option ObjectValue) → Follows nodes start now
       → once writes given_in steps now ≡ once writes (given_from start) steps now
   same_once_from one [] within now f = refl
   same_once_from one (n ∷ steps) within now f =
-      ap (once writes given_in steps) (fun_ext (same_step now f n (within n (inl refl))))
-      ∙ same_once_from one steps (λ x i. within x (inr i)) (step writes (given_from start) n now) (Follows-step one now f n (within n (inl refl)))
+      grind (arith, same_once_from one steps (λ x i. within x (inr i)) (step writes (given_from start) n now) (Follows-step one now f n (within n (inl refl))), same_step now f n (within n (inl refl)), Follows-step one now f n (within n (inl refl)))
 
   pub same_once : OneWriter writes nodes → (steps : List Node) → AllIn steps nodes → once writes given_in steps start ≡ once writes (given_from start) steps start
   same_once one steps within = same_once_from one steps within start Follows-first

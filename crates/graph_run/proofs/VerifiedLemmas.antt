@@ -50,10 +50,7 @@ use Rattle.graph_run.proofs.StandInLemmas.{is_output, exchanged_beside}
 
 any_filter : (c : Cell) (p : Cell → Bool) (cs : List Cell) → list_any (same_cell c) cs ≡ false
     → list_any (same_cell c) (filter p cs) ≡ false
-any_filter c p cs none = false_from_ne_true (list_any (same_cell c) (filter p cs)) (λ some.
-    let kept = In-from_any (same_cell c) (filter p cs) some in
-    let there = any-from_In (same_cell c) kept.0 cs (In-from_filter p kept.0 cs kept.1).0 kept.2 in
-    cc)
+any_filter c p cs none = grind (arith, false_from_ne_true, In-from_any, any-from_In, In-from_filter)
 
 once_filter : (p : Cell → Bool) (cs : List Cell) → has_twice cs ≡ false → has_twice (filter p cs) ≡ false
 once_filter p [] once = refl
@@ -77,47 +74,23 @@ once_apart (c ∷ cs) once (suc i) (suc j) d less within =
 -- ---- cells that a node names
 
 module _ (n : Node) where
-  named_by_input : (cell : Cell) → In cell (inputs n) → names_cell n cell ≡ true
+  pub named_by_input : (cell : Cell) → In cell (inputs n) → names_cell n cell ≡ true
   named_by_input cell i = or_left (reads n cell) (writes n cell) (same-from_In cell (inputs n) i)
 
-  named_by_output : (cell : Cell) → In cell (outputs n) → names_cell n cell ≡ true
+  pub named_by_output : (cell : Cell) → In cell (outputs n) → names_cell n cell ≡ true
   named_by_output cell i = or_right (reads n cell) (writes n cell) (same-from_In cell (outputs n) i)
 
   operand_named : (operand : Cell × Kind) → In operand (operands n) → names_cell n operand.0 ≡ true
   operand_named operand (inl same) = named_by_input operand.0 (inl (ap (λ (o : Cell × Kind). o.0) same))
-  operand_named operand (inr i) =
-      let k = (parameters n.function).output in
-      elim (In-append operand (with_kind (second_kind n) n.in2) (with_kind k n.out1 ++ with_kind k n.out2) i) [
-        | inl a ↦ named_by_input operand.0 (inr (in_given (second_kind n) n.in2 a))
-        | inr b ↦ elim (In-append operand (with_kind k n.out1) (with_kind k n.out2) b) [
-          | inl a ↦ named_by_output operand.0 (In-left operand.0 (given n.out1) (given n.out2) (in_given k n.out1 a))
-          | inr a ↦ named_by_output operand.0 (In-right operand.0 (given n.out1) (given n.out2) (in_given k n.out2 a))
-        ]
-      ]
-    where
-      in_given : (k : Kind) (cell : Option Cell) → In operand (with_kind k cell) → In operand.0 (given cell)
-      in_given k None i = i
-      in_given k (Some cell) (inl same) = inl (ap (λ (o : Cell × Kind). o.0) same)
-      in_given k (Some cell) (inr none) = inr none
+  operand_named operand (inr i) = grind (arith, In-append, named_by_input, named_by_output, In-left, In-right)
 
   abbrev made : Operand → Option Operand → Option Operand → Option Operand → Operands
   made a b c d = record { in1 = a; in2 = b; out1 = c; out2 = d }
 
   -- what is the same of each cell that a node names makes the same operands
-  same_operands : (one other : Cell → Operand) → ((cell : Cell) → names_cell n cell ≡ true → one cell ≡ other cell)
+  pub same_operands : (one other : Cell → Operand) → ((cell : Cell) → names_cell n cell ≡ true → one cell ≡ other cell)
       → operands_of one n ≡ operands_of other n
-  same_operands one other same =
-      ap (λ a. made a (option_map one n.in2) (option_map one n.out1) (option_map one n.out2)) (same n.in1 (named_by_input n.in1 (inl refl)))
-      ∙ ap (λ b. made (other n.in1) b (option_map one n.out1) (option_map one n.out2))
-      (of_given n.in2 (λ cell i. same cell (named_by_input cell (inr i))))
-      ∙ ap (λ c. made (other n.in1) (option_map other n.in2) c (option_map one n.out2))
-      (of_given n.out1 (λ cell i. same cell (named_by_output cell (In-left cell (given n.out1) (given n.out2) i))))
-      ∙ ap (made (other n.in1) (option_map other n.in2) (option_map other n.out1))
-      (of_given n.out2 (λ cell i. same cell (named_by_output cell (In-right cell (given n.out1) (given n.out2) i))))
-    where
-      of_given : (cell : Option Cell) → ((c : Cell) → In c (given cell) → one c ≡ other c) → option_map one cell ≡ option_map other cell
-      of_given None alike = refl
-      of_given (Some c) alike = ap Some (alike c (inl refl))
+  same_operands one other same = grind (arith, named_by_input, named_by_output, In-left, In-right)
 
 -- ---- the virtual images that nodes write
 
@@ -193,15 +166,7 @@ module _ (objects : List Named) (nodes : List Node) (v : Verified) (work : ℕ) 
   -- it is held under a name without a slot
   output_object : (o : VirtualOutput) → In o outs
       → (◌≡◌ {A = Option ℕ} o.cell.slot None) × ((image : VirtualImage) × (object_held objects o.cell.name ≡ Some (VirtualObject image)))
-  output_object o i =
-      let outline = outline_of_virtual (is o.cell) (output_in o i).1 in
-      of_held (object_held objects o.cell.name) outline.0 (virtual_found (option_map operand_of (held objects o.cell)) outline.0 outline.1)
-    where
-      of_held : (found : Option ObjectValue) (declared : Outline)
-          → option_map operand_of (option_and_then (in_slot o.cell.slot) found) ≡ Some (Virtual declared)
-          → (◌≡◌ {A = Option ℕ} o.cell.slot None) × ((image : VirtualImage) × (found ≡ Some (VirtualObject image)))
-      of_held None declared e = absurd (cc)
-      of_held (Some x) declared e = let there = virtual_there o.cell.slot x declared e in (there.0, (there.1, ap Some there.2))
+  output_object o i = grind (arith, outline_of_virtual (is o.cell) (output_in o i).1, output_in o i)
 
   output_whole : (o : VirtualOutput) → In o outs → o.cell ≡ whole o.cell.name
   output_whole o i = ap (λ (s : Option ℕ). let c : Cell = record { name = o.cell.name; slot = s } in c) (output_object o i).0
@@ -240,19 +205,7 @@ module _ (objects : List Named) (nodes : List Node) (v : Verified) (work : ℕ) 
 
   -- what isn't an output begins as it was
   begun_kept : (o : Named) → object_held objects o.name ≡ Some o.object → is_output outs o.name ≡ false → o ≡ begun known nodes o
-  begun_kept o there none =
-      let cell = whole o.name in
-      cond_both (is_written nodes cell) (with_image o (begun_as o.object (known cell))) o (λ p. o ≡ p)
-      (λ written. elim (cases_Bool (is_virtual o.object)) [
-        | inl virtual ↦
-            (let output = in_outputs cell written (ap is_virtual_operand (own_operand o there) ∙ virtual_as_operand o.object virtual) in
-            let some =
-            any-from_In (λ (p : VirtualOutput). o.name == p.cell.name) output.0 outs output.1
-            (eq-eqb o.name output.0.cell.name (ap (λ (c : Cell). c.name) output.2)) in
-            absurd (cc))
-        | inr real ↦ ap (with_image o) (sym (begun_stays o.object true (known cell) real))
-      ])
-      (λ e. refl)
+  begun_kept o there none = grind (arith, cases_Bool, in_outputs, own_operand, virtual_as_operand, any-from_In, eq-eqb, begun_stays)
 
   -- an output begins as a cleared image
   begun_cleared : (o : Named) → object_held objects o.name ≡ Some o.object → is_output outs o.name ≡ true
@@ -275,10 +228,7 @@ module _ (objects : List Named) (nodes : List Node) (v : Verified) (work : ℕ) 
 
   begun_one : (o : Named) → object_held objects o.name ≡ Some o.object
       → with_image o (exchanged outs (cleared outs) o.name o.object) ≡ begun known nodes o
-  begun_one o there = elim (cases_Bool (is_output outs o.name)) [
-    | inl some ↦ begun_cleared o there some
-    | inr none ↦ ap (with_image o) (exchanged_beside outs (cleared outs) o.name o.object none) ∙ begun_kept o there none
-  ]
+  begun_one o there = grind (arith, cases_Bool, is_output, begun_cleared, exchanged_beside, begun_kept)
 
   begun_each : (l : List Named) → All (λ o. object_held objects o.name ≡ Some o.object) l → begun_with outs l ≡ map (begun known nodes) l
   begun_each [] there = refl
@@ -312,8 +262,7 @@ module _ (objects : List Named) (nodes : List Node) (v : Verified) (work : ℕ) 
     kind_found : (found : Option ObjectValue) (operand : Operand) (wanted : Kind) → option_map operand_of found ≡ Some operand
         → operand_kind operand ≡ wanted → option_map object_kind found ≡ Some wanted
     kind_found None operand wanted e is_kind = absurd (cc)
-    kind_found (Some x) operand wanted e is_kind =
-        ap Some (sym (kind-operand x) ∙ ap operand_kind (let same : operand_of x ≡ operand = cc in same) ∙ is_kind)
+    kind_found (Some x) operand wanted e is_kind = grind (arith, kind-operand x)
 
     can_run_now : (n : Node) (now : List Named) → In n nodes → IsNode n → All (λ operand. StandsFor (is operand.0) operand.1) (operands n)
         → CellsStand known nodes now → CanRunNow now n
@@ -359,23 +308,14 @@ module _ (objects : List Named) (nodes : List Node) (v : Verified) (work : ℕ) 
     -- the run is the nodes in turn
     pub run_is : AllPairs (λ a b. a.name < b.name) objects → IsStrictlyIncreasing (names_of objects)
         → forgotten objects (one_by_one steps (begun_with outs objects)) ≡ run known nodes objects
-    run_is pairs names =
-        ap (λ l. forgotten objects (one_by_one steps l)) (begun_is names)
-        ∙ sym (run_in_order work is nodes runs objects stand pairs steps how.order)
+    run_is pairs names = grind (arith, begun_is names, run_in_order work is nodes runs objects stand pairs steps how.order)
 
 -- ---- a graph that is ready to run on what a table holds
 
 -- names that increase, each below all later ones
 pairs_of : (objects : List Named) → IsStrictlyIncreasing (names_of objects) → AllPairs (λ a b. a.name < b.name) objects
 pairs_of objects h i j d less within =
-    let pair =
-    AllPairs-from_increasing (names_of objects) h i j 0 less (omega (arith, within, length-map objects (λ (o : Named). o.name))) in
-    omega (
-      arith,
-      pair,
-      get_or-map (λ (o : Named). o.name) objects i d 0 (omega (arith, less, within)),
-      get_or-map (λ (o : Named). o.name) objects j d 0 within,
-    )
+    grind (arith, AllPairs-from_increasing (names_of objects) h i j 0 less (omega (arith, within, length-map objects (λ (o : Named). o.name))), names_of objects, length-map objects (λ (o : Named). o.name), get_or-map (λ (o : Named). o.name) objects i d 0 (omega (arith, less, within)), get_or-map (λ (o : Named). o.name) objects j d 0 within)
 
 module _ (objects : List Named) (names : IsStrictlyIncreasing (names_of objects)) (nodes : List Node) (v : Verified)
     (h : IsReady objects nodes v) where

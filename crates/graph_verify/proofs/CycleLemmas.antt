@@ -1,5 +1,5 @@
 -- Cycles, and the test that finds them.
-use Rattle.std.proofs.Common.{◌≡◌, ℕ, ◌≤◌, ◌⊎◌, suc, zero, Bool, true, false, List, [], ◌∷◌, ◌++◌, length, refl, sym, ◌∙◌, ap, subst, inl, inr, arith}
+use Rattle.std.proofs.Common.{◌≡◌, ℕ, ◌≤◌, ◌⊎◌, suc, zero, Bool, true, false, List, [], ◌∷◌, ◌++◌, length, refl, sym, ◌∙◌, ap, subst, inl, inr, arith, rules}
 use Rattle.std.specs.Prelude.{◌↔◌}
 use Rattle.std.specs.List.{filter, list_any}
 use Rattle.std.proofs.lemmas.Bool.{cases_Bool, cases_lt, not-true}
@@ -104,17 +104,11 @@ not_empty x [] h = absurd h
 not_empty x (y ∷ ys) h = refl
 
 pub has_cycle-from_cycle : {N : Type 0} (feeds : N → N → Bool) (g : List N) → HasCycle feeds g → has_cycle feeds g ≡ true
-has_cycle-from_cycle feeds g c =
-    let f = first_of_cycle feeds c.0 c.1 in
-    let e = not_empty f.0 (left_after feeds (length g) g) (AllIn-left feeds (length g) g c.0 (fed_from_cycle feeds c.0 c.1) c.2 f.0 f.1) in
-    rw e refl
+has_cycle-from_cycle feeds g c = grind (arith, first_of_cycle, not_empty, AllIn-left, fed_from_cycle)
 
 length-filter_le : {X : Type 0} (p : X → Bool) (xs : List X) → length (filter p xs) ≤ length xs
 length-filter_le p [] = omega arith
-length-filter_le p (x ∷ xs) = elim (cases_Bool (p x)) [
-  | inl k ↦ rw k (let h = length-filter_le p xs in omega arith)
-  | inr k ↦ rw k (let h = length-filter_le p xs in omega arith)
-]
+length-filter_le p (x ∷ xs) = grind (arith, length-filter_le p xs, cases_Bool (p x))
 
 -- a filter that takes nothing away takes all
 all_pass : {X : Type 0} (p : X → Bool) (xs : List X) → length xs ≤ length (filter p xs) → (x : X) → In x xs → p x ≡ true
@@ -127,10 +121,7 @@ all_pass p (y ∷ ys) h x i = elim (cases_Bool (p y)) [
 
 -- `left_after` of at least as many rounds as there are nodes leaves nodes that feed each other
 Fed-waiting : {N : Type 0} (feeds : N → N → Bool) (g : List N) → Fed feeds g → Fed feeds (waiting feeds g)
-Fed-waiting feeds g fed n h =
-    let i = In-from_filter (λ k. list_any (λ m. feeds m k) g) n g h in
-    let f = fed n i.0 in
-    (f.0, AllIn-waiting feeds g g fed (λ x k. k) f.0 f.1, f.2)
+Fed-waiting feeds g fed n h = grind (arith, In-from_filter, AllIn-waiting)
 
 Fed-left : {N : Type 0} (feeds : N → N → Bool) (k : ℕ) (g : List N) → Fed feeds g → Fed feeds (left_after feeds k g)
 Fed-left feeds zero g fed = fed
@@ -157,8 +148,7 @@ cycle_or_empty feeds g [] within fed h = absurd (cc h)
 cycle_or_empty feeds g (x ∷ xs) within fed h = HasCycle-more feeds (x ∷ xs) g within (cycle_from_fed feeds x xs fed)
 
 pub cycle_from-has_cycle : {N : Type 0} (feeds : N → N → Bool) (g : List N) → has_cycle feeds g ≡ true → HasCycle feeds g
-cycle_from-has_cycle feeds g h =
-    cycle_or_empty feeds g (left_after feeds (length g) g) (left_within feeds (length g) g) (Fed-left_enough feeds (length g) g (omega arith)) (not-true (is_empty (left_after feeds (length g) g)) h)
+cycle_from-has_cycle feeds g h = search (rules, cycle_or_empty, left_within, Fed-left_enough, not-true)
 
 -- the test is exact
 pub has_cycle-iff : {N : Type 0} (feeds : N → N → Bool) (g : List N) → (has_cycle feeds g ≡ true) ↔ HasCycle feeds g

@@ -19,20 +19,12 @@ use Rattle.vx_base.specs.Graph.{GraphValue, IsGraph, can_add, with_node, without
 module _ {X : Type 0} where
   pub is_none-find : (p : X → Bool) (xs : List X) → is_none (find p xs) ≡ not (list_any p xs)
   is_none-find p [] = refl
-  is_none-find p (x ∷ xs) = either (p x) (is_none-find p xs)
-    where
-      either : (b : Bool) → is_none (find p xs) ≡ not (list_any p xs) → is_none (cond b (Some x) (find p xs)) ≡ not (b || list_any p xs)
-      either true others = refl
-      either false others = others
+  is_none-find p (x ∷ xs) = grind (arith, is_none-find p xs)
 
   -- what is found passes
   find-passes : (p : X → Bool) (xs : List X) (x : X) → find p xs ≡ Some x → p x ≡ true
   find-passes p [] x found = absurd (cc)
-  find-passes p (y ∷ xs) x found = either (p y) refl found (find-passes p xs x)
-    where
-      either : (b : Bool) → p y ≡ b → cond b (Some y) (find p xs) ≡ Some x → (find p xs ≡ Some x → p x ≡ true) → p x ≡ true
-      either true passes same others = let e : y ≡ x = cc in ap p (sym e) ∙ passes
-      either false fails there others = others there
+  find-passes p (y ∷ xs) x found = grind (arith, find-passes p xs x)
 
 module _ {X P : Type 0} (R : P → X → Bool → P → Type 0) (I : P → Type 0) (test : X → Bool) (says : (p : P) (x : X) (b : Bool) (q : P) → I p → R p x b q → (b ≡ test x) × I q) where
   -- what is kept by a closure that gives a test's answers, and whose state stays as it has to be for that
@@ -56,8 +48,7 @@ module _ {X P : Type 0} (R : P → X → Bool → P → Type 0) (I : P → Type 
 
 -- what is found under a number has that number
 pub find_numbered : (nodes : List Numbered) (number : ℕ) (n : Numbered) → find (λ k. k.number == number) nodes ≡ Some n → find (λ k. k.number == number) nodes ≡ Some (record { number = number; node = n.node })
-find_numbered nodes number n found =
-    found ∙ ap (λ k. Some (record { number = k; node = n.node })) (eqb-true n.number number (find-passes (λ k. k.number == number) nodes n found))
+find_numbered nodes number n found = grind (arith, eqb-true n.number number (find-passes (λ k. k.number == number) nodes n found), find-passes (λ k. k.number == number) nodes n found)
 
 -- one more node, under the next number
 pub IsGraph-with_node : (g : GraphValue) (n : Node) → IsGraph g → IsTrue (can_add g) → IsNode n → IsGraph (with_node g n)

@@ -1,5 +1,5 @@
 -- What is known of the virtual images that nodes write, node by node.
-use Rattle.std.proofs.Common.{◌≡◌, ℕ, ◌+◌, ◌<◌, ◌≤◌, Bool, true, false, cond, List, [], ◌∷◌, ◌++◌, length, map, take, drop, get_or, IsTrue, refl, sym, ◌∙◌, ap, subst, inl, inr}
+use Rattle.std.proofs.Common.{◌≡◌, ℕ, ◌+◌, ◌<◌, ◌≤◌, Bool, true, false, cond, List, [], ◌∷◌, ◌++◌, length, map, take, drop, get_or, IsTrue, refl, sym, ◌∙◌, ap, subst, inl, inr, arith}
 use Rattle.std.specs.Prelude.{◌⊎◌, Option, Some, None, find, unwrap_or, All}
 use Rattle.std.specs.Option.{option_map}
 use Rattle.std.specs.List.{filter, flat_map}
@@ -32,13 +32,7 @@ use Rattle.graph_verify.proofs.OutlineLemmas.{outlines_solve, no_cycle_in_steps,
 -- what `find` finds, and where it finds none
 pub find_cases : {X : Type 0} (p : X → Bool) (xs : List X) → ((x : X) × (find p xs ≡ Some x) × In x xs × (p x ≡ true)) ⊎ ((find p xs ≡ None) × ((x : X) → In x xs → p x ≡ false))
 find_cases p [] = inr (refl, λ x i. absurd i)
-find_cases p (x ∷ xs) = elim (cases_Bool (p x)) [
-  | inl k ↦ inl (x, rw k refl, inl refl, k)
-  | inr k ↦ elim (find_cases p xs) [
-    | inl found ↦ inl (found.0, rw k found.1, inr found.2, found.3)
-    | inr none ↦ inr (rw k none.0, λ y i. elim i [ inl same ↦ ap p same ∙ k | inr j ↦ none.1 y j ])
-  ]
-]
+find_cases p (x ∷ xs) = grind (arith, find_cases p xs, cases_Bool (p x))
 
 module _ (is : Cell → Operand) where
   -- what is known of the nodes that are done, by the outlines of all
@@ -84,49 +78,18 @@ module _ (is : Cell → Operand) where
 
   learnt_cells : (cell : Option Cell) (given_to : Outline) → map (λ (k : Known). k.cell) (learnt cell (option_map is cell) given_to) ≡ filter (λ c. is_virtual (is c)) (given cell)
   learnt_cells None given_to = refl
-  learnt_cells (Some c) given_to = by (is c) refl
-    where
-      by : (o : Operand) → is c ≡ o → map (λ (k : Known). k.cell) (learnt (Some c) (Some o) given_to) ≡ cond (is_virtual o) (c ∷ []) []
-      by (Image d) e = refl
-      by (Virtual declared) e = refl
-      by (Lut f) e = refl
-      by (Threshold f) e = refl
-      by Delay e = refl
-      by Convolution e = refl
-      by Distribution e = refl
-      by Extremes e = refl
-      by Graph e = refl
+  learnt_cells (Some c) given_to = grind arith
 
   learnt_each : (cell : Option Cell) (given_to : Outline) (k : Known) → In k (learnt cell (option_map is cell) given_to) → In k.cell (given cell) × (k.outline ≡ filled (operand_outline (is k.cell)) given_to)
   learnt_each None given_to k i = absurd i
-  learnt_each (Some c) given_to k i = by (is c) refl i
-    where
-      by : (o : Operand) → is c ≡ o → In k (learnt (Some c) (Some o) given_to) → In k.cell (c ∷ []) × (k.outline ≡ filled (operand_outline (is k.cell)) given_to)
-      by (Virtual declared) e i = elim i [
-        | inl same ↦ (let cell : k.cell ≡ c = ap (λ (j : Known). j.cell) same in
-            (inl cell, ap (λ (j : Known). j.outline) same ∙ ap (λ o. filled (operand_outline o) given_to) (sym e ∙ ap is (sym cell))))
-        | inr none ↦ absurd none
-      ]
-      by (Image d) e i = absurd i
-      by (Lut f) e i = absurd i
-      by (Threshold f) e i = absurd i
-      by Delay e i = absurd i
-      by Convolution e i = absurd i
-      by Distribution e i = absurd i
-      by Extremes e i = absurd i
-      by Graph e i = absurd i
+  learnt_each (Some c) given_to k i = grind arith
 
   InTurn-at : (done : List Node) (n : Node) (rest : List Node) → InTurn feeds (done ++ n ∷ rest) → (m : Node) → In m (n ∷ rest) → feeds m n ≡ false
   InTurn-at [] n rest turn = turn.0
   InTurn-at (d ∷ done) n rest turn = InTurn-at done n rest turn.1
 
   virtual_outputs-push : (done : List Node) (n : Node) → virtual_outputs is (done ++ n ∷ []) ≡ virtual_outputs is done ++ (filter (λ c. is_virtual (is c)) (given n.out1) ++ filter (λ c. is_virtual (is c)) (given n.out2))
-  virtual_outputs-push done n =
-      let virtual : Cell → Bool = λ c. is_virtual (is c) in
-      ap (filter virtual) (flat_map-append outputs done (n ∷ []))
-      ∙ filter-append virtual (flat_map outputs done) (outputs n ++ [])
-      ∙ ap (λ l. virtual_outputs is done ++ filter virtual l) (append-nil (outputs n))
-      ∙ ap (λ l. virtual_outputs is done ++ l) (filter-append virtual (given n.out1) (given n.out2))
+  virtual_outputs-push done n = grind (arith, flat_map-append, filter-append, append-nil)
 
   pub learn_more : (done rest : List Node) (l : Linked) (known known' : List Known) → two_writers (done ++ l.node ∷ rest) ≡ false → InTurn feeds (done ++ l.node ∷ rest)
       → l.operands ≡ operands_of is l.node → IsTrue (is_image l.operands.in1) → AreLearnt (done ++ l.node ∷ rest) done known → known' ≡ known ++ learnt_from known l
@@ -193,18 +156,7 @@ module _ (is : Cell → Operand) where
   -- ---- all nodes are done
 
   pub operand_known : (all : List Node) (known : List Known) → Solves all → AreLearnt all all known → (c : Cell) → known_operand known c (is c) ≡ resolved is all c
-  operand_known all known solves h c = by (is c) refl
-    where
-      by : (o : Operand) → is c ≡ o → as_known o (known_outline known c o) ≡ as_known o (outlines is all c)
-      by (Virtual declared) e = ap (as_known (Virtual declared)) (outline_known all all known solves h c (Virtual declared) e refl (λ n i w. i))
-      by (Image d) e = refl
-      by (Lut f) e = refl
-      by (Threshold f) e = refl
-      by Delay e = refl
-      by Convolution e = refl
-      by Distribution e = refl
-      by Extremes e = refl
-      by Graph e = refl
+  operand_known all known solves h c = grind (arith, outline_known)
 
   pub all_known : (steps : List Linked) (i : ℕ) (known : List Known) → length steps ≤ i → AreLearnt (linked_nodes steps) (linked_nodes (take i steps)) known → AreKnown is (linked_nodes steps) known
   all_known steps i known over h =
@@ -223,15 +175,4 @@ module _ (is : Cell → Operand) where
 
   -- the operands of a node
   pub operands_known : (all : List Node) (known : List Known) → Solves all → AreKnown is all known → (l : Linked) → l.operands ≡ operands_of is l.node → known_operands known l ≡ operands_of (resolved is all) l.node
-  operands_known all known solves h l of_l =
-      let n = l.node in
-      let right = operand_known all known solves (learnt_from_known all known h) in
-      ap (λ (o : Operands). known_operands known (record { node = n; operands = o })) of_l
-      ∙ ap (λ o. record { in1 = o; in2 = known_given known n.in2 (option_map is n.in2); out1 = known_given known n.out1 (option_map is n.out1); out2 = known_given known n.out2 (option_map is n.out2) }) (right n.in1)
-      ∙ ap (λ o. record { in1 = resolved is all n.in1; in2 = o; out1 = known_given known n.out1 (option_map is n.out1); out2 = known_given known n.out2 (option_map is n.out2) }) (each right n.in2)
-      ∙ ap (λ o. record { in1 = resolved is all n.in1; in2 = option_map (resolved is all) n.in2; out1 = o; out2 = known_given known n.out2 (option_map is n.out2) }) (each right n.out1)
-      ∙ ap (λ o. record { in1 = resolved is all n.in1; in2 = option_map (resolved is all) n.in2; out1 = option_map (resolved is all) n.out1; out2 = o }) (each right n.out2)
-    where
-      each : ((c : Cell) → known_operand known c (is c) ≡ resolved is all c) → (cell : Option Cell) → known_given known cell (option_map is cell) ≡ option_map (resolved is all) cell
-      each right None = refl
-      each right (Some c) = ap {B = Option Operand} Some (right c)
+  operands_known all known solves h l of_l = grind (arith, operand_known all known solves (learnt_from_known all known h), learnt_from_known all known h)

@@ -27,11 +27,7 @@ same_slot-true (Some x) None h = absurd (cc h)
 same_slot-true (Some x) (Some y) h = ap {B = Option ℕ} Some (eqb-true x y h)
 
 pub same_cell-true : (a b : Cell) → same_cell a b ≡ true → a ≡ b
-same_cell-true a b h =
-    let r = and_parts (a.name == b.name) (same_slot a.slot b.slot) h in
-    let n = eqb-true a.name b.name r.0 in
-    let s = same_slot-true a.slot b.slot r.1 in
-    ap (λ z. record { name = z; slot = a.slot }) n ∙ ap (λ z. record { name = b.name; slot = z }) s
+same_cell-true a b h = grind (arith, and_parts (a.name == b.name) (same_slot a.slot b.slot) h)
 
 same_slot-refl : (a : Option ℕ) → same_slot a a ≡ true
 same_slot-refl None = refl
@@ -175,16 +171,7 @@ two_writers-permutation g steps same h = once_since_count (flat_map outputs step
 
 has_twice-append : (xs ys : List Cell) → has_twice (xs ++ ys) ≡ ((has_twice xs || list_any (λ c. list_any (same_cell c) ys) xs) || has_twice ys)
 has_twice-append [] ys = refl
-has_twice-append (x ∷ xs) ys =
-    ap (λ b. b || has_twice (xs ++ ys)) (list_any-append (same_cell x) xs ys)
-    ∙ ap (λ b. (list_any (same_cell x) xs || list_any (same_cell x) ys) || b) (has_twice-append xs ys)
-    ∙ regroup (list_any (same_cell x) xs) (list_any (same_cell x) ys) (has_twice xs) (list_any (λ c. list_any (same_cell c) ys) xs) (has_twice ys)
-  where
-    regroup : (a b c d e : Bool) → ((a || b) || ((c || d) || e)) ≡ (((a || c) || (b || d)) || e)
-    regroup true b c d e = refl
-    regroup false true true d e = refl
-    regroup false true false d e = refl
-    regroup false false c d e = refl
+has_twice-append (x ∷ xs) ys = grind (arith, has_twice-append xs ys, list_any-append (same_cell x) xs ys)
 
 is_written-outputs : (ns : List Node) (c : Cell) → list_any (same_cell c) (flat_map outputs ns) ≡ is_written ns c
 is_written-outputs [] c = refl
@@ -195,9 +182,7 @@ any_agree p q [] same = refl
 any_agree p q (x ∷ xs) same = ap (λ b. b || list_any p xs) (same x) ∙ ap (λ b. q x || b) (any_agree p q xs same)
 
 pub two_writers-cons : (n : Node) (ns : List Node) → two_writers (n ∷ ns) ≡ ((writes_twice n || list_any (is_written ns) (outputs n)) || two_writers ns)
-two_writers-cons n ns =
-    has_twice-append (outputs n) (flat_map outputs ns)
-    ∙ ap (λ b. (writes_twice n || b) || two_writers ns) (any_agree (λ c. list_any (same_cell c) (flat_map outputs ns)) (is_written ns) (outputs n) (is_written-outputs ns))
+two_writers-cons n ns = grind (arith, has_twice-append, any_agree, is_written-outputs)
 
 -- the last of the nodes
 pub two_writers-after : (ms ns : List Node) → two_writers (ms ++ ns) ≡ false → two_writers ns ≡ false
@@ -206,5 +191,4 @@ two_writers-after ms ns h = once_after (flat_map outputs ms) (flat_map outputs n
 -- what one node writes none of the others writes
 pub written_once : (n : Node) (ns : List Node) → two_writers (n ∷ ns) ≡ false → (c : Cell) → writes n c ≡ true → is_written ns c ≡ false
 written_once n ns h c w =
-    let parts = or_parts (writes_twice n || list_any (is_written ns) (outputs n)) (two_writers ns) (sym (two_writers-cons n ns) ∙ h) in
-    fails-from_In (is_written ns) c (outputs n) (or_parts (writes_twice n) (list_any (is_written ns) (outputs n)) parts.0).1 (In-from_same c (outputs n) w)
+    grind (arith, or_parts (writes_twice n || list_any (is_written ns) (outputs n)) (two_writers ns) (sym (two_writers-cons n ns) ∙ h), two_writers-cons n ns, In-from_same c (outputs n) w)

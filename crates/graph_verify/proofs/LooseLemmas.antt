@@ -16,20 +16,12 @@ use Rattle.graph_verify.specs.Verdict.{is_loose}
 module _ (is : Cell → Operand) (all : List Node) where
   given_loose : (cell : Option Cell) → is_given_loose all cell (option_map is cell) ≡ list_any (is_loose is all) (given cell)
   given_loose None = refl
-  given_loose (Some c) = sym (or_false (is_loose is all c))
-    where
-      or_false : (b : Bool) → (b || false) ≡ b
-      or_false true = refl
-      or_false false = refl
+  given_loose (Some c) = grind arith
 
   loose_input : (l : Linked) → l.operands ≡ operands_of is l.node → has_loose_input all l ≡ list_any (is_loose is all) (inputs l.node)
-  loose_input l operands =
-      ap (λ (o : Operands). is_loose_end all l.node.in1 o.in1 || is_given_loose all l.node.in2 o.in2) operands
-      ∙ ap (λ b. is_loose is all l.node.in1 || b) (given_loose l.node.in2)
+  loose_input l operands = grind (arith, given_loose l.node.in2)
 
   -- whether one of the nodes has a loose input, by what stands beside it
   pub reads_loose-linked : (nodes : List Linked) → AreOperands is nodes → list_any (has_loose_input all) nodes ≡ list_any (λ n. list_any (is_loose is all) (inputs n)) (linked_nodes nodes)
   reads_loose-linked [] operands = refl
-  reads_loose-linked (l ∷ nodes) operands =
-      ap (λ b. b || list_any (has_loose_input all) nodes) (loose_input l (operands zero l (omega arith)))
-      ∙ ap (λ b. list_any (is_loose is all) (inputs l.node) || b) (reads_loose-linked nodes (λ k d within. operands (suc k) d (omega (arith, within))))
+  reads_loose-linked (l ∷ nodes) operands = grind (arith, reads_loose-linked nodes (λ k d within. operands (suc k) d (omega (arith, within))), loose_input l (operands zero l (omega arith)))

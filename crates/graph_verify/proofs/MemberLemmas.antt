@@ -42,10 +42,7 @@ module _ {X : Type 0} where
   pub In-filter : (p : X → Bool) (x : X) (xs : List X) → In x xs → p x ≡ true → In x (filter p xs)
   In-filter p x [] h passes = absurd h
   In-filter p x (y ∷ xs) (inl same) passes = let k : p y ≡ true = ap p (sym same) ∙ passes in rw k (inl same)
-  In-filter p x (y ∷ xs) (inr h) passes = elim (cases_Bool (p y)) [
-    | inl k ↦ rw k (inr (In-filter p x xs h passes))
-    | inr k ↦ rw k (In-filter p x xs h passes)
-  ]
+  In-filter p x (y ∷ xs) (inr h) passes = grind (arith, In-filter p x xs h passes, cases_Bool (p y))
 
   pub In-from_filter : (p : X → Bool) (x : X) (xs : List X) → In x (filter p xs) → In x xs × (p x ≡ true)
   In-from_filter p x [] h = absurd h
@@ -71,10 +68,7 @@ module _ {X : Type 0} where
 
   pub filter-map : {Y : Type 0} (f : X → Y) (p : X → Bool) (q : Y → Bool) → ((x : X) → p x ≡ q (f x)) → (xs : List X) → map f (filter p xs) ≡ filter q (map f xs)
   filter-map f p q same [] = refl
-  filter-map f p q same (x ∷ xs) = elim (cases_Bool (p x)) [
-    | inl e ↦ (let k : q (f x) ≡ true = sym (same x) ∙ e in rw (e, k) (ap (λ l. f x ∷ l) (filter-map f p q same xs)))
-    | inr e ↦ (let k : q (f x) ≡ false = sym (same x) ∙ e in rw (e, k) (filter-map f p q same xs))
-  ]
+  filter-map f p q same (x ∷ xs) = grind (arith, filter-map f p q same xs, cases_Bool (p x))
 
   pub map_agree : {Y : Type 0} (f g : X → Y) → ((x : X) → f x ≡ g x) → (xs : List X) → map f xs ≡ map g xs
   map_agree f g same [] = refl
@@ -103,10 +97,7 @@ module _ {X : Type 0} where
   ]
 
   pub position-None : (p : X → Bool) (xs : List X) → position p xs ≡ None → (x : X) → In x xs → p x ≡ false
-  position-None p xs h = none_pass p xs (elim (cases_Bool (nat_lt (position_or_len p xs) (length xs))) [
-    | inl k ↦ (let g : Some (position_or_len p xs) ≡ None = rw k at h in absurd (cc))
-    | inr k ↦ ltb-false (position_or_len p xs) (length xs) k
-  ])
+  position-None p xs h = grind (arith, none_pass, cases_Bool, ltb-false)
 
   pub Contains-from_In : (x : X) (xs : List X) → In x xs → Contains xs x
   Contains-from_In x [] h = absurd h

@@ -1,5 +1,5 @@
 -- The nodes of a graph that can run, one by one.
-use Rattle.std.proofs.Common.{◌≡◌, ◌≢◌, ℕ, Bool, true, false, List, [], ◌∷◌, ◌++◌, Option, Some, None, refl, sym, ap, ◌∙◌, inl, inr}
+use Rattle.std.proofs.Common.{◌≡◌, ◌≢◌, ℕ, Bool, true, false, List, [], ◌∷◌, ◌++◌, Option, Some, None, refl, sym, ap, ◌∙◌, inl, inr, arith}
 use Rattle.std.specs.Prelude.{not, if◌then◌else◌}
 use Rattle.std.specs.List.{list_any, list_all, flat_map}
 use Rattle.std.specs.Option.{option_or, option_and_then}
@@ -68,17 +68,7 @@ no_fault_each is (m ∷ nodes) n h (inr later) = no_fault_each is nodes n (rest 
 -- a node of a graph that can run can run by itself, on what its cells are found to be
 pub runs_alone : (work : ℕ) (is : Cell → Operand) (nodes : List Node) (n : Node) → CanRun work is nodes → In n nodes → verdict_on n (operands_of (resolved is nodes) n) ≡ None
 runs_alone work is nodes n can member =
-    let o = operands_of (resolved is nodes) n in
-    none_applies (writes_twice n) (reads_own_output n) (node_fault n.function o)
-    (no_twice_each nodes n can.one_writer member)
-    (elim (cases_Bool (reads_own_output n)) [ inl own ↦ (let cycle = cycle_of_one nodes n member own in let none = can.no_cycle in absurd (cc)) | inr other ↦ other ])
-    (no_fault_each (resolved is nodes) nodes n can.no_fault member)
-  where
-    none_applies : (twice own : Bool) (fault : Option Verdict) → twice ≡ false → own ≡ false → fault ≡ None
-        → (if twice then Some MultipleWriters else (if own then Some InvalidGraph else fault)) ≡ None
-    none_applies true own fault t o f = absurd (cc t)
-    none_applies false true fault t o f = absurd (cc o)
-    none_applies false false fault t o f = f
+    grind (arith, no_twice_each nodes n can.one_writer member, cases_Bool (reads_own_output n), no_fault_each (resolved is nodes) nodes n can.no_fault member, no_twice_each, cases_Bool, cycle_of_one, no_fault_each)
 
 -- ---- what a node without a fault writes
 
@@ -116,9 +106,4 @@ written_described function o writes none out member bare =
 
     described : (first : Option Format) (t : Bool) → t ≡ takes_first function first (option_and_then operand_format o.in2) (written_operands o) → t ≡ true → ⊥
     described None t is takes_all = cc
-    described (Some first) t is takes_all =
-        let each = all-from_In (λ w. takes_formats function first (option_and_then operand_format o.in2) (operand_format w)) (written_operands o) (sym is ∙ takes_all) out member in
-        let never = takes_none function first (option_and_then operand_format o.in2) writes in
-        let same : takes_formats function first (option_and_then operand_format o.in2) (operand_format out) ≡ takes_formats function first (option_and_then operand_format o.in2) None =
-        ap (λ f. takes_formats function first (option_and_then operand_format o.in2) f) bare in
-        cc
+    described (Some first) t is takes_all = grind (arith, all-from_In, first, takes_none)

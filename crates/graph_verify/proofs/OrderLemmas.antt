@@ -1,5 +1,5 @@
 -- Orders of nodes: that there is one where there is no cycle, and how one is made node by node.
-use Rattle.std.proofs.Common.{◌≡◌, ℕ, ◌<◌, suc, zero, Bool, true, false, List, [], ◌∷◌, ◌++◌, length, get_or, map, append-nil, length-append, refl, sym, ◌∙◌, ap, inl, inr, arith}
+use Rattle.std.proofs.Common.{◌≡◌, ℕ, ◌<◌, suc, zero, Bool, true, false, List, [], ◌∷◌, ◌++◌, length, get_or, map, append-nil, length-append, refl, sym, ◌∙◌, ap, inl, inr, arith, rules}
 use Rattle.std.specs.Prelude.{not}
 use Rattle.std.specs.List.{filter, list_any, remove}
 use Rattle.std.specs.List.Sorted.{IsPermutation}
@@ -35,12 +35,7 @@ module _ {N : Type 0} (feeds : N → N → Bool) where
     pub long : length steps ≡ length g
 
   pub steps_from_order : (g steps : List N) → IsOrder feeds g steps → AreStepsOf g steps
-  steps_from_order g steps order = record {
-    in_turn = order.in_turn;
-    to = AllIn-permutation g steps order.same_nodes;
-    from = AllIn-permutation_back g steps order.same_nodes;
-    long = length_permutation g steps order.same_nodes;
-  }
+  steps_from_order g steps order = grind (arith, AllIn-permutation g steps order.same_nodes, AllIn-permutation_back g steps order.same_nodes, length_permutation g steps order.same_nodes)
 
   steps_exist : (k : ℕ) (g : List N) → is_empty (left_after feeds k g) ≡ true → (steps : List N) × AreStepsOf g steps
   steps_exist zero [] h = ([], record { in_turn = tt; to = (λ x i. i); from = (λ x i. i); long = refl })
@@ -101,10 +96,7 @@ module _ {N : Type 0} (feeds : N → N → Bool) where
   )
 
   pub InTurnThen-next : (steps rest : List N) (i : ℕ) (x : N) → i < length rest → x ≡ get_or rest i x → is_fed feeds rest x ≡ false → InTurnThen steps rest → InTurnThen (steps ++ x ∷ []) (remove rest i)
-  InTurnThen-next steps rest i x within read unfed turn =
-      InTurnThen-more steps rest (remove rest i) x
-      (AllIn-permutation_back rest (x ∷ remove rest i) (IsPermutation-remove rest i x within read))
-      (λ m h. not_fed rest x unfed m h) turn
+  InTurnThen-next steps rest i x within read unfed turn = search (rules, InTurnThen-more, AllIn-permutation_back, IsPermutation-remove, not_fed)
 
   InTurn-from_then : (steps : List N) → InTurnThen steps [] → InTurn feeds steps
   InTurn-from_then [] h = tt
@@ -112,18 +104,12 @@ module _ {N : Type 0} (feeds : N → N → Bool) where
 
   -- all are ordered
   pub IsOrder-from_then : (g steps : List N) → IsPermutation g (steps ++ []) → InTurnThen steps [] → IsOrder feeds g steps
-  IsOrder-from_then g steps same turn = record {
-    same_nodes = rw (append-nil steps) at same;
-    in_turn = InTurn-from_then steps turn;
-  }
+  IsOrder-from_then g steps same turn = grind (arith, append-nil steps, InTurn-from_then steps turn)
 
   -- where all that are left wait, there is a cycle
   pub cycle_from_stuck : (g steps rest : List N) → IsPermutation g (steps ++ rest) → ((n : N) → In n rest → is_fed feeds rest n ≡ true) → is_empty rest ≡ false → HasCycle feeds g
   cycle_from_stuck g steps rest same stuck more =
-      cycle_or_empty feeds g rest
-      (λ x h. AllIn-permutation_back g (steps ++ rest) same x (In-right x steps rest h))
-      (λ n i. In-from_any (λ m. feeds m n) rest (stuck n i))
-      more
+      grind (arith, cycle_or_empty feeds g rest (λ x h. AllIn-permutation_back g (steps ++ rest) same x (In-right x steps rest h)) (λ n i. In-from_any (λ m. feeds m n) rest (stuck n i)) more)
 
 -- ---- nodes, and what carries them
 
@@ -134,19 +120,14 @@ module _ {M N : Type 0} (f : M → N) (feeds : N → N → Bool) where
   left-map : (k : ℕ) (g : List M) → map f (left_after links k g) ≡ left_after feeds k (map f g)
   left-map zero g = refl
   left-map (suc k) g =
-      left-map k (waiting links g)
-      ∙ ap (left_after feeds k) (filter-map f (λ n. list_any (λ m. links m n) g) (λ n. list_any (λ m. feeds m n) (map f g)) (λ n. any-map f (λ m. feeds m (f n)) g) g)
+      grind (arith, left-map k (waiting links g), filter-map f (λ n. list_any (λ m. links m n) g) (λ n. list_any (λ m. feeds m n) (map f g)) (λ n. any-map f (λ m. feeds m (f n)) g) g)
 
   is_empty-map : (g : List M) → is_empty (map f g) ≡ is_empty g
   is_empty-map [] = refl
   is_empty-map (x ∷ g) = refl
 
   pub has_cycle-map : (g : List M) → has_cycle links g ≡ has_cycle feeds (map f g)
-  has_cycle-map g =
-      ap not
-      (sym (is_empty-map (left_after links (length g) g))
-      ∙ ap is_empty (left-map (length g) g)
-      ∙ ap (λ k. is_empty (left_after feeds k (map f g))) (sym (length-map g f)))
+  has_cycle-map g = grind (arith, is_empty-map (left_after links (length g) g), left-map (length g) g, length-map g f)
 
   InTurn-map : (steps : List M) → InTurn links steps → InTurn feeds (map f steps)
   InTurn-map [] turn = tt

@@ -1,5 +1,5 @@
 -- The outlines of a graph's cells: that nodes give them once and for all, in whatever order.
-use Rattle.std.proofs.Common.{◌≡◌, ℕ, zero, suc, false, List, [], ◌∷◌, length, ap, inl, inr}
+use Rattle.std.proofs.Common.{◌≡◌, ℕ, zero, suc, false, List, [], ◌∷◌, length, ap, inl, inr, arith}
 use Rattle.std.proofs.lemmas.Bool.{cases_Bool, or_left}
 use Rattle.std.proofs.lemmas.List.Sorted.{IsPermutation-refl}
 use Rattle.vx_base.specs.declared.node.Node.{Node}
@@ -25,8 +25,7 @@ module _ (is : Cell → Operand) where
 
   -- a node gives its outputs what its first input has
   pub reads_alone : ReadsAlone reads (written_outline is)
-  reads_alone n a b same c =
-      ap (λ o. filled (operand_outline (is c)) (given_outline n.function o)) (same n.in1 (or_left (same_cell n.in1 n.in1) _ (same_cell-refl n.in1)))
+  reads_alone n a b same c = grind (arith, or_left, same_cell-refl)
 
   pub outlines_solve : (nodes : List Node) → two_writers nodes ≡ false → has_cycle feeds nodes ≡ false → IsSolution writes (written_outline is) nodes (λ c. operand_outline (is c)) (outlines is nodes)
   outlines_solve nodes one no_cycle = rounds_solve (written_outline is) nodes (λ c. operand_outline (is c)) reads_alone one no_cycle
@@ -52,10 +51,7 @@ module _ (is : Cell → Operand) where
   -- an image that is there is known, whatever the nodes write
   round_keeps : (ns : List Node) (held : Cell → Outline) (c : Cell) (d : Description) → is c ≡ Image d → held c ≡ outline_of d → round writes (written_outline is) ns held c ≡ outline_of d
   round_keeps [] held c d image h = h
-  round_keeps (n ∷ ns) held c d image h = elim (cases_Bool (writes n c)) [
-    | inl w ↦ rw w (ap (λ o. filled (operand_outline o) (given_outline n.function (held n.in1))) image)
-    | inr w ↦ rw w (round_keeps ns held c d image h)
-  ]
+  round_keeps (n ∷ ns) held c d image h = grind (arith, round_keeps ns held c d image h, cases_Bool (writes n c))
 
   rounds_keep : (nodes : List Node) (k : ℕ) (c : Cell) (d : Description) → is c ≡ Image d → rounds writes (written_outline is) nodes k (λ e. operand_outline (is e)) c ≡ outline_of d
   rounds_keep nodes zero c d image = ap operand_outline image

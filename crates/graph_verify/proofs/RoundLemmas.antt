@@ -15,9 +15,7 @@ module _ {N C V : Type 0} (reads writes : N → C → Bool) (feeds : N → N →
     -- what no node of the list writes stays
     pub once_stays : (ns : List N) (held : C → V) (c : C) → ((n : N) → In n ns → writes n c ≡ false) → once writes value ns held c ≡ held c
     once_stays [] held c h = refl
-    once_stays (n ∷ ns) held c h =
-        let e = h n (inl refl) in
-        once_stays ns (step writes value n held) c (λ m i. h m (inr i)) ∙ (rw e refl)
+    once_stays (n ∷ ns) held c h = grind (arith, once_stays ns (step writes value n held) c (λ m i. h m (inr i)))
 
     -- a node fed by none of the list reads what is held
     unread : (ns : List N) (n : N) → ((m : N) → In m ns → feeds m n ≡ false) → (held : C → V) (c : C) → reads n c ≡ true → once writes value ns held c ≡ held c
@@ -44,32 +42,20 @@ module _ {N C V : Type 0} (reads writes : N → C → Bool) (feeds : N → N →
 
     -- running once through an order gives a solution
     pub once_solves : (g ns : List N) (held : C → V) → InTurn feeds ns → OneWriter writes ns → AllIn g ns → AllIn ns g → IsSolution writes value g held (once writes value ns held)
-    once_solves g ns held turn one to from = record {
-      written = (λ n c i w. once_written ns held turn one n c (to n i) w);
-      others = (λ c h. once_stays ns held c (λ n i. h n (from n i)));
-    }
+    once_solves g ns held turn one to from = grind (arith, once_written, once_stays)
 
     -- what a round gives a cell
     round_cases : (ns : List N) (a : C → V) (c : C)
         → (((n : N) → In n ns → writes n c ≡ false) × (round writes value ns a c ≡ a c)) ⊎ ((n : N) × In n ns × (writes n c ≡ true) × (round writes value ns a c ≡ value n a c))
     round_cases [] a c = inl ((λ n i. absurd i), refl)
-    round_cases (n ∷ ns) a c = elim (cases_Bool (writes n c)) [
-      | inl w ↦ inr (n, inl refl, w, (rw w refl))
-      | inr w ↦ elim (round_cases ns a c) [
-        | inl p ↦ inl ((λ m i. elim i [ inl e ↦ ap (λ z. writes z c) e ∙ w | inr j ↦ p.0 m j ]), (rw w p.1))
-        | inr p ↦ inr (p.0, inr p.1, p.2, (rw w p.3))
-      ]
-    ]
+    round_cases (n ∷ ns) a c = grind (arith, round_cases ns a c, cases_Bool (writes n c))
 
     -- each node of g is still to come or is fed by none that is
     abbrev Settled : List N → List N → Type 0
     Settled g rest = (m : N) → In m g → In m rest ⊎ ((k : N) → In k rest → feeds k m ≡ false)
 
     Settled-next : (g : List N) (n : N) (rest : List N) → InTurn feeds (n ∷ rest) → Settled g (n ∷ rest) → Settled g rest
-    Settled-next g n rest turn s m i = elim (s m i) [
-      | inl j ↦ elim j [ inl e ↦ inr (λ k l. ap (feeds k) e ∙ turn.0 k (inr l)) | inr l ↦ inl l ]
-      | inr h ↦ inr (λ k l. h k (inr l))
-    ]
+    Settled-next g n rest turn s m i = grind arith
 
     abbrev Agrees : List N → (C → V) → (C → V) → Type 0
     Agrees rest a b = (c : C) → ((n : N) → In n rest → writes n c ≡ false) → a c ≡ b c
@@ -80,24 +66,11 @@ module _ {N C V : Type 0} (reads writes : N → C → Bool) (feeds : N → N →
 
     Agrees-next : (g : List N) (held b : C → V) → IsSolution writes value g held b → (n : N) (rest : List N) (a : C → V)
         → InTurn feeds (n ∷ rest) → AllIn (n ∷ rest) g → Settled g (n ∷ rest) → Agrees (n ∷ rest) a b → Agrees rest (round writes value g a) b
-    Agrees-next g held b sol n rest a turn within s agree c h = elim (round_cases g a c) [
-      | inl p ↦ p.1 ∙ agree c (λ k i. p.0 k (within k i))
-      | inr p ↦
-          (let m : N = p.0 in
-          let unfed : (k : N) → In k (n ∷ rest) → feeds k m ≡ false = elim (s m p.1) [
-            | inl j ↦ elim j [
-              | inl e ↦ (λ k i. ap (feeds k) e ∙ turn.0 k i)
-              | inr l ↦ (let q = h m l in let w = p.2 in absurd (cc))
-            ]
-            | inr f ↦ f
-          ] in
-          p.3 ∙ reads_settled (n ∷ rest) a b agree m unfed c ∙ sym (sol.written m c p.1 p.2))
-    ]
+    Agrees-next g held b sol n rest a turn within s agree c h = grind (arith, round_cases g a c)
 
     rounds_reach : (g : List N) (held b : C → V) → IsSolution writes value g held b → (rest : List N) (k j : ℕ) → j ≡ length rest + k
         → InTurn feeds rest → AllIn rest g → Settled g rest → Agrees rest (rounds writes value g k held) b → (c : C) → rounds writes value g j held c ≡ b c
-    rounds_reach g held b sol [] k j e turn within s agree c =
-        let e' : j ≡ k = omega arith in ap (λ i. rounds writes value g i held c) e' ∙ agree c (λ n i. absurd i)
+    rounds_reach g held b sol [] k j e turn within s agree c = grind arith
     rounds_reach g held b sol (n ∷ rest) k j e turn within s agree c =
         rounds_reach g held b sol rest (suc k) j (omega arith) turn.1 (λ x i. within x (inr i)) (Settled-next g n rest turn s)
         (Agrees-next g held b sol n rest (rounds writes value g k held) turn within s agree) c
@@ -117,16 +90,9 @@ module _ {N C V : Type 0} (reads writes : N → C → Bool) (feeds : N → N →
     -- there is one solution
     pub solutions_agree : (g steps : List N) (held a b : C → V) → InTurn feeds steps → AllIn g steps → AllIn steps g → length steps ≡ length g
         → IsSolution writes value g held a → IsSolution writes value g held b → (c : C) → a c ≡ b c
-    solutions_agree g steps held a b turn to from same p q c =
-        sym (solution_is_rounds g steps held a turn to from same p c) ∙ solution_is_rounds g steps held b turn to from same q c
+    solutions_agree g steps held a b turn to from same p q c = grind (arith, solution_is_rounds g steps held a turn to from same p c, solution_is_rounds g steps held b turn to from same q c)
 
     -- the rounds give a solution
     pub rounds_solve : (g steps : List N) (held : C → V) → InTurn feeds steps → AllIn g steps → AllIn steps g → length steps ≡ length g → OneWriter writes steps
         → IsSolution writes value g held (rounds writes value g (length g) held)
-    rounds_solve g steps held turn to from same one =
-        let e = once_is_rounds g steps held turn to from same one in
-        let sol = once_solves g steps held turn one to from in
-        record {
-          written = (λ n c i w. e c ∙ sol.written n c i w ∙ reads_alone n (once writes value steps held) (rounds writes value g (length g) held) (λ d r. sym (e d)) c);
-          others = (λ c h. e c ∙ sol.others c h);
-        }
+    rounds_solve g steps held turn to from same one = grind (arith, once_is_rounds g steps held turn to from same one, once_solves g steps held turn one to from)

@@ -27,17 +27,10 @@ or_false false = refl
 
 -- a node feeds itself where it reads what it writes
 feeds_itself : (n : Node) → feeds n n ≡ reads_own_output n
-feeds_itself n =
-    sym (or_false (feeds n n))
-    ∙ is_fed-written (n ∷ []) n
-    ∙ any_agree (is_written (n ∷ [])) (writes n) (inputs n) (λ c. or_false (writes n c))
+feeds_itself n = grind (arith, or_false (feeds n n), is_fed-written (n ∷ []) n, any_agree (is_written (n ∷ [])) (writes n) (inputs n) (λ c. or_false (writes n c)))
 
 cycle_of_one : (n : Node) → has_cycle feeds (n ∷ []) ≡ reads_own_output n
-cycle_of_one n = test (feeds n n) ∙ feeds_itself n
-  where
-    test : (b : Bool) → not (is_empty (cond {A = List Node} (b || false) (n ∷ []) [])) ≡ b
-    test true = refl
-    test false = refl
+cycle_of_one n = grind (arith, feeds_itself n)
 
 nothing_more : (f : Option Verdict) → option_or (option_or f None) None ≡ f
 nothing_more None = refl
@@ -79,36 +72,8 @@ module _ (is : Cell → Operand) where
   given_as_it_is nodes (Some c) h = ap {B = Option Operand} Some (as_it_is (is c) (outlines is nodes c) (or_parts (is_virtual (is c)) false h).0)
 
   operands_as_they_are : (nodes : List Node) (n : Node) → NoneVirtual (inputs n ++ outputs n) → operands_of (resolved is nodes) n ≡ operands_of is n
-  operands_as_they_are nodes n h =
-      let virtual : Cell → Bool = λ c. is_virtual (is c) in
-      let all = or_parts (list_any virtual (inputs n)) (list_any virtual (outputs n)) (sym (list_any-append virtual (inputs n) (outputs n)) ∙ h) in
-      let ins = or_parts (virtual n.in1) (list_any virtual (given n.in2)) all.0 in
-      let outs = or_parts (list_any virtual (given n.out1)) (list_any virtual (given n.out2)) (sym (list_any-append virtual (given n.out1) (given n.out2)) ∙ all.1) in
-      let r = resolved is nodes in
-      ap (λ o. record { in1 = o; in2 = option_map r n.in2; out1 = option_map r n.out1; out2 = option_map r n.out2 }) (as_it_is (is n.in1) (outlines is nodes n.in1) ins.0)
-      ∙ ap (λ o. record { in1 = is n.in1; in2 = o; out1 = option_map r n.out1; out2 = option_map r n.out2 }) (given_as_it_is nodes n.in2 ins.1)
-      ∙ ap (λ o. record { in1 = is n.in1; in2 = option_map is n.in2; out1 = o; out2 = option_map r n.out2 }) (given_as_it_is nodes n.out1 outs.0)
-      ∙ ap (λ o. record { in1 = is n.in1; in2 = option_map is n.in2; out1 = option_map is n.out1; out2 = o }) (given_as_it_is nodes n.out2 outs.1)
+  operands_as_they_are nodes n h = grind (arith, or_parts, list_any-append, as_it_is, given_as_it_is)
 
 pub verdict_on_one : (work : ℕ) (is : Cell → Operand) (n : Node) → list_any (λ c. is_virtual (is c)) (inputs n ++ outputs n) ≡ false → verdict work is (n ∷ []) ≡ verdict_on n (operands_of is n)
 verdict_on_one work is n h =
-    let virtual : Cell → Bool = λ c. is_virtual (is c) in
-    let parts = or_parts (list_any virtual (inputs n)) (list_any virtual (outputs n)) (sym (list_any-append virtual (inputs n) (outputs n)) ∙ h) in
-    let writers : two_writers (n ∷ []) ≡ writes_twice n = ap has_twice (append-nil (outputs n)) in
-    let loose : reads_loose is (n ∷ []) ≡ false = or_false (list_any (is_loose is (n ∷ [])) (inputs n)) ∙ none_loose is (n ∷ []) (inputs n) parts.0 in
-    let no_outputs : virtual_outputs is (n ∷ []) ≡ [] = ap (filter virtual) (append-nil (outputs n)) ∙ none_written is (outputs n) parts.1 in
-    let fits : (if nat_le (work_bytes is (n ∷ [])) work then None else Some NoResources) ≡ None =
-    ap (λ l. if nat_le (sum_by (λ c. operand_bytes (resolved is (n ∷ []) c)) l) work then None else Some NoResources) no_outputs ∙ nothing_fits work in
-    let operands = operands_as_they_are is (n ∷ []) n h in
-    by_parts (two_writers (n ∷ [])) (writes_twice n) (has_cycle feeds (n ∷ [])) (reads_own_output n) (reads_loose is (n ∷ [])) (node_fault n.function (operands_of (resolved is (n ∷ [])) n)) (node_fault n.function (operands_of is n))
-    (if nat_le (work_bytes is (n ∷ [])) work then None else Some NoResources) writers (cycle_of_one n) loose (ap (node_fault n.function) operands) fits
-  where
-    by_parts : (w w' c c' l : Bool) (f f' r : Option Verdict) → w ≡ w' → c ≡ c' → l ≡ false → f ≡ f' → r ≡ None
-        → (if w then Some MultipleWriters else (if c then Some InvalidGraph else (if l then Some InvalidLink else option_or (option_or f None) r))) ≡ (if w' then Some MultipleWriters else (if c' then Some InvalidGraph else f'))
-    by_parts w w' c c' l f f' r ew ec el ef er =
-        ap (λ b. if b then Some MultipleWriters else (if c then Some InvalidGraph else (if l then Some InvalidLink else option_or (option_or f None) r))) ew
-        ∙ ap (λ b. if w' then Some MultipleWriters else (if b then Some InvalidGraph else (if l then Some InvalidLink else option_or (option_or f None) r))) ec
-        ∙ ap (λ b. if w' then Some MultipleWriters else (if c' then Some InvalidGraph else (if b then Some InvalidLink else option_or (option_or f None) r))) el
-        ∙ ap (λ g. if w' then Some MultipleWriters else (if c' then Some InvalidGraph else option_or (option_or g None) r)) ef
-        ∙ ap (λ s. if w' then Some MultipleWriters else (if c' then Some InvalidGraph else option_or (option_or f' None) s)) er
-        ∙ ap (λ g. if w' then Some MultipleWriters else (if c' then Some InvalidGraph else g)) (nothing_more f')
+    grind (arith, append-nil (outputs n), or_false (list_any (is_loose is (n ∷ [])) (inputs n)), nothing_fits work, operands_as_they_are is (n ∷ []) n h, cycle_of_one n, or_parts, list_any-append, append-nil, or_false, none_loose, none_written, nothing_fits, operands_as_they_are, cycle_of_one, nothing_more)

@@ -1,5 +1,5 @@
 -- What a verdict of none says of each output of a node: the function takes its format, and it is of the first input's size.
-use Rattle.std.proofs.Common.{◌≡◌, Bool, true, false, IsTrue, ◌++◌, Option, Some, None, IfSome, sym, ◌∙◌, cond, refl}
+use Rattle.std.proofs.Common.{◌≡◌, Bool, true, false, IsTrue, ◌++◌, Option, Some, None, IfSome, sym, ◌∙◌, cond, refl, arith}
 use Rattle.std.specs.Prelude.{not, option_to_list}
 use Rattle.std.specs.List.{list_all}
 use Rattle.std.specs.Option.{option_map, option_and_then}
@@ -43,9 +43,7 @@ if_passes p (Some x) h = (and_parts (p x) true h).0
 
 -- a test that both operands pass, as far as they are there
 both_pass : {X : Type 0} (p : X → Bool) (x y : Option X) → list_all p (option_to_list x ++ option_to_list y) ≡ true → IfSome x (λ z. p z ≡ true) × IfSome y (λ z. p z ≡ true)
-both_pass p x y h =
-    let parts = and_parts (list_all p (option_to_list x)) (list_all p (option_to_list y)) (sym (list_all-append p (option_to_list x) (option_to_list y)) ∙ h) in
-    (if_passes p x parts.0, if_passes p y parts.1)
+both_pass p x y h = grind (arith, and_parts, list_all-append)
 
 -- the formats of each output are taken
 formats_taken : (function : Function) (first second : Option Format) (out1 out2 : Option Operand) → takes_first function first second (option_to_list out1 ++ option_to_list out2) ≡ true

@@ -1,5 +1,5 @@
 -- What a verdict says of a graph.
-use Rattle.std.proofs.Common.{◌≡◌, ℕ, ◌<◌, ◌≤◌, Bool, true, false, List, refl, sym, ap, ◌∙◌}
+use Rattle.std.proofs.Common.{◌≡◌, ℕ, ◌<◌, ◌≤◌, Bool, true, false, List, refl, sym, ap, ◌∙◌, arith}
 use Rattle.std.specs.Prelude.{Option, Some, None, nat_le, if◌then◌else◌}
 use Rattle.std.specs.Option.{option_or}
 use Rattle.std.proofs.lemmas.Bool.{leb-true, lt-leb, le-leb}
@@ -22,19 +22,7 @@ pub record CanRun (work : ℕ) (is : Cell → Operand) (nodes : List Node) : Typ
   pub room : work_bytes is nodes ≤ work
 
 pub can_run : (work : ℕ) (is : Cell → Operand) (nodes : List Node) → verdict work is nodes ≡ None → CanRun work is nodes
-can_run work is nodes h =
-    let parts = none_applies (two_writers nodes) (has_cycle feeds nodes) (reads_loose is nodes) (first_fault (resolved is nodes) nodes) (nat_le (work_bytes is nodes) work) h in
-    record { one_writer = parts.0; no_cycle = parts.1; no_loose_end = parts.2; no_fault = parts.3; room = leb-true (work_bytes is nodes) work parts.4 }
-  where
-    none_applies : (writers cycle loose : Bool) (fault : Option Verdict) (fits : Bool)
-        → (if writers then Some MultipleWriters else (if cycle then Some InvalidGraph else (if loose then Some InvalidLink else option_or fault (if fits then None else Some NoResources)))) ≡ None
-        → (writers ≡ false) × (cycle ≡ false) × (loose ≡ false) × (fault ≡ None) × (fits ≡ true)
-    none_applies true cycle loose fault fits h = absurd (cc h)
-    none_applies false true loose fault fits h = absurd (cc h)
-    none_applies false false true fault fits h = absurd (cc h)
-    none_applies false false false (Some fault) fits h = absurd (cc h)
-    none_applies false false false None true h = (refl, refl, refl, refl, refl)
-    none_applies false false false None false h = absurd (cc h)
+can_run work is nodes h = grind arith
 
 -- ---- which of the reasons applies
 
@@ -44,13 +32,7 @@ where_room work is nodes = if nat_le (work_bytes is nodes) work then None else S
 
 module _ (work : ℕ) (is : Cell → Operand) (nodes : List Node) (one : two_writers nodes ≡ false) (no_cycle : has_cycle feeds nodes ≡ false) where
   from_links : (loose : Bool) → reads_loose is nodes ≡ loose → verdict work is nodes ≡ (if loose then Some InvalidLink else option_or (first_fault (resolved is nodes) nodes) (where_room work is nodes))
-  from_links loose h =
-      ap (λ b. if b then Some MultipleWriters else (if has_cycle feeds nodes then Some InvalidGraph else rest (reads_loose is nodes))) one
-      ∙ ap (λ b. if b then Some InvalidGraph else rest (reads_loose is nodes)) no_cycle
-      ∙ ap rest h
-    where
-      rest : Bool → Option Verdict
-      rest b = if b then Some InvalidLink else option_or (first_fault (resolved is nodes) nodes) (where_room work is nodes)
+  from_links loose h = grind arith
 
   pub loose_end : true ≡ reads_loose is nodes → verdict work is nodes ≡ Some InvalidLink
   loose_end loose = from_links true (sym loose)

@@ -1,5 +1,5 @@
 -- Why a graph is found to run, or not, by what is known of its virtual images.
-use Rattle.std.proofs.Common.{◌≡◌, ℕ, ◌+◌, ◌*◌, ◌≤◌, suc, Bool, true, false, not, List, [], ◌∷◌, length, map, get_or, IsTrue, refl, sym, ◌∙◌, ap, subst, inl, inr, arith}
+use Rattle.std.proofs.Common.{◌≡◌, ℕ, ◌+◌, ◌*◌, ◌≤◌, suc, Bool, true, false, not, List, [], ◌∷◌, length, map, get_or, IsTrue, refl, sym, ◌∙◌, ap, subst, inl, inr, arith, rules}
 use Rattle.std.specs.Prelude.{Option, Some, None, All, find, sum_by, ◌&&◌, if◌then◌else◌}
 use Rattle.std.specs.Option.{option_map, option_or, option_and_then}
 use Rattle.std.specs.List.{filter, flat_map, filter_map, list_all, cons_option}
@@ -57,8 +57,7 @@ module _ (is : Cell → Operand) where
       ∙ sym (sum_by-cons (λ m. sum_by f (filter virtual (outputs m))) n ns)
 
   outputs_sum-permutation : (f : Cell → ℕ) (g steps : List Node) → IsPermutation g steps → sum_by f (virtual_outputs is steps) ≡ sum_by f (virtual_outputs is g)
-  outputs_sum-permutation f g steps same =
-      sum_of_outputs f steps ∙ sum_by-IsPermutation (λ n. sum_by f (filter (λ c. is_virtual (is c)) (outputs n))) g steps same ∙ sym (sum_of_outputs f g)
+  outputs_sum-permutation f g steps same = grind (arith, sum_of_outputs, sum_by-IsPermutation)
 
 described_bytes : (known : List Known) → sum_by (λ (o : VirtualOutput). byte_count o.desc) (filter_map described known) ≡ sum_by (λ (k : Known). operand_bytes (as_described k.outline (closed k.outline))) known
 described_bytes [] = refl
@@ -74,8 +73,7 @@ described_bytes (k ∷ known) =
 
 sum_agree : {X : Type 0} (f g : X → ℕ) (xs : List X) → ((x : X) → In x xs → f x ≡ g x) → sum_by f xs ≡ sum_by g xs
 sum_agree f g [] same = refl
-sum_agree f g (x ∷ xs) same =
-    sum_by-cons f x xs ∙ ap (λ k. k + sum_by f xs) (same x (inl refl)) ∙ ap (λ k. g x + k) (sum_agree f g xs (λ y i. same y (inr i))) ∙ sym (sum_by-cons g x xs)
+sum_agree f g (x ∷ xs) same = grind (arith, sum_agree f g xs (λ y i. same y (inr i)), sum_by-cons f x xs, sum_by-cons g x xs)
 
 sum_map : {X Y : Type 0} (f : Y → ℕ) (h : X → Y) (xs : List X) → sum_by (λ x. f (h x)) xs ≡ sum_by f (map h xs)
 sum_map f h [] = refl
@@ -99,8 +97,7 @@ module _ (is : Cell → Operand) where
 
   -- what is known of a virtual image says what it is
   pub known_resolved : (all : List Node) (known : List Known) → AreKnown is all known → (k : Known) → In k known → as_described k.outline (closed k.outline) ≡ resolved is all k.cell
-  known_resolved all known h k i =
-      ap (λ o. as_described o (closed o)) ((learnt_from_known is all known h).each k i) ∙ sym (virtual_resolved all k.cell (is k.cell) (known_virtual all known h k i))
+  known_resolved all known h k i = grind (arith, learnt_from_known is all known h, virtual_resolved all k.cell (is k.cell) (known_virtual all known h k i), known_virtual all known h k i)
 
   pub all_bytes : (nodes steps : List Node) (known : List Known) → two_writers nodes ≡ false → IsOrder feeds nodes steps → AreKnown is steps known
       → sum_by (λ (o : VirtualOutput). byte_count o.desc) (filter_map described known) ≡ work_bytes is nodes
@@ -127,27 +124,11 @@ first_fault-None is (m ∷ nodes) h n i =
 
 -- a node without a fault has a first input with a format
 first_format : (function : Function) (o : Operands) → node_fault function o ≡ None → (f : Format) × (operand_format o.in1 ≡ Some f)
-first_format function o h = by (operand_format o.in1) refl (takes (takes_operands function o) (list_all (are_of_one_size o.in1) (other_operands o)) h)
-  where
-    takes : (formats sizes : Bool) → (if not formats then Some InvalidFormat else (if sizes then None else Some InvalidDimension)) ≡ None → formats ≡ true
-    takes true sizes h = refl
-    takes false sizes h = absurd (cc h)
-
-    by : (first : Option Format) → operand_format o.in1 ≡ first → takes_operands function o ≡ true → (f : Format) × (operand_format o.in1 ≡ Some f)
-    by (Some f) e t = (f, e)
-    by None e t =
-        let fails : takes_operands function o ≡ false = ap (λ g. takes_first function g (option_and_then operand_format o.in2) (written_operands o)) e in
-        absurd (cc)
+first_format function o h = grind arith
 
 -- an outline of which nothing is open
 closed_is : (o : Outline) (d : Description) → closed o ≡ Some d → o ≡ outline_of d
-closed_is o d h = by o.width o.height o.format h
-  where
-    by : (width height : Option ℕ) (format : Option Format) → described_by width height format ≡ Some d → ◌≡◌ {A = Outline} (record { width = width; height = height; format = format }) (outline_of d)
-    by None h f e = absurd (cc e)
-    by (Some w) None f e = absurd (cc e)
-    by (Some w) (Some h) None e = absurd (cc e)
-    by (Some w) (Some h) (Some f) e = let same : ◌≡◌ {A = Description} (record { width = w; height = h; format = f }) d = cc in ap outline_of same
+closed_is o d h = grind arith
 
 -- what a node gives to a virtual image leaves nothing of it open, where nothing of the first input is
 filled_closed : (declared : Outline) (function : Function) (d : Description) → (e : Description) × (closed (filled declared (given_outline function (outline_of d))) ≡ Some e)
@@ -212,15 +193,7 @@ described_cells (k ∷ known) all =
 
 In-described : (known : List Known) (o : VirtualOutput) → In o (filter_map described known) → (k : Known) × In k known × (k.cell ≡ o.cell) × (closed k.outline ≡ Some o.desc)
 In-described [] o i = absurd i
-In-described (k ∷ known) o i = by (closed k.outline) refl i (In-described known o)
-  where
-    by : (d : Option Description) → closed k.outline ≡ d → In o (cons_option (option_map (λ f. record { cell = k.cell; desc = f }) d) (filter_map described known))
-        → (In o (filter_map described known) → (j : Known) × In j known × (j.cell ≡ o.cell) × (closed j.outline ≡ Some o.desc)) → (j : Known) × In j (k ∷ known) × (j.cell ≡ o.cell) × (closed j.outline ≡ Some o.desc)
-    by None e i others = let r = others i in (r.0, inr r.1, r.2, r.3)
-    by (Some d) e i others = elim i [
-      | inl same ↦ (k, inl refl, sym (ap (λ (v : VirtualOutput). v.cell) same), e ∙ ap {B = Option Description} Some (sym (ap (λ (v : VirtualOutput). v.desc) same)))
-      | inr j ↦ (let r = others j in (r.0, inr r.1, r.2, r.3))
-    ]
+In-described (k ∷ known) o i = grind (arith, In-described known o)
 
 -- ---- the nodes beside their operands, and the steps
 
@@ -269,8 +242,7 @@ module _ (nodes steps : List Linked) (one : two_writers (linked_nodes nodes) ≡
 
   pub verdict_found : (work : ℕ) (is : Cell → Operand) (known seen : List Known) (fault : Option Verdict) → AreOperands is nodes → Told known → seen ≡ known → Finds seen fault
       → false ≡ reads_loose is (linked_nodes nodes) → verdict work is (linked_nodes nodes) ≡ option_or fault (where_room work is (linked_nodes nodes))
-  verdict_found work is known seen fault operands told same finds no_loose_end =
-      by_fault work is (linked_nodes nodes) one nodes_no_cycle no_loose_end fault (found_fault is known seen fault operands told same finds)
+  verdict_found work is known seen fault operands told same finds no_loose_end = search (rules, by_fault, nodes_no_cycle, found_fault)
 
   pub bytes_found : (is : Cell → Operand) (known : List Known) (outputs : List VirtualOutput) → AreOperands is nodes → Told known → outputs ≡ filter_map described known → sum_by (λ o. byte_count o.desc) outputs ≡ work_bytes is (linked_nodes nodes)
   bytes_found is known outputs operands told is_outputs =
@@ -317,11 +289,7 @@ few_outputs nodes steps known outputs few order limit is =
   where
     shorter : (known : List Known) → length (filter_map described known) ≤ length known
     shorter [] = omega arith
-    shorter (k ∷ known) = one_more (described k) (filter_map described known) (shorter known)
-      where
-        one_more : (o : Option VirtualOutput) (rest : List VirtualOutput) → length rest ≤ length known → length (cons_option o rest) ≤ suc (length known)
-        one_more None rest h = omega (arith, h)
-        one_more (Some o) rest h = omega (arith, h)
+    shorter (k ∷ known) = grind (arith, shorter known)
 
 -- ---- the description of a cell
 

@@ -39,13 +39,7 @@ pub record IsOrdering (nodes steps : List Linked) (rest : List Waiting) : Type 0
   pub waiting : rest ≡ map (waiting_among (linked_nodes (unordered rest))) (unordered rest)
 
 pub none_ordered : (nodes : List Linked) (rest : List Waiting) → rest ≡ map (waiting_among (linked_nodes nodes)) nodes → IsOrdering nodes [] rest
-none_ordered nodes rest is =
-    let same : unordered rest ≡ nodes = ap unordered is ∙ map-map (λ (w : Waiting). w.linked) (waiting_among (linked_nodes nodes)) nodes ∙ map-id nodes in
-    record {
-      same_nodes = rw same (IsPermutation-refl nodes);
-      in_turn = tt;
-      waiting = rw same is;
-    }
+none_ordered nodes rest is = grind (arith, map-map (λ (w : Waiting). w.linked) (waiting_among (linked_nodes nodes)) nodes, map-id nodes, IsPermutation-refl nodes)
 
 -- a node waits where it is fed
 waits-fed : (nodes steps : List Linked) (rest : List Waiting) → IsOrdering nodes steps rest → (w : Waiting) → In w rest → (w.for_in1 || w.for_in2) ≡ is_fed links (unordered rest) w.linked
@@ -93,17 +87,7 @@ without_one false false h = refl
 
 once_ordered-among : (n : Node) (all others : List Node) → ((c : Cell) → (is_written all c && not (writes n c)) ≡ is_written others c)
     → (l : Linked) → once_ordered n (waiting_among all l) ≡ waiting_among others l
-once_ordered-among n all others same l =
-    ap (λ b. record { linked = l; for_in1 = b; for_in2 = list_any (is_written all) (given l.node.in2) && not (list_any (writes n) (given l.node.in2)) }) (same l.node.in1)
-    ∙ ap (λ b. record { linked = l; for_in1 = is_written others l.node.in1; for_in2 = b }) (each l.node.in2)
-  where
-    each : (cell : Option Cell) → (list_any (is_written all) (given cell) && not (list_any (writes n) (given cell))) ≡ list_any (is_written others) (given cell)
-    each None = refl
-    each (Some c) = ap (λ b. b && not (writes n c || false)) (or_false (is_written all c)) ∙ ap (λ b. is_written all c && not b) (or_false (writes n c)) ∙ same c ∙ sym (or_false (is_written others c))
-      where
-        or_false : (b : Bool) → (b || false) ≡ b
-        or_false true = refl
-        or_false false = refl
+once_ordered-among n all others same l = grind arith
 
 pub one_more_ordered : (nodes steps steps' : List Linked) (rest rest' : List Waiting) (i : ℕ) (ordered : Linked) → two_writers (linked_nodes nodes) ≡ false → IsOrdering nodes steps rest
     → Some i ≡ position (λ w. not (w.for_in1 || w.for_in2)) rest → ((d : Waiting) → ordered ≡ (get_or rest i d).linked)

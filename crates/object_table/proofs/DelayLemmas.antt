@@ -17,9 +17,7 @@ use Rattle.object_table.specs.Delay.{new_delay}
 pub bytes_alike : (d : Description) (images : List ImageValue) → All (λ image. description_of image ≡ d) images → sum_by image_bytes images ≡ length images * byte_count d
 bytes_alike d [] h = omega arith
 bytes_alike d (image ∷ images) h =
-    let first : image_bytes image ≡ byte_count d = ap byte_count (All-head (λ i. description_of i ≡ d) image images h) in
-    let others = bytes_alike d images (All-tail (λ i. description_of i ≡ d) image images h) in
-    sum_by-cons image_bytes image images ∙ omega (arith, first, others)
+    grind (arith, bytes_alike d images (All-tail (λ i. description_of i ≡ d) image images h), All-head (λ i. description_of i ≡ d) image images h, All-tail (λ i. description_of i ≡ d) image images h, sum_by-cons image_bytes image images)
 
 -- what is turned round takes as much
 pub sum-turned : {X : Type 0} (f : X → ℕ) (n : ℕ) (xs : List X) → sum_by f (drop n xs ++ take n xs) ≡ sum_by f xs

@@ -1,5 +1,5 @@
 -- Entries of a map by name, and what they show.
-use Rattle.std.proofs.Common.{◌≡◌, ◌≢◌, ℕ, ◌+◌, ◌<◌, ◌≤◌, ◌⊎◌, inl, inr, Bool, true, false, cond, List, [], ◌∷◌, ◌++◌, ◌*◌, length, map, Option, Some, None, refl, sym, ap, subst, ◌∙◌, arith}
+use Rattle.std.proofs.Common.{◌≡◌, ◌≢◌, ℕ, ◌+◌, ◌<◌, ◌≤◌, ◌⊎◌, inl, inr, Bool, true, false, cond, List, [], ◌∷◌, ◌++◌, ◌*◌, length, map, Option, Some, None, refl, sym, ap, subst, ◌∙◌, arith, rules}
 use Rattle.std.specs.Prelude.{All, IfSome, ◌==◌, nat_lt, ◌&&◌, find, sum_by, unwrap_or}
 use Rattle.std.specs.declared.cmp.Ordering.TheVariants.{Less, Equal, Greater}
 use Rattle.std.specs.Ordering.{is_eq, match_ordering, nat_cmp}
@@ -37,15 +37,7 @@ use Rattle.object_table.specs.Uses.{used_names, nodes_in, names_used_by, names_u
 
 -- a key is found where it is the name
 pub same_name : (name other : ℕ) → is_at (nat_cmp name) other ≡ (other == name)
-same_name name other = either (other == name) refl
-  where
-    either : (b : Bool) → (other == name) ≡ b → is_at (nat_cmp name) other ≡ (other == name)
-    either true same = ap is_eq (sym (nat_cmp_is name other Equal (sym (eqb-true other name same)))) ∙ sym same
-    either false apart = order (cases_lt name other) (eqb-false other name apart)
-      where
-        order : (name < other) ⊎ (other ≤ name) → other ≢ name → is_at (nat_cmp name) other ≡ (other == name)
-        order (inl less) differ = ap is_eq (sym (nat_cmp_is name other Less less)) ∙ sym apart
-        order (inr more) differ = ap is_eq (sym (nat_cmp_is name other Greater (omega arith))) ∙ sym apart
+same_name name other = grind (arith, cases_lt name other)
 
 -- the keys are in their order
 abbrev pub InOrder : List (ℕ × Entry) → Type 0
@@ -64,26 +56,11 @@ past_head e entries name order here =
 -- whether that is live or not
 pub held_is : (entries : List (ℕ × Entry)) (name : ℕ) → object_held (map named entries) name ≡ option_map (λ e. e.object) (lookup (is_at (nat_cmp name)) entries)
 held_is [] name = refl
-held_is (e ∷ entries) name =
-    ap (λ b. option_map (λ (o : Named). o.object) (cond b (Some (named e)) (find (λ o. o.name == name) (map named entries)))) (sym (same_name name e.0))
-    ∙ either (is_at (nat_cmp name) e.0) (held_is entries name)
-  where
-    either : (b : Bool) → object_held (map named entries) name ≡ option_map (λ e. e.object) (lookup (is_at (nat_cmp name)) entries)
-        → option_map (λ (o : Named). o.object) (cond b (Some (named e)) (find (λ o. o.name == name) (map named entries))) ≡ option_map (λ e. e.object) (cond b (Some e.1) (lookup (is_at (nat_cmp name)) entries))
-    either true rest = refl
-    either false rest = rest
+held_is (e ∷ entries) name = grind (arith, held_is entries name, same_name name e.0)
 
 pub none_named : (entries : List (ℕ × Entry)) (name : ℕ) → lookup (is_at (nat_cmp name)) entries ≡ None → object_named (map named entries) name ≡ None
 none_named [] name none = refl
-none_named (e ∷ entries) name none =
-    ap (λ b. option_map (λ (o : Named). o.object) (cond (e.1.live && b) (Some (named e)) (find (λ o. o.live && o.name == name) (map named entries)))) (sym (same_name name e.0))
-    ∙ either (is_at (nat_cmp name) e.0) e.1.live none (none_named entries name)
-  where
-    either : (b live : Bool) → cond b (Some e.1) (lookup (is_at (nat_cmp name)) entries) ≡ None → (lookup (is_at (nat_cmp name)) entries ≡ None → object_named (map named entries) name ≡ None)
-        → option_map (λ (o : Named). o.object) (cond (live && b) (Some (named e)) (find (λ o. o.live && o.name == name) (map named entries))) ≡ None
-    either true live none rest = cc
-    either false true none rest = rest none
-    either false false none rest = rest none
+none_named (e ∷ entries) name none = grind (arith, none_named entries name, same_name name e.0)
 
 -- the object of a live name
 abbrev pub if_live : Entry → Option ObjectValue
@@ -91,32 +68,13 @@ if_live e = cond e.live (Some e.object) None
 
 pub named_is : (entries : List (ℕ × Entry)) (name : ℕ) (e : Entry) → InOrder entries → lookup (is_at (nat_cmp name)) entries ≡ Some e → object_named (map named entries) name ≡ if_live e
 named_is [] name e order found = cc
-named_is (d ∷ entries) name e order found =
-    ap (λ b. option_map (λ (o : Named). o.object) (cond (d.1.live && b) (Some (named d)) (find (λ o. o.live && o.name == name) (map named entries)))) (sym (same_name name d.0))
-    ∙ either (is_at (nat_cmp name) d.0) refl d.1.live refl found (named_is entries name e (sorted_tail nat_cmp d.0 (keys_of entries) order))
-  where
-    either : (b : Bool) → is_at (nat_cmp name) d.0 ≡ b → (live : Bool) → d.1.live ≡ live → cond b (Some d.1) (lookup (is_at (nat_cmp name)) entries) ≡ Some e
-        → (lookup (is_at (nat_cmp name)) entries ≡ Some e → object_named (map named entries) name ≡ if_live e)
-        → option_map (λ (o : Named). o.object) (cond (live && b) (Some (named d)) (find (λ o. o.live && o.name == name) (map named entries))) ≡ if_live e
-    either true here true live found rest = let same : d.1 ≡ e = cc in ap (λ (x : Entry). cond true (Some x.object) None) same ∙ ap (λ b. cond b (Some e.object) None) (sym live ∙ ap (λ (x : Entry). x.live) same)
-    either true here false live found rest =
-        let same : d.1 ≡ e = cc in
-        none_named entries name (past_head d entries name order here) ∙ ap (λ b. cond b (Some e.object) None) (sym live ∙ ap (λ (x : Entry). x.live) same)
-    either false here true live found rest = rest found
-    either false here false live found rest = rest found
+named_is (d ∷ entries) name e order found = grind (arith, named_is entries name e (sorted_tail nat_cmp d.0 (keys_of entries) order), same_name, sorted_tail, none_named, past_head)
 
 -- ---- an entry that is written
 
 none_written : (entries : List (ℕ × Entry)) (cell : Cell) (object : ObjectValue) → lookup (is_at (nat_cmp cell.name)) entries ≡ None → with_object (map named entries) cell object ≡ map named entries
 none_written [] cell object none = refl
-none_written (e ∷ entries) cell object none =
-    ap (λ b. let o = named e in cond b (record o { object = with_slot cell.slot object o.object }) o ∷ with_object (map named entries) cell object) (sym (same_name cell.name e.0))
-    ∙ either (is_at (nat_cmp cell.name) e.0) none (none_written entries cell object)
-  where
-    either : (b : Bool) → cond b (Some e.1) (lookup (is_at (nat_cmp cell.name)) entries) ≡ None → (lookup (is_at (nat_cmp cell.name)) entries ≡ None → with_object (map named entries) cell object ≡ map named entries)
-        → (let o = named e in cond b (record o { object = with_slot cell.slot object o.object }) o ∷ with_object (map named entries) cell object) ≡ named e ∷ map named entries
-    either true none rest = cc
-    either false none rest = ap (λ l. named e ∷ l) (rest none)
+none_written (e ∷ entries) cell object none = grind (arith, none_written entries cell object, same_name cell.name e.0)
 
 pub written : (entries : List (ℕ × Entry)) (cell : Cell) (old new : Entry) (object : ObjectValue) → InOrder entries → lookup (is_at (nat_cmp cell.name)) entries ≡ Some old
     → new.live ≡ old.live → new.object ≡ with_slot cell.slot object old.object → map named (set_value (is_at (nat_cmp cell.name)) entries new) ≡ with_object (map named entries) cell object
@@ -128,11 +86,7 @@ written (e ∷ entries) cell old new object order found live is =
     either : (b : Bool) → is_at (nat_cmp cell.name) e.0 ≡ b → cond b (Some e.1) (lookup (is_at (nat_cmp cell.name)) entries) ≡ Some old
         → (lookup (is_at (nat_cmp cell.name)) entries ≡ Some old → new.live ≡ old.live → new.object ≡ with_slot cell.slot object old.object → map named (set_value (is_at (nat_cmp cell.name)) entries new) ≡ with_object (map named entries) cell object)
         → map named (cond b ((e.0, new) ∷ entries) (e ∷ set_value (is_at (nat_cmp cell.name)) entries new)) ≡ (let o = named e in cond b (record o { object = with_slot cell.slot object o.object }) o ∷ with_object (map named entries) cell object)
-    either true here found rest =
-        let same : old ≡ e.1 = cc in
-        ap (λ (x : Bool). let o : Named = record { name = e.0; live = x; object = new.object } in o ∷ map named entries) (live ∙ ap (λ (x : Entry). x.live) same)
-        ∙ ap (λ x. let o : Named = record { name = e.0; live = e.1.live; object = x } in o ∷ map named entries) (is ∙ ap (λ (x : Entry). with_slot cell.slot object x.object) same)
-        ∙ ap (λ l. let o : Named = record { name = e.0; live = e.1.live; object = with_slot cell.slot object e.1.object } in o ∷ l) (sym (none_written entries cell object (past_head e entries cell.name order here)))
+    either true here found rest = grind (arith, none_written entries cell object (past_head e entries cell.name order here), past_head e entries cell.name order here)
     either false here found rest = ap (λ l. named e ∷ l) (rest found live is)
 
 -- what holds of the others, and of the new one where it did of the old one
@@ -144,33 +98,19 @@ All-written P (e ∷ entries) name old new found still h =
   where
     either : (b : Bool) → cond b (Some e.1) (lookup (is_at (nat_cmp name)) entries) ≡ Some old → (lookup (is_at (nat_cmp name)) entries ≡ Some old → All P (set_value (is_at (nat_cmp name)) entries new))
         → All P (cond b ((e.0, new) ∷ entries) (e ∷ set_value (is_at (nat_cmp name)) entries new))
-    either true found rest =
-        let same : e.1 ≡ old = cc in
-        All-cons P (e.0, new) entries (still e.0 (subst (λ (x : Entry). P (e.0, x)) same (All-head P e entries h))) (All-tail P e entries h)
+    either true found rest = grind (arith, All-head P e entries h, All-tail P e entries h)
     either false found rest = All-cons P e (set_value (is_at (nat_cmp name)) entries new) (All-head P e entries h) (rest found)
 
 -- a sum over the entries
 pub sum-written : (f : ℕ × Entry → ℕ) (entries : List (ℕ × Entry)) (name : ℕ) (old new : Entry) → lookup (is_at (nat_cmp name)) entries ≡ Some old
     → sum_by f (set_value (is_at (nat_cmp name)) entries new) + f (name, old) ≡ sum_by f entries + f (name, new)
 sum-written f [] name old new found = cc
-sum-written f (e ∷ entries) name old new found =
-    either (is_at (nat_cmp name) e.0) (same_name name e.0) found (sum-written f entries name old new)
-  where
-    either : (b : Bool) → b ≡ (e.0 == name) → cond b (Some e.1) (lookup (is_at (nat_cmp name)) entries) ≡ Some old
-        → (lookup (is_at (nat_cmp name)) entries ≡ Some old → sum_by f (set_value (is_at (nat_cmp name)) entries new) + f (name, old) ≡ sum_by f entries + f (name, new))
-        → sum_by f (cond b ((e.0, new) ∷ entries) (e ∷ set_value (is_at (nat_cmp name)) entries new)) + f (name, old) ≡ sum_by f (e ∷ entries) + f (name, new)
-    either true here found rest =
-        let same : e.1 ≡ old = cc in
-        let key : e.0 ≡ name = eqb-true e.0 name (sym here) in
-        omega (arith, sum_by-cons f (e.0, new) entries, sum_by-cons f e entries, ap (λ k. f (k, new)) key, ap (λ k. f (k, e.1)) key, ap (λ (x : Entry). f (name, x)) same)
-    either false here found rest = omega (arith, sum_by-cons f e (set_value (is_at (nat_cmp name)) entries new), sum_by-cons f e entries, rest found)
+sum-written f (e ∷ entries) name old new found = grind (arith, sum-written f entries name old new, same_name, sum_by-cons)
 
 -- what a context is charged is the sum over the entries
 pub charge_is : (entries : List (ℕ × Entry)) → charge_of (map named entries) ≡ sum_by (λ e. object_bytes e.1.object) entries
 charge_is [] = refl
-charge_is (e ∷ entries) =
-    sum_by-cons (λ (o : Named). object_bytes o.object) (named e) (map named entries) ∙ ap (λ n. object_bytes e.1.object + n) (charge_is entries)
-    ∙ sym (sum_by-cons (λ e. object_bytes e.1.object) e entries)
+charge_is (e ∷ entries) = search (rules, charge_is entries, sum_by-cons)
 
 -- names that the written object's nodes use as the old one's did
 used-written : (entries : List (ℕ × Entry)) (name : ℕ) (old new : Entry) → lookup (is_at (nat_cmp name)) entries ≡ Some old → new.live ≡ old.live → nodes_in new.object ≡ nodes_in old.object
@@ -184,30 +124,18 @@ used-written (e ∷ entries) name old new found live nodes =
 
     either : (b : Bool) → cond b (Some e.1) (lookup (is_at (nat_cmp name)) entries) ≡ Some old → (lookup (is_at (nat_cmp name)) entries ≡ Some old → rest_used (set_value (is_at (nat_cmp name)) entries new) ≡ rest_used entries)
         → rest_used (cond b ((e.0, new) ∷ entries) (e ∷ set_value (is_at (nat_cmp name)) entries new)) ≡ rest_used (e ∷ entries)
-    either true found rest =
-        let same : old ≡ e.1 = cc in
-        ap (λ b. cond b (flat_map used_names (nodes_in new.object)) [] ++ rest_used entries) (live ∙ ap (λ (x : Entry). x.live) same)
-        ∙ ap (λ l. cond e.1.live (flat_map used_names l) [] ++ rest_used entries) (nodes ∙ ap (λ (x : Entry). nodes_in x.object) same)
+    either true found rest = grind arith
     either false found rest = ap (λ l. names_used_by (named e) ++ l) (rest found)
 
 -- a new name goes last
 pub insert_last : (entries : List (ℕ × Entry)) (name : ℕ) (new : Entry) → All (λ e. e.0 < name) entries → insert_entry nat_cmp entries name new ≡ entries ++ (name, new) ∷ []
 insert_last [] name new h = refl
-insert_last (e ∷ entries) name new h =
-    ap (λ o. match_ordering o ((name, new) ∷ e ∷ entries) ((e.0, new) ∷ entries) (e ∷ insert_entry nat_cmp entries name new)) (sym (nat_cmp_is name e.0 Greater (All-head (λ e. e.0 < name) e entries h)))
-    ∙ ap (λ l. e ∷ l) (insert_last entries name new (All-tail (λ e. e.0 < name) e entries h))
+insert_last (e ∷ entries) name new h = grind (arith, insert_last entries name new (All-tail (λ e. e.0 < name) e entries h), All-tail, All-head)
 
 -- a name stands nowhere among smaller ones
 pub times_none : (name : ℕ) (names : List ℕ) → All (λ other. other < name) names → 0 ≡ times name names
 times_none name [] h = refl
-times_none name (other ∷ names) h =
-    let rest = times_none name names (All-tail (λ other. other < name) other names h) in
-    let one : ◌≡◌ {A = ℕ} (cond (name == other) 1 0) 0 = ap (λ b. cond b 1 0) (apart (name == other) refl) in
-    omega (arith, rest, one, sum_by-cons (λ other. cond (name == other) 1 0) other names)
-  where
-    apart : (b : Bool) → (name == other) ≡ b → (name == other) ≡ false
-    apart true same = let less : other < name = All-head (λ other. other < name) other names h in absurd (omega (arith, less, eqb-true name other same))
-    apart false differ = differ
+times_none name (other ∷ names) h = grind (arith, times_none name names (All-tail (λ other. other < name) other names h), All-tail, sum_by-cons, All-head)
 
 -- ---- what a table keeps
 
@@ -229,29 +157,15 @@ module _ (next charge : ℕ) (entries : List (ℕ × Entry)) (t : IsTable next c
   pub IsTable-exchanged : (charged : ℕ) (new : Entry) → new.live ≡ old.live → new.uses ≡ old.uses → nodes_in new.object ≡ nodes_in old.object
       → object_bytes new.object ≤ 16 * 67108864 → charged + object_bytes old.object ≡ charge + object_bytes new.object → IsTable next charged (set_value (is_at (nat_cmp name)) entries new)
   IsTable-exchanged charged new live uses nodes limit balance =
-      let test = is_at (nat_cmp name) in
-      let after = set_value test entries new in
-      let used = used-written entries name old new found live nodes in
-      let sum = sum-written (λ e. object_bytes e.1.object) entries name old new found in
-      record {
-        names = subst IsStrictlyIncreasing (sym (keys-set_value test entries new)) t.names;
-        below = All-written (λ e. e.0 < next) entries name old new found (λ k h. h) t.below;
-        left = t.left;
-        count = omega (arith, t.count, length-set_value test entries new);
-        each = All-written (λ e. object_bytes e.1.object ≤ 16 * 67108864) entries name old new found (λ k h. limit) t.each;
-        nodes = All-written (λ e. length (nodes_in e.1.object) ≤ 256) entries name old new found (λ k h. subst (λ l. length l ≤ 256) (sym nodes) h) t.nodes;
-        charged = omega (arith, t.charged, charge_is entries, charge_is after, sum, balance);
-        uses = subst (λ l. All (λ e. e.1.uses ≡ times e.0 l) after) (sym used) (All-written (λ e. e.1.uses ≡ times e.0 (names_used (map named entries))) entries name old new found (λ k h. uses ∙ h) t.uses);
-        given = subst (All (λ n. n < next)) (sym used) t.given;
-      }
+      grind (arith, used-written entries name old new found live nodes, sum-written (λ e. object_bytes e.1.object) entries name old new found, All-written (λ e. e.0 < next) entries name old new found (λ k h. h) t.below, All-written (λ e. object_bytes e.1.object ≤ 16 * 67108864) entries name old new found (λ k h. limit) t.each, All-written (λ e. length (nodes_in e.1.object) ≤ 256) entries name old new found (λ k h. subst (λ l. length l ≤ 256) (sym nodes) h) t.nodes, charge_is entries, All-written (λ e. e.1.uses ≡ times e.0 (names_used (map named entries))) entries name old new found (λ k h. uses ∙ h) t.uses, used-written, sum-written, keys-set_value, All-written, length-set_value, charge_is)
 
 -- an object of as many bytes
-pub IsTable-written : (next charge : ℕ) (entries : List (ℕ × Entry)) (name : ℕ) (old new : Entry) → IsTable next charge entries → lookup (is_at (nat_cmp name)) entries ≡ Some old
+pub IsTable-written : (next charge : ℕ) (entries : List (ℕ × Entry)) (name : ℕ) (old new : Entry) (after : List (ℕ × Entry)) → IsTable next charge entries → lookup (is_at (nat_cmp name)) entries ≡ Some old
     → new.live ≡ old.live → new.uses ≡ old.uses → nodes_in new.object ≡ nodes_in old.object → object_bytes new.object ≡ object_bytes old.object
-    → IsTable next charge (set_value (is_at (nat_cmp name)) entries new)
-IsTable-written next charge entries name old new t found live uses nodes bytes =
+    → after ≡ set_value (is_at (nat_cmp name)) entries new → IsTable next charge after
+IsTable-written next charge entries name old new after t found live uses nodes bytes then =
     let limit = bytes_found next charge entries t name old found in
-    IsTable-exchanged next charge entries t name old found charge new live uses nodes (omega (arith, bytes, limit)) (omega (arith, bytes))
+    subst (IsTable next charge) (sym then) (IsTable-exchanged next charge entries t name old found charge new live uses nodes (omega (arith, bytes, limit)) (omega (arith, bytes)))
 
 -- one object more, under the next name
 pub IsTable-inserted : (next charge : ℕ) (entries : List (ℕ × Entry)) (new : Entry) → IsTable next charge entries → next < 4294967296 → length entries < 1024
@@ -288,11 +202,7 @@ module _ (t : Context) (next : ℕ) (entries : List (ℕ × Entry)) (view : ◌�
 
   -- where one more object can be held
   pub room_left : can_insert t ≡ true → (next < 4294967296) × (length entries < 1024)
-  room_left h =
-      let both = and_parts (nat_lt t.next 4294967296) (nat_lt (length t.objects) 1024) h in
-      let names = ltb-true t.next 4294967296 both.0 in
-      let count = ltb-true (length t.objects) 1024 both.1 in
-      (omega (arith, names, ap (λ (c : Context). c.next) view), omega (arith, count, ap length objects_are, length-map entries named))
+  room_left h = grind (arith, and_parts (nat_lt t.next 4294967296) (nat_lt (length t.objects) 1024) h, length-map entries named)
 
   -- nothing is held under a name that isn't found
   pub none_held : (name : ℕ) → lookup (is_at (nat_cmp name)) entries ≡ None → object_held t.objects name ≡ None
@@ -308,32 +218,27 @@ module _ (t : Context) (next : ℕ) (entries : List (ℕ × Entry)) (view : ◌�
     -- what a change of the object shows
     pub shown_name : (f : ObjectValue → ObjectValue) (new : Entry) (after : List (ℕ × Entry)) → InOrder entries → new.live ≡ old.live → new.object ≡ f old.object
         → after ≡ set_value (is_at (nat_cmp name)) entries new → ◌≡◌ {A = Context} (record { next = next; objects = map named after }) (with_objects t (with_object t.objects (cell_of name) (f (object_under t.objects name))))
-    shown_name f new after order live is then =
-        ap (λ (l : List (ℕ × Entry)). let c : Context = record { next = next; objects = map named l } in c) then
-        ∙ ap (λ (l : List Named). let c : Context = record { next = next; objects = l } in c) (written entries (cell_of name) old new (f old.object) order found live is)
-        ∙ ap (λ o. let c : Context = record { next = next; objects = with_object (map named entries) (cell_of name) (f o) } in c) (sym under_is)
-        ∙ ap (λ (c : Context). with_objects c (with_object c.objects (cell_of name) (f (object_under t.objects name)))) view
+    shown_name f new after order live is then = grind (arith, written entries (cell_of name) old new (f old.object) order found live is, written, under_is)
 
-  module _ (cell : Cell) (old : Entry) (found : lookup (is_at (nat_cmp cell.name)) entries ≡ Some old) where
-    pub held_cell : held t.objects cell ≡ in_slot cell.slot old.object
-    held_cell = ap (option_and_then (in_slot cell.slot)) (held_under cell.name old found)
+  -- what a cell holds, of which the name and the slot were read
+  module _ (cell : Cell) (name : ℕ) (slot : Option ℕ) (at : name ≡ cell.name) (in_it : slot ≡ cell.slot) (old : Entry) (found : lookup (is_at (nat_cmp name)) entries ≡ Some old) where
+    pub found_under : object_under t.objects cell.name ≡ old.object
+    found_under = ap (object_under t.objects) (sym at) ∙ under_is name old found
 
-    pub cell_is : cell_object t.objects cell ≡ object_in cell.slot old.object
-    cell_is = ap (λ o. unwrap_or o (ImageObject (new_image 0 0 U8))) held_cell
+    pub cell_is : cell_object t.objects cell ≡ object_in slot old.object
+    cell_is = grind (arith, held_under name old found)
 
-    pub image_is : image_held t.objects cell ≡ image_value (object_in cell.slot old.object)
+    pub image_is : image_held t.objects cell ≡ image_value (object_in slot old.object)
     image_is = ap image_value cell_is
 
-    pub image_there : HoldsImage t.objects cell → HasImage cell.slot old.object
-    image_there h = ap (option_map object_kind) (sym held_cell) ∙ h
+    pub image_there : HoldsImage t.objects cell → HasImage slot old.object
+    image_there h = grind (arith, held_under name old found)
 
-    pub shown_cell : (f : ObjectValue → ObjectValue) (new : Entry) (after : List (ℕ × Entry)) → InOrder entries → new.live ≡ old.live → new.object ≡ with_slot cell.slot (f (object_in cell.slot old.object)) old.object
-        → after ≡ set_value (is_at (nat_cmp cell.name)) entries new → ◌≡◌ {A = Context} (record { next = next; objects = map named after }) (with_objects t (with_object t.objects cell (f (cell_object t.objects cell))))
+    pub shown_cell : (f : ObjectValue → ObjectValue) (new : Entry) (after : List (ℕ × Entry)) → InOrder entries → new.live ≡ old.live → new.object ≡ with_slot slot (f (object_in slot old.object)) old.object
+        → after ≡ set_value (is_at (nat_cmp name)) entries new → ◌≡◌ {A = Context} (record { next = next; objects = map named after }) (with_objects t (with_object t.objects cell (f (cell_object t.objects cell))))
     shown_cell f new after order live is then =
-        ap (λ (l : List (ℕ × Entry)). let c : Context = record { next = next; objects = map named l } in c) then
-        ∙ ap (λ (l : List Named). let c : Context = record { next = next; objects = l } in c) (written entries cell old new (f (object_in cell.slot old.object)) order found live is)
-        ∙ ap (λ o. let c : Context = record { next = next; objects = with_object (map named entries) cell (f o) } in c) (sym cell_is)
-        ∙ ap (λ (c : Context). with_objects c (with_object c.objects cell (f (cell_object t.objects cell)))) view
+        let here : lookup (is_at (nat_cmp cell.name)) entries ≡ Some old = ap (λ k. lookup (is_at (nat_cmp k)) entries) (sym at) ∙ found in
+        grind (arith, written entries cell old new (f (object_in slot old.object)) order here live, cell_is)
 
 -- an image that is written over an image leaves no nodes
 pub no_nodes : (slot : Option ℕ) (image : ImageValue) (object : ObjectValue) → HasImage slot object → nodes_in (with_slot slot (ImageObject image) object) ≡ nodes_in object
@@ -358,15 +263,17 @@ pub plain : (object : ObjectValue) → (object_kind object ≡ kind.Graph → �
 plain (GraphObject graph) h = absurd (h refl)
 plain other h = refl
 
+-- an object of another kind has as many as any that isn't a graph
+pub none_of_kind : (wanted : Kind) (object new : ObjectValue) → object_kind object ≡ wanted → object_kind new ≡ wanted → (wanted ≡ kind.Graph → ⊥) → nodes_in new ≡ nodes_in object
+none_of_kind wanted object new is same other = plain new (λ graph. other (sym same ∙ graph)) ∙ sym (plain object (λ graph. other (sym is ∙ graph)))
+
 module _ (t : Context) (next : ℕ) (entries : List (ℕ × Entry)) (view : ◌≡◌ {A = Context} (record { next = next; objects = map named entries }) t) where
   -- an object of a kind that is held under a name is found
   pub nothing_under : (wanted : Kind) (name : ℕ) → lookup (is_at (nat_cmp name)) entries ≡ None → IsUnder t.objects wanted name → ⊥
   nothing_under wanted name none h = let no : ◌≡◌ {A = Option Kind} None (Some wanted) = ap (option_map object_kind) (sym (none_held t next entries view name none)) ∙ h in cc
 
-  pub nothing_held : (cell : Cell) → lookup (is_at (nat_cmp cell.name)) entries ≡ None → HoldsImage t.objects cell → ⊥
-  nothing_held cell none h =
-      let no : ◌≡◌ {A = Option Kind} None (Some kind.Image) = ap (λ o. option_map object_kind (option_and_then (in_slot cell.slot) o)) (sym (none_held t next entries view cell.name none)) ∙ h in cc
+  pub nothing_held : (cell : Cell) (name : ℕ) → name ≡ cell.name → lookup (is_at (nat_cmp name)) entries ≡ None → HoldsImage t.objects cell → ⊥
+  nothing_held cell name at none h = grind (arith, none_held t next entries view name none)
 
   pub kind_under : (wanted : Kind) (name : ℕ) (old : Entry) → lookup (is_at (nat_cmp name)) entries ≡ Some old → IsUnder t.objects wanted name → object_kind old.object ≡ wanted
-  kind_under wanted name old found h =
-      let kinds : ◌≡◌ {A = Option Kind} (Some (object_kind old.object)) (Some wanted) = ap (option_map object_kind) (sym (held_under t next entries view name old found)) ∙ h in cc
+  kind_under wanted name old found h = grind (arith, held_under t next entries view name old found)

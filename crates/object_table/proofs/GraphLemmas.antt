@@ -1,5 +1,5 @@
 -- Nodes that come and go, the names that they use, and what is held then.
-use Rattle.std.proofs.Common.{◌≡◌, ℕ, ◌+◌, ◌-◌, ◌*◌, ◌<◌, ◌≤◌, zero, suc, Bool, true, false, cond, List, [], ◌∷◌, ◌++◌, Option, Some, None, length, map, get_or, IsTrue, refl, sym, ap, subst, ◌∙◌, arith}
+use Rattle.std.proofs.Common.{◌≡◌, ℕ, ◌+◌, ◌-◌, ◌*◌, ◌<◌, ◌≤◌, zero, suc, Bool, true, false, cond, List, [], ◌∷◌, ◌++◌, Option, Some, None, length, map, get_or, IsTrue, refl, sym, ap, subst, ◌∙◌, arith, rules}
 use Rattle.std.specs.Prelude.{All, ◌==◌, ◌&&◌, ◌||◌, not, nat_lt, find, filter, sum_by, is_some}
 use Rattle.std.specs.List.{list_any, flat_map, AllPairs}
 use Rattle.std.specs.List.Sorted.{IsStrictlyIncreasing}
@@ -38,7 +38,7 @@ use Rattle.object_table.specs.Named.{Named, object_held}
 use Rattle.object_table.specs.Object.{graph_value}
 use Rattle.object_table.specs.Table.{named, used_more, used_less, is_kept, kept, IsTable}
 use Rattle.object_table.specs.Uses.{used_names, nodes_in, names_used_by, names_used, times}
-use Rattle.object_table.proofs.EntryLemmas.{same_name, InOrder, in_order, named_is, if_live, All-written, sum-written, charge_is}
+use Rattle.object_table.proofs.EntryLemmas.{same_name, past_head, none_named, InOrder, in_order, named_is, if_live, All-written, sum-written, charge_is}
 
 -- ---- how often a name stands in a list
 
@@ -51,11 +51,7 @@ times-append name names others = sum_by-append (λ other. cond (name == other) 1
 -- whether a name stands there
 any_times : (name : ℕ) (names : List ℕ) → nat_lt 0 (times name names) ≡ list_any (λ other. name == other) names
 any_times name [] = refl
-any_times name (other ∷ names) = ap (nat_lt 0) (times-cons name other names) ∙ either (name == other) (any_times name names)
-  where
-    either : (b : Bool) → nat_lt 0 (times name names) ≡ list_any (λ other. name == other) names → nat_lt 0 (cond b 1 0 + times name names) ≡ (b || list_any (λ other. name == other) names)
-    either true others = lt-ltb 0 (1 + times name names) (omega arith)
-    either false others = ap (nat_lt 0) (omega arith) ∙ others
+any_times name (other ∷ names) = grind (arith, any_times name names, times-cons name other names)
 
 -- ---- lists of lists
 
@@ -70,8 +66,7 @@ All-back P (x ∷ xs) ys h = All-back P xs ys (All-tail P x (xs ++ ys) h)
 module _ {X : Type 0} (f : X → List ℕ) where
   times-flat_map : (name : ℕ) (xs : List X) → times name (flat_map f xs) ≡ sum_by (λ x. times name (f x)) xs
   times-flat_map name [] = refl
-  times-flat_map name (x ∷ xs) =
-      times-append name (f x) (flat_map f xs) ∙ ap (λ n. times name (f x) + n) (times-flat_map name xs) ∙ sym (sum_by-cons (λ x. times name (f x)) x xs)
+  times-flat_map name (x ∷ xs) = grind (arith, times-flat_map name xs, times-append name (f x) (flat_map f xs), sum_by-cons (λ x. times name (f x)) x xs)
 
   All-flat_map : (P : ℕ → Type 0) (xs : List X) → All (λ x. All P (f x)) xs → All P (flat_map f xs)
   All-flat_map P [] h = All-nil P
@@ -89,7 +84,7 @@ any_map : {X Y : Type 0} (p : Y → Bool) (f : X → Y) (xs : List X) → list_a
 any_map p f [] = refl
 any_map p f (x ∷ xs) = ap (λ b. p (f x) || b) (any_map p f xs)
 
-any_alike : {X : Type 0} (p q : X → Bool) (xs : List X) → All (λ x. p x ≡ q x) xs → list_any p xs ≡ list_any q xs
+pub any_alike : {X : Type 0} (p q : X → Bool) (xs : List X) → All (λ x. p x ≡ q x) xs → list_any p xs ≡ list_any q xs
 any_alike p q [] h = refl
 any_alike p q (x ∷ xs) h = ap (λ b. b || list_any p xs) (All-head (λ x. p x ≡ q x) x xs h) ∙ ap (λ b. q x || b) (any_alike p q xs (All-tail (λ x. p x ≡ q x) x xs h))
 
@@ -97,32 +92,11 @@ any_alike p q (x ∷ xs) h = ap (λ b. b || list_any p xs) (All-head (λ x. p x 
 
 -- they are the cells that it reads and writes
 names_of_operands : (n : Node) → map (λ (operand : Cell × Kind). operand.0.name) (operands n) ≡ used_names n
-names_of_operands n = each n.in2 n.out1 n.out2
-  where
-    each : (in2 out1 out2 : Option Cell) → map (λ (operand : Cell × Kind). operand.0.name) ((n.in1, kind.Image) ∷ (with_kind (second_kind n) in2 ++ (with_kind (parameters n.function).output out1 ++ with_kind (parameters n.function).output out2)))
-        ≡ map (λ (cell : Cell). cell.name) ((n.in1 ∷ given in2) ++ (given out1 ++ given out2))
-    each None None None = refl
-    each None None (Some c) = refl
-    each None (Some b) None = refl
-    each None (Some b) (Some c) = refl
-    each (Some a) None None = refl
-    each (Some a) None (Some c) = refl
-    each (Some a) (Some b) None = refl
-    each (Some a) (Some b) (Some c) = refl
+names_of_operands n = grind (arith, given)
 
 -- a node has at most four
 four_names : (n : Node) → length (used_names n) ≤ 4
-four_names n = each n.in2 n.out1 n.out2
-  where
-    each : (in2 out1 out2 : Option Cell) → length (map (λ (cell : Cell). cell.name) ((n.in1 ∷ given in2) ++ (given out1 ++ given out2))) ≤ 4
-    each None None None = omega arith
-    each None None (Some c) = omega arith
-    each None (Some b) None = omega arith
-    each None (Some b) (Some c) = omega arith
-    each (Some a) None None = omega arith
-    each (Some a) None (Some c) = omega arith
-    each (Some a) (Some b) None = omega arith
-    each (Some a) (Some b) (Some c) = omega arith
+four_names n = grind (arith, given)
 
 -- the names of an object's nodes
 abbrev pub names_in : ObjectValue → List ℕ
@@ -140,12 +114,7 @@ times-with_node g n name =
 
 All-with_node : (P : ℕ → Type 0) (g : GraphValue) (n : Node) → All P (names_in (GraphObject g)) → All P (used_names n) → All P (names_in (GraphObject (with_node g n)))
 All-with_node P g n h new =
-    let added : Numbered = record { number = g.next; node = n } in
-    subst (All P)
-    (sym
-    (ap (flat_map used_names) (map-append (λ (m : Numbered). m.node) g.nodes (added ∷ []))
-    ∙ flat_map-append used_names (nodes_of g) (n ∷ [])))
-    (All-append P (names_in (GraphObject g)) (used_names n ++ []) h (All-append P (used_names n) [] new (All-nil P)))
+    grind (arith, flat_map-append used_names (nodes_of g) (n ∷ []), All-append P (names_in (GraphObject g)) (used_names n ++ []) h (All-append P (used_names n) [] new (All-nil P)), All-append P (used_names n), All-nil P, map-append, flat_map-append, All-append, All-nil)
 
 -- without the node of a number
 times_left : (number : ℕ) (nodes : List Numbered) (node : Node) (name : ℕ) → AllPairs (λ a b. a.number < b.number) nodes → find (λ n. n.number == number) nodes ≡ Some (record { number = number; node = node })
@@ -165,10 +134,7 @@ times_left number (n ∷ nodes) node name increase found = either (n.number == n
     -- no later node has the number of an earlier one
     all_stay : (ms : List Numbered) → All (λ m. n.number < m.number) ms → n.number ≡ number → filter (λ m. not (m.number == number)) ms ≡ ms
     all_stay [] above same = refl
-    all_stay (m ∷ ms) above same =
-        let apart : (m.number == number) ≡ false = ne_eqb m.number number (λ e. omega (arith, e, same, All-head (λ m. n.number < m.number) m ms above)) in
-        ap (λ b. cond (not b) (m ∷ filter (λ k. not (k.number == number)) ms) (filter (λ k. not (k.number == number)) ms)) apart
-        ∙ ap (λ l. m ∷ l) (all_stay ms (All-tail (λ m. n.number < m.number) m ms above) same)
+    all_stay (m ∷ ms) above same = grind (arith, all_stay ms (All-tail (λ m. n.number < m.number) m ms above) same, All-tail, above, ne_eqb, All-head)
 
     above : All (λ m. n.number < m.number) nodes
     above k d below = increase zero (suc k) d (omega arith) (omega (arith, below))
@@ -176,9 +142,7 @@ times_left number (n ∷ nodes) node name increase found = either (n.number == n
     either : (b : Bool) → (n.number == number) ≡ b → cond b (Some n) (find (λ m. m.number == number) nodes) ≡ Some (record { number = number; node = node })
         → (find (λ m. m.number == number) nodes ≡ Some (record { number = number; node = node }) → sum_by weight rest + times name (used_names node) ≡ sum_by weight nodes)
         → sum_by weight (cond (not b) (n ∷ rest) rest) + times name (used_names node) ≡ sum_by weight (n ∷ nodes)
-    either true same is others =
-        let this : n ≡ record { number = number; node = node } = cc in
-        omega (arith, ap (sum_by weight) (all_stay nodes above (eqb-true n.number number same)), ap weight this, sum_by-cons weight n nodes)
+    either true same is others = grind (arith, all_stay nodes above (eqb-true n.number number same), eqb-true n.number number same, sum_by-cons weight n nodes)
     either false apart is others = omega (arith, sum_by-cons weight n rest, sum_by-cons weight n nodes, others is)
 
 times-without_node : (g : GraphValue) (number : ℕ) (node : Node) (name : ℕ) → IsGraph g → find (λ n. n.number == number) g.nodes ≡ Some (record { number = number; node = node })
@@ -203,32 +167,18 @@ graph_is other h = cc
 -- ---- whether a name is used
 
 eqb-sym : (a b : ℕ) → (a == b) ≡ (b == a)
-eqb-sym a b = either (a == b) refl
-  where
-    either : (t : Bool) → (a == b) ≡ t → (a == b) ≡ (b == a)
-    either true same = same ∙ sym (eq-eqb b a (sym (eqb-true a b same)))
-    either false apart = apart ∙ sym (ne_eqb b a (λ same. eqb-false a b apart (sym same)))
+eqb-sym a b = grind arith
 
 -- by the nodes of one object
 named_by : (name : ℕ) (n : Node) → list_any (λ other. name == other) (used_names n) ≡ list_any (λ operand. operand.0.name == name) (operands n)
-named_by name n =
-    ap (list_any (λ other. name == other)) (sym (names_of_operands n))
-    ∙ any_map (λ other. name == other) (λ (operand : Cell × Kind). operand.0.name) (operands n)
-    ∙ any_alike (λ operand. name == operand.0.name) (λ operand. operand.0.name == name) (operands n) (λ k d below. eqb-sym name (get_or (operands n) k d).0.name)
+named_by name n = grind (arith, names_of_operands, any_map, any_alike, eqb-sym)
 
 used_in : (name : ℕ) (object : ObjectValue) → list_any (λ other. name == other) (flat_map used_names (nodes_in object)) ≡ uses object name
-used_in name (GraphObject g) =
-    any-flat_map used_names (λ other. name == other) (nodes_of g)
-    ∙ any_map (λ n. list_any (λ other. name == other) (used_names n)) (λ (n : Numbered). n.node) g.nodes
-    ∙ any_alike (λ n. list_any (λ other. name == other) (used_names n.node)) (names_it name) g.nodes (λ k d below. named_by name (get_or g.nodes k d).node)
+used_in name (GraphObject g) = grind (arith, any-flat_map, any_map, any_alike, named_by)
 used_in name other = refl
 
 used_live : (name : ℕ) (o : Named) → list_any (λ other. name == other) (names_used_by o) ≡ (o.live && uses o.object name)
-used_live name o = either o.live
-  where
-    either : (b : Bool) → list_any (λ other. name == other) (cond b (flat_map used_names (nodes_in o.object)) []) ≡ (b && uses o.object name)
-    either true = used_in name o.object
-    either false = refl
+used_live name o = grind (arith, used_in)
 
 -- by those of all unreleased graphs
 pub is_used_there : (objects : List Named) (name : ℕ) → nat_lt 0 (times name (names_used objects)) ≡ is_used objects name
@@ -260,30 +210,10 @@ pub record AreEntries (next : ℕ) (entries : List (ℕ × Entry)) : Type 0 wher
   pub given : All (λ e. All (λ name. name < next) (used_by e)) entries
 
 entries_of : (next charge : ℕ) (entries : List (ℕ × Entry)) → IsTable next charge entries → AreEntries next entries
-entries_of next charge entries t =
-    record {
-      names = t.names;
-      below = t.below;
-      left = t.left;
-      count = t.count;
-      each = t.each;
-      nodes = t.nodes;
-      given = All-parts used_by (λ name. name < next) entries (subst (All (λ name. name < next)) (used_is entries) t.given);
-    }
+entries_of next charge entries t = grind (arith, All-parts used_by (λ name. name < next) entries (subst (All (λ name. name < next)) (used_is entries) t.given), used_is entries)
 
 table_of : (next charge : ℕ) (entries : List (ℕ × Entry)) → AreEntries next entries → charge ≡ charge_of (map named entries) → All (λ e. e.1.uses ≡ times e.0 (names_used (map named entries))) entries → IsTable next charge entries
-table_of next charge entries h charged uses =
-    record {
-      names = h.names;
-      below = h.below;
-      left = h.left;
-      count = h.count;
-      each = h.each;
-      nodes = h.nodes;
-      charged = charged;
-      uses = uses;
-      given = subst (All (λ name. name < next)) (sym (used_is entries)) (All-flat_map used_by (λ name. name < next) entries h.given);
-    }
+table_of next charge entries h charged uses = grind (arith, used_is entries, All-flat_map used_by (λ name. name < next) entries h.given)
 
 -- all names that are used are few enough
 used_limit : (entries : List (ℕ × Entry)) → length entries ≤ 1024 → All (λ e. length (nodes_in e.1.object) ≤ 256) entries → length (names_used (map named entries)) ≤ 1024 * 1024
@@ -304,30 +234,13 @@ used_limit entries count nodes =
 -- a name that is held is below the next
 pub held_below : (next : ℕ) (entries : List (ℕ × Entry)) (name : ℕ) → All (λ e. e.0 < next) entries → IsTrue (is_some (object_held (map named entries) name)) → name < next
 held_below next [] name h there = absurd (false≢true there)
-held_below next (e ∷ entries) name h there = either (e.0 == name) refl there (held_below next entries name (All-tail (λ e. e.0 < next) e entries h))
-  where
-    either : (b : Bool) → (e.0 == name) ≡ b → IsTrue (is_some (option_map (λ (o : Named). o.object) (cond b (Some (named e)) (find (λ o. o.name == name) (map named entries)))))
-        → (IsTrue (is_some (object_held (map named entries) name)) → name < next) → name < next
-    either true same there others = omega (arith, eqb-true e.0 name same, All-head (λ e. e.0 < next) e entries h)
-    either false apart there others = others there
+held_below next (e ∷ entries) name h there = grind (arith, held_below next entries name (All-tail (λ e. e.0 < next) e entries h), All-tail, All-head)
 
 -- ---- an entry that is written
 
--- what is found at the head isn't found behind it
-past_head : (e : ℕ × Entry) (entries : List (ℕ × Entry)) (name : ℕ) → InOrder (e ∷ entries) → is_at (nat_cmp name) e.0 ≡ true → lookup (is_at (nat_cmp name)) entries ≡ None
-past_head e entries name order here =
-    lookup-none (is_at (nat_cmp name)) entries (none_past_head (eq_by_cmp_equiv nat_cmp_total) name e entries (IsDistinct-from_sorted nat_cmp (keys_of (e ∷ entries)) order) here)
-
 none_unnamed : (entries : List (ℕ × Entry)) (name : ℕ) → lookup (is_at (nat_cmp name)) entries ≡ None → unnamed (map named entries) name ≡ map named entries
 none_unnamed [] name none = refl
-none_unnamed (e ∷ entries) name none =
-    ap (λ b. let o = named e in cond b (record o { live = false }) o ∷ unnamed (map named entries) name) (sym (same_name name e.0))
-    ∙ either (is_at (nat_cmp name) e.0) none (none_unnamed entries name)
-  where
-    either : (b : Bool) → cond b (Some e.1) (lookup (is_at (nat_cmp name)) entries) ≡ None → (lookup (is_at (nat_cmp name)) entries ≡ None → unnamed (map named entries) name ≡ map named entries)
-        → (let o = named e in cond b (record o { live = false }) o ∷ unnamed (map named entries) name) ≡ named e ∷ map named entries
-    either true none rest = cc
-    either false none rest = ap (λ l. named e ∷ l) (rest none)
+none_unnamed (e ∷ entries) name none = grind (arith, none_unnamed entries name, same_name name e.0)
 
 -- one that isn't live from now on
 pub named-unlive : (entries : List (ℕ × Entry)) (name : ℕ) (old : Entry) → InOrder entries → lookup (is_at (nat_cmp name)) entries ≡ Some old
@@ -343,10 +256,7 @@ named-unlive (e ∷ entries) name old order found =
     either : (b : Bool) → is_at (nat_cmp name) e.0 ≡ b → cond b (Some e.1) (lookup (is_at (nat_cmp name)) entries) ≡ Some old
         → (lookup (is_at (nat_cmp name)) entries ≡ Some old → map named (set_value (is_at (nat_cmp name)) entries new) ≡ unnamed (map named entries) name)
         → map named (cond b ((e.0, new) ∷ entries) (e ∷ set_value (is_at (nat_cmp name)) entries new)) ≡ (let o = named e in cond b (record o { live = false }) o ∷ unnamed (map named entries) name)
-    either true here found rest =
-        let same : old ≡ e.1 = cc in
-        ap (λ (x : Entry). let o : Named = record { name = e.0; live = false; object = x.object } in o ∷ map named entries) same
-        ∙ ap (λ l. let o : Named = record { name = e.0; live = false; object = e.1.object } in o ∷ l) (sym (none_unnamed entries name (past_head e entries name order here)))
+    either true here found rest = grind (arith, none_unnamed entries name (past_head e entries name order here), past_head e entries name order here)
     either false here found rest = ap (λ l. named e ∷ l) (rest found)
 
 module _ (next charge : ℕ) (entries : List (ℕ × Entry)) (h : IsTable next charge entries) (name : ℕ) (old new : Entry) (found : lookup (is_at (nat_cmp name)) entries ≡ Some old) (same : new.uses ≡ old.uses) where
@@ -361,19 +271,12 @@ module _ (next charge : ℕ) (entries : List (ℕ × Entry)) (h : IsTable next c
   uses-after = All-written (λ e. e.1.uses ≡ times e.0 (names_used (map named entries))) entries name old new found (λ k h. same ∙ h) h.uses
 
   pub few-uses : All (λ e. e.1.uses ≤ 1024 * 1024) after
-  few-uses =
-      All-weaker (λ e. e.1.uses ≡ times e.0 (names_used (map named entries))) (λ e. e.1.uses ≤ 1024 * 1024)
-      (λ e is. omega (arith, is, count_by-le-length (λ other. e.0 == other) (names_used (map named entries)), used_limit entries h.count h.nodes)) after uses-after
+  few-uses = grind (arith, All-weaker, count_by-le-length, used_limit, uses-after)
 
   -- but other names are used
   times-after : (n : ℕ) → times n (names_used (map named after)) + times n (used_by (name, old)) ≡ times n (names_used (map named entries)) + times n (used_by (name, new))
   times-after n =
-      omega (
-        arith,
-        sum-written (λ e. times n (used_by e)) entries name old new found,
-        ap (times n) (used_is after) ∙ times-flat_map used_by n after,
-        ap (times n) (used_is entries) ∙ times-flat_map used_by n entries,
-      )
+      grind (arith, sum-written (λ e. times n (used_by e)) entries name old new found, used_is after, times-flat_map used_by n after, used_is entries, times-flat_map used_by n entries)
 
   entries-after : (length (nodes_in old.object) ≤ 256 → length (nodes_in new.object) ≤ 256) → object_bytes new.object ≡ object_bytes old.object → ((k : ℕ) → All (λ n. n < next) (used_by (k, old)) → All (λ n. n < next) (used_by (k, new))) → AreEntries next after
   entries-after few bytes given =
@@ -420,10 +323,7 @@ module _ (f : ℕ → ℕ → ℕ) where
   -- they are used so often
   uses-recounted : (entries : List (ℕ × Entry)) → All (λ e. f e.0 e.1.uses ≡ times e.0 (names_used (map named entries))) entries
       → All (λ e. e.1.uses ≡ times e.0 (names_used (map named (recounted entries)))) (recounted entries)
-  uses-recounted entries h =
-      let step : ℕ × Entry → ℕ × Entry = λ e. let n : Entry = e.1 in (e.0, record n { uses = f e.0 n.uses }) in
-      subst (λ (l : List Named). All (λ e. e.1.uses ≡ times e.0 (names_used l)) (recounted entries)) (sym (named-recounted entries))
-      (All-map (λ (e : ℕ × Entry). e.1.uses ≡ times e.0 (names_used (map named entries))) step entries h)
+  uses-recounted entries h = search (rules, named-recounted, All-map)
 
 -- ---- what is held still
 
@@ -451,30 +351,15 @@ increasing-kept p entries h k below =
 -- what goes isn't live, and so uses nothing
 used-kept : (entries : List (ℕ × Entry)) → flat_map used_by (kept entries) ≡ flat_map used_by entries
 used-kept [] = refl
-used-kept (e ∷ entries) = either e.1.live (nat_lt 0 e.1.uses) refl (used-kept entries)
-  where
-    either : (live b : Bool) → e.1.live ≡ live → flat_map used_by (kept entries) ≡ flat_map used_by entries
-        → flat_map used_by (cond (live || b) (e ∷ kept entries) (kept entries)) ≡ used_by e ++ flat_map used_by entries
-    either true b is rest = ap (λ l. used_by e ++ l) rest
-    either false true is rest = ap (λ l. used_by e ++ l) rest
-    either false false is rest = rest ∙ ap (λ b. cond b (names_in e.1.object) [] ++ flat_map used_by entries) (sym is)
+used-kept (e ∷ entries) = grind (arith, used-kept entries)
 
 named-kept : (p : Named → Bool) (entries : List (ℕ × Entry)) → All (λ e. is_kept e ≡ p (named e)) entries → map named (kept entries) ≡ filter p (map named entries)
 named-kept p [] h = refl
-named-kept p (e ∷ entries) h =
-    ap (λ b. map named (cond b (e ∷ kept entries) (kept entries))) (All-head (λ e. is_kept e ≡ p (named e)) e entries h)
-    ∙ either (p (named e)) (named-kept p entries (All-tail (λ e. is_kept e ≡ p (named e)) e entries h))
-  where
-    either : (b : Bool) → map named (kept entries) ≡ filter p (map named entries) → map named (cond b (e ∷ kept entries) (kept entries)) ≡ cond b (named e ∷ filter p (map named entries)) (filter p (map named entries))
-    either true rest = ap (λ l. named e ∷ l) rest
-    either false rest = rest
+named-kept p (e ∷ entries) h = grind (arith, named-kept p entries (All-tail (λ e. is_kept e ≡ p (named e)) e entries h), All-tail, All-head)
 
 -- the entries that are kept show what is held still
 shown-kept : (entries : List (ℕ × Entry)) → All (λ e. e.1.uses ≡ times e.0 (names_used (map named entries))) entries → map named (kept entries) ≡ still_held (map named entries)
-shown-kept entries uses =
-    named-kept (is_held (map named entries)) entries
-    (All-weaker (λ e. e.1.uses ≡ times e.0 (names_used (map named entries))) (λ e. is_kept e ≡ is_held (map named entries) (named e))
-    (λ e is. ap (λ n. e.1.live || nat_lt 0 n) is ∙ ap (λ b. e.1.live || b) (is_used_there (map named entries) e.0)) entries uses)
+shown-kept entries uses = grind (arith, named-kept, All-weaker, is_used_there)
 
 IsTable-kept : (next : ℕ) (entries : List (ℕ × Entry)) → AreEntries next entries → All (λ e. e.1.uses ≡ times e.0 (names_used (map named entries))) entries
     → IsTable next (charge_of (map named (kept entries))) (kept entries)
@@ -495,8 +380,7 @@ IsTable-kept next entries h uses =
 -- no name that is used less leaves all as they are
 pub used_less-none : (entries : List (ℕ × Entry)) → used_less [] entries ≡ entries
 used_less-none [] = refl
-used_less-none (e ∷ entries) =
-    ap (λ (n : ℕ). let o : Entry = e.1 in let d : ℕ × Entry = (e.0, record o { uses = n }) in d ∷ used_less [] entries) (omega arith) ∙ ap (λ l. e ∷ l) (used_less-none entries)
+used_less-none (e ∷ entries) = grind (arith, used_less-none entries)
 
 -- ---- one node more
 
@@ -538,9 +422,7 @@ module _ (next charge : ℕ) (entries : List (ℕ × Entry)) (h : IsTable next c
   module _ (number : ℕ) (graph_holds : IsGraph (graph_value old.object)) (there : find (λ n. n.number == number) (graph_value old.object).nodes ≡ Some (record { number = number; node = node }))
       (is : new.object ≡ GraphObject (without_node (graph_value old.object) number)) where
     fewer-removed : (n : ℕ) → times n (names_used (map named entries)) ≡ times n (names_used (map named (set_value (is_at (nat_cmp name)) entries new))) + times n (used_names node)
-    fewer-removed n =
-        let g = graph_value old.object in
-        omega (arith, times-after next charge entries h name old new found same n, ap (times n) (before_is name), ap (times n) (now_is name (without_node g number) is), times-without_node g number node n graph_holds there)
+    fewer-removed n = grind (arith, times-after next charge entries h name old new found same n, before_is name, times-after, before_is, now_is, times-without_node)
 
     entries-removed : AreEntries next (set_value (is_at (nat_cmp name)) entries new)
     entries-removed =
@@ -607,73 +489,41 @@ module _ (next charge : ℕ) (entries : List (ℕ × Entry)) (h : IsTable next c
   pub removed-left : (object : ObjectValue) → object_bytes object ≡ object_bytes old.object → object_kind old.object ≡ kind.Graph → (node : Node) (number : ℕ) → IsGraph (graph_value old.object)
       → find (λ n. n.number == number) (graph_value old.object).nodes ≡ Some (record { number = number; node = node }) → object ≡ GraphObject (without_node (graph_value old.object) number)
       → less ≡ used_less (used_names node) (set_value (is_at (nat_cmp name)) entries (record old { object = object })) → AreLeft next (set_value (is_at (nat_cmp name)) entries (record old { object = object })) less
-  removed-left object bytes graph node number holds there is =
-      let new : Entry = record old { object = object } in
-      are-left next charge entries h name old new found refl (used_names node)
-      (fewer-removed next charge entries h name old new found refl bytes live refl graph node number holds there is)
-      (entries-removed next charge entries h name old new found refl bytes live refl graph node number holds there is) less
+  removed-left object bytes graph node number holds there is = search (rules, are-left, fewer-removed, entries-removed)
 
   -- once a name isn't live
   pub released-left : less ≡ used_less (names_in old.object) (set_value (is_at (nat_cmp name)) entries (record old { live = false })) → AreLeft next (set_value (is_at (nat_cmp name)) entries (record old { live = false })) less
-  released-left is =
-      are-left next charge entries h name old (record old { live = false }) found refl (names_in old.object) (fewer-released next charge entries h name old found live) (entries-released next charge entries h name old found live) less is
+  released-left is = search (rules, are-left, fewer-released, entries-released)
 
 -- what is written is found
 pub found-written : (entries : List (ℕ × Entry)) (name : ℕ) (old new : Entry) → lookup (is_at (nat_cmp name)) entries ≡ Some old → lookup (is_at (nat_cmp name)) (set_value (is_at (nat_cmp name)) entries new) ≡ Some new
 found-written [] name old new found = cc
-found-written (e ∷ entries) name old new found = either (is_at (nat_cmp name) e.0) refl found (found-written entries name old new)
-  where
-    test : ℕ → Bool
-    test = is_at (nat_cmp name)
-
-    either : (b : Bool) → test e.0 ≡ b → cond b (Some e.1) (lookup test entries) ≡ Some old → (lookup test entries ≡ Some old → lookup test (set_value test entries new) ≡ Some new)
-        → lookup test (cond b ((e.0, new) ∷ entries) (e ∷ set_value test entries new)) ≡ Some new
-    either true here found rest = ap (λ b. cond b (Some new) (lookup test entries)) here
-    either false here found rest = ap (λ b. cond b (Some e.1) (lookup test (set_value test entries new))) here ∙ rest found
+found-written (e ∷ entries) name old new found = grind (arith, found-written entries name old new)
 
 -- the same table, where its parts are the same
 pub IsTable-same : (next more charge sum : ℕ) (entries others : List (ℕ × Entry)) → more ≡ next → sum ≡ charge → others ≡ entries → IsTable next charge entries → IsTable more sum others
-IsTable-same next more charge sum entries others n c e t =
-    subst (λ (l : List (ℕ × Entry)). IsTable more sum l) (sym e) (subst (λ (k : ℕ). IsTable more k entries) (sym c) (subst (λ (k : ℕ). IsTable k charge entries) (sym n) t))
+IsTable-same next more charge sum entries others n c e t = grind arith
 
 -- ---- a table that shows a context
-
-no_name : (entries : List (ℕ × Entry)) (name : ℕ) → lookup (is_at (nat_cmp name)) entries ≡ None → object_named (map named entries) name ≡ None
-no_name [] name none = refl
-no_name (e ∷ entries) name none =
-    ap (λ b. option_map (λ (o : Named). o.object) (cond (e.1.live && b) (Some (named e)) (find (λ o. o.live && o.name == name) (map named entries)))) (sym (same_name name e.0))
-    ∙ either (is_at (nat_cmp name) e.0) e.1.live none (no_name entries name)
-  where
-    either : (b live : Bool) → cond b (Some e.1) (lookup (is_at (nat_cmp name)) entries) ≡ None → (lookup (is_at (nat_cmp name)) entries ≡ None → object_named (map named entries) name ≡ None)
-        → option_map (λ (o : Named). o.object) (cond (live && b) (Some (named e)) (find (λ o. o.live && o.name == name) (map named entries))) ≡ None
-    either true live none rest = cc
-    either false true none rest = rest none
-    either false false none rest = rest none
 
 -- an entry that is as it was
 pub unchanged : (entries : List (ℕ × Entry)) (name : ℕ) (old : Entry) (object : ObjectValue) → lookup (is_at (nat_cmp name)) entries ≡ Some old → object ≡ old.object
     → set_value (is_at (nat_cmp name)) entries (record old { object = object }) ≡ entries
-unchanged entries name old object found is =
-    ap (λ (o : ObjectValue). set_value (is_at (nat_cmp name)) entries (record old { object = o })) is ∙ set_value_same (is_at (nat_cmp name)) entries old found
+unchanged entries name old object found is = grind (arith, set_value_same (is_at (nat_cmp name)) entries old found)
 
 module _ (t : Context) (next charge : ℕ) (entries : List (ℕ × Entry)) (view : ◌≡◌ {A = Context} (record { next = next; objects = map named entries }) t) (h : IsTable next charge entries) where
   -- nothing has a name that isn't found
   pub none_there : (name : ℕ) → lookup (is_at (nat_cmp name)) entries ≡ None → object_named t.objects name ≡ None
-  none_there name none = ap (λ (c : Context). object_named c.objects name) (sym view) ∙ no_name entries name none
+  none_there name none = ap (λ (c : Context). object_named c.objects name) (sym view) ∙ none_named entries name none
 
   -- the object of a live name
   pub named_there : (name : ℕ) (old : Entry) → lookup (is_at (nat_cmp name)) entries ≡ Some old → object_named t.objects name ≡ if_live old
   named_there name old found = ap (λ (c : Context). object_named c.objects name) (sym view) ∙ named_is entries name old (in_order entries h.names) found
 
   pub live_there : (name : ℕ) (old : Entry) → lookup (is_at (nat_cmp name)) entries ≡ Some old → IsTrue (is_some (object_named t.objects name)) → old.live ≡ true
-  live_there name old found some = either old.live refl (ap is_some (sym (named_there name old found)) ∙ some)
-    where
-      either : (b : Bool) → old.live ≡ b → is_some (if_live old) ≡ true → old.live ≡ true
-      either true is some = is
-      either false is some = let no : is_some (if_live old) ≡ false = ap (λ b. is_some (cond b (Some old.object) None)) is in absurd (false≢true (sym no ∙ some))
+  live_there name old found some = grind (arith, named_there name old found, if_live old)
 
   -- names that are held are below the next
   pub all_below : (names : List ℕ) → All (λ name. IsTrue (is_some (object_held t.objects name))) names → All (λ n. n < next) names
   all_below names held =
-      All-weaker (λ name. IsTrue (is_some (object_held t.objects name))) (λ n. n < next)
-      (λ name some. held_below next entries name h.below (ap (λ (c : Context). is_some (object_held c.objects name)) view ∙ some)) names held
+      grind (arith, All-weaker (λ name. IsTrue (is_some (object_held t.objects name))) (λ n. n < next) (λ name some. held_below next entries name h.below (ap (λ (c : Context). is_some (object_held c.objects name)) view ∙ some)) names held)

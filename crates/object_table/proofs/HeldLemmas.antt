@@ -1,5 +1,5 @@
 -- Objects under their names: the one of a name, and the objects when one is written.
-use Rattle.std.proofs.Common.{◌≡◌, ℕ, ◌+◌, ◌<◌, Bool, true, false, cond, List, [], ◌∷◌, map, get_or, zero, suc, refl, ap, subst, ◌∙◌, arith, Option, Some, None, IfSome}
+use Rattle.std.proofs.Common.{◌≡◌, ℕ, ◌+◌, ◌<◌, Bool, true, false, cond, List, [], ◌∷◌, map, get_or, zero, suc, refl, ap, subst, ◌∙◌, arith, Option, Some, None, IfSome, rules}
 use Rattle.std.specs.Prelude.{All, ◌==◌, if◌then◌else◌, find, slice_get}
 use Rattle.std.specs.List.Sorted.{IsStrictlyIncreasing}
 use Rattle.std.specs.List.{AllPairs}
@@ -67,63 +67,28 @@ HasObject name is o = o.name ≡ name → o.object ≡ is
 -- where names increase, the object of a name is the only one
 pub held_alone : (objects : List Named) (name : ℕ) → IsStrictlyIncreasing (names_of objects) → IfSome (object_held objects name) (λ object. All (HasObject name object) objects)
 held_alone [] name h = tt
-held_alone (o ∷ objects) name h =
-    let IsOnly : List Named → ObjectValue → Type 0 = λ all object. All (HasObject name object) all in
-    let Is : Option Named → Type 0 = λ found. IfSome (option_map (λ p. p.object) found) (IsOnly (o ∷ objects)) in
-    let rest : IfSome (object_held objects name) (IsOnly objects) = held_alone objects name (later_increase o objects h) in
-    cond_both (o.name == name) (Some o) (find (λ p. p.name == name) objects) Is
-    (λ t. let same = eqb-true o.name name t in
-    All-cons (HasObject name o.object) o objects (λ e. refl)
-    (All-weaker (λ p. o.name < p.name) (HasObject name o.object) (λ p less e. absurd (omega arith)) objects (above_first o objects h)))
-    (λ t. IfSome_then (object_held objects name) rest
-    (λ object others. All-cons (HasObject name object) o objects (λ e. absurd (eqb-false o.name name t e)) others))
+held_alone (o ∷ objects) name h = search (rules, held_alone objects name (later_increase o objects h), later_increase, eqb-true, All-cons, All-weaker, above_first, IfSome_then, eqb-false)
 
 -- and each object is that of its name
 pub held_by_name : (objects : List Named) → IsStrictlyIncreasing (names_of objects) → All (λ o. object_held objects o.name ≡ Some o.object) objects
 held_by_name [] h = All-nil (λ o. object_held [] o.name ≡ Some o.object)
-held_by_name (o ∷ objects) h =
-    let object_of : Option Named → Option ObjectValue = option_map (λ p. p.object) in
-    let above = above_first o objects h in
-    let rest = held_by_name objects (later_increase o objects h) in
-    let Is : Named → Type 0 = λ p. object_held (o ∷ objects) p.name ≡ Some p.object in
-    All-cons Is o objects
-    (ap (λ b. object_of (cond b (Some o) (find (λ p. p.name == o.name) objects))) (eq-eqb o.name o.name refl))
-    (λ k d below.
-    let p : Named = get_or objects k d in
-    let less = above k d below in
-    ap (λ b. object_of (cond b (Some o) (find (λ q. q.name == p.name) objects))) (ne_eqb o.name p.name (λ e. omega arith)) ∙ rest k d below)
+held_by_name (o ∷ objects) h = grind (arith, held_by_name objects (later_increase o objects h), above_first o objects h, later_increase o objects h, eq-eqb o.name o.name refl)
 
 -- of objects that are changed under their names, the one of a name is so changed
 pub object_held-map : (f : Named → Named) (change : ObjectValue → ObjectValue) (objects : List Named) (name : ℕ) → ((o : Named) → (f o).name ≡ o.name)
     → ((o : Named) → o.name ≡ name → (f o).object ≡ change o.object) → object_held (map f objects) name ≡ option_map change (object_held objects name)
 object_held-map f change [] name same changed = refl
-object_held-map f change (o ∷ objects) name same changed =
-    ap (λ k. option_map (λ (p : Named). p.object) (cond (k == name) (Some (f o)) (find (λ p. p.name == name) (map f objects)))) (same o)
-    ∙ either (o.name == name) refl (object_held-map f change objects name same changed)
-  where
-    either : (b : Bool) → (o.name == name) ≡ b → object_held (map f objects) name ≡ option_map change (object_held objects name)
-        → option_map (λ (p : Named). p.object) (cond b (Some (f o)) (find (λ p. p.name == name) (map f objects)))
-        ≡ option_map change (option_map (λ (p : Named). p.object) (cond b (Some o) (find (λ p. p.name == name) objects)))
-    either true t others = ap Some (changed o (eqb-true o.name name t))
-    either false t others = others
+object_held-map f change (o ∷ objects) name same changed = grind (arith, object_held-map f change objects name same changed)
 
 -- ---- what a cell holds
 
 -- what holds of each image that stands in a slot holds of what stands there
 pub slot_has : (P : ObjectValue → Type 0) (images : List ImageValue) (k : ℕ) → ((image : ImageValue) → slice_get images k ≡ Some image → P (ImageObject image)) → IfSome (in_slot (Some k) (DelayObject images)) P
-slot_has P images k h = if_there (slice_get images k) h
-  where
-    if_there : (found : Option ImageValue) → ((image : ImageValue) → found ≡ Some image → P (ImageObject image)) → IfSome (option_map ImageObject found) P
-    if_there None h = tt
-    if_there (Some image) h = h image refl
+slot_has P images k h = grind arith
 
 -- what a cell holds is an object
 pub held_is : (objects : List Named) (cell : Cell) → All (λ o. IsObject o.object) objects → IfSome (held objects cell) IsObject
-held_is objects cell h = in_its_slot (object_held objects cell.name) (object_held_has IsObject objects cell.name h)
-  where
-    in_its_slot : (object : Option ObjectValue) → IfSome object IsObject → IfSome (option_and_then (in_slot cell.slot) object) IsObject
-    in_its_slot None is = tt
-    in_its_slot (Some object) is = IsObject-in_slot cell.slot object is
+held_is objects cell h = grind (arith, object_held_has IsObject objects cell.name h, object_held_has, IsObject-in_slot)
 
 -- ---- one object is written
 
@@ -133,18 +98,14 @@ written o cell object = if o.name == cell.name then record o { object = with_slo
 
 -- what holds of both holds of it
 written_or_kept : (P : Named → Type 0) (o : Named) (cell : Cell) (object : ObjectValue) → (o.name ≡ cell.name → P (record o { object = with_slot cell.slot object o.object })) → P o → P (written o cell object)
-written_or_kept P o cell object named kept =
-    cond_both (o.name == cell.name) (record o { object = with_slot cell.slot object o.object }) o P (λ e. named (eqb-true o.name cell.name e)) (λ e. kept)
+written_or_kept P o cell object named kept = grind arith
 
 -- what holds of each object holds after a write that keeps it
 pub All-with_object : (P Q : Named → Type 0) (objects : List Named) (cell : Cell) (object : ObjectValue)
     → ((o : Named) → Q o → P o → o.name ≡ cell.name → P (record o { object = with_slot cell.slot object o.object })) → All Q objects → All P objects → All P (with_object objects cell object)
 All-with_object P Q [] cell object keeps also h = All-nil P
 All-with_object P Q (o ∷ objects) cell object keeps also h =
-    let here : P o = All-head P o objects h in
-    All-cons P (written o cell object) (with_object objects cell object)
-    (written_or_kept P o cell object (keeps o (All-head Q o objects also) here) here)
-    (All-with_object P Q objects cell object keeps (All-tail Q o objects also) (All-tail P o objects h))
+    grind (arith, All-with_object P Q objects cell object keeps (All-tail Q o objects also) (All-tail P o objects h), All-head P o objects h, All-head Q o objects also, All-tail Q o objects also, All-tail P o objects h)
 
 -- what is the same of each object that is written is the same of all
 pub map-with_object : {X : Type 0} (f : Named → X) (objects : List Named) (cell : Cell) (object : ObjectValue)

@@ -1,5 +1,5 @@
 -- Images that are stored.
-use Rattle.std.proofs.Common.{◌≡◌, ℕ, ℤ, List, pos, replicate, ap, ◌∙◌, sym}
+use Rattle.std.proofs.Common.{◌≡◌, ℕ, ℤ, List, pos, replicate, ap, ◌∙◌, sym, arith}
 use Rattle.vx_base.specs.declared.samples.Samples.{Samples}
 use Rattle.vx_base.specs.Rectangle.{Rectangle, whole}
 use Rattle.vx_base.specs.Description.{Description, sample_count}
@@ -11,12 +11,8 @@ use Rattle.vx_base.proofs.ZeroLaws.{samples-new_image}
 -- samples that are all 0 make a new image
 pub zeros_are_new : (d : Description) (area : Rectangle) (samples : Samples) (count : ℕ) → area ≡ whole d.width d.height → count ≡ sample_count d → values samples ≡ replicate count (pos 0)
     → image_over d area (values samples) ≡ new_image d.width d.height d.format
-zeros_are_new d area samples count all long zero =
-    ap (λ r. image_over d r (values samples)) all
-    ∙ ap (image_over d (whole d.width d.height)) (zero ∙ ap (λ n. replicate n (pos 0)) long ∙ sym (samples-new_image d.width d.height d.format))
+zeros_are_new d area samples count all long zero = grind (arith, samples-new_image d.width d.height d.format)
 
 -- samples that are cleared outside a rectangle make the image with that valid rectangle
 pub cleared_is : (d : Description) (valid old : Rectangle) (samples out : List ℤ) (width height : ℕ) → width ≡ d.width → height ≡ d.height → out ≡ table width height (within valid (sample_at width samples)) → image_over d valid out ≡ with_valid valid (image_over d old samples)
-cleared_is d valid old samples out width height wide high is =
-    ap (image_over d valid)
-    (is ∙ ap (λ n. table n height (within valid (sample_at n samples))) wide ∙ ap (λ n. table d.width n (within valid (sample_at d.width samples))) high)
+cleared_is d valid old samples out width height wide high is = grind arith

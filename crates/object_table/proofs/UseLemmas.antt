@@ -57,63 +57,29 @@ module _ (op : ℕ → ℕ → ℕ) (is : IsUse op) where
   -- no names change nothing
   pub used-nil : (entries : List (ℕ × Entry)) → used op [] entries ≡ entries
   used-nil [] = refl
-  used-nil (e ∷ entries) =
-      ap (λ n. let d : ℕ × Entry = (e.0, with_uses e.1 n) in d ∷ used op [] entries) (is.nothing e.1.uses)
-      ∙ ap (λ l. e ∷ l) (used-nil entries)
+  used-nil (e ∷ entries) = grind (arith, used-nil entries)
 
   -- names after others
   pub used-append : (first second : List ℕ) (entries : List (ℕ × Entry)) → used op second (used op first entries) ≡ used op (first ++ second) entries
   used-append first second [] = refl
-  used-append first second (e ∷ entries) =
-      ap (λ n. let d : ℕ × Entry = (e.0, with_uses e.1 n) in d ∷ used op second (used op first entries))
-      (is.twice e.1.uses (times e.0 first) (times e.0 second) ∙ ap (op e.1.uses) (sym (times-append e.0 first second)))
-      ∙ ap (λ l. (e.0, with_uses e.1 (op e.1.uses (times e.0 (first ++ second)))) ∷ l) (used-append first second entries)
+  used-append first second (e ∷ entries) = grind (arith, used-append first second entries, times-append e.0 first second)
 
   -- a name that isn't there
   pub used-none : (entries : List (ℕ × Entry)) (name : ℕ) → lookup (is_at (nat_cmp name)) entries ≡ None → entries ≡ used op (name ∷ []) entries
   used-none [] name none = refl
-  used-none (e ∷ entries) name none =
-      either (is_at (nat_cmp name) e.0) none (used-none entries name)
-      ∙ ap (λ b. let d : ℕ × Entry = (e.0, with_uses e.1 (op e.1.uses (0 + cond b 1 0))) in d ∷ used op (name ∷ []) entries) (same_name name e.0)
-    where
-      either : (b : Bool) → cond b (Some e.1) (lookup (is_at (nat_cmp name)) entries) ≡ None → (lookup (is_at (nat_cmp name)) entries ≡ None → entries ≡ used op (name ∷ []) entries)
-          → e ∷ entries ≡ (let d : ℕ × Entry = (e.0, with_uses e.1 (op e.1.uses (0 + cond b 1 0))) in d ∷ used op (name ∷ []) entries)
-      either true none rest = cc
-      either false none rest =
-          ap (λ l. e ∷ l) (rest none)
-          ∙ ap (λ n. let d : ℕ × Entry = (e.0, with_uses e.1 n) in d ∷ used op (name ∷ []) entries) (sym (is.nothing e.1.uses))
+  used-none (e ∷ entries) name none = grind (arith, used-none entries name, same_name name e.0)
 
   -- a name that is there
   pub used-one : (entries : List (ℕ × Entry)) (name : ℕ) (old : Entry) → InOrder entries → lookup (is_at (nat_cmp name)) entries ≡ Some old
       → set_value (is_at (nat_cmp name)) entries (with_uses old (op old.uses 1)) ≡ used op (name ∷ []) entries
   used-one [] name old order found = cc
-  used-one (e ∷ entries) name old order found =
-      either (is_at (nat_cmp name) e.0) refl found (used-one entries name old (sorted_tail nat_cmp e.0 (keys_of entries) order))
-      ∙ ap (λ b. let d : ℕ × Entry = (e.0, with_uses e.1 (op e.1.uses (0 + cond b 1 0))) in d ∷ used op (name ∷ []) entries) (same_name name e.0)
-    where
-      either : (b : Bool) → is_at (nat_cmp name) e.0 ≡ b → cond b (Some e.1) (lookup (is_at (nat_cmp name)) entries) ≡ Some old
-          → (lookup (is_at (nat_cmp name)) entries ≡ Some old → set_value (is_at (nat_cmp name)) entries (with_uses old (op old.uses 1)) ≡ used op (name ∷ []) entries)
-          → cond b ((e.0, with_uses old (op old.uses 1)) ∷ entries) (e ∷ set_value (is_at (nat_cmp name)) entries (with_uses old (op old.uses 1)))
-          ≡ (let d : ℕ × Entry = (e.0, with_uses e.1 (op e.1.uses (0 + cond b 1 0))) in d ∷ used op (name ∷ []) entries)
-      either true here found rest =
-          let same : old ≡ e.1 = cc in
-          ap (λ (x : Entry). let d : ℕ × Entry = (e.0, with_uses x (op x.uses 1)) in d ∷ entries) same
-          ∙ ap (λ l. let d : ℕ × Entry = (e.0, with_uses e.1 (op e.1.uses 1)) in d ∷ l) (used-none entries name (past_head e entries name order here))
-      either false here found rest =
-          ap (λ l. e ∷ l) (rest found)
-          ∙ ap (λ n. let d : ℕ × Entry = (e.0, with_uses e.1 n) in d ∷ used op (name ∷ []) entries) (sym (is.nothing e.1.uses))
+  used-one (e ∷ entries) name old order found = grind (arith, used-one entries name old (sorted_tail nat_cmp e.0 (keys_of entries) order), sorted_tail, same_name, used-none, past_head)
 
   -- the objects stay
   pub objects-used : {X : Type 0} (g : ObjectValue → X) (name : ℕ) (names : List ℕ) (entries : List (ℕ × Entry))
       → option_map (λ e. g e.object) (lookup (is_at (nat_cmp name)) (used op names entries)) ≡ option_map (λ e. g e.object) (lookup (is_at (nat_cmp name)) entries)
   objects-used g name names [] = refl
-  objects-used g name names (e ∷ entries) = either (is_at (nat_cmp name) e.0) (objects-used g name names entries)
-    where
-      either : (b : Bool) → option_map (λ e. g e.object) (lookup (is_at (nat_cmp name)) (used op names entries)) ≡ option_map (λ e. g e.object) (lookup (is_at (nat_cmp name)) entries)
-          → option_map (λ e. g e.object) (cond b (Some (with_uses e.1 (op e.1.uses (times e.0 names)))) (lookup (is_at (nat_cmp name)) (used op names entries)))
-          ≡ option_map (λ e. g e.object) (cond b (Some e.1) (lookup (is_at (nat_cmp name)) entries))
-      either true rest = refl
-      either false rest = rest
+  objects-used g name names (e ∷ entries) = grind (arith, objects-used g name names entries)
 
   -- the operands of a node, one after the other
   pub used-node : (node : Node) (old first second third last : List (ℕ × Entry))
@@ -122,36 +88,21 @@ module _ (op : ℕ → ℕ → ℕ) (is : IsUse op) where
       → third ≡ used op (map (λ cell. cell.name) (given node.out1)) second
       → last ≡ used op (map (λ cell. cell.name) (given node.out2)) third
       → last ≡ used op (used_names node) old
-  used-node node old first second third last at_first at_second at_third at_last =
-      let name : Cell → ℕ = λ cell. cell.name in
-      let a : List ℕ = node.in1.name ∷ [] in
-      let b = map name (given node.in2) in
-      let c = map name (given node.out1) in
-      let d = map name (given node.out2) in
-      let two : second ≡ used op (a ++ b) old = at_second ∙ ap (used op b) at_first ∙ used-append a b old in
-      let outs : third ≡ used op c second = at_third in
-      let four : last ≡ used op (c ++ d) second = at_last ∙ ap (used op d) outs ∙ used-append c d second in
-      let names : (a ++ b) ++ (c ++ d) ≡ used_names node =
-      ap (λ l. (a ++ b) ++ l) (sym (map-append name (given node.out1) (given node.out2)))
-      ∙ sym (map-append name (node.in1 ∷ given node.in2) (given node.out1 ++ given node.out2)) in
-      four ∙ ap (used op (c ++ d)) two ∙ used-append (a ++ b) (c ++ d) old ∙ ap (λ l. used op l old) names
+  used-node node old first second third last at_first at_second at_third at_last = grind (arith, used-append, map-append)
 
 -- an operand that there is
 pub used-operand : (op : ℕ → ℕ → ℕ) (operand : Option Cell) (cell : Cell) (name : ℕ) (entries : List (ℕ × Entry)) → operand ≡ Some cell → name ≡ cell.name
     → used op (name ∷ []) entries ≡ used op (map (λ cell. cell.name) (given operand)) entries
-used-operand op operand cell name entries some same =
-    ap (λ n. used op (n ∷ []) entries) same ∙ ap (λ (o : Option Cell). used op (map (λ cell. cell.name) (given o)) entries) (sym some)
+used-operand op operand cell name entries some same = grind arith
 
 -- an operand that there isn't
 pub used-nothing : (op : ℕ → ℕ → ℕ) (is : IsUse op) (operand : Option Cell) (entries : List (ℕ × Entry)) → operand ≡ None → entries ≡ used op (map (λ cell. cell.name) (given operand)) entries
-used-nothing op is operand entries none =
-    sym (used-nil op is entries) ∙ ap (λ (o : Option Cell). used op (map (λ cell. cell.name) (given o)) entries) (sym none)
+used-nothing op is operand entries none = grind (arith, used-nil op is entries)
 
 -- more uses are no more than there are names
 pub uses_within : (limit : ℕ) (names : List ℕ) (entries : List (ℕ × Entry)) → All (λ e. e.1.uses ≤ limit) entries → All (λ e. e.1.uses ≤ limit + length names) (used_more names entries)
 uses_within limit names entries h =
-    All-map {X = ℕ × Entry} (λ e. e.1.uses ≤ limit + length names) {Y = ℕ × Entry} (λ e. (e.0, with_uses e.1 (e.1.uses + times e.0 names))) entries
-    (λ k d below. omega (arith, h k d below, count_by-le-length (λ other. (get_or entries k d).0 == other) names))
+    grind (arith, All-map {X = ℕ × Entry} (λ e. e.1.uses ≤ limit + length names) {Y = ℕ × Entry} (λ e. (e.0, with_uses e.1 (e.1.uses + times e.0 names))) entries (λ k d below. omega (arith, h k d below, count_by-le-length (λ other. (get_or entries k d).0 == other) names)))
 
 one_operand : (operand : Option Cell) → length (map (λ cell. cell.name) (given operand)) ≤ 1
 one_operand None = omega arith
@@ -178,9 +129,7 @@ module _ (graph : ℕ) (names : List ℕ) (old now : List (ℕ × Entry)) (then 
 
   -- which are as many as before
   pub count_kept : (counted found : List Numbered) → map (λ n. n.node) counted ≡ nodes_at graph old → map (λ n. n.node) found ≡ nodes_at graph now → length found ≡ length counted
-  count_kept counted found before after =
-      let same : map (λ n. n.node) found ≡ map (λ n. n.node) counted = after ∙ nodes_kept ∙ sym before in
-      sym (length-map found (λ n. n.node)) ∙ ap length same ∙ length-map counted (λ n. n.node)
+  count_kept counted found before after = grind (arith, nodes_kept, length-map)
 
 -- one node more
 pub node_more : (nodes : List Node) (found : List Numbered) (k : ℕ) (item : Numbered) (node : Node) (old now next : List (ℕ × Entry)) → now ≡ used_less (flat_map used_names (take k nodes)) old
@@ -208,9 +157,7 @@ sum_more charge bytes total e left rest so_far is one = omega (arith, so_far, ap
 
 pub bytes_charged : (entries : List (ℕ × Entry)) → bytes_of (values_of entries) ≡ charge_of (map named entries)
 bytes_charged [] = refl
-bytes_charged (e ∷ entries) =
-    bytes_of-cons e.1 (values_of entries) ∙ ap (λ n. object_bytes e.1.object + n) (bytes_charged entries)
-    ∙ sym (sum_by-cons (λ (o : Named). object_bytes o.object) (named e) (map named entries))
+bytes_charged (e ∷ entries) = grind (arith, bytes_charged entries, bytes_of-cons e.1 (values_of entries), sum_by-cons (λ (o : Named). object_bytes o.object) (named e) (map named entries))
 
 -- 1,024 objects, each charged no more than 16 of the largest images
 pub bytes_small : (entries : List (ℕ × Entry)) → length entries ≤ 1024 → All (λ e. object_bytes e.1.object ≤ 16 * 67108864) entries → bytes_of (values_of (kept entries)) ≤ 1024 * (16 * 67108864)

@@ -1,4 +1,4 @@
-use Rattle.client_laws.proofs.StayLaws.{skeletons_stay, nodes_stay, after_one, operand_stays}
+use Rattle.client_laws.proofs.StayLaws.{skeletons_stay, nodes_stay, after_one, operand_stays, verdict_stays}
 use Rattle.client_laws.proofs.states.what_is_held_stays.Goals as goal
 use Rattle.std.proofs.Common.{[], ◌∷◌}
 
@@ -15,3 +15,6 @@ returns-clause-nodes c = nodes_stay
 pub returns-clause-operands : goal.returns-clause-operands
 returns-clause-operands c = λ limits before later requests cell is known there.
     operand_stays before.objects later.objects cell (skeletons_stay limits before later requests cell.name is known) there
+
+pub returns-clause-verdicts : goal.returns-clause-verdicts
+returns-clause-verdicts c = verdict_stays

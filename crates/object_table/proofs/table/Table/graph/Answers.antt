@@ -1,20 +1,19 @@
-use Rattle.std.proofs.Common.{sym, ap, ◌∙◌}
+use Rattle.std.proofs.Common.{ℕ, ◌≡◌, [], refl, sym, ap, subst, ◌∙◌}
 use Rattle.vx_base.specs.declared.kind.Kind.TheVariants as kind
-use Rattle.object_table.specs.Object.{graph_value}
-use Rattle.object_table.proofs.EntryLemmas.{nothing_under, kind_under, under_is}
+use Rattle.vx_base.specs.Rectangle.{IsWithin}
+use Rattle.vx_base.specs.Image.{ImageValue, description_of, with_valid}
+use Rattle.vx_base.specs.Object.{ObjectValue, ImageObject, ExtremesObject, IsObject}
+use Rattle.vx_base.specs.Picture.{values, pictured}
+use Rattle.object_table.specs.Object.{image_value, graph_value, with_samples, with_counts, distribution_value, aged_object}
+use Rattle.object_table.specs.Uses.{nodes_in}
+use Rattle.object_table.proofs.EntryLemmas.{nothing_held, nothing_under, kind_under, under_is, found_under, image_is, image_there, shown_cell, shown_name, IsTable-written, no_nodes, aged_nodes, none_of_kind}
 use Rattle.object_table.proofs.table.Table.graph.Goals as goal
 
 pub graph-requires : goal.graph-requires
-graph-requires c =
-    let s = c.self.inside in
-    kind_under c.args.self.now s.next s.entries.entries c.self.view_is kind.Graph c.args.name c.in-Some.entry.now (sym c.in-Some.ensures.value) c.requires
+graph-requires c = kind_under _ _ _ c.self.view_is _ c.args.name _ (sym c.in-Some.ensures.value) c.requires
 
 pub unreachable-requires : goal.unreachable-requires
-unreachable-requires c =
-    let s = c.self.inside in
-    nothing_under c.args.self.now s.next s.entries.entries c.self.view_is kind.Graph c.args.name (sym c.in-None.ensures.value) c.requires
+unreachable-requires c = nothing_under _ _ _ c.self.view_is _ c.args.name (sym c.in-None.ensures.value) c.requires
 
 pub returns : goal.returns
-returns c =
-    let s = c.self.inside in
-    c.graph.ensures ∙ ap graph_value (sym (under_is c.args.self.now s.next s.entries.entries c.self.view_is c.args.name c.in-Some.entry.now (sym c.in-Some.ensures.value)))
+returns c = c.graph.ensures ∙ ap graph_value (sym (under_is _ _ _ c.self.view_is c.args.name _ (sym c.in-Some.ensures.value)))

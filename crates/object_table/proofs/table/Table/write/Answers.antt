@@ -1,65 +1,33 @@
-use Rattle.std.proofs.Common.{◌≡◌, [], refl, sym, ap, subst, ◌∙◌}
-use Rattle.vx_base.specs.Cell.{Cell}
+use Rattle.std.proofs.Common.{ℕ, ◌≡◌, [], refl, sym, ap, subst, ◌∙◌}
+use Rattle.vx_base.specs.declared.kind.Kind.TheVariants as kind
 use Rattle.vx_base.specs.Rectangle.{IsWithin}
-use Rattle.vx_base.specs.Image.{ImageValue, description_of, image_over, with_valid}
-use Rattle.vx_base.specs.Object.{ObjectValue, ImageObject, IsObject}
+use Rattle.vx_base.specs.Image.{ImageValue, description_of, with_valid}
+use Rattle.vx_base.specs.Object.{ObjectValue, ImageObject, ExtremesObject, IsObject}
 use Rattle.vx_base.specs.Picture.{values, pictured}
-use Rattle.object_table.specs.Context.{with_objects}
-use Rattle.object_table.specs.Delay.{object_in}
-use Rattle.object_table.specs.Named.{with_object}
-use Rattle.object_table.specs.Object.{image_value, with_samples}
-use Rattle.object_table.specs.Table.{IsTable, object_under, cell_object, image_held, HoldsImage}
+use Rattle.object_table.specs.Object.{image_value, graph_value, with_samples, with_counts, distribution_value, aged_object}
 use Rattle.object_table.specs.Uses.{nodes_in}
-use Rattle.object_table.proofs.EntryLemmas.{nothing_held, under_is, image_is, image_there, shown_cell, IsTable-written, no_nodes}
+use Rattle.object_table.proofs.EntryLemmas.{nothing_held, nothing_under, kind_under, under_is, found_under, image_is, image_there, shown_cell, shown_name, IsTable-written, no_nodes, aged_nodes, none_of_kind}
 use Rattle.object_table.proofs.table.Table.write.Goals as goal
 
 pub unreachable-requires : goal.unreachable-requires
-unreachable-requires c =
-    let s = c.self.inside in
-    let cell : Cell = record { name = c.name.result; slot = c.args.cell.slot } in
-    let at : cell ≡ c.args.cell = λ i. record { name = c.name.ensures.value i; slot = c.args.cell.slot } in
-    nothing_held c.args.self.now s.next s.entries.entries c.self.view_is cell (sym c.in_default.ensures.value) (subst (HoldsImage c.args.self.now.objects) (sym at) c.requires.there)
+unreachable-requires c = nothing_held _ _ _ c.self.view_is c.args.cell _ c.name.ensures.value (sym c.in_default.ensures.value) c.requires.there
 
 pub write-requires-clause-there : goal.write-requires-clause-there
-write-requires-clause-there c =
-    let s = c.self.inside in
-    let cell : Cell = record { name = c.name.result; slot = c.slot.result } in
-    let at : cell ≡ c.args.cell = λ i. record { name = c.name.ensures.value i; slot = c.slot.ensures.value i } in
-    image_there c.args.self.now s.next s.entries.entries c.self.view_is cell c.in-Some.entry.now (sym c.in-Some.ensures.value) (subst (HoldsImage c.args.self.now.objects) (sym at) c.requires.there)
+write-requires-clause-there c = image_there _ _ _ c.self.view_is c.args.cell _ _ c.name.ensures.value c.slot.ensures.value _ (sym c.in-Some.ensures.value) c.requires.there
 
 pub write-requires-clause-object : goal.write-requires-clause-object
-write-requires-clause-object c =
-    let s = c.self.inside in
-    subst IsObject (ap (object_under c.args.self.now.objects) (sym c.name.ensures.value) ∙ under_is c.args.self.now s.next s.entries.entries c.self.view_is c.name.result c.in-Some.entry.now (sym c.in-Some.ensures.value)) c.requires.object
+write-requires-clause-object c = subst IsObject (found_under _ _ _ c.self.view_is c.args.cell _ _ c.name.ensures.value c.slot.ensures.value _ (sym c.in-Some.ensures.value)) c.requires.object
 
 pub write-requires-clause-same : goal.write-requires-clause-same
-write-requires-clause-same c =
-    let s = c.self.inside in
-    let cell : Cell = record { name = c.name.result; slot = c.slot.result } in
-    let at : cell ≡ c.args.cell = λ i. record { name = c.name.ensures.value i; slot = c.slot.ensures.value i } in
-    let same : image_held c.args.self.now.objects c.args.cell ≡ image_value (object_in c.slot.result c.in-Some.entry.now.object) = ap (image_held c.args.self.now.objects) (sym at) ∙ image_is c.args.self.now s.next s.entries.entries c.self.view_is cell c.in-Some.entry.now (sym c.in-Some.ensures.value) in
-    ap description_of (sym same) ∙ c.requires.same
+write-requires-clause-same c = ap description_of (sym (image_is _ _ _ c.self.view_is c.args.cell _ _ c.name.ensures.value c.slot.ensures.value _ (sym c.in-Some.ensures.value))) ∙ c.requires.same
 
 pub invariant_of-self : goal.invariant_of-self
 invariant_of-self c =
-    let s = c.self.inside in
-    let old = c.in-Some.entry.now in
-    let new = record old { object = c.write.new.self } in
-    let cell : Cell = record { name = c.name.result; slot = c.slot.result } in
-    let at : cell ≡ c.args.cell = λ i. record { name = c.name.ensures.value i; slot = c.slot.ensures.value i } in
-    let there = image_there c.args.self.now s.next s.entries.entries c.self.view_is cell old (sym c.in-Some.ensures.value) (subst (HoldsImage c.args.self.now.objects) (sym at) c.requires.there) in
-    subst (IsTable s.next s.charge) (sym (c.get_mut.follows.holds new).0)
-    (IsTable-written s.next s.charge s.entries.entries c.name.result old new c.self.invariant (sym c.in-Some.ensures.value) refl refl
-    (ap nodes_in c.write.ensures.value ∙ no_nodes c.slot.result (pictured c.args.picture.now) old.object there) c.write.ensures.bytes)
+    let new = record c.in-Some.entry.now { object = c.write.new.self } in
+    let there = image_there _ _ _ c.self.view_is c.args.cell _ _ c.name.ensures.value c.slot.ensures.value _ (sym c.in-Some.ensures.value) c.requires.there in
+    IsTable-written _ _ _ _ _ new _ c.self.invariant (sym c.in-Some.ensures.value) refl refl (ap nodes_in c.write.ensures.value ∙ no_nodes _ _ _ there) c.write.ensures.bytes (c.get_mut.follows.holds new).0
 
 pub returns-clause-value : goal.returns-clause-value
 returns-clause-value c =
-    let s = c.self.inside in
-    let old = c.in-Some.entry.now in
-    let new = record old { object = c.write.new.self } in
-    let cell : Cell = record { name = c.name.result; slot = c.slot.result } in
-    let at : cell ≡ c.args.cell = λ i. record { name = c.name.ensures.value i; slot = c.slot.ensures.value i } in
-    let f : ObjectValue → ObjectValue = λ o. ImageObject (pictured c.args.picture.now) in
-    shown_cell c.args.self.now s.next s.entries.entries c.self.view_is cell old (sym c.in-Some.ensures.value) f new (c.get_mut.follows.lender new).entries
-    c.get_mut.ensures.ordered refl c.write.ensures.value (c.get_mut.follows.holds new).0
-    ∙ ap (λ (d : Cell). with_objects c.args.self.now (with_object c.args.self.now.objects d (f (cell_object c.args.self.now.objects d)))) at
+    let new = record c.in-Some.entry.now { object = c.write.new.self } in
+    shown_cell _ _ _ c.self.view_is c.args.cell _ _ c.name.ensures.value c.slot.ensures.value _ (sym c.in-Some.ensures.value) (λ o. ImageObject (pictured c.args.picture.now)) new _ c.get_mut.ensures.ordered refl c.write.ensures.value (c.get_mut.follows.holds new).0

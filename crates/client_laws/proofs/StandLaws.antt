@@ -1,0 +1,116 @@
+-- What the cells of a graph's nodes hold, where the nodes find what they name.
+use Rattle.std.proofs.Common.{◌≡◌, ℕ, true, false, IsTrue, List, get_or, Option, Some, None, IfSome, inl, inr, refl, sym, ap, subst, ◌∙◌}
+use Rattle.std.specs.Prelude.{All, is_none, unwrap_or}
+use Rattle.std.specs.Option.{option_map}
+use Rattle.std.proofs.lemmas.Bool.{or_cases}
+use Rattle.std.proofs.lemmas.List.Elements.{All-weaker}
+use Rattle.vx_base.specs.declared.kind.Kind.{Kind}
+use Rattle.vx_base.specs.declared.kind.Kind.TheVariants as kind
+use Rattle.vx_base.specs.declared.node.Node.{Node}
+use Rattle.vx_base.specs.Cell.{Cell}
+use Rattle.vx_base.specs.Function.{parameters}
+use Rattle.vx_base.specs.Node.{given, inputs, outputs, operands}
+use Rattle.vx_base.specs.Object.{ObjectValue, VirtualObject, object_kind}
+use Rattle.object_table.specs.Named.{Named, held}
+use Rattle.graph_verify.specs.declared.operand.Operand.{Operand}
+use Rattle.graph_verify.specs.declared.operand.Operand.TheVariants.{Image, Delay, Virtual}
+use Rattle.graph_verify.specs.Links.{reads, writes}
+use Rattle.graph_verify.specs.Members.{In}
+use Rattle.graph_verify.specs.Operand.{operand_of, is_image}
+use Rattle.graph_verify.proofs.LinkLemmas.{In-from_same}
+use Rattle.graph_verify.proofs.MemberLemmas.{In-append}
+use Rattle.graph_run.specs.Operands.{names_cell, StandsFor, CellsStand, operand_held}
+use Rattle.graph_run.proofs.FoundLemmas.{OfOperands, of_operands}
+use Rattle.graph_run.proofs.LinkLaws.{In-from_All}
+use Rattle.graph_run.proofs.OperandLaws.{kind-operand}
+use Rattle.client_model.specs.Operands.{is_kind, stands_for}
+use Rattle.client_model.specs.States.{kind_held, stands}
+use Rattle.client_model.proofs.HoldLaws.{OperandsStand, stands_parts, is_taken, kinds_taken}
+use Rattle.client_model.proofs.NamedLaws.{held_kind}
+use Rattle.client_model.proofs.NodeStepLaws.{stands_for_equal}
+
+-- ---- the operand of a cell that a node names
+
+module _ (P : Cell × Kind → Type 0) (n : Node) (c : Cell) (h : OfOperands P n) where
+  given_is : (k : Kind) (cell : Option Cell) → IfSome cell (λ d. P (d, k)) → In c (given cell) → P (c, k)
+  given_is k None is i = absurd i
+  given_is k (Some d) is (inl same) = subst (λ e. P (e, k)) (sym same) is
+  given_is k (Some d) is (inr none) = absurd none
+
+  -- one that it reads is an operand of some kind
+  read_is : reads n c ≡ true → (k : Kind) × P (c, k)
+  read_is r = elim (In-from_same c (inputs n) r) [
+    | inl same ↦ (kind.Image, subst (λ e. P (e, kind.Image)) (sym same) h.in1)
+    | inr i ↦ (_, given_is _ n.in2 h.in2 i)
+  ]
+
+  -- one that it writes is of the kind that the function writes
+  pub written_is : writes n c ≡ true → P (c, (parameters n.function).output)
+  written_is w = elim (In-append c (given n.out1) (given n.out2) (In-from_same c (outputs n) w)) [
+    | inl i ↦ given_is _ n.out1 h.out1 i
+    | inr i ↦ given_is _ n.out2 h.out2 i
+  ]
+
+  pub named_is : names_cell n c ≡ true → (k : Kind) × P (c, k)
+  named_is t = elim (or_cases (reads n c) (writes n c) t) [ inl r ↦ read_is r | inr w ↦ ((parameters n.function).output, written_is w) ]
+
+-- ---- cells that stand
+
+-- an object that stands for a kind does so as an operand
+operand_stands : (object : ObjectValue) (wanted : Kind) → is_taken wanted ≡ true → stands_for (object_kind object) wanted ≡ true → StandsFor (operand_of object) wanted
+operand_stands (VirtualObject image) wanted taken h = as_image wanted taken h
+  where
+    as_image : (k : Kind) → is_taken k ≡ true → stands_for kind.VirtualImage k ≡ true → k ≡ kind.Image
+    as_image kind.Image t s = refl
+    as_image kind.VirtualImage t s = cc
+    as_image other t s = cc
+operand_stands other wanted taken h = kind-operand other ∙ sym (stands_for_equal (object_kind other) wanted h (λ e. absurd (cc)))
+
+module _ (objects : List Named) (cell : Cell) where
+  holds : (found : Option ObjectValue) → is_none found ≡ false → option_map operand_of found ≡ Some (unwrap_or (option_map operand_of found) Delay)
+  holds None there = cc
+  holds (Some object) there = refl
+
+  stands_as : (found : Option ObjectValue) (wanted : Kind) → is_none found ≡ false → IfSome found (λ object. kind_held objects cell ≡ Some (object_kind object)) → is_taken wanted ≡ true
+      → is_kind wanted (kind_held objects cell) ≡ true → StandsFor (unwrap_or (option_map operand_of found) Delay) wanted
+  stands_as None wanted there is taken of_kind = absurd (cc)
+  stands_as (Some object) wanted there is taken of_kind = operand_stands object wanted taken (ap (is_kind wanted) (sym is) ∙ of_kind)
+
+-- an operand of a node that stands, of a kind that a node can name
+abbrev Stands : List Named → ℕ → Cell × Kind → Type 0
+Stands objects graph operand = IsTrue (stands objects graph operand) × (is_taken operand.1 ≡ true)
+
+-- each cell that the nodes of a graph name holds its operand, where the nodes find what they name
+pub cells_stand : (objects : List Named) (graph : ℕ) (nodes : List Node) → All (OperandsStand objects graph) nodes → CellsStand (operand_held objects) nodes objects
+cells_stand objects graph nodes stood =
+    record {
+      found = λ n cell i named_there. let parts = stands_parts objects graph _ (named_is (Stands objects graph) n cell (each n i) named_there).1.0 in holds objects cell (held objects cell) parts.there;
+      kinds = λ n cell i written.
+          let is : Stands objects graph (cell, (parameters n.function).output) = written_is (Stands objects graph) n cell (each n i) written in
+          let parts = stands_parts objects graph (cell, (parameters n.function).output) is.0 in
+          stands_as objects cell (held objects cell) (parameters n.function).output parts.there (held_kind objects cell) is.1 parts.kind;
+    }
+  where
+    each : (n : Node) → In n nodes → OfOperands (Stands objects graph) n
+    each n i = of_operands (Stands objects graph) n (λ k d below. (In-from_All (OperandsStand objects graph) nodes stood n i k d below, kinds_taken n k d below))
+
+-- and it stands for the kind that the function has there
+pub operands_stand : (objects : List Named) (graph : ℕ) (n : Node) → OperandsStand objects graph n → All (λ operand. StandsFor (operand_held objects operand.0) operand.1) (operands n)
+operands_stand objects graph n stood k d below =
+    let operand : Cell × Kind = get_or (operands n) k d in
+    let parts = stands_parts objects graph operand (stood k d below) in
+    stands_as objects operand.0 (held objects operand.0) operand.1 parts.there (held_kind objects operand.0) (kinds_taken n k d below) parts.kind
+
+-- the first input of each node is an image
+pub firsts_are_images : (objects : List Named) (graph : ℕ) (nodes : List Node) → All (OperandsStand objects graph) nodes → All (λ n. IsTrue (is_image (operand_held objects n.in1))) nodes
+firsts_are_images objects graph nodes stood =
+    All-weaker (OperandsStand objects graph) (λ n. IsTrue (is_image (operand_held objects n.in1)))
+    (λ n each.
+    let first : Cell × Kind = (n.in1, kind.Image) in
+    let parts = stands_parts objects graph first (of_operands (λ operand. IsTrue (stands objects graph operand)) n each).in1 in
+    as_image (operand_held objects n.in1) (stands_as objects n.in1 (held objects n.in1) kind.Image parts.there (held_kind objects n.in1) refl parts.kind)) nodes stood
+  where
+    as_image : (operand : Operand) → StandsFor operand kind.Image → is_image operand ≡ true
+    as_image (Image d) is = refl
+    as_image (Virtual declared) is = refl
+    as_image other is = absurd (cc)

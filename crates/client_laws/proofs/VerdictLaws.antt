@@ -1,0 +1,119 @@
+-- A verdict depends on what the cells that its nodes name are, and on nothing else.
+use Rattle.std.proofs.Common.{◌≡◌, ℕ, zero, suc, ◌+◌, inl, inr, true, cond, List, [], ◌∷◌, length, Option, Some, None, refl, sym, ap, ◌∙◌, arith}
+use Rattle.std.specs.Prelude.{All, Bool, not, ◌&&◌, nat_le, sum_by, if◌then◌else◌}
+use Rattle.std.specs.List.{list_any, filter, flat_map}
+use Rattle.std.specs.Option.{option_or}
+use Rattle.std.proofs.lemmas.List.Elements.{All-head, All-tail, All-weaker, All-filter}
+use Rattle.std.proofs.lemmas.List.Sums.{sum_by-cons}
+use Rattle.vx_base.specs.declared.node.Node.{Node}
+use Rattle.vx_base.specs.Cell.{Cell}
+use Rattle.vx_base.specs.Node.{inputs, outputs}
+use Rattle.vx_base.specs.Outline.{Outline, filled}
+use Rattle.object_table.proofs.GraphLemmas.{any_alike}
+use Rattle.graph_verify.specs.declared.operand.Operand.{Operand}
+use Rattle.graph_verify.specs.declared.verdict.Verdict.{Verdict}
+use Rattle.graph_verify.specs.declared.verdict.Verdict.TheVariants.{MultipleWriters, InvalidGraph, InvalidLink, NoResources}
+use Rattle.graph_verify.specs.Cycle.{has_cycle}
+use Rattle.graph_verify.specs.Links.{writes, feeds, is_written}
+use Rattle.graph_verify.specs.Members.{In}
+use Rattle.graph_verify.specs.Operand.{operands_of, is_virtual, operand_bytes}
+use Rattle.graph_verify.specs.Outlines.{operand_outline, given_outline, written_outline, outlines, as_known, resolved}
+use Rattle.graph_verify.specs.Rounds.{round, rounds}
+use Rattle.graph_verify.specs.Verdict.{two_writers, node_fault, is_loose, reads_loose, first_fault, work_bytes, verdict}
+use Rattle.graph_verify.proofs.MemberLemmas.{In-from_flat_map}
+use Rattle.graph_run.specs.Operands.{names_cell}
+use Rattle.graph_run.proofs.LinkLaws.{All-from_In}
+use Rattle.graph_run.proofs.VerifiedLemmas.{named_by_input, named_by_output, same_operands}
+
+-- ---- lists of elements of which something is the same
+
+filter_alike : {X : Type 0} (p q : X → Bool) (xs : List X) → All (λ x. p x ≡ q x) xs → filter p xs ≡ filter q xs
+filter_alike p q [] h = refl
+filter_alike {X} p q (x ∷ xs) h =
+    ap (λ b. cond b (x ∷ filter p xs) (filter p xs)) (All-head (λ y. p y ≡ q y) x xs h)
+    ∙ ap (λ (l : List X). cond (q x) (x ∷ l) l) (filter_alike p q xs (All-tail (λ y. p y ≡ q y) x xs h))
+
+sum_alike : {X : Type 0} (f g : X → ℕ) (xs : List X) → All (λ x. f x ≡ g x) xs → sum_by f xs ≡ sum_by g xs
+sum_alike f g [] h = refl
+sum_alike f g (x ∷ xs) h =
+    let first = All-head (λ y. f y ≡ g y) x xs h in
+    let others = sum_alike f g xs (All-tail (λ y. f y ≡ g y) x xs h) in
+    sum_by-cons f x xs ∙ omega (arith, first, others) ∙ sym (sum_by-cons g x xs)
+
+-- ---- nodes whose cells are the same operands
+
+module _ (nodes : List Node) where
+  -- a cell that one of the nodes names
+  abbrev pub IsNamed : Cell → Type 0
+  IsNamed cell = (n : Node) × In n nodes × (names_cell n cell ≡ true)
+
+  read_named : (n : Node) → In n nodes → All IsNamed (inputs n)
+  read_named n i = All-from_In IsNamed (inputs n) (λ cell j. (n, i, named_by_input n cell j))
+
+  written_named : All IsNamed (flat_map outputs nodes)
+  written_named = All-from_In IsNamed (flat_map outputs nodes) (λ cell j. let r = In-from_flat_map outputs cell nodes j in (r.0, r.1, named_by_output r.0 cell r.2))
+
+  module _ (one other : Cell → Operand) (same : (cell : Cell) → IsNamed cell → one cell ≡ other cell) where
+    -- as much is known of each cell
+    abbrev Alike : (Cell → Outline) → (Cell → Outline) → Type 0
+    Alike a b = (cell : Cell) → IsNamed cell → a cell ≡ b cell
+
+    round_alike : (ns : List Node) → ((n : Node) → In n ns → In n nodes) → (a b : Cell → Outline) → Alike a b → Alike (round writes (written_outline one) ns a) (round writes (written_outline other) ns b)
+    round_alike [] are a b h cell named = h cell named
+    round_alike (n ∷ ns) are a b h cell named =
+        let value : written_outline one n a cell ≡ written_outline other n b cell =
+        ap (λ o. filled (operand_outline o) (given_outline n.function (a n.in1))) (same cell named)
+        ∙ ap (λ o. filled (operand_outline (other cell)) (given_outline n.function o)) (h n.in1 (n, are n (inl refl), named_by_input n n.in1 (inl refl))) in
+        ap (λ o. if writes n cell then o else round writes (written_outline one) ns a cell) value
+        ∙ ap (λ o. if writes n cell then written_outline other n b cell else o) (round_alike ns (λ m i. are m (inr i)) a b h cell named)
+
+    rounds_alike : (k : ℕ) → Alike (rounds writes (written_outline one) nodes k (λ c. operand_outline (one c))) (rounds writes (written_outline other) nodes k (λ c. operand_outline (other c)))
+    rounds_alike zero = λ cell named. ap operand_outline (same cell named)
+    rounds_alike (suc k) =
+        round_alike nodes (λ n i. i) (rounds writes (written_outline one) nodes k (λ c. operand_outline (one c))) (rounds writes (written_outline other) nodes k (λ c. operand_outline (other c)))
+        (rounds_alike k)
+
+    resolved_alike : (cell : Cell) → IsNamed cell → resolved one nodes cell ≡ resolved other nodes cell
+    resolved_alike cell named = ap (λ o. as_known o (outlines one nodes cell)) (same cell named) ∙ ap (as_known (other cell)) (rounds_alike (length nodes) cell named)
+
+    -- the same nodes have faults
+    fault_alike : (ns : List Node) → ((n : Node) → In n ns → In n nodes) → first_fault (resolved one nodes) ns ≡ first_fault (resolved other nodes) ns
+    fault_alike [] are = refl
+    fault_alike (n ∷ ns) are =
+        ap (λ o. option_or (node_fault n.function o) (first_fault (resolved one nodes) ns))
+        (same_operands n (resolved one nodes) (resolved other nodes) (λ cell named. resolved_alike cell (n, are n (inl refl), named)))
+        ∙ ap (option_or (node_fault n.function (operands_of (resolved other nodes) n))) (fault_alike ns (λ m i. are m (inr i)))
+
+    -- the same cells are loose ends
+    loose_alike : reads_loose one nodes ≡ reads_loose other nodes
+    loose_alike =
+        any_alike (λ n. list_any (is_loose one nodes) (inputs n)) (λ n. list_any (is_loose other nodes) (inputs n)) nodes
+        (All-from_In (λ n. list_any (is_loose one nodes) (inputs n) ≡ list_any (is_loose other nodes) (inputs n)) nodes
+        (λ n i.
+        any_alike (is_loose one nodes) (is_loose other nodes) (inputs n)
+        (All-weaker IsNamed (λ cell. is_loose one nodes cell ≡ is_loose other nodes cell) (λ cell named. ap (λ o. is_virtual o && not (is_written nodes cell)) (same cell named)) (inputs n) (read_named n i))))
+
+    -- as many bytes are worked on
+    work_alike : work_bytes one nodes ≡ work_bytes other nodes
+    work_alike =
+        let bytes : (Cell → Operand) → Cell → ℕ = λ is cell. operand_bytes (resolved is nodes cell) in
+        let wanted = filter (λ cell. is_virtual (other cell)) (flat_map outputs nodes) in
+        ap (sum_by (bytes one))
+        (filter_alike (λ cell. is_virtual (one cell)) (λ cell. is_virtual (other cell)) (flat_map outputs nodes)
+        (All-weaker IsNamed (λ cell. is_virtual (one cell) ≡ is_virtual (other cell)) (λ cell named. ap is_virtual (same cell named)) (flat_map outputs nodes) written_named))
+        ∙ sum_alike (bytes one) (bytes other) wanted
+        (All-weaker IsNamed (λ cell. bytes one cell ≡ bytes other cell) (λ cell named. ap operand_bytes (resolved_alike cell named)) wanted
+        (All-filter (λ cell. is_virtual (other cell)) IsNamed (flat_map outputs nodes) written_named))
+
+    pub verdict_alike : (work : ℕ) → verdict work one nodes ≡ verdict work other nodes
+    verdict_alike work =
+        ap (λ loose. by_parts loose (first_fault (resolved one nodes) nodes) (work_bytes one nodes)) loose_alike
+        ∙ ap (λ fault. by_parts (reads_loose other nodes) fault (work_bytes one nodes)) (fault_alike nodes (λ n i. i))
+        ∙ ap (by_parts (reads_loose other nodes) (first_fault (resolved other nodes) nodes)) work_alike
+      where
+        by_parts : Bool → Option Verdict → ℕ → Option Verdict
+        by_parts loose fault bytes =
+            if two_writers nodes then Some MultipleWriters
+            else (if has_cycle feeds nodes then Some InvalidGraph
+            else (if loose then Some InvalidLink
+            else option_or fault (if nat_le bytes work then None else Some NoResources)))
