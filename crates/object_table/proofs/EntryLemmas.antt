@@ -1,18 +1,16 @@
 -- Entries of a map by name, and what they show.
-use Rattle.std.proofs.Common.{◌≡◌, ◌≢◌, ℕ, ◌+◌, ◌<◌, ◌≤◌, ◌⊎◌, inl, inr, Bool, true, false, cond, List, [], ◌∷◌, ◌++◌, ◌*◌, length, map, Option, Some, None, refl, sym, ap, subst, ◌∙◌, arith, rules}
-use Rattle.std.specs.Prelude.{All, IfSome, ◌==◌, nat_lt, ◌&&◌, find, sum_by, unwrap_or}
-use Rattle.std.specs.declared.cmp.Ordering.TheVariants.{Less, Equal, Greater}
-use Rattle.std.specs.Ordering.{is_eq, match_ordering, nat_cmp}
-use Rattle.std.specs.Cmp.{nat_cmp_is}
+use Rattle.std.proofs.Common.{◌≡◌, ℕ, ◌+◌, ◌<◌, ◌≤◌, Bool, true, false, cond, List, [], ◌∷◌, ◌++◌, ◌*◌, length, map, Option, Some, None, refl, sym, ap, subst, ◌∙◌, arith, rules}
+use Rattle.std.specs.Prelude.{All, IfSome, IsTrue, ◌==◌, nat_lt, ◌||◌, sum_by, unwrap_or}
+use Rattle.std.specs.Ordering.{nat_cmp}
 use Rattle.std.specs.Map.{keys_of, lookup, set_value}
 use Rattle.std.specs.BTreeMap.{is_at, insert_entry}
-use Rattle.std.specs.Option.{option_map, option_and_then}
+use Rattle.std.specs.Option.{option_map}
 use Rattle.std.specs.List.{flat_map}
 use Rattle.std.specs.List.Sorted.{IsStrictlySortedBy, IsStrictlyIncreasing}
-use Rattle.std.proofs.lemmas.Bool.{cases_lt, eqb-true, eqb-false, and_parts, ltb-true}
+use Rattle.std.proofs.lemmas.Bool.{cases_lt, and_parts}
 use Rattle.std.proofs.lemmas.Cmp.{nat_cmp_total, eq_by_cmp_equiv}
 use Rattle.std.proofs.lemmas.List.{length-append, length-map}
-use Rattle.std.proofs.lemmas.List.Elements.{All-nil, All-cons, All-head, All-tail, All-push, All-weaker}
+use Rattle.std.proofs.lemmas.List.Elements.{All-cons, All-head, All-tail, All-push, All-weaker}
 use Rattle.std.proofs.lemmas.List.Sums.{sum_by-cons, sum_by-le, sum_by_push}
 use Rattle.std.proofs.lemmas.Map.{lookup-none, keys-set_value, length-set_value}
 use Rattle.std.proofs.lemmas.Map.Entries.{none_past_head, All-lookup}
@@ -27,10 +25,10 @@ use Rattle.vx_base.specs.Image.{ImageValue, new_image}
 use Rattle.vx_base.specs.Object.{ObjectValue, ImageObject, LutObject, ThresholdObject, DelayObject, ConvolutionObject, DistributionObject, ExtremesObject, GraphObject, VirtualObject, object_bytes, object_kind}
 use Rattle.object_table.specs.declared.table.Entry.{Entry}
 use Rattle.object_table.specs.Context.{Context, object_named, charge_of, can_insert, with_objects, cell_of}
-use Rattle.object_table.specs.Delay.{in_slot, object_in, with_slot, HasImage}
-use Rattle.object_table.specs.Named.{Named, object_held, held, with_object}
+use Rattle.object_table.specs.Delay.{object_in, with_slot, HasImage}
+use Rattle.object_table.specs.Named.{object_held, with_object}
 use Rattle.object_table.specs.Object.{image_value, aged_object}
-use Rattle.object_table.specs.Table.{object_under, IsUnder, cell_object, image_held, HoldsImage, named, IsTable}
+use Rattle.object_table.specs.Table.{object_under, IsUnder, cell_object, image_held, HoldsImage, named, is_kept, IsTable}
 use Rattle.object_table.specs.Uses.{used_names, nodes_in, names_used_by, names_used, times}
 
 -- ---- keys
@@ -157,7 +155,7 @@ module _ (next charge : ℕ) (entries : List (ℕ × Entry)) (t : IsTable next c
   pub IsTable-exchanged : (charged : ℕ) (new : Entry) → new.live ≡ old.live → new.uses ≡ old.uses → nodes_in new.object ≡ nodes_in old.object
       → object_bytes new.object ≤ 16 * 67108864 → charged + object_bytes old.object ≡ charge + object_bytes new.object → IsTable next charged (set_value (is_at (nat_cmp name)) entries new)
   IsTable-exchanged charged new live uses nodes limit balance =
-      grind (arith, used-written entries name old new found live nodes, sum-written (λ e. object_bytes e.1.object) entries name old new found, All-written (λ e. e.0 < next) entries name old new found (λ k h. h) t.below, All-written (λ e. object_bytes e.1.object ≤ 16 * 67108864) entries name old new found (λ k h. limit) t.each, All-written (λ e. length (nodes_in e.1.object) ≤ 256) entries name old new found (λ k h. subst (λ l. length l ≤ 256) (sym nodes) h) t.nodes, charge_is entries, All-written (λ e. e.1.uses ≡ times e.0 (names_used (map named entries))) entries name old new found (λ k h. uses ∙ h) t.uses, used-written, sum-written, keys-set_value, All-written, length-set_value, charge_is)
+      grind (arith, used-written entries name old new found live nodes, sum-written (λ e. object_bytes e.1.object) entries name old new found, All-written (λ e. e.0 < next) entries name old new found (λ k h. h) t.below, All-written (λ e. object_bytes e.1.object ≤ 16 * 67108864) entries name old new found (λ k h. limit) t.each, All-written (λ e. length (nodes_in e.1.object) ≤ 256) entries name old new found (λ k h. subst (λ l. length l ≤ 256) (sym nodes) h) t.nodes, charge_is entries, All-written (λ e. e.1.uses ≡ times e.0 (names_used (map named entries))) entries name old new found (λ k h. uses ∙ h) t.uses, All-written (λ e. IsTrue (is_kept e)) entries name old new found (λ k h. ap (λ b. b || nat_lt 0 new.uses) live ∙ ap (λ n. old.live || nat_lt 0 n) uses ∙ h) t.held, used-written, sum-written, keys-set_value, All-written, length-set_value, charge_is)
 
 -- an object of as many bytes
 pub IsTable-written : (next charge : ℕ) (entries : List (ℕ × Entry)) (name : ℕ) (old new : Entry) (after : List (ℕ × Entry)) → IsTable next charge entries → lookup (is_at (nat_cmp name)) entries ≡ Some old
@@ -169,9 +167,9 @@ IsTable-written next charge entries name old new after t found live uses nodes b
 
 -- one object more, under the next name
 pub IsTable-inserted : (next charge : ℕ) (entries : List (ℕ × Entry)) (new : Entry) → IsTable next charge entries → next < 4294967296 → length entries < 1024
-    → new.uses ≡ 0 → nodes_in new.object ≡ [] → object_bytes new.object ≤ 16 * 67108864 → IsStrictlyIncreasing (keys_of (entries ++ (next, new) ∷ []))
+    → new.live ≡ true → new.uses ≡ 0 → nodes_in new.object ≡ [] → object_bytes new.object ≤ 16 * 67108864 → IsStrictlyIncreasing (keys_of (entries ++ (next, new) ∷ []))
     → IsTable (next + 1) (charge + object_bytes new.object) (entries ++ (next, new) ∷ [])
-IsTable-inserted next charge entries new t left room uses nodes limit increasing =
+IsTable-inserted next charge entries new t left room live uses nodes limit increasing =
     let one : List (ℕ × Entry) = (next, new) ∷ [] in
     let used : names_used (map named (entries ++ one)) ≡ names_used (map named entries) = map_used entries in
     record {
@@ -183,6 +181,7 @@ IsTable-inserted next charge entries new t left room uses nodes limit increasing
       nodes = All-push (λ e. length (nodes_in e.1.object) ≤ 256) entries (next, new) t.nodes (subst (λ l. length l ≤ 256) (sym nodes) (omega arith));
       charged = omega (arith, t.charged, charge_is entries, charge_is (entries ++ one), sum_by_push (λ e. object_bytes e.1.object) entries (next, new));
       uses = subst (λ l. All (λ e. e.1.uses ≡ times e.0 l) (entries ++ one)) (sym used) (All-push (λ e. e.1.uses ≡ times e.0 (names_used (map named entries))) entries (next, new) t.uses (uses ∙ times_none next (names_used (map named entries)) t.given));
+      held = All-push (λ e. IsTrue (is_kept e)) entries (next, new) t.held (ap (λ b. b || nat_lt 0 new.uses) live);
       given = subst (All (λ n. n < next + 1)) (sym used) (All-weaker (λ n. n < next) (λ n. n < next + 1) (λ n h. omega (arith, h)) (names_used (map named entries)) t.given);
     }
   where

@@ -1,39 +1,35 @@
 -- Nodes that come and go, the names that they use, and what is held then.
-use Rattle.std.proofs.Common.{◌≡◌, ℕ, ◌+◌, ◌-◌, ◌*◌, ◌<◌, ◌≤◌, zero, suc, Bool, true, false, cond, List, [], ◌∷◌, ◌++◌, Option, Some, None, length, map, get_or, IsTrue, refl, sym, ap, subst, ◌∙◌, arith, rules}
+use Rattle.std.proofs.Common.{◌≡◌, ℕ, ◌+◌, ◌-◌, ◌*◌, ◌<◌, ◌≤◌, zero, suc, Bool, true, false, cond, List, [], ◌∷◌, ◌++◌, Some, None, length, map, get_or, IsTrue, refl, sym, ap, subst, ◌∙◌, arith, rules}
 use Rattle.std.specs.Prelude.{All, ◌==◌, ◌&&◌, ◌||◌, not, nat_lt, find, filter, sum_by, is_some}
 use Rattle.std.specs.List.{list_any, flat_map, AllPairs}
 use Rattle.std.specs.List.Sorted.{IsStrictlyIncreasing}
 use Rattle.std.specs.Map.{keys_of, lookup, set_value}
 use Rattle.std.specs.BTreeMap.{is_at}
-use Rattle.std.specs.Option.{option_map}
 use Rattle.std.specs.Ordering.{nat_cmp}
-use Rattle.std.proofs.lemmas.Bool.{eqb-true, eqb-false, ne_eqb, eq-eqb, lt-ltb, ltb-true, false≢true, and_parts}
-use Rattle.std.proofs.lemmas.Cmp.{nat_cmp_total, eq_by_cmp_equiv}
+use Rattle.std.proofs.lemmas.Bool.{eqb-true, ne_eqb, lt-ltb, ltb-true, false≢true, and_parts}
 use Rattle.std.proofs.lemmas.Grind.{flat_map-append}
 use Rattle.std.proofs.lemmas.List.{map-append, length-map, length-append, get_or-map}
 use Rattle.std.proofs.lemmas.List.Concat.{length-flat_map}
-use Rattle.std.proofs.lemmas.List.Elements.{All-nil, All-cons, All-head, All-tail, All-append, All-map, All-weaker, All-filter}
+use Rattle.std.proofs.lemmas.List.Elements.{All-nil, All-cons, All-head, All-tail, All-append, All-map, All-weaker, All-filter, filter_passes}
 use Rattle.std.proofs.lemmas.List.Folds.{flat_map-map, list_any-append}
 use Rattle.std.proofs.lemmas.List.Kept.{AllPairs-filter, AllPairs-from_increasing}
 use Rattle.std.proofs.lemmas.List.Sums.{sum_by-cons, sum_by-append, sum_by-le, length-filter, count_by-le-length}
-use Rattle.std.proofs.lemmas.Map.{lookup-none, keys-set_value, length-set_value}
-use Rattle.std.proofs.lemmas.Map.Entries.{none_past_head}
+use Rattle.std.proofs.lemmas.Map.{keys-set_value, length-set_value}
 use Rattle.std.proofs.lemmas.Map.Steps.{set_value_same}
-use Rattle.std.proofs.lemmas.Map.Keys.{sorted_tail, IsDistinct-from_sorted}
+use Rattle.std.proofs.lemmas.Map.Keys.{sorted_tail}
 use Rattle.vx_base.specs.declared.format.Format.TheVariants.{U8}
 use Rattle.vx_base.specs.declared.kind.Kind.{Kind}
 use Rattle.vx_base.specs.declared.kind.Kind.TheVariants as kind
 use Rattle.vx_base.specs.declared.node.Node.{Node}
 use Rattle.vx_base.specs.declared.numbered.Numbered.{Numbered}
 use Rattle.vx_base.specs.Cell.{Cell}
-use Rattle.vx_base.specs.Function.{parameters}
 use Rattle.vx_base.specs.Graph.{GraphValue, IsGraph, nodes_of, can_add, with_node, without_node}
 use Rattle.vx_base.specs.Image.{new_image}
-use Rattle.vx_base.specs.Node.{given, with_kind, second_kind, operands}
+use Rattle.vx_base.specs.Node.{given, operands}
 use Rattle.vx_base.specs.Object.{ObjectValue, ImageObject, GraphObject, object_bytes, object_kind}
 use Rattle.object_table.specs.declared.table.Entry.{Entry}
 use Rattle.object_table.specs.Context.{Context, charge_of, object_named}
-use Rattle.object_table.specs.Holds.{names_it, uses, is_used, is_held, still_held, unnamed}
+use Rattle.object_table.specs.Holds.{uses, is_used, still_held, unnamed}
 use Rattle.object_table.specs.Named.{Named, object_held}
 use Rattle.object_table.specs.Object.{graph_value}
 use Rattle.object_table.specs.Table.{named, used_more, used_less, is_kept, kept, IsTable}
@@ -212,8 +208,9 @@ pub record AreEntries (next : ℕ) (entries : List (ℕ × Entry)) : Type 0 wher
 entries_of : (next charge : ℕ) (entries : List (ℕ × Entry)) → IsTable next charge entries → AreEntries next entries
 entries_of next charge entries t = grind (arith, All-parts used_by (λ name. name < next) entries (subst (All (λ name. name < next)) (used_is entries) t.given), used_is entries)
 
-table_of : (next charge : ℕ) (entries : List (ℕ × Entry)) → AreEntries next entries → charge ≡ charge_of (map named entries) → All (λ e. e.1.uses ≡ times e.0 (names_used (map named entries))) entries → IsTable next charge entries
-table_of next charge entries h charged uses = grind (arith, used_is entries, All-flat_map used_by (λ name. name < next) entries h.given)
+table_of : (next charge : ℕ) (entries : List (ℕ × Entry)) → AreEntries next entries → charge ≡ charge_of (map named entries) → All (λ e. e.1.uses ≡ times e.0 (names_used (map named entries))) entries
+    → All (λ e. IsTrue (is_kept e)) entries → IsTable next charge entries
+table_of next charge entries h charged uses held = grind (arith, used_is entries, All-flat_map used_by (λ name. name < next) entries h.given)
 
 -- all names that are used are few enough
 used_limit : (entries : List (ℕ × Entry)) → length entries ≤ 1024 → All (λ e. length (nodes_in e.1.object) ≤ 256) entries → length (names_used (map named entries)) ≤ 1024 * 1024
@@ -263,7 +260,7 @@ module _ (next charge : ℕ) (entries : List (ℕ × Entry)) (h : IsTable next c
   abbrev pub after : List (ℕ × Entry)
   after = set_value (is_at (nat_cmp name)) entries new
 
-  charged-after : object_bytes new.object ≡ object_bytes old.object → charge ≡ charge_of (map named after)
+  pub charged-after : object_bytes new.object ≡ object_bytes old.object → charge ≡ charge_of (map named after)
   charged-after bytes = omega (arith, h.charged, charge_is entries, charge_is after, sum-written (λ e. object_bytes e.1.object) entries name old new found, bytes)
 
   -- each is used as often as before
@@ -272,6 +269,10 @@ module _ (next charge : ℕ) (entries : List (ℕ × Entry)) (h : IsTable next c
 
   pub few-uses : All (λ e. e.1.uses ≤ 1024 * 1024) after
   few-uses = grind (arith, All-weaker, count_by-le-length, used_limit, uses-after)
+
+  -- and held
+  pub held-after : new.live ≡ old.live → All (λ e. IsTrue (is_kept e)) after
+  held-after still = All-written (λ e. IsTrue (is_kept e)) entries name old new found (λ k h. ap (λ b. b || nat_lt 0 new.uses) still ∙ ap (λ n. old.live || nat_lt 0 n) same ∙ h) h.held
 
   -- but other names are used
   times-after : (n : ℕ) → times n (names_used (map named after)) + times n (used_by (name, old)) ≡ times n (names_used (map named entries)) + times n (used_by (name, new))
@@ -325,6 +326,16 @@ module _ (f : ℕ → ℕ → ℕ) where
       → All (λ e. e.1.uses ≡ times e.0 (names_used (map named (recounted entries)))) (recounted entries)
   uses-recounted entries h = search (rules, named-recounted, All-map)
 
+-- more uses keep what is held
+held-more : (names : List ℕ) (entries : List (ℕ × Entry)) → All (λ e. IsTrue (is_kept e)) entries → All (λ e. IsTrue (is_kept e)) (used_more names entries)
+held-more names entries h =
+    All-map {X = ℕ × Entry} (λ e. IsTrue (is_kept e)) {Y = ℕ × Entry} (λ e. let n : Entry = e.1 in (e.0, record n { uses = n.uses + times e.0 names })) entries
+    (All-weaker (λ e. IsTrue (is_kept e)) (λ e. (e.1.live || nat_lt 0 (e.1.uses + times e.0 names)) ≡ true) (λ e is. either e e.1.live is) entries h)
+  where
+    either : (e : ℕ × Entry) (b : Bool) → (b || nat_lt 0 e.1.uses) ≡ true → (b || nat_lt 0 (e.1.uses + times e.0 names)) ≡ true
+    either e true is = refl
+    either e false is = lt-ltb 0 (e.1.uses + times e.0 names) (omega (arith, ltb-true 0 e.1.uses is))
+
 -- ---- what is held still
 
 -- keys in their order stay so where some go
@@ -376,6 +387,7 @@ IsTable-kept next entries h uses =
       given = All-filter is_kept (λ e. All (λ name. name < next) (used_by e)) entries h.given;
     }) refl
     (subst (λ (l : List ℕ). All (λ e. e.1.uses ≡ times e.0 l) (kept entries)) used (All-filter is_kept (λ e. e.1.uses ≡ times e.0 (names_used (map named entries))) entries uses))
+    (filter_passes is_kept entries)
 
 -- no name that is used less leaves all as they are
 pub used_less-none : (entries : List (ℕ × Entry)) → used_less [] entries ≡ entries
@@ -416,6 +428,7 @@ module _ (next charge : ℕ) (entries : List (ℕ × Entry)) (h : IsTable next c
       (uses-recounted f then
       (All-weaker (λ e. e.1.uses ≡ times e.0 (names_used (map named entries))) (λ e. e.1.uses + times e.0 (used_names node) ≡ times e.0 (names_used (map named then)))
       (λ e uses. omega (arith, uses, more e.0)) then (uses-after next charge entries h name old new found same)))
+      (held-more (used_names node) then (held-after next charge entries h name old new found same still))
 
   -- ---- one node less
 
@@ -449,7 +462,6 @@ module _ (next charge : ℕ) (entries : List (ℕ × Entry)) (h : IsTable next c
 
 -- entries that were changed and counted anew, and what is left when those not held are gone
 pub record AreLeft (next : ℕ) (changed less : List (ℕ × Entry)) : Type 0 where
-  pub each : All (λ e. object_bytes e.1.object ≤ 16 * 67108864) less
   pub table : IsTable next (charge_of (map named (kept less))) (kept less)
   pub shown : map named (kept less) ≡ still_held (map named changed)
 
@@ -479,7 +491,6 @@ module _ (next charge : ℕ) (entries : List (ℕ × Entry)) (h : IsTable next c
   pub are-left : AreLeft next then less
   are-left =
       record {
-        each = entries-less.each;
         table = IsTable-kept next less entries-less uses-less;
         shown = shown-kept less uses-less ∙ ap still_held named-less;
       }

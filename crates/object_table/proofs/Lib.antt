@@ -5,4 +5,5 @@ pub mod SkeletonLaws
 pub mod HeldLemmas
 pub mod EntryLemmas
 pub mod UseLemmas
+pub mod KeptLemmas
 pub mod GraphLemmas

@@ -1,5 +1,5 @@
 -- Images that are stored.
-use Rattle.std.proofs.Common.{◌≡◌, ℕ, ℤ, List, pos, replicate, ap, ◌∙◌, sym, arith}
+use Rattle.std.proofs.Common.{◌≡◌, ℕ, ℤ, List, pos, replicate, arith}
 use Rattle.vx_base.specs.declared.samples.Samples.{Samples}
 use Rattle.vx_base.specs.Rectangle.{Rectangle, whole}
 use Rattle.vx_base.specs.Description.{Description, sample_count}

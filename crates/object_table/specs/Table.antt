@@ -1,5 +1,5 @@
 -- The objects of a client in a map by name.
-use Rattle.std.specs.Prelude.{ℕ, ◌≡◌, ◌<◌, ◌≤◌, ◌+◌, ◌*◌, ◌-◌, ◌==◌, Bool, ◌||◌, nat_lt, if◌then◌else◌, Option, Some, List, [], length, map, filter, All, unwrap_or}
+use Rattle.std.specs.Prelude.{ℕ, ◌≡◌, ◌<◌, ◌≤◌, ◌+◌, ◌*◌, ◌-◌, ◌==◌, Bool, false, ◌||◌, nat_lt, if◌then◌else◌, IsTrue, Some, List, [], length, map, filter, All, unwrap_or}
 use Rattle.std.specs.List.Sorted.{IsStrictlyIncreasing}
 use Rattle.std.specs.Option.{option_map}
 use Rattle.std.specs.Ordering.{nat_cmp}
@@ -55,16 +55,16 @@ named e = record { name = e.0; live = e.1.live; object = e.1.object }
 abbrev pub nodes_at : ℕ → List (ℕ × Entry) → List Node
 nodes_at name entries = unwrap_or (option_map (λ e. nodes_in e.object) (lookup (is_at (nat_cmp name)) entries)) []
 
--- the entries, of which the one of this name is changed
-abbrev pub changed : ℕ → (Entry → Entry) → List (ℕ × Entry) → List (ℕ × Entry)
-changed name change entries = map (λ e. if e.0 == name then (e.0, change e.1) else e) entries
-
 -- the entries, each used so much more often, or less, as its name stands in a list
 abbrev pub used_more : List ℕ → List (ℕ × Entry) → List (ℕ × Entry)
 used_more names entries = map {A = ℕ × Entry} {B = ℕ × Entry} (λ e. let n : Entry = e.1 in (e.0, record n { uses = n.uses + times e.0 names })) entries
 
 abbrev pub used_less : List ℕ → List (ℕ × Entry) → List (ℕ × Entry)
 used_less names entries = map {A = ℕ × Entry} {B = ℕ × Entry} (λ e. let n : Entry = e.1 in (e.0, record n { uses = n.uses - times e.0 names })) entries
+
+-- the entries, once a name isn't live
+abbrev pub ended : ℕ → List (ℕ × Entry) → List (ℕ × Entry)
+ended name entries = map {A = ℕ × Entry} {B = ℕ × Entry} (λ e. let n : Entry = e.1 in if e.0 == name then (e.0, record n { live = false }) else e) entries
 
 -- whether an entry is held: its name is live, or a node uses it
 abbrev pub is_kept : ℕ × Entry → Bool
@@ -77,7 +77,8 @@ kept entries = filter is_kept entries
 -- ---- what a table keeps
 
 -- names in their order, below the next; at most 1,024 objects, each charged no more than 16 of the largest images, none a graph of
--- more than 256 nodes; the sum of their charges; how often the nodes of unreleased graphs use each; and no node uses a name to come
+-- more than 256 nodes; the sum of their charges; how often the nodes of unreleased graphs use each, and that each is held; and no node
+-- uses a name to come
 pub record IsTable (next charge : ℕ) (entries : List (ℕ × Entry)) : Type 0 where
   pub names : IsStrictlyIncreasing (map (λ e. e.0) entries)
   pub below : All (λ e. e.0 < next) entries
@@ -87,4 +88,5 @@ pub record IsTable (next charge : ℕ) (entries : List (ℕ × Entry)) : Type 0 
   pub nodes : All (λ e. length (nodes_in e.1.object) ≤ 256) entries
   pub charged : charge ≡ charge_of (map named entries)
   pub uses : All (λ e. e.1.uses ≡ times e.0 (names_used (map named entries))) entries
+  pub held : All (λ e. IsTrue (is_kept e)) entries
   pub given : All (λ name. name < next) (names_used (map named entries))

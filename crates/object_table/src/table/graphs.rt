@@ -1,21 +1,21 @@
 //! The graphs of a table, whose nodes use what it holds.
-ghost use Rattle.std.specs.Prelude.{◌≡◌, ◌*◌, ◌<◌, ◌≤◌, length, map, not, if◌then◌else◌, IsTrue, is_some, is_none, All, Some, Ok, Err, IfOk, IfErr, OnOk, OnErr};
+ghost use Rattle.std.specs.Prelude.{◌≡◌, ◌*◌, ◌<◌, ◌≤◌, true, map, not, if◌then◌else◌, IsTrue, is_some, is_none, All, Some, Ok, Err, IfOk, IfErr, OnOk, OnErr};
 ghost use Rattle.std.specs.Result.{is_err};
 ghost use Rattle.std.specs.List.{flat_map};
 ghost use Rattle.std.specs.Option.{option_map};
 ghost use Rattle.std.specs.Ordering.{nat_cmp};
-ghost use Rattle.std.specs.Map.{lookup};
+ghost use Rattle.std.specs.Map.{lookup, remove_entry};
 ghost use Rattle.std.specs.BTreeMap.{is_at};
 ghost use Rattle.vx_base.specs.declared.kind.Kind.TheVariants as kind;
 ghost use Rattle.vx_base.specs.Graph.{can_add, with_node, has_node, without_node};
 ghost use Rattle.vx_base.specs.Node.{given};
-ghost use Rattle.vx_base.specs.Object.{object_bytes, object_kind};
+ghost use Rattle.vx_base.specs.Object.{object_kind};
 ghost use Rattle.graph_verify.specs.declared.fault.GraphFault.TheVariants as graph_fault;
 ghost use Rattle.object_table.specs.declared.fault.TableFault.TheVariants.{InvalidReference};
 ghost use Rattle.object_table.specs.Context.{object_named, charge_of, with_objects, with_graph};
 ghost use Rattle.object_table.specs.Holds.{still_held, unnamed};
 ghost use Rattle.object_table.specs.Named.{object_held};
-ghost use Rattle.object_table.specs.Table.{IsUnder, graph_under, named, nodes_at, used_more, used_less, kept};
+ghost use Rattle.object_table.specs.Table.{IsUnder, graph_under, named, nodes_at, used_more, used_less, ended, is_kept, kept};
 ghost use Rattle.object_table.specs.Uses.{used_names};
 
 use crate::fault::TableFault;
@@ -74,8 +74,7 @@ impl Table {
         // The prover knows then that no two nodes have one number.
         entry.object.graph().is_graph();
         let node = entry.object.remove_node(number)?;
-        end_uses(&mut self.entries, &node.node());
-        self.charge = keep_held(&mut self.entries);
+        self.charge = end_uses(&mut self.entries, self.charge, &node.node());
         Ok(())
     }
 
@@ -86,17 +85,16 @@ impl Table {
         ensures ok { OnOk result (self.new ≡ with_objects self.old (still_held (unnamed self.old.objects name))) }
         ensures err { OnErr result (self.new ≡ self.old) }
     {
-        let Some(entry) = self.entries.get_mut(&name) else {
+        let Some(entry) = self.entries.get(&name) else {
             return Err(TableFault::InvalidReference);
         };
         if !entry.live {
             return Err(TableFault::InvalidReference);
         }
-        entry.live = false;
         if let Kind::Graph = entry.object.kind() {
-            end_all_uses(&mut self.entries, name);
+            self.charge = end_all_uses(&mut self.entries, self.charge, name);
         }
-        self.charge = keep_held(&mut self.entries);
+        self.charge = end_name(&mut self.entries, self.charge, name);
         Ok(())
     }
 }
@@ -124,36 +122,85 @@ fn begin_use(entries: &mut BTreeMap<u32, Entry>, operand: Option<ObjRef>)
     }
 }
 
-/// A node ends its uses.
-fn end_uses(entries: &mut BTreeMap<u32, Entry>, node: &Node)
-    ensures { entries.new.entries ≡ used_less (used_names node.now) entries.old.entries }
+/// A node ends its uses. What is then neither named nor used is dropped. Says what all the others are
+/// charged.
+fn end_uses(entries: &mut BTreeMap<u32, Entry>, charge: u64, node: &Node) -> u64
+    requires held { All (λ e. IsTrue (is_kept e)) entries.old.entries }
+    requires charge { charge ≡ charge_of (map named entries.old.entries) }
+    ensures entries { entries.new.entries ≡ kept (used_less (used_names node.now) entries.old.entries) }
+    ensures charge { result ≡ charge_of (map named entries.new.entries) }
 {
-    end_use(entries, Some(node.in1));
-    end_use(entries, node.in2);
-    end_use(entries, node.out1);
-    end_use(entries, node.out2);
+    let charge = end_use(entries, charge, Some(node.in1));
+    let charge = end_use(entries, charge, node.in2);
+    let charge = end_use(entries, charge, node.out1);
+    end_use(entries, charge, node.out2)
 }
 
-/// A node ends its use of an operand, if it has that.
-fn end_use(entries: &mut BTreeMap<u32, Entry>, operand: Option<ObjRef>)
-    ensures { entries.new.entries ≡ used_less (map (λ cell. cell.name) (given operand)) entries.old.entries }
+/// A node ends its use of an operand, if it has that, as `end_uses` does.
+fn end_use(entries: &mut BTreeMap<u32, Entry>, charge: u64, operand: Option<ObjRef>) -> u64
+    requires held { All (λ e. IsTrue (is_kept e)) entries.old.entries }
+    requires charge { charge ≡ charge_of (map named entries.old.entries) }
+    ensures entries { entries.new.entries ≡ kept (used_less (map (λ cell. cell.name) (given operand)) entries.old.entries) }
+    ensures charge { result ≡ charge_of (map named entries.new.entries) }
 {
-    if let Some(cell) = operand {
-        if let Some(entry) = entries.get_mut(&cell.name()) {
-            entry.uses = entry.uses.saturating_sub(1);
-        }
+    let Some(cell) = operand else {
+        return charge;
+    };
+    let name = cell.name();
+    let Some(entry) = entries.get_mut(&name) else {
+        return charge;
+    };
+    entry.uses = entry.uses.saturating_sub(1);
+    if entry.live || entry.uses > 0 {
+        return charge;
     }
+    drop_entry(entries, charge, name)
 }
 
-/// All nodes of the graph under a name end their uses.
-fn end_all_uses(entries: &mut BTreeMap<u32, Entry>, graph: u32)
-    requires { option_map (λ e. object_kind e.object) (lookup (is_at (nat_cmp graph)) entries.old.entries) ≡ Some kind.Graph }
-    ensures { entries.new.entries ≡ used_less (flat_map used_names (nodes_at graph entries.old.entries)) entries.old.entries }
+/// All nodes of the graph under a live name end their uses, as `end_uses` says.
+fn end_all_uses(entries: &mut BTreeMap<u32, Entry>, charge: u64, graph: u32) -> u64
+    requires graph { option_map (λ e. object_kind e.object) (lookup (is_at (nat_cmp graph)) entries.old.entries) ≡ Some kind.Graph }
+    requires live { option_map (λ e. e.live) (lookup (is_at (nat_cmp graph)) entries.old.entries) ≡ Some true }
+    requires held { All (λ e. IsTrue (is_kept e)) entries.old.entries }
+    requires charge { charge ≡ charge_of (map named entries.old.entries) }
+    ensures entries { entries.new.entries ≡ kept (used_less (flat_map used_names (nodes_at graph entries.old.entries)) entries.old.entries) }
+    ensures charge { result ≡ charge_of (map named entries.new.entries) }
 {
+    let mut left = charge;
     let count = nodes_under(entries, graph).len();
     for k in 0..count {
         let node = nodes_under(entries, graph)[k].node;
-        end_uses(entries, &node.node());
+        left = end_uses(entries, left, &node.node());
+    }
+    left
+}
+
+/// A name ends. What it stood for is dropped if no node uses it. Says what all the others are charged.
+fn end_name(entries: &mut BTreeMap<u32, Entry>, charge: u64, name: u32) -> u64
+    requires held { All (λ e. IsTrue (is_kept e)) entries.old.entries }
+    requires charge { charge ≡ charge_of (map named entries.old.entries) }
+    ensures entries { entries.new.entries ≡ kept (ended name entries.old.entries) }
+    ensures charge { result ≡ charge_of (map named entries.new.entries) }
+{
+    let Some(entry) = entries.get_mut(&name) else {
+        return charge;
+    };
+    entry.live = false;
+    if entry.uses > 0 {
+        return charge;
+    }
+    drop_entry(entries, charge, name)
+}
+
+/// Drops what is under a name, and says what all the others are charged.
+fn drop_entry(entries: &mut BTreeMap<u32, Entry>, charge: u64, name: u32) -> u64
+    requires { charge ≡ charge_of (map named entries.old.entries) }
+    ensures entries { entries.new.entries ≡ remove_entry (is_at (nat_cmp name)) entries.old.entries }
+    ensures charge { result ≡ charge_of (map named entries.new.entries) }
+{
+    match entries.remove(&name) {
+        Some(entry) => charge - entry.object.bytes() as u64,
+        None => charge,
     }
 }
 
@@ -166,19 +213,4 @@ fn nodes_under(entries: &BTreeMap<u32, Entry>, graph: u32) -> &[Numbered]
         Some(entry) => entry.object.graph().nodes(),
         None => unreachable!(),
     }
-}
-
-/// Drops what is neither named nor used, and says what the others are charged.
-fn keep_held(entries: &mut BTreeMap<u32, Entry>) -> u64
-    requires count { length entries.old.entries ≤ 1024 }
-    requires each { All (λ e. object_bytes e.1.object ≤ 16 * 67108864) entries.old.entries }
-    ensures entries { entries.new.entries ≡ kept entries.old.entries }
-    ensures charge { result ≡ charge_of (map named (kept entries.old.entries)) }
-{
-    entries.retain(|_, entry| entry.live || entry.uses > 0);
-    let mut charge = 0;
-    for entry in entries.values() {
-        charge += entry.object.bytes() as u64;
-    }
-    charge
 }

@@ -1,14 +1,13 @@
-use Rattle.std.proofs.Common.{◌≡◌, ◌<◌, ◌+◌, ◌++◌, ◌∷◌, [], ℕ, List, true, not, length, map, refl, sym, ap, subst, ◌∙◌, arith}
+use Rattle.std.proofs.Common.{◌≡◌, ◌+◌, ◌++◌, ◌∷◌, [], ℕ, List, true, map, refl, sym, ap, subst, ◌∙◌, arith}
 use Rattle.std.specs.Map.{keys_of}
 use Rattle.std.specs.List.Sorted.{IsStrictlyIncreasing}
-use Rattle.std.proofs.lemmas.List.{length-map, map-append}
+use Rattle.std.proofs.lemmas.List.{map-append}
 use Rattle.std.proofs.lemmas.Map.Keys.{IsStrictlyIncreasing-from_sorted}
-use Rattle.vx_base.specs.Object.{object_bytes}
 use Rattle.object_table.specs.declared.table.Entry.{Entry}
-use Rattle.object_table.specs.Context.{Context, can_insert, with_new}
+use Rattle.object_table.specs.Context.{Context, with_new}
 use Rattle.object_table.specs.Named.{Named}
 use Rattle.object_table.specs.Table.{named, IsTable}
-use Rattle.object_table.proofs.EntryLemmas.{charge_limit, insert_last, IsTable-inserted, objects_are, room_left}
+use Rattle.object_table.proofs.EntryLemmas.{charge_limit, insert_last, IsTable-inserted, room_left}
 use Rattle.object_table.proofs.table.Table.insert.Goals as goal
 
 pub overflow_add-self-in-Ok : goal.overflow_add-self-in-Ok
@@ -25,7 +24,7 @@ invariant_of-self c =
     let increasing = IsStrictlyIncreasing-from_sorted (keys_of c.insert.new.self.entries) c.insert.ensures.ordered in
     subst (IsTable (s.next + 1) (s.charge + c.bytes-bytes.result)) (sym last)
     (subst (λ n. IsTable (s.next + 1) (s.charge + n) (s.entries.entries ++ (s.next, entry) ∷ [])) (sym c.bytes-bytes.ensures.value)
-    (IsTable-inserted s.next s.charge s.entries.entries entry c.self.invariant room.0 room.1 refl c.requires (omega (arith, c.bytes-bytes.ensures.value, c.bytes-bytes.ensures.limit)) (subst (λ l. IsStrictlyIncreasing (keys_of l)) last increasing)))
+    (IsTable-inserted s.next s.charge s.entries.entries entry c.self.invariant room.0 room.1 refl refl c.requires (omega (arith, c.bytes-bytes.ensures.value, c.bytes-bytes.ensures.limit)) (subst (λ l. IsStrictlyIncreasing (keys_of l)) last increasing)))
 
 pub returns-in-Ok-clause-ok : goal.returns-in-Ok-clause-ok
 returns-in-Ok-clause-ok c =

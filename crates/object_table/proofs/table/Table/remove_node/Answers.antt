@@ -12,10 +12,11 @@ use Rattle.object_table.specs.Context.{Context, charge_of, with_objects}
 use Rattle.object_table.specs.Holds.{still_held}
 use Rattle.object_table.specs.Named.{Named}
 use Rattle.object_table.specs.Object.{graph_value}
-use Rattle.object_table.specs.Table.{IsTable, named, used_less, kept}
+use Rattle.std.specs.Prelude.{All, IsTrue}
+use Rattle.object_table.specs.Table.{IsTable, named, used_less, is_kept, kept}
 use Rattle.object_table.specs.Uses.{used_names}
 use Rattle.object_table.proofs.EntryLemmas.{nothing_under, kind_under, under_is, shown_name}
-use Rattle.object_table.proofs.GraphLemmas.{unchanged, live_there, removed-left, IsTable-same}
+use Rattle.object_table.proofs.GraphLemmas.{unchanged, charged-after, held-after, live_there, removed-left, IsTable-same}
 use Rattle.object_table.proofs.table.Table.remove_node.Goals as goal
 
 pub unreachable-requires : goal.unreachable-requires
@@ -55,21 +56,20 @@ returns-in_err-node-clause-err c =
     let p = err_from_is_err_and c.from_residual.result c.from_residual.ensures.1 in
     rw p.1 (ap (λ (l : List (ℕ × Entry)). let t : Context = record { next = s.next; objects = map named l } in t) back ∙ c.self.view_is)
 
-pub keep_held-self-inside-requires-clause-each : goal.keep_held-self-inside-requires-clause-each
-keep_held-self-inside-requires-clause-each c =
+pub end_uses-self-inside-requires-clause-held : goal.end_uses-self-inside-requires-clause-held
+end_uses-self-inside-requires-clause-held c =
     let s = c.self.inside in
     let old = c.in-Some.entry.now in
     let new = record old { object = c.remove_node.new.self } in
-    let found = sym c.in-Some.ensures.value in
-    let changed : List (ℕ × Entry) = set_value (is_at (nat_cmp c.args.graph)) s.entries.entries new in
-    let less : c.end_uses.new.entries.entries ≡ used_less (used_names c.in_ok-node.node) changed =
-    c.end_uses.ensures ∙ ap (used_less (used_names c.node.result)) (c.get_mut.follows.holds new).0 ∙ ap (λ (n : Node). used_less (used_names n) changed) c.node.ensures.value in
-    let left =
-    removed-left s.next s.charge s.entries.entries c.self.invariant c.args.graph old found
-    (live_there c.args.self.now s.next s.charge s.entries.entries c.self.view_is c.self.invariant c.args.graph old found c.requires.live) c.end_uses.new.entries.entries
-    c.remove_node.new.self c.remove_node.ensures.bytes (kind_under c.args.self.now s.next s.entries.entries c.self.view_is kind.Graph c.args.graph old found c.requires.graph)
-    c.in_ok-node.node c.args.number (subst IsGraph c.graph.ensures c.is_graph.ensures) c.in_ok-node.ensures.removed c.in_ok-node.ensures.ok less in
-    left.each
+    subst (λ (l : List (ℕ × Entry)). All (λ e. IsTrue (is_kept e)) l) (sym (c.get_mut.follows.holds new).0) (held-after s.next s.charge s.entries.entries c.self.invariant c.args.graph old new (sym c.in-Some.ensures.value) refl refl)
+
+pub end_uses-self-inside-requires-clause-charge : goal.end_uses-self-inside-requires-clause-charge
+end_uses-self-inside-requires-clause-charge c =
+    let s = c.self.inside in
+    let old = c.in-Some.entry.now in
+    let new = record old { object = c.remove_node.new.self } in
+    charged-after s.next s.charge s.entries.entries c.self.invariant c.args.graph old new (sym c.in-Some.ensures.value) refl c.remove_node.ensures.bytes
+    ∙ ap (λ (l : List (ℕ × Entry)). charge_of (map named l)) (sym (c.get_mut.follows.holds new).0)
 
 pub invariant_of-self-2 : goal.invariant_of-self-2
 invariant_of-self-2 c =
@@ -77,16 +77,18 @@ invariant_of-self-2 c =
     let old = c.in-Some.entry.now in
     let new = record old { object = c.remove_node.new.self } in
     let found = sym c.in-Some.ensures.value in
-    let changed : List (ℕ × Entry) = set_value (is_at (nat_cmp c.args.graph)) s.entries.entries new in
-    let less : c.end_uses.new.entries.entries ≡ used_less (used_names c.in_ok-node.node) changed =
-    c.end_uses.ensures ∙ ap (used_less (used_names c.node.result)) (c.get_mut.follows.holds new).0 ∙ ap (λ (n : Node). used_less (used_names n) changed) c.node.ensures.value in
+    let less = used_less (used_names c.in_ok-node.node) (set_value (is_at (nat_cmp c.args.graph)) s.entries.entries new) in
     let left =
     removed-left s.next s.charge s.entries.entries c.self.invariant c.args.graph old found
-    (live_there c.args.self.now s.next s.charge s.entries.entries c.self.view_is c.self.invariant c.args.graph old found c.requires.live) c.end_uses.new.entries.entries
+    (live_there c.args.self.now s.next s.charge s.entries.entries c.self.view_is c.self.invariant c.args.graph old found c.requires.live) less
     c.remove_node.new.self c.remove_node.ensures.bytes (kind_under c.args.self.now s.next s.entries.entries c.self.view_is kind.Graph c.args.graph old found c.requires.graph)
-    c.in_ok-node.node c.args.number (subst IsGraph c.graph.ensures c.is_graph.ensures) c.in_ok-node.ensures.removed c.in_ok-node.ensures.ok less in
-    IsTable-same s.next s.next (charge_of (map named (kept c.end_uses.new.entries.entries))) c.keep_held-self-inside.result (kept c.end_uses.new.entries.entries) c.keep_held-self-inside.new.entries.entries
-    refl c.keep_held-self-inside.ensures.charge c.keep_held-self-inside.ensures.entries left.table
+    c.in_ok-node.node c.args.number (subst IsGraph c.graph.ensures c.is_graph.ensures) c.in_ok-node.ensures.removed c.in_ok-node.ensures.ok refl in
+    let is : c.end_uses-self-inside.new.entries.entries ≡ kept less =
+    c.end_uses-self-inside.ensures.entries
+    ∙ ap (λ (l : List (ℕ × Entry)). kept (used_less (used_names c.node.result) l)) (c.get_mut.follows.holds new).0
+    ∙ ap (λ (n : Node). kept (used_less (used_names n) (set_value (is_at (nat_cmp c.args.graph)) s.entries.entries new))) c.node.ensures.value in
+    IsTable-same s.next s.next (charge_of (map named (kept less))) c.end_uses-self-inside.result (kept less) c.end_uses-self-inside.new.entries.entries
+    refl (c.end_uses-self-inside.ensures.charge ∙ ap (λ (l : List (ℕ × Entry)). charge_of (map named l)) is) is left.table
 
 pub returns-clause-ok : goal.returns-clause-ok
 returns-clause-ok c =
@@ -95,14 +97,17 @@ returns-clause-ok c =
     let new = record old { object = c.remove_node.new.self } in
     let found = sym c.in-Some.ensures.value in
     let changed : List (ℕ × Entry) = set_value (is_at (nat_cmp c.args.graph)) s.entries.entries new in
-    let less : c.end_uses.new.entries.entries ≡ used_less (used_names c.in_ok-node.node) changed =
-    c.end_uses.ensures ∙ ap (used_less (used_names c.node.result)) (c.get_mut.follows.holds new).0 ∙ ap (λ (n : Node). used_less (used_names n) changed) c.node.ensures.value in
+    let less = used_less (used_names c.in_ok-node.node) changed in
     let left =
     removed-left s.next s.charge s.entries.entries c.self.invariant c.args.graph old found
-    (live_there c.args.self.now s.next s.charge s.entries.entries c.self.view_is c.self.invariant c.args.graph old found c.requires.live) c.end_uses.new.entries.entries
+    (live_there c.args.self.now s.next s.charge s.entries.entries c.self.view_is c.self.invariant c.args.graph old found c.requires.live) less
     c.remove_node.new.self c.remove_node.ensures.bytes (kind_under c.args.self.now s.next s.entries.entries c.self.view_is kind.Graph c.args.graph old found c.requires.graph)
-    c.in_ok-node.node c.args.number (subst IsGraph c.graph.ensures c.is_graph.ensures) c.in_ok-node.ensures.removed c.in_ok-node.ensures.ok less in
-    ap (λ (l : List (ℕ × Entry)). let t : Context = record { next = s.next; objects = map named l } in t) c.keep_held-self-inside.ensures.entries
+    c.in_ok-node.node c.args.number (subst IsGraph c.graph.ensures c.is_graph.ensures) c.in_ok-node.ensures.removed c.in_ok-node.ensures.ok refl in
+    let is : c.end_uses-self-inside.new.entries.entries ≡ kept less =
+    c.end_uses-self-inside.ensures.entries
+    ∙ ap (λ (l : List (ℕ × Entry)). kept (used_less (used_names c.node.result) l)) (c.get_mut.follows.holds new).0
+    ∙ ap (λ (n : Node). kept (used_less (used_names n) changed)) c.node.ensures.value in
+    ap (λ (l : List (ℕ × Entry)). let t : Context = record { next = s.next; objects = map named l } in t) is
     ∙ ap (λ (l : List Named). let t : Context = record { next = s.next; objects = l } in t) left.shown
     ∙ ap (λ (t : Context). with_objects t (still_held t.objects))
     (shown_name c.args.self.now s.next s.entries.entries c.self.view_is c.args.graph old found (λ o. GraphObject (without_node (graph_value o) c.args.number)) new changed

@@ -3,7 +3,7 @@ use Rattle.std.specs.Ordering.{nat_cmp}
 use Rattle.std.specs.BTreeMap.{is_at}
 use Rattle.std.proofs.lemmas.Map.Entries.{All-lookup}
 use Rattle.object_table.specs.declared.table.Entry.{Entry}
-use Rattle.object_table.proofs.UseLemmas.{with_uses, more, more_is, used-one, used-none, used-operand, used-nothing}
+use Rattle.object_table.proofs.UseLemmas.{with_uses, more, more_is, used, used-nil, used-one, used-none, operand_uses, no_operand_uses}
 use Rattle.object_table.proofs.table.graphs.begin_use.Goals as goal
 
 pub overflow_add-entry : goal.overflow_add-entry
@@ -19,14 +19,14 @@ returns-in-Some-get_mut c =
     let old = c.in-Some-get_mut.entry.now in
     (c.get_mut.follows.holds (with_uses old (old.uses + 1))).0
     ∙ used-one more more_is entries c.name.result old c.get_mut.ensures.ordered (sym c.in-Some-get_mut.ensures.value)
-    ∙ used-operand more c.args.operand c.in-Some.cell c.name.result entries c.in-Some.is c.name.ensures.value
+    ∙ operand_uses (used more) c.args.operand c.in-Some.cell c.name.result entries c.in-Some.is c.name.ensures.value
 
 pub returns-in_default-get_mut : goal.returns-in_default-get_mut
 returns-in_default-get_mut c =
     let entries = c.args.entries.now.entries in
     ap (λ m. m.entries) c.get_mut.follows.holds-at-none
     ∙ used-none more more_is entries c.name.result (sym c.in_default-get_mut.ensures.value)
-    ∙ used-operand more c.args.operand c.in-Some.cell c.name.result entries c.in-Some.is c.name.ensures.value
+    ∙ operand_uses (used more) c.args.operand c.in-Some.cell c.name.result entries c.in-Some.is c.name.ensures.value
 
 pub returns-in_default : goal.returns-in_default
-returns-in_default c = used-nothing more more_is c.args.operand c.args.entries.now.entries c.in_default.is
+returns-in_default c = sym (used-nil more more_is c.args.entries.now.entries) ∙ no_operand_uses (used more) c.args.operand c.args.entries.now.entries c.in_default.is

@@ -1,5 +1,5 @@
 use Rattle.std.proofs.Common.{◌+◌, ◌*◌, Some, arith}
-use Rattle.object_table.proofs.UseLemmas.{more, more_is, used-node, uses_after}
+use Rattle.object_table.proofs.UseLemmas.{more, more_is, used, used-append, node_uses, uses_after}
 use Rattle.object_table.proofs.table.graphs.begin_uses.Goals as goal
 
 pub begin_use-requires-2 : goal.begin_use-requires-2
@@ -25,5 +25,5 @@ begin_use-requires-4 c =
 
 pub returns : goal.returns
 returns c =
-    used-node more more_is c.args.node.now c.args.entries.now.entries c.begin_use.new.entries.entries c.begin_use-2.new.entries.entries c.begin_use-3.new.entries.entries c.begin_use-4.new.entries.entries
+    node_uses (used more) (used-append more more_is) c.args.node.now c.args.entries.now.entries c.begin_use.new.entries.entries c.begin_use-2.new.entries.entries c.begin_use-3.new.entries.entries c.begin_use-4.new.entries.entries
     c.begin_use.ensures c.begin_use-2.ensures c.begin_use-3.ensures c.begin_use-4.ensures

@@ -1,25 +1,82 @@
-use Rattle.std.proofs.Common.{ap, sym, ◌∙◌}
-use Rattle.std.specs.Ordering.{nat_cmp}
-use Rattle.std.specs.Map.{set_value}
+use Rattle.std.proofs.Common.{◌≡◌, true, map, refl, sym, ap, ◌∙◌}
+use Rattle.std.specs.Prelude.{nat_lt, ◌||◌}
+use Rattle.std.specs.Map.{remove_entry, set_value}
 use Rattle.std.specs.BTreeMap.{is_at}
-use Rattle.object_table.proofs.UseLemmas.{with_uses, less, less_is, used-one, used-none, used-operand, used-nothing}
+use Rattle.std.specs.Ordering.{nat_cmp}
+use Rattle.std.proofs.lemmas.Bool.{or_left, or_from, lt-ltb, le-ltb}
+use Rattle.object_table.specs.Context.{charge_of}
+use Rattle.object_table.specs.Table.{named, kept}
+use Rattle.object_table.proofs.UseLemmas.{with_uses, less, less_is, used-one, used-none, operand_uses, no_operand_uses}
+use Rattle.object_table.proofs.KeptLemmas.{all_kept, held-written, dropped, charge-written, left_of, left-nil}
 use Rattle.object_table.proofs.table.graphs.end_use.Goals as goal
+use Rattle.object_table.proofs.table.graphs.end_use.Goals.{then-entry-via-then-entry, then-entry-via-else-entry+then-entry-gt0}
 
-pub returns-in-Some-get_mut : goal.returns-in-Some-get_mut
-returns-in-Some-get_mut c =
+pub returns-in_default-clause-entries : goal.returns-in_default-clause-entries
+returns-in_default-clause-entries c =
     let entries = c.args.entries.now.entries in
+    left-nil entries c.requires.held ∙ no_operand_uses left_of c.args.operand entries c.in_default.is
+
+pub returns-in_default-get_mut-clause-entries : goal.returns-in_default-get_mut-clause-entries
+returns-in_default-get_mut-clause-entries c =
+    let entries = c.args.entries.now.entries in
+    let name = c.name-name.result in
+    ap (λ m. m.entries) c.get_mut.follows.holds-at-none ∙ sym (all_kept entries c.requires.held)
+    ∙ ap kept (used-none less less_is entries name (sym c.in_default-get_mut.ensures.value))
+    ∙ operand_uses left_of c.args.operand c.in-Some.cell name entries c.in-Some.is c.name-name.ensures.value
+
+pub returns-then-entry-clause-entries : goal.returns-then-entry-clause-entries
+returns-then-entry-clause-entries c =
+    let entries = c.args.entries.now.entries in
+    let name = c.name-name.result in
     let old = c.in-Some-get_mut.entry.now in
-    (c.get_mut.follows.holds (with_uses old c.saturating_sub-entry.result)).0
-    ∙ ap (λ n. set_value (is_at (nat_cmp c.name.result)) entries (with_uses old n)) c.saturating_sub-entry.ensures
-    ∙ used-one less less_is entries c.name.result old c.get_mut.ensures.ordered (sym c.in-Some-get_mut.ensures.value)
-    ∙ used-operand less c.args.operand c.in-Some.cell c.name.result entries c.in-Some.is c.name.ensures.value
+    let left = c.saturating_sub-entry.result in
+    let new = with_uses old left in
+    let found = sym c.in-Some-get_mut.ensures.value in
+    let is : (old.live || nat_lt 0 left) ≡ true =
+    elim c.then-entry.branch [
+      | then-entry-via-then-entry w ↦ or_left old.live (nat_lt 0 left) w.if-entry.true
+      | then-entry-via-else-entry+then-entry-gt0 w ↦ ap (λ b. b || nat_lt 0 left) w.if-entry.false ∙ lt-ltb 0 left w.if-entry-gt0.true
+    ] in
+    let then : c.then-entry.entries.entries ≡ set_value (is_at (nat_cmp c.name-name.result)) c.args.entries.now.entries new =
+    elim c.then-entry.branch [
+      | then-entry-via-then-entry w ↦ ap (λ m. m.entries) w.entries-is ∙ (c.get_mut.follows.holds new).0
+      | then-entry-via-else-entry+then-entry-gt0 w ↦ ap (λ m. m.entries) w.entries-is ∙ (c.get_mut.follows.holds new).0
+    ] in
+    then ∙ held-written entries name old new found c.requires.held is
+    ∙ ap (λ n. kept (set_value (is_at (nat_cmp name)) entries (with_uses old n))) c.saturating_sub-entry.ensures
+    ∙ ap kept (used-one less less_is entries name old c.get_mut.ensures.ordered found)
+    ∙ operand_uses left_of c.args.operand c.in-Some.cell name entries c.in-Some.is c.name-name.ensures.value
 
-pub returns-in_default-get_mut : goal.returns-in_default-get_mut
-returns-in_default-get_mut c =
+pub returns-then-entry-clause-charge : goal.returns-then-entry-clause-charge
+returns-then-entry-clause-charge c =
+    let old = c.in-Some-get_mut.entry.now in
+    let new = with_uses old c.saturating_sub-entry.result in
+    let then : c.then-entry.entries.entries ≡ set_value (is_at (nat_cmp c.name-name.result)) c.args.entries.now.entries new =
+    elim c.then-entry.branch [
+      | then-entry-via-then-entry w ↦ ap (λ m. m.entries) w.entries-is ∙ (c.get_mut.follows.holds new).0
+      | then-entry-via-else-entry+then-entry-gt0 w ↦ ap (λ m. m.entries) w.entries-is ∙ (c.get_mut.follows.holds new).0
+    ] in
+    c.requires.charge ∙ charge-written c.args.entries.now.entries c.name-name.result old new (sym c.in-Some-get_mut.ensures.value) refl
+    ∙ ap (λ l. charge_of (map named l)) (sym then)
+
+pub drop_entry-requires : goal.drop_entry-requires
+drop_entry-requires c =
+    let old = c.in-Some-get_mut.entry.now in
+    let new = with_uses old c.saturating_sub-entry.result in
+    c.requires.charge ∙ charge-written c.args.entries.now.entries c.name-name.result old new (sym c.in-Some-get_mut.ensures.value) refl
+    ∙ ap (λ l. charge_of (map named l)) (sym (c.get_mut.follows.holds new).0)
+
+pub returns-clause-entries : goal.returns-clause-entries
+returns-clause-entries c =
     let entries = c.args.entries.now.entries in
-    ap (λ m. m.entries) c.get_mut.follows.holds-at-none
-    ∙ used-none less less_is entries c.name.result (sym c.in_default-get_mut.ensures.value)
-    ∙ used-operand less c.args.operand c.in-Some.cell c.name.result entries c.in-Some.is c.name.ensures.value
-
-pub returns-in_default : goal.returns-in_default
-returns-in_default c = used-nothing less less_is c.args.operand c.args.entries.now.entries c.in_default.is
+    let name = c.name-name.result in
+    let old = c.in-Some-get_mut.entry.now in
+    let left = c.saturating_sub-entry.result in
+    let new = with_uses old left in
+    let found = sym c.in-Some-get_mut.ensures.value in
+    c.drop_entry.ensures.entries
+    ∙ ap (remove_entry (is_at (nat_cmp name))) (c.get_mut.follows.holds new).0
+    ∙ dropped entries name old new found c.requires.held (or_from old.live (nat_lt 0 left) c.if-entry.false (le-ltb 0 left c.if-entry-gt0.false))
+    ∙ ap (λ n. kept (set_value (is_at (nat_cmp name)) entries (with_uses old n))) c.saturating_sub-entry.ensures
+    ∙ ap kept (used-one less less_is entries name old c.get_mut.ensures.ordered found)
+    ∙ operand_uses left_of c.args.operand c.in-Some.cell name entries c.in-Some.is c.name-name.ensures.value

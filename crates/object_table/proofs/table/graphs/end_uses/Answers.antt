@@ -1,7 +1,19 @@
-use Rattle.object_table.proofs.UseLemmas.{less, less_is, used-node}
+use Rattle.std.proofs.Common.{map, [], ◌∷◌}
+use Rattle.vx_base.specs.Node.{given}
+use Rattle.object_table.proofs.UseLemmas.{node_uses}
+use Rattle.object_table.proofs.KeptLemmas.{left_of, held-left, left-append}
 use Rattle.object_table.proofs.table.graphs.end_uses.Goals as goal
 
-pub returns : goal.returns
-returns c =
-    used-node less less_is c.args.node.now c.args.entries.now.entries c.end_use.new.entries.entries c.end_use-2.new.entries.entries c.end_use-3.new.entries.entries c.end_use-4.new.entries.entries
-    c.end_use.ensures c.end_use-2.ensures c.end_use-3.ensures c.end_use-4.ensures
+pub end_use-charge-requires-2-clause-held : goal.end_use-charge-requires-2-clause-held
+end_use-charge-requires-2-clause-held c = held-left (c.args.node.now.in1.name ∷ []) c.args.entries.now.entries c.end_use-charge.new.entries.entries c.end_use-charge.ensures.entries
+
+pub end_use-charge-requires-3-clause-held : goal.end_use-charge-requires-3-clause-held
+end_use-charge-requires-3-clause-held c = held-left (map (λ cell. cell.name) (given c.args.node.now.in2)) c.end_use-charge.new.entries.entries c.end_use-charge-2.new.entries.entries c.end_use-charge-2.ensures.entries
+
+pub end_use-requires-clause-held : goal.end_use-requires-clause-held
+end_use-requires-clause-held c = held-left (map (λ cell. cell.name) (given c.args.node.now.out1)) c.end_use-charge-2.new.entries.entries c.end_use-charge-3.new.entries.entries c.end_use-charge-3.ensures.entries
+
+pub returns-clause-entries : goal.returns-clause-entries
+returns-clause-entries c =
+    node_uses left_of left-append c.args.node.now c.args.entries.now.entries c.end_use-charge.new.entries.entries c.end_use-charge-2.new.entries.entries c.end_use-charge-3.new.entries.entries c.end_use.new.entries.entries
+    c.end_use-charge.ensures.entries c.end_use-charge-2.ensures.entries c.end_use-charge-3.ensures.entries c.end_use.ensures.entries

@@ -1,0 +1,49 @@
+use Rattle.std.proofs.Common.{map, false, refl, sym, ap, ◌∙◌}
+use Rattle.std.specs.Map.{remove_entry}
+use Rattle.std.specs.BTreeMap.{is_at}
+use Rattle.std.specs.Ordering.{nat_cmp}
+use Rattle.std.proofs.lemmas.Bool.{lt-ltb, le-ltb}
+use Rattle.object_table.specs.Context.{charge_of}
+use Rattle.object_table.specs.Table.{named, kept}
+use Rattle.object_table.proofs.KeptLemmas.{all_kept, held-written, dropped, charge-written, ended-none, ended-one}
+use Rattle.object_table.proofs.table.graphs.end_name.Goals as goal
+
+pub returns-in_default-clause-entries : goal.returns-in_default-clause-entries
+returns-in_default-clause-entries c =
+    let entries = c.args.entries.now.entries in
+    ap (λ m. m.entries) c.get_mut.follows.holds-at-none ∙ sym (all_kept entries c.requires.held) ∙ ap kept (ended-none entries c.args.name (sym c.in_default.ensures.value))
+
+pub returns-then-entry-gt0-clause-entries : goal.returns-then-entry-gt0-clause-entries
+returns-then-entry-gt0-clause-entries c =
+    let entries = c.args.entries.now.entries in
+    let old = c.in-Some.entry.now in
+    let new = record old { live = false } in
+    let found = sym c.in-Some.ensures.value in
+    (c.get_mut.follows.holds new).0
+    ∙ held-written entries c.args.name old new found c.requires.held (lt-ltb 0 old.uses c.if-entry-gt0.true)
+    ∙ ap kept (ended-one entries c.args.name old c.get_mut.ensures.ordered found)
+
+pub returns-then-entry-gt0-clause-charge : goal.returns-then-entry-gt0-clause-charge
+returns-then-entry-gt0-clause-charge c =
+    let old = c.in-Some.entry.now in
+    let new = record old { live = false } in
+    c.requires.charge ∙ charge-written c.args.entries.now.entries c.args.name old new (sym c.in-Some.ensures.value) refl
+    ∙ ap (λ l. charge_of (map named l)) (sym (c.get_mut.follows.holds new).0)
+
+pub drop_entry-requires : goal.drop_entry-requires
+drop_entry-requires c =
+    let old = c.in-Some.entry.now in
+    let new = record old { live = false } in
+    c.requires.charge ∙ charge-written c.args.entries.now.entries c.args.name old new (sym c.in-Some.ensures.value) refl
+    ∙ ap (λ l. charge_of (map named l)) (sym (c.get_mut.follows.holds new).0)
+
+pub returns-clause-entries : goal.returns-clause-entries
+returns-clause-entries c =
+    let entries = c.args.entries.now.entries in
+    let old = c.in-Some.entry.now in
+    let new = record old { live = false } in
+    let found = sym c.in-Some.ensures.value in
+    c.drop_entry.ensures.entries
+    ∙ ap (remove_entry (is_at (nat_cmp c.args.name))) (c.get_mut.follows.holds new).0
+    ∙ dropped entries c.args.name old new found c.requires.held (le-ltb 0 old.uses c.if-entry-gt0.false)
+    ∙ ap kept (ended-one entries c.args.name old c.get_mut.ensures.ordered found)
