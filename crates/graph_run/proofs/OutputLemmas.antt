@@ -127,10 +127,7 @@ module _ (objects : List Named) (n : Node) (which : Output) (output : Cell) (h :
     pub second_is_read : IfSome (option_map (cell_object after.objects) n.in2) (λ object. IsRead (object_kind object))
     second_is_read = grind (arith, second_there, is_read)
 
-  module _ (d : Description) (image : ImageValue) (describes : d ≡ description_of image) (is_out : image ≡ out) where
-    described : d ≡ description_of out
-    described = describes ∙ ap description_of is_out
-
+  module _ (d : Description) (described : d ≡ description_of out) where
     -- as many samples are taken out as the image has
     pub taken_count : (samples : List ℤ) → samples ≡ out.samples → length samples ≡ sample_count d
     taken_count samples is = ap length is ∙ (image_of_object (cell_object objects output) out_kind h.runs.out_is).size ∙ ap sample_count (sym described)

@@ -62,8 +62,7 @@ fn write_to(table: &mut Table, node: &Node, which: Output, output: ObjRef)
     requires kind { (parameters node.now.function).output ≡ kind.Image }
     ensures { table.new ≡ with_objects table.old (with_output table.old.objects node.now which (Some output)) }
 {
-    let desc = table.image(output).desc();
-    let samples = table.take(output);
+    let (desc, samples) = table.take(output);
     let first = table.image(node.in1).image();
     let second = second_held(table, node.in2);
     let (samples, valid) = match samples {

@@ -97,11 +97,13 @@ impl Delay {
         image.set_valid(valid);
     }
 
-    /// Takes out the samples of the image in a slot; `put` brings them back.
-    pub fn take(&mut self, k: u8) -> Samples
+    /// Takes out the samples of the image in a slot, and says its size and format; `put` brings them
+    /// back.
+    pub fn take(&mut self, k: u8) -> (Desc, Samples)
         requires within { k < length self.old }
-        ensures value { values result ≡ (image_in self.old k).samples }
-        ensures format { samples_format result ≡ (image_in self.old k).format }
+        ensures desc { result.0 ≡ description_of (image_in self.old k) }
+        ensures value { values result.1 ≡ (image_in self.old k).samples }
+        ensures format { samples_format result.1 ≡ (image_in self.old k).format }
         ensures left { self.new ≡ slice_set self.old k (image_over (description_of (image_in self.old k)) (image_in self.old k).valid []) }
         ensures bytes { sum_by image_bytes self.new ≡ sum_by image_bytes self.old }
     {

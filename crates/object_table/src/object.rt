@@ -4,7 +4,7 @@ ghost use Rattle.std.specs.Result.{is_err};
 ghost use Rattle.vx_base.specs.declared.kind.Kind.TheVariants as kind;
 ghost use Rattle.vx_base.specs.Rectangle.{IsWithin};
 ghost use Rattle.vx_base.specs.Image.{IsImage, description_of, with_valid};
-ghost use Rattle.vx_base.specs.Graph.{new_graph, can_add, with_node, has_node, without_node};
+ghost use Rattle.vx_base.specs.Graph.{can_add, with_node, has_node, without_node};
 ghost use Rattle.vx_base.specs.Object.{ImageObject, DelayObject, ExtremesObject, GraphObject, IsObject, object_bytes, object_kind};
 ghost use Rattle.vx_base.specs.Picture.{values, samples_format, pictured};
 ghost use Rattle.object_table.specs.Delay.{in_slot, object_in, slot_kind, with_slot, HasImage};
@@ -15,11 +15,10 @@ use crate::delay::Delay;
 use crate::distribution::Distribution;
 use crate::stored::Stored;
 use graph_verify::{Graph, GraphFault};
-use std::alloc::Global;
 use std::marker::Model;
-use std::mem;
 use vx_base::{
-    Convolution, Extremes, Kind, Lut, NodeSpec, Picture, Rect, Samples, ThresholdRule, VirtualImage,
+    Convolution, Desc, Extremes, Kind, Lut, NodeSpec, Picture, Rect, Samples, ThresholdRule,
+    VirtualImage,
 };
 
 /// What a client's name stands for.
@@ -158,11 +157,12 @@ impl Object {
         }
     }
 
-    /// Takes out the samples of the image there.
-    pub fn take(&mut self, slot: Option<u8>) -> Samples
+    /// Takes out the samples of the image there, and says its size and format.
+    pub fn take(&mut self, slot: Option<u8>) -> (Desc, Samples)
         requires { HasImage slot self.old }
-        ensures value { values result ≡ (image_value (object_in slot self.old)).samples }
-        ensures format { samples_format result ≡ (image_value (object_in slot self.old)).format }
+        ensures desc { result.0 ≡ description_of (image_value (object_in slot self.old)) }
+        ensures value { values result.1 ≡ (image_value (object_in slot self.old)).samples }
+        ensures format { samples_format result.1 ≡ (image_value (object_in slot self.old)).format }
         ensures left { self.new ≡ with_slot slot (with_samples (object_in slot self.old) (image_value (object_in slot self.old)).valid []) self.old }
         ensures bytes { object_bytes self.new ≡ object_bytes self.old }
     {
@@ -266,19 +266,6 @@ impl Object {
     {
         match &mut self.content {
             Content::Graph(graph) => graph.remove_node(number),
-            _ => unreachable!(),
-        }
-    }
-
-    /// Takes out the graph that the object is, and leaves one without nodes. It takes no memory.
-    pub fn take_graph(&mut self, alloc: Global) -> Graph
-        requires { object_kind self.old ≡ kind.Graph }
-        ensures taken { result ≡ graph_value self.old }
-        ensures left { self.new ≡ GraphObject new_graph }
-        ensures bytes { object_bytes self.new ≡ object_bytes self.old }
-    {
-        match &mut self.content {
-            Content::Graph(graph) => mem::replace(graph, Graph::new(alloc)),
             _ => unreachable!(),
         }
     }

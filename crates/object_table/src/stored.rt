@@ -105,13 +105,14 @@ impl Stored {
     }
 
     /// Takes the samples out, so that they can be written while other images are read; `put` brings
-    /// them back.
-    pub fn take(&mut self) -> Samples
-        ensures value { values result ≡ self.old.samples }
-        ensures format { samples_format result ≡ self.old.format }
+    /// them back. Says the size and format beside them.
+    pub fn take(&mut self) -> (Desc, Samples)
+        ensures desc { result.0 ≡ description_of self.old }
+        ensures value { values result.1 ≡ self.old.samples }
+        ensures format { samples_format result.1 ≡ self.old.format }
         ensures left { self.new ≡ image_over (description_of self.old) self.old.valid [] }
     {
-        self.samples.take()
+        (self.desc, self.samples.take())
     }
 
     /// Has these samples from now on, and this valid rectangle.

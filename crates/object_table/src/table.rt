@@ -22,7 +22,7 @@ use std::alloc::Global;
 use std::collections::BTreeMap;
 use std::marker::Model;
 use std::mem;
-use vx_base::{Extremes, ObjRef, Picture, Rect, Samples};
+use vx_base::{Desc, Extremes, ObjRef, Picture, Rect, Samples};
 
 /// Each name is below this: 2^32.
 const END_OF_NAMES: u64 = 4_294_967_296;
@@ -215,11 +215,13 @@ impl Table {
         entry.object.set_valid(cell.slot(), valid);
     }
 
-    /// Takes out the samples of the image that a cell holds; `put` brings them back.
-    pub fn take(&mut self, cell: ObjRef) -> Samples
+    /// Takes out the samples of the image that a cell holds, and says its size and format; `put` brings
+    /// them back.
+    pub fn take(&mut self, cell: ObjRef) -> (Desc, Samples)
         requires { HoldsImage self.old.objects cell }
-        ensures value { values result ≡ (image_held self.old.objects cell).samples }
-        ensures format { samples_format result ≡ (image_held self.old.objects cell).format }
+        ensures desc { result.0 ≡ description_of (image_held self.old.objects cell) }
+        ensures value { values result.1 ≡ (image_held self.old.objects cell).samples }
+        ensures format { samples_format result.1 ≡ (image_held self.old.objects cell).format }
         ensures left { self.new ≡ with_objects self.old (with_object self.old.objects cell (with_samples (cell_object self.old.objects cell) (image_held self.old.objects cell).valid [])) }
     {
         let Some(entry) = self.entries.get_mut(&cell.name()) else {

@@ -1,5 +1,5 @@
 use Rattle.std.proofs.Common.{[], refl, sym, ap, ◌∙◌}
-use Rattle.vx_base.specs.Image.{ImageValue}
+use Rattle.vx_base.specs.Image.{ImageValue, description_of}
 use Rattle.object_table.specs.Object.{image_value, with_samples}
 use Rattle.object_table.specs.Uses.{nodes_in}
 use Rattle.object_table.proofs.EntryLemmas.{nothing_held, image_is, image_there, shown_cell, IsTable-written, no_nodes}
@@ -10,6 +10,9 @@ unreachable-requires c = nothing_held _ _ _ c.self.view_is c.args.cell _ c.name.
 
 pub take-requires : goal.take-requires
 take-requires c = image_there _ _ _ c.self.view_is c.args.cell _ _ c.name.ensures.value c.slot.ensures.value _ (sym c.in-Some.ensures.value) c.requires
+
+pub returns-clause-desc : goal.returns-clause-desc
+returns-clause-desc c = c.take.ensures.desc ∙ ap description_of (sym (image_is _ _ _ c.self.view_is c.args.cell _ _ c.name.ensures.value c.slot.ensures.value _ (sym c.in-Some.ensures.value)))
 
 pub returns-clause-value : goal.returns-clause-value
 returns-clause-value c = c.take.ensures.value ∙ ap (λ (i : ImageValue). i.samples) (sym (image_is _ _ _ c.self.view_is c.args.cell _ _ c.name.ensures.value c.slot.ensures.value _ (sym c.in-Some.ensures.value)))
