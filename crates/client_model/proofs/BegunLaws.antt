@@ -1,8 +1,8 @@
 -- What an object is as a run begins, and what the verdict took it for.
-use Rattle.std.proofs.Common.{◌≡◌, ◌⊎◌, inl, inr, ℕ, zero, suc, ◌≤◌, Bool, true, false, List, [], ◌∷◌, Option, Some, None, IfSome, refl, sym, ap, subst, arith}
-use Rattle.std.specs.Prelude.{is_some, unwrap_or, slice_get}
-use Rattle.std.specs.Option.{option_map, option_and_then, option_or}
-use Rattle.std.proofs.lemmas.Bool.{and_parts, cond_both}
+use Rattle.std.proofs.Common.{◌≡◌, ◌⊎◌, inl, inr, ℕ, zero, suc, ◌≤◌, Bool, true, false, List, [], ◌∷◌, Option, Some, None, IfSome, refl, sym, subst, arith}
+use Rattle.std.specs.Prelude.{is_some, unwrap_or}
+use Rattle.std.specs.Option.{option_map, option_and_then}
+use Rattle.std.proofs.lemmas.Bool.{cond_both}
 use Rattle.vx_base.specs.declared.format.Format.{Format}
 use Rattle.vx_base.specs.declared.format.Format.TheVariants.{U8, S16, U32}
 use Rattle.vx_base.specs.declared.function.Function.{Function}
@@ -14,12 +14,10 @@ use Rattle.vx_base.specs.Cell.{Cell}
 use Rattle.vx_base.specs.Description.{Description}
 use Rattle.vx_base.specs.Formats.{takes_formats}
 use Rattle.vx_base.specs.Function.{parameters}
-use Rattle.vx_base.specs.Image.{ImageValue}
 use Rattle.vx_base.specs.Node.{IsNode, second_kind}
 use Rattle.vx_base.specs.Object.{ObjectValue, ImageObject, DelayObject, VirtualObject, IsObject, object_kind}
-use Rattle.vx_base.specs.Outline.{Outline, may_be_side, described_by, closed, filled}
+use Rattle.vx_base.specs.Outline.{Outline, closed, filled}
 use Rattle.vx_base.proofs.ImageLaws.{new_image_is}
-use Rattle.vx_base.proofs.PictureLaws.{side}
 use Rattle.object_table.specs.Delay.{in_slot}
 use Rattle.graph_verify.specs.declared.operand.Operand.{Operand}
 use Rattle.graph_verify.specs.declared.operand.Operand.TheVariants.{Image, Delay, Virtual}

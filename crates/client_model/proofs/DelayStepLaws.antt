@@ -1,6 +1,6 @@
 -- A new delay, and one whose images come one step later, keep the limits, and what is held.
-use Rattle.std.proofs.Common.{◌≡◌, ◌⊎◌, inl, inr, ℕ, ◌<◌, ◌≤◌, false, IfOk, IsTrue, List, [], ◌∷◌, length, map, get_or, take, drop, replicate, refl, sym, ap, ◌∙◌, arith, Option, Some, None, IfSome, Result, Ok, Err}
-use Rattle.std.specs.Prelude.{All, ◌-◌}
+use Rattle.std.proofs.Common.{◌≡◌, ◌⊎◌, inl, inr, ℕ, ◌<◌, ◌≤◌, false, IfOk, IsTrue, List, [], ◌∷◌, length, map, get_or, replicate, refl, sym, ap, ◌∙◌, arith, Option, Some, None, IfSome, Result, Ok, Err, rules}
+use Rattle.std.specs.Prelude.{All}
 use Rattle.std.specs.Option.{option_map, option_and_then}
 use Rattle.std.proofs.lemmas.Bool.{cases_lt}
 use Rattle.std.proofs.lemmas.List.{length-map, length-take, length-drop, length-append, get_or-map}

@@ -4,10 +4,10 @@ use Rattle.std.specs.Prelude.{All, ◌==◌, ◌&&◌, ◌||◌, not, is_none, i
 use Rattle.std.specs.List.{list_any}
 use Rattle.std.specs.List.Sorted.{IsStrictlyIncreasing}
 use Rattle.std.specs.Option.{option_map}
-use Rattle.std.proofs.lemmas.Bool.{and_parts, and_from, cond_both, eqb-true, eqb-false, ne_eqb, not-false, or_cases, or_left, or_right}
+use Rattle.std.proofs.lemmas.Bool.{and_parts, cond_both, eqb-true, eqb-false, ne_eqb, not-false, or_cases, or_left, or_right}
 use Rattle.std.proofs.lemmas.Iterator.Adapters.{option_map_id}
 use Rattle.std.proofs.lemmas.List.{length-map}
-use Rattle.std.proofs.lemmas.List.Elements.{All-nil, All-head, All-tail, All-filter, All-map, All-push, All-weaker}
+use Rattle.std.proofs.lemmas.List.Elements.{All-nil, All-tail, All-filter, All-map, All-push, All-weaker}
 use Rattle.std.proofs.lemmas.List.Folds.{list_any-append}
 use Rattle.std.proofs.lemmas.List.Sums.{sum-map}
 use Rattle.vx_base.specs.declared.kind.Kind.{Kind}
@@ -17,7 +17,7 @@ use Rattle.vx_base.specs.declared.numbered.Numbered.{Numbered}
 use Rattle.vx_base.specs.Cell.{Cell}
 use Rattle.vx_base.specs.Graph.{GraphValue, IsGraph, new_graph, nodes_of, can_add, with_node, has_node, without_node}
 use Rattle.vx_base.specs.Node.{IsNode, operands}
-use Rattle.vx_base.specs.Object.{ObjectValue, GraphObject, VirtualObject, IsObject, object_bytes}
+use Rattle.vx_base.specs.Object.{ObjectValue, GraphObject, IsObject, object_bytes}
 use Rattle.vx_base.specs.Outline.{Outline, IsOutline}
 use Rattle.object_table.specs.Delay.{with_slot}
 use Rattle.object_table.specs.Named.{Named, object_held, held, with_object}
@@ -32,7 +32,7 @@ use Rattle.client_model.specs.declared.reply.Reply.TheVariants.{Empty}
 use Rattle.client_model.specs.Allowance.{Allowance}
 use Rattle.client_model.specs.Graphs.{as_graph, graph_named, create_virtual_in, create_virtual_image, add_to, add_node, remove_from, remove_node, graph_verdict, verify_found, verify_graph}
 use Rattle.client_model.specs.Objects.{release}
-use Rattle.client_model.specs.Operands.{is_kind, kind_of, operands_refusal}
+use Rattle.client_model.specs.Operands.{operands_refusal}
 use Rattle.client_model.specs.States.{stands, NodesStand, KeepsLimits}
 use Rattle.object_table.proofs.HeldLemmas.{names_of, All-from_map, named_has, HasObject, held_alone, object_held-map, object_held_has, All-with_object, map-with_object, names-with_object}
 use Rattle.graph_run.proofs.HeldLaws.{object_held-with_object}
@@ -193,7 +193,9 @@ module _ (limits : Allowance) (c : Context) (name : ℕ) (graph new : GraphValue
       names = names-with_object c.objects (cell_of name) (GraphObject new)
 
       charge : map (λ (o : Named). object_bytes o.object) after ≡ map (λ o. object_bytes o.object) c.objects
-      charge = grind (arith, map-with_object, All-weaker, HasObject)
+      charge =
+          map-with_object (λ o. object_bytes o.object) c.objects (cell_of name) (GraphObject new)
+          (All-weaker (HasObject name (GraphObject graph)) (λ o. o.name ≡ name → 0 ≡ object_bytes o.object) (λ o only e. sym (ap object_bytes (only e))) c.objects alone)
 
 -- what holds of the object of a live name
 module _ (limits : Allowance) (c : Context) (name : ℕ) (h : KeepsLimits limits c) where

@@ -1,10 +1,10 @@
 -- What is held: what nodes of graphs use, and what they still find once the rest is gone.
 use Rattle.std.proofs.Common.{◌≡◌, ◌⊎◌, inl, inr, ℕ, suc, arith, Bool, true, false, cond, IsTrue, List, [], ◌∷◌, ◌++◌, get_or, Option, Some, None, refl, sym, ap, subst, ◌∙◌, rules}
-use Rattle.std.specs.Prelude.{All, is_none, ◌==◌, ◌&&◌, ◌||◌, not, find, filter, unwrap_or}
+use Rattle.std.specs.Prelude.{All, is_none, ◌==◌, ◌&&◌, not, find, filter, unwrap_or}
 use Rattle.std.specs.List.{list_any}
 use Rattle.std.specs.List.Sorted.{IsStrictlyIncreasing}
 use Rattle.std.specs.Option.{option_map, option_and_then, option_or}
-use Rattle.std.proofs.lemmas.Bool.{and_parts, and_from, and_right, both_ways, eq-eqb, eqb-true, false_from_ne_true, not-true, not_from_false, or_cases, or_parts, or_right}
+use Rattle.std.proofs.lemmas.Bool.{and_parts, and_from, and_right, both_ways, eq-eqb, eqb-true, not_from_false, or_cases, or_parts, or_right}
 use Rattle.std.proofs.lemmas.List.Elements.{All-nil, All-cons, All-append, All-filter, All-map, All-weaker, filter_passes}
 use Rattle.std.proofs.lemmas.List.Folds.{find-append, list_any_at, list_any_none}
 use Rattle.vx_base.specs.declared.function.Function.{Function}
@@ -15,7 +15,7 @@ use Rattle.vx_base.specs.declared.node.Node.{Node}
 use Rattle.vx_base.specs.declared.numbered.Numbered.{Numbered}
 use Rattle.vx_base.specs.Cell.{Cell}
 use Rattle.vx_base.specs.Function.{parameters}
-use Rattle.vx_base.specs.Node.{operands, second_kind, with_kind}
+use Rattle.vx_base.specs.Node.{operands}
 use Rattle.vx_base.specs.Object.{ObjectValue, GraphObject, VirtualObject, object_kind}
 use Rattle.vx_base.proofs.NodeLaws.{same_kind_equal}
 use Rattle.object_table.specs.Delay.{in_slot, slot_kind}
@@ -124,7 +124,7 @@ OperandsStand objects graph n = All (λ operand. IsTrue (stands objects graph op
 -- where each operand that stands among some objects stands among others, nodes stand there
 pub nodes_stand : (objects others : List Named) (graph : ℕ) (nodes : List Node) → ((operand : Cell × Kind) → IsTrue (stands objects graph operand) → IsTrue (stands others graph operand))
     → All (OperandsStand objects graph) nodes → All (OperandsStand others graph) nodes
-nodes_stand objects others graph nodes still h = search (rules, All-weaker)
+nodes_stand objects others graph nodes still h = search (rules)
 
 -- an operand stands among others, where these have the same object of its name
 pub stands_still : (objects others : List Named) (graph : ℕ) (operand : Cell × Kind) → object_held others operand.0.name ≡ object_held objects operand.0.name
@@ -183,8 +183,11 @@ OperandsUsed objects n = All (λ operand. is_used objects operand.0.name ≡ tru
 -- each operand of a graph's node is named by it
 uses_its_own : (object : ObjectValue) → All (λ n. All (λ operand. uses object operand.0.name ≡ true) (operands n)) (nodes_in object)
 uses_its_own (GraphObject g) =
-    grind (arith, All-map (λ n. All (λ operand. list_any (names_it operand.0.name) g.nodes ≡ true) (operands n)) (λ (n : Numbered). n.node) g.nodes (λ k d below i e within. let n : Node = (get_or g.nodes k d).node in
-    let operand = get_or (operands n) i e in list_any_at (names_it operand.0.name) g.nodes k d below (list_any_at (λ other. other.0.name == operand.0.name) (operands n) i e within (eq-eqb operand.0.name operand.0.name refl))))
+    grind (
+      arith,
+      All-map (λ n. All (λ operand. list_any (names_it operand.0.name) g.nodes ≡ true) (operands n)) (λ (n : Numbered). n.node) g.nodes (λ k d below i e within. let n : Node = (get_or g.nodes k d).node in
+          let operand = get_or (operands n) i e in list_any_at (names_it operand.0.name) g.nodes k d below (list_any_at (λ other. other.0.name == operand.0.name) (operands n) i e within (eq-eqb operand.0.name operand.0.name refl))),
+    )
 uses_its_own other = All-nil (λ n. All (λ operand. uses other operand.0.name ≡ true) (operands n))
 
 -- what a node of an unreleased graph names is used

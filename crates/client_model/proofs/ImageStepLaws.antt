@@ -1,25 +1,25 @@
 -- Writes and reads of images keep the limits, and what is held.
-use Rattle.std.proofs.Common.{ℕ, ◌≡◌, true, false, if◌then◌else◌, List, Option, Some, None, IfSome, Result, Ok, Err, IfOk, refl, ap, ◌∙◌}
-use Rattle.std.specs.Prelude.{not, nat_le, ◌&&◌, IsTrue}
+use Rattle.std.proofs.Common.{ℕ, ◌≡◌, true, false, if◌then◌else◌, List, Option, Some, None, Result, Ok, Err, IfOk, refl, ap, ◌∙◌, arith}
+use Rattle.std.specs.Prelude.{not, IsTrue}
 use Rattle.std.specs.Option.{option_map}
-use Rattle.std.proofs.lemmas.Bool.{cond_both, not-false, and_parts, leb-true}
+use Rattle.std.proofs.lemmas.Bool.{cond_both, and_parts}
 use Rattle.vx_base.specs.declared.format.Format.{Format}
 use Rattle.vx_base.specs.declared.format.Format.TheVariants.{U8, S16, U32}
 use Rattle.vx_base.specs.declared.kind.Kind.TheVariants as kind
 use Rattle.vx_base.specs.Cell.{Cell}
 use Rattle.vx_base.specs.Sample.{same_format}
-use Rattle.vx_base.specs.Description.{Description, same_size}
+use Rattle.vx_base.specs.Description.{Description}
 use Rattle.vx_base.specs.Rectangle.{Rectangle, is_rectangle, IsOrdered, IsWithin}
 use Rattle.vx_base.specs.Image.{ImageValue, IsImage, description_of, with_valid}
 use Rattle.vx_base.specs.Picture.{PictureValue, IsPicture, picture_of, pictured}
-use Rattle.vx_base.specs.Object.{ObjectValue, ImageObject, IsObject}
+use Rattle.vx_base.specs.Object.{ObjectValue, ImageObject}
 use Rattle.vx_base.proofs.ImageLaws.{with_valid_is}
 use Rattle.vx_base.proofs.PictureLaws.{pictured_image}
 use Rattle.vx_base.proofs.RectangleLaws.{rectangle_ordered}
 use Rattle.object_table.specs.Named.{Named, held, with_object}
 use Rattle.object_table.specs.Context.{Context, with_objects}
 use Rattle.client_model.specs.declared.refusal.Refusal.{Refusal}
-use Rattle.client_model.specs.declared.refusal.Refusal.TheVariants.{InvalidReference, InvalidType, InvalidValue, InvalidFormat, InvalidDimension}
+use Rattle.client_model.specs.declared.refusal.Refusal.TheVariants.{InvalidReference, InvalidType, InvalidFormat}
 use Rattle.client_model.specs.declared.reply.Described.{Described}
 use Rattle.client_model.specs.declared.reply.Reply.TheVariants.{Empty, Text}
 use Rattle.client_model.specs.Allowance.{Allowance}
@@ -35,7 +35,6 @@ use Rattle.graph_run.proofs.LastingLemmas.{images-last}
 use Rattle.object_table.proofs.HeldLemmas.{held_is}
 use Rattle.client_model.proofs.StateLaws.{same_leaves, with_object_leaves}
 use Rattle.client_model.proofs.OutcomeLaws.{Keeps, unless_keeps}
-use Rattle.client_model.proofs.OperandLemmas.{same_description}
 use Rattle.graph_verify.proofs.SuitLemmas.{passed, met}
 
 -- formats that pass the test are one

@@ -5,7 +5,7 @@ use Rattle.std.specs.List.{AllPairs}
 use Rattle.std.specs.List.Sorted.{IsStrictlyIncreasing}
 use Rattle.std.specs.Option.{option_map, option_and_then}
 use Rattle.std.proofs.Math.ListN.{get_or-map as get_or-map_default}
-use Rattle.std.proofs.lemmas.Bool.{eqb-true, ne_eqb}
+use Rattle.std.proofs.lemmas.Bool.{eqb-true}
 use Rattle.std.proofs.lemmas.List.{length-map}
 use Rattle.std.proofs.lemmas.List.Elements.{All-head, All-tail}
 use Rattle.std.proofs.lemmas.List.Kept.{AllPairs-filter, AllPairs-from_increasing}
@@ -13,14 +13,13 @@ use Rattle.std.proofs.lemmas.List.Quantifiers.{all_pairs_push}
 use Rattle.std.proofs.lemmas.Option.{IfSome_then}
 use Rattle.vx_base.specs.Cell.{Cell}
 use Rattle.vx_base.specs.declared.kind.Kind.{Kind}
-use Rattle.vx_base.specs.declared.kind.Kind.TheVariants as kind
-use Rattle.vx_base.specs.Object.{ObjectValue, DelayObject, ExtremesObject, no_extremes, object_kind}
-use Rattle.object_table.specs.Delay.{in_slot, slot_kind}
+use Rattle.vx_base.specs.Object.{ObjectValue, ExtremesObject, no_extremes, object_kind}
+use Rattle.object_table.specs.Delay.{slot_kind}
 use Rattle.object_table.specs.Named.{Named, object_held, held}
 use Rattle.object_table.specs.Context.{object_named}
 use Rattle.client_model.specs.Operands.{is_kind, kind_of}
 use Rattle.client_model.specs.States.{kind_held}
-use Rattle.object_table.proofs.HeldLemmas.{names_of, above_first, later_increase, slot_has}
+use Rattle.object_table.proofs.HeldLemmas.{names_of, above_first, later_increase}
 
 -- ---- names that increase
 

@@ -1,7 +1,7 @@
 -- A node that runs at once keeps the limits, and what is held: each output becomes an object of the kind, the size and the format that it
 -- had.
-use Rattle.std.proofs.Common.{◌≡◌, ℕ, true, false, IsTrue, List, get_or, [], Option, Some, None, IfSome, if◌then◌else◌, refl, sym, ap, subst, ◌∙◌}
-use Rattle.std.specs.Prelude.{All, ◌&&◌, is_some, is_none, unwrap_or}
+use Rattle.std.proofs.Common.{◌≡◌, ℕ, true, false, IsTrue, List, get_or, [], Option, Some, None, IfSome, if◌then◌else◌, refl, sym, ap, subst, ◌∙◌, arith}
+use Rattle.std.specs.Prelude.{All, ◌&&◌, is_some, is_none}
 use Rattle.std.specs.List.{list_any}
 use Rattle.std.specs.Option.{option_map, option_and_then, option_or}
 use Rattle.std.proofs.lemmas.Bool.{and_parts, not-false}
@@ -18,7 +18,7 @@ use Rattle.vx_base.specs.Formats.{takes_formats}
 use Rattle.vx_base.specs.Function.{parameters}
 use Rattle.vx_base.specs.Image.{description_of}
 use Rattle.vx_base.specs.Node.{IsNode, is_node, has_amount, has_operands, all_named, operands, second_kind}
-use Rattle.vx_base.specs.Object.{ObjectValue, ImageObject, DistributionObject, ExtremesObject, VirtualObject, IsObject, object_kind}
+use Rattle.vx_base.specs.Object.{ObjectValue, ImageObject, DistributionObject, ExtremesObject, IsObject, object_kind}
 use Rattle.vx_base.specs.declared.output.Output.{Output}
 use Rattle.vx_base.specs.declared.output.Output.TheVariants.{First, Second}
 use Rattle.vx_base.specs.Outputs.{node_image, node_output, written_to, written_in, written_by}
