@@ -1,18 +1,16 @@
 -- Entries of a map by name, and what they show.
-use Rattle.std.proofs.Common.{◌≡◌, ◌≢◌, ℕ, ◌+◌, ◌<◌, ◌≤◌, ◌⊎◌, inl, inr, Bool, true, false, cond, List, [], ◌∷◌, ◌++◌, ◌*◌, length, map, Option, Some, None, refl, sym, ap, subst, ◌∙◌, arith, rules}
-use Rattle.std.specs.Prelude.{All, IfSome, ◌==◌, nat_lt, ◌&&◌, find, sum_by, unwrap_or}
-use Rattle.std.specs.declared.cmp.Ordering.TheVariants.{Less, Equal, Greater}
-use Rattle.std.specs.Ordering.{is_eq, match_ordering, nat_cmp}
-use Rattle.std.specs.Cmp.{nat_cmp_is}
+use Rattle.std.proofs.Common.{◌≡◌, ℕ, ◌+◌, ◌<◌, ◌≤◌, Bool, true, false, cond, List, [], ◌∷◌, ◌++◌, ◌*◌, length, map, Option, Some, None, refl, sym, ap, subst, ◌∙◌, arith, rules}
+use Rattle.std.specs.Prelude.{All, IfSome, ◌==◌, nat_lt, sum_by, unwrap_or}
+use Rattle.std.specs.Ordering.{nat_cmp}
 use Rattle.std.specs.Map.{keys_of, lookup, set_value}
 use Rattle.std.specs.BTreeMap.{is_at, insert_entry}
-use Rattle.std.specs.Option.{option_map, option_and_then}
+use Rattle.std.specs.Option.{option_map}
 use Rattle.std.specs.List.{flat_map}
 use Rattle.std.specs.List.Sorted.{IsStrictlySortedBy, IsStrictlyIncreasing}
-use Rattle.std.proofs.lemmas.Bool.{cases_lt, eqb-true, eqb-false, and_parts, ltb-true}
+use Rattle.std.proofs.lemmas.Bool.{cases_lt, and_parts}
 use Rattle.std.proofs.lemmas.Cmp.{nat_cmp_total, eq_by_cmp_equiv}
 use Rattle.std.proofs.lemmas.List.{length-append, length-map}
-use Rattle.std.proofs.lemmas.List.Elements.{All-nil, All-cons, All-head, All-tail, All-push, All-weaker}
+use Rattle.std.proofs.lemmas.List.Elements.{All-cons, All-head, All-tail, All-push, All-weaker}
 use Rattle.std.proofs.lemmas.List.Sums.{sum_by-cons, sum_by-le, sum_by_push}
 use Rattle.std.proofs.lemmas.Map.{lookup-none, keys-set_value, length-set_value}
 use Rattle.std.proofs.lemmas.Map.Entries.{none_past_head, All-lookup}
@@ -27,8 +25,8 @@ use Rattle.vx_base.specs.Image.{ImageValue, new_image}
 use Rattle.vx_base.specs.Object.{ObjectValue, ImageObject, LutObject, ThresholdObject, DelayObject, ConvolutionObject, DistributionObject, ExtremesObject, GraphObject, VirtualObject, object_bytes, object_kind}
 use Rattle.object_table.specs.declared.table.Entry.{Entry}
 use Rattle.object_table.specs.Context.{Context, object_named, charge_of, can_insert, with_objects, cell_of}
-use Rattle.object_table.specs.Delay.{in_slot, object_in, with_slot, HasImage}
-use Rattle.object_table.specs.Named.{Named, object_held, held, with_object}
+use Rattle.object_table.specs.Delay.{object_in, with_slot, HasImage}
+use Rattle.object_table.specs.Named.{object_held, with_object}
 use Rattle.object_table.specs.Object.{image_value, aged_object}
 use Rattle.object_table.specs.Table.{object_under, IsUnder, cell_object, image_held, HoldsImage, named, IsTable}
 use Rattle.object_table.specs.Uses.{used_names, nodes_in, names_used_by, names_used, times}

@@ -1,14 +1,12 @@
 -- Nodes that come and go, the names that they use, and what is held then.
-use Rattle.std.proofs.Common.{◌≡◌, ℕ, ◌+◌, ◌-◌, ◌*◌, ◌<◌, ◌≤◌, zero, suc, Bool, true, false, cond, List, [], ◌∷◌, ◌++◌, Option, Some, None, length, map, get_or, IsTrue, refl, sym, ap, subst, ◌∙◌, arith, rules}
+use Rattle.std.proofs.Common.{◌≡◌, ℕ, ◌+◌, ◌-◌, ◌*◌, ◌<◌, ◌≤◌, zero, suc, Bool, true, false, cond, List, [], ◌∷◌, ◌++◌, Some, None, length, map, get_or, IsTrue, refl, sym, ap, subst, ◌∙◌, arith, rules}
 use Rattle.std.specs.Prelude.{All, ◌==◌, ◌&&◌, ◌||◌, not, nat_lt, find, filter, sum_by, is_some}
 use Rattle.std.specs.List.{list_any, flat_map, AllPairs}
 use Rattle.std.specs.List.Sorted.{IsStrictlyIncreasing}
 use Rattle.std.specs.Map.{keys_of, lookup, set_value}
 use Rattle.std.specs.BTreeMap.{is_at}
-use Rattle.std.specs.Option.{option_map}
 use Rattle.std.specs.Ordering.{nat_cmp}
-use Rattle.std.proofs.lemmas.Bool.{eqb-true, eqb-false, ne_eqb, eq-eqb, lt-ltb, ltb-true, false≢true, and_parts}
-use Rattle.std.proofs.lemmas.Cmp.{nat_cmp_total, eq_by_cmp_equiv}
+use Rattle.std.proofs.lemmas.Bool.{eqb-true, ne_eqb, ltb-true, false≢true, and_parts}
 use Rattle.std.proofs.lemmas.Grind.{flat_map-append}
 use Rattle.std.proofs.lemmas.List.{map-append, length-map, length-append, get_or-map}
 use Rattle.std.proofs.lemmas.List.Concat.{length-flat_map}
@@ -16,24 +14,22 @@ use Rattle.std.proofs.lemmas.List.Elements.{All-nil, All-cons, All-head, All-tai
 use Rattle.std.proofs.lemmas.List.Folds.{flat_map-map, list_any-append}
 use Rattle.std.proofs.lemmas.List.Kept.{AllPairs-filter, AllPairs-from_increasing}
 use Rattle.std.proofs.lemmas.List.Sums.{sum_by-cons, sum_by-append, sum_by-le, length-filter, count_by-le-length}
-use Rattle.std.proofs.lemmas.Map.{lookup-none, keys-set_value, length-set_value}
-use Rattle.std.proofs.lemmas.Map.Entries.{none_past_head}
+use Rattle.std.proofs.lemmas.Map.{keys-set_value, length-set_value}
 use Rattle.std.proofs.lemmas.Map.Steps.{set_value_same}
-use Rattle.std.proofs.lemmas.Map.Keys.{sorted_tail, IsDistinct-from_sorted}
+use Rattle.std.proofs.lemmas.Map.Keys.{sorted_tail}
 use Rattle.vx_base.specs.declared.format.Format.TheVariants.{U8}
 use Rattle.vx_base.specs.declared.kind.Kind.{Kind}
 use Rattle.vx_base.specs.declared.kind.Kind.TheVariants as kind
 use Rattle.vx_base.specs.declared.node.Node.{Node}
 use Rattle.vx_base.specs.declared.numbered.Numbered.{Numbered}
 use Rattle.vx_base.specs.Cell.{Cell}
-use Rattle.vx_base.specs.Function.{parameters}
 use Rattle.vx_base.specs.Graph.{GraphValue, IsGraph, nodes_of, can_add, with_node, without_node}
 use Rattle.vx_base.specs.Image.{new_image}
-use Rattle.vx_base.specs.Node.{given, with_kind, second_kind, operands}
+use Rattle.vx_base.specs.Node.{given, operands}
 use Rattle.vx_base.specs.Object.{ObjectValue, ImageObject, GraphObject, object_bytes, object_kind}
 use Rattle.object_table.specs.declared.table.Entry.{Entry}
 use Rattle.object_table.specs.Context.{Context, charge_of, object_named}
-use Rattle.object_table.specs.Holds.{names_it, uses, is_used, is_held, still_held, unnamed}
+use Rattle.object_table.specs.Holds.{uses, is_used, still_held, unnamed}
 use Rattle.object_table.specs.Named.{Named, object_held}
 use Rattle.object_table.specs.Object.{graph_value}
 use Rattle.object_table.specs.Table.{named, used_more, used_less, is_kept, kept, IsTable}

@@ -1,14 +1,13 @@
-use Rattle.std.proofs.Common.{◌≡◌, ◌<◌, ◌+◌, ◌++◌, ◌∷◌, [], ℕ, List, true, not, length, map, refl, sym, ap, subst, ◌∙◌, arith}
+use Rattle.std.proofs.Common.{◌≡◌, ◌+◌, ◌++◌, ◌∷◌, [], ℕ, List, true, map, refl, sym, ap, subst, ◌∙◌, arith}
 use Rattle.std.specs.Map.{keys_of}
 use Rattle.std.specs.List.Sorted.{IsStrictlyIncreasing}
-use Rattle.std.proofs.lemmas.List.{length-map, map-append}
+use Rattle.std.proofs.lemmas.List.{map-append}
 use Rattle.std.proofs.lemmas.Map.Keys.{IsStrictlyIncreasing-from_sorted}
-use Rattle.vx_base.specs.Object.{object_bytes}
 use Rattle.object_table.specs.declared.table.Entry.{Entry}
-use Rattle.object_table.specs.Context.{Context, can_insert, with_new}
+use Rattle.object_table.specs.Context.{Context, with_new}
 use Rattle.object_table.specs.Named.{Named}
 use Rattle.object_table.specs.Table.{named, IsTable}
-use Rattle.object_table.proofs.EntryLemmas.{charge_limit, insert_last, IsTable-inserted, objects_are, room_left}
+use Rattle.object_table.proofs.EntryLemmas.{charge_limit, insert_last, IsTable-inserted, room_left}
 use Rattle.object_table.proofs.table.Table.insert.Goals as goal
 
 pub overflow_add-self-in-Ok : goal.overflow_add-self-in-Ok

@@ -1,12 +1,8 @@
-use Rattle.std.proofs.Common.{ℕ, ◌≡◌, [], refl, sym, ap, subst, ◌∙◌}
-use Rattle.vx_base.specs.declared.kind.Kind.TheVariants as kind
-use Rattle.vx_base.specs.Rectangle.{IsWithin}
-use Rattle.vx_base.specs.Image.{ImageValue, description_of, with_valid}
-use Rattle.vx_base.specs.Object.{ObjectValue, ImageObject, ExtremesObject, IsObject}
-use Rattle.vx_base.specs.Picture.{values, pictured}
-use Rattle.object_table.specs.Object.{image_value, graph_value, with_samples, with_counts, distribution_value, aged_object}
+use Rattle.std.proofs.Common.{[], refl, sym, ap, ◌∙◌}
+use Rattle.vx_base.specs.Image.{ImageValue}
+use Rattle.object_table.specs.Object.{image_value, with_samples}
 use Rattle.object_table.specs.Uses.{nodes_in}
-use Rattle.object_table.proofs.EntryLemmas.{nothing_held, nothing_under, kind_under, under_is, found_under, image_is, image_there, shown_cell, shown_name, IsTable-written, no_nodes, aged_nodes, none_of_kind}
+use Rattle.object_table.proofs.EntryLemmas.{nothing_held, image_is, image_there, shown_cell, IsTable-written, no_nodes}
 use Rattle.object_table.proofs.table.Table.take.Goals as goal
 
 pub unreachable-requires : goal.unreachable-requires
