@@ -1,21 +1,26 @@
 -- What nodes write to an output, whose samples are taken out, and put back once they are written.
-use Rattle.std.proofs.Common.{◌≡◌, length, true, ℤ, refl, List, Option, ap, ◌∙◌, sym, [], Some, None, subst, arith}
+use Rattle.std.proofs.Common.{◌≡◌, ◌*◌, length, true, ℤ, refl, List, Option, ap, ◌∙◌, sym, [], Some, None, subst, arith}
 use Rattle.std.specs.Prelude.{unsigned_abs, ◌==◌, IfSome}
 use Rattle.std.specs.List.{count_by}
 use Rattle.std.proofs.lemmas.List.FromFn.{length-map-range_with_len}
 use Rattle.vx_base.specs.Image.{ImageValue, IsImage, image_over, description_of}
 use Rattle.vx_base.specs.Statistics.{BinsValue, bin_of, is_bin, histogram, valid_samples}
-use Rattle.std.proofs.lemmas.Bool.{eqb-true, and_parts}
+use Rattle.std.proofs.lemmas.Bool.{and_parts}
 use Rattle.vx_base.specs.declared.node.Node.{Node}
 use Rattle.vx_base.specs.declared.format.Format.{Format}
 use Rattle.vx_base.specs.Rectangle.{Rectangle, empty}
 use Rattle.vx_base.specs.Description.{Description, same_size, sample_count}
 use Rattle.vx_base.specs.Object.{ObjectValue, ImageObject, IsObject, object_kind}
 use Rattle.vx_base.specs.declared.output.Output.{Output}
-use Rattle.vx_base.specs.Outputs.{node_image, node_output}
+use Rattle.vx_base.specs.Outputs.{image_of_one, node_image, node_output}
+use Rattle.vx_base.proofs.TableLaws.{length-table}
 use Rattle.vx_base.proofs.ImageLaws.{same_parts}
 use Rattle.graph_run.proofs.OperandLaws.{described_node}
+use Rattle.image_core.specs.declared.image_mut.ImageMut.{ImageMut}
+use Rattle.image_core.specs.Bands.{all_rows}
 use Rattle.image_core.specs.Fits.{HaveSameSize}
+use Rattle.image_core.specs.Target.{written, Writes}
+use Rattle.image_core.proofs.BandLaws.{all_written}
 use Rattle.graph_run.specs.Steps.{CanRunTo, Holds, IsRead, RunsOn, RunsTo, output_of}
 use Rattle.object_table.specs.Object.{image_value, with_samples}
 use Rattle.vx_base.specs.declared.kind.Kind.TheVariants as kind
@@ -23,6 +28,7 @@ use Rattle.std.specs.Option.{option_map}
 use Rattle.vx_base.specs.declared.kind.Kind.{Kind}
 use Rattle.vx_base.specs.Function.{parameters}
 use Rattle.vx_base.specs.declared.function.Function.{Function}
+use Rattle.vx_base.specs.declared.function.Function.TheVariants.{NotBits}
 use Rattle.vx_base.proofs.NodeLaws.{takes_no_delay, takes_no_distribution, takes_no_extremes, takes_no_graph, takes_no_virtual}
 use Rattle.vx_base.specs.Cell.{Cell}
 use Rattle.object_table.specs.Context.{Context, with_objects}
@@ -41,6 +47,25 @@ same_description a b size format = grind (arith, and_parts (a.width == b.width) 
 -- an output keeps its description
 pub description_kept : (n : Node) (output : Output) (a : ImageValue) (second : Option ObjectValue) (out : ImageValue) → HaveSameSize out a → description_of (node_image n output out.format a second) ≡ description_of out
 description_kept n output a second out h = grind (arith, described_node, same_description)
+
+-- and has a sample for each place
+sized_one : (function : Function) (n : Node) (output : Output) (format : Format) (a : ImageValue) → length (image_of_one function n output format a).samples ≡ a.height * a.width
+sized_one NotBits n output format a = length-table _ _ _
+sized_one function n output format a = length-table _ _ _
+
+sized_node : (n : Node) (output : Output) (format : Format) (a : ImageValue) (second : Option ObjectValue) → length (node_image n output format a second).samples ≡ a.height * a.width
+sized_node n output format a None = sized_one n.function n output format a
+sized_node n output format a (Some (ImageObject b)) = length-table _ _ _
+sized_node n output format a (Some second) = length-table _ _ _
+
+-- what is written to all rows of an output is what the node gives
+pub all_written_is : (n : Node) (which : Output) (a : ImageValue) (second : Option ObjectValue) (old new : ImageMut) → old.rows ≡ all_rows old.desc.height → HaveSameSize (written old) a
+    → Writes (node_image n which old.desc.format a second) old new → written new ≡ node_image n which old.desc.format a second
+all_written_is n which a second old new all size is =
+    let d = described_node n which old.desc.format a second in
+    all_written (node_image n which old.desc.format a second) old new
+    (all ∙ ap (λ (e : Description). all_rows e.height) (sym (description_kept n which a second (written old) size)))
+    (sized_node n which old.desc.format a second ∙ ap (λ (e : Description). e.height * e.width) (sym d)) is
 
 -- samples that a node has written, with the rectangle beside them
 module _ (n : Node) (output : Output) (a : ImageValue) (second : Option ObjectValue) (d : Description) (old : ImageValue) (area : Rectangle) (samples : List ℤ)

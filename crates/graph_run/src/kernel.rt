@@ -3,7 +3,8 @@ ghost use Rattle.std.specs.Prelude.{◌≡◌, None, Some};
 ghost use Rattle.vx_base.specs.Object.{ImageObject};
 ghost use Rattle.vx_base.specs.Outputs.{node_image};
 ghost use Rattle.image_core.specs.Second.{second_object};
-ghost use Rattle.image_core.specs.Target.{written, Writes};
+ghost use Rattle.image_core.specs.Bands.{all_rows};
+ghost use Rattle.image_core.specs.Target.{written, SameSlices, Writes};
 ghost use Rattle.graph_run.specs.Run.{CanRun};
 
 use image_core::{Image, ImageMut, Second};
@@ -15,8 +16,8 @@ use stat_kernels::integral;
 use vx_base::{Function, Node, Output};
 use window_kernels::{box3, convolve, dilate3, erode3, gaussian3, median3, sobel_x3, sobel_y3};
 
-/// Writes what the node's function gives to one of its outputs, an image: each sample, and the
-/// rectangle.
+/// Writes what the node's function gives to one of its outputs, an image, or to the rows of it that
+/// are lent: each sample, and the rectangle.
 pub fn run_node(
     node: &Node,
     which: Output,
@@ -40,6 +41,23 @@ pub fn run_node(
         ),
         _ => unreachable!(),
     }
+}
+
+/// Writes all rows of one of a node's outputs, an image: what then stands there is the image that
+/// the node gives.
+pub fn run_whole(
+    node: &Node,
+    which: Output,
+    first: &Image<'_>,
+    second: &Second<'_>,
+    output: &mut ImageMut<'_>,
+)
+    requires can_run { CanRun node.now first.now (second_object second.now) output.old }
+    requires rows { output.old.rows ≡ all_rows output.old.desc.height }
+    ensures value { written output.new ≡ node_image node.now which (written output.old).format first.now (second_object second.now) }
+    ensures slices { SameSlices output.old output.new }
+{
+    run_node(node, which, first, second, output);
 }
 
 /// Writes what a function of one image gives.

@@ -21,7 +21,7 @@ ghost use Rattle.graph_run.specs.Lasting.{Lasts};
 ghost use Rattle.graph_run.specs.Steps.{Holds, CanRunTo, RunsTo, IsRead, counted_in, with_output};
 ghost use Rattle.graph_run.specs.Turns.{CanRunNow};
 
-use crate::kernel::run_node;
+use crate::kernel::run_whole;
 use image_core::{Image, ImageMut, Second};
 use object_table::{Content, Object, Table};
 use stat_kernels::{histogram, min_max};
@@ -171,7 +171,7 @@ fn second_of(object: &Object) -> Second<'_>
 macro_rules! run_on {
     ($desc:expr, $samples:expr, $node:expr, $which:expr, $first:expr, $second:expr) => {{
         let mut output = ImageMut::new($desc, $samples);
-        run_node($node, $which, $first, $second, &mut output);
+        run_whole($node, $which, $first, $second, &mut output);
         output.valid()
     }};
 }

@@ -1,3 +1,4 @@
 mod RowLaws
 mod ClearLaws
 pub mod SizeLaws
+pub mod BandLaws

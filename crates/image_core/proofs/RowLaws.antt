@@ -1,8 +1,9 @@
 -- Rows of images over slices.
 use Rattle.std.proofs.Common.{◌≡◌, ℕ, ℤ, pos, ◌+◌, ◌-◌, ◌*◌, ◌<◌, ◌≤◌, List, length, map, take, drop, get_or, ap, ◌∙◌, sym, refl, arith}
 use Rattle.std.proofs.lemmas.List.{length-map, take-take}
-use Rattle.vx_base.specs.Image.{ImageValue, IsImage, run}
-use Rattle.vx_base.proofs.TableLaws.{row_part, part_of_row}
+use borrow.Rule.Slice.PartMut.{put_mid}
+use Rattle.vx_base.specs.Image.{ImageValue, IsImage, run, band}
+use Rattle.vx_base.proofs.TableLaws.{row_part, part_of_row, band_written, length_part}
 use Rattle.image_core.specs.Rows.{row_of}
 
 -- a row's part of the samples that are lent
@@ -18,3 +19,13 @@ part_of of row g w start x n at room long same =
     ∙ ap (λ k. map of (take k (drop start row))) (let e : n ≡ start + n - start = omega arith in e)
     ∙ part_of_row of row g w start n (start + n) (omega arith) refl same
     ∙ ap (λ s. run s n g) at
+
+-- one more row of a band is written to its part of the samples
+pub row_of_band_written : {T : Type 0} (value : T → ℤ) (width start count k first step : ℕ) (f : ℕ → ℕ → ℤ) (out row : List T) → length out ≡ count * width → k < count → first ≡ k * width → step ≡ width
+    → map value (take (k * width) out) ≡ band width start k f → length row ≡ length (take (first + step - first) (drop first out)) → map value row ≡ run 0 (length (take (first + step - first) (drop first out))) (λ x. f x (start + k))
+    → map value (take ((k + 1) * width) (put_mid first (first + step - first) out row)) ≡ band width start (k + 1) f
+row_of_band_written value width start count k first step f out row size below at is before long here =
+    let part = length_part out first step width count k size below at is in
+    band_written value width start count k first (first + step - first) f out row size below at (long ∙ part)
+    (ap (λ n. map value (take n out)) at ∙ before)
+    (here ∙ ap (λ n. run 0 n (λ x. f x (start + k))) part)

@@ -1,30 +1,34 @@
 //! Images that are written.
-ghost use Rattle.std.specs.Prelude.{◌≡◌, ◌≤◌, pos, map, length};
+ghost use Rattle.std.specs.Prelude.{◌≡◌, ◌*◌, ◌≤◌, pos, map, length};
 ghost use Rattle.vx_base.specs.declared.format.Format.TheVariants.{U8, S16, U32};
 ghost use Rattle.vx_base.specs.Rectangle.{empty, IsWithin};
 ghost use Rattle.vx_base.specs.Description.{sample_count};
-ghost use Rattle.vx_base.specs.Image.{made, at, image_over};
+ghost use Rattle.vx_base.specs.Image.{made, image_over};
+ghost use Rattle.image_core.specs.Bands.{IsInRows, all_rows};
+ghost use Rattle.image_core.specs.Rows.{sample_from};
 
+use crate::band::Band;
 use crate::formula::Formula;
 use crate::row_formula::{RowFormula, Unaided};
-use crate::rows::clear_rows;
+use crate::rows::{clear_rows, write_rows_of_two};
 use crate::sample::Sample;
 use crate::whole::Whole;
 use vx_base::{Desc, Format, Rect};
 
-/// The samples of an image, lent to who writes it. Of the slices the one of the format holds the
-/// samples, by rows from the top.
+/// The samples of a band of rows of an image, or of all its rows, lent to who writes them. Of the
+/// slices the one of the format holds the samples, row by row.
 #[derive(Drop)]
 pub struct ImageMut<'a> {
     pub(crate) desc: Desc,
     pub(crate) valid: Rect,
+    pub(crate) rows: Band,
     pub(crate) bytes: &'a mut [u8],
     pub(crate) shorts: &'a mut [i16],
     pub(crate) words: &'a mut [u32],
 }
 
 impl<'a> ImageMut<'a> {
-    ghost use Rattle.image_core.specs.Target.{written, IsTarget, Writes};
+    ghost use Rattle.image_core.specs.Target.{written, IsTarget, SameSlices, Writes};
 
     /// The image over these samples, one for each place, with the empty rectangle. Who lent them
     /// learns what they end as: they stand in the slice of this name.
@@ -34,8 +38,23 @@ impl<'a> ImageMut<'a> {
         ensures target { IsTarget result }
         ensures value { written result ≡ image_over desc empty (map T.value samples.old) }
         ensures same_slice { T.slice_name result ≡ samples.entry.ghost_name }
+        ensures rows { result.rows ≡ all_rows desc.height }
     {
-        T::lend_mut(desc, samples)
+        T::lend_mut(desc, Band::whole(desc), samples)
+    }
+
+    /// A band of rows of the image over these samples, one for each place of these rows, with the
+    /// empty rectangle. What writes whole images to it writes these rows of them alone.
+    pub fn of_rows<T: Sample>(desc: Desc, rows: Band, samples: &'a mut [T]) -> ImageMut<'a>
+        requires format { desc.format ≡ T.format }
+        requires rows { IsInRows desc.height rows }
+        requires size { length samples.old ≡ rows.count * desc.width }
+        ensures target { IsTarget result }
+        ensures value { written result ≡ image_over desc empty (map T.value samples.old) }
+        ensures same_slice { T.slice_name result ≡ samples.entry.ghost_name }
+        ensures rows { result.rows ≡ rows }
+    {
+        T::lend_mut(desc, rows, samples)
     }
 
     pub fn desc(&self) -> Desc
@@ -50,11 +69,20 @@ impl<'a> ImageMut<'a> {
         self.valid
     }
 
+    /// The rows whose samples are written.
+    pub fn rows(&self) -> Band
+        ensures { result ≡ self.now.rows }
+    {
+        self.rows
+    }
+
     /// Makes this the valid rectangle; the samples stay.
     pub fn set_valid(&mut self, valid: Rect)
         requires target { IsTarget self.old }
         requires room { IsWithin valid (written self.old).width (written self.old).height }
-        ensures { Writes (image_over self.old.desc valid (written self.old).samples) self.old self.new }
+        ensures value { written self.new ≡ image_over self.old.desc valid (written self.old).samples }
+        ensures target { IsTarget self.new }
+        ensures slices { SameSlices self.old self.new }
     {
         self.valid = valid;
     }
@@ -63,13 +91,14 @@ impl<'a> ImageMut<'a> {
     pub fn clear_outside(&mut self)
         requires target { IsTarget self.old }
         requires room { IsWithin (written self.old).valid (written self.old).width (written self.old).height }
-        ensures { Writes (made (written self.old).width (written self.old).height (written self.old).format (written self.old).valid (at (written self.old))) self.old self.new }
+        ensures { Writes (made (written self.old).width (written self.old).height (written self.old).format (written self.old).valid (sample_from self.old.desc.width self.old.rows.start (written self.old).samples)) self.old self.new }
     {
-        let (width, height) = (self.desc.width(), self.desc.height());
+        let _limits = self.desc.height();
+        let (width, rows) = (self.desc.width(), self.rows);
         match self.desc.format() {
-            Format::U8 => clear_rows(self.valid, width, height, self.bytes),
-            Format::S16 => clear_rows(self.valid, width, height, self.shorts),
-            Format::U32 => clear_rows(self.valid, width, height, self.words),
+            Format::U8 => clear_rows(self.valid, width, rows, self.bytes),
+            Format::S16 => clear_rows(self.valid, width, rows, self.shorts),
+            Format::U32 => clear_rows(self.valid, width, rows, self.words),
         }
     }
 
@@ -100,7 +129,45 @@ impl<'a> ImageMut<'a> {
         T::write_samples(self, formula, scratch);
     }
 
-    /// Writes all samples of a U32 image at once, and its rectangle.
+    /// Writes two whole S16 images, or the band's rows of them, a row of each in turn: so what both
+    /// formulas read is read once. Each has scratch memory of its own, `scratch` and `room`.
+    pub fn write_two_by_rows<S, R, F: RowFormula<i16, S>, G: RowFormula<i16, R>>(
+        &mut self,
+        other: &mut ImageMut<'_>,
+        first: &F,
+        second: &G,
+        scratch: &mut [S],
+        room: &mut [R],
+    )
+        requires target { IsTarget self.old }
+        requires other_target { IsTarget other.old }
+        requires format { (written self.old).format ≡ S16 }
+        requires other_format { (written other.old).format ≡ S16 }
+        requires width { (written other.old).width ≡ (written self.old).width }
+        requires rows { other.old.rows ≡ self.old.rows }
+        requires room { IsWithin (F.area first.now) (written self.old).width (written self.old).height }
+        requires other_room { IsWithin (G.area second.now) (written other.old).width (written other.old).height }
+        requires scratch { F.room first.now ≤ length scratch.old }
+        requires other_scratch { G.room second.now ≤ length room.old }
+        ensures first { Writes (made (written self.old).width (written self.old).height S16 (F.area first.now) (F.at first.now)) self.old self.new }
+        ensures second { Writes (made (written other.old).width (written other.old).height S16 (G.area second.now) (G.at second.now)) other.old other.new }
+    {
+        let _limits = self.desc.height();
+        self.valid = first.area();
+        other.valid = second.area();
+        write_rows_of_two(
+            first,
+            second,
+            self.desc.width(),
+            self.rows,
+            scratch,
+            room,
+            self.shorts,
+            other.shorts,
+        );
+    }
+
+    /// Writes the samples of a U32 image by rows at once, and its rectangle.
     pub fn write_whole<W: Whole>(&mut self, whole: &W)
         requires target { IsTarget self.old }
         requires format { (written self.old).format ≡ U32 }
@@ -109,6 +176,6 @@ impl<'a> ImageMut<'a> {
         ensures { Writes (made (W.width whole.now) (W.height whole.now) U32 (W.area whole.now) (W.at whole.now)) self.old self.new }
     {
         self.valid = whole.area();
-        whole.fill(self.words);
+        whole.fill(self.rows, self.words);
     }
 }

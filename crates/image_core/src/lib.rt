@@ -2,14 +2,16 @@
 //! are given.
 //!
 //! An `Image` lends the samples of an image to who reads it: its rows are those of an image value,
-//! 0 outside the valid rectangle. An `ImageMut` lends the samples of an image to who writes it.
-//! Both are read and written by the number type of the format, a `Sample`. What is computed place
-//! by place is a `Formula`, and one that needs scratch memory for that a `RowFormula`;
-//! `ImageMut::write` and `write_by_rows` write a whole image of one: each sample, and 0 outside the
-//! rectangle. `Second` is what a kernel reads beside its first image, `Overflow` a policy as a
-//! type.
+//! 0 outside the valid rectangle. An `ImageMut` lends the samples of an image to who writes it, or
+//! of a `Band` of its rows. Both are read and written by the number type of the format, a `Sample`.
+//! What is computed place by place is a `Formula`, and one that needs scratch memory for that a
+//! `RowFormula`; `ImageMut::write` and `write_by_rows` write a whole image of one, or the band's
+//! rows of it: each sample, and 0 outside the rectangle. So whatever writes whole images by them
+//! writes any rows of them too. `Second` is what a kernel reads beside its first image, `Overflow` a
+//! policy as a type.
 #![tactic(auto)]
 
+mod band;
 mod formula;
 mod image;
 mod image_mut;
@@ -22,6 +24,7 @@ mod second;
 mod slice;
 mod whole;
 
+pub use band::Band;
 pub use formula::Formula;
 pub use image::Image;
 pub use image_mut::ImageMut;

@@ -1,9 +1,9 @@
 //! Samples that are written and cleared row by row.
-ghost use Rattle.std.specs.Prelude.{◌≡◌, ◌*◌, ◌<◌, ◌≤◌, length, map, replicate};
-ghost use Rattle.vx_base.specs.Rectangle.{IsWithin};
-ghost use Rattle.vx_base.specs.Image.{run, table, within};
-ghost use Rattle.image_core.specs.Rows.{sample_at, sample_in};
+ghost use Rattle.std.specs.Prelude.{◌≡◌, ◌*◌, ◌+◌, ◌^◌, ◌<◌, ◌≤◌, length, map, replicate};
+ghost use Rattle.vx_base.specs.Image.{run, band, within};
+ghost use Rattle.image_core.specs.Rows.{sample_from, sample_in};
 
+use crate::band::Band;
 use crate::number::Number;
 use crate::row_formula::RowFormula;
 use vx_base::Rect;
@@ -58,23 +58,61 @@ fn write_row<T: Number, S, F: RowFormula<T, S>>(
     }
 }
 
-/// Writes all samples of an image by rows from the top: the formula's in its area, 0 elsewhere.
+/// Writes the samples of a band of rows of an image, row by row: the formula's in its area, 0
+/// elsewhere. `out` has room for these rows alone.
 pub fn write_rows<T: Number, S, F: RowFormula<T, S>>(
     formula: &F,
     width: u16,
-    height: u16,
+    rows: Band,
     scratch: &mut [S],
     out: &mut [T],
 )
     requires scratch { F.room formula.now ≤ length scratch.old }
-    requires size { length out.old ≡ height * width }
+    requires rows { rows.start + rows.count < 2 ^ 16 }
+    requires size { length out.old ≡ rows.count * width }
     requires room { (F.area formula.now).x1 ≤ width }
-    ensures { map T.value out.new ≡ table width height (within (F.area formula.now) (F.at formula.now)) }
+    ensures { map T.value out.new ≡ band width rows.start rows.count (within (F.area formula.now) (F.at formula.now)) }
 {
     let step = usize::from(width);
-    for y in 0..height {
-        let start = usize::from(y) * step;
-        write_row(formula, y, scratch, &mut out[start..start + step]);
+    for k in 0..rows.count {
+        let first = usize::from(k) * step;
+        write_row(
+            formula,
+            rows.start + k,
+            scratch,
+            &mut out[first..first + step],
+        );
+    }
+}
+
+/// Writes the samples of a band of rows of two images, a row of each in turn: so what both formulas
+/// read is read once. Each has scratch memory of its own, `scratch` and `room`.
+pub fn write_rows_of_two<T: Number, S, R, F: RowFormula<T, S>, G: RowFormula<T, R>>(
+    first: &F,
+    second: &G,
+    width: u16,
+    rows: Band,
+    scratch: &mut [S],
+    room: &mut [R],
+    out: &mut [T],
+    other: &mut [T],
+)
+    requires scratch { F.room first.now ≤ length scratch.old }
+    requires other_scratch { G.room second.now ≤ length room.old }
+    requires rows { rows.start + rows.count < 2 ^ 16 }
+    requires size { length out.old ≡ rows.count * width }
+    requires other_size { length other.old ≡ rows.count * width }
+    requires room { (F.area first.now).x1 ≤ width }
+    requires other_room { (G.area second.now).x1 ≤ width }
+    ensures first { map T.value out.new ≡ band width rows.start rows.count (within (F.area first.now) (F.at first.now)) }
+    ensures second { map T.value other.new ≡ band width rows.start rows.count (within (G.area second.now) (G.at second.now)) }
+{
+    let step = usize::from(width);
+    for line in 0..rows.count {
+        let start = usize::from(line) * step;
+        let y = rows.start + line;
+        write_row(first, y, scratch, &mut out[start..start + step]);
+        write_row(second, y, room, &mut other[start..start + step]);
     }
 }
 
@@ -102,15 +140,16 @@ fn clear_row<T: Number>(valid: Rect, y: u16, row: &mut [T])
     }
 }
 
-/// Makes the samples of an image 0 outside the rectangle; they stand by rows from the top.
-pub fn clear_rows<T: Number>(valid: Rect, width: u16, height: u16, samples: &mut [T])
-    requires size { length samples.old ≡ height * width }
-    requires room { IsWithin valid width height }
-    ensures { map T.value samples.new ≡ table width height (within valid (sample_at width (map T.value samples.old))) }
+/// Makes the samples of a band of rows of an image, which stand row by row, 0 outside the rectangle.
+pub fn clear_rows<T: Number>(valid: Rect, width: u16, rows: Band, samples: &mut [T])
+    requires rows { rows.start + rows.count < 2 ^ 16 }
+    requires size { length samples.old ≡ rows.count * width }
+    requires room { valid.x1 ≤ width }
+    ensures { map T.value samples.new ≡ band width rows.start rows.count (within valid (sample_from width rows.start (map T.value samples.old))) }
 {
     let step = usize::from(width);
-    for y in 0..height {
-        let start = usize::from(y) * step;
-        clear_row(valid, y, &mut samples[start..start + step]);
+    for line in 0..rows.count {
+        let first = usize::from(line) * step;
+        clear_row(valid, rows.start + line, &mut samples[first..first + step]);
     }
 }

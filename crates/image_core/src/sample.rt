@@ -1,12 +1,13 @@
 //! Number types of the samples of each format.
-ghost use Rattle.std.specs.Prelude.{◌≡◌, ◌≤◌, ℕ, map, length};
+ghost use Rattle.std.specs.Prelude.{◌≡◌, ◌*◌, ◌≤◌, ℕ, map, length};
 ghost use Rattle.vx_base.specs.declared.format.Format.{Format};
 ghost use Rattle.vx_base.specs.declared.format.Format.TheVariants.{U8, S16, U32};
 ghost use Rattle.vx_base.specs.Rectangle.{empty};
-ghost use Rattle.vx_base.specs.Description.{sample_count};
-ghost use Rattle.vx_base.specs.Image.{image_over, table, within};
+ghost use Rattle.vx_base.specs.Image.{image_over, band, within};
+ghost use Rattle.image_core.specs.Bands.{IsInRows};
 ghost use Rattle.image_core.specs.Slices.{slice_format, slice_values};
 
+use crate::band::Band;
 use crate::image_mut::ImageMut;
 use crate::number::Number;
 use crate::row_formula::RowFormula;
@@ -18,7 +19,7 @@ use vx_base::{Desc, Rect};
 /// `ImageMut::write`.
 pub trait Sample: Number {
     ghost use Rattle.image_core.specs.declared.image_mut.ImageMut.{ImageMut};
-    ghost use Rattle.image_core.specs.Target.{written, IsTarget, Writes};
+    ghost use Rattle.image_core.specs.Target.{written, IsTarget, SameSlices};
 
     /// The format of images of such samples.
     ghost format: { Format };
@@ -36,15 +37,19 @@ pub trait Sample: Number {
     /// Of the slices of an image that is written the name of the one of such samples.
     ghost slice_name: { ImageMut → ℕ };
 
-    /// The image over these samples, lent to who writes it, as `ImageMut::new` has it.
-    fn lend_mut<'a>(desc: Desc, samples: &'a mut [Self]) -> ImageMut<'a>
+    /// The rows of an image over these samples, lent to who writes them, as `ImageMut::of_rows` has
+    /// it.
+    fn lend_mut<'a>(desc: Desc, rows: Band, samples: &'a mut [Self]) -> ImageMut<'a>
         requires format { desc.format ≡ format }
-        requires size { length samples.old ≡ sample_count desc }
+        requires rows { IsInRows desc.height rows }
+        requires size { length samples.old ≡ rows.count * desc.width }
         ensures target { IsTarget result }
+        ensures rows { result.rows ≡ rows }
         ensures value { written result ≡ image_over desc empty (map Self.value samples.old) }
         ensures same_slice { slice_name result ≡ samples.entry.ghost_name };
 
-    /// Writes the samples of an image: the formula's in its area, 0 elsewhere.
+    /// Writes the samples of the rows that an image is lent for: the formula's in its area, 0
+    /// elsewhere.
     fn write_samples<S, F: RowFormula<Self, S>>(
         output: &mut ImageMut<'_>,
         formula: &F,
@@ -54,15 +59,17 @@ pub trait Sample: Number {
         requires format { (written output.old).format ≡ format }
         requires room { (F.area formula.now).x1 ≤ (written output.old).width }
         requires scratch { F.room formula.now ≤ length scratch.old }
-        ensures { Writes (image_over output.old.desc output.old.valid (table (written output.old).width (written output.old).height (within (F.area formula.now) (F.at formula.now)))) output.old output.new };
+        ensures value { written output.new ≡ image_over output.old.desc output.old.valid (band (written output.old).width output.old.rows.start output.old.rows.count (within (F.area formula.now) (F.at formula.now))) }
+        ensures slices { SameSlices output.old output.new };
 }
 
-/// The image over one of three slices, of which the others are empty.
+/// The rows of an image over one of three slices, of which the others are empty.
 macro_rules! image_mut {
-    ($desc:expr, $bytes:expr, $shorts:expr, $words:expr) => {
+    ($desc:expr, $rows:expr, $bytes:expr, $shorts:expr, $words:expr) => {
         ImageMut {
             desc: $desc,
             valid: Rect::empty(),
+            rows: $rows,
             bytes: $bytes,
             shorts: $shorts,
             words: $words,
@@ -86,8 +93,8 @@ impl Sample for u8 {
         }
     }
 
-    fn lend_mut<'a>(desc: Desc, samples: &'a mut [u8]) -> ImageMut<'a> {
-        image_mut!(desc, samples, &mut [], &mut [])
+    fn lend_mut<'a>(desc: Desc, rows: Band, samples: &'a mut [u8]) -> ImageMut<'a> {
+        image_mut!(desc, rows, samples, &mut [], &mut [])
     }
 
     fn write_samples<S, F: RowFormula<u8, S>>(
@@ -95,8 +102,8 @@ impl Sample for u8 {
         formula: &F,
         scratch: &mut [S],
     ) {
-        let (width, height) = (output.desc.width(), output.desc.height());
-        write_rows(formula, width, height, scratch, output.bytes);
+        let (width, _limits) = (output.desc.width(), output.desc.height());
+        write_rows(formula, width, output.rows, scratch, output.bytes);
     }
 }
 
@@ -116,8 +123,8 @@ impl Sample for i16 {
         }
     }
 
-    fn lend_mut<'a>(desc: Desc, samples: &'a mut [i16]) -> ImageMut<'a> {
-        image_mut!(desc, &mut [], samples, &mut [])
+    fn lend_mut<'a>(desc: Desc, rows: Band, samples: &'a mut [i16]) -> ImageMut<'a> {
+        image_mut!(desc, rows, &mut [], samples, &mut [])
     }
 
     fn write_samples<S, F: RowFormula<i16, S>>(
@@ -125,8 +132,8 @@ impl Sample for i16 {
         formula: &F,
         scratch: &mut [S],
     ) {
-        let (width, height) = (output.desc.width(), output.desc.height());
-        write_rows(formula, width, height, scratch, output.shorts);
+        let (width, _limits) = (output.desc.width(), output.desc.height());
+        write_rows(formula, width, output.rows, scratch, output.shorts);
     }
 }
 
@@ -146,8 +153,8 @@ impl Sample for u32 {
         }
     }
 
-    fn lend_mut<'a>(desc: Desc, samples: &'a mut [u32]) -> ImageMut<'a> {
-        image_mut!(desc, &mut [], &mut [], samples)
+    fn lend_mut<'a>(desc: Desc, rows: Band, samples: &'a mut [u32]) -> ImageMut<'a> {
+        image_mut!(desc, rows, &mut [], &mut [], samples)
     }
 
     fn write_samples<S, F: RowFormula<u32, S>>(
@@ -155,7 +162,7 @@ impl Sample for u32 {
         formula: &F,
         scratch: &mut [S],
     ) {
-        let (width, height) = (output.desc.width(), output.desc.height());
-        write_rows(formula, width, height, scratch, output.words);
+        let (width, _limits) = (output.desc.width(), output.desc.height());
+        write_rows(formula, width, output.rows, scratch, output.words);
     }
 }

@@ -1,11 +1,13 @@
-//! Samples that are computed all at once.
+//! Samples that are computed from those above them.
 ghost use Rattle.std.specs.Prelude.{◌≡◌, ◌*◌, ℕ, ℤ, pos, length, map};
 ghost use Rattle.vx_base.specs.Rectangle.{Rectangle};
-ghost use Rattle.vx_base.specs.Image.{table, within};
+ghost use Rattle.vx_base.specs.Image.{band, within};
+ghost use Rattle.image_core.specs.Bands.{IsInRows};
 
+use crate::band::Band;
 use vx_base::Rect;
 
-/// What gives all U32 samples of an image at once, since each needs those before it.
+/// What gives U32 samples of an image by rows at once, since each needs those before it.
 pub trait Whole {
     /// The sample in a column of a row.
     ghost at: { Self → ℕ → ℕ → ℤ };
@@ -20,8 +22,9 @@ pub trait Whole {
     fn area(&self) -> Rect
         ensures { result ≡ area self.now };
 
-    /// Writes the samples, by rows from the top.
-    fn fill(&self, out: &mut [u32])
-        requires { length out.old ≡ height self.now * width self.now }
-        ensures { map pos out.new ≡ table (width self.now) (height self.now) (within (area self.now) (at self.now)) };
+    /// Writes the samples of a band of rows, row by row.
+    fn fill(&self, rows: Band, out: &mut [u32])
+        requires rows { IsInRows (height self.now) rows }
+        requires size { length out.old ≡ rows.count * width self.now }
+        ensures { map pos out.new ≡ band (width self.now) rows.start rows.count (within (area self.now) (at self.now)) };
 }

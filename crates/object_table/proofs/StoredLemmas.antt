@@ -3,9 +3,11 @@ use Rattle.std.proofs.Common.{◌≡◌, ℕ, ℤ, List, pos, replicate, arith}
 use Rattle.vx_base.specs.declared.samples.Samples.{Samples}
 use Rattle.vx_base.specs.Rectangle.{Rectangle, whole}
 use Rattle.vx_base.specs.Description.{Description, sample_count}
-use Rattle.vx_base.specs.Image.{new_image, image_over, table, within, with_valid}
+use Rattle.vx_base.specs.Image.{new_image, image_over, band, within, with_valid}
 use Rattle.vx_base.specs.Picture.{values}
-use Rattle.image_core.specs.Rows.{sample_at}
+use Rattle.image_core.specs.declared.band.Band.{Band}
+use Rattle.image_core.specs.Bands.{all_rows}
+use Rattle.image_core.specs.Rows.{sample_from}
 use Rattle.vx_base.proofs.ZeroLaws.{samples-new_image}
 
 -- samples that are all 0 make a new image
@@ -14,5 +16,6 @@ pub zeros_are_new : (d : Description) (area : Rectangle) (samples : Samples) (co
 zeros_are_new d area samples count all long zero = grind (arith, samples-new_image d.width d.height d.format)
 
 -- samples that are cleared outside a rectangle make the image with that valid rectangle
-pub cleared_is : (d : Description) (valid old : Rectangle) (samples out : List ℤ) (width height : ℕ) → width ≡ d.width → height ≡ d.height → out ≡ table width height (within valid (sample_at width samples)) → image_over d valid out ≡ with_valid valid (image_over d old samples)
-cleared_is d valid old samples out width height wide high is = grind arith
+pub cleared_is : (d : Description) (valid old : Rectangle) (samples out : List ℤ) (width : ℕ) (rows : Band) → width ≡ d.width → rows ≡ all_rows d.height
+    → out ≡ band width rows.start rows.count (within valid (sample_from width rows.start samples)) → image_over d valid out ≡ with_valid valid (image_over d old samples)
+cleared_is d valid old samples out width rows wide all is = grind arith

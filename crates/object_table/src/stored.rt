@@ -4,7 +4,7 @@ ghost use Rattle.vx_base.specs.Rectangle.{IsWithin};
 ghost use Rattle.vx_base.specs.Image.{IsImage, new_image, image_over, description_of, with_valid};
 ghost use Rattle.vx_base.specs.Picture.{values, samples_format, picture_of, pictured};
 
-use image_core::{Image, clear_rows};
+use image_core::{Band, Image, clear_rows};
 use std::alloc::{AllocError, Global};
 use std::marker::Model;
 use vx_base::{Desc, Picture, Rect, Samples};
@@ -95,11 +95,12 @@ impl Stored {
         requires room { IsWithin valid self.old.width self.old.height }
         ensures { self.new ≡ with_valid valid self.old }
     {
-        let (width, height) = (self.desc.width(), self.desc.height());
+        let _limits = self.desc.height();
+        let (width, rows) = (self.desc.width(), Band::whole(self.desc));
         match &mut self.samples {
-            Samples::U8(samples) => clear_rows(valid, width, height, samples),
-            Samples::S16(samples) => clear_rows(valid, width, height, samples),
-            Samples::U32(samples) => clear_rows(valid, width, height, samples),
+            Samples::U8(samples) => clear_rows(valid, width, rows, samples),
+            Samples::S16(samples) => clear_rows(valid, width, rows, samples),
+            Samples::U32(samples) => clear_rows(valid, width, rows, samples),
         }
         self.valid = valid;
     }

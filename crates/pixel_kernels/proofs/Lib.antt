@@ -1,1 +1,1 @@
-mod WriteLaws
+mod FormatLaws

@@ -6,14 +6,14 @@ use Rattle.std.proofs.Math.Seq.{take-append_seam, take-append-add, drop-append_s
 use Rattle.std.proofs.lemmas.Simd.{length-chunk}
 use Rattle.std.proofs.lemmas.Bool.{cases_lt}
 use Rattle.std.proofs.lemmas.Bool.Decides.{nat_tests}
-use Rattle.std.proofs.lemmas.List.{take-map, ext_get_or, get_or-map, length-map, map-append, take-replicate, get_or-replicate, get_or_past, length-replicate, length-append, drop-replicate}
+use Rattle.std.proofs.lemmas.List.{take-map, ext_get_or, get_or-map, length-map, map-append, get_or-replicate, get_or_past, length-replicate, length-append, drop-take, take-take}
 use Rattle.std.proofs.lemmas.List.FromFn.{take-map-range_with_len}
 use Rattle.std.proofs.lemmas.List.Sums.{sum_by-append, sum_by-cons, sum_by_more}
 use Rattle.vx_base.specs.Rectangle.{Rectangle, whole, meet_of}
-use Rattle.vx_base.specs.Image.{ImageValue, at, run, table, within}
+use Rattle.vx_base.specs.Image.{ImageValue, at, run, band, within}
 use Rattle.vx_base.specs.Statistics.{samples_in, sum_to}
 use Rattle.vx_base.proofs.ZeroLaws.{map-replicate}
-use Rattle.vx_base.proofs.TableLaws.{get_or-run, length-run, row_across, row_outside, table-more}
+use Rattle.vx_base.proofs.TableLaws.{get_or-run, length-run, row_across, row_outside, band-more}
 use Rattle.stat_kernels.specs.declared.part.Part.{Part}
 use Rattle.stat_kernels.specs.Part.{IsValidPart}
 use Rattle.stat_kernels.proofs.Rows.{above}
@@ -156,18 +156,35 @@ zero_sums image count y first = record {
 
 -- ---- the row above
 
-zeros_cut : (count x width n : ℕ) → x + count ≤ width → width ≤ n → take count (drop x (take width (replicate {A = ℕ} n 0))) ≡ replicate count 0
-zeros_cut count x width n inside room =
-    ap (λ (l : List ℕ). take count (drop x l)) (take-replicate {X = ℕ} width n 0 room) ∙ ap (take count) (drop-replicate {X = ℕ} x width 0) ∙ take-replicate {X = ℕ} count (width - x) 0 (omega arith)
+part_of_start : {A : Type 0} (xs : List A) (x n width : ℕ) → x + n ≤ width → take n (drop x (take width xs)) ≡ take n (drop x xs)
+part_of_start xs x n width room =
+    let e : width ≡ x + (width - x) = omega arith in
+    ap (λ k. take n (drop x (take k xs))) e
+    ∙ ap (take n) (drop-take x (width - x) xs)
+    ∙ take-take n (width - x) (drop x xs) (omega arith)
 
--- above the first row stand zeros
-pub above_first : (image : ImageValue) (part : Part) → IsValidPart image part → (width : ℕ) (zeros before : List ℕ) → ◌≡◌ {A = List ℕ} zeros (replicate 4096 0) → width ≡ image.width → width ≤ 4096 → length before ≡ 0 → AreAbove image part 0 (last_row width zeros before)
-above_first image part is width zeros before are wide room none below =
-    let top : max part.top 0 ≡ image.valid.y0 = omega (arith, is.top) in
-    subst (AreSums image (max part.top 0))
-    (sym (ap (λ n. take part.count (drop part.x (cond (n == 0) (take width zeros) (drop (n - width) before)))) none
-    ∙ ap (λ (l : List ℕ). take part.count (drop part.x (take width l))) are ∙ zeros_cut part.count part.x width 4096 (omega (arith, wide, is.in_columns)) room))
-    (zero_sums image part.count (max part.top 0) top)
+-- the row above, with sums in the valid columns
+pub above_of_parts : (image : ImageValue) (part : Part) → IsValidPart image part → (y : ℕ) (left sums right : List ℕ) → length left ≡ part.x → length sums ≡ part.count
+    → (y < part.bottom → AreSums image (max part.top y) sums) → AreAbove image part y (take image.width (left ++ (sums ++ right)))
+above_of_parts image part is y left sums right at long are below =
+    subst (AreSums image (max part.top y))
+    (sym (part_of_start (left ++ (sums ++ right)) part.x part.count image.width (omega (arith, is.in_columns)) ∙ part_of_parts left sums right part.x part.count at long))
+    (are below)
+
+-- the same row of a number that is written otherwise
+pub above_at : (image : ImageValue) (part : Part) (m n : ℕ) (row : List ℕ) → m ≡ n → AreAbove image part m row → AreAbove image part n row
+above_at image part m n row same are = subst (λ k. AreAbove image part k row) same are
+
+-- above the first row of a band
+pub above_first : (image : ImageValue) (part : Part) (y width : ℕ) (first before : List ℕ) → width ≡ image.width → length before ≡ 0 → AreAbove image part y (take image.width first) → AreAbove image part y (last_row width first before)
+above_first image part y width first before wide none are below =
+    subst (λ (l : List ℕ). AreSums image (max part.top y) (take part.count (drop part.x l)))
+    (sym (ap (λ n. cond (n == 0) (take width first) (drop (n - width) before)) none ∙ ap (λ n. take n first) wide))
+    (are below)
+
+-- sums above the first valid row are zeros
+pub no_sums : (image : ImageValue) (part : Part) → IsValidPart image part → (sums : List ℕ) → ◌≡◌ {A = List ℕ} sums (replicate (length sums) 0) → AreSums image part.top sums
+no_sums image part is sums are = subst (AreSums image part.top) (sym are) (zero_sums image (length sums) part.top is.top)
 
 some : (n : ℕ) → 1 ≤ n → (n == 0) ≡ false
 some n h = grind (arith, nat_tests)
@@ -186,11 +203,11 @@ module _ (y width : ℕ) (before row rest : List ℕ) (start : length before ≡
       let e : (y + 1) * width ≡ length before + length row = omega arith in
       ap (λ n. take n (before ++ (row ++ rest))) e ∙ take-append-add before (row ++ rest) (length row) ∙ ap (λ l. before ++ l) (take-append_seam row rest)
 
-  pub above_next : (image : ImageValue) (part : Part) (zeros : List ℕ) → 1 ≤ width → AreAbove image part (y + 1) row → AreAbove image part (y + 1) (last_row width zeros (take ((y + 1) * width) (before ++ (row ++ rest))))
-  above_next image part zeros wide are below =
-      subst (λ (l : List ℕ). AreSums image (max part.top (y + 1)) (take part.count (drop part.x l)))
+  pub above_next : (image : ImageValue) (part : Part) (line : ℕ) (zeros : List ℕ) → 1 ≤ width → AreAbove image part line row → AreAbove image part line (last_row width zeros (take ((y + 1) * width) (before ++ (row ++ rest))))
+  above_next image part line zeros wide are below =
+      subst (λ (l : List ℕ). AreSums image (max part.top line) (take part.count (drop part.x l)))
       (sym (ap (last_row width zeros) rows_so_far ∙ last_row_is width zeros before row wide long)) (are below)
 
-  pub rows_written : (f : ℕ → ℕ → ℤ) → map pos before ≡ table width y f → map pos row ≡ run 0 width (λ x. f x y) → map pos (take ((y + 1) * width) (before ++ (row ++ rest))) ≡ table width (y + 1) f
-  rows_written f are is =
-      ap (map pos) rows_so_far ∙ map-append pos before row ∙ ap (λ l. l ++ map pos row) are ∙ ap (λ l. table width y f ++ l) is ∙ sym (table-more width y f)
+  pub rows_written : (top : ℕ) (f : ℕ → ℕ → ℤ) → map pos before ≡ band width top y f → map pos row ≡ run 0 width (λ x. f x (top + y)) → map pos (take ((y + 1) * width) (before ++ (row ++ rest))) ≡ band width top (y + 1) f
+  rows_written top f are is =
+      ap (map pos) rows_so_far ∙ map-append pos before row ∙ ap (λ l. l ++ map pos row) are ∙ ap (λ l. band width top y f ++ l) is ∙ sym (band-more width top y f)

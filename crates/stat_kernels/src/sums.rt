@@ -1,8 +1,9 @@
 //! Integral images.
-ghost use Rattle.std.specs.Prelude.{◌≡◌, ◌⊎◌, ◌+◌, ◌*◌, ◌<◌, ◌≤◌, ℕ, pos, map, take, drop, length};
+ghost use Rattle.std.specs.Prelude.{◌≡◌, ◌⊎◌, ◌+◌, ◌*◌, ◌<◌, ◌≤◌, ℕ, pos, max, map, take, drop, replicate, length};
 ghost use Rattle.vx_base.specs.declared.format.Format.TheVariants.{U8, U32};
-ghost use Rattle.vx_base.specs.Image.{run, within};
+ghost use Rattle.vx_base.specs.Image.{run, band, within};
 ghost use Rattle.vx_base.specs.Statistics.{sum_to, integral};
+ghost use Rattle.image_core.specs.Bands.{IsInRows};
 ghost use Rattle.image_core.specs.Fits.{HaveSameSize};
 ghost use Rattle.image_core.specs.Target.{written, IsTarget, Writes};
 ghost use Rattle.stat_kernels.specs.Part.{IsValidPart};
@@ -10,7 +11,7 @@ ghost use Rattle.stat_kernels.specs.Sums.{AreSums, AreAbove, last_row};
 
 use crate::part::Part;
 use crate::running::add_row;
-use image_core::{Image, ImageMut, Whole};
+use image_core::{Band, Image, ImageMut, Whole};
 use vx_base::Rect;
 
 /// Writes row y of the integral image, which goes through the valid part, from the row above.
@@ -52,33 +53,78 @@ fn write_row(image: &Image<'_>, part: Part, y: u16, above: &[u32], out: &mut [u3
     }
 }
 
-/// The row above the next one, zeros above the first.
-fn row_above<'a>(before: &'a [u32], width: usize, zeros: &'a [u32]) -> &'a [u32]
-    requires zeros { width ≤ length zeros.now }
+/// The row above the next one, the given one above the first.
+fn row_above<'a>(before: &'a [u32], width: usize, first: &'a [u32]) -> &'a [u32]
+    requires first { width ≤ length first.now }
     requires rows { length before.now ≡ 0 ⊎ width ≤ length before.now }
-    ensures { result.now ≡ last_row width zeros.now before.now }
+    ensures { result.now ≡ last_row width first.now before.now }
 {
     if before.is_empty() {
-        &zeros[..width]
+        &first[..width]
     } else {
         &before[before.len() - width..]
     }
 }
 
-/// Writes the samples of the integral image by rows from the top, each from the one above.
-fn write_sums(image: &Image<'_>, samples: &mut [u32])
+/// Adds valid row y to the sums above it.
+fn add_line(image: &Image<'_>, part: Part, y: u16, sums: &mut [u32])
     requires format { image.now.format ≡ U8 }
-    requires size { length samples.old ≡ image.now.height * image.now.width }
-    ensures { map pos samples.new ≡ (integral image.now).samples }
+    requires part { IsValidPart image.now part }
+    requires sides { (image.now.width ≤ 4096) × (image.now.height ≤ 4096) }
+    requires rows { (part.top ≤ y) × (y < part.bottom) }
+    requires len { length sums.old ≡ part.count }
+    requires sums { AreSums image.now y sums.old }
+    ensures { AreSums image.now (y + 1) sums.new }
 {
-    let desc = image.desc();
-    let width = usize::from(desc.width());
+    let mut room = [0; 4096];
+    let next = &mut room[..part.count];
+    let row = image.part_of_row::<u8>(part.x, y, part.count);
+    add_row(row, sums, next);
+    sums.copy_from_slice(next);
+}
+
+/// Makes the sums above the first valid row those above row y.
+fn add_lines(image: &Image<'_>, part: Part, y: u16, sums: &mut [u32])
+    requires format { image.now.format ≡ U8 }
+    requires part { IsValidPart image.now part }
+    requires sides { (image.now.width ≤ 4096) × (image.now.height ≤ 4096) }
+    requires len { length sums.old ≡ part.count }
+    requires sums { AreSums image.now part.top sums.old }
+    ensures { y < part.bottom → AreSums image.now (max part.top y) sums.new }
+{
+    for line in part.top..y.min(part.bottom) {
+        add_line(image, part, line, sums);
+    }
+}
+
+/// Makes zeros the row above row y, with its sums in the valid columns.
+fn sum_above(image: &Image<'_>, part: Part, y: u16, row: &mut [u32])
+    requires format { image.now.format ≡ U8 }
+    requires part { IsValidPart image.now part }
+    requires sides { (image.now.width ≤ 4096) × (image.now.height ≤ 4096) }
+    requires zeros { row.old ≡ replicate 4096 0 }
+    ensures { AreAbove image.now part y (take image.now.width row.new) }
+{
+    let (_, others) = row.split_at_mut(usize::from(part.x));
+    let (sums, _) = others.split_at_mut(part.count);
+    add_lines(image, part, y, sums);
+}
+
+/// Writes the samples of a band of the integral image row by row, each from the one above.
+fn write_sums(image: &Image<'_>, rows: Band, samples: &mut [u32])
+    requires format { image.now.format ≡ U8 }
+    requires rows { IsInRows image.now.height rows }
+    requires size { length samples.old ≡ rows.count * image.now.width }
+    ensures { map pos samples.new ≡ band image.now.width rows.start rows.count (within image.now.valid (sum_to image.now)) }
+{
+    let width = usize::from(image.desc().width());
     let part = Part::of(image);
-    let zeros = [0; 4096];
-    for y in 0..desc.height() {
-        let (before, others) = samples.split_at_mut(usize::from(y) * width);
-        let above = row_above(before, width, &zeros);
-        write_row(image, part, y, above, &mut others[..width]);
+    let mut first = [0; 4096];
+    sum_above(image, part, rows.start, &mut first);
+    for k in 0..rows.count {
+        let (before, others) = samples.split_at_mut(usize::from(k) * width);
+        let above = row_above(before, width, &first);
+        write_row(image, part, rows.start + k, above, &mut others[..width]);
     }
 }
 
@@ -102,8 +148,8 @@ impl Whole for Sums<'_, '_> {
         self.image.valid()
     }
 
-    fn fill(&self, out: &mut [u32]) {
-        write_sums(self.image, out);
+    fn fill(&self, rows: Band, out: &mut [u32]) {
+        write_sums(self.image, rows, out);
     }
 }
 

@@ -9,8 +9,8 @@ use Rattle.vx_base.specs.declared.format.Format.{Format}
 use Rattle.vx_base.specs.Sample.{IsSample}
 use Rattle.vx_base.proofs.ResultLaws.{zero_sample}
 use Rattle.vx_base.specs.Rectangle.{Rectangle, inside, whole, IsOrdered, IsWithin}
-use Rattle.vx_base.specs.Image.{ImageValue, IsImage, run, table, within, at, made, new_image, with_valid}
-use Rattle.vx_base.proofs.TableLaws.{table-more, length-table, get_or-run}
+use Rattle.vx_base.specs.Image.{ImageValue, IsImage, run, band, table, within, at, made, new_image, with_valid}
+use Rattle.vx_base.proofs.TableLaws.{table-more, length-table, get_or-run, band-same}
 
 -- a place of a row above the last
 pub above : (width height x y : ℕ) → x < width → y < height → y * width + x < height * width
@@ -39,6 +39,12 @@ get_or-table width (suc height) x y f a b =
     ap (λ n. get_or (table width n f) (y * width + x) (pos 0)) (sym (add-one height))
     ∙ ap (λ l. get_or l (y * width + x) (pos 0)) (table-more width height f)
     ∙ last_or_before width height x y f a (last_or_not y height b) (get_or-table width height x y f a)
+
+-- the bands of a table's samples are those of its function
+pub band_of_table : (width height start count : ℕ) (f : ℕ → ℕ → ℤ) → start + count ≤ height → band width start count (λ x y. get_or (table width height f) (y * width + x) (pos 0)) ≡ band width start count f
+band_of_table width height start count f room =
+    band-same width start count (λ x y. get_or (table width height f) (y * width + x) (pos 0)) f
+    (λ x y a b c. get_or-table width height x y f a (omega arith))
 
 within_true : (r : Rectangle) (f : ℕ → ℕ → ℤ) (x y : ℕ) → inside r x y ≡ true → within r f x y ≡ f x y
 within_true r f x y h = ap (λ b. cond b (f x y) (pos 0)) h
@@ -80,6 +86,17 @@ same_samples a b width height long also same =
     ext_get_or (pos 0) a b (long ∙ sym also)
     (λ k h. let p = index_of_place width height k (omega arith) in
     ap (λ n. get_or a n (pos 0)) (sym p.4) ∙ same p.0 p.1 p.2 p.3 ∙ ap (λ n. get_or b n (pos 0)) p.4)
+
+-- the samples of an image are the band of all its rows
+pub samples_are_band : (samples : List ℤ) (width height : ℕ) → length samples ≡ height * width → band width 0 height (λ x y. get_or samples (y * width + x) (pos 0)) ≡ samples
+samples_are_band samples width height size =
+    same_samples (table width height f) samples width height (length-table width height f) size (λ x y a b. get_or-table width height x y f a b)
+  where
+    f : ℕ → ℕ → ℤ
+    f = λ x y. get_or samples (y * width + x) (pos 0)
+
+pub whole_band : (a : ImageValue) → IsImage a → band a.width 0 a.height (at a) ≡ a.samples
+whole_band a h = samples_are_band a.samples a.width a.height h.size
 
 pub same_parts : (a b : ImageValue) → a.width ≡ b.width → a.height ≡ b.height → a.format ≡ b.format → a.valid ≡ b.valid → a.samples ≡ b.samples → a ≡ b
 same_parts a b w h f v s =

@@ -8,7 +8,7 @@ use Rattle.std.proofs.lemmas.Slice.{take-put_mid}
 use Rattle.std.proofs.lemmas.Simd.{zip2-map, map-map}
 use Rattle.std.specs.Simd.Lanes.{zip2}
 use borrow.Rule.Slice.PartMut.{put_mid}
-use Rattle.vx_base.specs.Image.{run, table, within}
+use Rattle.vx_base.specs.Image.{run, band, table, within}
 
 suc-add : (m n : ℕ) → suc m + n ≡ suc (m + n)
 suc-add m n = omega arith
@@ -44,18 +44,36 @@ pub flat_map-append : {X Y : Type 0} (f : X → List Y) (xs ys : List X) → fla
 flat_map-append f [] ys = refl
 flat_map-append f (x ∷ xs) ys = ap (λ l. f x ++ l) (flat_map-append f xs ys) ∙ sym (append_assoc (f x) (flat_map f xs) (flat_map f ys))
 
+-- two bands, one below the other, are one
+pub band-append : (width start m n : ℕ) (f : ℕ → ℕ → ℤ) → band width start (m + n) f ≡ band width start m f ++ band width (start + m) n f
+band-append width start m n f =
+    ap (flat_map (λ y. run 0 width (λ x. f x y))) (range-append start m n)
+    ∙ flat_map-append (λ y. run 0 width (λ x. f x y)) (range_with_len start m) (range_with_len (start + m) n)
+
+pub band-more : (width start k : ℕ) (f : ℕ → ℕ → ℤ) → band width start (k + 1) f ≡ band width start k f ++ run 0 width (λ x. f x (start + k))
+band-more width start k f = band-append width start k 1 f ∙ ap (λ l. band width start k f ++ l) (append-nil (run 0 width (λ x. f x (start + k))))
+
 pub table-more : (width y : ℕ) (f : ℕ → ℕ → ℤ) → table width (y + 1) f ≡ table width y f ++ run 0 width (λ x. f x y)
-table-more width y f =
-    ap (flat_map (λ y. run 0 width (λ x. f x y))) (range-append 0 y 1)
-    ∙ flat_map-append (λ y. run 0 width (λ x. f x y)) (range_with_len 0 y) (range_with_len (0 + y) 1)
-    ∙ ap (λ k. table width y f ++ k) (append-nil (run 0 width (λ x. f x (0 + y))) ∙ ap (λ k. run 0 width (λ x. f x k)) (omega arith))
+table-more width y f = band-more width 0 y f ∙ ap (λ k. table width y f ++ run 0 width (λ x. f x k)) (zero-add y)
+
+pub length-band : (width start count : ℕ) (f : ℕ → ℕ → ℤ) → length (band width start count f) ≡ count * width
+length-band width start zero f = omega arith
+length-band width start (suc count) f =
+    ap (λ n. length (band width start n f)) (sym (add-one count))
+    ∙ ap length (band-more width start count f)
+    ∙ omega (arith, length-append (band width start count f) (run 0 width (λ x. f x (start + count))), length-run (λ x. f x (start + count)) 0 width, length-band width start count f)
 
 pub length-table : (width height : ℕ) (f : ℕ → ℕ → ℤ) → length (table width height f) ≡ height * width
-length-table width zero f = omega arith
-length-table width (suc height) f =
-    ap (λ n. length (table width n f)) (sym (add-one height))
-    ∙ ap length (table-more width height f)
-    ∙ omega (arith, length-append (table width height f) (run 0 width (λ x. f x height)), length-run (λ x. f x height) 0 width, length-table width height f)
+length-table width height f = length-band width 0 height f
+
+-- two functions that agree at a band's places have the same band
+pub band-same : (width start count : ℕ) (f g : ℕ → ℕ → ℤ) → ((x y : ℕ) → x < width → start ≤ y → y < start + count → f x y ≡ g x y) → band width start count f ≡ band width start count g
+band-same width start zero f g same = refl
+band-same width start (suc count) f g same =
+    cc (
+      run-same (λ x. f x start) (λ x. g x start) 0 width (λ k a b. same k start (omega arith) (omega arith) (omega arith)),
+      band-same width (start + 1) count f g (λ x y a b c. same x y a (omega arith) (omega arith)),
+    )
 
 -- a row that is 0 before the rectangle and after it
 pub row_in_parts : (g : ℕ → ℤ) (x0 n rest : ℕ) → ((k : ℕ) → k < x0 → g k ≡ pos 0) → ((k : ℕ) → x0 + n ≤ k → g k ≡ pos 0) → run 0 (x0 + (n + rest)) g ≡ replicate x0 (pos 0) ++ (run x0 n g ++ replicate rest (pos 0))
@@ -85,16 +103,21 @@ row_across r f n x0 x1 y from to ordered room above below =
     ∙ row_in_parts (λ x. within r f x y) x0 (x1 - x0) (n - x1) (λ k h. within_beside r f k y (inl (inl (omega arith)))) (λ k h. within_beside r f k y (inl (inr (omega arith))))
     ∙ ap (λ l. replicate x0 (pos 0) ++ (l ++ replicate (n - x1) (pos 0))) (run-same (λ x. within r f x y) (λ x. f x y) x0 (x1 - x0) (λ k a b. within_inside r f k y (omega arith) (omega arith) above below))
 
--- one more row is written
+-- one more row of a band is written, from place `at` on
+pub band_written : {T : Type 0} (value : T → ℤ) (width start count k at long : ℕ) (f : ℕ → ℕ → ℤ) (out row : List T) → length out ≡ count * width → k < count → at ≡ k * width → length row ≡ width → map value (take at out) ≡ band width start k f → map value row ≡ run 0 width (λ x. f x (start + k)) → map value (take ((k + 1) * width) (put_mid at long out row)) ≡ band width start (k + 1) f
+band_written value width start count k at long f out row size below is full before here =
+    let next : (k + 1) * width ≤ count * width = grind arith in
+    let more : (k + 1) * width ≡ at + width = omega arith in
+    ap (map value) (take-put_mid at long out row ((k + 1) * width) (omega arith) (omega arith))
+    ∙ map-append value (take at out) row
+    ∙ ap (λ l. l ++ map value row) before
+    ∙ ap (λ l. band width start k f ++ l) here
+    ∙ sym (band-more width start k f)
+
+-- one more row of all is
 pub row_written : {T : Type 0} (value : T → ℤ) (width height y start k : ℕ) (f : ℕ → ℕ → ℤ) (out row : List T) → length out ≡ height * width → y < height → start ≡ y * width → length row ≡ width → map value (take start out) ≡ table width y f → map value row ≡ run 0 width (λ x. f x y) → map value (take ((y + 1) * width) (put_mid start k out row)) ≡ table width (y + 1) f
 row_written value width height y start k f out row size below at long before is =
-    let next : (y + 1) * width ≤ height * width = grind arith in
-    let more : (y + 1) * width ≡ start + width = omega arith in
-    ap (map value) (take-put_mid start k out row ((y + 1) * width) (omega arith) (omega arith))
-    ∙ map-append value (take start out) row
-    ∙ ap (λ l. l ++ map value row) before
-    ∙ ap (λ l. table width y f ++ l) is
-    ∙ sym (table-more width y f)
+    band_written value width 0 height y start k f out row size below at long before (is ∙ ap (λ n. run 0 width (λ x. f x n)) (sym (zero-add y)))
 
 pub row_fits : (width height y : ℕ) → y < height → y * width + width ≤ height * width
 row_fits width height y h = grind arith

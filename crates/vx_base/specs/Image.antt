@@ -10,9 +10,13 @@ use Rattle.vx_base.specs.Description.{Description}
 abbrev pub run : ℕ → ℕ → (ℕ → ℤ) → List ℤ
 run x n f = map f (range_with_len x n)
 
--- f at all places of a width and height, by rows from the top
+-- f at the places of so many rows of a width, row by row from row start on
+abbrev pub band : ℕ → ℕ → ℕ → (ℕ → ℕ → ℤ) → List ℤ
+band width start count f = flat_map (λ y. run 0 width (λ x. f x y)) (range_with_len start count)
+
+-- f at all places of a width and height, by rows from the top: the band of all rows
 abbrev pub table : ℕ → ℕ → (ℕ → ℕ → ℤ) → List ℤ
-table width height f = flat_map (λ y. run 0 width (λ x. f x y)) (range_with_len 0 height)
+table width height f = band width 0 height f
 
 -- f at the places of the rectangle, 0 elsewhere
 abbrev pub within : Rectangle → (ℕ → ℕ → ℤ) → ℕ → ℕ → ℤ

@@ -1,7 +1,7 @@
 //! Tests of the public calls of the crates below, of what no stream of bytes through the program
 //! shows: the order of reads and flushes, devices that fail, requests that are written, small
-//! quotas, and images that are valid in a part. `tools/check_program` and `tools/check_functions`
-//! show the rest on the program.
+//! quotas, images that are valid in a part, and bands of rows. `tools/check_program` and
+//! `tools/check_functions` show the rest on the program.
 //!
 //! - `devices`: a source and a sink in memory that move a few bytes at a call, and can fail
 //! - `streams`: a stream in pieces, each read and each write failing, and how far it was read
@@ -13,12 +13,15 @@
 //! - `graphs`: graphs, the numbers of their nodes, and what these use in a table
 //! - `values`: rectangles, codes and tables
 //! - `images`: images that are valid in a part
+//! - `bands`: a few rows of an image alone
 //! - `rows`: the kernels of lane_rows, at lengths around that of a block
 //! - `kernels`, `texts`: windows, statistics and PGM texts, by the calls of their crates
 #![tactic(auto)]
 
 #[cfg(test)]
 mod adapters;
+#[cfg(test)]
+mod bands;
 #[cfg(test)]
 mod clients;
 #[cfg(test)]

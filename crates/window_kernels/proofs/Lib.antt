@@ -1,5 +1,4 @@
 mod ColumnLaws
-mod WriteLaws
 mod BitLaws
 mod PlaceLaws
 mod AddLaws

@@ -255,6 +255,25 @@ macro_rules! with_rows {
     };
 }
 
+/// Writes what the matrix gives, to an output of U8 or S16.
+fn convolve_with(
+    image: &Image<'_>,
+    convolution: &Convolution,
+    output: &mut ImageMut<'_>,
+    border: Border,
+    rows: &mut [i16],
+)
+    requires fits { ConvolutionFits image.now output.old }
+    requires scratch { 9 * (image.now.width + 48) ≤ length rows.old }
+    ensures { Writes (from_matrix (written output.old).format convolution.now border image.now) output.old output.new }
+{
+    match output.desc().format() {
+        Format::U8 => write_convolved::<u8>(image, convolution, output, border, rows),
+        Format::S16 => write_convolved::<i16>(image, convolution, output, border, rows),
+        Format::U32 => unreachable!(),
+    }
+}
+
 /// Writes the sums of the samples around each place, each times the coefficient at the opposite
 /// place of the matrix, over the matrix's power of two, rounded to zero and clamped (OpenVX 1.3,
 /// "Custom Convolution"): of U8 to U8 or S16.
@@ -268,9 +287,7 @@ pub fn convolve(
     ensures { Writes (from_matrix (written output.old).format convolution.now border image.now) output.old output.new }
 {
     let _limits = image.valid();
-    with_rows!(image.desc().width(), rows => match output.desc().format() {
-        Format::U8 => write_convolved::<u8>(image, convolution, output, border, rows),
-        Format::S16 => write_convolved::<i16>(image, convolution, output, border, rows),
-        Format::U32 => unreachable!(),
+    with_rows!(image.desc().width(), rows => {
+        convolve_with(image, convolution, output, border, rows)
     })
 }

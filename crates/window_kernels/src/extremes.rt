@@ -92,7 +92,7 @@ pub fn erode3(image: &Image<'_>, output: &mut ImageMut<'_>, border: Border)
     ensures { Writes (from_nine U8 least_of border image.now) output.old output.new }
 {
     let _limits = image.valid();
-    with_scratch!(image.desc().width(), 0, rows => {
+    with_scratch!(image.desc().width(), rows = 0 => {
         write_nine::<u8, u8, _>(&Least, image, output, border, rows)
     })
 }
@@ -103,7 +103,7 @@ pub fn dilate3(image: &Image<'_>, output: &mut ImageMut<'_>, border: Border)
     ensures { Writes (from_nine U8 greatest_of border image.now) output.old output.new }
 {
     let _limits = image.valid();
-    with_scratch!(image.desc().width(), 0, rows => {
+    with_scratch!(image.desc().width(), rows = 0 => {
         write_nine::<u8, u8, _>(&Greatest, image, output, border, rows)
     })
 }

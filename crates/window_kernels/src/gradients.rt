@@ -7,7 +7,9 @@ ghost use Rattle.window_kernels.specs.Fits.{WindowFits};
 ghost use Rattle.window_kernels.specs.ByColumns.{x_is_x, y_is_y};
 
 use crate::columns::{OfColumn, Window};
-use crate::nine::{AcrossColumns, OfNine, with_scratch, write_by_columns, write_nine};
+use crate::nine::{
+    AcrossColumns, OfNine, with_scratch, write_by_columns, write_nine, write_two_nines,
+};
 use crate::sums::{Change, WeightedSum, change_of, weighted_sum_of};
 use image_core::{Image, ImageMut};
 use vx_base::Border;
@@ -93,7 +95,7 @@ pub fn sobel_x3(image: &Image<'_>, output: &mut ImageMut<'_>, border: Border)
 {
     let _limits = image.valid();
     let none = weighted_sum_of(0, 0, 0);
-    with_scratch!(image.desc().width(), none, rows => {
+    with_scratch!(image.desc().width(), rows = none => {
         write_nine::<i16, WeightedSum, _>(&GradientX, image, output, border, rows)
     })
 }
@@ -105,8 +107,30 @@ pub fn sobel_y3(image: &Image<'_>, output: &mut ImageMut<'_>, border: Border)
 {
     let _limits = image.valid();
     let none = change_of(0, 0);
-    with_scratch!(image.desc().width(), none, rows => {
+    with_scratch!(image.desc().width(), rows = none => {
         write_nine::<i16, Change, _>(&GradientY, image, output, border, rows)
+    })
+}
+
+/// Writes both changes to the same rows, a row of each in turn.
+fn write_gradients(
+    image: &Image<'_>,
+    output_x: &mut ImageMut<'_>,
+    output_y: &mut ImageMut<'_>,
+    border: Border,
+)
+    requires x { WindowFits S16 image.now output_x.old }
+    requires y { WindowFits S16 image.now output_y.old }
+    requires rows { output_y.old.rows ≡ output_x.old.rows }
+    ensures x { Writes (from_nine S16 gradient_x border image.now) output_x.old output_x.new }
+    ensures y { Writes (from_nine S16 gradient_y border image.now) output_y.old output_y.new }
+{
+    let _limits = image.valid();
+    let (sum, change) = (weighted_sum_of(0, 0, 0), change_of(0, 0));
+    with_scratch!(image.desc().width(), sums = sum, changes = change => {
+        write_two_nines::<WeightedSum, Change, _, _>(
+            &GradientX, &GradientY, image, output_x, output_y, border, sums, changes,
+        )
     })
 }
 
@@ -123,6 +147,10 @@ pub fn sobel3(
     ensures x { Writes (from_nine S16 gradient_x border image.now) output_x.old output_x.new }
     ensures y { Writes (from_nine S16 gradient_y border image.now) output_y.old output_y.new }
 {
-    sobel_x3(image, output_x, border);
-    sobel_y3(image, output_y, border);
+    if output_x.rows() == output_y.rows() {
+        write_gradients(image, output_x, output_y, border);
+    } else {
+        sobel_x3(image, output_x, border);
+        sobel_y3(image, output_y, border);
+    }
 }

@@ -95,7 +95,7 @@ pub fn box3(image: &Image<'_>, output: &mut ImageMut<'_>, border: Border)
 {
     let _limits = image.valid();
     let none = sum_of(0, 0, 0);
-    with_scratch!(image.desc().width(), none, rows => {
+    with_scratch!(image.desc().width(), rows = none => {
         write_nine::<u8, Sum, _>(&BoxMean, image, output, border, rows)
     })
 }
@@ -108,7 +108,7 @@ pub fn gaussian3(image: &Image<'_>, output: &mut ImageMut<'_>, border: Border)
 {
     let _limits = image.valid();
     let none = weighted_sum_of(0, 0, 0);
-    with_scratch!(image.desc().width(), none, rows => {
+    with_scratch!(image.desc().width(), rows = none => {
         write_nine::<u8, WeightedSum, _>(&GaussianMean, image, output, border, rows)
     })
 }

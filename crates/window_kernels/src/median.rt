@@ -102,7 +102,7 @@ pub fn median3(image: &Image<'_>, output: &mut ImageMut<'_>, border: Border)
     ensures { Writes (from_nine U8 median border image.now) output.old output.new }
 {
     let _limits = image.valid();
-    with_scratch!(image.desc().width(), 0, rows => {
+    with_scratch!(image.desc().width(), rows = 0 => {
         write_nine::<u8, u8, _>(&Median, image, output, border, rows)
     })
 }

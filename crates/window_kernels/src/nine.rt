@@ -1,11 +1,12 @@
 //! Images of the nine samples around each place.
 ghost use Rattle.std.specs.Prelude.{◌≡◌, ◌+◌, ◌*◌, ◌<◌, ◌≤◌, ◌-ℤ◌, ℕ, ℤ, pos, List, [], ◌∷◌, map, length, replicate};
-ghost use Rattle.vx_base.specs.declared.format.Format.TheVariants.{U8};
+ghost use Rattle.vx_base.specs.declared.format.Format.TheVariants.{U8, S16};
 ghost use Rattle.vx_base.specs.Image.{run};
 ghost use Rattle.vx_base.specs.Window.{look, nine_around, window_valid, from_nine};
 ghost use Rattle.image_core.specs.Fits.{HaveSameSize};
 ghost use Rattle.image_core.specs.Target.{written, IsTarget, Writes};
 ghost use Rattle.border_rows.specs.Seen.{value_beside};
+ghost use Rattle.window_kernels.specs.Fits.{WindowFits};
 ghost use Rattle.window_kernels.specs.Nine.{column_seen};
 
 use crate::columns::{OfColumn, Window};
@@ -137,6 +138,24 @@ fn write_with_rows<T: Sample, S: Number, K: OfNine<T, S>>(
     output.write_by_rows::<T, S, _>(&formula, scratch);
 }
 
+/// `with_off_rows!(width, border, rows => call)` makes the call with `rows` on the stack, a row as
+/// it is seen where no valid row is, at least as long as those of an image of this width.
+macro_rules! with_off_rows {
+    ($width:expr, $border:expr, $rows:ident => $call:expr) => {{
+        let off = value_beside($border, 0);
+        if $width <= 62 {
+            let $rows = &[off; 62];
+            $call
+        } else if $width <= 510 {
+            let $rows = &[off; 510];
+            $call
+        } else {
+            let $rows = &[off; 4096];
+            $call
+        }
+    }};
+}
+
 /// Writes what the kernel gives of a U8 image to another of its size, with scratch memory for three
 /// rows that are two items longer than the image's.
 pub fn write_nine<T: Sample, S: Number, K: OfNine<T, S>>(
@@ -155,29 +174,94 @@ pub fn write_nine<T: Sample, S: Number, K: OfNine<T, S>>(
 {
     let _limits = image.valid();
     let width = image.desc().width();
-    let off = value_beside(border, 0);
-    if width <= 62 {
-        write_with_rows(kernel, image, output, border, &[off; 62], scratch);
-    } else if width <= 510 {
-        write_with_rows(kernel, image, output, border, &[off; 510], scratch);
-    } else {
-        write_with_rows(kernel, image, output, border, &[off; 4096], scratch);
-    }
+    with_off_rows!(width, border, rows => {
+        write_with_rows(kernel, image, output, border, rows, scratch);
+    })
 }
 
-/// `with_scratch!(width, item, scratch => call)` makes the call with `scratch` on the stack, for
-/// three rows that are two items longer than those of an image of this width. It is cleared once,
-/// and a small image needs little of it.
+/// Writes what two kernels give, as `write_with_rows` does.
+fn write_two_with_rows<S: Number, R: Number, K: OfNine<i16, S>, L: OfNine<i16, R>>(
+    first: &K,
+    second: &L,
+    image: &Image<'_>,
+    output: &mut ImageMut<'_>,
+    other: &mut ImageMut<'_>,
+    border: Border,
+    off_rows: &[u8],
+    scratch: &mut [S],
+    room: &mut [R],
+)
+    requires fits { WindowFits S16 image.now output.old }
+    requires other_fits { WindowFits S16 image.now other.old }
+    requires rows { other.old.rows ≡ output.old.rows }
+    requires off_rows { map pos off_rows.now ≡ replicate (length off_rows.now) (value_beside border (pos 0)) }
+    requires room { image.now.width ≤ length off_rows.now }
+    requires scratch { 3 * (image.now.width + 2) ≤ length scratch.old }
+    requires other_scratch { 3 * (image.now.width + 2) ≤ length room.old }
+    ensures first { Writes (from_nine S16 (K.formula first.now) border image.now) output.old output.new }
+    ensures second { Writes (from_nine S16 (L.formula second.now) border image.now) other.old other.new }
+{
+    let area = window_valid(border, 1, 1, image.valid());
+    let window = Window {
+        image,
+        border,
+        off_rows,
+        area,
+    };
+    let one = FromNine {
+        kernel: first,
+        window: &window,
+    };
+    let two = FromNine {
+        kernel: second,
+        window: &window,
+    };
+    output.write_two_by_rows::<S, R, _, _>(other, &one, &two, scratch, room);
+}
+
+/// Writes what two kernels give of a U8 image to the same rows of two S16 images of its size, a row
+/// of each in turn. Each kernel has scratch memory for three rows that are two items longer than
+/// the image's.
+pub fn write_two_nines<S: Number, R: Number, K: OfNine<i16, S>, L: OfNine<i16, R>>(
+    first: &K,
+    second: &L,
+    image: &Image<'_>,
+    output: &mut ImageMut<'_>,
+    other: &mut ImageMut<'_>,
+    border: Border,
+    scratch: &mut [S],
+    room: &mut [R],
+)
+    requires fits { WindowFits S16 image.now output.old }
+    requires other_fits { WindowFits S16 image.now other.old }
+    requires rows { other.old.rows ≡ output.old.rows }
+    requires scratch { 3 * (image.now.width + 2) ≤ length scratch.old }
+    requires other_scratch { 3 * (image.now.width + 2) ≤ length room.old }
+    ensures first { Writes (from_nine S16 (K.formula first.now) border image.now) output.old output.new }
+    ensures second { Writes (from_nine S16 (L.formula second.now) border image.now) other.old other.new }
+{
+    let _limits = image.valid();
+    let width = image.desc().width();
+    with_off_rows!(width, border, rows => {
+        write_two_with_rows(
+            first, second, image, output, other, border, rows, scratch, room,
+        );
+    })
+}
+
+/// `with_scratch!(width, scratch = item => call)` makes the call with `scratch` on the stack, for
+/// three rows that are two items longer than those of an image of this width; there may be more
+/// than one. It is cleared once, and a small image needs little of it.
 macro_rules! with_scratch {
-    ($width:expr, $item:expr, $scratch:ident => $call:expr) => {
+    ($width:expr, $($scratch:ident = $item:expr),+ => $call:expr) => {
         if $width <= 62 {
-            let $scratch = &mut [$item; 3 * 64];
+            $(let $scratch = &mut [$item; 3 * 64];)+
             $call
         } else if $width <= 510 {
-            let $scratch = &mut [$item; 3 * 512];
+            $(let $scratch = &mut [$item; 3 * 512];)+
             $call
         } else {
-            let $scratch = &mut [$item; 3 * 4098];
+            $(let $scratch = &mut [$item; 3 * 4098];)+
             $call
         }
     };

@@ -1,15 +1,23 @@
 //! Laws of image values.
-ghost use Rattle.std.specs.Prelude.{◌≡◌, ◌<◌, ◌≤◌, ◌*◌, ℕ, ℤ, pos, true, false, length};
+ghost use Rattle.std.specs.Prelude.{◌≡◌, ◌<◌, ◌≤◌, ◌*◌, ◌+◌, ◌++◌, ℕ, ℤ, pos, true, false, length};
 ghost use Rattle.vx_base.specs.Sample.{IsSample};
 ghost use Rattle.vx_base.specs.declared.format.Format.{Format};
 ghost use Rattle.vx_base.specs.Rectangle.{Rectangle, inside, IsOrdered, IsWithin};
 ghost use Rattle.vx_base.specs.Description.{IsDescription};
-ghost use Rattle.vx_base.specs.Image.{ImageValue, IsImage, description_of, table, at, made, new_image};
+ghost use Rattle.vx_base.specs.Image.{ImageValue, IsImage, description_of, band, table, at, made, new_image};
 ghost use Rattle.vx_base.specs.Picture.{PictureValue, IsPicture, picture_of, pictured};
 
 /// A table has a sample for each place.
 pub fn table_size()
     ensures { (width height : ℕ) (f : ℕ → ℕ → ℤ) → length (table width height f) ≡ height * width }
+{}
+
+/// The samples of an image are the band of all its rows, and two bands one below the other are the
+/// band of the rows of both.
+pub fn bands()
+    ensures whole { (a : ImageValue) → IsImage a → band a.width 0 a.height (at a) ≡ a.samples }
+    ensures joined { (width start above below : ℕ) (f : ℕ → ℕ → ℤ) →
+        band width start (above + below) f ≡ band width start above f ++ band width (start + above) below f }
 {}
 
 /// An image made of a function is that function at the valid places, and 0 elsewhere; where the

@@ -2,7 +2,8 @@ use Rattle.std.proofs.Common.{◌∙◌, ap, sym}
 use Rattle.vx_base.specs.declared.format.Format.TheVariants.{U8, S16}
 use Rattle.vx_base.specs.Description.{Description}
 use Rattle.vx_base.specs.Pixelwise.{from_two}
-use Rattle.pixel_kernels.proofs.WriteLaws.{in_format, short_output}
+use Rattle.image_core.proofs.BandLaws.{in_format}
+use Rattle.pixel_kernels.proofs.FormatLaws.{short_output}
 use Rattle.pixel_kernels.proofs.arithmetic.write_arithmetic.Goals as goal
 
 pub returns-in-U8 : goal.returns-in-U8

@@ -1,7 +1,7 @@
 use Rattle.vx_base.specs.Image.{at}
 use Rattle.image_core.specs.Target.{written}
+use Rattle.image_core.proofs.BandLaws.{written_alike}
 use Rattle.image_core.proofs.SizeLaws.{same_sides}
-use Rattle.pixel_kernels.proofs.WriteLaws.{written_alike}
 use Rattle.pixel_kernels.proofs.one.write_one.Goals as goal
 
 pub returns : goal.returns

@@ -2,8 +2,8 @@ use Rattle.std.proofs.Common.{◌≡◌, ◌∙◌, ap}
 use Rattle.vx_base.specs.Rectangle.{meet_of}
 use Rattle.vx_base.specs.Image.{at}
 use Rattle.image_core.specs.Target.{written}
+use Rattle.image_core.proofs.BandLaws.{written_alike}
 use Rattle.image_core.proofs.SizeLaws.{same_sides}
-use Rattle.pixel_kernels.proofs.WriteLaws.{written_alike}
 use Rattle.pixel_kernels.proofs.two.write_two.Goals as goal
 
 pub returns : goal.returns

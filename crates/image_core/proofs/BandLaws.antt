@@ -1,0 +1,94 @@
+-- Rows of images that are written.
+use Rattle.std.proofs.Common.{◌≡◌, ℕ, ℤ, List, ◌*◌, length, refl, ap, ◌∙◌, sym, subst}
+use Rattle.vx_base.specs.declared.format.Format.{Format}
+use Rattle.vx_base.specs.Description.{Description}
+use Rattle.vx_base.specs.Rectangle.{Rectangle}
+use Rattle.vx_base.specs.Image.{ImageValue, band, within, made, image_over}
+use Rattle.vx_base.proofs.TableLaws.{length-band}
+use Rattle.vx_base.proofs.ImageLaws.{band_of_table, samples_are_band, same_parts}
+use Rattle.image_core.specs.declared.band.Band.{Band}
+use Rattle.image_core.specs.declared.image_mut.ImageMut.{ImageMut}
+use Rattle.image_core.specs.Bands.{IsInRows, all_rows, rows_in}
+use Rattle.image_core.specs.Rows.{sample_from}
+use Rattle.image_core.specs.Slices.{slice_of}
+use Rattle.image_core.specs.Target.{written, IsTarget, SameSlices, Writes}
+
+-- the rows of an image that is made of a function
+pub rows_made : (d : Description) (format : Format) (r s : Rectangle) (f : ℕ → ℕ → ℤ) (rows : Band) → IsInRows d.height rows → d.format ≡ format → r ≡ s
+    → image_over d r (band d.width rows.start rows.count (within s f)) ≡ rows_in rows (made d.width d.height format s f)
+rows_made d format r s f rows room same is =
+    ap (λ t. image_over d t (band d.width rows.start rows.count (within s f))) is
+    ∙ ap (image_over d s) (sym (band_of_table d.width d.height rows.start rows.count (within s f) room))
+    ∙ ap (λ t. rows_in rows (made d.width d.height t s f)) same
+
+-- what is written where these rows of it are
+pub made_written : (old new : ImageMut) (format : Format) (r s : Rectangle) (f : ℕ → ℕ → ℤ) → IsTarget old → SameSlices old new
+    → written new ≡ image_over old.desc r (band old.desc.width old.rows.start old.rows.count (within s f)) → old.desc.format ≡ format → r ≡ s → Writes (made old.desc.width old.desc.height format s f) old new
+made_written old new format r s f target same is known at =
+    let wide : new.desc.width ≡ old.desc.width = ap (λ (a : ImageValue). a.width) is in
+    let high : new.desc.height ≡ old.desc.height = ap (λ (a : ImageValue). a.height) is in
+    record {
+      value = is ∙ rows_made old.desc format r s f old.rows target.rows known at;
+      target = record {
+        size =
+            ap (λ (a : ImageValue). length a.samples) is
+            ∙ length-band old.desc.width old.rows.start old.rows.count (within s f)
+            ∙ ap (λ n. old.rows.count * n) (sym wide)
+            ∙ ap (λ (rows : Band). rows.count * new.desc.width) (sym same.rows);
+        rows = subst (λ n. IsInRows n new.rows) (sym high) (subst (IsInRows old.desc.height) (sym same.rows) target.rows);
+      };
+      slices = same;
+    }
+
+-- the same, of the samples in the slice of the format
+pub slice_written : (old new : ImageMut) (format : Format) (s : Rectangle) (f : ℕ → ℕ → ℤ) → IsTarget old → SameSlices old new → new.desc ≡ old.desc → new.valid ≡ s → old.desc.format ≡ format
+    → slice_of format new.bytes.now new.shorts.now new.words.now ≡ band old.desc.width old.rows.start old.rows.count (within s f) → Writes (made old.desc.width old.desc.height format s f) old new
+slice_written old new format s f target same desc valid known is =
+    made_written old new format new.valid s f target same
+    (ap (λ (d : Description). image_over d new.valid (slice_of d.format new.bytes.now new.shorts.now new.words.now)) desc
+    ∙ ap (λ t. image_over old.desc new.valid (slice_of t new.bytes.now new.shorts.now new.words.now)) known
+    ∙ ap (image_over old.desc new.valid) is)
+    known valid
+
+-- the same, where what is written names its sides otherwise
+pub slice_written_as : (old new : ImageMut) (format : Format) (width height : ℕ) (s : Rectangle) (f : ℕ → ℕ → ℤ) → IsTarget old → SameSlices old new → new.desc ≡ old.desc → new.valid ≡ s → old.desc.format ≡ format
+    → old.desc.width ≡ width → old.desc.height ≡ height → slice_of format new.bytes.now new.shorts.now new.words.now ≡ band width old.rows.start old.rows.count (within s f) → Writes (made width height format s f) old new
+slice_written_as old new format width height s f target same desc valid known wide high is =
+    subst (λ (a : ImageValue). Writes a old new) (ap (λ n. made n old.desc.height format s f) wide ∙ ap (λ n. made width n format s f) high)
+    (slice_written old new format s f target same desc valid known (is ∙ ap (λ n. band n old.rows.start old.rows.count (within s f)) (sym wide)))
+
+-- samples outside the rectangle are made 0
+pub slice_cleared : (old new : ImageMut) (format : Format) (width : ℕ) (before : List ℤ) → IsTarget old → SameSlices old new → new.desc ≡ old.desc → new.valid ≡ old.valid → old.desc.format ≡ format → width ≡ old.desc.width
+    → before ≡ slice_of format old.bytes.now old.shorts.now old.words.now
+    → slice_of format new.bytes.now new.shorts.now new.words.now ≡ band width old.rows.start old.rows.count (within old.valid (sample_from width old.rows.start before))
+    → Writes (made old.desc.width old.desc.height old.desc.format old.valid (sample_from old.desc.width old.rows.start (written old).samples)) old new
+slice_cleared old new format width before target same desc valid known wide held is =
+    slice_written old new old.desc.format old.valid (sample_from old.desc.width old.rows.start (written old).samples) target same desc valid refl
+    (ap (λ t. slice_of t new.bytes.now new.shorts.now new.words.now) known
+    ∙ is
+    ∙ ap (λ n. band n old.rows.start old.rows.count (within old.valid (sample_from n old.rows.start before))) wide
+    ∙ ap (λ zs. band old.desc.width old.rows.start old.rows.count (within old.valid (sample_from old.desc.width old.rows.start zs)))
+    (held ∙ ap (λ t. slice_of t old.bytes.now old.shorts.now old.words.now) (sym known)))
+
+-- all rows of an image are the image
+pub all_rows_are : (image : ImageValue) → length image.samples ≡ image.height * image.width → rows_in (all_rows image.height) image ≡ image
+all_rows_are image size = same_parts (rows_in (all_rows image.height) image) image refl refl refl refl (samples_are_band image.samples image.width image.height size)
+
+-- who lent all rows of an image has the image that is written
+pub all_written : (image : ImageValue) (old new : ImageMut) → old.rows ≡ all_rows image.height → length image.samples ≡ image.height * image.width → Writes image old new → written new ≡ image
+all_written image old new all size is = is.value ∙ ap (λ rows. rows_in rows image) all ∙ all_rows_are image size
+
+-- ---- what is written, said in another way
+
+-- what is written is any image that is the same
+pub written_same : (image other : ImageValue) (old new : ImageMut) → image ≡ other → Writes other old new → Writes image old new
+written_same image other old new is = subst (λ (a : ImageValue). Writes a old new) (sym is)
+
+-- what is written is the image of the output's format
+pub in_format : (image : Format → ImageValue) (format known : Format) (old new : ImageMut) → format ≡ known → Writes (image known) old new → Writes (image format) old new
+in_format image format known old new is = written_same (image format) (image known) old new (ap image is)
+
+-- an image of the same size and rectangle
+pub written_alike : (width height w h : ℕ) (format : Format) (r s : Rectangle) (f : ℕ → ℕ → ℤ) (old new : ImageMut) → width ≡ w → height ≡ h → r ≡ s → Writes (made width height format r f) old new → Writes (made w h format s f) old new
+written_alike width height w h format r s f old new a b c is =
+    subst (λ (image : ImageValue). Writes image old new) (ap (λ n. made n height format r f) a ∙ ap (λ n. made w n format r f) b ∙ ap (λ t. made w h format t f) c) is

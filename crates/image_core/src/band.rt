@@ -1,0 +1,24 @@
+//! Bands of rows.
+ghost use Rattle.std.specs.Prelude.{◌≡◌};
+ghost use Rattle.image_core.specs.Bands.{all_rows};
+
+use vx_base::Desc;
+
+/// So many rows of an image, from row `start` on.
+#[derive(Clone, Copy, Debug, PartialEq, Eq)]
+pub struct Band {
+    pub start: u16,
+    pub count: u16,
+}
+
+impl Band {
+    /// All rows of an image.
+    pub fn whole(desc: Desc) -> Band
+        ensures { result ≡ all_rows desc.height }
+    {
+        Band {
+            start: 0,
+            count: desc.height(),
+        }
+    }
+}

@@ -1,0 +1,86 @@
+//! Bands of rows: what is written to one is those rows of the image, in any order.
+ghost use Rattle.std.specs.Prelude.{◌+◌, ◌≤◌};
+
+use crate::images::lend;
+use image_core::{Band, ImageMut};
+use stat_kernels::integral;
+use std::test::Fail;
+use vx_base::{Border, Convolution, Desc, Format, Rect};
+use window_kernels::{convolve, median3, sobel3};
+
+/// The samples of a 3 by 3 image.
+const SAMPLES: [u8; 9] = [1, 2, 9, 3, 4, 8, 5, 6, 7];
+
+/// Two rows of the medians, of the shares of a matrix and of the sums above and to the left.
+fn two_rows(start: u16) -> Option<([u8; 6], [i16; 6], [u32; 6])>
+    requires { start + 2 ≤ 3 }
+{
+    let desc = Desc::new(3, 3, Format::U8)?;
+    let mut samples = SAMPLES;
+    let image = lend(desc, Rect::new(0, 0, 3, 3)?, &mut samples);
+    let matrix = Convolution::new(3, 3, 0, &[0, 0, 0, 0, 0, 0, 0, 1, -2])?;
+    let rows = Band { start, count: 2 };
+    let (mut medians, mut shares, mut sums) = ([77; 6], [77; 6], [77; 6]);
+    let mut target = ImageMut::of_rows(desc, rows, &mut medians);
+    median3(&image, &mut target, Border::Replicate);
+    let mut target = ImageMut::of_rows(Desc::new(3, 3, Format::S16)?, rows, &mut shares);
+    convolve(&image, &matrix, &mut target, Border::Replicate);
+    let mut target = ImageMut::of_rows(Desc::new(3, 3, Format::U32)?, rows, &mut sums);
+    integral(&image, &mut target);
+    Some((medians, shares, sums))
+}
+
+#[test]
+fn rows_of_windows_and_sums(rt: HostRuntime) {
+    let first = [2, 3, 8, 3, 5, 7];
+    let below = [3, 5, 7, 5, 6, 7];
+    assert_eq!(rt;
+        two_rows(0),
+        Some((first, [-1, 0, 5, -1, 0, 5], [1, 3, 12, 4, 10, 27]))
+    );
+    assert_eq!(rt;
+        two_rows(1),
+        Some((below, [-1, 0, 5, -3, -2, 0], [4, 10, 27, 9, 21, 45]))
+    );
+}
+
+/// A row of the changes from left to right, and one of those from above to below.
+fn changes(right: u16, down: u16) -> Option<([i16; 3], [i16; 3])>
+    requires right { right + 1 ≤ 3 }
+    requires down { down + 1 ≤ 3 }
+{
+    let desc = Desc::new(3, 3, Format::S16)?;
+    let mut samples = SAMPLES;
+    let whole = Rect::new(0, 0, 3, 3)?;
+    let image = lend(Desc::new(3, 3, Format::U8)?, whole, &mut samples);
+    let (mut to_right, mut below) = ([77; 3], [77; 3]);
+    let mut right_target = ImageMut::of_rows(
+        desc,
+        Band {
+            start: right,
+            count: 1,
+        },
+        &mut to_right,
+    );
+    let mut down_target = ImageMut::of_rows(
+        desc,
+        Band {
+            start: down,
+            count: 1,
+        },
+        &mut below,
+    );
+    sobel3(
+        &image,
+        &mut right_target,
+        &mut down_target,
+        Border::Replicate,
+    );
+    Some((to_right, below))
+}
+
+#[test]
+fn rows_of_both_gradients(rt: HostRuntime) {
+    assert_eq!(rt; changes(1, 1), Some(([4, 20, 16], [16, 10, -2])));
+    assert_eq!(rt; changes(2, 0), Some(([4, 11, 7], [8, 5, -1])));
+}
