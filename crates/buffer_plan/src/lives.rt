@@ -1,0 +1,101 @@
+//! From which step to which virtual images are live. Steps are counted from 1.
+ghost use Rattle.std.specs.Prelude.{◌≡◌, ℕ, ◌+◌, ◌||◌, drop, nat_lt, position, IfOk};
+ghost use Rattle.std.specs.List.{position_or_len};
+ghost use Rattle.vx_base.specs.Sample.{same_format};
+ghost use Rattle.graph_verify.specs.Links.{reads, writes};
+ghost use Rattle.buffer_plan.specs.Lives.{is_used, IsLife, AreLives};
+ghost use Rattle.buffer_plan.specs.Slots.{of_format};
+
+use graph_verify::VirtualOutput;
+use std::alloc::{AllocError, Global};
+use vx_base::{Format, Node, ObjRef};
+
+/// A virtual image, and the first and the last step at which it is live.
+#[derive(Clone, Copy)]
+pub struct Life {
+    pub image: VirtualOutput,
+    pub first: usize,
+    pub last: usize,
+}
+
+/// Whether a node writes a cell.
+fn writes(node: &Node, cell: ObjRef) -> bool
+    ensures { result ≡ writes node.now cell }
+{
+    node.out1 == Some(cell) || node.out2 == Some(cell)
+}
+
+/// Whether a node reads or writes a cell.
+fn uses(node: &Node, cell: ObjRef) -> bool
+    ensures { result ≡ (reads node.now cell || writes node.now cell) }
+{
+    node.in1 == cell || node.in2 == Some(cell) || writes(node, cell)
+}
+
+/// How many steps there are before the first that writes a cell.
+fn steps_before(steps: &[Node], cell: ObjRef) -> Option<usize>
+    ensures { result ≡ position (λ n. writes n cell) steps.now }
+{
+    steps.iter().position(|node| writes(node, cell))
+}
+
+/// The first step that writes a cell, or one more than there are.
+fn first_writing(steps: &[Node], cell: ObjRef) -> usize
+    ensures { result ≡ position_or_len (λ n. writes n cell) steps.now + 1 }
+{
+    match steps_before(steps, cell) {
+        Some(before) => before + 1,
+        None => steps.len() + 1,
+    }
+}
+
+/// The last step that reads or writes a cell, 0 where none does.
+fn last_use(steps: &[Node], cell: ObjRef) -> usize
+    ensures { (j : ℕ) → is_used (drop j steps.now) cell ≡ nat_lt j result }
+{
+    let mut rest = steps;
+    while let Some((node, before)) = rest.split_last() {
+        if uses(node, cell) {
+            return rest.len();
+        }
+        rest = before;
+    }
+    0
+}
+
+/// When an image is live.
+fn life_of(steps: &[Node], image: VirtualOutput) -> Life
+    ensures image { result.image ≡ image }
+    ensures life { IsLife steps.now result }
+{
+    Life {
+        image,
+        first: first_writing(steps, image.cell),
+        last: last_use(steps, image.cell),
+    }
+}
+
+/// Whether an image is of a format.
+fn is_of(image: &VirtualOutput, format: Format) -> bool
+    ensures { result ≡ same_format image.now.desc.format format }
+{
+    image.desc.format() == format
+}
+
+/// When the images of a format are live.
+pub fn lives_of(
+    alloc: Global,
+    steps: &[Node],
+    images: &[VirtualOutput],
+    format: Format,
+) -> Result<Vec<Life>, AllocError>
+    ensures { IfOk result (λ lives. AreLives steps.now (of_format format images.now) lives.items) }
+{
+    let mut lives = Vec::new(alloc);
+    for image in images {
+        if is_of(image, format) {
+            lives.push(life_of(steps, *image))?;
+        }
+    }
+    Ok(lives)
+}

@@ -1,0 +1,101 @@
+//! The plan of a verified graph.
+ghost use Rattle.std.specs.Prelude.{◌≡◌, ℕ, ◌≤◌, ◌&&◌, List, length, is_some, IfOk, None, slice_index};
+ghost use Rattle.vx_base.specs.declared.node.Node.{Node as NodeFields};
+ghost use Rattle.vx_base.specs.Cell.{Cell};
+ghost use Rattle.graph_verify.specs.declared.known.VirtualOutput.{VirtualOutput as Image};
+ghost use Rattle.graph_verify.specs.declared.operand.Operand.{Operand};
+ghost use Rattle.graph_verify.specs.Links.{is_written};
+ghost use Rattle.graph_verify.specs.Operand.{is_virtual};
+ghost use Rattle.graph_verify.specs.Verdict.{verdict};
+ghost use Rattle.graph_verify.specs.Verified.{IsVerified};
+ghost use Rattle.buffer_plan.specs.Places.{IsPlacedFor, places_in, told};
+ghost use Rattle.buffer_plan.specs.Slots.{IsValid, AreSlotsOf};
+ghost use Rattle.buffer_plan.specs.Plan.{IsPlan};
+
+use crate::lives::lives_of;
+use crate::slots::{Places, place};
+use graph_verify::Verified;
+use std::alloc::{AllocError, Global};
+use vx_base::{Format, ObjRef};
+
+/// In which slot each virtual image of a verified graph stands while it is live. Slots are counted
+/// from 0, for each format by itself.
+#[derive(Drop)]
+pub struct Plan {
+    u8s: Places,
+    s16s: Places,
+    u32s: Places,
+}
+
+impl Plan {
+    /// Plans where the virtual images that a verified graph writes stand while it runs in its order.
+    pub fn new(alloc: Global, verified: &Verified) -> Result<Plan, AllocError>
+        ensures plan { IfOk result (λ p. (work : ℕ) (is : Cell → Operand) (nodes : List NodeFields) →
+            verdict work is nodes ≡ None → IsVerified is nodes verified.now →
+            IsPlan verified.now.steps.items verified.now.virtual_outputs.items (told p)) }
+        ensures images { IfOk result (λ p. (is : Cell → Operand) (nodes : List NodeFields) →
+            IsVerified is nodes verified.now →
+            (cell : Cell) → is_some ((told p).slot_of cell) ≡ (is_virtual (is cell) && is_written nodes cell)) }
+    {
+        Ok(Plan {
+            u8s: places_of(alloc, verified, Format::U8)?,
+            s16s: places_of(alloc, verified, Format::S16)?,
+            u32s: places_of(alloc, verified, Format::U32)?,
+        })
+    }
+
+    /// The images of a format.
+    fn places(&self, format: Format) -> &Places
+        ensures { result.now ≡ places_in self.now format }
+    {
+        match format {
+            Format::U8 => &self.u8s,
+            Format::S16 => &self.s16s,
+            Format::U32 => &self.u32s,
+        }
+    }
+
+    /// The slot of a virtual image that the nodes write, among those of its format. `None` for every
+    /// other cell.
+    pub fn slot_of(&self, cell: ObjRef) -> Option<usize>
+        ensures { result ≡ (told self.now).slot_of cell }
+    {
+        let (u8s, s16s) = (self.u8s.slot_of(cell), self.s16s.slot_of(cell));
+        u8s.or(s16s).or(self.u32s.slot_of(cell))
+    }
+
+    /// How many slots of a format there are: no plan for this order has fewer.
+    pub fn slot_count(&self, format: Format) -> usize
+        ensures value { result ≡ (told self.now).slot_count format }
+        ensures least { (steps : List NodeFields) (images : List Image) → IsPlan steps images (told self.now) →
+            (slot : Cell → ℕ) → IsValid steps images slot →
+            (slots : List ℕ) → AreSlotsOf slot format images slots → result ≤ length slots }
+    {
+        self.places(format).samples.len()
+    }
+
+    /// The greatest number of samples of the images that share a slot, 0 where there is no such
+    /// slot.
+    pub fn slot_samples(&self, format: Format, slot: usize) -> usize
+        ensures { result ≡ (told self.now).slot_samples format slot }
+    {
+        let samples = &self.places(format).samples;
+        samples.get(slot).copied().unwrap_or(0)
+    }
+
+    /// The first step, counted from 1, at which as many images of the format are live as it has
+    /// slots. `None` where it has none.
+    pub fn peak_step(&self, format: Format) -> Option<usize>
+        ensures { result ≡ (told self.now).peak_step format }
+    {
+        self.places(format).peak_step
+    }
+}
+
+/// The images of a format that a verified graph writes, each in a slot.
+fn places_of(alloc: Global, verified: &Verified, format: Format) -> Result<Places, AllocError>
+    ensures { IfOk result (λ places. IsPlacedFor verified.now.steps.items verified.now.virtual_outputs.items format places) }
+{
+    let lives = lives_of(alloc, &verified.steps, &verified.virtual_outputs, format)?;
+    place(alloc, &lives)
+}

@@ -1,0 +1,111 @@
+//! The images of one format, each in a slot.
+ghost use Rattle.std.specs.Prelude.{◌≡◌, ℕ, ◌<◌, List, length, map, position, nat_lt, IfOk, Some, if◌then◌else◌, slice_index};
+ghost use Rattle.std.specs.List.{filter};
+ghost use Rattle.vx_base.specs.Cell.{Cell};
+ghost use Rattle.graph_verify.specs.Members.{In};
+ghost use Rattle.buffer_plan.specs.declared.slots.Placed.{Placed as PlacedLife};
+ghost use Rattle.buffer_plan.specs.Placed.{TakesSlot, ArePlaced, slot_among, samples_in};
+
+use crate::lives::Life;
+use std::alloc::{AllocError, Global};
+use vx_base::ObjRef;
+
+/// An image with its life, and its slot.
+#[derive(Clone, Copy)]
+pub struct Placed {
+    pub life: Life,
+    pub slot: usize,
+}
+
+/// The images of one format, each in a slot.
+#[derive(Drop)]
+pub struct Places {
+    /// In the order of writing.
+    pub placed: Vec<Placed>,
+    /// The greatest sample count of the images of each slot.
+    pub samples: Vec<usize>,
+    /// The first step at which as many images are live as there are slots.
+    pub peak_step: Option<usize>,
+}
+
+impl Places {
+    /// The slot of an image.
+    pub fn slot_of(&self, cell: ObjRef) -> Option<usize>
+        ensures { result ≡ slot_among self.now.placed.items cell }
+    {
+        self.placed
+            .iter()
+            .find(|placed| placed.life.image.cell == cell)
+            .map(|placed| placed.slot)
+    }
+}
+
+/// The first slot whose images are live no longer, by the last steps at which those of each slot
+/// are.
+fn free_slot(ends: &[usize], first: usize) -> Option<usize>
+    ensures { result ≡ position (λ end. nat_lt end first) ends.now }
+{
+    ends.iter().position(|end| *end < first)
+}
+
+/// Takes a slot for an image: one that is free again, else a new one.
+fn take_slot(ends: &mut Vec<usize>, life: &Life) -> Result<usize, AllocError>
+    ensures { IfOk result (λ slot. TakesSlot life.now ends.old.items ends.new.items slot) }
+{
+    if let Some(slot) = free_slot(ends, life.first) {
+        ends[slot] = life.last;
+        return Ok(slot);
+    }
+    ends.push(life.last)?;
+    Ok(ends.len() - 1)
+}
+
+/// The greatest sample count of the images of each slot.
+fn greatest_samples(
+    alloc: Global,
+    placed: &[Placed],
+    count: usize,
+) -> Result<Vec<usize>, AllocError>
+    requires { (p : PlacedLife) → In p placed.now → p.slot < count }
+    ensures count { IfOk result (λ samples. length samples.items ≡ count) }
+    ensures greatest { IfOk result (λ samples. (k : ℕ) → slice_index samples.items k ≡ samples_in placed.now k) }
+{
+    let mut samples = vec![in alloc; 0; count]?;
+    for placed in placed {
+        let more = placed.life.image.desc.sample_count();
+        let slot = placed.slot;
+        if samples[slot] < more {
+            samples[slot] = more;
+        }
+    }
+    Ok(samples)
+}
+
+/// The first step at which as many images are live as there are slots, once one more has a slot.
+fn peak_after(before: Option<usize>, life: &Life, is_new: bool) -> Option<usize>
+    ensures { result ≡ (if is_new then Some life.now.first else before) }
+{
+    if is_new { Some(life.first) } else { before }
+}
+
+/// Gives each image, in the order of writing, a slot: the first that is free, so that as few are
+/// taken as can be.
+pub fn place(alloc: Global, lives: &[Life]) -> Result<Places, AllocError>
+    ensures { IfOk result (λ places. ArePlaced lives.now places) }
+{
+    let mut ends = Vec::new(alloc);
+    let mut placed = Vec::new(alloc);
+    let mut peak_step = None;
+    for life in lives {
+        let count = ends.len();
+        let slot = take_slot(&mut ends, life)?;
+        peak_step = peak_after(peak_step, life, slot == count);
+        placed.push(Placed { life: *life, slot })?;
+    }
+    let samples = greatest_samples(alloc, &placed, ends.len())?;
+    Ok(Places {
+        placed,
+        samples,
+        peak_step,
+    })
+}
