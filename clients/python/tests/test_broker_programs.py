@@ -26,6 +26,8 @@ from documents import programs_in
 from feqyldan import wire
 import feqyldan as vx
 
+# Seconds for which the broker waits for the rest of a frame, and for a byte of replies to be taken.
+PATIENCE = 4.0
 BAD_LENGTHS = (0, 1, 2, 134_217_729, 4_294_967_295)
 OPENED = wire.reply_frame(CLIENT, wire.OPEN_CONTEXT)
 # The answer to one that comes while too many of its process's connections are being released.
@@ -100,18 +102,42 @@ def takes_no_replies(path: str, _: int, is_over: "multiprocessing.Event") -> Non
         is_first = False
 
 
-def floods(path: str, _: int, is_over: "multiprocessing.Event") -> None:
-    """Sends as fast as it can, and takes its replies."""
-    with Program(path) as program:
-        program.send(wire.open_context(CLIENT) + wire.create_image(CLIENT, wire.U8, 8, 8))
-        waiting = b""
-        while not is_over.is_set():
-            waiting = waiting or wire.bitwise_not(CLIENT, 1, 1) * 1000
-            readable, writable, _ = select.select([program.sock], [program.sock], [], 0.1)
+def flood(program: Program, is_over: "multiprocessing.Event") -> float:
+    """Sends as fast as it can and takes its replies, until it is over or the broker ends it; the
+    longest time in which it took none."""
+    waiting, longest, took_at = b"", 0.0, time.monotonic()
+    while not is_over.is_set():
+        waiting = waiting or wire.bitwise_not(CLIENT, 1, 1) * 1000
+        readable, writable, _ = select.select([program.sock], [program.sock], [], 0.1)
+        try:
             if writable:
                 waiting = waiting[program.sock.send(waiting) :]
-            if readable and not program.sock.recv(65536):
-                raise AssertionError("a flood was ended")
+            has_ended = bool(readable) and not program.sock.recv(65536)
+        except (BrokenPipeError, ConnectionResetError):
+            has_ended = True
+        now = time.monotonic()
+        longest = max(longest, now - took_at)
+        if has_ended:
+            break
+        took_at = now if readable else took_at
+    return longest
+
+
+def floods(path: str, _: int, is_over: "multiprocessing.Event") -> None:
+    """A flood is ended by the broker's patience alone, where the machine left it no time to take
+    its replies; then it comes again."""
+    while not is_over.is_set():
+        with Program(path) as program:
+            program.send(wire.open_context(CLIENT))
+            reply = program.reply()
+            if reply == TURNED_AWAY:
+                continue
+            if reply != OPENED:
+                raise AssertionError(f"a flood begins with {reply.hex(' ')}")
+            program.send(wire.create_image(CLIENT, wire.U8, 8, 8))
+            longest = flood(program, is_over)
+        if not is_over.is_set() and longest < PATIENCE / 2:
+            raise AssertionError(f"a flood was ended that took replies every {longest:.2f} s")
 
 
 def comes_and_goes(path: str, _: int, is_over: "multiprocessing.Event") -> None:
@@ -164,8 +190,8 @@ class ManyPrograms(BrokerTest):
 
     def serve_all(self, servers: str) -> None:
         # So many that no process can take another's: 36 of one connection, and 14 of at most 4.
-        options = ("--patience", "1", "--connections", "100", "--per-process", "4", "--servers",
-                   servers)
+        options = ("--patience", str(PATIENCE), "--connections", "100", "--per-process", "4",
+                   "--servers", servers)
         broker = self.begin(*options, command=[str(PROGRAM), "serve"])
         processes = multiprocessing.get_context("fork")
         is_over = processes.Event()

@@ -24,7 +24,12 @@ impl Model for RowWindow {
 
     ghost Value = { RowWindowValue };
 
-    ghost view = { λ w. record { width = w.width; radius = w.radius; samples = map pos w.samples.items } };
+    ghost view = { λ w. record {
+      width = w.width;
+      radius = w.radius;
+      samples = map pos
+          w.samples.items;
+    } };
 
     ghost invariant = { λ w. length w.samples.items ≡ w.width + 2 * w.radius };
 }
@@ -34,7 +39,8 @@ impl RowWindow {
     pub fn new(alloc: Global, width: u16, radius: u16) -> Result<RowWindow, AllocError>
         ensures width { IfOk result (λ made. made.width ≡ width) }
         ensures radius { IfOk result (λ made. made.radius ≡ radius) }
-        ensures samples { IfOk result (λ made. made.samples ≡ replicate (width + 2 * radius) (pos 0)) }
+        ensures samples { IfOk result (λ made. made.samples
+            ≡ replicate (width + 2 * radius) (pos 0)) }
     {
         let count = usize::from(width) + 2 * usize::from(radius);
         Ok(RowWindow {
@@ -52,7 +58,9 @@ impl RowWindow {
         requires rows { image.now.valid.y0 < image.now.valid.y1 }
         ensures width { self.new.width ≡ self.old.width }
         ensures radius { self.new.radius ≡ self.old.radius }
-        ensures samples { self.new.samples ≡ run 0 (self.old.width + 2 * self.old.radius) (λ i. look image.now border (pos i -ℤ pos self.old.radius) y) }
+        ensures samples { self.new.samples
+            ≡ run 0 (self.old.width + 2 * self.old.radius)
+            (λ i. look image.now border (pos i -ℤ pos self.old.radius) y) }
     {
         let samples = self.samples.as_mut_slice();
         load_row(image, 0, self.radius, y, border, samples);

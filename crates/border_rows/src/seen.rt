@@ -1,5 +1,6 @@
 //! Rows with what counts beside them.
-ghost use Rattle.std.specs.Prelude.{◌≡◌, ◌+◌, ◌-◌, ◌<◌, ◌≤◌, ◌++◌, pos, ◌-ℤ◌, IfSome, length, map, replicate};
+ghost use Rattle.std.specs.Prelude.{◌≡◌, ◌+◌, ◌-◌, ◌<◌, ◌≤◌, ◌++◌, pos, ◌-ℤ◌, IfSome, length, map};
+ghost use Rattle.std.specs.Prelude.{replicate};
 ghost use Rattle.vx_base.specs.declared.format.Format.TheVariants.{U8};
 ghost use Rattle.vx_base.specs.Image.{run, at};
 ghost use Rattle.vx_base.specs.Window.{look};
@@ -39,7 +40,8 @@ fn row_seen(valid: Rect, border: Border, y: i32) -> Option<u16>
 /// Writes a row's samples, after so many times one sample and before another.
 fn write_between(left: u8, before: usize, samples: &[u8], right: u8, out: &mut [u8])
     requires { before + length samples.now ≤ length out.old }
-    ensures { out.new ≡ replicate before left ++ (samples.now ++ replicate (length out.old - (before + length samples.now)) right) }
+    ensures { out.new ≡ replicate before left
+        ++ (samples.now ++ replicate (length out.old - (before + length samples.now)) right) }
 {
     let (front, others) = out.split_at_mut(before);
     let (middle, back) = others.split_at_mut(samples.len());
@@ -53,7 +55,8 @@ fn load_line(image: &Image<'_>, start: u16, radius: u16, line: u16, border: Bord
     requires format { image.now.format ≡ U8 }
     requires columns { image.now.valid.x0 < image.now.valid.x1 }
     requires line { line < image.now.valid.y1 }
-    ensures { map pos out.new ≡ run start (length out.old) (λ c. seen_along image.now border line (pos c -ℤ pos radius)) }
+    ensures { map pos out.new ≡ run start (length out.old)
+        (λ c. seen_along image.now border line (pos c -ℤ pos radius)) }
 {
     let valid = image.valid();
     let row = image.row::<u8>(line);
@@ -76,7 +79,8 @@ pub fn load_row(image: &Image<'_>, start: u16, radius: u16, y: i32, border: Bord
     requires format { image.now.format ≡ U8 }
     requires columns { image.now.valid.x0 < image.now.valid.x1 }
     requires rows { image.now.valid.y0 < image.now.valid.y1 }
-    ensures { map pos out.new ≡ run start (length out.old) (λ c. look image.now border (pos c -ℤ pos radius) y) }
+    ensures { map pos out.new ≡ run start (length out.old)
+        (λ c. look image.now border (pos c -ℤ pos radius) y) }
 {
     match row_seen(image.valid(), border, y) {
         Some(line) => load_line(image, start, radius, line, border, out),
@@ -97,7 +101,8 @@ pub fn row_in_place<'a>(
     requires format { image.now.format ≡ U8 }
     requires rows { image.now.valid.y0 < image.now.valid.y1 }
     requires columns { (image.now.valid.x0 ≤ x) × (x + count ≤ image.now.valid.x1) }
-    requires off_rows { map pos off_rows.now ≡ replicate (length off_rows.now) (value_beside border (pos 0)) }
+    requires off_rows { map pos off_rows.now
+        ≡ replicate (length off_rows.now) (value_beside border (pos 0)) }
     requires room { count ≤ length off_rows.now }
     ensures value { map pos result.now ≡ run x count (λ c. look image.now border (pos c) y) }
     ensures len { length result.now ≡ count }

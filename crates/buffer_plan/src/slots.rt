@@ -1,5 +1,6 @@
 //! The images of one format, each in a slot.
-ghost use Rattle.std.specs.Prelude.{◌≡◌, ℕ, ◌<◌, List, length, map, position, nat_lt, IfOk, Some, if◌then◌else◌, slice_index};
+ghost use Rattle.std.specs.Prelude.{◌≡◌, ℕ, ◌<◌, List, length, map, position, nat_lt, IfOk, Some};
+ghost use Rattle.std.specs.Prelude.{if◌then◌else◌, slice_index};
 ghost use Rattle.std.specs.List.{filter};
 ghost use Rattle.vx_base.specs.Cell.{Cell};
 ghost use Rattle.graph_verify.specs.Members.{In};
@@ -68,7 +69,8 @@ fn greatest_samples(
 ) -> Result<Vec<usize>, AllocError>
     requires { (p : PlacedLife) → In p placed.now → p.slot < count }
     ensures count { IfOk result (λ samples. length samples.items ≡ count) }
-    ensures greatest { IfOk result (λ samples. (k : ℕ) → slice_index samples.items k ≡ samples_in placed.now k) }
+    ensures greatest { IfOk result (λ samples. (k : ℕ) →
+        slice_index samples.items k ≡ samples_in placed.now k) }
 {
     let mut samples = vec![in alloc; 0; count]?;
     for placed in placed {

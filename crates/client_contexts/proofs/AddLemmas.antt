@@ -7,7 +7,7 @@ use Rattle.vx_base.specs.declared.format.Format.TheVariants.{U8}
 use Rattle.vx_base.specs.declared.kind.Kind.{Kind}
 use Rattle.vx_base.specs.declared.kind.Kind.TheVariants as kind
 use Rattle.vx_base.specs.declared.node.Node.{Node}
-use Rattle.vx_base.specs.Cell.{Cell}
+use Rattle.vx_base.specs.Cell.{Cell, cell_of}
 use Rattle.vx_base.specs.Graph.{GraphValue, can_add, with_node}
 use Rattle.vx_base.specs.Image.{new_image}
 use Rattle.vx_base.specs.Node.{operands, given, inputs, outputs}
@@ -15,7 +15,7 @@ use Rattle.vx_base.specs.Object.{ObjectValue, ImageObject, GraphObject, object_k
 use Rattle.graph_verify.specs.declared.fault.GraphFault.{GraphFault}
 use Rattle.graph_verify.specs.declared.fault.GraphFault.TheVariants as graph_fault
 use Rattle.graph_run.proofs.FoundLemmas.{OfOperands, of_operands}
-use Rattle.object_table.specs.Context.{Context, object_named, cell_of, with_objects, with_graph}
+use Rattle.object_table.specs.Context.{Context, object_named, with_objects, with_graph}
 use Rattle.object_table.specs.Delay.{in_slot}
 use Rattle.object_table.specs.Named.{Named, object_held, held}
 use Rattle.object_table.specs.Object.{graph_value}

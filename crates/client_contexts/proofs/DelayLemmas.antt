@@ -5,7 +5,8 @@ use Rattle.vx_base.specs.declared.format.Format.TheVariants.{U8}
 use Rattle.vx_base.specs.declared.kind.Kind.TheVariants as kind
 use Rattle.vx_base.specs.Image.{new_image}
 use Rattle.vx_base.specs.Object.{ObjectValue, ImageObject, DelayObject}
-use Rattle.object_table.specs.Context.{Context, cell_of, with_objects}
+use Rattle.vx_base.specs.Cell.{cell_of}
+use Rattle.object_table.specs.Context.{Context, with_objects}
 use Rattle.object_table.specs.Named.{with_object}
 use Rattle.object_table.specs.Object.{aged_object}
 use Rattle.object_table.specs.Table.{object_under}

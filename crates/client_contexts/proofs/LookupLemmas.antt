@@ -28,7 +28,7 @@ use Rattle.graph_verify.specs.Operand.{operand_of}
 use Rattle.graph_run.specs.Operands.{operand_held}
 use Rattle.client_model.specs.declared.refusal.Refusal.{Refusal}
 use Rattle.client_model.specs.declared.refusal.Refusal.TheVariants.{InvalidReference, InvalidType, InvalidScope, InvalidValue, OptimizedAway}
-use Rattle.client_model.specs.Operands.{is_unknown, is_empty, is_beyond, kind_of, is_kind, stands_for, is_of_other_kind, operands_refusal, as_image, image_of}
+use Rattle.client_model.specs.Operands.{is_unknown, holds_nothing, is_beyond, kind_of, is_kind, stands_for, is_of_other_kind, operands_refusal, as_image, image_of}
 use Rattle.client_contexts.specs.Lookup.{Found, IsNamed, IsImageOf, IsFound}
 use Rattle.client_contexts.specs.Steps.{name_refusal, is_outside, slot_refusal, first_class}
 
@@ -83,7 +83,7 @@ module _ (scope : Option ℕ) (objects : List Named) (cell : Cell) (wanted : Kin
       (is_outside scope (option_and_then (in_slot cell.slot) found) || false) (is_none (option_and_then (in_slot cell.slot) found) || false)
 
   refusal_by_name : operands_refusal scope objects ((cell, wanted) ∷ []) ≡ refusal_of (object_named objects cell.name) (object_held objects cell.name)
-  refusal_by_name = ap (λ b. classed (is_unknown objects cell || false) (is_of_other_kind objects (cell, wanted) || false) (b || false) (is_empty objects cell || false)) (beyond_is scope objects cell)
+  refusal_by_name = ap (λ b. classed (is_unknown objects cell || false) (is_of_other_kind objects (cell, wanted) || false) (b || false) (holds_nothing objects cell || false)) (beyond_is scope objects cell)
 
   -- an operand whose name no object has
   pub refused_unknown : object_named objects cell.name ≡ None → operands_refusal scope objects ((cell, wanted) ∷ []) ≡ Some InvalidReference
@@ -135,7 +135,7 @@ refusal-append scope objects xs ys =
     let p : Cell × Kind → Bool = λ operand. is_unknown objects operand.0 in
     let q : Cell × Kind → Bool = is_of_other_kind objects in
     let r : Cell × Kind → Bool = λ operand. is_beyond scope objects operand.0 in
-    let s : Cell × Kind → Bool = λ operand. is_empty objects operand.0 in
+    let s : Cell × Kind → Bool = λ operand. holds_nothing objects operand.0 in
     classes (list_any p xs) (list_any q xs) (list_any r xs) (list_any s xs) (list_any p ys) (list_any q ys) (list_any r ys) (list_any s ys)
     ∙ ap (λ b. classed b (list_any q xs || list_any q ys) (list_any r xs || list_any r ys) (list_any s xs || list_any s ys)) (sym (list_any-append p xs ys))
     ∙ ap (λ b. classed (list_any p (xs ++ ys)) b (list_any r xs || list_any r ys) (list_any s xs || list_any s ys)) (sym (list_any-append q xs ys))

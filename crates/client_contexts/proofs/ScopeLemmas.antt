@@ -7,12 +7,12 @@ use Rattle.vx_base.specs.declared.kind.Kind.{Kind}
 use Rattle.vx_base.specs.declared.kind.Kind.TheVariants as kind
 use Rattle.vx_base.specs.declared.function.Parameters.{Parameters}
 use Rattle.vx_base.specs.declared.node.Node.{Node}
-use Rattle.vx_base.specs.Cell.{Cell}
+use Rattle.vx_base.specs.Cell.{Cell, cell_of}
 use Rattle.vx_base.specs.Function.{parameters}
 use Rattle.vx_base.specs.Node.{operands, second_kind, with_kind}
 use Rattle.vx_base.specs.Object.{ObjectValue, object_kind, same_kind}
 use Rattle.vx_base.proofs.NodeLaws.{same_kind_equal}
-use Rattle.object_table.specs.Context.{object_named, cell_of}
+use Rattle.object_table.specs.Context.{object_named}
 use Rattle.object_table.specs.Delay.{in_slot}
 use Rattle.object_table.specs.Named.{Named, object_held}
 use Rattle.object_table.specs.Table.{IsUnder}

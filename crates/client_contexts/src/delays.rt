@@ -17,7 +17,8 @@ pub fn create_delay(
     exemplar: ObjRef,
     slots: SlotCount,
 ) -> Result<Reply, RequestFault>
-    ensures comes { MayComeTo (create_delay limits table.old exemplar slots) table.old table.new result }
+    ensures comes { MayComeTo (create_delay limits table.old exemplar slots)
+        table.old table.new result }
     ensures kept { KeepsLimits limits table.old → KeepsLimits limits table.new }
 {
     let desc = find_image(table, exemplar)?.desc();

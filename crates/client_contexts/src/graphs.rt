@@ -2,7 +2,8 @@
 //! and running them.
 ghost use Rattle.vx_base.specs.Graph.{new_graph};
 ghost use Rattle.vx_base.specs.Object.{GraphObject};
-ghost use Rattle.client_model.specs.Graphs.{create_virtual_image, add_node, remove_node, verify_graph, process_graph};
+ghost use Rattle.client_model.specs.Graphs.{create_virtual_image, add_node, remove_node};
+ghost use Rattle.client_model.specs.Graphs.{verify_graph, process_graph};
 ghost use Rattle.client_model.specs.Images.{create};
 ghost use Rattle.client_model.specs.States.{KeepsLimits};
 ghost use Rattle.client_contexts.specs.Steps.{ComesTo, MayComeTo, IsContext, Keeps};
@@ -19,7 +20,8 @@ use vx_base::{Kind, NodeSpec, Outline, VirtualImage};
 
 /// Creates a graph without nodes.
 pub fn create_graph(table: &mut Table, limits: Limits) -> Result<Reply, RequestFault>
-    ensures comes { MayComeTo (create limits table.old (GraphObject new_graph)) table.old table.new result }
+    ensures comes { MayComeTo (create limits table.old (GraphObject new_graph))
+        table.old table.new result }
     ensures kept { KeepsLimits limits table.old → KeepsLimits limits table.new }
 {
     look_for_room(table, limits, 0)?;
@@ -35,7 +37,8 @@ pub fn create_virtual_image(
     graph: u32,
     declared: Outline,
 ) -> Result<Reply, RequestFault>
-    ensures comes { MayComeTo (create_virtual_image limits table.old graph declared) table.old table.new result }
+    ensures comes { MayComeTo (create_virtual_image limits table.old graph declared)
+        table.old table.new result }
     ensures kept { KeepsLimits limits table.old → KeepsLimits limits table.new }
 {
     find_named(table, graph, Kind::Graph)?;

@@ -1,7 +1,9 @@
 //! Requests on images: creating and querying them, writing and reading their samples, also as PGM
 //! texts, and making a part of them valid.
 ghost use Rattle.std.specs.Prelude.{◌≡◌};
-ghost use Rattle.client_model.specs.Images.{create_image, described, described_virtual, query_image, write_image, write_text, read_image, read_text, set_valid, picture_refusal, valid_refusal};
+ghost use Rattle.client_model.specs.Images.{create_image, described, described_virtual};
+ghost use Rattle.client_model.specs.Images.{query_image, write_image, write_text, read_image};
+ghost use Rattle.client_model.specs.Images.{read_text, set_valid, picture_refusal, valid_refusal};
 ghost use Rattle.client_model.specs.States.{KeepsLimits};
 ghost use Rattle.client_contexts.specs.Steps.{ComesTo, MayComeTo, IsContext, Keeps};
 
@@ -80,7 +82,8 @@ pub fn write_image(
     picture: &Picture,
 ) -> Result<Reply, Refusal>
     requires { IsContext table.old }
-    ensures comes { ComesTo (write_image table.old reference picture.now) table.old table.new result }
+    ensures comes { ComesTo (write_image table.old reference picture.now)
+        table.old table.new result }
     ensures kept { Keeps table.old table.new }
 {
     let image = find_image(table, reference)?;

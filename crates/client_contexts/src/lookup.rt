@@ -1,11 +1,13 @@
 //! The objects that references and the operands of nodes name.
-ghost use Rattle.std.specs.Prelude.{◌≡◌, ◌∷◌, [], is_some, Some, Ok, Err, IsTrue, All, IfOk, IfErr, OnOk};
+ghost use Rattle.std.specs.Prelude.{◌≡◌, ◌∷◌, [], is_some, Some, Ok, Err, IsTrue, All, IfOk, IfErr};
+ghost use Rattle.std.specs.Prelude.{OnOk};
 ghost use Rattle.std.specs.List.{list_any};
 ghost use Rattle.std.specs.Option.{option_map};
 ghost use Rattle.vx_base.specs.declared.kind.Kind.TheVariants as kind;
 ghost use Rattle.vx_base.specs.Node.{operands, with_kind};
 ghost use Rattle.vx_base.specs.Object.{same_kind};
-ghost use Rattle.object_table.specs.Context.{object_named, cell_of};
+ghost use Rattle.vx_base.specs.Cell.{cell_of};
+ghost use Rattle.object_table.specs.Context.{object_named};
 ghost use Rattle.object_table.specs.Delay.{in_slot};
 ghost use Rattle.object_table.specs.Table.{IsUnder};
 ghost use Rattle.graph_verify.specs.Operand.{operands_of, is_virtual};
@@ -13,7 +15,8 @@ ghost use Rattle.graph_run.specs.Operands.{operand_held};
 ghost use Rattle.client_model.specs.Operands.{is_kind, operands_refusal, image_of};
 ghost use Rattle.client_model.specs.States.{stands};
 ghost use Rattle.client_contexts.specs.Lookup.{Found, IsNamed, IsImageOf, IsFound};
-ghost use Rattle.client_contexts.specs.Steps.{refusal_in, name_refusal, is_outside, slot_refusal, first_class, all_operands};
+ghost use Rattle.client_contexts.specs.Steps.{refusal_in, name_refusal, is_outside, slot_refusal};
+ghost use Rattle.client_contexts.specs.Steps.{first_class, all_operands};
 
 use client_model::Refusal;
 use graph_run::operand_in;
@@ -71,7 +74,8 @@ fn slot_refusal(
 }
 
 /// The object that has the name of a reference, in which its slot is there, and of what kind that
-/// is wanted; or why there is none. Within the scope of a graph a virtual image is one of that graph.
+/// is wanted; or why there is none. Within the scope of a graph a virtual image is one of that
+/// graph.
 pub fn find(
     table: &Table,
     reference: ObjRef,
@@ -79,7 +83,8 @@ pub fn find(
     scope: Option<u32>,
 ) -> Result<&Object, Refusal>
     ensures ok { IfOk result (λ object. Found table.now.objects reference kind object.now) }
-    ensures err { refusal_in result ≡ operands_refusal scope table.now.objects ((reference, kind) ∷ []) }
+    ensures err { refusal_in result ≡ operands_refusal scope table.now.objects
+        ((reference, kind) ∷ []) }
 {
     let Ok(object) = table.get(reference.name()) else {
         return Err(Refusal::InvalidReference);
@@ -143,9 +148,11 @@ fn find_if_given(
     kind: Kind,
     scope: Option<u32>,
 ) -> Result<Option<Operand>, Refusal>
-    ensures ok { IfOk result (λ operand. operand ≡ option_map (operand_held table.now.objects) cell) }
+    ensures ok { IfOk result (λ operand. operand
+        ≡ option_map (operand_held table.now.objects) cell) }
     ensures found { OnOk result (All (IsFound table.now.objects) (with_kind kind cell)) }
-    ensures err { refusal_in result ≡ operands_refusal scope table.now.objects (with_kind kind cell) }
+    ensures err { refusal_in result ≡ operands_refusal scope table.now.objects
+        (with_kind kind cell) }
 {
     match cell {
         None => Ok(None),
@@ -186,7 +193,8 @@ fn both<A: Drop, B: Drop>(
 /// What the cells of a node hold, each of the kind that the node's function has there. The scope is
 /// that of the node's graph, if it has one.
 pub fn find_operands(table: &Table, node: &Node, scope: Option<u32>) -> Result<Operands, Refusal>
-    ensures ok { IfOk result (λ found. found ≡ operands_of (operand_held table.now.objects) node.now) }
+    ensures ok { IfOk result (λ found. found
+        ≡ operands_of (operand_held table.now.objects) node.now) }
     ensures found { OnOk result (All (IsFound table.now.objects) (operands node.now)) }
     ensures err { refusal_in result ≡ operands_refusal scope table.now.objects (operands node.now) }
 {
@@ -208,9 +216,12 @@ pub fn find_operands(table: &Table, node: &Node, scope: Option<u32>) -> Result<O
 /// Whether the graph with a name can be given a node with these operands: each of them is found in
 /// the graph's scope. Else the refusal of the graph's name and the operands.
 pub fn find_graph_for(table: &Table, graph: u32, node: &Node) -> Result<(), Refusal>
-    ensures ok { OnOk result (IsTrue (is_some (object_named table.now.objects graph)) × IsUnder table.now.objects kind.Graph graph) }
-    ensures operands { OnOk result (All (λ operand. IsTrue (stands table.now.objects graph operand)) (operands node.now)) }
-    ensures err { refusal_in result ≡ operands_refusal (Some graph) table.now.objects ((cell_of graph, kind.Graph) ∷ operands node.now) }
+    ensures ok { OnOk result (IsTrue (is_some (object_named table.now.objects graph)) ×
+        IsUnder table.now.objects kind.Graph graph) }
+    ensures operands { OnOk result (All (λ operand. IsTrue (stands table.now.objects graph operand))
+        (operands node.now)) }
+    ensures err { refusal_in result ≡ operands_refusal (Some graph) table.now.objects
+        ((cell_of graph, kind.Graph) ∷ operands node.now) }
 {
     let found = find_operand(table, ObjRef::new(graph, None), Kind::Graph, Some(graph));
     let operands = find_operands(table, node, Some(graph));

@@ -7,6 +7,8 @@ ghost use Rattle.client_model.specs.Context.{has_room};
 ghost use Rattle.client_model.specs.Images.{create};
 ghost use Rattle.client_model.specs.States.{KeepsLimits};
 ghost use Rattle.client_contexts.specs.Steps.{MayComeTo};
+ghost use Rattle.vx_base.specs.declared.desc.TheConstants.{GREATEST_BYTES};
+ghost use Rattle.vx_base.specs.declared.slots.TheConstants.{GREATEST_SLOTS};
 
 use crate::fault::RequestFault;
 use client_model::{Limits, Refusal, Reply};
@@ -15,7 +17,7 @@ use object_table::{Object, Table};
 /// Room for an object that is charged so many bytes, at most those of 16 of the largest images.
 /// `NoResources` unless a name is left, fewer than 1,024 objects are held, and the quota allows it.
 pub fn look_for_room(table: &Table, limits: Limits, bytes: usize) -> Result<(), Refusal>
-    requires { bytes ≤ 16 * 67108864 }
+    requires { bytes ≤ GREATEST_SLOTS * GREATEST_BYTES }
     ensures { result ≡ (if has_room limits table.now bytes then Ok tt else Err NoResources) }
 {
     let charge = table.charged_bytes() + bytes as u64;

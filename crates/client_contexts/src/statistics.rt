@@ -1,5 +1,6 @@
 //! Requests on what is found in images: creating and reading distributions and extremes.
-ghost use Rattle.vx_base.specs.Object.{DistributionObject, ExtremesObject, new_distribution, no_extremes};
+ghost use Rattle.vx_base.specs.Object.{DistributionObject, ExtremesObject, new_distribution};
+ghost use Rattle.vx_base.specs.Object.{no_extremes};
 ghost use Rattle.client_model.specs.Images.{create};
 ghost use Rattle.client_model.specs.Statistics.{read_distribution, read_min_max};
 ghost use Rattle.client_model.specs.States.{KeepsLimits};
@@ -19,7 +20,8 @@ pub fn create_distribution(
     limits: Limits,
     bins: Bins,
 ) -> Result<Reply, RequestFault>
-    ensures comes { MayComeTo (create limits table.old (DistributionObject (new_distribution bins))) table.old table.new result }
+    ensures comes { MayComeTo (create limits table.old (DistributionObject (new_distribution bins)))
+        table.old table.new result }
     ensures kept { KeepsLimits limits table.old → KeepsLimits limits table.new }
 {
     look_for_room(table, limits, 0)?;
@@ -47,7 +49,8 @@ pub fn read_distribution(table: &Table, alloc: Global, name: u32) -> Result<Repl
 
 /// Creates extremes that were found nowhere.
 pub fn create_min_max(table: &mut Table, limits: Limits) -> Result<Reply, RequestFault>
-    ensures comes { MayComeTo (create limits table.old (ExtremesObject no_extremes)) table.old table.new result }
+    ensures comes { MayComeTo (create limits table.old (ExtremesObject no_extremes))
+        table.old table.new result }
     ensures kept { KeepsLimits limits table.old → KeepsLimits limits table.new }
 {
     look_for_room(table, limits, 0)?;

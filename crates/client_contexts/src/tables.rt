@@ -13,7 +13,8 @@ use vx_base::{Convolution, Lut, ThresholdRule};
 
 /// Creates a lookup table like this one.
 pub fn create_lut(table: &mut Table, limits: Limits, lut: &Lut) -> Result<Reply, RequestFault>
-    ensures comes { MayComeTo (create limits table.old (LutObject lut.now)) table.old table.new result }
+    ensures comes { MayComeTo (create limits table.old (LutObject lut.now))
+        table.old table.new result }
     ensures kept { KeepsLimits limits table.old → KeepsLimits limits table.new }
 {
     look_for_room(table, limits, 0)?;
@@ -27,7 +28,8 @@ pub fn create_threshold(
     limits: Limits,
     threshold: ThresholdRule,
 ) -> Result<Reply, RequestFault>
-    ensures comes { MayComeTo (create limits table.old (ThresholdObject threshold)) table.old table.new result }
+    ensures comes { MayComeTo (create limits table.old (ThresholdObject threshold))
+        table.old table.new result }
     ensures kept { KeepsLimits limits table.old → KeepsLimits limits table.new }
 {
     look_for_room(table, limits, 0)?;
@@ -41,7 +43,8 @@ pub fn create_convolution(
     limits: Limits,
     convolution: &Convolution,
 ) -> Result<Reply, RequestFault>
-    ensures comes { MayComeTo (create limits table.old (ConvolutionObject convolution.now)) table.old table.new result }
+    ensures comes { MayComeTo (create limits table.old (ConvolutionObject convolution.now))
+        table.old table.new result }
     ensures kept { KeepsLimits limits table.old → KeepsLimits limits table.new }
 {
     look_for_room(table, limits, 0)?;

@@ -6,7 +6,7 @@ use Rattle.vx_base.specs.declared.code.Code.{Code}
 use Rattle.vx_base.specs.declared.code.Code.TheVariants.{Success, NoMemory}
 use Rattle.vx_base.specs.declared.kind.Kind.TheVariants as kind
 use Rattle.vx_base.specs.declared.node.Node.{Node}
-use Rattle.vx_base.specs.Cell.{Cell}
+use Rattle.vx_base.specs.Cell.{Cell, cell_of}
 use Rattle.vx_base.specs.Graph.{GraphValue, new_graph, can_add, with_node, has_node, without_node}
 use Rattle.vx_base.specs.Image.{ImageValue, description_of, new_image}
 use Rattle.vx_base.specs.Node.{operands}
@@ -14,7 +14,7 @@ use Rattle.vx_base.specs.Object.{ObjectValue, ImageObject, LutObject, ThresholdO
 use Rattle.vx_base.specs.Outline.{Outline}
 use Rattle.vx_base.specs.Picture.{PictureValue}
 use Rattle.object_table.specs.Delay.{new_delay}
-use Rattle.object_table.specs.Context.{Context, object_named, with_objects, with_new, cell_of, with_graph}
+use Rattle.object_table.specs.Context.{Context, object_named, with_objects, with_new, with_graph}
 use Rattle.object_table.specs.Holds.{still_held, unnamed}
 use Rattle.graph_verify.specs.declared.verdict.Verdict.TheVariants.{MultipleWriters}
 use Rattle.client_model.specs.declared.request.Request.{Request}

@@ -14,7 +14,7 @@ use Rattle.object_table.specs.Skeleton.{skeleton}
 use Rattle.object_table.proofs.HeldLemmas.{names_of}
 use Rattle.object_table.proofs.SkeletonLaws.{option_map-told}
 use Rattle.graph_verify.specs.Operand.{operand_of}
-use Rattle.graph_run.specs.Graph.{rounds}
+use Rattle.graph_run.specs.Graph.{rounds_of_nodes}
 use Rattle.graph_run.specs.Lasting.{lasting_named, Lasts}
 use Rattle.graph_run.proofs.CellLemmas.{IsReplacement, Lasts-with_written}
 use Rattle.graph_run.proofs.LastingLemmas.{skeletons-last, cell-lasts, Lasts-trans, Lasts-names}
@@ -34,10 +34,10 @@ All-flat_map P f (x ∷ xs) h = All-append P (f x) (flat_map f xs) (All-head (λ
 
 -- rounds of nodes that can run leave objects of which as much lasts
 pub rounds_last : (nodes : List Node) (k : ℕ) (objects : List Named) → All (λ o. IsObject o.object) objects → IsStrictlyIncreasing (names_of objects) → All (CanRunOn (operand_in objects)) nodes
-    → Lasts objects (rounds nodes k objects)
+    → Lasts objects (rounds_of_nodes nodes k objects)
 rounds_last nodes zero objects is names can = record { objects = is; lasting = refl }
 rounds_last nodes (suc k) objects is names can =
-    let before : List Named = rounds nodes k objects in
+    let before : List Named = rounds_of_nodes nodes k objects in
     let kept = rounds_last nodes k objects is names can in
     let still : All (CanRunOn (operand_in before)) nodes = subst (λ look. All (CanRunOn look) nodes) (sym (fun_ext (operand_alike objects before kept.lasting))) can in
     let written = flat_map (λ n. written_by n (held before)) nodes in

@@ -29,7 +29,7 @@ use Rattle.graph_verify.specs.Outlines.{outlines, as_known, resolved}
 use Rattle.graph_verify.specs.Verdict.{node_fault, is_loose, first_fault}
 use Rattle.graph_verify.proofs.LinkLemmas.{same_cell-refl}
 use Rattle.graph_verify.proofs.VerdictLemmas.{can_run}
-use Rattle.graph_run.specs.Graph.{rounds, begun_as, begun, is_virtual, forgotten, run}
+use Rattle.graph_run.specs.Graph.{rounds_of_nodes, begun_as, begun, is_virtual_object, forgotten, run_of_graph}
 use Rattle.client_model.specs.declared.refusal.Refusal.TheVariants.{Rejected}
 use Rattle.client_model.specs.declared.reply.Reply.TheVariants.{Empty}
 use Rattle.client_model.specs.Allowance.{Allowance}
@@ -237,7 +237,7 @@ module _ (objects : List Named) (nodes : List Node) (are : All (λ o. IsObject o
 -- ---- as a run ends
 
 -- what is no virtual image is the same as a run begins
-begun_real : (known : Cell → Operand) (nodes : List Node) (o : Named) → is_virtual o.object ≡ false → begun known nodes o ≡ o
+begun_real : (known : Cell → Operand) (nodes : List Node) (o : Named) → is_virtual_object o.object ≡ false → begun known nodes o ≡ o
 begun_real known nodes o real =
     let cell : Cell = record { name = o.name; slot = None } in
     cond_both (is_written nodes cell) (record o { object = begun_as o.object (known cell) }) o (λ p. p ≡ o)
@@ -253,7 +253,7 @@ forgotten_last known nodes (o ∷ objects) (p ∷ after) same =
     let first : lasting_named p ≡ lasting_named (begun known nodes o) = ap (λ l. get_or l 0 (lasting_named o)) same in
     let rest = forgotten_last known nodes objects after (ap (drop 1) same) in
     ap (λ q. q ∷ map lasting_named (forgotten objects after))
-    (cond_both (is_virtual o.object) o p (λ q. lasting_named q ≡ lasting_named o) (λ e. refl) (λ e. first ∙ ap lasting_named (begun_real known nodes o e)))
+    (cond_both (is_virtual_object o.object) o p (λ q. lasting_named q ≡ lasting_named o) (λ e. refl) (λ e. first ∙ ap lasting_named (begun_real known nodes o e)))
     ∙ ap (λ l. lasting_named o ∷ l) rest
 
 -- and all are objects
@@ -262,8 +262,8 @@ forgotten_are [] after were are = are
 forgotten_are (o ∷ objects) [] were are = are
 forgotten_are (o ∷ objects) (p ∷ after) were are =
     let Is : Named → Type 0 = λ q. IsObject q.object in
-    All-cons Is (cond (is_virtual o.object) o p) (forgotten objects after)
-    (cond_both (is_virtual o.object) o p Is (λ e. All-head Is o objects were) (λ e. All-head Is p after are))
+    All-cons Is (cond (is_virtual_object o.object) o p) (forgotten objects after)
+    (cond_both (is_virtual_object o.object) o p Is (λ e. All-head Is o objects were) (λ e. All-head Is p after are))
     (forgotten_are objects after (All-tail Is o objects were) (All-tail Is p after are))
 
 -- ---- runs
@@ -277,7 +277,7 @@ process_found_keeps limits c name (Some (GraphObject graph)) h is stood =
     let operand = operand_held objects in
     let known = resolved operand nodes in
     let begin : List Named = map (begun known nodes) objects in
-    unless_keeps limits c (option_map Rejected (graph_verdict limits objects graph)) Empty (with_objects c (run known nodes objects))
+    unless_keeps limits c (option_map Rejected (graph_verdict limits objects graph)) Empty (with_objects c (run_of_graph known nodes objects))
     (λ allowed.
     let runs = can_run limits.work operand nodes (not_rejected (graph_verdict limits objects graph) allowed) in
     let are_nodes : All IsNode nodes = All-map IsNode (λ (n : Numbered). n.node) graph.nodes is.nodes in
@@ -287,8 +287,8 @@ process_found_keeps limits c name (Some (GraphObject graph)) h is stood =
     node_can objects nodes h.objects h.names name (get_or nodes k d) (are_nodes k d below) (stood k d below) (faultless k d below) (tied k d below)
     (λ cell writes_it. list_any_at (λ n. writes n cell) nodes k d below writes_it) in
     let ran = rounds_last nodes (length nodes) begin (begin_is objects nodes h.objects h.names) (begin_increases objects nodes h.objects h.names) can in
-    let left : List Named = rounds nodes (length nodes) begin in
-    alike_leaves limits (λ name. false) c h (run known nodes objects)
+    let left : List Named = rounds_of_nodes nodes (length nodes) begin in
+    alike_leaves limits (λ name. false) c h (run_of_graph known nodes objects)
     (record { objects = forgotten_are objects left h.objects ran.objects; lasting = forgotten_last known nodes objects left ran.lasting }))
 process_found_keeps limits c name (Some other) h is stood = tt
 

@@ -16,7 +16,7 @@ use Rattle.graph_verify.specs.declared.verdict.Verdict.TheVariants.{MultipleWrit
 use Rattle.graph_verify.specs.Cycle.{has_cycle}
 use Rattle.graph_verify.specs.Links.{writes, feeds, is_written}
 use Rattle.graph_verify.specs.Members.{In}
-use Rattle.graph_verify.specs.Operand.{operands_of, is_virtual, operand_bytes}
+use Rattle.graph_verify.specs.Operand.{operands_of, is_virtual, virtual_bytes}
 use Rattle.graph_verify.specs.Outlines.{operand_outline, given_outline, written_outline, outlines, as_known, resolved}
 use Rattle.graph_verify.specs.Rounds.{round, rounds}
 use Rattle.graph_verify.specs.Verdict.{two_writers, node_fault, is_loose, reads_loose, first_fault, work_bytes, verdict}
@@ -96,13 +96,13 @@ module _ (nodes : List Node) where
     -- as many bytes are worked on
     work_alike : work_bytes one nodes ≡ work_bytes other nodes
     work_alike =
-        let bytes : (Cell → Operand) → Cell → ℕ = λ is cell. operand_bytes (resolved is nodes cell) in
+        let bytes : (Cell → Operand) → Cell → ℕ = λ is cell. virtual_bytes (resolved is nodes cell) in
         let wanted = filter (λ cell. is_virtual (other cell)) (flat_map outputs nodes) in
         ap (sum_by (bytes one))
         (filter_alike (λ cell. is_virtual (one cell)) (λ cell. is_virtual (other cell)) (flat_map outputs nodes)
         (All-weaker IsNamed (λ cell. is_virtual (one cell) ≡ is_virtual (other cell)) (λ cell named. ap is_virtual (same cell named)) (flat_map outputs nodes) written_named))
         ∙ sum_alike (bytes one) (bytes other) wanted
-        (All-weaker IsNamed (λ cell. bytes one cell ≡ bytes other cell) (λ cell named. ap operand_bytes (resolved_alike cell named)) wanted
+        (All-weaker IsNamed (λ cell. bytes one cell ≡ bytes other cell) (λ cell named. ap virtual_bytes (resolved_alike cell named)) wanted
         (All-filter (λ cell. is_virtual (other cell)) IsNamed (flat_map outputs nodes) written_named))
 
     pub verdict_alike : (work : ℕ) → verdict work one nodes ≡ verdict work other nodes

@@ -33,8 +33,9 @@ pub fn limits_are_kept()
 /// What is held under a name keeps its skeleton until it is gone, whatever its client asks for but
 /// ReleaseContext: its kind, its sizes, formats, slots and bins, and all of a table, a threshold, a
 /// matrix or a declared outline. A graph keeps its nodes until one is added to it or removed from
-/// it. So each cell is the same operand as long as something is held under its name, and the verdict
-/// on a graph stays what it was, SUCCESS or not, until a node is added to it or removed from it.
+/// it. So each cell is the same operand as long as something is held under its name, and the
+/// verdict on a graph stays what it was, SUCCESS or not, until a node is added to it or removed
+/// from it.
 pub fn what_is_held_stays()
     ensures after_one { (limits : Allowance) (c later : Context) (request : Request) (name : ℕ) →
         KeepsLimits limits c → IsRequest request →
@@ -62,7 +63,8 @@ pub fn what_is_held_stays()
 /// A reply that is a refusal leaves the state, and its code is neither SUCCESS nor NO_MEMORY.
 pub fn refusals()
     ensures state { (limits : Allowance) (state : State) (request : Request) (code : Code) →
-        (answer_to limits state request).0 ≡ Refused code → (answer_to limits state request).1 ≡ state }
+        (answer_to limits state request).0 ≡ Refused code →
+        (answer_to limits state request).1 ≡ state }
     ensures success { (limits : Allowance) (state : State) (request : Request) →
         (answer_to limits state request).0 ≢ Refused Success }
     ensures no_memory { (limits : Allowance) (state : State) (request : Request) →

@@ -23,9 +23,9 @@ use Rattle.graph_verify.specs.declared.operand.Operand.{Operand}
 use Rattle.graph_verify.specs.declared.operand.Operand.TheVariants.{Image, Delay, Virtual}
 use Rattle.graph_verify.specs.Links.{writes}
 use Rattle.graph_verify.specs.Operand.{operand_of, operand_kind, operand_format, is_virtual as is_virtual_operand}
-use Rattle.graph_verify.specs.Outlines.{operand_outline, given_outline, written_outline, as_described, as_known}
+use Rattle.graph_verify.specs.Outlines.{operand_outline, given_outline, written_outline, virtual_or_image, as_known}
 use Rattle.graph_verify.specs.Rounds.{round as round_of, rounds as rounds_of}
-use Rattle.graph_run.specs.Graph.{begun_as, is_virtual}
+use Rattle.graph_run.specs.Graph.{begun_as, is_virtual_object}
 use Rattle.client_model.specs.Operands.{stands_for}
 use Rattle.client_model.proofs.HoldLaws.{is_taken}
 use Rattle.graph_verify.proofs.SuitLemmas.{Suits}
@@ -71,7 +71,7 @@ closed_small o h = grind arith
 pub begun_is_object : (object : ObjectValue) (known : Outline) (written : Bool) → IsObject object → IsSmall known → IsObject (begun_if written object (as_known (operand_of object) known))
 begun_is_object (VirtualObject image) known true is small = of_closed (closed known) (closed_small known small)
   where
-    of_closed : (d : Option Description) → IfSome d (λ e. (e.width ≤ 4096) × (e.height ≤ 4096)) → IsObject (begun_as (VirtualObject image) (as_described known d))
+    of_closed : (d : Option Description) → IfSome d (λ e. (e.width ≤ 4096) × (e.height ≤ 4096)) → IsObject (begun_as (VirtualObject image) (virtual_or_image known d))
     of_closed None sides = is
     of_closed (Some d) sides = new_image_is d.width d.height d.format sides.0 sides.1
 begun_is_object (VirtualObject image) known false is small = is
@@ -96,7 +96,7 @@ image_as_begun k other written operand = refl
 abbrev pub Taken : Operand → Operand → Type 0
 Taken known actual = (known ≡ actual) ⊎ ((is_virtual_operand actual ≡ true) × (operand_format known ≡ None))
 
-pub taken_as_begun : (object : ObjectValue) (known : Outline) (written : Bool) → (is_virtual object ≡ true → written ≡ true)
+pub taken_as_begun : (object : ObjectValue) (known : Outline) (written : Bool) → (is_virtual_object object ≡ true → written ≡ true)
     → Taken (as_known (operand_of object) known) (operand_of (begun_if written object (as_known (operand_of object) known)))
 taken_as_begun (VirtualObject image) known true h = grind arith
 taken_as_begun (VirtualObject image) known false h = let never = h refl in absurd (cc)

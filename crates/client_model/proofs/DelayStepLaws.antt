@@ -7,7 +7,7 @@ use Rattle.std.proofs.lemmas.List.{length-map, length-take, length-drop, length-
 use Rattle.std.proofs.lemmas.List.Elements.{All-head, All-tail, All-append, All-take, All-drop}
 use Rattle.vx_base.specs.declared.format.Format.TheVariants.{U8}
 use Rattle.vx_base.specs.declared.node.Node.{Node}
-use Rattle.vx_base.specs.Cell.{Cell}
+use Rattle.vx_base.specs.Cell.{Cell, cell_of}
 use Rattle.vx_base.specs.Description.{Description}
 use Rattle.vx_base.specs.Image.{ImageValue, IsImage, new_image, image_over, description_of}
 use Rattle.vx_base.specs.Object.{ObjectValue, DelayObject, IsObject, IsDelay}
@@ -15,7 +15,7 @@ use Rattle.vx_base.specs.Rectangle.{empty}
 use Rattle.vx_base.specs.Slots.{is_slot_count}
 use Rattle.object_table.specs.Delay.{in_slot, new_delay, aged}
 use Rattle.object_table.specs.Named.{object_held}
-use Rattle.object_table.specs.Context.{Context, object_named, cell_of}
+use Rattle.object_table.specs.Context.{Context, object_named}
 use Rattle.object_table.proofs.DelayLemmas.{alike, count_is, new_delay_is}
 use Rattle.client_model.specs.declared.refusal.Refusal.{Refusal}
 use Rattle.client_model.specs.Allowance.{Allowance}

@@ -14,14 +14,14 @@ use Rattle.vx_base.specs.declared.kind.Kind.{Kind}
 use Rattle.vx_base.specs.declared.kind.Kind.TheVariants as kind
 use Rattle.vx_base.specs.declared.node.Node.{Node}
 use Rattle.vx_base.specs.declared.numbered.Numbered.{Numbered}
-use Rattle.vx_base.specs.Cell.{Cell}
+use Rattle.vx_base.specs.Cell.{Cell, cell_of}
 use Rattle.vx_base.specs.Graph.{GraphValue, IsGraph, new_graph, nodes_of, can_add, with_node, has_node, without_node}
 use Rattle.vx_base.specs.Node.{IsNode, operands}
 use Rattle.vx_base.specs.Object.{ObjectValue, GraphObject, IsObject, object_bytes}
 use Rattle.vx_base.specs.Outline.{Outline, IsOutline}
 use Rattle.object_table.specs.Delay.{with_slot}
 use Rattle.object_table.specs.Named.{Named, object_held, held, with_object}
-use Rattle.object_table.specs.Context.{Context, object_named, with_objects, charge_of, cell_of, with_graph}
+use Rattle.object_table.specs.Context.{Context, object_named, with_objects, charge_of, with_graph}
 use Rattle.object_table.specs.Holds.{names_it, uses, is_used, is_held, still_held, unnamed}
 use Rattle.object_table.specs.Skeleton.{skeleton}
 use Rattle.object_table.specs.Uses.{nodes_in}

@@ -23,7 +23,7 @@ use Rattle.object_table.specs.Named.{Named, object_held, held}
 use Rattle.object_table.specs.Skeleton.{skeleton}
 use Rattle.object_table.specs.Holds.{names_it, uses, is_used, is_held, still_held}
 use Rattle.object_table.specs.Uses.{nodes_in}
-use Rattle.client_model.specs.Operands.{is_kind, is_empty, is_of_other_graph}
+use Rattle.client_model.specs.Operands.{is_kind, holds_nothing, is_of_other_graph}
 use Rattle.client_model.specs.States.{kind_held, stands, NodesStand}
 use Rattle.object_table.proofs.HeldLemmas.{names_of, All-from_map, held_by_name}
 use Rattle.object_table.proofs.SkeletonLaws.{slot_kind-skeleton, in_slot-skeleton}
@@ -82,7 +82,7 @@ kinds_taken n = grind (arith, All-cons, All-append, second_taken, output_taken, 
 pub record StandsFor (objects : List Named) (graph : ℕ) (operand : Cell × Kind) : Type 0 where
   pub kind : is_kind operand.1 (kind_held objects operand.0) ≡ true
   pub scope : is_of_other_graph graph (held objects operand.0) ≡ false
-  pub there : is_empty objects operand.0 ≡ false
+  pub there : holds_nothing objects operand.0 ≡ false
 
 pub stands_parts : (objects : List Named) (graph : ℕ) (operand : Cell × Kind) → IsTrue (stands objects graph operand) → StandsFor objects graph operand
 stands_parts objects graph operand h = grind (arith, and_parts)

@@ -26,7 +26,7 @@ use Rattle.client_model.specs.Allowance.{Allowance}
 use Rattle.client_model.specs.Operands.{is_unknown, is_of_other_kind, as_image, image_of}
 use Rattle.pgm_images.specs.declared.fault.PgmFault.{PgmFault}
 use Rattle.pgm_images.specs.Reading.{reading}
-use Rattle.pgm_images.specs.Writing.{written}
+use Rattle.pgm_images.specs.Writing.{pgm_text}
 use Rattle.pgm_images.proofs.PictureLaws.{read_picture}
 use Rattle.client_model.specs.Images.{described_in, query_of, query_image, picture_refusal, write_to, write_image, write_text_to, write_text, read_from, read_image, read_text_from, read_text, valid_refusal, set_valid_of, set_valid}
 use Rattle.client_model.specs.States.{KeepsLimits}
@@ -90,7 +90,7 @@ read_from_keeps limits (Ok image) c h = same_leaves limits (λ name. false) c h
 read_text_from_keeps : (limits : Allowance) (image : Result ImageValue Refusal) (c : Context) → KeepsLimits limits c → Keeps limits c (read_text_from image c)
 read_text_from_keeps limits (Err refusal) c h = tt
 read_text_from_keeps limits (Ok image) c h =
-    unless_keeps limits c (if same_format image.format U8 then None else Some InvalidFormat) (Text (written (picture_of image))) c (λ allowed. same_leaves limits (λ name. false) c h)
+    unless_keeps limits c (if same_format image.format U8 then None else Some InvalidFormat) (Text (pgm_text (picture_of image))) c (λ allowed. same_leaves limits (λ name. false) c h)
 
 -- what a text stands for is a picture
 reading_is : (r : Result PictureValue PgmFault) → ((p : PictureValue) → r ≡ Ok p → IsPicture p) → IfOk r IsPicture

@@ -33,7 +33,7 @@ use Rattle.graph_verify.specs.Verdict.{verdict_on}
 use Rattle.client_model.specs.declared.refusal.Refusal.TheVariants.{InvalidReference, InvalidType, InvalidScope, InvalidValue, OptimizedAway, Rejected}
 use Rattle.client_model.specs.declared.reply.Reply.TheVariants.{Empty}
 use Rattle.client_model.specs.Allowance.{Allowance}
-use Rattle.client_model.specs.Operands.{is_unknown, is_empty, is_beyond, is_kind, kind_of, is_of_other_kind, stands_for, operands_refusal}
+use Rattle.client_model.specs.Operands.{is_unknown, holds_nothing, is_beyond, is_kind, kind_of, is_of_other_kind, stands_for, operands_refusal}
 use Rattle.client_model.specs.Immediate.{operand_in, operand_if, operands_in, is_some_virtual, away_refusal, node_refusal, immediate}
 use Rattle.client_model.specs.States.{KeepsLimits, kind_held}
 use Rattle.object_table.proofs.HeldLemmas.{held_is}
@@ -142,20 +142,20 @@ pub record Passes (scope : Option ℕ) (objects : List Named) (operand : Cell ×
   pub known : is_unknown objects operand.0 ≡ false
   pub kind : is_of_other_kind objects operand ≡ false
   pub within : is_beyond scope objects operand.0 ≡ false
-  pub there : is_empty objects operand.0 ≡ false
+  pub there : holds_nothing objects operand.0 ≡ false
 
 pub operands_pass : (scope : Option ℕ) (objects : List Named) (all : List (Cell × Kind)) → operands_refusal scope objects all ≡ None → All (Passes scope objects) all
 operands_pass scope objects all h =
     let known = passed (list_any (λ operand. is_unknown objects operand.0) all) InvalidReference _ h in
     let of_kind = passed (list_any (is_of_other_kind objects) all) InvalidType _ known.1 in
     let within = passed (list_any (λ operand. is_beyond scope objects operand.0) all) InvalidScope _ of_kind.1 in
-    let there = passed (list_any (λ operand. is_empty objects operand.0) all) InvalidValue _ within.1 in
+    let there = passed (list_any (λ operand. holds_nothing objects operand.0) all) InvalidValue _ within.1 in
     λ k d below.
     record {
       known = each_fails (λ operand. is_unknown objects operand.0) all known.0 k d below;
       kind = each_fails (is_of_other_kind objects) all of_kind.0 k d below;
       within = each_fails (λ operand. is_beyond scope objects operand.0) all within.0 k d below;
-      there = each_fails (λ operand. is_empty objects operand.0) all there.0 k d below;
+      there = each_fails (λ operand. holds_nothing objects operand.0) all there.0 k d below;
     }
 
 -- ---- the operands of a node

@@ -9,12 +9,13 @@ use Rattle.vx_base.specs.Node.{operands}
 use Rattle.vx_base.specs.Object.{ObjectValue, GraphObject, VirtualObject}
 use Rattle.vx_base.specs.Outline.{Outline}
 use Rattle.object_table.specs.Named.{Named}
-use Rattle.object_table.specs.Context.{Context, object_named, with_objects, cell_of, with_graph}
+use Rattle.vx_base.specs.Cell.{cell_of}
+use Rattle.object_table.specs.Context.{Context, object_named, with_objects, with_graph}
 use Rattle.object_table.specs.Holds.{still_held}
 use Rattle.graph_verify.specs.declared.verdict.Verdict.{Verdict}
 use Rattle.graph_verify.specs.Outlines.{resolved}
 use Rattle.graph_verify.specs.Verdict.{verdict}
-use Rattle.graph_run.specs.Graph.{run}
+use Rattle.graph_run.specs.Graph.{run_of_graph}
 use Rattle.graph_run.specs.Operands.{operand_held}
 use Rattle.client_model.specs.declared.refusal.Refusal.{Refusal}
 use Rattle.client_model.specs.declared.refusal.Refusal.TheVariants.{InvalidReference, InvalidType, NoResources, Rejected}
@@ -79,7 +80,7 @@ process_found (Err refusal) limits c = Err refusal
 process_found (Ok graph) limits c =
     let nodes = nodes_of graph in
     unless (option_map Rejected (graph_verdict limits c.objects graph)) Empty
-    (with_objects c (run (resolved (operand_held c.objects) nodes) nodes c.objects))
+    (with_objects c (run_of_graph (resolved (operand_held c.objects) nodes) nodes c.objects))
 
 abbrev pub process_graph : Allowance → Context → ℕ → Outcome
 process_graph limits c name = process_found (graph_named c.objects name) limits c

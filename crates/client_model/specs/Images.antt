@@ -13,7 +13,7 @@ use Rattle.vx_base.specs.declared.kind.Kind.TheVariants as kind
 use Rattle.pgm_images.specs.declared.fault.PgmFault.{PgmFault}
 use Rattle.pgm_images.specs.declared.fault.PgmFault.TheVariants as fault
 use Rattle.pgm_images.specs.Reading.{reading}
-use Rattle.pgm_images.specs.Writing.{written}
+use Rattle.pgm_images.specs.Writing.{pgm_text}
 use Rattle.client_model.specs.declared.refusal.Refusal.{Refusal}
 use Rattle.client_model.specs.declared.refusal.Refusal.TheVariants.{InvalidReference, InvalidType, InvalidFormat, InvalidDimension, InvalidValue, NoResources}
 use Rattle.client_model.specs.declared.reply.Described.{Described}
@@ -99,7 +99,7 @@ read_image c cell = read_from (image_of c.objects cell) c
 -- ReadImagePgm: the same of a U8 image as a PGM text
 abbrev pub read_text_from : Result ImageValue Refusal → Context → Outcome
 read_text_from (Err refusal) c = Err refusal
-read_text_from (Ok image) c = unless (if same_format image.format U8 then None else Some InvalidFormat) (Text (written (picture_of image))) c
+read_text_from (Ok image) c = unless (if same_format image.format U8 then None else Some InvalidFormat) (Text (pgm_text (picture_of image))) c
 
 abbrev pub read_text : Context → Cell → Outcome
 read_text c cell = read_text_from (image_of c.objects cell) c

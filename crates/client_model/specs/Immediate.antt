@@ -7,7 +7,7 @@ use Rattle.vx_base.specs.Cell.{Cell}
 use Rattle.vx_base.specs.Node.{operands}
 use Rattle.vx_base.specs.Object.{ObjectValue}
 use Rattle.vx_base.specs.Outputs.{written_by}
-use Rattle.graph_run.specs.Graph.{is_virtual}
+use Rattle.graph_run.specs.Graph.{is_virtual_object}
 use Rattle.graph_verify.specs.declared.operand.Operand.{Operand}
 use Rattle.graph_verify.specs.declared.operand.Operands.{Operands}
 use Rattle.graph_verify.specs.Operand.{operand_of}
@@ -34,7 +34,7 @@ operands_in objects n =
 
 -- whether an object is a virtual image
 abbrev pub is_some_virtual : Option ObjectValue → Bool
-is_some_virtual (Some object) = is_virtual object
+is_some_virtual (Some object) = is_virtual_object object
 is_some_virtual None = false
 
 -- a node by itself takes no virtual image

@@ -35,8 +35,8 @@ abbrev pub is_of_other_kind : List Named → Cell × Kind → Bool
 is_of_other_kind objects operand = not (is_kind operand.1 (kind_of objects operand.0))
 
 -- whether a cell holds nothing: its name is nobody's, or its slot isn't there
-abbrev pub is_empty : List Named → Cell → Bool
-is_empty objects cell = is_none (held objects cell)
+abbrev pub holds_nothing : List Named → Cell → Bool
+holds_nothing objects cell = is_none (held objects cell)
 
 -- whether an object is a virtual image of another graph than this
 abbrev pub is_of_other_graph : ℕ → Option ObjectValue → Bool
@@ -55,7 +55,7 @@ operands_refusal scope objects operands =
     if list_any (λ operand. is_unknown objects operand.0) operands then Some InvalidReference
     else (if list_any (is_of_other_kind objects) operands then Some InvalidType
     else (if list_any (λ operand. is_beyond scope objects operand.0) operands then Some InvalidScope
-    else (if list_any (λ operand. is_empty objects operand.0) operands then Some InvalidValue else None)))
+    else (if list_any (λ operand. holds_nothing objects operand.0) operands then Some InvalidValue else None)))
 
 -- an image, or the refusal of a slot that isn't there, or of a virtual image
 abbrev pub as_image : Option ObjectValue → Result ImageValue Refusal

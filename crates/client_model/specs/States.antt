@@ -15,9 +15,10 @@ use Rattle.client_model.specs.declared.request.Request.{Request}
 use Rattle.client_model.specs.declared.request.Request.TheVariants.{ReleaseContext, AddNode, RemoveNode}
 use Rattle.client_model.specs.Allowance.{Allowance}
 use Rattle.client_model.specs.Context.{State}
-use Rattle.client_model.specs.Operands.{is_kind, is_empty, is_of_other_graph}
+use Rattle.client_model.specs.Operands.{is_kind, holds_nothing, is_of_other_graph}
 use Rattle.client_model.specs.Request.{IsRequest}
 use Rattle.client_model.specs.Answer.{answer_to}
+use Rattle.object_table.specs.declared.table.TheConstants.{GREATEST_COUNT}
 
 -- the kind of what a cell that a node names is for
 abbrev pub kind_held : List Named → Cell → Option Kind
@@ -27,7 +28,7 @@ kind_held objects cell = option_and_then (slot_kind cell.slot) (object_held obje
 abbrev pub stands : List Named → ℕ → Cell × Kind → Bool
 stands objects graph operand =
     is_kind operand.1 (kind_held objects operand.0)
-    && (not (is_of_other_graph graph (object_in_cell objects operand.0)) && not (is_empty objects operand.0))
+    && (not (is_of_other_graph graph (object_in_cell objects operand.0)) && not (holds_nothing objects operand.0))
 
 -- each cell that a node of a graph names holds what its function has there
 abbrev pub NodesStand : List Named → Named → Type 0
@@ -44,7 +45,7 @@ pub record KeepsLimits (limits : Allowance) (c : Context) : Type 0 where
   pub left : c.next ≤ 4294967296
   pub held : All (λ o. IsTrue (is_held c.objects o)) c.objects
   pub nodes : All (NodesStand c.objects) c.objects
-  pub count : length c.objects ≤ 1024
+  pub count : length c.objects ≤ GREATEST_COUNT
   pub quota : charge_of c.objects ≤ limits.quota
 
 -- a client's state after these requests of its own

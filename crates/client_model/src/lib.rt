@@ -1,8 +1,8 @@
 //! Requests and replies, and what they mean.
 //!
-//! A client names its objects by 1, 2, .. in the order in which it made them. `specs/Answer.antt` says
-//! what a client in any state is answered, and what its state is then; everything above is proved
-//! against that. Nothing here knows how objects are kept.
+//! A client names its objects by 1, 2, .. in the order in which it made them. `specs/Answer.antt`
+//! says what a client in any state is answered, and what its state is then; everything above is
+//! proved against that. Nothing here knows how objects are kept.
 //!
 //! - `request`, `reply`, `text`, `counts`: what a client asks for, and what it is answered
 //! - `refusal`: why a request is refused

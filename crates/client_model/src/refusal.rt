@@ -12,8 +12,8 @@ pub enum Refusal {
     /// An object is not of the kind that is wanted there; a delay's slots are images, and no other
     /// object has slots.
     InvalidType,
-    /// The client has a context already, a delay has no such slot, a rectangle goes beyond an image,
-    /// or a text has a sample above its maxval.
+    /// The client has a context already, a delay has no such slot, a rectangle goes beyond an
+    /// image, or a text has a sample above its maxval.
     InvalidValue,
     /// A picture is of another format than the image, an image isn't U8, or a text is no PGM text.
     InvalidFormat,

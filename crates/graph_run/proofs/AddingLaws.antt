@@ -17,7 +17,7 @@ use Rattle.graph_verify.specs.Outlines.{resolved}
 use Rattle.graph_verify.specs.Verdict.{two_writers}
 use Rattle.graph_verify.proofs.LinkLemmas.{one_writer}
 use Rattle.graph_verify.proofs.MemberLemmas.{In-from_any, any-from_In, AllIn-permutation, AllIn-permutation_back}
-use Rattle.graph_run.specs.Graph.{rounds, run}
+use Rattle.graph_run.specs.Graph.{rounds_of_nodes, run_of_graph}
 use Rattle.graph_run.specs.Solution.{WritesNo, label_of}
 use Rattle.graph_run.proofs.HeldLaws.{seen}
 use Rattle.graph_run.proofs.NameLaws.{Rising, rising, same_objects}
@@ -44,27 +44,27 @@ module _ (nodes others : List Node) (two : two_writers nodes ≡ false) (to : Al
   WritesNo-others : (objects : List Named) → WritesNo kind.Delay nodes objects → WritesNo kind.Delay others objects
   WritesNo-others objects whole c w = whole c (same_any (λ n. writes n c) nodes others to from ∙ w)
 
-  object_rounds : (k : ℕ) (objects : List Named) → Rising (map label_of objects) → WritesNo kind.Delay nodes objects → rounds nodes k objects ≡ rounds others k objects
+  object_rounds : (k : ℕ) (objects : List Named) → Rising (map label_of objects) → WritesNo kind.Delay nodes objects → rounds_of_nodes nodes k objects ≡ rounds_of_nodes others k objects
   object_rounds k objects up whole =
       let one = one_writer nodes two in
-      let labels = labels-rounds nodes k objects in
-      let same : seen (rounds nodes k objects) ≡ seen (rounds others k objects) =
-      seen-rounds nodes k objects one whole
+      let labels = labels-rounds_of_nodes nodes k objects in
+      let same : seen (rounds_of_nodes nodes k objects) ≡ seen (rounds_of_nodes others k objects) =
+      seen-rounds_of_nodes nodes k objects one whole
       ∙ cell_rounds writes given_in nodes others one to from k (seen objects)
-      ∙ sym (seen-rounds others k objects (λ m n c i j. one m n c (from m i) (from n j)) (WritesNo-others objects whole)) in
-      same_objects (rounds nodes k objects) (rounds others k objects) (subst (λ z. Rising z) (sym labels) up) (labels ∙ sym (labels-rounds others k objects)) (λ c. ap (λ f. f c) same)
+      ∙ sym (seen-rounds_of_nodes others k objects (λ m n c i j. one m n c (from m i) (from n j)) (WritesNo-others objects whole)) in
+      same_objects (rounds_of_nodes nodes k objects) (rounds_of_nodes others k objects) (subst (λ z. Rising z) (sym labels) up) (labels ∙ sym (labels-rounds_of_nodes others k objects)) (λ c. ap (λ f. f c) same)
 
   same_resolved : (is : Cell → Operand) → resolved is nodes ≡ resolved is others
   same_resolved is = grind (arith, cell_rounds, one_writer)
 
-  same_run : (is : Cell → Operand) (objects : List Named) → Rising (map label_of objects) → WritesNo kind.Delay nodes objects → run is nodes objects ≡ run is others objects
+  same_run : (is : Cell → Operand) (objects : List Named) → Rising (map label_of objects) → WritesNo kind.Delay nodes objects → run_of_graph is nodes objects ≡ run_of_graph is others objects
   same_run is objects up whole = grind (arith, object_rounds, Rising, labels-begun, WritesNo-begun, begun-same, same_any)
 
 pub same_graph : (is : Cell → Operand) (nodes others : List Node) (objects : List Named) → IsPermutation nodes others → two_writers nodes ≡ false → AllPairs (λ a b. a.name < b.name) objects
-    → WritesNo kind.Delay nodes objects → run (resolved is nodes) nodes objects ≡ run (resolved is others) others objects
+    → WritesNo kind.Delay nodes objects → run_of_graph (resolved is nodes) nodes objects ≡ run_of_graph (resolved is others) others objects
 same_graph is nodes others objects same two names whole =
     let to = AllIn-permutation nodes others same in
     let from = AllIn-permutation_back nodes others same in
     let long = sym (length_permutation nodes others same) in
     same_run nodes others two to from long (resolved is nodes) objects (rising objects names) whole
-    ∙ ap (λ f. run f others objects) (same_resolved nodes others two to from long is)
+    ∙ ap (λ f. run_of_graph f others objects) (same_resolved nodes others two to from long is)

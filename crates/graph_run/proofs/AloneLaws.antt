@@ -9,7 +9,7 @@ use Rattle.vx_base.specs.Object.{ObjectValue}
 use Rattle.vx_base.specs.Outputs.{written_by}
 use Rattle.object_table.specs.Named.{Named, object_held, held, with_written}
 use Rattle.graph_verify.specs.declared.operand.Operand.{Operand}
-use Rattle.graph_run.specs.Graph.{is_virtual, run}
+use Rattle.graph_run.specs.Graph.{is_virtual_object, run_of_graph}
 use Rattle.graph_run.specs.Solution.{WritesNo}
 use Rattle.graph_run.proofs.HeldLaws.{labels-with_written}
 use Rattle.graph_run.proofs.NameLaws.{rising}
@@ -17,10 +17,10 @@ use Rattle.graph_run.proofs.NodeLaws.{written_held}
 use Rattle.graph_run.proofs.BegunLaws.{nothing_begun, nothing_forgotten, object_held-unwritten, virtual_kind, no_slot_of_virtual}
 
 -- nothing is written where a virtual image stands
-virtual_stays : (n : Node) (objects : List Named) → WritesNo kind.VirtualImage (n ∷ []) objects → (name : ℕ) (x : ObjectValue) → object_held objects name ≡ Some x → is_virtual x ≡ true
+virtual_stays : (n : Node) (objects : List Named) → WritesNo kind.VirtualImage (n ∷ []) objects → (name : ℕ) (x : ObjectValue) → object_held objects name ≡ Some x → is_virtual_object x ≡ true
     → object_held (with_written objects (written_by n (held objects))) name ≡ Some x
 virtual_stays n objects real name x at v = grind (arith, object_held-unwritten, or_left, virtual_kind, no_slot_of_virtual, written_held, cases_Bool, eqb-true)
 
 pub one_node : (is : Cell → Operand) (n : Node) (objects : List Named) → AllPairs (λ a b. a.name < b.name) objects → WritesNo kind.VirtualImage (n ∷ []) objects
-    → run is (n ∷ []) objects ≡ with_written objects (written_by n (held objects))
+    → run_of_graph is (n ∷ []) objects ≡ with_written objects (written_by n (held objects))
 one_node is n objects names real = grind (arith, rising, nothing_begun, append-nil, nothing_forgotten, labels-with_written, virtual_stays)

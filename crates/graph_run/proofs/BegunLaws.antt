@@ -13,7 +13,7 @@ use Rattle.graph_verify.specs.declared.operand.Operand.{Operand}
 use Rattle.graph_verify.specs.declared.operand.Operand.TheVariants.{Image}
 use Rattle.graph_verify.specs.Members.{In}
 use Rattle.graph_verify.specs.Links.{is_written}
-use Rattle.graph_run.specs.Graph.{begun_as, begun, is_virtual, forgotten}
+use Rattle.graph_run.specs.Graph.{begun_as, begun, is_virtual_object, forgotten}
 use Rattle.graph_run.specs.Solution.{WritesNo, label_of}
 use Rattle.graph_run.proofs.HeldLaws.{object_held-with_object}
 use Rattle.graph_run.proofs.NameLaws.{Rising, by_names}
@@ -56,11 +56,11 @@ begun_other : (x : ObjectValue) (operand : Operand) → object_kind x ≢ kind.V
 begun_other (VirtualObject v) operand h = absurd (h refl)
 begun_other x operand h = refl
 
-pub virtual_kind : (x : ObjectValue) → is_virtual x ≡ true → object_kind x ≡ kind.VirtualImage
+pub virtual_kind : (x : ObjectValue) → is_virtual_object x ≡ true → object_kind x ≡ kind.VirtualImage
 virtual_kind (VirtualObject v) h = refl
 virtual_kind x h = absurd (cc h)
 
-pub no_slot_of_virtual : (k : ℕ) (x : ObjectValue) → is_virtual x ≡ true → ◌≡◌ {A = Option ObjectValue} (in_slot (Some k) x) None
+pub no_slot_of_virtual : (k : ℕ) (x : ObjectValue) → is_virtual_object x ≡ true → ◌≡◌ {A = Option ObjectValue} (in_slot (Some k) x) None
 no_slot_of_virtual k (VirtualObject v) h = refl
 no_slot_of_virtual k x h = absurd (cc h)
 
@@ -75,7 +75,7 @@ object_held-unwritten [] objects name h = refl
 object_held-unwritten (w ∷ ws) objects name h = grind (arith, object_held-unwritten ws (with_object objects w.0 w.1) name (λ v i. h v (inr i)), object_held-with_object objects w.0 w.1 name)
 
 abbrev kept_virtual : Option ObjectValue → Option ObjectValue → Option ObjectValue
-kept_virtual (Some x) (Some y) = Some (if is_virtual x then x else y)
+kept_virtual (Some x) (Some y) = Some (if is_virtual_object x then x else y)
 kept_virtual o p = p
 
 object_held-forgotten : (before after : List Named) → map label_of before ≡ map label_of after → (name : ℕ)
@@ -86,10 +86,10 @@ object_held-forgotten (o ∷ before) [] labels name = absurd (cc labels)
 object_held-forgotten (o ∷ before) (p ∷ after) labels name =
     let label : label_of o ≡ label_of p = cc in
     let rest : map label_of before ≡ map label_of after = cc in
-    either (ap (λ m. m.0) label) (object_held-forgotten before after rest name) (cases_Bool (is_virtual o.object)) (cases_Bool (eqb o.name name))
+    either (ap (λ m. m.0) label) (object_held-forgotten before after rest name) (cases_Bool (is_virtual_object o.object)) (cases_Bool (eqb o.name name))
   where
     either : o.name ≡ p.name → object_held (forgotten before after) name ≡ kept_virtual (object_held before name) (object_held after name)
-        → (is_virtual o.object ≡ true) ⊎ (is_virtual o.object ≡ false) → (eqb o.name name ≡ true) ⊎ (eqb o.name name ≡ false)
+        → (is_virtual_object o.object ≡ true) ⊎ (is_virtual_object o.object ≡ false) → (eqb o.name name ≡ true) ⊎ (eqb o.name name ≡ false)
         → object_held (forgotten (o ∷ before) (p ∷ after)) name ≡ kept_virtual (object_held (o ∷ before) name) (object_held (p ∷ after) name)
     either same h (inl v) (inl e) = let f : eqb p.name name ≡ true = ap (λ z. eqb z name) (sym same) ∙ e in rw (v, e, f, v) refl
     either same h (inl v) (inr e) = let f : eqb p.name name ≡ false = ap (λ z. eqb z name) (sym same) ∙ e in rw (v, e, f) h
@@ -103,21 +103,21 @@ labels-forgotten (o ∷ before) [] labels = refl
 labels-forgotten (o ∷ before) (p ∷ after) labels =
     let label : label_of o ≡ label_of p = cc in
     let rest : map label_of before ≡ map label_of after = cc in
-    elim (cases_Bool (is_virtual o.object)) [
+    elim (cases_Bool (is_virtual_object o.object)) [
       | inl v ↦ rw v (ap (λ z. z ∷ map label_of (forgotten before after)) label ∙ ap (λ z. label_of p ∷ z) (labels-forgotten before after rest))
       | inr v ↦ rw v (ap (λ z. label_of p ∷ z) (labels-forgotten before after rest))
     ]
 
 -- nothing changes as the run ends
 pub nothing_forgotten : (before after : List Named) → Rising (map label_of before) → map label_of before ≡ map label_of after
-    → ((name : ℕ) (x : ObjectValue) → object_held before name ≡ Some x → is_virtual x ≡ true → object_held after name ≡ Some x) → forgotten before after ≡ after
+    → ((name : ℕ) (x : ObjectValue) → object_held before name ≡ Some x → is_virtual_object x ≡ true → object_held after name ≡ Some x) → forgotten before after ≡ after
 nothing_forgotten before after up labels stays =
     let same = labels-forgotten before after labels in
     by_names (forgotten before after) after (subst (λ z. Rising z) (labels ∙ sym same) up) same
     (λ name. object_held-forgotten before after labels name ∙ kept (object_held before name) (object_held after name) (stays name))
   where
-    kept : (o p : Option ObjectValue) → ((x : ObjectValue) → o ≡ Some x → is_virtual x ≡ true → p ≡ Some x) → kept_virtual o p ≡ p
-    kept (Some x) (Some y) h = grind (arith, cases_Bool (is_virtual x))
+    kept : (o p : Option ObjectValue) → ((x : ObjectValue) → o ≡ Some x → is_virtual_object x ≡ true → p ≡ Some x) → kept_virtual o p ≡ p
+    kept (Some x) (Some y) h = grind (arith, cases_Bool (is_virtual_object x))
     kept (Some x) None h = refl
     kept None p h = refl
 
@@ -126,11 +126,11 @@ abbrev pub begun_if : Bool → ObjectValue → Operand → ObjectValue
 begun_if written object operand = if written then begun_as object operand else object
 
 -- what stays as it was if it is no virtual image
-pub begun_stays : (object : ObjectValue) (written : Bool) (operand : Operand) → is_virtual object ≡ false → begun_if written object operand ≡ object
+pub begun_stays : (object : ObjectValue) (written : Bool) (operand : Operand) → is_virtual_object object ≡ false → begun_if written object operand ≡ object
 begun_stays (VirtualObject image) written operand h = absurd (cc)
 begun_stays other true operand h = refl
 begun_stays other false operand h = refl
 
-pub virtual_as_operand : (object : ObjectValue) → is_virtual object ≡ true → is_virtual_operand (operand_of object) ≡ true
+pub virtual_as_operand : (object : ObjectValue) → is_virtual_object object ≡ true → is_virtual_operand (operand_of object) ≡ true
 virtual_as_operand (VirtualObject image) h = refl
 virtual_as_operand other h = absurd (cc)

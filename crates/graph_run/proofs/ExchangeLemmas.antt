@@ -9,7 +9,8 @@ use Rattle.std.proofs.lemmas.List.Elements.{All-head, All-tail}
 use Rattle.std.proofs.Math.Seq.{drop-cons}
 use Rattle.vx_base.specs.Image.{new_image}
 use Rattle.vx_base.specs.Object.{ObjectValue, ImageObject}
-use Rattle.object_table.specs.Context.{Context, with_objects, cell_of}
+use Rattle.vx_base.specs.Cell.{cell_of}
+use Rattle.object_table.specs.Context.{Context, with_objects}
 use Rattle.object_table.specs.Named.{Named, object_held, with_object}
 use Rattle.object_table.specs.Table.{object_under}
 use Rattle.object_table.specs.Uses.{nodes_in}

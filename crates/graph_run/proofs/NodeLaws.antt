@@ -14,7 +14,7 @@ use Rattle.vx_base.specs.Outputs.{node_output, written_to, written_in, written_b
 use Rattle.object_table.specs.Named.{Named, held}
 use Rattle.graph_verify.specs.Members.{In}
 use Rattle.graph_verify.specs.Links.{writes, has_twice}
-use Rattle.graph_run.specs.Solution.{kind_held, form_of}
+use Rattle.graph_run.specs.Solution.{kind_in, form_of}
 use Rattle.graph_verify.proofs.MemberLemmas.{In-append}
 use Rattle.graph_verify.proofs.LinkLemmas.{same_cell-true, same_cell-refl}
 use Rattle.graph_run.proofs.ObjectLaws.{is_delay, shown, is_delay-form, not_delay, form-node_output, shown-node_output}
@@ -145,10 +145,10 @@ written_held n held w i = elim (given_cases n held w i) [
 ]
 
 -- it has the form of what was held
-write_is : (objects : List Named) (n : Node) (output : Output) (o : Option Cell) (c : Cell) (object : ObjectValue) → kind_held objects c ≢ Some kind.Delay → IsGiven n output o (held objects) c object → IsWrite objects c object
+write_is : (objects : List Named) (n : Node) (output : Output) (o : Option Cell) (c : Cell) (object : ObjectValue) → kind_in objects c ≢ Some kind.Delay → IsGiven n output o (held objects) c object → IsWrite objects c object
 write_is objects n output o c object whole g = grind (arith, form-node_output, is_delay, not_delay, is_delay-form)
 
-pub AreWrites-written : (objects : List Named) (n : Node) → ((c : Cell) → writes n c ≡ true → kind_held objects c ≢ Some kind.Delay) → AreWrites objects (written_by n (held objects))
+pub AreWrites-written : (objects : List Named) (n : Node) → ((c : Cell) → writes n c ≡ true → kind_in objects c ≢ Some kind.Delay) → AreWrites objects (written_by n (held objects))
 AreWrites-written objects n whole w i = grind (arith, given_cases n (held objects) w i, given_cases, write_is, first_written, second_written)
 
 -- ---- cells that hold what a node gives them

@@ -31,7 +31,7 @@ use Rattle.graph_verify.specs.declared.verdict.Verdict.TheVariants.{MultipleWrit
 use Rattle.graph_verify.specs.Links.{reads, writes, is_written}
 use Rattle.graph_verify.specs.Members.{In}
 use Rattle.graph_verify.specs.Operand.{operand_of, operand_kind, operand_format, are_of_one_size, is_virtual, operands_of, written_operands, other_operands}
-use Rattle.graph_verify.specs.Outlines.{outlines, as_described, as_known, resolved}
+use Rattle.graph_verify.specs.Outlines.{outlines, virtual_or_image, as_known, resolved}
 use Rattle.graph_verify.specs.Verdict.{writes_twice, reads_own_output, takes_operands, node_fault, verdict_on, is_loose}
 use Rattle.graph_verify.proofs.LinkLemmas.{In-from_same}
 use Rattle.graph_verify.proofs.MemberLemmas.{In-from_any, any-from_In, fails-from_In, In-map, In-right}
@@ -102,7 +102,7 @@ module _ (work : ℕ) (is : Cell → Operand) (nodes : List Node) (can : CanRun 
       let outline : Outline = outlines is nodes c in
       described outline (closed outline) (ap (λ o. as_known o outline) e)
     where
-      described : (outline : Outline) (o : Option Description) → known c ≡ as_described outline o → (d : Description) × (known c ≡ Image d)
+      described : (outline : Outline) (o : Option Description) → known c ≡ virtual_or_image outline o → (d : Description) × (known c ≡ Image d)
       described outline (Some d) k = (d, k)
       described outline None k =
           absurd (written_described n.function (operands_of known n) image (no_fault n known (runs_alone work is nodes n can i)) (known c) (written_operand known n c w) (ap operand_format k))

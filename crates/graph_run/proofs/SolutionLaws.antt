@@ -17,8 +17,8 @@ use Rattle.graph_verify.specs.Cycle.{has_cycle}
 use Rattle.graph_verify.specs.Rounds as cells
 use Rattle.graph_verify.specs.Rounds.{IsSolution}
 use Rattle.graph_verify.specs.Verdict.{two_writers}
-use Rattle.graph_run.specs.Graph.{rounds}
-use Rattle.graph_run.specs.Solution.{WritesNo, ReadImages, Solves, kind_held, form_of}
+use Rattle.graph_run.specs.Graph.{rounds_of_nodes}
+use Rattle.graph_run.specs.Solution.{WritesNo, ReadImages, Solves, kind_in, form_of}
 use Rattle.graph_verify.proofs.MemberLemmas.{any-from_In}
 use Rattle.graph_verify.proofs.SolutionLemmas as cell_solutions
 use Rattle.graph_verify.proofs.LinkLemmas.{one_writer}
@@ -44,13 +44,13 @@ kinds_by_forms o p h = sym (kind-form_seen o) ∙ ap (option_map object_kind) h 
 
 module _ (nodes : List Node) (objects : List Named) (one : two_writers nodes ≡ false) (runs : has_cycle feeds nodes ≡ false) (whole : WritesNo kind.Delay nodes objects) where
   abbrev after : List Named
-  after = rounds nodes (length nodes) objects
+  after = rounds_of_nodes nodes (length nodes) objects
 
   abbrev values : Cell → Option ObjectValue
   values = cells.rounds writes (given_from (seen objects)) nodes (length nodes) (seen objects)
 
   seen_values : seen after ≡ values
-  seen_values = seen-rounds nodes (length nodes) objects (one_writer nodes one) whole ∙ same_rounds nodes (seen objects) (one_writer nodes one) (length nodes)
+  seen_values = seen-rounds_of_nodes nodes (length nodes) objects (one_writer nodes one) whole ∙ same_rounds nodes (seen objects) (one_writer nodes one) (length nodes)
 
   values_solve : IsSolution writes (given_from (seen objects)) nodes (seen objects) values
   values_solve = cell_solutions.rounds_solve (given_from (seen objects)) nodes (seen objects) (reads_alone (seen objects)) one runs
@@ -59,18 +59,18 @@ module _ (nodes : List Node) (objects : List Named) (one : two_writers nodes ≡
   seen_holds n c i w =
       ap (λ f. f c) seen_values
       ∙ values_solve.written n c i w
-      ∙ sym (given_same nodes (seen objects) values (Follows-rounds nodes (seen objects) (one_writer nodes one) (length nodes)) n c i w)
+      ∙ sym (given_same nodes (seen objects) values (Follows-rounds_of_nodes nodes (seen objects) (one_writer nodes one) (length nodes)) n c i w)
       ∙ ap (λ f. given_in n f c) (sym seen_values)
       ∙ sym (shown-given_in n (held after) c)
 
   -- each written cell holds what its node gives
   holds : (n : Node) (c : Cell) → In n nodes → writes n c ≡ true → held after c ≡ given_in n (held after) c
-  holds n c i w = grind (arith, unshown, given_in, WritesNo-forms, form-rounds, any-from_In, seen_holds)
+  holds n c i w = grind (arith, unshown, given_in, WritesNo-forms, form-rounds_of_nodes, any-from_In, seen_holds)
 
-  pub rounds_are_solution : Solves nodes objects (rounds nodes (length nodes) objects)
+  pub rounds_are_solution : Solves nodes objects (rounds_of_nodes nodes (length nodes) objects)
   rounds_are_solution = record {
-    labels = labels-rounds nodes (length nodes) objects;
-    forms = form-rounds nodes (length nodes) objects whole;
+    labels = labels-rounds_of_nodes nodes (length nodes) objects;
+    forms = form-rounds_of_nodes nodes (length nodes) objects whole;
     written = All-from_In (λ n. All (λ w. held after w.0 ≡ Some w.1) (written_by n (held after))) nodes
         (λ n i. All-from_In (λ w. held after w.0 ≡ Some w.1) (written_by n (held after))
         (given_holds n (held after) (no_twice_each nodes n one i) (λ c w. holds n c i w)));
@@ -103,7 +103,7 @@ solution_seen nodes before after whole images solves = record {
 }
   where
     image : (n : Node) → In n nodes → option_map object_kind (held after n.in1) ≡ Some kind.Image
-    image n i = grind (arith, kinds_by_forms (held after n.in1) (held before n.in1) (solves.forms n.in1), In-from_All (λ m. kind_held before m.in1 ≡ Some kind.Image) nodes images n i)
+    image n i = grind (arith, kinds_by_forms (held after n.in1) (held before n.in1) (solves.forms n.in1), In-from_All (λ m. kind_in before m.in1 ≡ Some kind.Image) nodes images n i)
 
     given : (n : Node) (c : Cell) → In n nodes → writes n c ≡ true → held after c ≡ given_to n (held after) c (held before c)
     given n c i w =
@@ -115,12 +115,12 @@ solution_seen nodes before after whole images solves = record {
         (whole c (any-from_In (λ m. writes m c) n nodes i w))
 
 pub only_solution : (nodes : List Node) (before after : List Named) → two_writers nodes ≡ false → has_cycle feeds nodes ≡ false → AllPairs (λ a b. a.name < b.name) before
-    → WritesNo kind.Delay nodes before → ReadImages nodes before → Solves nodes before after → after ≡ rounds nodes (length nodes) before
+    → WritesNo kind.Delay nodes before → ReadImages nodes before → Solves nodes before after → after ≡ rounds_of_nodes nodes (length nodes) before
 only_solution nodes before after one runs names whole images solves =
     let start : Cell → Option ObjectValue = seen before in
-    same_objects after (rounds nodes (length nodes) before)
+    same_objects after (rounds_of_nodes nodes (length nodes) before)
     (subst (λ z. Rising z) (sym solves.labels) (rising before names))
-    (solves.labels ∙ sym (labels-rounds nodes (length nodes) before))
+    (solves.labels ∙ sym (labels-rounds_of_nodes nodes (length nodes) before))
     (λ c.
     cell_solutions.only_solution (given_from start) nodes start (seen after) (reads_alone start) one runs (solution_seen nodes before after whole images solves) c
     ∙ ap (λ f. f c) (sym (seen_values nodes before one runs whole)))

@@ -13,7 +13,7 @@ use Rattle.object_table.specs.Skeleton.{skeleton}
 use Rattle.object_table.specs.Uses.{nodes_in}
 use Rattle.object_table.proofs.HeldLemmas.{names_of, held_by_name, object_held_has, object_held-map}
 use Rattle.graph_verify.specs.declared.known.VirtualOutput.{VirtualOutput}
-use Rattle.graph_run.specs.Graph.{is_virtual, forgotten}
+use Rattle.graph_run.specs.Graph.{is_virtual_object, forgotten}
 use Rattle.graph_run.specs.Lasting.{lasting_named, Lasts}
 use Rattle.graph_run.specs.Turns.{AreVirtual, AreExchanged, exchanged, exchanged_in, handed_out, cleared}
 use Rattle.graph_run.proofs.ExchangeLemmas.{ArePlain, HoldsPlain}
@@ -89,12 +89,12 @@ module _ (objects : List Named) where
       either true same there rest = grind (arith, eqb-true name o.cell.name same, All-head Holds o outputs held)
       either false same there rest = rest there
 
-kind_virtual : (object : ObjectValue) → object_kind object ≡ kind.VirtualImage → is_virtual object ≡ true
+kind_virtual : (object : ObjectValue) → object_kind object ≡ kind.VirtualImage → is_virtual_object object ≡ true
 kind_virtual (VirtualObject image) is = refl
 kind_virtual other is = cc
 
 -- a virtual image is its skeleton
-virtual_lasts : (old new : ObjectValue) → is_virtual old ≡ true → skeleton new ≡ skeleton old → new ≡ old
+virtual_lasts : (old new : ObjectValue) → is_virtual_object old ≡ true → skeleton new ≡ skeleton old → new ≡ old
 virtual_lasts (VirtualObject image) new is same = whole new same
   where
     whole : (x : ObjectValue) → skeleton x ≡ VirtualObject image → x ≡ VirtualObject image
@@ -108,7 +108,7 @@ virtual_lasts other new is same = absurd (cc)
 
 -- virtual images that were images are virtual images again; others are as they were left
 record IsBack (old left back : Named) : Type 0 where
-  is : back ≡ (if is_virtual old.object then old else left)
+  is : back ≡ (if is_virtual_object old.object then old else left)
   lasts : lasting_named back ≡ lasting_named old
 
 module _ (objects : List Named) (outputs : List VirtualOutput)
@@ -137,7 +137,7 @@ module _ (objects : List Named) (outputs : List VirtualOutput)
 
       either : (b : Bool) → is_output outputs old.name ≡ b → IsBack old left (go left)
       either true there =
-          let virtual_now : is_virtual old.object ≡ true =
+          let virtual_now : is_virtual_object old.object ≡ true =
           kind_virtual old.object
           (let k = ap (option_map object_kind) (sym held) ∙ output_virtual objects outputs old.name virtual there in cc) in
           let object : go left ≡ having old.object = ap having (back ∙ ap (λ b. if b then old.object else left.object) there) in
@@ -155,11 +155,11 @@ module _ (objects : List Named) (outputs : List VirtualOutput)
           let object : go left ≡ left = ap having (back ∙ ap (λ b. if b then old.object else left.object) there) in
           let same : lasting_named left ≡ lasting_named old = lasts ∙ ap lasting_named stayed in
           record {
-            is = object ∙ of_kind (is_virtual old.object) refl same;
+            is = object ∙ of_kind (is_virtual_object old.object) refl same;
             lasts = ap lasting_named object ∙ same;
           }
         where
-          of_kind : (b : Bool) → is_virtual old.object ≡ b → lasting_named left ≡ lasting_named old
+          of_kind : (b : Bool) → is_virtual_object old.object ≡ b → lasting_named left ≡ lasting_named old
               → left ≡ (if b then old else left)
           of_kind true is same =
               ap (λ (x : ObjectValue). let o : Named = record { name = left.name; live = left.live; object = x } in o)
@@ -177,7 +177,7 @@ module _ (objects : List Named) (outputs : List VirtualOutput)
       let Held : Named → Type 0 = λ o. object_held objects o.name ≡ Some o.object in
       let first = is_back o p (All-head Held o old held) (ap (λ l. get_or l 0 (lasting_named p)) lasts) in
       let rest = all_back old left (All-tail Held o old held) (ap (drop 1) lasts) in (
-        ap (λ q. q ∷ map go left) first.is ∙ ap (λ l. (if is_virtual o.object then o else p) ∷ l) rest.0,
+        ap (λ q. q ∷ map go left) first.is ∙ ap (λ l. (if is_virtual_object o.object then o else p) ∷ l) rest.0,
         ap (λ k. k ∷ map lasting_named (map go left)) first.lasts ∙ ap (λ l. lasting_named o ∷ l) rest.1,
       )
 

@@ -14,7 +14,7 @@ use Rattle.graph_verify.specs.Outlines.{resolved}
 use Rattle.graph_verify.specs.Verdict.{verdict, verdict_on, node_fault}
 use Rattle.graph_verify.proofs.NodeVerdictLemmas.{runs_alone}
 use Rattle.graph_verify.proofs.VerdictLemmas.{can_run}
-use Rattle.graph_run.specs.Graph.{begun, forgotten, one_by_one, run}
+use Rattle.graph_run.specs.Graph.{begun, forgotten, one_by_one, run_of_graph}
 use Rattle.graph_run.specs.Operands.{CellsStand}
 use Rattle.graph_run.proofs.BegunLaws.{labels-begun}
 use Rattle.graph_run.proofs.NameLaws.{Rising, rising}
@@ -39,7 +39,7 @@ module _ (work : ℕ) (is : Cell → Operand) (nodes : List Node) (runs : verdic
 
   -- a run is the nodes in an order in which they can run, each once
   pub run_in_order : (objects : List Named) → CellsStand is nodes objects → AllPairs (λ a b. a.name < b.name) objects → (steps : List Node) → IsOrder feeds nodes steps
-      → run (resolved is nodes) nodes objects ≡ forgotten objects (one_by_one steps (map (begun (resolved is nodes) nodes) objects))
+      → run_of_graph (resolved is nodes) nodes objects ≡ forgotten objects (one_by_one steps (map (begun (resolved is nodes) nodes) objects))
   run_in_order objects stand names steps order =
       let can = can_run work is nodes runs in
       let begin : List Named = map (begun (resolved is nodes) nodes) objects in

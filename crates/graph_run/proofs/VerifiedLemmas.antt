@@ -35,7 +35,7 @@ use Rattle.graph_verify.specs.Verified.{IsVerified}
 use Rattle.graph_verify.proofs.LinkLemmas.{same_cell-is, same-from_In, In-outputs, two_writers-permutation}
 use Rattle.graph_verify.proofs.MemberLemmas.{In-left, In-right, In-append, In-from_any, any-from_In, In-filter, In-from_filter, In-map, In-from_map, In-from_flat_map, In-at, AllIn-permutation, AllIn-permutation_back}
 use Rattle.graph_verify.proofs.VerdictLemmas.{CanRun, can_run}
-use Rattle.graph_run.specs.Graph.{begun, begun_as, forgotten, one_by_one, run}
+use Rattle.graph_run.specs.Graph.{begun, begun_as, forgotten, one_by_one, run_of_graph}
 use Rattle.graph_run.specs.Operands.{IsReady, names_cell, StandsFor, CellsStand, operand_held}
 use Rattle.graph_run.proofs.LinkLaws.{All-from_In, In-from_All}
 use Rattle.graph_run.proofs.OperandLaws.{kind-operand, no_fault, outline_of_virtual, known_kept, virtual_written, stands_after}
@@ -306,7 +306,7 @@ module _ (objects : List Named) (nodes : List Node) (v : Verified) (work : ℕ) 
 
     -- the run is the nodes in turn
     pub run_is : AllPairs (λ a b. a.name < b.name) objects → IsStrictlyIncreasing (names_of objects)
-        → forgotten objects (one_by_one steps (begun_with outs objects)) ≡ run known nodes objects
+        → forgotten objects (one_by_one steps (begun_with outs objects)) ≡ run_of_graph known nodes objects
     run_is pairs names = grind (arith, begun_is names, run_in_order work is nodes runs objects stand pairs steps how.order)
 
 -- ---- a graph that is ready to run on what a table holds
@@ -328,5 +328,5 @@ module _ (objects : List Named) (names : IsStrictlyIncreasing (names_of objects)
       names
 
   pub ready_run : forgotten objects (one_by_one v.steps.items (begun_with v.virtual_outputs.items objects))
-      ≡ run (resolved (operand_held objects) nodes) nodes objects
+      ≡ run_of_graph (resolved (operand_held objects) nodes) nodes objects
   ready_run = run_is objects nodes v h.runs.0 h.verified h.runs.1 h.cells (pairs_of objects names) names

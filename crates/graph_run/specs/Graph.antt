@@ -12,12 +12,12 @@ use Rattle.graph_verify.specs.declared.operand.Operand.TheVariants.{Image}
 use Rattle.graph_verify.specs.Links.{is_written}
 
 -- one round: all nodes write at once, of what the cells held before
-abbrev pub round : List Node → List Named → List Named
-round nodes objects = with_written objects (flat_map (λ n. written_by n (held objects)) nodes)
+abbrev pub round_of_nodes : List Node → List Named → List Named
+round_of_nodes nodes objects = with_written objects (flat_map (λ n. written_by n (held objects)) nodes)
 
-abbrev pub rounds : List Node → ℕ → List Named → List Named
-rounds nodes zero objects = objects
-rounds nodes (suc k) objects = round nodes (rounds nodes k objects)
+abbrev pub rounds_of_nodes : List Node → ℕ → List Named → List Named
+rounds_of_nodes nodes zero objects = objects
+rounds_of_nodes nodes (suc k) objects = round_of_nodes nodes (rounds_of_nodes nodes k objects)
 
 -- what a virtual image is while a graph runs that writes it: an image of what it was found to be, wholly valid and 0 everywhere
 abbrev pub begun_as : ObjectValue → Operand → ObjectValue
@@ -30,17 +30,17 @@ begun is nodes o =
     if is_written nodes cell then record o { object = begun_as o.object (is cell) } else o
 
 -- virtual images are forgotten as a run ends
-abbrev pub is_virtual : ObjectValue → Bool
-is_virtual (VirtualObject image) = true
-is_virtual other = false
+abbrev pub is_virtual_object : ObjectValue → Bool
+is_virtual_object (VirtualObject image) = true
+is_virtual_object other = false
 
 abbrev pub forgotten : List Named → List Named → List Named
-forgotten (o ∷ before) (p ∷ after) = (if is_virtual o.object then o else p) ∷ forgotten before after
+forgotten (o ∷ before) (p ∷ after) = (if is_virtual_object o.object then o else p) ∷ forgotten before after
 forgotten before after = after
 
 -- a run of a graph whose cells are found to be these operands: as many rounds as there are nodes
-abbrev pub run : (Cell → Operand) → List Node → List Named → List Named
-run is nodes objects = forgotten objects (rounds nodes (length nodes) (map (begun is nodes) objects))
+abbrev pub run_of_graph : (Cell → Operand) → List Node → List Named → List Named
+run_of_graph is nodes objects = forgotten objects (rounds_of_nodes nodes (length nodes) (map (begun is nodes) objects))
 
 -- the nodes one after the other, each once
 abbrev pub one_by_one : List Node → List Named → List Named

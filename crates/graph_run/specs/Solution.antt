@@ -13,16 +13,16 @@ use Rattle.object_table.specs.Skeleton.{skeleton}
 use Rattle.graph_verify.specs.Links.{is_written}
 
 -- the kind of what a cell holds
-abbrev pub kind_held : List Named → Cell → Option Kind
-kind_held objects cell = option_map object_kind (held objects cell)
+abbrev pub kind_in : List Named → Cell → Option Kind
+kind_in objects cell = option_map object_kind (held objects cell)
 
 -- no node writes an object of this kind; what stands in a slot of a delay is an image
 abbrev pub WritesNo : Kind → List Node → List Named → Type 0
-WritesNo k nodes objects = (cell : Cell) → is_written nodes cell ≡ true → kind_held objects cell ≢ Some k
+WritesNo k nodes objects = (cell : Cell) → is_written nodes cell ≡ true → kind_in objects cell ≢ Some k
 
 -- the first input of each node is an image
 abbrev pub ReadImages : List Node → List Named → Type 0
-ReadImages nodes objects = All (λ n. kind_held objects n.in1 ≡ Some kind.Image) nodes
+ReadImages nodes objects = All (λ n. kind_in objects n.in1 ≡ Some kind.Image) nodes
 
 -- what no node changes of an object, whatever stands in its cells: of an image the format, all of a graph, and of others the skeleton; a
 -- delay's images are in its slots
@@ -46,4 +46,4 @@ pub record Solves (nodes : List Node) (before after : List Named) : Type 0 where
   pub labels : map label_of after ≡ map label_of before
   pub forms : (cell : Cell) → form_held after cell ≡ form_held before cell
   pub written : All (λ n. All (λ w. held after w.0 ≡ Some w.1) (written_by n (held after))) nodes
-  pub others : (cell : Cell) → is_written nodes cell ≡ false → kind_held before cell ≢ Some kind.Delay → held after cell ≡ held before cell
+  pub others : (cell : Cell) → is_written nodes cell ≡ false → kind_in before cell ≢ Some kind.Delay → held after cell ≡ held before cell

@@ -26,7 +26,8 @@ pub fn run_node(
     output: &mut ImageMut<'_>,
 )
     requires { CanRun node.now first.now (second_object second.now) output.old }
-    ensures { Writes (node_image node.now which (written output.old).format first.now (second_object second.now)) output.old output.new }
+    ensures { Writes (node_image node.now which (written output.old).format first.now
+        (second_object second.now)) output.old output.new }
 {
     match (node.function, second) {
         (_, Second::Nothing) => run_on_one(node, which, first, output),
@@ -54,7 +55,8 @@ pub fn run_whole(
 )
     requires can_run { CanRun node.now first.now (second_object second.now) output.old }
     requires rows { output.old.rows ≡ all_rows output.old.desc.height }
-    ensures value { written output.new ≡ node_image node.now which (written output.old).format first.now (second_object second.now) }
+    ensures value { written output.new ≡ node_image node.now which
+        (written output.old).format first.now (second_object second.now) }
     ensures slices { SameSlices output.old output.new }
 {
     run_node(node, which, first, second, output);
@@ -63,7 +65,8 @@ pub fn run_whole(
 /// Writes what a function of one image gives.
 fn run_on_one(node: &Node, which: Output, first: &Image<'_>, output: &mut ImageMut<'_>)
     requires { CanRun node.now first.now None output.old }
-    ensures { Writes (node_image node.now which (written output.old).format first.now None) output.old output.new }
+    ensures { Writes (node_image node.now which (written output.old).format first.now None)
+        output.old output.new }
 {
     let border = node.border;
     match node.function {
@@ -92,7 +95,8 @@ fn run_on_two(
     output: &mut ImageMut<'_>,
 )
     requires { CanRun node.now first.now (Some (ImageObject second.now)) output.old }
-    ensures { Writes (node_image node.now which (written output.old).format first.now (Some (ImageObject second.now))) output.old output.new }
+    ensures { Writes (node_image node.now which (written output.old).format first.now
+        (Some (ImageObject second.now))) output.old output.new }
 {
     let (policy, amount) = (node.policy, node.amount);
     match node.function {

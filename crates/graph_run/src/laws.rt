@@ -15,47 +15,59 @@ ghost use Rattle.graph_verify.specs.Operand.{operands_of};
 ghost use Rattle.graph_verify.specs.Order.{IsOrder};
 ghost use Rattle.graph_verify.specs.Outlines.{resolved};
 ghost use Rattle.graph_verify.specs.Verdict.{two_writers, verdict, verdict_on};
-ghost use Rattle.graph_run.specs.Graph.{begun, forgotten, rounds, one_by_one, run};
+ghost use Rattle.graph_run.specs.Graph.{begun, forgotten, rounds_of_nodes, one_by_one};
+ghost use Rattle.graph_run.specs.Graph.{run_of_graph};
 ghost use Rattle.graph_run.specs.Operands.{CellsStand};
 ghost use Rattle.graph_run.specs.Solution.{WritesNo, ReadImages, Solves};
 
 /// The nodes one after the other, each once and after those that feed it, leave what the rounds
 /// leave.
 pub fn once_in_order()
-    ensures { (nodes steps : List Node) (objects : List Named) → IsOrder feeds nodes steps → two_writers nodes ≡ false →
+    ensures { (nodes steps : List Node) (objects : List Named) → IsOrder feeds nodes steps →
+        two_writers nodes ≡ false →
         AllPairs (λ a b. a.name < b.name) objects → WritesNo kind.Delay nodes objects →
-        rounds nodes (length nodes) objects ≡ one_by_one steps objects }
+        rounds_of_nodes nodes (length nodes) objects ≡ one_by_one steps objects }
 {}
 
 /// What the rounds leave solves a graph that has no cycle and no cell with two writers, and nothing
 /// else does.
 pub fn rounds_solve()
-    ensures solves { (nodes : List Node) (before : List Named) → two_writers nodes ≡ false → has_cycle feeds nodes ≡ false →
-        WritesNo kind.Delay nodes before → Solves nodes before (rounds nodes (length nodes) before) }
-    ensures only { (nodes : List Node) (before after : List Named) → two_writers nodes ≡ false → has_cycle feeds nodes ≡ false →
-        AllPairs (λ a b. a.name < b.name) before → WritesNo kind.Delay nodes before → ReadImages nodes before →
-        Solves nodes before after → after ≡ rounds nodes (length nodes) before }
+    ensures solves { (nodes : List Node) (before : List Named) → two_writers nodes ≡ false →
+        has_cycle feeds nodes ≡ false →
+        WritesNo kind.Delay nodes before →
+        Solves nodes before (rounds_of_nodes nodes (length nodes) before) }
+    ensures only { (nodes : List Node) (before after : List Named) → two_writers nodes ≡ false →
+        has_cycle feeds nodes ≡ false →
+        AllPairs (λ a b. a.name < b.name) before → WritesNo kind.Delay nodes before →
+        ReadImages nodes before →
+        Solves nodes before after → after ≡ rounds_of_nodes nodes (length nodes) before }
 {}
 
 /// A graph of one node runs as the node does at once.
 pub fn one_node()
-    ensures { (is : Cell → Operand) (n : Node) (objects : List Named) → AllPairs (λ a b. a.name < b.name) objects →
-        WritesNo kind.VirtualImage (n ∷ []) objects → run is (n ∷ []) objects ≡ with_written objects (written_by n (held objects)) }
+    ensures { (is : Cell → Operand) (n : Node) (objects : List Named) →
+        AllPairs (λ a b. a.name < b.name) objects →
+        WritesNo kind.VirtualImage (n ∷ []) objects →
+        run_of_graph is (n ∷ []) objects ≡ with_written objects (written_by n (held objects)) }
 {}
 
 /// A graph runs alike in whatever order its nodes were added.
 pub fn added_in_any_order()
-    ensures { (is : Cell → Operand) (nodes others : List Node) (objects : List Named) → IsPermutation nodes others → two_writers nodes ≡ false →
+    ensures { (is : Cell → Operand) (nodes others : List Node) (objects : List Named) →
+        IsPermutation nodes others → two_writers nodes ≡ false →
         AllPairs (λ a b. a.name < b.name) objects → WritesNo kind.Delay nodes objects →
-        run (resolved is nodes) nodes objects ≡ run (resolved is others) others objects }
+        run_of_graph (resolved is nodes) nodes objects
+        ≡ run_of_graph (resolved is others) others objects }
 {}
 
 /// In a graph that can run, each node can run on what its cells are found to be, and whichever of
 /// the nodes have run by then, the cells are what they were found to be.
 pub fn each_at_its_turn()
-    ensures alone { (work : ℕ) (is : Cell → Operand) (nodes : List Node) (n : Node) → verdict work is nodes ≡ None → In n nodes →
+    ensures alone { (work : ℕ) (is : Cell → Operand) (nodes : List Node) (n : Node) →
+        verdict work is nodes ≡ None → In n nodes →
         verdict_on n (operands_of (resolved is nodes) n) ≡ None }
-    ensures cells { (work : ℕ) (is : Cell → Operand) (nodes before : List Node) (objects : List Named) → verdict work is nodes ≡ None →
+    ensures cells { (work : ℕ) (is : Cell → Operand) (nodes before : List Node)
+        (objects : List Named) → verdict work is nodes ≡ None →
         CellsStand is nodes objects → AllIn before nodes →
         CellsStand (resolved is nodes) nodes (one_by_one before (map (begun (resolved is nodes) nodes) objects)) }
 {}
@@ -63,7 +75,10 @@ pub fn each_at_its_turn()
 /// A run of a graph that can run is its nodes in an order in which they can run, each once, on what
 /// its cells are as it begins; virtual images are forgotten.
 pub fn runs_in_order()
-    ensures { (work : ℕ) (is : Cell → Operand) (nodes steps : List Node) (objects : List Named) → verdict work is nodes ≡ None →
-        CellsStand is nodes objects → AllPairs (λ a b. a.name < b.name) objects → IsOrder feeds nodes steps →
-        run (resolved is nodes) nodes objects ≡ forgotten objects (one_by_one steps (map (begun (resolved is nodes) nodes) objects)) }
+    ensures { (work : ℕ) (is : Cell → Operand) (nodes steps : List Node) (objects : List Named) →
+        verdict work is nodes ≡ None →
+        CellsStand is nodes objects → AllPairs (λ a b. a.name < b.name) objects →
+        IsOrder feeds nodes steps →
+        run_of_graph (resolved is nodes) nodes objects
+        ≡ forgotten objects (one_by_one steps (map (begun (resolved is nodes) nodes) objects)) }
 {}

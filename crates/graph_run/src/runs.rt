@@ -7,10 +7,11 @@ ghost use Rattle.vx_base.specs.Object.{IsObject};
 ghost use Rattle.object_table.specs.Context.{with_objects};
 ghost use Rattle.object_table.specs.Uses.{nodes_in};
 ghost use Rattle.graph_verify.specs.Outlines.{resolved};
-ghost use Rattle.graph_run.specs.Graph.{forgotten, one_by_one, run};
+ghost use Rattle.graph_run.specs.Graph.{forgotten, one_by_one, run_of_graph};
 ghost use Rattle.graph_run.specs.Lasting.{Lasts};
 ghost use Rattle.graph_run.specs.Operands.{operand_held, IsReady};
-ghost use Rattle.graph_run.specs.Turns.{CanRunInTurn, AreVirtual, AreExchanged, exchanged_in, handed_out, cleared, begun_with};
+ghost use Rattle.graph_run.specs.Turns.{CanRunInTurn, AreVirtual, AreExchanged, exchanged_in};
+ghost use Rattle.graph_run.specs.Turns.{handed_out, cleared, begun_with};
 
 use crate::step::run_once;
 use graph_verify::{Verified, VirtualOutput};
@@ -29,7 +30,7 @@ pub fn run(alloc: Global, verified: &Verified, table: &mut Table) -> Result<(), 
     ensures value { OnOk result ((nodes : List NodeFields) →
         IsReady table.old.objects nodes verified.now →
         table.new ≡ with_objects table.old
-        (run (resolved (operand_held table.old.objects) nodes) nodes table.old.objects)) }
+        (run_of_graph (resolved (operand_held table.old.objects) nodes) nodes table.old.objects)) }
     ensures lasts { Lasts table.old.objects table.new.objects }
     ensures err { OnErr result (table.new ≡ table.old) }
 {
@@ -52,7 +53,9 @@ fn run_over(table: &mut Table, steps: &[Node], outputs: &[VirtualOutput], images
     requires steps { CanRunInTurn steps.now (begun_with outputs.now table.old.objects) }
     requires cleared { images.old ≡ cleared outputs.now }
     requires images { All IsObject images.old }
-    ensures value { table.new ≡ with_objects table.old (forgotten table.old.objects (one_by_one steps.now (begun_with outputs.now table.old.objects))) }
+    ensures value { table.new ≡ with_objects table.old
+        (forgotten table.old.objects (one_by_one steps.now
+        (begun_with outputs.now table.old.objects))) }
     ensures lasts { Lasts table.old.objects table.new.objects }
 {
     exchange_all(table, outputs, images);
@@ -79,7 +82,8 @@ fn exchange_all(table: &mut Table, outputs: &[VirtualOutput], objects: &mut [Obj
     requires count { length objects.old ≡ length outputs.now }
     requires come { All (λ object. nodes_in object ≡ []) objects.old }
     requires gone { AreExchanged table.old.objects outputs.now }
-    ensures value { table.new ≡ with_objects table.old (exchanged_in outputs.now objects.old table.old.objects) }
+    ensures value { table.new ≡ with_objects table.old
+        (exchanged_in outputs.now objects.old table.old.objects) }
     ensures handed_out { objects.new ≡ handed_out outputs.now objects.old table.old.objects }
 {
     for (k, output) in outputs.iter().enumerate() {

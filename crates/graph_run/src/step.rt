@@ -1,5 +1,6 @@
 //! Nodes that run on what their cells hold in a table.
-ghost use Rattle.std.specs.Prelude.{◌≡◌, ◌≢◌, [], length, map, pos, is_some, IsTrue, All, Some, IfSome};
+ghost use Rattle.std.specs.Prelude.{◌≡◌, ◌≢◌, [], length, map, pos, is_some, IsTrue, All, Some};
+ghost use Rattle.std.specs.Prelude.{IfSome};
 ghost use Rattle.std.specs.List.Sorted.{IsStrictlyIncreasing};
 ghost use Rattle.std.specs.Option.{option_map};
 ghost use Rattle.vx_base.specs.declared.format.Format.TheVariants.{U8, S16, U32};
@@ -12,11 +13,13 @@ ghost use Rattle.vx_base.specs.Outputs.{node_image, written_by};
 ghost use Rattle.vx_base.specs.Rectangle.{empty};
 ghost use Rattle.vx_base.specs.Statistics.{extremes};
 ghost use Rattle.image_core.specs.Second.{second_object};
-ghost use Rattle.object_table.specs.Context.{with_objects, cell_of};
+ghost use Rattle.vx_base.specs.Cell.{cell_of};
+ghost use Rattle.object_table.specs.Context.{with_objects};
 ghost use Rattle.object_table.specs.Delay.{in_slot, object_in};
 ghost use Rattle.object_table.specs.Object.{distribution_value};
 ghost use Rattle.object_table.specs.Named.{held, with_object, with_written};
-ghost use Rattle.object_table.specs.Table.{object_under, IsUnder, cell_object, image_held, HoldsImage};
+ghost use Rattle.object_table.specs.Table.{object_under, IsUnder, cell_object, image_held};
+ghost use Rattle.object_table.specs.Table.{HoldsImage};
 ghost use Rattle.graph_run.specs.Lasting.{Lasts};
 ghost use Rattle.graph_run.specs.Steps.{Holds, CanRunTo, RunsTo, IsRead, counted_in, with_output};
 ghost use Rattle.graph_run.specs.Turns.{CanRunNow};
@@ -44,7 +47,8 @@ pub fn run_once(table: &mut Table, node: &Node)
 /// read where they stand. It takes no memory.
 fn run_to(table: &mut Table, node: &Node, which: Output, output: Option<ObjRef>)
     requires { IfSome output (RunsTo table.old.objects node.now) }
-    ensures { table.new ≡ with_objects table.old (with_output table.old.objects node.now which output) }
+    ensures { table.new ≡ with_objects table.old
+        (with_output table.old.objects node.now which output) }
 {
     if let Some(output) = output {
         match node.function.parameters().output {
@@ -60,7 +64,8 @@ fn run_to(table: &mut Table, node: &Node, which: Output, output: Option<ObjRef>)
 fn write_to(table: &mut Table, node: &Node, which: Output, output: ObjRef)
     requires runs { RunsTo table.old.objects node.now output }
     requires kind { (parameters node.now.function).output ≡ kind.Image }
-    ensures { table.new ≡ with_objects table.old (with_output table.old.objects node.now which (Some output)) }
+    ensures { table.new ≡ with_objects table.old
+        (with_output table.old.objects node.now which (Some output)) }
 {
     let (desc, samples) = table.take(output);
     let first = table.image(node.in1).image();
@@ -88,7 +93,9 @@ fn count_to(table: &mut Table, input: ObjRef, output: u32)
     requires image { IsImage (image_held table.old.objects input) }
     requires format { (image_held table.old.objects input).format ≡ U8 }
     requires kind { IsUnder table.old.objects kind.Distribution output }
-    ensures { table.new ≡ with_objects table.old (with_object table.old.objects (cell_of output) (counted_in (image_held table.old.objects input) (object_under table.old.objects output))) }
+    ensures { table.new ≡ with_objects table.old
+        (with_object table.old.objects (cell_of output)
+        (counted_in (image_held table.old.objects input) (object_under table.old.objects output))) }
 {
     let bins = match table.get_held(output) {
         Some(object) => bins_of(object),
@@ -117,7 +124,9 @@ fn locate_to(table: &mut Table, input: ObjRef, output: u32)
     requires image { IsImage (image_held table.old.objects input) }
     requires format { (image_held table.old.objects input).format ≢ U32 }
     requires kind { IsUnder table.old.objects kind.Extremes output }
-    ensures { table.new ≡ with_objects table.old (with_object table.old.objects (cell_of output) (ExtremesObject (extremes (image_held table.old.objects input)))) }
+    ensures { table.new ≡ with_objects table.old
+        (with_object table.old.objects (cell_of output)
+        (ExtremesObject (extremes (image_held table.old.objects input)))) }
 {
     let extremes = min_max(&table.image(input).image());
     table.set_extremes(output, extremes);
@@ -127,7 +136,8 @@ fn locate_to(table: &mut Table, input: ObjRef, output: u32)
 fn second_held(table: &Table, cell: Option<ObjRef>) -> Second<'_>
     requires there { IfSome cell (Holds table.now.objects) }
     requires object { IfSome (option_map (cell_object table.now.objects) cell) IsObject }
-    requires kind { IfSome (option_map (cell_object table.now.objects) cell) (λ object. IsRead (object_kind object)) }
+    requires kind { IfSome (option_map (cell_object table.now.objects) cell)
+        (λ object. IsRead (object_kind object)) }
     ensures { second_object result ≡ option_map (cell_object table.now.objects) cell }
 {
     let Some(cell) = cell else {
@@ -187,9 +197,12 @@ fn run_u8(
 ) -> Rect
     requires format { desc.format ≡ U8 }
     requires size { length samples.old ≡ sample_count desc }
-    requires can_run { CanRunTo node.now first.now (second_object second.now) (image_over desc empty []) }
-    ensures valid { result ≡ (node_image node.now which U8 first.now (second_object second.now)).valid }
-    ensures samples { map pos samples.new ≡ (node_image node.now which U8 first.now (second_object second.now)).samples }
+    requires can_run { CanRunTo node.now first.now (second_object second.now)
+        (image_over desc empty []) }
+    ensures valid { result ≡ (node_image node.now which U8 first.now
+        (second_object second.now)).valid }
+    ensures samples { map pos samples.new
+        ≡ (node_image node.now which U8 first.now (second_object second.now)).samples }
 {
     run_on!(desc, samples, node, which, first, second)
 }
@@ -205,9 +218,12 @@ fn run_s16(
 ) -> Rect
     requires format { desc.format ≡ S16 }
     requires size { length samples.old ≡ sample_count desc }
-    requires can_run { CanRunTo node.now first.now (second_object second.now) (image_over desc empty []) }
-    ensures valid { result ≡ (node_image node.now which S16 first.now (second_object second.now)).valid }
-    ensures samples { samples.new ≡ (node_image node.now which S16 first.now (second_object second.now)).samples }
+    requires can_run { CanRunTo node.now first.now (second_object second.now)
+        (image_over desc empty []) }
+    ensures valid { result ≡ (node_image node.now which S16 first.now
+        (second_object second.now)).valid }
+    ensures samples { samples.new ≡ (node_image node.now which S16 first.now
+        (second_object second.now)).samples }
 {
     run_on!(desc, samples, node, which, first, second)
 }
@@ -223,9 +239,12 @@ fn run_u32(
 ) -> Rect
     requires format { desc.format ≡ U32 }
     requires size { length samples.old ≡ sample_count desc }
-    requires can_run { CanRunTo node.now first.now (second_object second.now) (image_over desc empty []) }
-    ensures valid { result ≡ (node_image node.now which U32 first.now (second_object second.now)).valid }
-    ensures samples { map pos samples.new ≡ (node_image node.now which U32 first.now (second_object second.now)).samples }
+    requires can_run { CanRunTo node.now first.now (second_object second.now)
+        (image_over desc empty []) }
+    ensures valid { result ≡ (node_image node.now which U32 first.now
+        (second_object second.now)).valid }
+    ensures samples { map pos samples.new
+        ≡ (node_image node.now which U32 first.now (second_object second.now)).samples }
 {
     run_on!(desc, samples, node, which, first, second)
 }

@@ -38,8 +38,10 @@ pub fn verify_in(
 
 /// Nodes beside what their cells are to them.
 fn linked(alloc: Global, table: &Table, nodes: &[Numbered]) -> Result<Vec<Linked>, AllocError>
-    ensures nodes { IfOk result (λ linked. linked_nodes linked.items ≡ map (λ n. n.node) nodes.now) }
-    ensures operands { IfOk result (λ linked. AreOperands (operand_held table.now.objects) linked.items) }
+    ensures nodes { IfOk result (λ linked. linked_nodes linked.items
+        ≡ map (λ n. n.node) nodes.now) }
+    ensures operands { IfOk result (λ linked.
+        AreOperands (operand_held table.now.objects) linked.items) }
 {
     let mut linked = Vec::new(alloc);
     for numbered in nodes {

@@ -16,7 +16,7 @@ use Rattle.graph_verify.specs.declared.verdict.Verdict.{Verdict}
 use Rattle.graph_verify.specs.declared.verdict.Verdict.TheVariants.{MultipleWriters, InvalidGraph, InvalidLink, NoResources}
 use Rattle.graph_verify.specs.Cycle.{has_cycle, is_empty}
 use Rattle.graph_verify.specs.Links.{writes, feeds, has_twice, is_written}
-use Rattle.graph_verify.specs.Operand.{is_virtual, operand_bytes, operands_of}
+use Rattle.graph_verify.specs.Operand.{is_virtual, virtual_bytes, operands_of}
 use Rattle.graph_verify.specs.Outlines.{outlines, as_known, resolved}
 use Rattle.graph_verify.specs.Verdict.{writes_twice, reads_own_output, node_fault, verdict_on, two_writers, is_loose, reads_loose, virtual_outputs, work_bytes, verdict}
 use Rattle.graph_verify.proofs.LinkLemmas.{is_fed-written, any_agree}

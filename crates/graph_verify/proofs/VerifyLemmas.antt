@@ -28,12 +28,12 @@ use Rattle.graph_verify.specs.declared.verdict.Verdict.TheVariants.{InvalidLink,
 use Rattle.graph_verify.specs.declared.verified.Verified.{Verified}
 use Rattle.graph_verify.specs.Members.{In}
 use Rattle.graph_verify.specs.Cycle.{has_cycle}
-use Rattle.graph_verify.specs.Known.{described, known_operands, AreKnown}
+use Rattle.graph_verify.specs.Known.{closed_output, known_operands, AreKnown}
 use Rattle.graph_verify.specs.Linked.{linked_nodes, AreOperands}
 use Rattle.graph_verify.specs.Links.{writes, feeds, is_written}
-use Rattle.graph_verify.specs.Operand.{is_virtual, is_image, operand_format, operand_bytes, operands_of, operand_description, written_operands, other_operands, are_of_one_size}
+use Rattle.graph_verify.specs.Operand.{is_virtual, is_image, operand_format, virtual_bytes, operands_of, operand_description, written_operands, other_operands, are_of_one_size}
 use Rattle.graph_verify.specs.Order.{IsOrder}
-use Rattle.graph_verify.specs.Outlines.{operand_outline, given_outline, written_outline, outlines, as_described, as_known, resolved}
+use Rattle.graph_verify.specs.Outlines.{operand_outline, given_outline, written_outline, outlines, virtual_or_image, as_known, resolved}
 use Rattle.graph_verify.specs.Rounds.{IsSolution}
 use Rattle.graph_verify.specs.Verdict.{two_writers, reads_loose, node_fault, takes_operands, takes_first, first_fault, virtual_outputs, work_bytes, verdict}
 use Rattle.graph_verify.specs.Verified.{IsVerified, written_description}
@@ -59,15 +59,15 @@ module _ (is : Cell → Operand) where
   outputs_sum-permutation : (f : Cell → ℕ) (g steps : List Node) → IsPermutation g steps → sum_by f (virtual_outputs is steps) ≡ sum_by f (virtual_outputs is g)
   outputs_sum-permutation f g steps same = grind (arith, sum_of_outputs, sum_by-IsPermutation)
 
-described_bytes : (known : List Known) → sum_by (λ (o : VirtualOutput). byte_count o.desc) (filter_map described known) ≡ sum_by (λ (k : Known). operand_bytes (as_described k.outline (closed k.outline))) known
+described_bytes : (known : List Known) → sum_by (λ (o : VirtualOutput). byte_count o.desc) (filter_map closed_output known) ≡ sum_by (λ (k : Known). virtual_bytes (virtual_or_image k.outline (closed k.outline))) known
 described_bytes [] = refl
 described_bytes (k ∷ known) =
-    one_more k.cell k.outline (closed k.outline) (filter_map described known)
-    ∙ ap (λ bytes. operand_bytes (as_described k.outline (closed k.outline)) + bytes) (described_bytes known)
-    ∙ sym (sum_by-cons (λ (j : Known). operand_bytes (as_described j.outline (closed j.outline))) k known)
+    one_more k.cell k.outline (closed k.outline) (filter_map closed_output known)
+    ∙ ap (λ bytes. virtual_bytes (virtual_or_image k.outline (closed k.outline)) + bytes) (described_bytes known)
+    ∙ sym (sum_by-cons (λ (j : Known). virtual_bytes (virtual_or_image j.outline (closed j.outline))) k known)
   where
     one_more : (cell : Cell) (o : Outline) (d : Option Description) (rest : List VirtualOutput)
-        → sum_by (λ (v : VirtualOutput). byte_count v.desc) (cons_option (option_map (λ e. record { cell = cell; desc = e }) d) rest) ≡ operand_bytes (as_described o d) + sum_by (λ (v : VirtualOutput). byte_count v.desc) rest
+        → sum_by (λ (v : VirtualOutput). byte_count v.desc) (cons_option (option_map (λ e. record { cell = cell; desc = e }) d) rest) ≡ virtual_bytes (virtual_or_image o d) + sum_by (λ (v : VirtualOutput). byte_count v.desc) rest
     one_more cell o None rest = omega arith
     one_more cell o (Some d) rest = sum_by-cons (λ (v : VirtualOutput). byte_count v.desc) (record { cell = cell; desc = d }) rest
 
@@ -84,7 +84,7 @@ module _ (is : Cell → Operand) where
   pub known_virtual : (all : List Node) (known : List Known) → AreKnown is all known → (k : Known) → In k known → is_virtual (is k.cell) ≡ true
   known_virtual all known h k i = (In-from_filter (λ c. is_virtual (is c)) k.cell (flat_map outputs all) (subst (In k.cell) h.cells (In-map (λ (j : Known). j.cell) k known i))).1
 
-  virtual_resolved : (all : List Node) (c : Cell) (o : Operand) → is_virtual o ≡ true → as_known o (outlines is all c) ≡ as_described (outlines is all c) (closed (outlines is all c))
+  virtual_resolved : (all : List Node) (c : Cell) (o : Operand) → is_virtual o ≡ true → as_known o (outlines is all c) ≡ virtual_or_image (outlines is all c) (closed (outlines is all c))
   virtual_resolved all c (Virtual declared) e = refl
   virtual_resolved all c (Image d) e = absurd (cc e)
   virtual_resolved all c (Lut f) e = absurd (cc e)
@@ -96,19 +96,19 @@ module _ (is : Cell → Operand) where
   virtual_resolved all c Graph e = absurd (cc e)
 
   -- what is known of a virtual image says what it is
-  pub known_resolved : (all : List Node) (known : List Known) → AreKnown is all known → (k : Known) → In k known → as_described k.outline (closed k.outline) ≡ resolved is all k.cell
+  pub known_resolved : (all : List Node) (known : List Known) → AreKnown is all known → (k : Known) → In k known → virtual_or_image k.outline (closed k.outline) ≡ resolved is all k.cell
   known_resolved all known h k i = grind (arith, learnt_from_known is all known h, virtual_resolved all k.cell (is k.cell) (known_virtual all known h k i), known_virtual all known h k i)
 
   pub all_bytes : (nodes steps : List Node) (known : List Known) → two_writers nodes ≡ false → IsOrder feeds nodes steps → AreKnown is steps known
-      → sum_by (λ (o : VirtualOutput). byte_count o.desc) (filter_map described known) ≡ work_bytes is nodes
+      → sum_by (λ (o : VirtualOutput). byte_count o.desc) (filter_map closed_output known) ≡ work_bytes is nodes
   all_bytes nodes steps known one order h =
-      let bytes : Cell → ℕ = λ c. operand_bytes (resolved is steps c) in
+      let bytes : Cell → ℕ = λ c. virtual_bytes (resolved is steps c) in
       described_bytes known
-      ∙ sum_agree (λ (k : Known). operand_bytes (as_described k.outline (closed k.outline))) (λ (k : Known). bytes k.cell) known (λ k i. ap operand_bytes (known_resolved steps known h k i))
+      ∙ sum_agree (λ (k : Known). virtual_bytes (virtual_or_image k.outline (closed k.outline))) (λ (k : Known). bytes k.cell) known (λ k i. ap virtual_bytes (known_resolved steps known h k i))
       ∙ sum_map bytes (λ (k : Known). k.cell) known
       ∙ ap (sum_by bytes) h.cells
       ∙ outputs_sum-permutation is bytes nodes steps order.same_nodes
-      ∙ ap (λ (r : Cell → Operand). sum_by (λ c. operand_bytes (r c)) (virtual_outputs is nodes)) (sym (fun_ext (resolved-order is nodes steps one order)))
+      ∙ ap (λ (r : Cell → Operand). sum_by (λ c. virtual_bytes (r c)) (virtual_outputs is nodes)) (sym (fun_ext (resolved-order is nodes steps one order)))
 
 -- ---- the fault of a node
 
@@ -152,7 +152,7 @@ module _ (is : Cell → Operand) where
     where
       by : (d : Option Description) → closed (outlines is all c) ≡ d → (d : Description) × (outlines is all c ≡ outline_of d)
       by (Some d) k = (d, closed_is (outlines is all c) d k)
-      by None k = let fails : operand_format (as_described (outlines is all c) (closed (outlines is all c))) ≡ None = ap (λ (g : Option Description). operand_format (as_described (outlines is all c) g)) k in absurd (cc)
+      by None k = let fails : operand_format (virtual_or_image (outlines is all c) (closed (outlines is all c))) ≡ None = ap (λ (g : Option Description). operand_format (virtual_or_image (outlines is all c) g)) k in absurd (cc)
   image_closed all c (Lut f') f e image has = absurd (cc image)
   image_closed all c (Threshold f') f e image has = absurd (cc image)
   image_closed all c Delay f e image has = absurd (cc image)
@@ -184,16 +184,16 @@ module _ (is : Cell → Operand) where
       let d = output_closed all solves writer.0 writer.1 (images writer.0 writer.1) (sound writer.0 writer.1) k.cell (same-from_In k.cell (outputs writer.0) writer.2) in
       (d.0, ap closed ((learnt_from_known is all known h).each k i) ∙ d.1)
 
-described_cells : (known : List Known) → ((k : Known) → In k known → (d : Description) × (closed k.outline ≡ Some d)) → map (λ (o : VirtualOutput). o.cell) (filter_map described known) ≡ map (λ (k : Known). k.cell) known
+described_cells : (known : List Known) → ((k : Known) → In k known → (d : Description) × (closed k.outline ≡ Some d)) → map (λ (o : VirtualOutput). o.cell) (filter_map closed_output known) ≡ map (λ (k : Known). k.cell) known
 described_cells [] all = refl
 described_cells (k ∷ known) all =
     let d = all k (inl refl) in
-    ap (λ (e : Option Description). map (λ (o : VirtualOutput). o.cell) (cons_option (option_map (λ f. record { cell = k.cell; desc = f }) e) (filter_map described known))) d.1
+    ap (λ (e : Option Description). map (λ (o : VirtualOutput). o.cell) (cons_option (option_map (λ f. record { cell = k.cell; desc = f }) e) (filter_map closed_output known))) d.1
     ∙ ap (λ l. k.cell ∷ l) (described_cells known (λ j i. all j (inr i)))
 
-In-described : (known : List Known) (o : VirtualOutput) → In o (filter_map described known) → (k : Known) × In k known × (k.cell ≡ o.cell) × (closed k.outline ≡ Some o.desc)
-In-described [] o i = absurd i
-In-described (k ∷ known) o i = grind (arith, In-described known o)
+In-closed_output : (known : List Known) (o : VirtualOutput) → In o (filter_map closed_output known) → (k : Known) × In k known × (k.cell ≡ o.cell) × (closed k.outline ≡ Some o.desc)
+In-closed_output [] o i = absurd i
+In-closed_output (k ∷ known) o i = grind (arith, In-closed_output known o)
 
 -- ---- the nodes beside their operands, and the steps
 
@@ -244,12 +244,12 @@ module _ (nodes steps : List Linked) (one : two_writers (linked_nodes nodes) ≡
       → false ≡ reads_loose is (linked_nodes nodes) → verdict work is (linked_nodes nodes) ≡ option_or fault (where_room work is (linked_nodes nodes))
   verdict_found work is known seen fault operands told same finds no_loose_end = search (rules, by_fault, nodes_no_cycle, found_fault)
 
-  pub bytes_found : (is : Cell → Operand) (known : List Known) (outputs : List VirtualOutput) → AreOperands is nodes → Told known → outputs ≡ filter_map described known → sum_by (λ o. byte_count o.desc) outputs ≡ work_bytes is (linked_nodes nodes)
+  pub bytes_found : (is : Cell → Operand) (known : List Known) (outputs : List VirtualOutput) → AreOperands is nodes → Told known → outputs ≡ filter_map closed_output known → sum_by (λ o. byte_count o.desc) outputs ≡ work_bytes is (linked_nodes nodes)
   bytes_found is known outputs operands told is_outputs =
       ap (sum_by (λ (o : VirtualOutput). byte_count o.desc)) is_outputs ∙ all_bytes is (linked_nodes nodes) (linked_nodes steps) known one nodes_order (told is (steps_operands is operands))
 
   pub verified_found : (is : Cell → Operand) (known seen : List Known) (v : Verified) → AreOperands is nodes → Told known → seen ≡ known → Finds seen None → All (λ (l : Linked). IsTrue (is_image l.operands.in1)) nodes
-      → v.steps.items ≡ linked_nodes steps → v.virtual_outputs.items ≡ filter_map described known → IsVerified is (linked_nodes nodes) v
+      → v.steps.items ≡ linked_nodes steps → v.virtual_outputs.items ≡ filter_map closed_output known → IsVerified is (linked_nodes nodes) v
   verified_found is known seen v operands told same finds images is_steps is_outputs =
       let ns = linked_nodes nodes in
       let ss = linked_nodes steps in
@@ -273,21 +273,21 @@ module _ (nodes steps : List Linked) (one : two_writers (linked_nodes nodes) ≡
             ∙ ap (virtual_outputs is) (sym is_steps);
         descriptions = (λ k d within.
             let o = get_or v.virtual_outputs.items k d in
-            let found = In-described known o (subst (In o) is_outputs (In-at v.virtual_outputs.items k d within)) in
+            let found = In-closed_output known o (subst (In o) is_outputs (In-at v.virtual_outputs.items k d within)) in
             ap (λ (r : Cell → Operand). r o.cell) (same_resolved is)
             ∙ ap (resolved is ss) (sym found.2)
             ∙ sym (known_resolved is ss known h found.0 found.1)
-            ∙ ap (λ (e : Option Description). as_described found.0.outline e) found.3);
+            ∙ ap (λ (e : Option Description). virtual_or_image found.0.outline e) found.3);
       }
 
 -- no more outputs than two for each node
-pub few_outputs : (nodes steps : List Linked) (known : List Known) (outputs : List VirtualOutput) → length nodes ≤ 256 → IsOrder links nodes steps → length known ≤ 2 * length steps → outputs ≡ filter_map described known → length outputs ≤ 512
+pub few_outputs : (nodes steps : List Linked) (known : List Known) (outputs : List VirtualOutput) → length nodes ≤ 256 → IsOrder links nodes steps → length known ≤ 2 * length steps → outputs ≡ filter_map closed_output known → length outputs ≤ 512
 few_outputs nodes steps known outputs few order limit is =
     let same = length_permutation nodes steps order.same_nodes in
     let fewer = shorter known in
     omega (arith, few, same, limit, fewer, ap length is)
   where
-    shorter : (known : List Known) → length (filter_map described known) ≤ length known
+    shorter : (known : List Known) → length (filter_map closed_output known) ≤ length known
     shorter [] = omega arith
     shorter (k ∷ known) = grind (arith, shorter known)
 

@@ -8,13 +8,9 @@ use Rattle.vx_base.specs.declared.border.Border.TheVariants.{Undefined}
 use Rattle.vx_base.specs.declared.function.Function.{Function}
 use Rattle.vx_base.specs.declared.function.Function.TheVariants.{AndBits, NotBits, Add, ConvertDepth}
 use Rattle.vx_base.specs.declared.node.Node.{Node}
-use Rattle.vx_base.specs.Cell.{Cell}
+use Rattle.vx_base.specs.Cell.{Cell, cell_of}
 use Rattle.graph_verify.specs.declared.operand.Operand.{Operand}
 use Rattle.graph_verify.specs.declared.operand.Operand.TheVariants.{Image, Virtual}
-
--- the cell of an object without slots
-abbrev pub cell_of : ℕ → Cell
-cell_of name = record { name = name; slot = None }
 
 -- a node of these inputs and one output
 abbrev pub node_to : Function → Policy → ℕ → Option Cell → ℕ → Node
@@ -37,14 +33,14 @@ not_to input output = node_to NotBits Wrap input None output
 abbrev pub and_to : ℕ → ℕ → ℕ → Node
 and_to input second output = node_to AndBits Wrap input (Some (cell_of second)) output
 
-abbrev pub add_to : ℕ → ℕ → ℕ → Node
-add_to input second output = node_to Add Wrap input (Some (cell_of second)) output
+abbrev pub adds : ℕ → ℕ → ℕ → Node
+adds input second output = node_to Add Wrap input (Some (cell_of second)) output
 
 abbrev pub convert_to : ℕ → ℕ → Node
 convert_to input output = node_to ConvertDepth Saturate input None output
 
-abbrev pub image_of : ℕ → ℕ → Format → Operand
-image_of width height format = Image (record { width = width; height = height; format = format })
+abbrev pub image_operand : ℕ → ℕ → Format → Operand
+image_operand width height format = Image (record { width = width; height = height; format = format })
 
 -- a virtual image of which no more than a format is declared
 abbrev pub virtual_of : Option Format → Operand
@@ -53,10 +49,10 @@ virtual_of format = Virtual (record { width = None; height = None; format = form
 -- names 1 to 3 are U8 images of one sample, 4 is an S16 image of one, 5 is a U8 image of two, and all others are virtual images
 abbrev pub small : Cell → Operand
 small cell =
-    if cell.name == 4 then image_of 1 1 S16
-    else (if cell.name == 5 then image_of 2 1 U8
-    else (if nat_lt cell.name 6 then image_of 1 1 U8 else virtual_of None))
+    if cell.name == 4 then image_operand 1 1 S16
+    else (if cell.name == 5 then image_operand 2 1 U8
+    else (if nat_lt cell.name 6 then image_operand 1 1 U8 else virtual_of None))
 
 -- name 2 is this, all others are U8 images of this size
 abbrev pub but_for : Operand → ℕ → ℕ → Cell → Operand
-but_for second width height cell = if cell.name == 2 then second else image_of width height U8
+but_for second width height cell = if cell.name == 2 then second else image_operand width height U8

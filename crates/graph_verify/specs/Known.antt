@@ -51,8 +51,8 @@ known_operands known l =
     }
 
 -- a virtual image with its description, where nothing of it is open
-abbrev pub described : Known → Option VirtualOutput
-described k = option_map (λ d. record { cell = k.cell; desc = d }) (closed k.outline)
+abbrev pub closed_output : Known → Option VirtualOutput
+closed_output k = option_map (λ d. record { cell = k.cell; desc = d }) (closed k.outline)
 
 -- the virtual images that nodes write, each with what is known of it at the end
 pub record AreKnown (is : Cell → Operand) (nodes : List Node) (known : List Known) : Type 0 where

@@ -68,9 +68,9 @@ operand_description (Image d) = Some d
 operand_description other = None
 
 -- the bytes of an image's samples
-abbrev pub operand_bytes : Operand → ℕ
-operand_bytes (Image d) = byte_count d
-operand_bytes other = 0
+abbrev pub virtual_bytes : Operand → ℕ
+virtual_bytes (Image d) = byte_count d
+virtual_bytes other = 0
 
 -- what the cells of a node are
 abbrev pub operands_of : (Cell → Operand) → Node → Operands

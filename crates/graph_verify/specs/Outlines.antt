@@ -35,12 +35,12 @@ abbrev pub outlines : (Cell → Operand) → List Node → Cell → Outline
 outlines is nodes = rounds writes (written_outline is) nodes (length nodes) (λ cell. operand_outline (is cell))
 
 -- a virtual image of which all is known is an operand like any image
-abbrev pub as_described : Outline → Option Description → Operand
-as_described known None = Virtual known
-as_described known (Some d) = Image d
+abbrev pub virtual_or_image : Outline → Option Description → Operand
+virtual_or_image known None = Virtual known
+virtual_or_image known (Some d) = Image d
 
 abbrev pub as_known : Operand → Outline → Operand
-as_known (Virtual declared) known = as_described known (closed known)
+as_known (Virtual declared) known = virtual_or_image known (closed known)
 as_known other known = other
 
 -- what each cell is, once the open parts of virtual images are known

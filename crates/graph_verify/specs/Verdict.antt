@@ -14,7 +14,7 @@ use Rattle.graph_verify.specs.declared.operand.Operand.{Operand}
 use Rattle.graph_verify.specs.declared.operand.Operands.{Operands}
 use Rattle.graph_verify.specs.declared.verdict.Verdict.{Verdict}
 use Rattle.graph_verify.specs.declared.verdict.Verdict.TheVariants.{MultipleWriters, InvalidGraph, InvalidLink, InvalidFormat, InvalidDimension, NoResources}
-use Rattle.graph_verify.specs.Operand.{operand_format, are_of_one_size, written_operands, other_operands, operands_of, is_virtual, operand_bytes}
+use Rattle.graph_verify.specs.Operand.{operand_format, are_of_one_size, written_operands, other_operands, operands_of, is_virtual, virtual_bytes}
 use Rattle.graph_verify.specs.Links.{feeds, has_twice, is_written}
 use Rattle.graph_verify.specs.Cycle.{has_cycle}
 use Rattle.graph_verify.specs.Outlines.{resolved}
@@ -81,7 +81,7 @@ virtual_outputs is nodes = filter (λ cell. is_virtual (is cell)) (flat_map outp
 
 -- the bytes of their samples
 abbrev pub work_bytes : (Cell → Operand) → List Node → ℕ
-work_bytes is nodes = sum_by (λ cell. operand_bytes (resolved is nodes cell)) (virtual_outputs is nodes)
+work_bytes is nodes = sum_by (λ cell. virtual_bytes (resolved is nodes cell)) (virtual_outputs is nodes)
 
 -- the verdict on a graph with these nodes, whose cells are these operands, where virtual images may take so many bytes: none
 -- where it can run

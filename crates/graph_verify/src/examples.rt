@@ -3,28 +3,112 @@ ghost use Rattle.std.specs.Prelude.{◌≡◌, [], ◌∷◌, Some, None};
 ghost use Rattle.vx_base.specs.declared.format.Format.TheVariants.{U8, S16};
 ghost use Rattle.vx_base.specs.declared.policy.Policy.TheVariants.{Wrap};
 ghost use Rattle.vx_base.specs.declared.border.Border.TheVariants.{Undefined};
-ghost use Rattle.vx_base.specs.declared.function.Function.TheVariants.{AndBits, NotBits, TableLookup};
+ghost use Rattle.vx_base.specs.declared.function.Function.TheVariants.{AndBits, NotBits};
+ghost use Rattle.vx_base.specs.declared.function.Function.TheVariants.{TableLookup};
 ghost use Rattle.graph_verify.specs.declared.operand.Operand.TheVariants.{Image, Lut};
-ghost use Rattle.graph_verify.specs.declared.verdict.Verdict.TheVariants.{MultipleWriters, InvalidGraph, InvalidLink, InvalidFormat, InvalidDimension, NoResources};
+ghost use Rattle.graph_verify.specs.declared.verdict.Verdict.TheVariants.{MultipleWriters};
+ghost use Rattle.graph_verify.specs.declared.verdict.Verdict.TheVariants.{InvalidGraph};
+ghost use Rattle.graph_verify.specs.declared.verdict.Verdict.TheVariants.{InvalidLink};
+ghost use Rattle.graph_verify.specs.declared.verdict.Verdict.TheVariants.{InvalidFormat};
+ghost use Rattle.graph_verify.specs.declared.verdict.Verdict.TheVariants.{InvalidDimension};
+ghost use Rattle.graph_verify.specs.declared.verdict.Verdict.TheVariants.{NoResources};
 ghost use Rattle.graph_verify.specs.Outlines.{resolved};
 ghost use Rattle.graph_verify.specs.Verdict.{verdict_on, node_fault, verdict};
-ghost use Rattle.graph_verify.specs.Examples.{cell_of, not_to, and_to, add_to, convert_to, image_of, virtual_of, small, but_for};
+ghost use Rattle.vx_base.specs.Cell.{cell_of};
+ghost use Rattle.graph_verify.specs.Examples.{not_to, and_to, adds, convert_to, image_operand};
+ghost use Rattle.graph_verify.specs.Examples.{virtual_of, small, but_for};
 
 /// Not of an image to itself is a cycle, and two outputs are not one cell.
 pub fn cells()
-    ensures cycle { verdict_on (record { function = NotBits; border = Undefined; policy = Wrap; amount = 0; in1 = record { name = 1; slot = None }; in2 = None; out1 = Some (record { name = 1; slot = None }); out2 = None })
-        (record { in1 = Image (record { width = 4; height = 1; format = U8 }); in2 = None; out1 = Some (Image (record { width = 4; height = 1; format = U8 })); out2 = None }) ≡ Some InvalidGraph }
-    ensures two_writers { verdict_on (record { function = NotBits; border = Undefined; policy = Wrap; amount = 0; in1 = record { name = 1; slot = None }; in2 = None; out1 = Some (record { name = 2; slot = None }); out2 = Some (record { name = 2; slot = None }) })
-        (record { in1 = Image (record { width = 4; height = 1; format = U8 }); in2 = None; out1 = Some (Image (record { width = 4; height = 1; format = U8 })); out2 = Some (Image (record { width = 4; height = 1; format = U8 })) }) ≡ Some MultipleWriters }
+    ensures cycle { verdict_on (record {
+      function = NotBits;
+      border = Undefined;
+      policy = Wrap;
+      amount = 0;
+      in1 = record { name = 1; slot = None };
+      in2 = None;
+      out1 = Some
+          (record { name = 1; slot = None });
+      out2 = None;
+    })
+        (record {
+          in1 = Image (record { width = 4; height = 1; format = U8 });
+          in2 = None;
+          out1 =
+              Some (Image (record { width = 4; height = 1; format = U8 }));
+          out2 = None;
+        })
+        ≡ Some InvalidGraph }
+    ensures two_writers { verdict_on (record {
+      function = NotBits;
+      border = Undefined;
+      policy =
+          Wrap;
+      amount = 0;
+      in1 = record { name = 1; slot = None };
+      in2 = None;
+      out1 = Some
+          (record { name = 2; slot = None });
+      out2 = Some (record { name = 2; slot = None });
+    })
+        (record {
+          in1 = Image (record { width = 4; height = 1; format = U8 });
+          in2 = None;
+          out1 =
+              Some (Image (record { width = 4; height = 1; format = U8 }));
+          out2 = Some
+              (Image (record { width = 4; height = 1; format = U8 }));
+        }) ≡ Some MultipleWriters }
 {}
 
 /// Operands of formats that a function takes and doesn't, and of one size and of two.
 pub fn operands()
-    ensures fitting { node_fault AndBits (record { in1 = Image (record { width = 4; height = 1; format = U8 }); in2 = Some (Image (record { width = 4; height = 1; format = U8 })); out1 = Some (Image (record { width = 4; height = 1; format = U8 })); out2 = None }) ≡ None }
-    ensures sizes { node_fault AndBits (record { in1 = Image (record { width = 4; height = 1; format = U8 }); in2 = Some (Image (record { width = 4; height = 2; format = U8 })); out1 = Some (Image (record { width = 4; height = 1; format = U8 })); out2 = None }) ≡ Some InvalidDimension }
-    ensures formats { node_fault NotBits (record { in1 = Image (record { width = 4; height = 1; format = S16 }); in2 = None; out1 = Some (Image (record { width = 4; height = 1; format = S16 })); out2 = None }) ≡ Some InvalidFormat }
-    ensures formats_first { node_fault NotBits (record { in1 = Image (record { width = 4; height = 1; format = S16 }); in2 = None; out1 = Some (Image (record { width = 2; height = 1; format = S16 })); out2 = None }) ≡ Some InvalidFormat }
-    ensures table { node_fault TableLookup (record { in1 = Image (record { width = 4; height = 1; format = U8 }); in2 = Some (Lut U8); out1 = Some (Image (record { width = 4; height = 1; format = U8 })); out2 = None }) ≡ None }
+    ensures fitting { node_fault AndBits
+        (record {
+          in1 = Image (record { width = 4; height = 1; format = U8 });
+          in2 = Some
+              (Image (record { width = 4; height = 1; format = U8 }));
+          out1 = Some
+              (Image (record { width = 4; height = 1; format = U8 }));
+          out2 = None;
+        }) ≡ None }
+    ensures sizes { node_fault AndBits (record {
+      in1 = Image
+          (record { width = 4; height = 1; format = U8 });
+      in2 = Some
+          (Image (record { width = 4; height = 2; format = U8 }));
+      out1 = Some
+          (Image (record { width = 4; height = 1; format = U8 }));
+      out2 = None;
+    })
+        ≡ Some InvalidDimension }
+    ensures formats { node_fault NotBits
+        (record {
+          in1 = Image (record { width = 4; height = 1; format = S16 });
+          in2 = None;
+          out1 =
+              Some (Image (record { width = 4; height = 1; format = S16 }));
+          out2 = None;
+        })
+        ≡ Some InvalidFormat }
+    ensures formats_first { node_fault NotBits
+        (record {
+          in1 = Image (record { width = 4; height = 1; format = S16 });
+          in2 = None;
+          out1 =
+              Some (Image (record { width = 2; height = 1; format = S16 }));
+          out2 = None;
+        })
+        ≡ Some InvalidFormat }
+    ensures table { node_fault TableLookup
+        (record {
+          in1 = Image (record { width = 4; height = 1; format = U8 });
+          in2 = Some
+              (Lut U8);
+          out1 = Some (Image (record { width = 4; height = 1; format = U8 }));
+          out2 =
+              None;
+        }) ≡ None }
 {}
 
 /// One graph for each verdict on links, formats and sizes; of all their nodes together the two
@@ -36,25 +120,32 @@ pub fn graphs()
     ensures link { verdict 9 small (not_to 6 2 ∷ []) ≡ Some InvalidLink }
     ensures format { verdict 9 small (not_to 4 2 ∷ []) ≡ Some InvalidFormat }
     ensures size { verdict 9 small (and_to 1 5 2 ∷ []) ≡ Some InvalidDimension }
-    ensures all { verdict 9 small (not_to 1 2 ∷ not_to 3 2 ∷ not_to 1 1 ∷ not_to 6 7 ∷ not_to 7 8 ∷ not_to 8 6 ∷ not_to 6 2 ∷ not_to 4 2 ∷ and_to 1 5 2 ∷ []) ≡ Some MultipleWriters }
+    ensures all { verdict 9 small (not_to 1 2 ∷ not_to 3 2 ∷ not_to 1 1 ∷ not_to 6 7 ∷ not_to 7 8
+        ∷ not_to 8 6 ∷ not_to 6 2 ∷ not_to 4 2 ∷ and_to 1 5 2 ∷ []) ≡ Some MultipleWriters }
     ensures none { verdict 9 small [] ≡ None }
 {}
 
 /// The fault that is told is that of the node that was added first, though it runs last.
 pub fn earliest_added()
-    ensures { verdict 9 small (and_to 6 5 2 ∷ not_to 4 3 ∷ not_to 1 6 ∷ []) ≡ Some InvalidDimension }
+    ensures { verdict 9 small (and_to 6 5 2 ∷ not_to 4 3 ∷ not_to 1 6 ∷ [])
+        ≡ Some InvalidDimension }
 {}
 
 /// Two nodes through a virtual image of two by two samples: it takes four bytes.
 pub fn work()
-    ensures little { verdict 3 (but_for (virtual_of None) 2 2) (not_to 1 2 ∷ not_to 2 3 ∷ []) ≡ Some NoResources }
-    ensures enough { verdict 4 (but_for (virtual_of None) 2 2) (not_to 1 2 ∷ not_to 2 3 ∷ []) ≡ None }
+    ensures little { verdict 3 (but_for (virtual_of None) 2 2) (not_to 1 2 ∷ not_to 2 3 ∷ [])
+        ≡ Some NoResources }
+    ensures enough { verdict 4 (but_for (virtual_of None) 2 2)
+        (not_to 1 2 ∷ not_to 2 3 ∷ []) ≡ None }
 {}
 
 /// A sum that wraps is S16 in a virtual image whose format is open. Where U8 is declared, that
 /// stays, and the conversion of depth can't take it.
 pub fn open_formats()
-    ensures found { resolved (but_for (virtual_of None) 1 1) (add_to 1 3 2 ∷ convert_to 2 4 ∷ []) (cell_of 2) ≡ image_of 1 1 S16 }
-    ensures opened { verdict 9 (but_for (virtual_of None) 1 1) (add_to 1 3 2 ∷ convert_to 2 4 ∷ []) ≡ None }
-    ensures declared { verdict 9 (but_for (virtual_of (Some U8)) 1 1) (add_to 1 3 2 ∷ convert_to 2 4 ∷ []) ≡ Some InvalidFormat }
+    ensures found { resolved (but_for (virtual_of None) 1 1) (adds 1 3 2 ∷ convert_to 2 4 ∷ [])
+        (cell_of 2) ≡ image_operand 1 1 S16 }
+    ensures opened { verdict 9 (but_for (virtual_of None) 1 1)
+        (adds 1 3 2 ∷ convert_to 2 4 ∷ []) ≡ None }
+    ensures declared { verdict 9 (but_for (virtual_of (Some U8)) 1 1)
+        (adds 1 3 2 ∷ convert_to 2 4 ∷ []) ≡ Some InvalidFormat }
 {}

@@ -1,16 +1,17 @@
 //! Graphs: nodes and their numbers.
-ghost use Rattle.std.specs.Prelude.{◌≡◌, ◌==◌, ◌≤◌, not, if◌then◌else◌, IsTrue, length, find, filter, IfOk, IfErr, OnOk, OnErr, Some};
+ghost use Rattle.std.specs.Prelude.{◌≡◌, ◌==◌, ◌≤◌, not, if◌then◌else◌, IsTrue, length, find};
+ghost use Rattle.std.specs.Prelude.{filter, IfOk, IfErr, OnOk, OnErr, Some};
 ghost use Rattle.std.specs.Result.{is_err};
-ghost use Rattle.vx_base.specs.Graph.{new_graph, can_add, with_node, has_node, without_node, IsGraph};
-ghost use Rattle.graph_verify.specs.declared.fault.GraphFault.TheVariants.{NoMemory, NoResources, InvalidReference};
+ghost use Rattle.vx_base.specs.Graph.{new_graph, can_add, with_node, has_node, without_node};
+ghost use Rattle.vx_base.specs.Graph.{IsGraph};
+ghost use Rattle.graph_verify.specs.declared.fault.GraphFault.TheVariants.{NoMemory, NoResources};
+ghost use Rattle.graph_verify.specs.declared.fault.GraphFault.TheVariants.{InvalidReference};
+ghost use Rattle.vx_base.specs.declared.node.TheConstants.{GREATEST_NODES};
 
 use crate::fault::GraphFault;
 use std::alloc::Global;
 use std::marker::Model;
-use vx_base::{NodeSpec, Numbered};
-
-/// The greatest number of nodes in a graph.
-pub const GREATEST_NODES: usize = 256;
+use vx_base::{GREATEST_NODES, NodeSpec, Numbered};
 
 /// Each number is below this: 2^32.
 const END_OF_NUMBERS: u64 = 4_294_967_296;
@@ -54,7 +55,7 @@ impl Graph {
     /// The nodes in the order of adding, at most 256.
     pub fn nodes(&self) -> &[Numbered]
         ensures nodes { result.now ≡ self.now.nodes }
-        ensures limit { length result.now ≤ 256 }
+        ensures limit { length result.now ≤ GREATEST_NODES }
     {
         &self.nodes
     }
@@ -71,7 +72,8 @@ impl Graph {
         ensures number { IfOk result (λ number. number ≡ self.old.next) }
         ensures ok { OnOk result (self.new ≡ with_node self.old node) }
         ensures room { OnOk result (IsTrue (can_add self.old)) }
-        ensures fault { IfErr result (λ fault. fault ≡ (if can_add self.old then NoMemory else NoResources)) }
+        ensures fault { IfErr result (λ fault. fault
+            ≡ (if can_add self.old then NoMemory else NoResources)) }
         ensures err { OnErr result (self.new ≡ self.old) }
     {
         if !self.can_add() {
@@ -89,7 +91,8 @@ impl Graph {
 
     /// Removes the node of this number, and hands it back. `InvalidReference` where there is none.
     pub fn remove_node(&mut self, number: u32) -> Result<NodeSpec, GraphFault>
-        ensures removed { IfOk result (λ node. find (λ n. n.number == number) self.old.nodes ≡ Some (record { number = number; node = node })) }
+        ensures removed { IfOk result (λ node. find (λ n. n.number == number) self.old.nodes
+            ≡ Some (record { number = number; node = node })) }
         ensures ok { OnOk result (self.new ≡ without_node self.old number) }
         ensures missing { is_err result ≡ not (has_node self.old number) }
         ensures fault { IfErr result (λ fault. fault ≡ InvalidReference) }

@@ -1,5 +1,6 @@
 //! What is known of the virtual images that nodes write.
-ghost use Rattle.std.specs.Prelude.{◌≡◌, ◌++◌, ◌+◌, ◌*◌, ◌≤◌, false, IsTrue, length, sum_by, All, Some, OnOk, IfOk};
+ghost use Rattle.std.specs.Prelude.{◌≡◌, ◌++◌, ◌+◌, ◌*◌, ◌≤◌, false, IsTrue, length, sum_by, All};
+ghost use Rattle.std.specs.Prelude.{Some, OnOk, IfOk};
 ghost use Rattle.std.specs.List.{filter_map};
 ghost use Rattle.vx_base.specs.Cell.{Cell};
 ghost use Rattle.vx_base.specs.Description.{byte_count};
@@ -10,8 +11,10 @@ ghost use Rattle.graph_verify.specs.Linked.{linked_nodes, AreOperands};
 ghost use Rattle.graph_verify.specs.Links.{feeds};
 ghost use Rattle.graph_verify.specs.Order.{InTurn};
 ghost use Rattle.graph_verify.specs.Verdict.{two_writers};
-ghost use Rattle.graph_verify.specs.Outlines.{unknown, given_outline, as_described};
-ghost use Rattle.graph_verify.specs.Known.{known_of, known_outline, learnt, learnt_from, known_operand, known_given, known_operands, described, AreKnown};
+ghost use Rattle.graph_verify.specs.Outlines.{unknown, given_outline, virtual_or_image};
+ghost use Rattle.graph_verify.specs.Known.{known_of, known_outline, learnt, learnt_from};
+ghost use Rattle.graph_verify.specs.Known.{known_operand, known_given, known_operands};
+ghost use Rattle.graph_verify.specs.Known.{closed_output, AreKnown};
 
 use crate::linked::Linked;
 use crate::operand::{Operand, Operands};
@@ -35,7 +38,7 @@ pub struct VirtualOutput {
 impl Known {
     /// The virtual image with its description. `None` where a part of it is open.
     pub fn described(self) -> Option<VirtualOutput>
-        ensures { result ≡ described self }
+        ensures { result ≡ closed_output self }
     {
         let desc = self.outline.closed()?;
         Some(VirtualOutput {
@@ -90,7 +93,8 @@ fn learn_cell(
     operand: Operand,
     given: Outline,
 ) -> Result<(), AllocError>
-    ensures learnt { OnOk result (known.new.items ≡ known.old.items ++ learnt (Some cell) (Some operand) given) }
+    ensures learnt { OnOk result (known.new.items
+        ≡ known.old.items ++ learnt (Some cell) (Some operand) given) }
     ensures limit { OnOk result (length known.new.items ≤ length known.old.items + 1) }
 {
     match operand {
@@ -121,7 +125,8 @@ fn learn_output(
 
 /// Learns of what a node writes.
 fn learn(known: &mut Vec<Known>, linked: &Linked) -> Result<(), AllocError>
-    ensures learnt { OnOk result (known.new.items ≡ known.old.items ++ learnt_from known.old.items linked.now) }
+    ensures learnt { OnOk result (known.new.items
+        ≡ known.old.items ++ learnt_from known.old.items linked.now) }
     ensures limit { OnOk result (length known.new.items ≤ length known.old.items + 2) }
 {
     let Linked { node, operands } = linked;
@@ -143,7 +148,7 @@ fn known_operand(known: &[Known], cell: ObjRef, operand: Operand) -> Operand
 
 /// A virtual image of which all is known is an operand like any image.
 fn as_described(known: Outline) -> Operand
-    ensures { result ≡ as_described known (closed known) }
+    ensures { result ≡ virtual_or_image known (closed known) }
 {
     match known.closed() {
         None => Operand::Virtual(known),
@@ -180,7 +185,8 @@ pub fn known_after(alloc: Global, steps: &[Linked]) -> Result<Vec<Known>, AllocE
     requires one_writer { two_writers (linked_nodes steps.now) ≡ false }
     requires in_turn { InTurn feeds (linked_nodes steps.now) }
     requires images { All (λ l. IsTrue (is_image l.operands.in1)) steps.now }
-    ensures known { IfOk result (λ known. (is : Cell → Operand) → AreOperands is steps.now → AreKnown is (linked_nodes steps.now) known.items) }
+    ensures known { IfOk result (λ known. (is : Cell → Operand) → AreOperands is steps.now →
+        AreKnown is (linked_nodes steps.now) known.items) }
     ensures limit { IfOk result (λ known. length known.items ≤ 2 * length steps.now) }
 {
     let mut known = Vec::new(alloc);
@@ -192,7 +198,7 @@ pub fn known_after(alloc: Global, steps: &[Linked]) -> Result<Vec<Known>, AllocE
 
 /// The virtual images of which all is known.
 pub fn all_described(alloc: Global, known: &[Known]) -> Result<Vec<VirtualOutput>, AllocError>
-    ensures { IfOk result (λ outputs. outputs.items ≡ filter_map described known.now) }
+    ensures { IfOk result (λ outputs. outputs.items ≡ filter_map closed_output known.now) }
 {
     known
         .iter()

@@ -1,12 +1,12 @@
 //! Graphs, and verdicts on them: whether they can run, and why not.
 //!
-//! A `Graph` is a list of nodes with their numbers. Nodes are linked by the cells that they read and
-//! write, whatever the order of adding. A verdict is computed from what these cells are, their
+//! A `Graph` is a list of nodes with their numbers. Nodes are linked by the cells that they read
+//! and write, whatever the order of adding. A verdict is computed from what these cells are, their
 //! kinds, sizes and formats, and never from samples: `verdict_on` gives it on one node by itself,
 //! `verify` on a graph, and then an order of its nodes and the description of each virtual image
-//! that they write. The first reason that applies is told: two writers of a cell, a cycle, a virtual
-//! image that is read and not written, the fault of the node that was added first, bytes of virtual
-//! images above the limit.
+//! that they write. The first reason that applies is told: two writers of a cell, a cycle, a
+//! virtual image that is read and not written, the fault of the node that was added first, bytes of
+//! virtual images above the limit.
 //!
 //! - `graph`, `fault`: nodes and their numbers, and why a call on a graph isn't done
 //! - `operand`: what a verdict has to know of the objects that a node names
@@ -31,7 +31,7 @@ mod verdict;
 mod verified;
 
 pub use fault::GraphFault;
-pub use graph::{GREATEST_NODES, Graph};
+pub use graph::Graph;
 pub use known::VirtualOutput;
 pub use linked::Linked;
 pub use operand::{Operand, Operands};

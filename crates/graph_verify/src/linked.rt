@@ -5,7 +5,8 @@ ghost use Rattle.vx_base.specs.Cell.{Cell};
 ghost use Rattle.vx_base.specs.Node.{given, outputs};
 ghost use Rattle.graph_verify.specs.Links.{writes, is_written};
 ghost use Rattle.graph_verify.specs.declared.operand.Operand.{Operand};
-ghost use Rattle.graph_verify.specs.Linked.{linked_nodes, AreOperands, is_loose_end, is_given_loose, has_loose_input};
+ghost use Rattle.graph_verify.specs.Linked.{linked_nodes, AreOperands, is_loose_end};
+ghost use Rattle.graph_verify.specs.Linked.{is_given_loose, has_loose_input};
 ghost use Rattle.graph_verify.specs.Verdict.{two_writers, writes_twice, reads_loose};
 
 use crate::operand::{Operand, Operands};
@@ -58,7 +59,8 @@ pub fn is_given_written(nodes: &[Linked], cell: Option<ObjRef>) -> bool
 
 /// Whether an output of a node is also another of its outputs, or one of other nodes.
 fn shares_output(others: &[Linked], node: &Node) -> bool
-    ensures { result ≡ (writes_twice node.now || list_any (is_written (linked_nodes others.now)) (outputs node.now)) }
+    ensures { result ≡ (writes_twice node.now || list_any (is_written (linked_nodes others.now))
+        (outputs node.now)) }
 {
     writes_twice(node) || is_given_written(others, node.out1) || is_given_written(others, node.out2)
 }
@@ -104,7 +106,8 @@ fn has_loose_input(nodes: &[Linked], linked: &Linked) -> bool
 
 /// Whether a node reads a virtual image that no node writes.
 pub fn reads_loose(nodes: &[Linked]) -> bool
-    ensures { (is : Cell → Operand) → AreOperands is nodes.now → result ≡ reads_loose is (linked_nodes nodes.now) }
+    ensures { (is : Cell → Operand) → AreOperands is nodes.now →
+        result ≡ reads_loose is (linked_nodes nodes.now) }
 {
     nodes.iter().any(|linked| has_loose_input(nodes, linked))
 }

@@ -61,8 +61,8 @@ impl Operand {
         matches!(self, Operand::Virtual(_))
     }
 
-    /// The format of an image's samples, of a table's entries, of the samples that a threshold tests,
-    /// or of a convolution's coefficients. `None`: the operand has none.
+    /// The format of an image's samples, of a table's entries, of the samples that a threshold
+    /// tests, or of a convolution's coefficients. `None`: the operand has none.
     pub fn format(self) -> Option<Format>
         ensures { result ≡ operand_format self }
     {

@@ -1,5 +1,6 @@
 //! Orders in which the nodes of a graph can run.
-ghost use Rattle.std.specs.Prelude.{◌≡◌, ◌+◌, ◌<◌, false, not, ◌||◌, length, map, slice_index_or, position, is_none, IfOk, IfSome};
+ghost use Rattle.std.specs.Prelude.{◌≡◌, ◌+◌, ◌<◌, false, not, ◌||◌, length, map, slice_index_or};
+ghost use Rattle.std.specs.Prelude.{position, is_none, IfOk, IfSome};
 ghost use Rattle.std.specs.List.{remove};
 ghost use Rattle.graph_verify.specs.declared.order.Waiting.{Waiting};
 ghost use Rattle.graph_verify.specs.Cycle.{has_cycle};
@@ -48,7 +49,8 @@ impl Waiting {
 
 /// The nodes, before any is in the order.
 fn all_waiting(alloc: Global, nodes: &[Linked]) -> Result<Vec<Waiting>, AllocError>
-    ensures { IfOk result (λ rest. rest.items ≡ map (waiting_among (linked_nodes nodes.now)) nodes.now) }
+    ensures { IfOk result (λ rest. rest.items
+        ≡ map (waiting_among (linked_nodes nodes.now)) nodes.now) }
 {
     nodes
         .iter()
@@ -88,8 +90,10 @@ fn take_out(rest: &mut Vec<Waiting>, index: usize) -> Linked
 /// The nodes, each after those that feed it. `None` where there is a cycle.
 pub fn put_in_order(alloc: Global, nodes: &[Linked]) -> Result<Option<Vec<Linked>>, AllocError>
     requires { two_writers (linked_nodes nodes.now) ≡ false }
-    ensures order { IfOk result (λ found. IfSome found (λ steps. IsOrder (λ a b. feeds a.node b.node) nodes.now steps.items)) }
-    ensures cycle { IfOk result (λ found. is_none found ≡ has_cycle feeds (linked_nodes nodes.now)) }
+    ensures order { IfOk result (λ found.
+        IfSome found (λ steps. IsOrder (λ a b. feeds a.node b.node) nodes.now steps.items)) }
+    ensures cycle { IfOk result (λ found. is_none found
+        ≡ has_cycle feeds (linked_nodes nodes.now)) }
 {
     let mut rest = all_waiting(alloc, nodes)?;
     let mut steps = Vec::new(alloc);

@@ -7,7 +7,8 @@ ghost use Rattle.vx_base.specs.Node.{outputs};
 ghost use Rattle.vx_base.specs.Formats.{takes_formats};
 ghost use Rattle.graph_verify.specs.declared.operand.Operand.TheVariants.{Image};
 ghost use Rattle.graph_verify.specs.Operand.{operand_format, are_of_one_size, other_operands};
-ghost use Rattle.graph_verify.specs.Verdict.{takes_operands, node_fault, verdict_on, reads_own_output};
+ghost use Rattle.graph_verify.specs.Verdict.{takes_operands, node_fault, verdict_on};
+ghost use Rattle.graph_verify.specs.Verdict.{reads_own_output};
 
 use crate::linked::{writes, writes_given, writes_twice};
 use crate::operand::{Operand, Operands};
@@ -75,7 +76,8 @@ fn takes_output(
     second: Option<Format>,
     output: Option<Operand>,
 ) -> bool
-    ensures { result ≡ list_all (λ out. takes_formats function first second (operand_format out)) (option_to_list output) }
+    ensures { result ≡ list_all (λ out. takes_formats function first second (operand_format out))
+        (option_to_list output) }
 {
     match output {
         None => true,

@@ -1,5 +1,6 @@
 //! Graphs that can run, and how.
-ghost use Rattle.std.specs.Prelude.{◌≡◌, ◌≤◌, false, IsTrue, length, find, List, All, Some, None, IfOk, IfErr, OnOk};
+ghost use Rattle.std.specs.Prelude.{◌≡◌, ◌≤◌, false, IsTrue, length, find, List, All, Some, None};
+ghost use Rattle.std.specs.Prelude.{IfOk, IfErr, OnOk};
 ghost use Rattle.vx_base.specs.Cell.{Cell, same_cell};
 ghost use Rattle.vx_base.specs.declared.node.Node.{Node as NodeFields};
 ghost use Rattle.graph_verify.specs.declared.operand.Operand.{Operand};
@@ -10,6 +11,7 @@ ghost use Rattle.graph_verify.specs.Order.{IsOrder};
 ghost use Rattle.graph_verify.specs.Operand.{is_image, operands_of};
 ghost use Rattle.graph_verify.specs.Verdict.{two_writers, verdict, first_fault};
 ghost use Rattle.graph_verify.specs.Verified.{IfRefused, IsVerified, written_description};
+ghost use Rattle.vx_base.specs.declared.node.TheConstants.{GREATEST_NODES};
 
 use crate::known::{
     Known, VirtualOutput, all_described, known_after, known_operands, sample_bytes,
@@ -51,7 +53,8 @@ impl From<AllocError> for VerifyFault {
 impl Verified {
     /// The description of a virtual image that the nodes write. `None` for every other cell.
     pub fn desc_of(&self, cell: ObjRef) -> Option<Desc>
-        ensures { (is : Cell → Operand) (nodes : List NodeFields) → IsVerified is nodes self.now → result ≡ written_description is nodes cell }
+        ensures { (is : Cell → Operand) (nodes : List NodeFields) → IsVerified is nodes self.now →
+            result ≡ written_description is nodes cell }
     {
         let output = self.find(cell)?;
         Some(output.desc)
@@ -71,7 +74,8 @@ impl Verified {
 /// The fault of the node that was added first among those that have one. The operands of each node
 /// are what its cells are once the open parts of virtual images are known.
 fn first_fault(nodes: &[Linked], known: &[Known]) -> Option<Verdict>
-    ensures { (is : Cell → Operand) → All (λ l. known_operands known.now l ≡ operands_of is l.node) nodes.now → result ≡ first_fault is (linked_nodes nodes.now) }
+    ensures { (is : Cell → Operand) → All (λ l. known_operands known.now l ≡ operands_of is l.node)
+        nodes.now → result ≡ first_fault is (linked_nodes nodes.now) }
 {
     for linked in nodes {
         let fault = node_fault(linked.node.function, &known_operands(known, linked));
@@ -100,13 +104,16 @@ fn verify_ordered(
     steps: &[Linked],
     work: u64,
 ) -> Result<Verified, VerifyFault>
-    requires count { length nodes.now ≤ 256 }
+    requires count { length nodes.now ≤ GREATEST_NODES }
     requires images { All (λ l. IsTrue (is_image l.operands.in1)) nodes.now }
     requires one_writer { two_writers (linked_nodes nodes.now) ≡ false }
     requires order { IsOrder (λ a b. feeds a.node b.node) nodes.now steps.now }
-    ensures verified { IfOk result (λ v. (is : Cell → Operand) → AreOperands is nodes.now → IsVerified is (linked_nodes nodes.now) v) }
-    ensures ok { OnOk result ((is : Cell → Operand) → AreOperands is nodes.now → verdict work is (linked_nodes nodes.now) ≡ None) }
-    ensures refused { IfErr result (λ fault. (is : Cell → Operand) → AreOperands is nodes.now → IfRefused fault (λ v. verdict work is (linked_nodes nodes.now) ≡ Some v)) }
+    ensures verified { IfOk result (λ v. (is : Cell → Operand) → AreOperands is nodes.now →
+        IsVerified is (linked_nodes nodes.now) v) }
+    ensures ok { OnOk result ((is : Cell → Operand) → AreOperands is nodes.now →
+        verdict work is (linked_nodes nodes.now) ≡ None) }
+    ensures refused { IfErr result (λ fault. (is : Cell → Operand) → AreOperands is nodes.now →
+        IfRefused fault (λ v. verdict work is (linked_nodes nodes.now) ≡ Some v)) }
 {
     if reads_loose(nodes) {
         return Err(VerifyFault::Refused(Verdict::InvalidLink));
@@ -130,11 +137,14 @@ fn verify_ordered(
 /// images that they write may take so many bytes. A graph has at most 256 nodes, and the first
 /// input of each is an image.
 pub fn verify(alloc: Global, nodes: &[Linked], work: u64) -> Result<Verified, VerifyFault>
-    requires count { length nodes.now ≤ 256 }
+    requires count { length nodes.now ≤ GREATEST_NODES }
     requires images { All (λ l. IsTrue (is_image l.operands.in1)) nodes.now }
-    ensures verified { IfOk result (λ v. (is : Cell → Operand) → AreOperands is nodes.now → IsVerified is (linked_nodes nodes.now) v) }
-    ensures ok { OnOk result ((is : Cell → Operand) → AreOperands is nodes.now → verdict work is (linked_nodes nodes.now) ≡ None) }
-    ensures refused { IfErr result (λ fault. (is : Cell → Operand) → AreOperands is nodes.now → IfRefused fault (λ v. verdict work is (linked_nodes nodes.now) ≡ Some v)) }
+    ensures verified { IfOk result (λ v. (is : Cell → Operand) → AreOperands is nodes.now →
+        IsVerified is (linked_nodes nodes.now) v) }
+    ensures ok { OnOk result ((is : Cell → Operand) → AreOperands is nodes.now →
+        verdict work is (linked_nodes nodes.now) ≡ None) }
+    ensures refused { IfErr result (λ fault. (is : Cell → Operand) → AreOperands is nodes.now →
+        IfRefused fault (λ v. verdict work is (linked_nodes nodes.now) ≡ Some v)) }
 {
     if has_two_writers(nodes) {
         return Err(VerifyFault::Refused(Verdict::MultipleWriters));

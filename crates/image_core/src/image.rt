@@ -25,7 +25,8 @@ impl<'a> Model for Image<'a> {
 
     ghost view = { λ i. image_over i.desc i.valid (slice_values i.samples) };
 
-    ghost invariant = { λ i. IsImage (image_over i.desc i.valid (slice_values i.samples)) × (slice_format i.samples ≡ i.desc.format) };
+    ghost invariant = { λ i. IsImage (image_over i.desc i.valid (slice_values i.samples)) ×
+        (slice_format i.samples ≡ i.desc.format) };
 }
 
 impl<'a> Image<'a> {

@@ -80,7 +80,8 @@ impl<'a> ImageMut<'a> {
     pub fn set_valid(&mut self, valid: Rect)
         requires target { IsTarget self.old }
         requires room { IsWithin valid (written self.old).width (written self.old).height }
-        ensures value { written self.new ≡ image_over self.old.desc valid (written self.old).samples }
+        ensures value { written self.new
+            ≡ image_over self.old.desc valid (written self.old).samples }
         ensures target { IsTarget self.new }
         ensures slices { SameSlices self.old self.new }
     {
@@ -90,8 +91,12 @@ impl<'a> ImageMut<'a> {
     /// Makes each sample outside the valid rectangle 0; those inside stay.
     pub fn clear_outside(&mut self)
         requires target { IsTarget self.old }
-        requires room { IsWithin (written self.old).valid (written self.old).width (written self.old).height }
-        ensures { Writes (made (written self.old).width (written self.old).height (written self.old).format (written self.old).valid (sample_from self.old.desc.width self.old.rows.start (written self.old).samples)) self.old self.new }
+        requires room { IsWithin (written self.old).valid (written self.old).width
+            (written self.old).height }
+        ensures { Writes (made (written self.old).width (written self.old).height
+            (written self.old).format (written self.old).valid
+            (sample_from self.old.desc.width self.old.rows.start (written self.old).samples))
+            self.old self.new }
     {
         let _limits = self.desc.height();
         let (width, rows) = (self.desc.width(), self.rows);
@@ -106,8 +111,10 @@ impl<'a> ImageMut<'a> {
     pub fn write<T: Sample, F: Formula<T>>(&mut self, formula: &F)
         requires target { IsTarget self.old }
         requires format { (written self.old).format ≡ T.format }
-        requires room { IsWithin (F.area formula.now) (written self.old).width (written self.old).height }
-        ensures { Writes (made (written self.old).width (written self.old).height T.format (F.area formula.now) (F.at formula.now)) self.old self.new }
+        requires room { IsWithin (F.area formula.now) (written self.old).width
+            (written self.old).height }
+        ensures { Writes (made (written self.old).width (written self.old).height T.format
+            (F.area formula.now) (F.at formula.now)) self.old self.new }
     {
         self.write_by_rows::<T, u8, _>(&Unaided { formula }, &mut []);
     }
@@ -121,9 +128,11 @@ impl<'a> ImageMut<'a> {
     )
         requires target { IsTarget self.old }
         requires format { (written self.old).format ≡ T.format }
-        requires room { IsWithin (F.area formula.now) (written self.old).width (written self.old).height }
+        requires room { IsWithin (F.area formula.now) (written self.old).width
+            (written self.old).height }
         requires scratch { F.room formula.now ≤ length scratch.old }
-        ensures { Writes (made (written self.old).width (written self.old).height T.format (F.area formula.now) (F.at formula.now)) self.old self.new }
+        ensures { Writes (made (written self.old).width (written self.old).height T.format
+            (F.area formula.now) (F.at formula.now)) self.old self.new }
     {
         self.valid = formula.area();
         T::write_samples(self, formula, scratch);
@@ -145,12 +154,16 @@ impl<'a> ImageMut<'a> {
         requires other_format { (written other.old).format ≡ S16 }
         requires width { (written other.old).width ≡ (written self.old).width }
         requires rows { other.old.rows ≡ self.old.rows }
-        requires room { IsWithin (F.area first.now) (written self.old).width (written self.old).height }
-        requires other_room { IsWithin (G.area second.now) (written other.old).width (written other.old).height }
+        requires room { IsWithin (F.area first.now) (written self.old).width
+            (written self.old).height }
+        requires other_room { IsWithin (G.area second.now) (written other.old).width
+            (written other.old).height }
         requires scratch { F.room first.now ≤ length scratch.old }
         requires other_scratch { G.room second.now ≤ length room.old }
-        ensures first { Writes (made (written self.old).width (written self.old).height S16 (F.area first.now) (F.at first.now)) self.old self.new }
-        ensures second { Writes (made (written other.old).width (written other.old).height S16 (G.area second.now) (G.at second.now)) other.old other.new }
+        ensures first { Writes (made (written self.old).width (written self.old).height S16
+            (F.area first.now) (F.at first.now)) self.old self.new }
+        ensures second { Writes (made (written other.old).width (written other.old).height S16
+            (G.area second.now) (G.at second.now)) other.old other.new }
     {
         let _limits = self.desc.height();
         self.valid = first.area();
@@ -173,7 +186,8 @@ impl<'a> ImageMut<'a> {
         requires format { (written self.old).format ≡ U32 }
         requires width { (written self.old).width ≡ W.width whole.now }
         requires height { (written self.old).height ≡ W.height whole.now }
-        ensures { Writes (made (W.width whole.now) (W.height whole.now) U32 (W.area whole.now) (W.at whole.now)) self.old self.new }
+        ensures { Writes (made (W.width whole.now) (W.height whole.now) U32 (W.area whole.now)
+            (W.at whole.now)) self.old self.new }
     {
         self.valid = whole.area();
         whole.fill(self.rows, self.words);

@@ -7,8 +7,8 @@
 //! What is computed place by place is a `Formula`, and one that needs scratch memory for that a
 //! `RowFormula`; `ImageMut::write` and `write_by_rows` write a whole image of one, or the band's
 //! rows of it: each sample, and 0 outside the rectangle. So whatever writes whole images by them
-//! writes any rows of them too. `Second` is what a kernel reads beside its first image, `Overflow` a
-//! policy as a type.
+//! writes any rows of them too. `Second` is what a kernel reads beside its first image, `Overflow`
+//! a policy as a type.
 #![tactic(auto)]
 
 mod band;

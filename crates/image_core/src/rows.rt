@@ -31,7 +31,8 @@ fn write_across<T: Number, S, F: RowFormula<T, S>>(
     requires ordered { x0 ≤ x1 }
     requires scratch { F.room formula.now ≤ length scratch.old }
     requires room { x1 ≤ length out.old }
-    ensures { map T.value out.new ≡ run 0 (length out.old) (λ x. within (F.area formula.now) (F.at formula.now) x y) }
+    ensures { map T.value out.new ≡ run 0 (length out.old)
+        (λ x. within (F.area formula.now) (F.at formula.now) x y) }
 {
     let (left, others) = out.split_at_mut(usize::from(x0));
     let (middle, right) = others.split_at_mut(usize::from(x1 - x0));
@@ -48,7 +49,8 @@ fn write_row<T: Number, S, F: RowFormula<T, S>>(
 )
     requires scratch { F.room formula.now ≤ length scratch.old }
     requires room { (F.area formula.now).x1 ≤ length out.old }
-    ensures { map T.value out.new ≡ run 0 (length out.old) (λ x. within (F.area formula.now) (F.at formula.now) x y) }
+    ensures { map T.value out.new ≡ run 0 (length out.old)
+        (λ x. within (F.area formula.now) (F.at formula.now) x y) }
 {
     let area = formula.area();
     if y < area.y0() || area.y1() <= y {
@@ -71,7 +73,8 @@ pub fn write_rows<T: Number, S, F: RowFormula<T, S>>(
     requires rows { rows.start + rows.count < 2 ^ 16 }
     requires size { length out.old ≡ rows.count * width }
     requires room { (F.area formula.now).x1 ≤ width }
-    ensures { map T.value out.new ≡ band width rows.start rows.count (within (F.area formula.now) (F.at formula.now)) }
+    ensures { map T.value out.new ≡ band width rows.start rows.count
+        (within (F.area formula.now) (F.at formula.now)) }
 {
     let step = usize::from(width);
     for k in 0..rows.count {
@@ -104,8 +107,10 @@ pub fn write_rows_of_two<T: Number, S, R, F: RowFormula<T, S>, G: RowFormula<T, 
     requires other_size { length other.old ≡ rows.count * width }
     requires room { (F.area first.now).x1 ≤ width }
     requires other_room { (G.area second.now).x1 ≤ width }
-    ensures first { map T.value out.new ≡ band width rows.start rows.count (within (F.area first.now) (F.at first.now)) }
-    ensures second { map T.value other.new ≡ band width rows.start rows.count (within (G.area second.now) (G.at second.now)) }
+    ensures first { map T.value out.new ≡ band width rows.start rows.count
+        (within (F.area first.now) (F.at first.now)) }
+    ensures second { map T.value other.new
+        ≡ band width rows.start rows.count (within (G.area second.now) (G.at second.now)) }
 {
     let step = usize::from(width);
     for line in 0..rows.count {
@@ -120,7 +125,8 @@ pub fn write_rows_of_two<T: Number, S, R, F: RowFormula<T, S>, G: RowFormula<T, 
 fn clear_beside<T: Number>(valid: Rect, y: u16, row: &mut [T])
     requires in_rows { (valid.y0 ≤ y) × (y < valid.y1) }
     requires room { valid.x1 ≤ length row.old }
-    ensures { map T.value row.new ≡ run 0 (length row.old) (λ x. within valid (sample_in (map T.value row.old)) x y) }
+    ensures { map T.value row.new ≡ run 0 (length row.old)
+        (λ x. within valid (sample_in (map T.value row.old)) x y) }
 {
     let (before, others) = row.split_at_mut(usize::from(valid.x0()));
     let (_, after) = others.split_at_mut(usize::from(valid.x1() - valid.x0()));
@@ -131,7 +137,8 @@ fn clear_beside<T: Number>(valid: Rect, y: u16, row: &mut [T])
 /// Makes the samples of row y 0 outside the rectangle.
 fn clear_row<T: Number>(valid: Rect, y: u16, row: &mut [T])
     requires room { valid.x1 ≤ length row.old }
-    ensures { map T.value row.new ≡ run 0 (length row.old) (λ x. within valid (sample_in (map T.value row.old)) x y) }
+    ensures { map T.value row.new ≡ run 0 (length row.old)
+        (λ x. within valid (sample_in (map T.value row.old)) x y) }
 {
     if y < valid.y0() || valid.y1() <= y {
         set_all(row, T::zero());
@@ -140,12 +147,14 @@ fn clear_row<T: Number>(valid: Rect, y: u16, row: &mut [T])
     }
 }
 
-/// Makes the samples of a band of rows of an image, which stand row by row, 0 outside the rectangle.
+/// Makes the samples of a band of rows of an image, which stand row by row, 0 outside the
+/// rectangle.
 pub fn clear_rows<T: Number>(valid: Rect, width: u16, rows: Band, samples: &mut [T])
     requires rows { rows.start + rows.count < 2 ^ 16 }
     requires size { length samples.old ≡ rows.count * width }
     requires room { valid.x1 ≤ width }
-    ensures { map T.value samples.new ≡ band width rows.start rows.count (within valid (sample_from width rows.start (map T.value samples.old))) }
+    ensures { map T.value samples.new ≡ band width rows.start rows.count
+        (within valid (sample_from width rows.start (map T.value samples.old))) }
 {
     let step = usize::from(width);
     for line in 0..rows.count {

@@ -59,7 +59,10 @@ pub trait Sample: Number {
         requires format { (written output.old).format ≡ format }
         requires room { (F.area formula.now).x1 ≤ (written output.old).width }
         requires scratch { F.room formula.now ≤ length scratch.old }
-        ensures value { written output.new ≡ image_over output.old.desc output.old.valid (band (written output.old).width output.old.rows.start output.old.rows.count (within (F.area formula.now) (F.at formula.now))) }
+        ensures value { written output.new
+            ≡ image_over output.old.desc output.old.valid
+            (band (written output.old).width output.old.rows.start output.old.rows.count
+            (within (F.area formula.now) (F.at formula.now))) }
         ensures slices { SameSlices output.old output.new };
 }
 

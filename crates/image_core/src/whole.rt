@@ -26,5 +26,6 @@ pub trait Whole {
     fn fill(&self, rows: Band, out: &mut [u32])
         requires rows { IsInRows (height self.now) rows }
         requires size { length out.old ≡ rows.count * width self.now }
-        ensures { map pos out.new ≡ band (width self.now) rows.start rows.count (within (area self.now) (at self.now)) };
+        ensures { map pos out.new ≡ band (width self.now) rows.start rows.count
+            (within (area self.now) (at self.now)) };
 }

@@ -29,7 +29,8 @@ impl<A: Short, B: Short> OfPair<A, B, i16> for Distance {
 pub fn absdiff_u8(first: &[u8], second: &[u8], out: &mut [u8])
     requires first_len { length first.now ≡ length out.old }
     requires second_len { length second.now ≡ length out.old }
-    ensures { map pos out.new ≡ zip2 (absolute_difference U8) (map pos first.now) (map pos second.now) }
+    ensures { map pos out.new ≡ zip2 (absolute_difference U8) (map pos first.now)
+        (map pos second.now) }
 {
     zip_rows(&Distance, first, second, out);
 }
@@ -38,7 +39,8 @@ pub fn absdiff_u8(first: &[u8], second: &[u8], out: &mut [u8])
 pub fn absdiff_s16<A: Short, B: Short>(first: &[A], second: &[B], out: &mut [i16])
     requires first_len { length first.now ≡ length out.old }
     requires second_len { length second.now ≡ length out.old }
-    ensures { out.new ≡ zip2 (absolute_difference S16) (map A.value first.now) (map B.value second.now) }
+    ensures { out.new ≡ zip2 (absolute_difference S16) (map A.value first.now)
+        (map B.value second.now) }
 {
     zip_rows(&Distance, first, second, out);
 }

@@ -12,7 +12,8 @@ pub trait LanesOfPair<A: Item, B: Item, T: Item>: OfPair<A, B, T> {
         requires first_len { length first.now ≡ 32 }
         requires second_len { length second.now ≡ 32 }
         requires out_len { length out.old ≡ 32 }
-        ensures { map T.value out.new ≡ zip2 (Self.formula self.now) (map A.value first.now) (map B.value second.now) };
+        ensures { map T.value out.new ≡ zip2 (Self.formula self.now) (map A.value first.now)
+            (map B.value second.now) };
 }
 
 /// Writes what the kernel gives at each place of two rows of so many blocks.
@@ -26,7 +27,8 @@ fn zip_blocks<A: Item, B: Item, T: Item, K: LanesOfPair<A, B, T>>(
     requires first_len { length first.now ≡ 32 * blocks }
     requires second_len { length second.now ≡ 32 * blocks }
     requires out_len { length out.old ≡ 32 * blocks }
-    ensures { map T.value out.new ≡ zip2 (K.formula kernel.now) (map A.value first.now) (map B.value second.now) }
+    ensures { map T.value out.new ≡ zip2 (K.formula kernel.now) (map A.value first.now)
+        (map B.value second.now) }
 {
     for k in 0..blocks {
         let start = 32 * k;
@@ -47,7 +49,8 @@ pub fn zip_lanes<A: Item, B: Item, T: Item, K: LanesOfPair<A, B, T>>(
 )
     requires first_len { length first.now ≡ length out.old }
     requires second_len { length second.now ≡ length out.old }
-    ensures { map T.value out.new ≡ zip2 (K.formula kernel.now) (map A.value first.now) (map B.value second.now) }
+    ensures { map T.value out.new ≡ zip2 (K.formula kernel.now) (map A.value first.now)
+        (map B.value second.now) }
 {
     let blocks = out.len() / 32;
     let (first, first_rest) = first.split_at(32 * blocks);

@@ -106,7 +106,8 @@ pub fn mul_u8(first: &[u8], second: &[u8], amount: u8, policy: Policy, out: &mut
     requires first_len { length first.now ≡ length out.old }
     requires second_len { length second.now ≡ length out.old }
     requires amount { amount ≤ 15 }
-    ensures { map pos out.new ≡ zip2 (product U8 policy amount) (map pos first.now) (map pos second.now) }
+    ensures { map pos out.new ≡ zip2 (product U8 policy amount) (map pos first.now)
+        (map pos second.now) }
 {
     match policy {
         Policy::Wrap => zip_lanes(&WrappedProduct { amount }, first, second, out),
@@ -126,7 +127,8 @@ pub fn mul_s16<A: Short, B: Short>(
     requires first_len { length first.now ≡ length out.old }
     requires second_len { length second.now ≡ length out.old }
     requires amount { amount ≤ 15 }
-    ensures { out.new ≡ zip2 (product S16 policy amount) (map A.value first.now) (map B.value second.now) }
+    ensures { out.new ≡ zip2 (product S16 policy amount) (map A.value first.now)
+        (map B.value second.now) }
 {
     match policy {
         Policy::Wrap => zip_rows(&WrappedProduct { amount }, first, second, out),

@@ -41,7 +41,8 @@ pub fn zip_rows<A: Item, B: Item, T: Item, K: OfPair<A, B, T>>(
 )
     requires first_len { length first.now ≡ length out.old }
     requires second_len { length second.now ≡ length out.old }
-    ensures { map T.value out.new ≡ zip2 (K.formula kernel.now) (map A.value first.now) (map B.value second.now) }
+    ensures { map T.value out.new ≡ zip2 (K.formula kernel.now) (map A.value first.now)
+        (map B.value second.now) }
 {
     for (i, item) in out.iter_mut().enumerate() {
         *item = kernel.item(first[i], second[i]);

@@ -115,7 +115,8 @@ impl<A: Short, B: Short> OfPair<A, B, i16> for ClampedDifference {
 pub fn sub_u8(first: &[u8], second: &[u8], policy: Policy, out: &mut [u8])
     requires first_len { length first.now ≡ length out.old }
     requires second_len { length second.now ≡ length out.old }
-    ensures { map pos out.new ≡ zip2 (difference U8 policy) (map pos first.now) (map pos second.now) }
+    ensures { map pos out.new ≡ zip2 (difference U8 policy) (map pos first.now)
+        (map pos second.now) }
 {
     match policy {
         Policy::Wrap => zip_rows(&WrappedDifference, first, second, out),
@@ -127,7 +128,8 @@ pub fn sub_u8(first: &[u8], second: &[u8], policy: Policy, out: &mut [u8])
 pub fn sub_s16<A: Short, B: Short>(first: &[A], second: &[B], policy: Policy, out: &mut [i16])
     requires first_len { length first.now ≡ length out.old }
     requires second_len { length second.now ≡ length out.old }
-    ensures { out.new ≡ zip2 (difference S16 policy) (map A.value first.now) (map B.value second.now) }
+    ensures { out.new ≡ zip2 (difference S16 policy) (map A.value first.now)
+        (map B.value second.now) }
 {
     match policy {
         Policy::Wrap => zip_rows(&WrappedDifference, first, second, out),

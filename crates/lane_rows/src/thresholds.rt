@@ -68,7 +68,13 @@ struct Above<A> {
 }
 
 impl<A: Tested> OfItem<A, u8> for Above<A> {
-    ghost formula = { λ s. thresholded (record { format = A.format; kind = Binary (A.value s.limit); true_value = s.true_value; false_value = s.false_value }) };
+    ghost formula = { λ s. thresholded (record {
+      format = A.format;
+      kind = Binary
+          (A.value s.limit);
+      true_value = s.true_value;
+      false_value = s.false_value;
+    }) };
 
     fn item(&self, a: A) -> u8 {
         if self.limit.is_below(a) {
@@ -89,7 +95,13 @@ struct Between<A> {
 }
 
 impl<A: Tested> OfItem<A, u8> for Between<A> {
-    ghost formula = { λ s. thresholded (record { format = A.format; kind = Range (A.value s.lower) (A.value s.upper); true_value = s.true_value; false_value = s.false_value }) };
+    ghost formula = { λ s. thresholded (record {
+      format = A.format;
+      kind = Range (A.value s.lower)
+          (A.value s.upper);
+      true_value = s.true_value;
+      false_value = s.false_value;
+    }) };
 
     fn item(&self, a: A) -> u8 {
         if self.lower.is_at_most(a) && a.is_at_most(self.upper) {

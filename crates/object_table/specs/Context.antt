@@ -1,10 +1,11 @@
 -- One client's context: OpenVX 1.3, "Object: Context".
 use Rattle.std.specs.Prelude.{ℕ, ◌+◌, ◌==◌, true, ◌&&◌, Bool, nat_lt, List, [], ◌∷◌, ◌++◌, length, sum_by, find, Option, None}
 use Rattle.std.specs.Option.{option_map}
-use Rattle.vx_base.specs.Cell.{Cell}
+use Rattle.vx_base.specs.Cell.{Cell, cell_of}
 use Rattle.vx_base.specs.Graph.{GraphValue}
 use Rattle.vx_base.specs.Object.{ObjectValue, GraphObject, object_bytes}
 use Rattle.object_table.specs.Named.{Named, with_object}
+use Rattle.object_table.specs.declared.table.TheConstants.{END_OF_NAMES, GREATEST_COUNT}
 
 -- the name that comes next, and the objects in the order of their names
 pub record Context : Type 0 where
@@ -25,7 +26,7 @@ charge_of objects = sum_by (λ o. object_bytes o.object) objects
 
 -- whether one more object can be held: a name is left, and fewer than 1,024 are held
 abbrev pub can_insert : Context → Bool
-can_insert c = nat_lt c.next 4294967296 && nat_lt (length c.objects) 1024
+can_insert c = nat_lt c.next END_OF_NAMES && nat_lt (length c.objects) GREATEST_COUNT
 
 -- the context with one more object, under the next name
 abbrev pub with_new : Context → ObjectValue → Context
@@ -34,10 +35,6 @@ with_new c object = record { next = c.next + 1; objects = c.objects ++ record { 
 -- the context with other objects under its names
 abbrev pub with_objects : Context → List Named → Context
 with_objects c objects = record { next = c.next; objects = objects }
-
--- the cell of an object without slots
-abbrev pub cell_of : ℕ → Cell
-cell_of name = record { name = name; slot = None }
 
 -- the objects, of which the graph of this name is another
 abbrev pub with_graph : List Named → ℕ → GraphValue → List Named

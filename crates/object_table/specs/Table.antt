@@ -18,6 +18,10 @@ use Rattle.object_table.specs.Context.{charge_of}
 use Rattle.object_table.specs.Named.{Named, object_held, held}
 use Rattle.object_table.specs.Object.{image_value, graph_value}
 use Rattle.object_table.specs.Uses.{nodes_in, names_used, times}
+use Rattle.vx_base.specs.declared.desc.TheConstants.{GREATEST_BYTES}
+use Rattle.vx_base.specs.declared.slots.TheConstants.{GREATEST_SLOTS}
+use Rattle.object_table.specs.declared.table.TheConstants.{GREATEST_COUNT}
+use Rattle.vx_base.specs.declared.node.TheConstants.{GREATEST_NODES}
 
 -- ---- what a name and a cell stand for
 
@@ -83,9 +87,9 @@ pub record IsTable (next charge : ℕ) (entries : List (ℕ × Entry)) : Type 0 
   pub names : IsStrictlyIncreasing (map (λ e. e.0) entries)
   pub below : All (λ e. e.0 < next) entries
   pub left : next ≤ 4294967296
-  pub count : length entries ≤ 1024
-  pub each : All (λ e. object_bytes e.1.object ≤ 16 * 67108864) entries
-  pub nodes : All (λ e. length (nodes_in e.1.object) ≤ 256) entries
+  pub count : length entries ≤ GREATEST_COUNT
+  pub each : All (λ e. object_bytes e.1.object ≤ GREATEST_SLOTS * GREATEST_BYTES) entries
+  pub nodes : All (λ e. length (nodes_in e.1.object) ≤ GREATEST_NODES) entries
   pub charged : charge ≡ charge_of (map named entries)
   pub uses : All (λ e. e.1.uses ≡ times e.0 (names_used (map named entries))) entries
   pub held : All (λ e. IsTrue (is_kept e)) entries

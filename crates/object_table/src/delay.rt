@@ -1,12 +1,16 @@
 //! Delays: images in slots.
-ghost use Rattle.std.specs.Prelude.{◌≡◌, ◌<◌, ◌≤◌, ◌*◌, [], length, slice_get, slice_index_or, slice_set, sum_by, Some, None, IfOk, IfErr};
+ghost use Rattle.std.specs.Prelude.{◌≡◌, ◌<◌, ◌≤◌, ◌*◌, [], length, slice_get, slice_index_or};
+ghost use Rattle.std.specs.Prelude.{slice_set, sum_by, Some, None, IfOk, IfErr};
 ghost use Rattle.vx_base.specs.declared.format.Format.TheVariants.{U8};
 ghost use Rattle.vx_base.specs.Rectangle.{IsWithin};
-ghost use Rattle.vx_base.specs.Image.{ImageValue, IsImage, new_image, image_over, description_of, with_valid};
+ghost use Rattle.vx_base.specs.Image.{ImageValue, IsImage, new_image, image_over, description_of};
+ghost use Rattle.vx_base.specs.Image.{with_valid};
 ghost use Rattle.vx_base.specs.Object.{IsDelay, image_bytes};
 ghost use Rattle.vx_base.specs.Picture.{values, samples_format, pictured};
 ghost use Rattle.object_table.specs.declared.fault.TableFault.TheVariants.{InvalidValue};
 ghost use Rattle.object_table.specs.Delay.{new_delay, aged, image_in};
+ghost use Rattle.vx_base.specs.declared.desc.TheConstants.{GREATEST_BYTES};
+ghost use Rattle.vx_base.specs.declared.slots.TheConstants.{GREATEST_SLOTS};
 
 use crate::fault::TableFault;
 use crate::stored::Stored;
@@ -48,7 +52,8 @@ impl Delay {
     /// The image in a slot; slot 0 is the newest. `InvalidValue`: the delay has no such slot.
     pub fn slot(&self, k: u8) -> Result<&Stored, TableFault>
         ensures ok { IfOk result (λ image. slice_get self.now k ≡ Some image.now) }
-        ensures err { IfErr result (λ fault. (fault ≡ InvalidValue) × (slice_get self.now k ≡ None)) }
+        ensures err { IfErr result (λ fault. (fault ≡ InvalidValue) ×
+            (slice_get self.now k ≡ None)) }
     {
         match self.images.get(usize::from(k)) {
             Some(image) => Ok(image),
@@ -59,7 +64,7 @@ impl Delay {
     /// The sample bytes of all images.
     pub fn bytes(&self) -> usize
         ensures value { result ≡ sum_by image_bytes self.now }
-        ensures limit { result ≤ 16 * 67108864 }
+        ensures limit { result ≤ GREATEST_SLOTS * GREATEST_BYTES }
     {
         self.images.len() * self.desc.byte_count()
     }
@@ -97,14 +102,15 @@ impl Delay {
         image.set_valid(valid);
     }
 
-    /// Takes out the samples of the image in a slot, and says its size and format; `put` brings them
-    /// back.
+    /// Takes out the samples of the image in a slot, and says its size and format; `put` brings
+    /// them back.
     pub fn take(&mut self, k: u8) -> (Desc, Samples)
         requires within { k < length self.old }
         ensures desc { result.0 ≡ description_of (image_in self.old k) }
         ensures value { values result.1 ≡ (image_in self.old k).samples }
         ensures format { samples_format result.1 ≡ (image_in self.old k).format }
-        ensures left { self.new ≡ slice_set self.old k (image_over (description_of (image_in self.old k)) (image_in self.old k).valid []) }
+        ensures left { self.new ≡ slice_set self.old k
+            (image_over (description_of (image_in self.old k)) (image_in self.old k).valid []) }
         ensures bytes { sum_by image_bytes self.new ≡ sum_by image_bytes self.old }
     {
         let image = &mut self.images[usize::from(k)];
@@ -115,7 +121,8 @@ impl Delay {
     pub fn put(&mut self, k: u8, samples: Samples, valid: Rect)
         requires within { k < length self.old }
         requires format { samples_format samples ≡ (image_in self.old k).format }
-        ensures value { self.new ≡ slice_set self.old k (image_over (description_of (image_in self.old k)) valid (values samples)) }
+        ensures value { self.new ≡ slice_set self.old k
+            (image_over (description_of (image_in self.old k)) valid (values samples)) }
         ensures bytes { sum_by image_bytes self.new ≡ sum_by image_bytes self.old }
     {
         let image = &mut self.images[usize::from(k)];

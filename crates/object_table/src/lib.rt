@@ -9,7 +9,8 @@
 //! - `distribution`: bins, and the counts of a histogram
 //! - `object`: an image, a lookup table, a threshold, a delay, a convolution, a distribution,
 //!   extremes, a graph or a virtual image
-//! - `table`: objects under their names, with their charge; what is read and written by name or cell
+//! - `table`: objects under their names, with their charge; what is read and written by name or
+//!   cell
 //! - `table::graphs`: graphs of a table, and how their nodes use what it holds
 //! - `fault`: why a call isn't done
 #![tactic(auto)]

@@ -1,15 +1,21 @@
 //! Objects that a client holds.
-ghost use Rattle.std.specs.Prelude.{◌≡◌, ◌≤◌, ◌*◌, ◌==◌, not, if◌then◌else◌, IsTrue, [], is_some, length, find, Some, IfOk, IfErr, OnOk, OnErr};
+ghost use Rattle.std.specs.Prelude.{◌≡◌, ◌≤◌, ◌*◌, ◌==◌, not, if◌then◌else◌, IsTrue, [], is_some};
+ghost use Rattle.std.specs.Prelude.{length, find, Some, IfOk, IfErr, OnOk, OnErr};
 ghost use Rattle.std.specs.Result.{is_err};
 ghost use Rattle.vx_base.specs.declared.kind.Kind.TheVariants as kind;
 ghost use Rattle.vx_base.specs.Rectangle.{IsWithin};
 ghost use Rattle.vx_base.specs.Image.{IsImage, description_of, with_valid};
 ghost use Rattle.vx_base.specs.Graph.{can_add, with_node, has_node, without_node};
-ghost use Rattle.vx_base.specs.Object.{ImageObject, DelayObject, ExtremesObject, GraphObject, IsObject, object_bytes, object_kind};
+ghost use Rattle.vx_base.specs.Object.{ImageObject, DelayObject, ExtremesObject, GraphObject};
+ghost use Rattle.vx_base.specs.Object.{IsObject, object_bytes, object_kind};
 ghost use Rattle.vx_base.specs.Picture.{values, samples_format, pictured};
 ghost use Rattle.object_table.specs.Delay.{in_slot, object_in, slot_kind, with_slot, HasImage};
-ghost use Rattle.object_table.specs.Object.{value_of, image_value, distribution_value, graph_value, aged_object, with_samples, with_counts};
-ghost use Rattle.graph_verify.specs.declared.fault.GraphFault.TheVariants.{NoMemory, NoResources, InvalidReference};
+ghost use Rattle.object_table.specs.Object.{value_of, image_value, distribution_value, graph_value};
+ghost use Rattle.object_table.specs.Object.{aged_object, with_samples, with_counts};
+ghost use Rattle.graph_verify.specs.declared.fault.GraphFault.TheVariants.{NoMemory, NoResources};
+ghost use Rattle.graph_verify.specs.declared.fault.GraphFault.TheVariants.{InvalidReference};
+ghost use Rattle.vx_base.specs.declared.desc.TheConstants.{GREATEST_BYTES};
+ghost use Rattle.vx_base.specs.declared.slots.TheConstants.{GREATEST_SLOTS};
 
 use crate::delay::Delay;
 use crate::distribution::Distribution;
@@ -105,7 +111,7 @@ impl Object {
     /// What the object is charged, in bytes: its images' samples.
     pub fn bytes(&self) -> usize
         ensures value { result ≡ object_bytes self.now }
-        ensures limit { result ≤ 16 * 67108864 }
+        ensures limit { result ≤ GREATEST_SLOTS * GREATEST_BYTES }
     {
         match &self.content {
             Content::Image(image) => image.desc().byte_count(),
@@ -130,7 +136,8 @@ impl Object {
     pub fn write(&mut self, slot: Option<u8>, picture: &Picture)
         requires there { HasImage slot self.old }
         requires object { IsObject self.old }
-        requires same { description_of (image_value (object_in slot self.old)) ≡ picture.now.description }
+        requires same { description_of (image_value (object_in slot self.old))
+            ≡ picture.now.description }
         ensures value { self.new ≡ with_slot slot (ImageObject (pictured picture.now)) self.old }
         ensures bytes { object_bytes self.new ≡ object_bytes self.old }
         ensures image { IsImage (pictured picture.now) }
@@ -146,8 +153,10 @@ impl Object {
     pub fn set_valid(&mut self, slot: Option<u8>, valid: Rect)
         requires there { HasImage slot self.old }
         requires object { IsObject self.old }
-        requires room { IsWithin valid (image_value (object_in slot self.old)).width (image_value (object_in slot self.old)).height }
-        ensures value { self.new ≡ with_slot slot (ImageObject (with_valid valid (image_value (object_in slot self.old)))) self.old }
+        requires room { IsWithin valid (image_value (object_in slot self.old)).width
+            (image_value (object_in slot self.old)).height }
+        ensures value { self.new ≡ with_slot slot
+            (ImageObject (with_valid valid (image_value (object_in slot self.old)))) self.old }
         ensures bytes { object_bytes self.new ≡ object_bytes self.old }
     {
         match (slot, &mut self.content) {
@@ -163,7 +172,9 @@ impl Object {
         ensures desc { result.0 ≡ description_of (image_value (object_in slot self.old)) }
         ensures value { values result.1 ≡ (image_value (object_in slot self.old)).samples }
         ensures format { samples_format result.1 ≡ (image_value (object_in slot self.old)).format }
-        ensures left { self.new ≡ with_slot slot (with_samples (object_in slot self.old) (image_value (object_in slot self.old)).valid []) self.old }
+        ensures left { self.new ≡ with_slot slot
+            (with_samples (object_in slot self.old)
+            (image_value (object_in slot self.old)).valid []) self.old }
         ensures bytes { object_bytes self.new ≡ object_bytes self.old }
     {
         match (slot, &mut self.content) {
@@ -177,7 +188,8 @@ impl Object {
     pub fn put(&mut self, slot: Option<u8>, samples: Samples, valid: Rect)
         requires there { HasImage slot self.old }
         requires format { samples_format samples ≡ (image_value (object_in slot self.old)).format }
-        ensures value { self.new ≡ with_slot slot (with_samples (object_in slot self.old) valid (values samples)) self.old }
+        ensures value { self.new ≡ with_slot slot
+            (with_samples (object_in slot self.old) valid (values samples)) self.old }
         ensures bytes { object_bytes self.new ≡ object_bytes self.old }
     {
         match (slot, &mut self.content) {
@@ -243,7 +255,8 @@ impl Object {
         ensures number { IfOk result (λ number. number ≡ (graph_value self.old).next) }
         ensures ok { OnOk result (self.new ≡ GraphObject (with_node (graph_value self.old) node)) }
         ensures room { OnOk result (IsTrue (can_add (graph_value self.old))) }
-        ensures fault { IfErr result (λ fault. fault ≡ (if can_add (graph_value self.old) then NoMemory else NoResources)) }
+        ensures fault { IfErr result (λ fault. fault
+            ≡ (if can_add (graph_value self.old) then NoMemory else NoResources)) }
         ensures err { OnErr result (self.new ≡ self.old) }
         ensures bytes { object_bytes self.new ≡ object_bytes self.old }
     {
@@ -257,8 +270,11 @@ impl Object {
     /// `InvalidReference`: the graph has no such node.
     pub fn remove_node(&mut self, number: u32) -> Result<NodeSpec, GraphFault>
         requires { object_kind self.old ≡ kind.Graph }
-        ensures removed { IfOk result (λ node. find (λ n. n.number == number) (graph_value self.old).nodes ≡ Some (record { number = number; node = node })) }
-        ensures ok { OnOk result (self.new ≡ GraphObject (without_node (graph_value self.old) number)) }
+        ensures removed { IfOk result (λ node.
+            find (λ n. n.number == number) (graph_value self.old).nodes
+            ≡ Some (record { number = number; node = node })) }
+        ensures ok { OnOk result (self.new
+            ≡ GraphObject (without_node (graph_value self.old) number)) }
         ensures missing { is_err result ≡ not (has_node (graph_value self.old) number) }
         ensures fault { IfErr result (λ fault. fault ≡ InvalidReference) }
         ensures err { OnErr result (self.new ≡ self.old) }

@@ -32,7 +32,8 @@ impl Model for Stored {
 impl Stored {
     /// A new image: 0 everywhere, and wholly valid.
     pub fn new(alloc: Global, desc: Desc) -> Result<Stored, AllocError>
-        ensures value { IfOk result (λ image. image ≡ new_image desc.width desc.height desc.format) }
+        ensures value { IfOk result (λ image. image
+            ≡ new_image desc.width desc.height desc.format) }
         ensures image { IfOk result IsImage }
     {
         desc.has_sides();

@@ -1,17 +1,25 @@
 //! Objects under their names, with their charge.
-ghost use Rattle.std.specs.Prelude.{◌≡◌, ◌*◌, ◌≤◌, IsTrue, IsSome, is_none, Some, None, [], if◌then◌else◌, length, map, IfOk, IfErr, OnOk, OnErr};
+ghost use Rattle.std.specs.Prelude.{◌≡◌, ◌*◌, ◌≤◌, IsTrue, IsSome, is_none, Some, None, []};
+ghost use Rattle.std.specs.Prelude.{if◌then◌else◌, length, map, IfOk, IfErr, OnOk, OnErr};
 ghost use Rattle.std.specs.Option.{option_map};
 ghost use Rattle.vx_base.specs.declared.kind.Kind.TheVariants as kind;
 ghost use Rattle.vx_base.specs.Rectangle.{IsWithin};
 ghost use Rattle.vx_base.specs.Image.{IsImage, description_of, with_valid};
 ghost use Rattle.vx_base.specs.Object.{ImageObject, ExtremesObject, IsObject};
 ghost use Rattle.vx_base.specs.Picture.{values, samples_format, pictured};
-ghost use Rattle.object_table.specs.declared.fault.TableFault.TheVariants.{InvalidReference, NoMemory, NoResources};
-ghost use Rattle.object_table.specs.Context.{new_context, object_named, charge_of, can_insert, with_new, with_objects, cell_of};
+ghost use Rattle.object_table.specs.declared.fault.TableFault.TheVariants.{InvalidReference};
+ghost use Rattle.object_table.specs.declared.fault.TableFault.TheVariants.{NoMemory, NoResources};
+ghost use Rattle.vx_base.specs.Cell.{cell_of};
+ghost use Rattle.object_table.specs.Context.{new_context, object_named, charge_of, can_insert};
+ghost use Rattle.object_table.specs.Context.{with_new, with_objects};
 ghost use Rattle.object_table.specs.Named.{object_held, with_object};
-ghost use Rattle.object_table.specs.Object.{distribution_value, aged_object, with_samples, with_counts};
-ghost use Rattle.object_table.specs.Table.{object_under, IsUnder, cell_object, image_held, HoldsImage};
+ghost use Rattle.object_table.specs.Object.{distribution_value, aged_object, with_samples};
+ghost use Rattle.object_table.specs.Object.{with_counts};
+ghost use Rattle.object_table.specs.Table.{object_under, IsUnder, cell_object, image_held};
+ghost use Rattle.object_table.specs.Table.{HoldsImage};
 ghost use Rattle.object_table.specs.Uses.{nodes_in};
+ghost use Rattle.vx_base.specs.declared.desc.TheConstants.{GREATEST_BYTES};
+ghost use Rattle.vx_base.specs.declared.slots.TheConstants.{GREATEST_SLOTS};
 
 mod graphs;
 
@@ -87,7 +95,7 @@ impl Table {
     /// What the client is charged for its objects, in bytes.
     pub fn charged_bytes(&self) -> u64
         ensures value { result ≡ charge_of self.now.objects }
-        ensures limit { result ≤ 1024 * (16 * 67108864) }
+        ensures limit { result ≤ GREATEST_COUNT * (GREATEST_SLOTS * GREATEST_BYTES) }
     {
         self.charge
     }
@@ -106,7 +114,8 @@ impl Table {
         ensures name { IfOk result (λ name. name ≡ self.old.next) }
         ensures ok { OnOk result (self.new ≡ with_new self.old object) }
         ensures room { OnOk result (IsTrue (can_insert self.old)) }
-        ensures fault { IfErr result (λ e. e.fault ≡ (if can_insert self.old then NoMemory else NoResources)) }
+        ensures fault { IfErr result (λ e. e.fault
+            ≡ (if can_insert self.old then NoMemory else NoResources)) }
         ensures err { OnErr result (self.new ≡ self.old) }
         ensures handed_back { IfErr result (λ e. e.object ≡ object) }
     {
@@ -140,7 +149,8 @@ impl Table {
     pub fn get(&self, name: u32) -> Result<&Object, TableFault>
         ensures ok { IfOk result (λ object. object_named self.now.objects name ≡ Some object.now) }
         ensures held { IfOk result (λ object. object_held self.now.objects name ≡ Some object.now) }
-        ensures err { IfErr result (λ fault. (fault ≡ InvalidReference) × (object_named self.now.objects name ≡ None)) }
+        ensures err { IfErr result (λ fault. (fault ≡ InvalidReference) ×
+            (object_named self.now.objects name ≡ None)) }
     {
         match self.entries.get(&name) {
             Some(entry) if entry.live => Ok(&entry.object),
@@ -175,7 +185,8 @@ impl Table {
         requires held { IsSome (object_held self.old.objects name) }
         requires gone { nodes_in (object_under self.old.objects name) ≡ [] }
         requires come { nodes_in object.old ≡ [] }
-        ensures value { self.new ≡ with_objects self.old (with_object self.old.objects (cell_of name) object.old) }
+        ensures value { self.new ≡ with_objects self.old
+            (with_object self.old.objects (cell_of name) object.old) }
         ensures handed_out { object.new ≡ object_under self.old.objects name }
     {
         let come = object.bytes() as u64;
@@ -191,8 +202,10 @@ impl Table {
     pub fn write(&mut self, cell: ObjRef, picture: &Picture)
         requires there { HoldsImage self.old.objects cell }
         requires object { IsObject (object_under self.old.objects cell.name) }
-        requires same { description_of (image_held self.old.objects cell) ≡ picture.now.description }
-        ensures value { self.new ≡ with_objects self.old (with_object self.old.objects cell (ImageObject (pictured picture.now))) }
+        requires same { description_of (image_held self.old.objects cell)
+            ≡ picture.now.description }
+        ensures value { self.new ≡ with_objects self.old
+            (with_object self.old.objects cell (ImageObject (pictured picture.now))) }
         ensures image { IsImage (pictured picture.now) }
     {
         let Some(entry) = self.entries.get_mut(&cell.name()) else {
@@ -206,8 +219,11 @@ impl Table {
     pub fn set_valid(&mut self, cell: ObjRef, valid: Rect)
         requires there { HoldsImage self.old.objects cell }
         requires object { IsObject (object_under self.old.objects cell.name) }
-        requires room { IsWithin valid (image_held self.old.objects cell).width (image_held self.old.objects cell).height }
-        ensures { self.new ≡ with_objects self.old (with_object self.old.objects cell (ImageObject (with_valid valid (image_held self.old.objects cell)))) }
+        requires room { IsWithin valid (image_held self.old.objects cell).width
+            (image_held self.old.objects cell).height }
+        ensures { self.new ≡ with_objects self.old
+            (with_object self.old.objects cell
+            (ImageObject (with_valid valid (image_held self.old.objects cell)))) }
     {
         let Some(entry) = self.entries.get_mut(&cell.name()) else {
             unreachable!()
@@ -215,14 +231,17 @@ impl Table {
         entry.object.set_valid(cell.slot(), valid);
     }
 
-    /// Takes out the samples of the image that a cell holds, and says its size and format; `put` brings
-    /// them back.
+    /// Takes out the samples of the image that a cell holds, and says its size and format; `put`
+    /// brings them back.
     pub fn take(&mut self, cell: ObjRef) -> (Desc, Samples)
         requires { HoldsImage self.old.objects cell }
         ensures desc { result.0 ≡ description_of (image_held self.old.objects cell) }
         ensures value { values result.1 ≡ (image_held self.old.objects cell).samples }
         ensures format { samples_format result.1 ≡ (image_held self.old.objects cell).format }
-        ensures left { self.new ≡ with_objects self.old (with_object self.old.objects cell (with_samples (cell_object self.old.objects cell) (image_held self.old.objects cell).valid [])) }
+        ensures left { self.new ≡ with_objects self.old
+            (with_object self.old.objects cell
+            (with_samples (cell_object self.old.objects cell)
+            (image_held self.old.objects cell).valid [])) }
     {
         let Some(entry) = self.entries.get_mut(&cell.name()) else {
             unreachable!()
@@ -234,7 +253,9 @@ impl Table {
     pub fn put(&mut self, cell: ObjRef, samples: Samples, valid: Rect)
         requires there { HoldsImage self.old.objects cell }
         requires format { samples_format samples ≡ (image_held self.old.objects cell).format }
-        ensures { self.new ≡ with_objects self.old (with_object self.old.objects cell (with_samples (cell_object self.old.objects cell) valid (values samples))) }
+        ensures { self.new ≡ with_objects self.old
+            (with_object self.old.objects cell
+            (with_samples (cell_object self.old.objects cell) valid (values samples))) }
     {
         let Some(entry) = self.entries.get_mut(&cell.name()) else {
             unreachable!()
@@ -245,7 +266,9 @@ impl Table {
     /// Ages the delay under a name. It takes no memory.
     pub fn age(&mut self, name: u32)
         requires { IsUnder self.old.objects kind.Delay name }
-        ensures { self.new ≡ with_objects self.old (with_object self.old.objects (cell_of name) (aged_object (object_under self.old.objects name))) }
+        ensures { self.new ≡ with_objects self.old
+            (with_object self.old.objects (cell_of name)
+            (aged_object (object_under self.old.objects name))) }
     {
         let Some(entry) = self.entries.get_mut(&name) else {
             unreachable!()
@@ -256,8 +279,11 @@ impl Table {
     /// Replaces the counts of the distribution under a name by these, one for each bin.
     pub fn set_counts(&mut self, name: u32, counts: &[u32])
         requires kind { IsUnder self.old.objects kind.Distribution name }
-        requires size { length counts.now ≡ (distribution_value (object_under self.old.objects name)).bins.bins }
-        ensures { self.new ≡ with_objects self.old (with_object self.old.objects (cell_of name) (with_counts (object_under self.old.objects name) counts.now)) }
+        requires size { length counts.now
+            ≡ (distribution_value (object_under self.old.objects name)).bins.bins }
+        ensures { self.new ≡ with_objects self.old
+            (with_object self.old.objects (cell_of name)
+            (with_counts (object_under self.old.objects name) counts.now)) }
     {
         let Some(entry) = self.entries.get_mut(&name) else {
             unreachable!()
@@ -268,7 +294,8 @@ impl Table {
     /// Replaces the extremes under a name by these.
     pub fn set_extremes(&mut self, name: u32, extremes: Extremes)
         requires { IsUnder self.old.objects kind.Extremes name }
-        ensures { self.new ≡ with_objects self.old (with_object self.old.objects (cell_of name) (ExtremesObject extremes)) }
+        ensures { self.new ≡ with_objects self.old
+            (with_object self.old.objects (cell_of name) (ExtremesObject extremes)) }
     {
         let Some(entry) = self.entries.get_mut(&name) else {
             unreachable!()

@@ -6,10 +6,10 @@ use Rattle.pgm_images.specs.declared.fault.PgmFault.{PgmFault}
 use Rattle.pgm_images.specs.declared.fault.PgmFault.TheVariants.{InvalidFormat, InvalidDimension, InvalidValue}
 use Rattle.pgm_images.specs.declared.header.Encoding.{Encoding}
 use Rattle.pgm_images.specs.declared.header.Encoding.TheVariants.{Plain, Raw}
-use Rattle.pgm_images.specs.Marks.{Taken, is_space, begins_digit}
-use Rattle.pgm_images.specs.Header.{HeaderValue, take_magic, past_header, take_numbers, take_header, is_maxval, format_up_to, described}
+use Rattle.pgm_images.specs.Marks.{BeginsWith, is_space, begins_digit}
+use Rattle.pgm_images.specs.Header.{HeaderValue, take_magic, past_header, take_numbers, take_header, is_maxval, format_up_to, header_description}
 use Rattle.pgm_images.specs.Raster.{numbers_in, samples_up_to, all_up_to}
-use Rattle.pgm_images.specs.Reading.{with_samples, picture_under, picture_after, fault_of, fault}
+use Rattle.pgm_images.specs.Reading.{picture_with, picture_under, picture_after, fault_of, fault}
 use Rattle.pgm_images.specs.Grammar.{magic, EndsHeader, IsHeader, HasSamples}
 use Rattle.pgm_images.proofs.ReadingLemmas.{then_some, numbers_size}
 use Rattle.pgm_images.proofs.GapLemmas.{space_is}
@@ -70,13 +70,13 @@ samples_back Raw maxval rest numbers is = raster_many maxval rest numbers is
 pub no_header : (text : List ℕ) → ((value : HeaderValue) (rest : List ℕ) → IsHeader text value rest → ⊥) → fault text ≡ Some InvalidFormat
 no_header text none = known (take_header text) refl
   where
-    known : (t : Taken HeaderValue) → take_header text ≡ t → fault text ≡ Some InvalidFormat
+    known : (t : BeginsWith HeaderValue) → take_header text ≡ t → fault text ≡ Some InvalidFormat
     known None e = ap (λ t. fault_of (picture_after t)) e
     known (Some found) e = absurd (none found.0 found.1 (header_of text found.0 found.1 e))
 
 -- the fault of a text that begins with a header
 under : (text : List ℕ) (value : HeaderValue) (rest : List ℕ) → IsHeader text value rest
-    → fault text ≡ fault_of (picture_under value (described value.width value.height value.maxval) rest)
+    → fault text ≡ fault_of (picture_under value (header_description value.width value.height value.maxval) rest)
 under text value rest is = ap (λ t. fault_of (picture_after t)) (header_back text value rest is)
 
 abbrev described_if : Bool → Bool → HeaderValue → Result Description PgmFault
@@ -100,7 +100,7 @@ bad_maxval text value rest is sides allowed =
 -- a header that is allowed: its samples decide
 samples_decide : (text : List ℕ) (value : HeaderValue) (rest : List ℕ) → IsHeader text value rest → (is_side value.width && is_side value.height) ≡ true
     → is_maxval value.maxval ≡ true
-    → fault text ≡ fault_of (with_samples (record { width = value.width; height = value.height; format = format_up_to value.maxval })
+    → fault text ≡ fault_of (picture_with (record { width = value.width; height = value.height; format = format_up_to value.maxval })
     (samples_up_to value.maxval (numbers_in value.encoding value.maxval (value.height * value.width) rest)))
 samples_decide text value rest is sides allowed =
     under text value rest is ∙ ap (λ b. fault_of (picture_under value (described_if b (is_maxval value.maxval) value) rest)) sides
@@ -118,8 +118,8 @@ bad_samples text value rest is sides allowed none =
     d = record { width = value.width; height = value.height; format = format_up_to value.maxval }
 
     known : (o : Option (List ℕ)) → numbers_in value.encoding value.maxval (value.height * value.width) rest ≡ o
-        → fault_of (with_samples d (samples_up_to value.maxval (numbers_in value.encoding value.maxval (value.height * value.width) rest))) ≡ Some InvalidFormat
-    known None e = ap (λ o. fault_of (with_samples d (samples_up_to value.maxval o))) e
+        → fault_of (picture_with d (samples_up_to value.maxval (numbers_in value.encoding value.maxval (value.height * value.width) rest))) ≡ Some InvalidFormat
+    known None e = ap (λ o. fault_of (picture_with d (samples_up_to value.maxval o))) e
     known (Some numbers) e =
         absurd (none numbers (numbers_size value.encoding value.maxval (value.height * value.width) rest numbers e)
         (samples_of value.encoding value.maxval (value.height * value.width) rest numbers e))
@@ -132,5 +132,5 @@ high_sample text value rest samples is sides allowed size has high =
     let d : Description = record { width = value.width; height = value.height; format = format_up_to value.maxval } in
     let found : numbers_in value.encoding value.maxval (value.height * value.width) rest ≡ Some samples =
     ap (λ n. numbers_in value.encoding value.maxval n rest) (sym size) ∙ samples_back value.encoding value.maxval rest samples has in
-    samples_decide text value rest is sides allowed ∙ ap (λ o. fault_of (with_samples d (samples_up_to value.maxval o))) found
-    ∙ ap (λ b. fault_of (with_samples d (if b then Ok (map pos samples) else Err InvalidValue))) high
+    samples_decide text value rest is sides allowed ∙ ap (λ o. fault_of (picture_with d (samples_up_to value.maxval o))) found
+    ∙ ap (λ b. fault_of (picture_with d (if b then Ok (map pos samples) else Err InvalidValue))) high

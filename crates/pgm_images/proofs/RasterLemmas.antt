@@ -1,8 +1,8 @@
 -- One more number of a raster.
 use Rattle.std.proofs.Common.{◌≡◌, ℕ, zero, suc, ◌-◌, ◌<◌, Bool, List, [], ◌∷◌, ◌++◌, Option, Some, None, refl, ap, ◌∙◌, append_assoc, length, ◌≢◌, arith}
 use Rattle.std.specs.Option.{option_map}
-use Rattle.pgm_images.specs.Marks.{Taken}
-use Rattle.pgm_images.specs.Raster.{so_many, take_byte, nothing_left}
+use Rattle.pgm_images.specs.Marks.{BeginsWith}
+use Rattle.pgm_images.specs.Raster.{so_many, take_short_sample, nothing_left}
 
 -- these numbers, and then the others
 abbrev pub after : List ℕ → Option (List ℕ) → Option (List ℕ)
@@ -13,7 +13,7 @@ after_one done n None = refl
 after_one done n (Some others) = ap Some (simp append_assoc)
 
 -- one more of them was taken
-pub so_many-more : (take : List ℕ → Taken ℕ) (is_end : List ℕ → Bool) (left n : ℕ) (done rest others : List ℕ) (whole : Option (List ℕ)) → 0 < left
+pub so_many-more : (take : List ℕ → BeginsWith ℕ) (is_end : List ℕ → Bool) (left n : ℕ) (done rest others : List ℕ) (whole : Option (List ℕ)) → 0 < left
     → whole ≡ after done (so_many take is_end left rest) → take rest ≡ Some (n, others) → whole ≡ after (done ++ n ∷ []) (so_many take is_end (left - 1) others)
 so_many-more take is_end zero n done rest others whole some is next = absurd (omega arith)
 so_many-more take is_end (suc left) n done rest others whole some is next =
@@ -21,13 +21,13 @@ so_many-more take is_end (suc left) n done rest others whole some is next =
     rw less (is ∙ rw next (after_one done n (so_many take is_end left others)))
 
 -- bytes that are one number each: as many as there are
-pub bytes-many : (count : ℕ) (bytes : List ℕ) → length bytes ≡ count → so_many take_byte nothing_left count bytes ≡ Some bytes
+pub bytes-many : (count : ℕ) (bytes : List ℕ) → length bytes ≡ count → so_many take_short_sample nothing_left count bytes ≡ Some bytes
 bytes-many zero [] e = refl
 bytes-many zero (b ∷ bytes) e = absurd (omega arith)
 bytes-many (suc count) [] e = absurd (omega arith)
 bytes-many (suc count) (b ∷ bytes) e = ap (λ o. option_map (λ numbers. b ∷ numbers) o) (bytes-many count bytes (omega arith))
 
-pub bytes-other : (count : ℕ) (bytes : List ℕ) → length bytes ≢ count → so_many take_byte nothing_left count bytes ≡ None
+pub bytes-other : (count : ℕ) (bytes : List ℕ) → length bytes ≢ count → so_many take_short_sample nothing_left count bytes ≡ None
 bytes-other zero [] e = absurd (e refl)
 bytes-other zero (b ∷ bytes) e = refl
 bytes-other (suc count) [] e = refl

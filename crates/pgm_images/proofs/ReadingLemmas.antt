@@ -6,12 +6,12 @@ use Rattle.pgm_images.specs.declared.fault.PgmFault.{PgmFault}
 use Rattle.pgm_images.specs.declared.fault.PgmFault.TheVariants.{InvalidValue}
 use Rattle.pgm_images.specs.declared.header.Encoding.{Encoding}
 use Rattle.pgm_images.specs.declared.header.Encoding.TheVariants.{Plain, Raw}
-use Rattle.pgm_images.specs.Marks.{Taken, and_then, take_next, ends}
+use Rattle.pgm_images.specs.Marks.{BeginsWith, then_take, take_next, ends}
 use Rattle.pgm_images.specs.Raster.{so_many, take_raw, nothing_left, numbers_in, samples_up_to, all_up_to}
 
 -- ---- what stands before a step that was taken
 
-pub then_some : {A B : Type 0} (t : Taken A) (next : A → List ℕ → Option B) (r : B) → and_then t next ≡ Some r
+pub then_some : {A B : Type 0} (t : BeginsWith A) (next : A → List ℕ → Option B) (r : B) → then_take t next ≡ Some r
     → (x : A) × (rest : List ℕ) × (t ≡ Some (x, rest)) × (next x rest ≡ Some r)
 then_some None next r e = cc
 then_some (Some taken) next r e = (taken.0, taken.1, refl, e)
@@ -26,7 +26,7 @@ if_some false x y e = cc
 
 -- ---- sizes
 
-so_many-size : (take : List ℕ → Taken ℕ) (is_end : List ℕ → Bool) (count : ℕ) (text numbers : List ℕ) → so_many take is_end count text ≡ Some numbers → length numbers ≡ count
+so_many-size : (take : List ℕ → BeginsWith ℕ) (is_end : List ℕ → Bool) (count : ℕ) (text numbers : List ℕ) → so_many take is_end count text ≡ Some numbers → length numbers ≡ count
 so_many-size take is_end zero text numbers e = let (end, none) = if_some (is_end text) [] numbers e in ap length (sym none)
 so_many-size take is_end (suc count) text numbers e =
     let (n, rest, first, e1) = then_some (take text) (λ number rest. option_map (λ numbers. number ∷ numbers) (so_many take is_end count rest)) numbers e in

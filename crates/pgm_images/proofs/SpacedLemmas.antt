@@ -4,7 +4,7 @@ use Rattle.std.specs.Char.{is_ascii_digit}
 use Rattle.std.specs.Option.{option_and_then, option_map}
 use Rattle.std.specs.Str.{all_ascii_digits}
 use Rattle.std.specs.Str.Parse.{digits_value}
-use Rattle.pgm_images.specs.Marks.{and_then, begins_digit, begins_gap, past_blanks, digits_after, take_number, take_next, ends}
+use Rattle.pgm_images.specs.Marks.{then_take, begins_digit, begins_gap, past_blanks, digits_after, take_number, take_next, ends}
 use Rattle.pgm_images.specs.Raster.{so_many}
 use Rattle.pgm_images.specs.Grammar.{IsBlanks, IsSpaced, AreSpaced}
 use Rattle.pgm_images.proofs.ReadingLemmas.{then_some, map_some, if_some}
@@ -162,7 +162,7 @@ many_spaced (n ∷ numbers) body end (first, more, is, are, spelled) blanks =
     spaced_no_digit numbers more end are (ap begins_digit (sym (append-nil end)) ∙ blanks_no_digit end [] blanks refl) in
     let taken : take_next (body ++ end) ≡ Some (pair n (more ++ end)) =
     ap (λ l. take_next (l ++ end)) spelled ∙ ap take_next (append_assoc first more end) ∙ spaced_next first (more ++ end) n is none in
-    ap (λ t. and_then t (λ number rest. option_map (λ others. number ∷ others) (so_many take_next ends (length numbers) rest))) taken
+    ap (λ t. then_take t (λ number rest. option_map (λ others. number ∷ others) (so_many take_next ends (length numbers) rest))) taken
     ∙ ap (option_map (λ others. n ∷ others)) (many_spaced numbers more end are blanks)
 
 pub spaced_many : (count : ℕ) (text numbers : List ℕ) → so_many take_next ends count text ≡ Some numbers → (body end : List ℕ) × AreSpaced body numbers × IsBlanks end × (text ≡ body ++ end)

@@ -8,10 +8,10 @@ use Rattle.pgm_images.specs.declared.fault.PgmFault.{PgmFault}
 use Rattle.pgm_images.specs.declared.fault.PgmFault.TheVariants.{NoMemory, InvalidFormat, InvalidDimension, InvalidValue}
 use Rattle.pgm_images.specs.declared.header.Encoding.{Encoding}
 use Rattle.pgm_images.specs.declared.header.Encoding.TheVariants.{Plain, Raw}
-use Rattle.pgm_images.specs.Marks.{Taken, and_then, is_space, begins_digit, take_next}
-use Rattle.pgm_images.specs.Header.{HeaderValue, take_magic, past_header, take_numbers, take_header, is_maxval, format_up_to, described}
-use Rattle.pgm_images.specs.Raster.{so_many, take_byte, take_pair, take_raw, nothing_left, numbers_in, samples_up_to, all_up_to}
-use Rattle.pgm_images.specs.Reading.{with_samples, picture_under, picture_after, reading, fault_of, fault}
+use Rattle.pgm_images.specs.Marks.{BeginsWith, then_take, is_space, begins_digit, take_next}
+use Rattle.pgm_images.specs.Header.{HeaderValue, take_magic, past_header, take_numbers, take_header, is_maxval, format_up_to, header_description}
+use Rattle.pgm_images.specs.Raster.{so_many, take_short_sample, take_long_sample, take_raw, nothing_left, numbers_in, samples_up_to, all_up_to}
+use Rattle.pgm_images.specs.Reading.{picture_with, picture_under, picture_after, reading, fault_of, fault}
 use Rattle.pgm_images.specs.Grammar.{IsSpaced, AreSpaced, ArePairs, IsRaster, magic, IsPlainText, IsRawText, Stands}
 use Rattle.pgm_images.proofs.RasterLemmas.{bytes-many}
 use Rattle.pgm_images.proofs.ReadingLemmas.{then_some, map_some, if_some, samples_of, numbers_size}
@@ -20,32 +20,32 @@ use Rattle.pgm_images.proofs.SpacedLemmas.{spaced_of, spaced_end, spaced_next, s
 
 -- ---- rasters
 
-bytes_of : (count : ℕ) (bytes numbers : List ℕ) → so_many take_byte nothing_left count bytes ≡ Some numbers → bytes ≡ numbers
+bytes_of : (count : ℕ) (bytes numbers : List ℕ) → so_many take_short_sample nothing_left count bytes ≡ Some numbers → bytes ≡ numbers
 bytes_of zero [] numbers e = cc
 bytes_of zero (b ∷ bytes) numbers e = cc
 bytes_of (suc count) [] numbers e = cc
 bytes_of (suc count) (b ∷ bytes) numbers e =
-    let (others, many, same) = map_some (λ others. b ∷ others) (so_many take_byte nothing_left count bytes) numbers e in
+    let (others, many, same) = map_some (λ others. b ∷ others) (so_many take_short_sample nothing_left count bytes) numbers e in
     ap (λ l. b ∷ l) (bytes_of count bytes others many) ∙ same
 
-pairs_of : (count : ℕ) (bytes numbers : List ℕ) → so_many take_pair nothing_left count bytes ≡ Some numbers → ArePairs bytes numbers
+pairs_of : (count : ℕ) (bytes numbers : List ℕ) → so_many take_long_sample nothing_left count bytes ≡ Some numbers → ArePairs bytes numbers
 pairs_of zero [] numbers e = let none : [] ≡ numbers = cc in subst (ArePairs []) none refl
 pairs_of zero (b ∷ bytes) numbers e = cc
 pairs_of (suc count) [] numbers e = cc
 pairs_of (suc count) (a ∷ []) numbers e = cc
 pairs_of (suc count) (a ∷ b ∷ bytes) numbers e =
-    let (others, many, same) = map_some (λ others. (256 * a + b) ∷ others) (so_many take_pair nothing_left count bytes) numbers e in
+    let (others, many, same) = map_some (λ others. (256 * a + b) ∷ others) (so_many take_long_sample nothing_left count bytes) numbers e in
     subst (ArePairs (a ∷ b ∷ bytes)) same (a, b, bytes, refl, refl, pairs_of count bytes others many)
 
-pairs-many : (numbers bytes : List ℕ) → ArePairs bytes numbers → so_many take_pair nothing_left (length numbers) bytes ≡ Some numbers
+pairs-many : (numbers bytes : List ℕ) → ArePairs bytes numbers → so_many take_long_sample nothing_left (length numbers) bytes ≡ Some numbers
 pairs-many [] bytes are = ap (λ l. if nothing_left l then Some [] else None) are
 pairs-many (n ∷ numbers) bytes (a, b, rest, spelled, is, are) =
-    ap (so_many take_pair nothing_left (suc (length numbers))) spelled
+    ap (so_many take_long_sample nothing_left (suc (length numbers))) spelled
     ∙ ap (option_map (λ others. (256 * a + b) ∷ others)) (pairs-many numbers rest are) ∙ ap (λ m. Some (m ∷ numbers)) (sym is)
 
 raw_many : (maxval count : ℕ) (bytes : List ℕ) (narrow : Bool) → nat_lt maxval 256 ≡ narrow
-    → so_many (take_raw maxval) nothing_left count bytes ≡ so_many (λ text. if narrow then take_byte text else take_pair text) nothing_left count bytes
-raw_many maxval count bytes narrow e = ap (λ b. so_many (λ text. if b then take_byte text else take_pair text) nothing_left count bytes) e
+    → so_many (take_raw maxval) nothing_left count bytes ≡ so_many (λ text. if narrow then take_short_sample text else take_long_sample text) nothing_left count bytes
+raw_many maxval count bytes narrow e = ap (λ b. so_many (λ text. if b then take_short_sample text else take_long_sample text) nothing_left count bytes) e
 
 pub raster_of : (maxval count : ℕ) (bytes numbers : List ℕ) → so_many (take_raw maxval) nothing_left count bytes ≡ Some numbers → IsRaster maxval bytes numbers
 raster_of maxval count bytes numbers e = elim (cases_lt maxval 256) [
@@ -55,7 +55,7 @@ raster_of maxval count bytes numbers e = elim (cases_lt maxval 256) [
 
 pub raster_many : (maxval : ℕ) (bytes numbers : List ℕ) → IsRaster maxval bytes numbers → so_many (take_raw maxval) nothing_left (length numbers) bytes ≡ Some numbers
 raster_many maxval bytes numbers (inl (low, same)) =
-    raw_many maxval (length numbers) bytes true (lt-ltb maxval 256 low) ∙ ap (so_many take_byte nothing_left (length numbers)) same ∙ bytes-many (length numbers) numbers refl
+    raw_many maxval (length numbers) bytes true (lt-ltb maxval 256 low) ∙ ap (so_many take_short_sample nothing_left (length numbers)) same ∙ bytes-many (length numbers) numbers refl
 raster_many maxval bytes numbers (inr (high, are)) =
     raw_many maxval (length numbers) bytes false (le-ltb maxval 256 high) ∙ pairs-many numbers bytes are
 
@@ -64,7 +64,7 @@ raster_many maxval bytes numbers (inr (high, are)) =
 abbrev header : Encoding → ℕ → ℕ → ℕ → HeaderValue
 header encoding w h m = record { encoding = encoding; width = w; height = h; maxval = m }
 
-abbrev ended : Encoding → ℕ → ℕ → ℕ → List ℕ → Taken HeaderValue
+abbrev ended : Encoding → ℕ → ℕ → ℕ → List ℕ → BeginsWith HeaderValue
 ended encoding w h m rest = option_map (λ rest. (header encoding w h m, rest)) (past_header encoding rest)
 
 -- the three numbers were taken
@@ -78,8 +78,8 @@ header_same x y r s e = (ap (λ (t : HeaderValue × List ℕ). t.0) e, ap (λ (t
 
 pub numbers_of : (encoding : Encoding) (text : List ℕ) (value : HeaderValue) (rest : List ℕ) → take_numbers encoding text ≡ Some (value, rest) → HasNumbers encoding text value rest
 numbers_of encoding text value rest e =
-    let after_height : ℕ → ℕ → List ℕ → Taken HeaderValue = λ w h rest. and_then (take_next rest) (ended encoding w h) in
-    let after_width : ℕ → List ℕ → Taken HeaderValue = λ w rest. and_then (take_next rest) (after_height w) in
+    let after_height : ℕ → ℕ → List ℕ → BeginsWith HeaderValue = λ w h rest. then_take (take_next rest) (ended encoding w h) in
+    let after_width : ℕ → List ℕ → BeginsWith HeaderValue = λ w rest. then_take (take_next rest) (after_height w) in
     let (w, rest1, is_w, e1) = then_some (take_next text) after_width (value, rest) e in
     let (h, rest2, is_h, e2) = then_some (take_next rest1) (after_height w) (value, rest) e1 in
     let (m, rest3, is_m, e3) = then_some (take_next rest2) (ended encoding w h) (value, rest) e2 in
@@ -96,21 +96,21 @@ pub numbers_back : (encoding : Encoding) (w h m : ℕ) (samples body rest : List
 numbers_back encoding w h m samples body rest (a, body1, is_a, are1, at_a) none =
     let (b, body2, is_b, are2, at_b) = are1 in
     let (c, more, is_c, are, at_c) = are2 in
-    let after_height : ℕ → ℕ → List ℕ → Taken HeaderValue = λ w h rest. and_then (take_next rest) (ended encoding w h) in
-    let after_width : ℕ → List ℕ → Taken HeaderValue = λ w rest. and_then (take_next rest) (after_height w) in
+    let after_height : ℕ → ℕ → List ℕ → BeginsWith HeaderValue = λ w h rest. then_take (take_next rest) (ended encoding w h) in
+    let after_width : ℕ → List ℕ → BeginsWith HeaderValue = λ w rest. then_take (take_next rest) (after_height w) in
     let none1 = spaced_no_digit (h ∷ m ∷ samples) body1 rest are1 none in
     let none2 = spaced_no_digit (m ∷ samples) body2 rest are2 none in
     let none3 = spaced_no_digit samples more rest are none in
     let taken1 : take_next (body ++ rest) ≡ Some (w, body1 ++ rest) = ap (λ l. take_next (l ++ rest)) at_a ∙ ap take_next (append_assoc a body1 rest) ∙ spaced_next a (body1 ++ rest) w is_a none1 in
     let taken2 : take_next (body1 ++ rest) ≡ Some (h, body2 ++ rest) = ap (λ l. take_next (l ++ rest)) at_b ∙ ap take_next (append_assoc b body2 rest) ∙ spaced_next b (body2 ++ rest) h is_b none2 in
     let taken3 : take_next (body2 ++ rest) ≡ Some (m, more ++ rest) = ap (λ l. take_next (l ++ rest)) at_c ∙ ap take_next (append_assoc c more rest) ∙ spaced_next c (more ++ rest) m is_c none3 in
-    (more, are, ap (λ t. and_then t after_width) taken1 ∙ ap (λ t. and_then t (after_height w)) taken2 ∙ ap (λ t. and_then t (ended encoding w h)) taken3)
+    (more, are, ap (λ t. then_take t after_width) taken1 ∙ ap (λ t. then_take t (after_height w)) taken2 ∙ ap (λ t. then_take t (ended encoding w h)) taken3)
 
 both_of : (a b : Bool) → (a && b) ≡ true → (a ≡ true) × (b ≡ true)
 both_of true b e = (refl, e)
 both_of false b e = cc
 
-abbrev pub known_magic : Encoding → List ℕ → Taken Encoding
+abbrev pub known_magic : Encoding → List ℕ → BeginsWith Encoding
 known_magic encoding rest = Some (encoding, rest)
 
 magic_same : (x y : Encoding) (r s : List ℕ) → known_magic x r ≡ known_magic y s → (x ≡ y) × (r ≡ s)
@@ -145,7 +145,7 @@ sized w h m = record { width = w; height = h; format = format_up_to m }
 abbrev described_if : Bool → Bool → ℕ → ℕ → ℕ → Result Description PgmFault
 described_if sides allowed w h m = if sides then (if allowed then Ok (sized w h m) else Err InvalidFormat) else Err InvalidDimension
 
-described_of : (w h m : ℕ) (d : Description) → described w h m ≡ Ok d → (is_side w ≡ true) × (is_side h ≡ true) × (is_maxval m ≡ true) × (sized w h m ≡ d)
+described_of : (w h m : ℕ) (d : Description) → header_description w h m ≡ Ok d → (is_side w ≡ true) × (is_side h ≡ true) × (is_maxval m ≡ true) × (sized w h m ≡ d)
 described_of w h m d e = known (is_side w && is_side h) (is_maxval m) refl refl e
   where
     known : (sides allowed : Bool) → (is_side w && is_side h) ≡ sides → is_maxval m ≡ allowed → described_if sides allowed w h m ≡ Ok d
@@ -154,17 +154,17 @@ described_of w h m d e = known (is_side w && is_side h) (is_maxval m) refl refl 
     known true false is may e = cc
     known false allowed is may e = cc
 
-headed : (t : Taken HeaderValue) (p : PictureValue) → picture_after t ≡ Ok p
-    → (value : HeaderValue) × (rest : List ℕ) × (t ≡ Some (value, rest)) × (picture_under value (described value.width value.height value.maxval) rest ≡ Ok p)
+headed : (t : BeginsWith HeaderValue) (p : PictureValue) → picture_after t ≡ Ok p
+    → (value : HeaderValue) × (rest : List ℕ) × (t ≡ Some (value, rest)) × (picture_under value (header_description value.width value.height value.maxval) rest ≡ Ok p)
 headed None p e = cc
 headed (Some taken) p e = (taken.0, taken.1, refl, e)
 
 pictured : (value : HeaderValue) (r : Result Description PgmFault) (rest : List ℕ) (p : PictureValue) → picture_under value r rest ≡ Ok p
-    → (d : Description) × (r ≡ Ok d) × (with_samples d (samples_up_to value.maxval (numbers_in value.encoding value.maxval (sample_count d) rest)) ≡ Ok p)
+    → (d : Description) × (r ≡ Ok d) × (picture_with d (samples_up_to value.maxval (numbers_in value.encoding value.maxval (sample_count d) rest)) ≡ Ok p)
 pictured value (Ok d) rest p e = (d, refl, e)
 pictured value (Err fault) rest p e = cc
 
-sampled : (d : Description) (r : Result (List ℤ) PgmFault) (p : PictureValue) → with_samples d r ≡ Ok p
+sampled : (d : Description) (r : Result (List ℤ) PgmFault) (p : PictureValue) → picture_with d r ≡ Ok p
     → (samples : List ℤ) × (r ≡ Ok samples) × (record { description = d; samples = samples } ≡ p)
 sampled d (Ok samples) p e = (samples, refl, cc)
 sampled d (Err fault) p e = cc
@@ -205,7 +205,7 @@ encoded_of Raw text t value rest numbers count spelled (a, b, c, middle, is_a, i
 pub stands_read : (text : List ℕ) (p : PictureValue) → reading text ≡ Ok p → Stands text p
 stands_read text p e =
     let (value, rest, is_header, e1) = headed (take_header text) p e in
-    let (d, is_described, e2) = pictured value (described value.width value.height value.maxval) rest p e1 in
+    let (d, is_described, e2) = pictured value (header_description value.width value.height value.maxval) rest p e1 in
     let (samples, is_samples, is_p) = sampled d (samples_up_to value.maxval (numbers_in value.encoding value.maxval (sample_count d) rest)) p e2 in
     let (wide, high, allowed, is_d) = described_of value.width value.height value.maxval d is_described in
     let (numbers, is_numbers, below, are) = samples_of value.maxval (numbers_in value.encoding value.maxval (sample_count d) rest) samples is_samples in
@@ -228,7 +228,7 @@ stands_read text p e =
 
 -- ---- what a text stands for is read
 
-described_back : (d : Description) (maxval : ℕ) → IsDescription d → IsTrue (is_maxval maxval) → d.format ≡ format_up_to maxval → described d.width d.height maxval ≡ Ok d
+described_back : (d : Description) (maxval : ℕ) → IsDescription d → IsTrue (is_maxval maxval) → d.format ≡ format_up_to maxval → header_description d.width d.height maxval ≡ Ok d
 described_back d maxval is allowed same = rw (is.width, is.height, allowed) (rw (sym same) refl)
 
 samples_back : (maxval : ℕ) (o : Option (List ℕ)) (numbers : List ℕ) (samples : List ℤ) → o ≡ Some numbers → all_up_to maxval numbers ≡ true → samples ≡ map pos numbers → samples_up_to maxval o ≡ Ok samples
@@ -243,7 +243,7 @@ read_from text p s encoding rest is_header is_numbers =
     let found : numbers_in encoding s.maxval (sample_count d) rest ≡ Some s.numbers = ap (λ n. numbers_in encoding s.maxval n rest) (sym s.size) ∙ is_numbers in
     ap picture_after is_header
     ∙ ap (λ r. picture_under value r rest) (described_back d s.maxval s.sides s.allowed s.format)
-    ∙ ap (with_samples d) (samples_back s.maxval (numbers_in encoding s.maxval (sample_count d) rest) s.numbers p.samples found s.below s.samples)
+    ∙ ap (picture_with d) (samples_back s.maxval (numbers_in encoding s.maxval (sample_count d) rest) s.numbers p.samples found s.below s.samples)
 
 plain_read : (text : List ℕ) (p : PictureValue) (s : Stands text p) → IsPlainText text p.description.width p.description.height s.maxval s.numbers → reading text ≡ Ok p
 plain_read text p s is =
@@ -290,7 +290,7 @@ samples_faults maxval (Some numbers) = known (all_up_to maxval numbers)
     known true = λ e. cc
     known false = λ e. cc
 
-described_faults : (w h m : ℕ) → described w h m ≢ Err NoMemory
+described_faults : (w h m : ℕ) → header_description w h m ≢ Err NoMemory
 described_faults w h m = known (is_side w && is_side h) (is_maxval m)
   where
     known : (sides allowed : Bool) → described_if sides allowed w h m ≢ Err NoMemory
@@ -298,7 +298,7 @@ described_faults w h m = known (is_side w && is_side h) (is_maxval m)
     known true false = λ e. cc
     known false allowed = λ e. cc
 
-with_faults : (d : Description) (r : Result (List ℤ) PgmFault) → r ≢ Err NoMemory → with_samples d r ≢ Err NoMemory
+with_faults : (d : Description) (r : Result (List ℤ) PgmFault) → r ≢ Err NoMemory → picture_with d r ≢ Err NoMemory
 with_faults d (Ok samples) is = λ e. cc
 with_faults d (Err fault) is = λ e. let same : fault ≡ NoMemory = cc in is (ap Err same)
 
@@ -306,9 +306,9 @@ picture_faults : (value : HeaderValue) (r : Result Description PgmFault) (rest :
 picture_faults value (Ok d) rest is = with_faults d (samples_up_to value.maxval (numbers_in value.encoding value.maxval (sample_count d) rest)) (samples_faults value.maxval (numbers_in value.encoding value.maxval (sample_count d) rest))
 picture_faults value (Err fault) rest is = λ e. let same : fault ≡ NoMemory = cc in is (ap Err same)
 
-after_faults : (t : Taken HeaderValue) → picture_after t ≢ Err NoMemory
+after_faults : (t : BeginsWith HeaderValue) → picture_after t ≢ Err NoMemory
 after_faults None = λ e. cc
-after_faults (Some taken) = picture_faults taken.0 (described taken.0.width taken.0.height taken.0.maxval) taken.1 (described_faults taken.0.width taken.0.height taken.0.maxval)
+after_faults (Some taken) = picture_faults taken.0 (header_description taken.0.width taken.0.height taken.0.maxval) taken.1 (described_faults taken.0.width taken.0.height taken.0.maxval)
 
 pub fault_is : (r : Result PictureValue PgmFault) (e : PgmFault) → fault_of r ≡ Some e → r ≡ Err e
 fault_is (Ok p) e is = cc

@@ -15,11 +15,11 @@ use Rattle.vx_base.specs.Sample.{IsSample}
 use Rattle.vx_base.specs.Description.{Description, IsDescription, is_side, sample_count}
 use Rattle.vx_base.specs.Picture.{PictureValue, IsPicture}
 use Rattle.pgm_images.specs.declared.header.Encoding.TheVariants.{Raw}
-use Rattle.pgm_images.specs.Marks.{Taken, and_then, is_space, begins_comment, past_blanks, digits_after, take_number, begins_gap, take_next}
-use Rattle.pgm_images.specs.Header.{HeaderValue, past_header, take_header, described}
+use Rattle.pgm_images.specs.Marks.{BeginsWith, then_take, is_space, begins_comment, past_blanks, digits_after, take_number, begins_gap, take_next}
+use Rattle.pgm_images.specs.Header.{HeaderValue, past_header, take_header, header_description}
 use Rattle.pgm_images.specs.Raster.{numbers_in, all_up_to}
 use Rattle.pgm_images.specs.Reading.{reading}
-use Rattle.pgm_images.specs.Writing.{written, written_header}
+use Rattle.pgm_images.specs.Writing.{pgm_text, written_header}
 use Rattle.pgm_images.proofs.RasterLemmas.{bytes-many}
 use Rattle.pgm_images.proofs.DigitLemmas.{value_after, value_more, digits_model, first_digit, digit_begins}
 
@@ -66,15 +66,15 @@ header_back : (d : Description) (rest : List ℕ) → IsDescription d → take_h
 header_back d rest is =
     let last = 10 ∷ 50 ∷ 53 ∷ 53 ∷ 10 ∷ rest in
     let spelled : written_header d ++ rest ≡ 80 ∷ 53 ∷ 10 ∷ (decimal d.width ++ 32 ∷ (decimal d.height ++ last)) = simp append_assoc in
-    let ended : ℕ → ℕ → ℕ → List ℕ → Taken HeaderValue =
+    let ended : ℕ → ℕ → ℕ → List ℕ → BeginsWith HeaderValue =
     λ w h m rest. option_map (λ rest. (record { encoding = Raw; width = w; height = h; maxval = m }, rest)) (past_header Raw rest) in
-    let after_width : ℕ → List ℕ → Taken HeaderValue = λ w rest. and_then (take_next rest) (λ h rest. and_then (take_next rest) (ended w h)) in
-    let after_height : ℕ → List ℕ → Taken HeaderValue = λ h rest. and_then (take_next rest) (ended d.width h) in
+    let after_width : ℕ → List ℕ → BeginsWith HeaderValue = λ w rest. then_take (take_next rest) (λ h rest. then_take (take_next rest) (ended w h)) in
+    let after_height : ℕ → List ℕ → BeginsWith HeaderValue = λ h rest. then_take (take_next rest) (ended d.width h) in
     ap take_header spelled
-    ∙ ap (λ t. and_then t after_width) (next_back 10 d.width 32 (decimal d.height ++ last) refl refl (side_below d.width is.width) refl)
-    ∙ ap (λ t. and_then t after_height) (next_back 32 d.height 10 (50 ∷ 53 ∷ 53 ∷ 10 ∷ rest) refl refl (side_below d.height is.height) refl)
+    ∙ ap (λ t. then_take t after_width) (next_back 10 d.width 32 (decimal d.height ++ last) refl refl (side_below d.width is.width) refl)
+    ∙ ap (λ t. then_take t after_height) (next_back 32 d.height 10 (50 ∷ 53 ∷ 53 ∷ 10 ∷ rest) refl refl (side_below d.height is.height) refl)
 
-described_back : (d : Description) → IsDescription d → d.format ≡ U8 → described d.width d.height 255 ≡ Ok d
+described_back : (d : Description) → IsDescription d → d.format ≡ U8 → header_description d.width d.height 255 ≡ Ok d
 described_back d is same = rw (is.width, is.height) (rw (sym same) refl)
 
 -- ---- samples
@@ -91,7 +91,7 @@ samples_bytes (negsuc n ∷ samples) is =
     absurd (omega (arith, ints, first.at_least))
 
 -- a picture that was written
-pub read_back : (p : PictureValue) → IsPicture p → p.description.format ≡ U8 → reading (written p) ≡ Ok p
+pub read_back : (p : PictureValue) → IsPicture p → p.description.format ≡ U8 → reading (pgm_text p) ≡ Ok p
 read_back p is same =
     let d = p.description in
     let bytes = map unsigned_abs p.samples in

@@ -9,7 +9,7 @@ use Rattle.pgm_images.specs.declared.fault.PgmFault.TheVariants.{InvalidFormat, 
 use Rattle.pgm_images.specs.declared.header.Encoding.{Encoding}
 use Rattle.pgm_images.specs.declared.header.Encoding.TheVariants.{Plain, Raw}
 use Rattle.pgm_images.specs.declared.header.Header.{Header}
-use Rattle.pgm_images.specs.Marks.{Taken, and_then, is_space, take_next}
+use Rattle.pgm_images.specs.Marks.{BeginsWith, then_take, is_space, take_next}
 
 -- the numbers as the text has them, of any size
 pub record HeaderValue : Type 0 where
@@ -19,7 +19,7 @@ pub record HeaderValue : Type 0 where
   pub maxval : ℕ
 
 -- `P2` or `P5`
-abbrev pub take_magic : List ℕ → Taken Encoding
+abbrev pub take_magic : List ℕ → BeginsWith Encoding
 take_magic [] = None
 take_magic (a ∷ []) = None
 take_magic (a ∷ b ∷ text) =
@@ -33,13 +33,13 @@ past_header Raw [] = None
 past_header Raw (b ∷ text) = if is_space b then Some text else None
 
 -- the width, the height and the maxval, each behind a gap
-abbrev pub take_numbers : Encoding → List ℕ → Taken HeaderValue
+abbrev pub take_numbers : Encoding → List ℕ → BeginsWith HeaderValue
 take_numbers encoding text =
-    and_then (take_next text) (λ width rest. and_then (take_next rest) (λ height rest. and_then (take_next rest) (λ maxval rest.
+    then_take (take_next text) (λ width rest. then_take (take_next rest) (λ height rest. then_take (take_next rest) (λ maxval rest.
     option_map (λ rest. (record { encoding = encoding; width = width; height = height; maxval = maxval }, rest)) (past_header encoding rest))))
 
-abbrev pub take_header : List ℕ → Taken HeaderValue
-take_header text = and_then (take_magic text) take_numbers
+abbrev pub take_header : List ℕ → BeginsWith HeaderValue
+take_header text = then_take (take_magic text) take_numbers
 
 -- whether a PGM text of this project may have this maxval
 abbrev pub is_maxval : ℕ → Bool
@@ -50,15 +50,15 @@ abbrev pub format_up_to : ℕ → Format
 format_up_to maxval = if nat_lt maxval 256 then U8 else S16
 
 -- the description of the pictures with such a header, or the header's fault
-abbrev pub described : (width height maxval : ℕ) → Result Description PgmFault
-described width height maxval =
+abbrev pub header_description : (width height maxval : ℕ) → Result Description PgmFault
+header_description width height maxval =
     if is_side width && is_side height
     then (if is_maxval maxval then Ok (record { width = width; height = height; format = format_up_to maxval }) else Err InvalidFormat)
     else Err InvalidDimension
 
 -- The code took such a header from the front, and rest is what follows it. It keeps 16 bits of each
 -- number, as Kept says.
-pub record KeptHeader (taken : Taken HeaderValue) (header : Header) (rest : List ℕ) : Type 0 where
+pub record KeptHeader (taken : BeginsWith HeaderValue) (header : Header) (rest : List ℕ) : Type 0 where
   pub value : HeaderValue
   pub is : taken ≡ Some (value, rest)
   pub encoding : header.encoding ≡ value.encoding

@@ -4,13 +4,13 @@ use Rattle.std.specs.Option.{option_and_then}
 use Rattle.std.specs.Char.{is_ascii_digit}
 
 -- a mark's value and the text after it, or none where the text doesn't begin with such a mark
-abbrev pub Taken : Type 0 → Type 0
-Taken A = Option (A × List ℕ)
+abbrev pub BeginsWith : Type 0 → Type 0
+BeginsWith A = Option (A × List ℕ)
 
 -- one mark after the other
-abbrev pub and_then : {A B : Type 0} → Taken A → (A → List ℕ → Option B) → Option B
-and_then None next = None
-and_then (Some taken) next = next taken.0 taken.1
+abbrev pub then_take : {A B : Type 0} → BeginsWith A → (A → List ℕ → Option B) → Option B
+then_take None next = None
+then_take (Some taken) next = next taken.0 taken.1
 
 -- CR or LF, which end a comment
 abbrev pub ends_line : ℕ → Bool
@@ -39,7 +39,7 @@ digits_after n [] = (n, [])
 digits_after n (b ∷ text) = if is_ascii_digit b then digits_after (n * 10 + (b - 48)) text else (n, b ∷ text)
 
 -- a number: one digit or more, up to a byte that is none or the end
-abbrev pub take_number : List ℕ → Taken ℕ
+abbrev pub take_number : List ℕ → BeginsWith ℕ
 take_number [] = None
 take_number (b ∷ text) = if is_ascii_digit b then Some (digits_after 0 (b ∷ text)) else None
 
@@ -54,7 +54,7 @@ begins_gap [] = false
 begins_gap (b ∷ text) = begins_comment b || is_space b
 
 -- a gap, which is whitespace bytes and comments, one of them at least; and a number
-abbrev pub take_next : List ℕ → Taken ℕ
+abbrev pub take_next : List ℕ → BeginsWith ℕ
 take_next text = if begins_gap text then option_and_then take_number (past_blanks false text) else None
 
 -- whether nothing but whitespace and comments is left
@@ -68,7 +68,7 @@ ends text = nothing (past_blanks false text)
 
 -- The code took a number from the front, and rest is what follows it. It keeps 16 bits: a number
 -- above 65535 as 65535, which is above all limits of a PGM text too.
-pub record Kept (taken : Taken ℕ) (kept : ℕ) (rest : List ℕ) : Type 0 where
+pub record Kept (taken : BeginsWith ℕ) (kept : ℕ) (rest : List ℕ) : Type 0 where
   pub number : ℕ
   pub is : taken ≡ Some (number, rest)
   pub least : kept ≡ min number 65535

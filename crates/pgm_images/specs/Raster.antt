@@ -9,28 +9,28 @@ use Rattle.pgm_images.specs.declared.fault.PgmFault.TheVariants.{NoMemory, Inval
 use Rattle.pgm_images.specs.declared.header.Encoding.{Encoding}
 use Rattle.pgm_images.specs.declared.header.Encoding.TheVariants.{Plain, Raw}
 use Rattle.pgm_images.specs.declared.gathered.Gathered.{Gathered}
-use Rattle.pgm_images.specs.Marks.{Taken, and_then, take_next, ends}
+use Rattle.pgm_images.specs.Marks.{BeginsWith, then_take, take_next, ends}
 use Rattle.pgm_images.specs.Header.{format_up_to, is_maxval}
 
 -- a sample of a raw text: a byte where none is above 255, else two, the most significant first
-abbrev pub take_byte : List ℕ → Taken ℕ
-take_byte [] = None
-take_byte (a ∷ text) = Some (a, text)
+abbrev pub take_short_sample : List ℕ → BeginsWith ℕ
+take_short_sample [] = None
+take_short_sample (a ∷ text) = Some (a, text)
 
-abbrev pub take_pair : List ℕ → Taken ℕ
-take_pair text = and_then (take_byte text) (λ a rest. and_then (take_byte rest) (λ b rest. Some (256 * a + b, rest)))
+abbrev pub take_long_sample : List ℕ → BeginsWith ℕ
+take_long_sample text = then_take (take_short_sample text) (λ a rest. then_take (take_short_sample rest) (λ b rest. Some (256 * a + b, rest)))
 
-abbrev pub take_raw : (maxval : ℕ) → List ℕ → Taken ℕ
-take_raw maxval text = if nat_lt maxval 256 then take_byte text else take_pair text
+abbrev pub take_raw : (maxval : ℕ) → List ℕ → BeginsWith ℕ
+take_raw maxval text = if nat_lt maxval 256 then take_short_sample text else take_long_sample text
 
 abbrev pub nothing_left : List ℕ → Bool
 nothing_left [] = true
 nothing_left (b ∷ text) = false
 
 -- so many numbers, each as take takes it, and then what is_end allows at the end of a text
-abbrev pub so_many : (take : List ℕ → Taken ℕ) (is_end : List ℕ → Bool) → ℕ → List ℕ → Option (List ℕ)
+abbrev pub so_many : (take : List ℕ → BeginsWith ℕ) (is_end : List ℕ → Bool) → ℕ → List ℕ → Option (List ℕ)
 so_many take is_end zero text = if is_end text then Some [] else None
-so_many take is_end (suc count) text = and_then (take text) (λ number rest. option_map (λ numbers. number ∷ numbers) (so_many take is_end count rest))
+so_many take is_end (suc count) text = then_take (take text) (λ number rest. option_map (λ numbers. number ∷ numbers) (so_many take is_end count rest))
 
 -- The samples that the text after a header has, or none where it has not so many samples and
 -- nothing else. Each of a plain text stands behind a gap, and whitespace and comments may follow

@@ -4,23 +4,23 @@ use Rattle.vx_base.specs.Description.{Description, sample_count}
 use Rattle.vx_base.specs.Picture.{PictureValue}
 use Rattle.pgm_images.specs.declared.fault.PgmFault.{PgmFault}
 use Rattle.pgm_images.specs.declared.fault.PgmFault.TheVariants.{NoMemory, InvalidFormat}
-use Rattle.pgm_images.specs.Marks.{Taken}
-use Rattle.pgm_images.specs.Header.{HeaderValue, take_header, described}
+use Rattle.pgm_images.specs.Marks.{BeginsWith}
+use Rattle.pgm_images.specs.Header.{HeaderValue, take_header, header_description}
 use Rattle.pgm_images.specs.Raster.{numbers_in, samples_up_to}
 
 -- the picture of a description with these samples
-abbrev pub with_samples : Description → Result (List ℤ) PgmFault → Result PictureValue PgmFault
-with_samples d (Ok samples) = Ok (record { description = d; samples = samples })
-with_samples d (Err fault) = Err fault
+abbrev pub picture_with : Description → Result (List ℤ) PgmFault → Result PictureValue PgmFault
+picture_with d (Ok samples) = Ok (record { description = d; samples = samples })
+picture_with d (Err fault) = Err fault
 
 -- of a header, the description that it tells and the text after it
 abbrev pub picture_under : HeaderValue → Result Description PgmFault → List ℕ → Result PictureValue PgmFault
 picture_under header (Err fault) text = Err fault
-picture_under header (Ok d) text = with_samples d (samples_up_to header.maxval (numbers_in header.encoding header.maxval (sample_count d) text))
+picture_under header (Ok d) text = picture_with d (samples_up_to header.maxval (numbers_in header.encoding header.maxval (sample_count d) text))
 
-abbrev pub picture_after : Taken HeaderValue → Result PictureValue PgmFault
+abbrev pub picture_after : BeginsWith HeaderValue → Result PictureValue PgmFault
 picture_after None = Err InvalidFormat
-picture_after (Some taken) = picture_under taken.0 (described taken.0.width taken.0.height taken.0.maxval) taken.1
+picture_after (Some taken) = picture_under taken.0 (header_description taken.0.width taken.0.height taken.0.maxval) taken.1
 
 -- the picture that a text stands for, or the first fault
 abbrev pub reading : List ℕ → Result PictureValue PgmFault
@@ -42,9 +42,9 @@ is_headed text = allowed (take_header text)
     without_fault (Ok d) = true
     without_fault (Err fault) = false
 
-    allowed : Taken HeaderValue → Bool
+    allowed : BeginsWith HeaderValue → Bool
     allowed None = false
-    allowed (Some taken) = without_fault (described taken.0.width taken.0.height taken.0.maxval)
+    allowed (Some taken) = without_fault (header_description taken.0.width taken.0.height taken.0.maxval)
 
 -- why reading failed: the first fault, or there was no memory for the samples
 pub record FailsFor (text : List ℕ) (e : PgmFault) : Type 0 where

@@ -8,5 +8,5 @@ abbrev pub written_header : Description → List ℕ
 written_header d = codes "P5\n" ++ decimal d.width ++ codes " " ++ decimal d.height ++ codes "\n255\n"
 
 -- the header, and then a byte for each sample, by rows from the top
-abbrev pub written : PictureValue → List ℕ
-written p = written_header p.description ++ map unsigned_abs p.samples
+abbrev pub pgm_text : PictureValue → List ℕ
+pgm_text p = written_header p.description ++ map unsigned_abs p.samples

@@ -1,28 +1,54 @@
 //! Worked examples: what texts stand for.
 ghost use Rattle.std.specs.Prelude.{◌≡◌, [], ◌∷◌, ◌++◌, Ok, Err, pos, codes};
 ghost use Rattle.vx_base.specs.declared.format.Format.TheVariants.{U8, S16};
-ghost use Rattle.pgm_images.specs.declared.fault.PgmFault.TheVariants.{InvalidFormat, InvalidDimension, InvalidValue};
+ghost use Rattle.pgm_images.specs.declared.fault.PgmFault.TheVariants.{InvalidFormat};
+ghost use Rattle.pgm_images.specs.declared.fault.PgmFault.TheVariants.{InvalidDimension};
+ghost use Rattle.pgm_images.specs.declared.fault.PgmFault.TheVariants.{InvalidValue};
 ghost use Rattle.pgm_images.specs.Reading.{reading};
-ghost use Rattle.pgm_images.specs.Writing.{written};
+ghost use Rattle.pgm_images.specs.Writing.{pgm_text};
 
 /// Two samples of one byte, 10 and 20, behind headers with and without comments; and one of two.
 pub fn raw()
     ensures bytes { reading (codes "P5\n2 1\n255\n" ++ 10 ∷ 20 ∷ [])
-        ≡ Ok (record { description = record { width = 2; height = 1; format = U8 }; samples = pos 10 ∷ pos 20 ∷ [] }) }
+        ≡ Ok (record {
+          description = record { width = 2; height = 1; format = U8 };
+          samples = pos 10
+              ∷ pos 20 ∷ [];
+        }) }
     ensures comment { reading (codes "P5\n# a\n2 1\n255\n" ++ 10 ∷ 20 ∷ [])
-        ≡ Ok (record { description = record { width = 2; height = 1; format = U8 }; samples = pos 10 ∷ pos 20 ∷ [] }) }
+        ≡ Ok (record {
+          description = record { width = 2; height = 1; format = U8 };
+          samples = pos 10
+              ∷ pos 20 ∷ [];
+        }) }
     ensures comment_at_once { reading (codes "P5#\r\n2#a\r1\n255\t" ++ 10 ∷ 20 ∷ [])
-        ≡ Ok (record { description = record { width = 2; height = 1; format = U8 }; samples = pos 10 ∷ pos 20 ∷ [] }) }
+        ≡ Ok (record {
+          description = record { width = 2; height = 1; format = U8 };
+          samples = pos 10
+              ∷ pos 20 ∷ [];
+        }) }
     ensures pair { reading (codes "P5 1 1 300\n" ++ 1 ∷ 44 ∷ [])
-        ≡ Ok (record { description = record { width = 1; height = 1; format = S16 }; samples = pos 300 ∷ [] }) }
+        ≡ Ok (record {
+          description = record { width = 1; height = 1; format = S16 };
+          samples =
+              pos 300 ∷ [];
+        }) }
 {}
 
 /// A sample of S16, and one behind leading zeros and before a comment.
 pub fn plain()
     ensures short { reading (codes "P2 1 1 300 5")
-        ≡ Ok (record { description = record { width = 1; height = 1; format = S16 }; samples = pos 5 ∷ [] }) }
+        ≡ Ok (record {
+          description = record { width = 1; height = 1; format = S16 };
+          samples
+              = pos 5 ∷ [];
+        }) }
     ensures zeros { reading (codes "P2 1 1 255 005 # x\n")
-        ≡ Ok (record { description = record { width = 1; height = 1; format = U8 }; samples = pos 5 ∷ [] }) }
+        ≡ Ok (record {
+          description = record { width = 1; height = 1; format = U8 };
+          samples
+              = pos 5 ∷ [];
+        }) }
 {}
 
 /// Texts without a header: a magic alone, one without a gap after it, a comment that doesn't end,
@@ -35,7 +61,8 @@ pub fn headers()
     ensures no_end { reading (codes "P5 0 1 255") ≡ Err InvalidFormat }
     ensures other_end { reading (codes "P5 0 1 255x") ≡ Err InvalidFormat }
     ensures comment_at_end { reading (codes "P5 1 1 255#x\n" ++ 10 ∷ []) ≡ Err InvalidFormat }
-    ensures vertical_tab { reading (codes "P5 1 1" ++ 11 ∷ codes "255 " ++ 10 ∷ []) ≡ Err InvalidFormat }
+    ensures vertical_tab { reading (codes "P5 1 1" ++ 11 ∷ codes "255 " ++ 10 ∷ [])
+        ≡ Err InvalidFormat }
 {}
 
 /// Sides and maxvals that aren't allowed. A header of P2 ends with the last digit of its maxval.
@@ -43,7 +70,8 @@ pub fn limits()
     ensures no_width { reading (codes "P2 0 1 255x") ≡ Err InvalidDimension }
     ensures no_maxval_either { reading (codes "P5 0 1 0\n") ≡ Err InvalidDimension }
     ensures too_wide { reading (codes "P5 4097 1 255\n") ≡ Err InvalidDimension }
-    ensures far_too_wide { reading (codes "P5 99999999999999999999 1 255\n") ≡ Err InvalidDimension }
+    ensures far_too_wide { reading (codes "P5 99999999999999999999 1 255\n")
+        ≡ Err InvalidDimension }
     ensures no_maxval { reading (codes "P5 1 1 0\n" ++ 0 ∷ []) ≡ Err InvalidFormat }
     ensures too_great { reading (codes "P5 1 1 32768\n" ++ 0 ∷ 0 ∷ []) ≡ Err InvalidFormat }
 {}
@@ -63,6 +91,9 @@ pub fn samples()
 
 /// Two samples, 10 and 20, that are written.
 pub fn written_text()
-    ensures { written (record { description = record { width = 2; height = 1; format = U8 }; samples = pos 10 ∷ pos 20 ∷ [] })
+    ensures { pgm_text (record {
+      description = record { width = 2; height = 1; format = U8 };
+      samples = pos 10 ∷ pos 20 ∷ [];
+    })
         ≡ codes "P5\n2 1\n255\n" ++ 10 ∷ 20 ∷ [] }
 {}

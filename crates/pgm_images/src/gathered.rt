@@ -1,5 +1,6 @@
 //! The numbers of a text as samples.
-ghost use Rattle.std.specs.Prelude.{◌≡◌, ℕ, List, [], ◌∷◌, ◌++◌, ◌≤◌, min, pos, Ok, IfOk, OnOk, IsTrue};
+ghost use Rattle.std.specs.Prelude.{◌≡◌, ℕ, List, [], ◌∷◌, ◌++◌, ◌≤◌, min, pos, Ok, IfOk, OnOk};
+ghost use Rattle.std.specs.Prelude.{IsTrue};
 ghost use Rattle.vx_base.specs.Picture.{values, samples_format};
 ghost use Rattle.pgm_images.specs.Header.{is_maxval, format_up_to};
 ghost use Rattle.pgm_images.specs.Raster.{Gathers, Reads, samples_up_to};
@@ -41,7 +42,8 @@ impl Gathered {
         requires limit { IsTrue (is_maxval self.old.maxval) }
         requires format { samples_format self.old.samples ≡ format_up_to self.old.maxval }
         ensures maxval { self.new.maxval ≡ self.old.maxval }
-        ensures numbers { OnOk result ((numbers : List ℕ) (n : ℕ) → Gathers self.old numbers → number ≡ min n 65535 → Gathers self.new (numbers ++ n ∷ [])) }
+        ensures numbers { OnOk result ((numbers : List ℕ) (n : ℕ) → Gathers self.old numbers →
+            number ≡ min n 65535 → Gathers self.new (numbers ++ n ∷ [])) }
     {
         if self.above || number > self.maxval {
             self.above = true;
@@ -56,7 +58,8 @@ impl Gathered {
 
     /// The samples, once the text was read to its end.
     pub fn finish(self) -> Result<Samples, PgmFault>
-        ensures { (numbers : List ℕ) → Gathers self numbers → Reads self.maxval (samples_up_to self.maxval (Some numbers)) result }
+        ensures { (numbers : List ℕ) → Gathers self numbers →
+            Reads self.maxval (samples_up_to self.maxval (Some numbers)) result }
     {
         if self.above {
             Err(PgmFault::InvalidValue)

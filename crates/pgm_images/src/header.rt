@@ -1,6 +1,7 @@
 //! The header of a text: its encoding, width, height and maxval.
 ghost use Rattle.std.specs.Prelude.{◌≡◌, IfSome, IfNone, None, Some, Ok, Err, IfOk, IfErr, IsTrue};
-ghost use Rattle.pgm_images.specs.Header.{take_magic, past_header, take_header, is_maxval, format_up_to, described, KeptHeader};
+ghost use Rattle.pgm_images.specs.Header.{take_magic, past_header, take_header, is_maxval};
+ghost use Rattle.pgm_images.specs.Header.{format_up_to, header_description, KeptHeader};
 
 use crate::fault::PgmFault;
 use crate::marks::{is_space, take_next};
@@ -71,7 +72,7 @@ pub fn take_header(text: &[u8]) -> Option<(Header, &[u8])>
 impl Header {
     /// The description of the pictures with such a header.
     pub fn described(self) -> Result<Desc, PgmFault>
-        ensures value { result ≡ described self.width self.height self.maxval }
+        ensures value { result ≡ header_description self.width self.height self.maxval }
         ensures allowed { IfOk result (λ d. IsTrue (is_maxval self.maxval)) }
         ensures format { IfOk result (λ d. d.format ≡ format_up_to self.maxval) }
     {

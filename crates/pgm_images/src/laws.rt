@@ -1,14 +1,17 @@
 //! What the definitions mean: functions that do nothing, whose contracts are facts.
-ghost use Rattle.std.specs.Prelude.{◌≡◌, ◌≢◌, ◌*◌, ◌&&◌, true, false, ℕ, List, length, None, Some, Ok};
+ghost use Rattle.std.specs.Prelude.{◌≡◌, ◌≢◌, ◌*◌, ◌&&◌, true, false, ℕ, List, length, None, Some};
+ghost use Rattle.std.specs.Prelude.{Ok};
 ghost use Rattle.vx_base.specs.declared.format.Format.TheVariants.{U8};
 ghost use Rattle.vx_base.specs.Description.{is_side};
 ghost use Rattle.vx_base.specs.Picture.{PictureValue, IsPicture};
-ghost use Rattle.pgm_images.specs.declared.fault.PgmFault.TheVariants.{NoMemory, InvalidFormat, InvalidDimension, InvalidValue};
+ghost use Rattle.pgm_images.specs.declared.fault.PgmFault.TheVariants.{NoMemory, InvalidFormat};
+ghost use Rattle.pgm_images.specs.declared.fault.PgmFault.TheVariants.{InvalidDimension};
+ghost use Rattle.pgm_images.specs.declared.fault.PgmFault.TheVariants.{InvalidValue};
 ghost use Rattle.pgm_images.specs.Header.{HeaderValue, take_header, is_maxval};
 ghost use Rattle.pgm_images.specs.Raster.{all_up_to};
 ghost use Rattle.pgm_images.specs.Grammar.{Stands, IsHeader, HasSamples};
 ghost use Rattle.pgm_images.specs.Reading.{reading, fault};
-ghost use Rattle.pgm_images.specs.Writing.{written};
+ghost use Rattle.pgm_images.specs.Writing.{pgm_text};
 
 /// What is read is what the text stands for by the grammar, and what a text stands for is read. It
 /// stands for one picture at most.
@@ -26,8 +29,8 @@ pub fn faultless()
     ensures memory { (text : List ℕ) → fault text ≢ Some NoMemory }
 {}
 
-/// The header that is read is the one with which the text begins by the grammar, and what is left is
-/// what follows it; so a text begins with one header at most.
+/// The header that is read is the one with which the text begins by the grammar, and what is left
+/// is what follows it; so a text begins with one header at most.
 pub fn headers()
     ensures found { (text : List ℕ) (header : HeaderValue) (rest : List ℕ) →
         take_header text ≡ Some (header, rest) → IsHeader text header rest }
@@ -36,9 +39,9 @@ pub fn headers()
 {}
 
 /// Which fault a text has that stands for no picture: it begins with no header; its header has a
-/// width or height that isn't allowed; or a maxval that isn't; what follows the header isn't as many
-/// samples as it says, and nothing else; or one of these is above the maxval. The first of these is
-/// told.
+/// width or height that isn't allowed; or a maxval that isn't; what follows the header isn't as
+/// many samples as it says, and nothing else; or one of these is above the maxval. The first of
+/// these is told.
 pub fn first_faults()
     ensures header { (text : List ℕ) →
         ((header : HeaderValue) (rest : List ℕ) → IsHeader text header rest → ⊥) →
@@ -64,6 +67,8 @@ pub fn first_faults()
 
 /// What is written of a picture of U8 stands for that picture, and is read back as it.
 pub fn read_back()
-    ensures stands { (p : PictureValue) → IsPicture p → p.description.format ≡ U8 → Stands (written p) p }
-    ensures read { (p : PictureValue) → IsPicture p → p.description.format ≡ U8 → reading (written p) ≡ Ok p }
+    ensures stands { (p : PictureValue) → IsPicture p → p.description.format ≡ U8 →
+        Stands (pgm_text p) p }
+    ensures read { (p : PictureValue) → IsPicture p → p.description.format ≡ U8 →
+        reading (pgm_text p) ≡ Ok p }
 {}

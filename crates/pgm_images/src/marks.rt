@@ -1,7 +1,9 @@
 //! The marks of a text, from its front: whitespace, comments and numbers.
-ghost use Rattle.std.specs.Prelude.{◌≡◌, ◌∷◌, IfSome, IfNone, None, Some, false, true, min, length, ◌<◌};
+ghost use Rattle.std.specs.Prelude.{◌≡◌, ◌∷◌, IfSome, IfNone, None, Some, false, true, min, length};
+ghost use Rattle.std.specs.Prelude.{◌<◌};
 ghost use Rattle.std.specs.Char.{is_ascii_digit};
-ghost use Rattle.pgm_images.specs.Marks.{ends_line, is_space, begins_gap, past_blanks, digits_after, take_number, take_next, ends, Kept};
+ghost use Rattle.pgm_images.specs.Marks.{ends_line, is_space, begins_gap, past_blanks};
+ghost use Rattle.pgm_images.specs.Marks.{digits_after, take_number, take_next, ends, Kept};
 
 /// CR or LF.
 fn ends_line(byte: u8) -> bool

@@ -2,7 +2,8 @@
 ghost use Rattle.std.specs.Prelude.{◌≡◌, ℕ, ◌≤◌, nat_le, ◌<◌, Some, None, IfSome, IfNone, IsTrue};
 ghost use Rattle.pgm_images.specs.Header.{is_maxval};
 ghost use Rattle.pgm_images.specs.Marks.{Kept, take_next, ends};
-ghost use Rattle.pgm_images.specs.Raster.{Reads, all_up_to, numbers_in, so_many, take_byte, take_pair, nothing_left, samples_up_to};
+ghost use Rattle.pgm_images.specs.Raster.{Reads, all_up_to, numbers_in, so_many, take_short_sample};
+ghost use Rattle.pgm_images.specs.Raster.{take_long_sample, nothing_left, samples_up_to};
 
 use crate::fault::PgmFault;
 use crate::gathered::Gathered;
@@ -47,7 +48,8 @@ fn greatest(bytes: &[u8]) -> u8
 /// So many samples of one byte each and nothing else.
 fn byte_samples(alloc: Global, maxval: u16, count: usize, bytes: &[u8]) -> Result<Samples, PgmFault>
     requires { maxval < 256 }
-    ensures { Reads maxval (samples_up_to maxval (so_many take_byte nothing_left count bytes.now)) result }
+    ensures { Reads maxval (samples_up_to maxval
+        (so_many take_short_sample nothing_left count bytes.now)) result }
 {
     if bytes.len() != count {
         return Err(PgmFault::InvalidFormat);
@@ -60,8 +62,8 @@ fn byte_samples(alloc: Global, maxval: u16, count: usize, bytes: &[u8]) -> Resul
 
 /// A number of two bytes, and the bytes after it.
 fn take_pair(bytes: &[u8]) -> Option<(u16, &[u8])>
-    ensures some { IfSome result (λ taken. Kept (take_pair bytes.now) taken.0 taken.1.now) }
-    ensures none { IfNone result (take_pair bytes.now ≡ None) }
+    ensures some { IfSome result (λ taken. Kept (take_long_sample bytes.now) taken.0 taken.1.now) }
+    ensures none { IfNone result (take_long_sample bytes.now ≡ None) }
 {
     let (high, rest) = bytes.split_first()?;
     let (low, rest) = rest.split_first()?;
@@ -71,7 +73,8 @@ fn take_pair(bytes: &[u8]) -> Option<(u16, &[u8])>
 /// So many samples of two bytes each and nothing else.
 fn pair_samples(alloc: Global, maxval: u16, count: usize, bytes: &[u8]) -> Result<Samples, PgmFault>
     requires { IsTrue (is_maxval maxval) }
-    ensures { Reads maxval (samples_up_to maxval (so_many take_pair nothing_left count bytes.now)) result }
+    ensures { Reads maxval (samples_up_to maxval
+        (so_many take_long_sample nothing_left count bytes.now)) result }
 {
     let mut gathered = Gathered::new(alloc, maxval);
     let mut rest = bytes;
@@ -99,7 +102,8 @@ pub fn samples(
     text: &[u8],
 ) -> Result<Samples, PgmFault>
     requires { IsTrue (is_maxval maxval) }
-    ensures { Reads maxval (samples_up_to maxval (numbers_in encoding maxval count text.now)) result }
+    ensures { Reads maxval (samples_up_to maxval
+        (numbers_in encoding maxval count text.now)) result }
 {
     match encoding {
         Encoding::Plain => plain_samples(alloc, maxval, count, text),

@@ -2,7 +2,7 @@
 ghost use Rattle.std.specs.Prelude.{◌≡◌, IfOk, decimal};
 ghost use Rattle.vx_base.specs.declared.format.Format.TheVariants.{U8 as FormatU8};
 ghost use Rattle.vx_base.specs.Picture.{picture_of};
-ghost use Rattle.pgm_images.specs.Writing.{written_header, written};
+ghost use Rattle.pgm_images.specs.Writing.{written_header, pgm_text};
 
 use image_core::Image;
 use std::alloc::{AllocError, Global};
@@ -21,7 +21,7 @@ fn header(alloc: Global, desc: Desc) -> Result<Vec<u8>, AllocError>
 /// for the maxval. It is read back as the same picture (Netpbm, pgm(5)).
 pub fn write(alloc: Global, image: &Image<'_>) -> Result<Vec<u8>, AllocError>
     requires { image.now.format ≡ FormatU8 }
-    ensures { IfOk result (λ text. text.items ≡ written (picture_of image.now)) }
+    ensures { IfOk result (λ text. text.items ≡ pgm_text (picture_of image.now)) }
 {
     let desc = image.desc();
     // Its contract says that the samples are as many as the image has places.

@@ -22,13 +22,15 @@ pub trait Arithmetic {
     fn bytes(&self, first: &[u8], second: &[u8], out: &mut [u8])
         requires first_len { length first.now ≡ length out.old }
         requires second_len { length second.now ≡ length out.old }
-        ensures { map pos out.new ≡ zip2 (formula self.now U8) (map pos first.now) (map pos second.now) };
+        ensures { map pos out.new ≡ zip2 (formula self.now U8) (map pos first.now)
+            (map pos second.now) };
 
     /// Writes the S16 samples of a row, from two of U8 or S16.
     fn shorts<A: Short, B: Short>(&self, first: &[A], second: &[B], out: &mut [i16])
         requires first_len { length first.now ≡ length out.old }
         requires second_len { length second.now ≡ length out.old }
-        ensures { out.new ≡ zip2 (formula self.now S16) (map A.value first.now) (map B.value second.now) };
+        ensures { out.new ≡ zip2 (formula self.now S16) (map A.value first.now)
+            (map B.value second.now) };
 }
 
 /// A function at U8 images.
@@ -94,8 +96,11 @@ pub fn write_arithmetic<K: Arithmetic>(
     requires target { IsTarget output.old }
     requires size { HaveSameSize (written output.old) first.now }
     requires second_size { HaveSameSize second.now first.now }
-    requires formats { IsTrue (are_arithmetic first.now.format second.now.format (written output.old).format) }
-    ensures { Writes (from_two (written output.old).format (K.formula kernel.now (written output.old).format) first.now second.now) output.old output.new }
+    requires formats { IsTrue (are_arithmetic first.now.format second.now.format
+        (written output.old).format) }
+    ensures { Writes (from_two (written output.old).format
+        (K.formula kernel.now (written output.old).format) first.now second.now)
+        output.old output.new }
 {
     match output.desc().format() {
         Format::U8 => write_two::<u8, u8, u8, _>(&Bytes { kernel }, first, second, output),
@@ -115,7 +120,8 @@ fn write_shorts<K: Arithmetic>(
     requires second_size { HaveSameSize second.now first.now }
     requires formats { IsTrue (are_arithmetic first.now.format second.now.format S16) }
     requires format { (written output.old).format ≡ S16 }
-    ensures { Writes (from_two S16 (K.formula kernel.now.kernel.now S16) first.now second.now) output.old output.new }
+    ensures { Writes (from_two S16 (K.formula kernel.now.kernel.now S16) first.now second.now)
+        output.old output.new }
 {
     match (first.desc().format(), second.desc().format()) {
         (Format::U8, Format::U8) => write_two::<u8, u8, i16, _>(kernel, first, second, output),

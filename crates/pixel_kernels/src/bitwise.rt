@@ -1,9 +1,11 @@
 //! Bitwise functions of U8 images.
 ghost use Rattle.std.specs.Prelude.{◌≡◌, Some, None};
 ghost use Rattle.vx_base.specs.declared.format.Format.TheVariants.{U8};
-ghost use Rattle.vx_base.specs.declared.function.Function.TheVariants.{AndBits, OrBits, XorBits, NotBits};
+ghost use Rattle.vx_base.specs.declared.function.Function.TheVariants.{AndBits, OrBits, XorBits};
+ghost use Rattle.vx_base.specs.declared.function.Function.TheVariants.{NotBits};
 ghost use Rattle.vx_base.specs.Object.{ImageObject};
-ghost use Rattle.vx_base.specs.Pixelwise.{and_bits, or_bits, xor_bits, not_bits, from_one, from_two};
+ghost use Rattle.vx_base.specs.Pixelwise.{and_bits, or_bits, xor_bits, not_bits, from_one};
+ghost use Rattle.vx_base.specs.Pixelwise.{from_two};
 ghost use Rattle.image_core.specs.Fits.{Fits};
 ghost use Rattle.image_core.specs.Target.{Writes};
 

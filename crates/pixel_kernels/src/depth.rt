@@ -47,7 +47,8 @@ impl OfOne<i16, u8> for Narrowed {
 pub fn convert_depth(image: &Image<'_>, output: &mut ImageMut<'_>, policy: Policy, amount: u8)
     requires fits { Fits ConvertDepth image.now None output.old }
     requires amount { amount ≤ 7 }
-    ensures { Writes (from_one (written output.old).format (converted (written output.old).format policy amount) image.now) output.old output.new }
+    ensures { Writes (from_one (written output.old).format
+        (converted (written output.old).format policy amount) image.now) output.old output.new }
 {
     match image.desc().format() {
         Format::U8 => write_one::<u8, i16, _>(&Deepened { amount }, image, output),

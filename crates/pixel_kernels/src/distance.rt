@@ -28,7 +28,9 @@ impl Arithmetic for Distance {
 /// "Absolute Difference"); all images are U8, or all S16.
 pub fn absolute_difference(first: &Image<'_>, second: &Image<'_>, output: &mut ImageMut<'_>)
     requires { Fits AbsoluteDifference first.now (Some (ImageObject second.now)) output.old }
-    ensures { Writes (from_two (written output.old).format (absolute_difference (written output.old).format) first.now second.now) output.old output.new }
+    ensures { Writes (from_two (written output.old).format
+        (absolute_difference (written output.old).format) first.now second.now)
+        output.old output.new }
 {
     write_arithmetic(&Distance, first, second, output);
 }

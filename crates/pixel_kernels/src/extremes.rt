@@ -41,7 +41,8 @@ impl Arithmetic for Greater {
 /// Writes the smaller of the samples (OpenVX 1.3, "Min"); all images are U8, or all S16.
 pub fn minimum(first: &Image<'_>, second: &Image<'_>, output: &mut ImageMut<'_>)
     requires { Fits MinPixel first.now (Some (ImageObject second.now)) output.old }
-    ensures { Writes (from_two (written output.old).format smaller first.now second.now) output.old output.new }
+    ensures { Writes (from_two (written output.old).format smaller first.now second.now)
+        output.old output.new }
 {
     write_arithmetic(&Smaller, first, second, output);
 }
@@ -49,7 +50,8 @@ pub fn minimum(first: &Image<'_>, second: &Image<'_>, output: &mut ImageMut<'_>)
 /// Writes the greater of the samples (OpenVX 1.3, "Max"); all images are U8, or all S16.
 pub fn maximum(first: &Image<'_>, second: &Image<'_>, output: &mut ImageMut<'_>)
     requires { Fits MaxPixel first.now (Some (ImageObject second.now)) output.old }
-    ensures { Writes (from_two (written output.old).format greater first.now second.now) output.old output.new }
+    ensures { Writes (from_two (written output.old).format greater first.now second.now)
+        output.old output.new }
 {
     write_arithmetic(&Greater, first, second, output);
 }

@@ -41,7 +41,9 @@ pub fn multiply(
 )
     requires fits { Fits Multiply first.now (Some (ImageObject second.now)) output.old }
     requires amount { amount ≤ 15 }
-    ensures { Writes (from_two (written output.old).format (product (written output.old).format policy amount) first.now second.now) output.old output.new }
+    ensures { Writes (from_two (written output.old).format
+        (product (written output.old).format policy amount) first.now second.now)
+        output.old output.new }
 {
     write_arithmetic(&Product { amount, policy }, first, second, output);
 }

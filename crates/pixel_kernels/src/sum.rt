@@ -32,7 +32,8 @@ impl Arithmetic for Sum {
 /// each U8 or S16 to S16.
 pub fn add(first: &Image<'_>, second: &Image<'_>, output: &mut ImageMut<'_>, policy: Policy)
     requires { Fits Add first.now (Some (ImageObject second.now)) output.old }
-    ensures { Writes (from_two (written output.old).format (sum (written output.old).format policy) first.now second.now) output.old output.new }
+    ensures { Writes (from_two (written output.old).format (sum (written output.old).format policy)
+        first.now second.now) output.old output.new }
 {
     write_arithmetic(&Sum { policy }, first, second, output);
 }
@@ -58,7 +59,9 @@ impl Arithmetic for Difference {
 /// U8 to U8, or of each U8 or S16 to S16.
 pub fn subtract(first: &Image<'_>, second: &Image<'_>, output: &mut ImageMut<'_>, policy: Policy)
     requires { Fits Subtract first.now (Some (ImageObject second.now)) output.old }
-    ensures { Writes (from_two (written output.old).format (difference (written output.old).format policy) first.now second.now) output.old output.new }
+    ensures { Writes (from_two (written output.old).format
+        (difference (written output.old).format policy) first.now second.now)
+        output.old output.new }
 {
     write_arithmetic(&Difference { policy }, first, second, output);
 }

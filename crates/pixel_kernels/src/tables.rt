@@ -62,7 +62,8 @@ impl OfOne<i16, i16> for ShortTable<'_> {
 /// to S16, as the table is.
 pub fn lookup(image: &Image<'_>, output: &mut ImageMut<'_>, lut: &Lut)
     requires { Fits TableLookup image.now (Some (LutObject lut.now)) output.old }
-    ensures { Writes (from_one (written output.old).format (looked_up lut.now) image.now) output.old output.new }
+    ensures { Writes (from_one (written output.old).format (looked_up lut.now) image.now)
+        output.old output.new }
 {
     match lut.entries() {
         Samples::U8(entries) => {

@@ -20,7 +20,8 @@ pub trait OfTwo<A: Sample, B: Sample, T: Sample> {
     fn row(&self, first: &[A], second: &[B], out: &mut [T])
         requires first_len { length first.now ≡ length out.old }
         requires second_len { length second.now ≡ length out.old }
-        ensures { map T.value out.new ≡ zip2 (formula self.now) (map A.value first.now) (map B.value second.now) };
+        ensures { map T.value out.new ≡ zip2 (formula self.now) (map A.value first.now)
+            (map B.value second.now) };
 }
 
 /// What a kernel gives of two images of one size, where both are valid.
@@ -66,7 +67,8 @@ pub fn write_two<A: Sample, B: Sample, T: Sample, K: OfTwo<A, B, T>>(
     requires first_format { first.now.format ≡ A.format }
     requires second_format { second.now.format ≡ B.format }
     requires format { (written output.old).format ≡ T.format }
-    ensures { Writes (from_two T.format (K.formula kernel.now) first.now second.now) output.old output.new }
+    ensures { Writes (from_two T.format (K.formula kernel.now) first.now second.now)
+        output.old output.new }
 {
     let area = first.valid().meet(second.valid());
     let formula = FromTwo {

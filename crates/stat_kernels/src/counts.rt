@@ -1,5 +1,6 @@
 //! Histograms.
-ghost use Rattle.std.specs.Prelude.{◌≡◌, ◌==◌, ◌+◌, ◌<◌, ◌^◌, ℕ, pos, if◌then◌else◌, map, length, slice_index, unsigned_abs};
+ghost use Rattle.std.specs.Prelude.{◌≡◌, ◌==◌, ◌+◌, ◌<◌, ◌^◌, ℕ, pos, if◌then◌else◌, map, length};
+ghost use Rattle.std.specs.Prelude.{slice_index, unsigned_abs};
 ghost use Rattle.std.specs.List.{All};
 ghost use Rattle.vx_base.specs.declared.format.Format.TheVariants.{U8};
 ghost use Rattle.vx_base.specs.Statistics.{valid_samples, histogram};
@@ -12,7 +13,8 @@ use vx_base::Bins;
 /// Counts one more sample of this value.
 fn count_one(counts: &mut [u32; 256], value: u8)
     requires { slice_index counts.old value + 1 < 2 ^ 32 }
-    ensures { (v : ℕ) → slice_index counts.new v ≡ slice_index counts.old v + (if value == v then 1 else 0) }
+    ensures { (v : ℕ) → slice_index counts.new v
+        ≡ slice_index counts.old v + (if value == v then 1 else 0) }
 {
     counts[usize::from(value)] += 1;
 }
@@ -26,8 +28,10 @@ fn count_row(
     third: &mut [u32; 256],
     fourth: &mut [u32; 256],
 )
-    requires room { (v : ℕ) → count_in_all first.old second.old third.old fourth.old v + length row.now < 2 ^ 32 }
-    ensures counted { (v : ℕ) → count_in_all first.new second.new third.new fourth.new v ≡ count_in_all first.old second.old third.old fourth.old v + count_at v (map pos row.now) }
+    requires room { (v : ℕ) → count_in_all first.old second.old third.old fourth.old v
+        + length row.now < 2 ^ 32 }
+    ensures counted { (v : ℕ) → count_in_all first.new second.new third.new fourth.new v
+        ≡ count_in_all first.old second.old third.old fourth.old v + count_at v (map pos row.now) }
     ensures bytes { All (λ z. unsigned_abs z < 256) (map pos row.now) }
 {
     let fours = row.len() / 4;
@@ -52,7 +56,8 @@ fn count_values(
 )
     requires format { image.now.format ≡ U8 }
     requires zeros { (v : ℕ) → count_in_all first.old second.old third.old fourth.old v ≡ 0 }
-    ensures counted { (v : ℕ) → count_in_all first.new second.new third.new fourth.new v ≡ count_at v (valid_samples image.now) }
+    ensures counted { (v : ℕ) → count_in_all first.new second.new third.new fourth.new v
+        ≡ count_at v (valid_samples image.now) }
     ensures bytes { All (λ z. unsigned_abs z < 256) (valid_samples image.now) }
     ensures few { length (valid_samples image.now) < 2 ^ 32 }
 {

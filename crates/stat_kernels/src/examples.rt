@@ -5,12 +5,14 @@ ghost use Rattle.vx_base.specs.Statistics.{places, bins_of, histogram, integral,
 
 /// The places of a rectangle, row by row.
 pub fn places_in_order()
-    ensures { places (record { x0 = 1; y0 = 0; x1 = 3; y1 = 2 }) ≡ (1, 0) ∷ (2, 0) ∷ (1, 1) ∷ (2, 1) ∷ [] }
+    ensures { places (record { x0 = 1; y0 = 0; x1 = 3; y1 = 2 })
+        ≡ (1, 0) ∷ (2, 0) ∷ (1, 1) ∷ (2, 1) ∷ [] }
 {}
 
 /// Bins within the limits and beyond.
 pub fn bins()
-    ensures allowed { bins_of 256 255 256 ≡ Some (record { bins = 256; offset = 255; range = 256 }) }
+    ensures allowed { bins_of 256 255 256
+        ≡ Some (record { bins = 256; offset = 255; range = 256 }) }
     ensures no_bins { bins_of 0 0 1 ≡ None }
     ensures far_offset { bins_of 1 256 1 ≡ None }
     ensures no_range { bins_of 1 0 0 ≡ None }
@@ -69,6 +71,13 @@ pub fn extremes_of_four()
       samples = pos 5 ∷ negsuc 1 ∷ negsuc 1 ∷ pos 5 ∷ [];
     }) ≡
         record { min = negsuc 1; max = pos 5; min_count = 2; max_count = 2; min_at = (1, 0); max_at = (0, 0) } }
-    ensures nowhere { extremes (record { width = 1; height = 1; format = U8; valid = record { x0 = 0; y0 = 0; x1 = 0; y1 = 0 }; samples = pos 0 ∷ [] }) ≡
+    ensures nowhere { extremes (record {
+      width = 1;
+      height = 1;
+      format = U8;
+      valid =
+          record { x0 = 0; y0 = 0; x1 = 0; y1 = 0 };
+      samples = pos 0 ∷ [];
+    }) ≡
         record { min = pos 0; max = pos 0; min_count = 0; max_count = 0; min_at = (0, 0); max_at = (0, 0) } }
 {}

@@ -20,15 +20,18 @@ impl Located {
     ghost use Rattle.stat_kernels.specs.Located.{located, IsDirection};
 
     /// The same of these samples and of a row's, at places behind theirs, of which this one is the
-    /// least or the greatest. The caller says whether it is beyond the value: below the least, above
-    /// the greatest.
+    /// least or the greatest. The caller says whether it is beyond the value: below the least,
+    /// above the greatest.
     fn joined<T: Short>(self, is_beyond: bool, sample: T, x: u16, y: u16, row: &[T]) -> Located
         requires among { 0 < count_of (T.value sample) (map T.value row.now) }
         requires columns { x + length row.now < 2 ^ 16 }
         requires room { self.count + length row.now < 2 ^ 32 }
-        ensures { (choose : ℤ → ℤ → ℤ) (beyond : ℤ → ℤ → Bool) (f : ℕ → ℕ → ℤ) (before : List (ℕ × ℕ)) →
-            IsDirection choose beyond → self ≡ located choose f before → is_beyond ≡ beyond (T.value sample) self.value →
-            T.value sample ≡ chosen choose (map T.value row.now) → map T.value row.now ≡ run x (length row.now) (λ k. f k y) →
+        ensures { (choose : ℤ → ℤ → ℤ) (beyond : ℤ → ℤ → Bool) (f : ℕ → ℕ → ℤ)
+            (before : List (ℕ × ℕ)) →
+            IsDirection choose beyond → self ≡ located choose f before →
+            is_beyond ≡ beyond (T.value sample) self.value →
+            T.value sample ≡ chosen choose (map T.value row.now) →
+            map T.value row.now ≡ run x (length row.now) (λ k. f k y) →
             result ≡ located choose f (before ++ row_places x (length row.now) y) }
     {
         let value = sample.short();
@@ -80,7 +83,8 @@ impl Found {
         requires columns { x + length row.now < 2 ^ 16 }
         requires least_room { self.least.count + length row.now < 2 ^ 32 }
         requires greatest_room { self.greatest.count + length row.now < 2 ^ 32 }
-        ensures { (f : ℕ → ℕ → ℤ) (before : List (ℕ × ℕ)) → self ≡ found_in f before → map T.value row.now ≡ run x (length row.now) (λ k. f k y) →
+        ensures { (f : ℕ → ℕ → ℤ) (before : List (ℕ × ℕ)) → self ≡ found_in f before →
+            map T.value row.now ≡ run x (length row.now) (λ k. f k y) →
             result ≡ found_in f (before ++ row_places x (length row.now) y) }
     {
         if row.is_empty() {

@@ -1,5 +1,6 @@
 //! How often a sample occurs in a row, and where first.
-ghost use Rattle.std.specs.Prelude.{◌≡◌, ◌*◌, ◌<◌, ◌≤◌, ◌^◌, pos, map, length, slice_range, slice_index_or};
+ghost use Rattle.std.specs.Prelude.{◌≡◌, ◌*◌, ◌<◌, ◌≤◌, ◌^◌, pos, map, length, slice_range};
+ghost use Rattle.std.specs.Prelude.{slice_index_or};
 ghost use Rattle.vx_base.specs.Statistics.{count_of};
 
 use crate::short::Short;
@@ -41,7 +42,8 @@ pub fn first_of<T: Short>(row: &[T], sample: T) -> usize
     requires { 0 < count_of (T.value sample) (map T.value row.now) }
     ensures below { result < length row.now }
     ensures here { slice_index_or (map T.value row.now) result (pos 0) ≡ T.value sample }
-    ensures none_before { count_of (T.value sample) (slice_range (map T.value row.now) 0 result) ≡ 0 }
+    ensures none_before { count_of (T.value sample)
+        (slice_range (map T.value row.now) 0 result) ≡ 0 }
 {
     for i in without(row, sample)..row.len() {
         if row[i].is(sample) {

@@ -1,5 +1,6 @@
 //! Rows of sums, eight places at a time.
-ghost use Rattle.std.specs.Prelude.{◌≡◌, ◌+◌, ◌*◌, ◌<◌, ◌≤◌, ◌^◌, ℕ, map, take, length, slice_index};
+ghost use Rattle.std.specs.Prelude.{◌≡◌, ◌+◌, ◌*◌, ◌<◌, ◌≤◌, ◌^◌, ℕ, map, take, length};
+ghost use Rattle.std.specs.Prelude.{slice_index};
 ghost use Rattle.std.specs.List.{sum, range_with_len};
 ghost use Rattle.stat_kernels.specs.Sums.{sum_below};
 
@@ -25,7 +26,8 @@ fn add_blocks(row: &[u8], above: &[u32], blocks: usize, out: &mut [u32]) -> u32
     requires out_len { length out.old ≡ length row.now }
     requires inside { 8 * blocks ≤ length row.now }
     requires room { (k : ℕ) → slice_index above.now k + 255 * length row.now < 2 ^ 32 }
-    ensures written { take (8 * blocks) out.new ≡ map (sum_below above.now row.now) (range_with_len 0 (8 * blocks)) }
+    ensures written { take (8 * blocks) out.new
+        ≡ map (sum_below above.now row.now) (range_with_len 0 (8 * blocks)) }
     ensures total { result ≡ sum (take (8 * blocks) row.now) }
 {
     let mut total = u32x8::splat(0);
@@ -44,8 +46,10 @@ pub fn add_row(row: &[u8], above: &[u32], out: &mut [u32])
     requires above_len { length above.now ≡ length row.now }
     requires out_len { length out.old ≡ length row.now }
     requires room { (k : ℕ) → slice_index above.now k + 255 * length row.now < 2 ^ 32 }
-    ensures sums { (k : ℕ) → k < length row.now → slice_index out.new k ≡ sum_below above.now row.now k }
-    ensures bound { (k : ℕ) → slice_index out.new k ≤ slice_index above.now k + 255 * length row.now }
+    ensures sums { (k : ℕ) → k < length row.now →
+        slice_index out.new k ≡ sum_below above.now row.now k }
+    ensures bound { (k : ℕ) → slice_index out.new k
+        ≤ slice_index above.now k + 255 * length row.now }
 {
     let blocks = row.len() / 8;
     let mut total = add_blocks(row, above, blocks, out);

@@ -1,5 +1,6 @@
 //! Integral images.
-ghost use Rattle.std.specs.Prelude.{◌≡◌, ◌⊎◌, ◌+◌, ◌*◌, ◌<◌, ◌≤◌, ℕ, pos, max, map, take, drop, replicate, length};
+ghost use Rattle.std.specs.Prelude.{◌≡◌, ◌⊎◌, ◌+◌, ◌*◌, ◌<◌, ◌≤◌, ℕ, pos, max, map, take, drop};
+ghost use Rattle.std.specs.Prelude.{replicate, length};
 ghost use Rattle.vx_base.specs.declared.format.Format.TheVariants.{U8, U32};
 ghost use Rattle.vx_base.specs.Image.{run, band, within};
 ghost use Rattle.vx_base.specs.Statistics.{sum_to, integral};
@@ -8,6 +9,7 @@ ghost use Rattle.image_core.specs.Fits.{HaveSameSize};
 ghost use Rattle.image_core.specs.Target.{written, IsTarget, Writes};
 ghost use Rattle.stat_kernels.specs.Part.{IsValidPart};
 ghost use Rattle.stat_kernels.specs.Sums.{AreSums, AreAbove, last_row};
+ghost use Rattle.vx_base.specs.declared.desc.TheConstants.{GREATEST_SIDE};
 
 use crate::part::Part;
 use crate::running::add_row;
@@ -18,13 +20,14 @@ use vx_base::Rect;
 fn write_across(image: &Image<'_>, part: Part, y: u16, above: &[u32], out: &mut [u32])
     requires format { image.now.format ≡ U8 }
     requires part { IsValidPart image.now part }
-    requires sides { (image.now.width ≤ 4096) × (image.now.height ≤ 4096) }
+    requires sides { (image.now.width ≤ GREATEST_SIDE) × (image.now.height ≤ GREATEST_SIDE) }
     requires rows { (part.top ≤ y) × (y < part.bottom) }
     requires above_len { length above.now ≡ image.now.width }
     requires out_len { length out.old ≡ image.now.width }
     requires sums { AreSums image.now y (take part.count (drop part.x above.now)) }
     ensures sums { AreSums image.now (y + 1) (take part.count (drop part.x out.new)) }
-    ensures written { map pos out.new ≡ run 0 image.now.width (λ x. within image.now.valid (sum_to image.now) x y) }
+    ensures written { map pos out.new ≡ run 0 image.now.width
+        (λ x. within image.now.valid (sum_to image.now) x y) }
 {
     let x = usize::from(part.x);
     let (left, others) = out.split_at_mut(x);
@@ -39,12 +42,13 @@ fn write_across(image: &Image<'_>, part: Part, y: u16, above: &[u32], out: &mut 
 fn write_row(image: &Image<'_>, part: Part, y: u16, above: &[u32], out: &mut [u32])
     requires format { image.now.format ≡ U8 }
     requires part { IsValidPart image.now part }
-    requires sides { (image.now.width ≤ 4096) × (image.now.height ≤ 4096) }
+    requires sides { (image.now.width ≤ GREATEST_SIDE) × (image.now.height ≤ GREATEST_SIDE) }
     requires above_len { length above.now ≡ image.now.width }
     requires out_len { length out.old ≡ image.now.width }
     requires sums { AreAbove image.now part y above.now }
     ensures sums { AreAbove image.now part (y + 1) out.new }
-    ensures written { map pos out.new ≡ run 0 image.now.width (λ x. within image.now.valid (sum_to image.now) x y) }
+    ensures written { map pos out.new ≡ run 0 image.now.width
+        (λ x. within image.now.valid (sum_to image.now) x y) }
 {
     if y < part.top || part.bottom <= y {
         out.fill(0);
@@ -70,7 +74,7 @@ fn row_above<'a>(before: &'a [u32], width: usize, first: &'a [u32]) -> &'a [u32]
 fn add_line(image: &Image<'_>, part: Part, y: u16, sums: &mut [u32])
     requires format { image.now.format ≡ U8 }
     requires part { IsValidPart image.now part }
-    requires sides { (image.now.width ≤ 4096) × (image.now.height ≤ 4096) }
+    requires sides { (image.now.width ≤ GREATEST_SIDE) × (image.now.height ≤ GREATEST_SIDE) }
     requires rows { (part.top ≤ y) × (y < part.bottom) }
     requires len { length sums.old ≡ part.count }
     requires sums { AreSums image.now y sums.old }
@@ -87,7 +91,7 @@ fn add_line(image: &Image<'_>, part: Part, y: u16, sums: &mut [u32])
 fn add_lines(image: &Image<'_>, part: Part, y: u16, sums: &mut [u32])
     requires format { image.now.format ≡ U8 }
     requires part { IsValidPart image.now part }
-    requires sides { (image.now.width ≤ 4096) × (image.now.height ≤ 4096) }
+    requires sides { (image.now.width ≤ GREATEST_SIDE) × (image.now.height ≤ GREATEST_SIDE) }
     requires len { length sums.old ≡ part.count }
     requires sums { AreSums image.now part.top sums.old }
     ensures { y < part.bottom → AreSums image.now (max part.top y) sums.new }
@@ -101,7 +105,7 @@ fn add_lines(image: &Image<'_>, part: Part, y: u16, sums: &mut [u32])
 fn sum_above(image: &Image<'_>, part: Part, y: u16, row: &mut [u32])
     requires format { image.now.format ≡ U8 }
     requires part { IsValidPart image.now part }
-    requires sides { (image.now.width ≤ 4096) × (image.now.height ≤ 4096) }
+    requires sides { (image.now.width ≤ GREATEST_SIDE) × (image.now.height ≤ GREATEST_SIDE) }
     requires zeros { row.old ≡ replicate 4096 0 }
     ensures { AreAbove image.now part y (take image.now.width row.new) }
 {
@@ -115,7 +119,8 @@ fn write_sums(image: &Image<'_>, rows: Band, samples: &mut [u32])
     requires format { image.now.format ≡ U8 }
     requires rows { IsInRows image.now.height rows }
     requires size { length samples.old ≡ rows.count * image.now.width }
-    ensures { map pos samples.new ≡ band image.now.width rows.start rows.count (within image.now.valid (sum_to image.now)) }
+    ensures { map pos samples.new ≡ band image.now.width rows.start rows.count
+        (within image.now.valid (sum_to image.now)) }
 {
     let width = usize::from(image.desc().width());
     let part = Part::of(image);

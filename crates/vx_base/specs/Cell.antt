@@ -6,6 +6,10 @@ pub record Cell : Type 0 where
   pub name : ℕ
   pub slot : Option ℕ
 
+-- the cell of an object without slots
+abbrev pub cell_of : ℕ → Cell
+cell_of name = record { name = name; slot = None }
+
 abbrev pub same_slot : Option ℕ → Option ℕ → Bool
 same_slot None None = true
 same_slot (Some j) (Some k) = j == k

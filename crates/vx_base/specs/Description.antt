@@ -2,6 +2,7 @@
 use Rattle.std.specs.Prelude.{ℕ, ◌*◌, ◌==◌, Bool, ◌&&◌, nat_le, IsTrue, if◌then◌else◌, Option, Some, None}
 use Rattle.vx_base.specs.declared.format.Format.{Format}
 use Rattle.vx_base.specs.Sample.{sample_bytes}
+use Rattle.vx_base.specs.declared.desc.TheConstants.{GREATEST_SIDE}
 
 pub record Description : Type 0 where
   pub width : ℕ
@@ -10,7 +11,7 @@ pub record Description : Type 0 where
 
 -- whether an image may have this width or height
 abbrev pub is_side : ℕ → Bool
-is_side n = nat_le 1 n && nat_le n 4096
+is_side n = nat_le 1 n && nat_le n GREATEST_SIDE
 
 -- the description of an image, if its sides are allowed
 abbrev pub description : ℕ → ℕ → Format → Option Description

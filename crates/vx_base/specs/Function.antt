@@ -48,26 +48,26 @@ abbrev pub of_one_image : Parameters
 of_one_image = record { second_input = None; policy = false; greatest_amount = None; output = kind.Image; output_pair = false }
 
 -- beside the image an object of this kind
-abbrev pub beside : Kind → Parameters
-beside second = record of_one_image { second_input = Some second }
+abbrev pub of_two_operands : Kind → Parameters
+of_two_operands second = record of_one_image { second_input = Some second }
 
 -- two images and an overflow policy
 abbrev pub of_arithmetic : Parameters
-of_arithmetic = record (beside kind.Image) { policy = true }
+of_arithmetic = record (of_two_operands kind.Image) { policy = true }
 
 abbrev pub parameters : Function → Parameters
-parameters AndBits = beside kind.Image
-parameters OrBits = beside kind.Image
-parameters XorBits = beside kind.Image
+parameters AndBits = of_two_operands kind.Image
+parameters OrBits = of_two_operands kind.Image
+parameters XorBits = of_two_operands kind.Image
 parameters NotBits = of_one_image
 parameters Add = of_arithmetic
 parameters Subtract = of_arithmetic
 parameters Multiply = record of_arithmetic { greatest_amount = Some 15 }
-parameters AbsoluteDifference = beside kind.Image
-parameters MinPixel = beside kind.Image
-parameters MaxPixel = beside kind.Image
-parameters Threshold = beside kind.Threshold
-parameters TableLookup = beside kind.Lut
+parameters AbsoluteDifference = of_two_operands kind.Image
+parameters MinPixel = of_two_operands kind.Image
+parameters MaxPixel = of_two_operands kind.Image
+parameters Threshold = of_two_operands kind.Threshold
+parameters TableLookup = of_two_operands kind.Lut
 parameters ConvertDepth = record of_one_image { policy = true; greatest_amount = Some 7 }
 parameters Box = of_one_image
 parameters Gaussian = of_one_image
@@ -75,7 +75,7 @@ parameters Median = of_one_image
 parameters Erode = of_one_image
 parameters Dilate = of_one_image
 parameters Sobel = record of_one_image { output_pair = true }
-parameters Convolve = beside kind.Convolution
+parameters Convolve = of_two_operands kind.Convolution
 parameters Histogram = record of_one_image { output = kind.Distribution }
 parameters Integral = of_one_image
 parameters MinMaxLoc = record of_one_image { output = kind.Extremes }

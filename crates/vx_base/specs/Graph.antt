@@ -4,6 +4,7 @@ use Rattle.std.specs.List.{AllPairs, list_any}
 use Rattle.vx_base.specs.declared.node.Node.{Node}
 use Rattle.vx_base.specs.declared.numbered.Numbered.{Numbered}
 use Rattle.vx_base.specs.Node.{IsNode}
+use Rattle.vx_base.specs.declared.node.TheConstants.{GREATEST_NODES}
 
 -- the nodes in the order of adding, each with its number, and the number that comes next
 pub record GraphValue : Type 0 where
@@ -18,9 +19,9 @@ new_graph = record { next = 1; nodes = [] }
 abbrev pub nodes_of : GraphValue → List Node
 nodes_of g = map (λ n. n.node) g.nodes
 
--- whether one more node can be added: a number is left, and the graph has fewer than 256 nodes
+-- whether one more node can be added: a number is left, and the graph has fewer nodes than it may have
 abbrev pub can_add : GraphValue → Bool
-can_add g = nat_lt g.next 4294967296 && nat_lt (length g.nodes) 256
+can_add g = nat_lt g.next 4294967296 && nat_lt (length g.nodes) GREATEST_NODES
 
 -- the graph with one more node, under the next number
 abbrev pub with_node : GraphValue → Node → GraphValue
@@ -34,10 +35,10 @@ has_node g number = list_any (λ n. n.number == number) g.nodes
 abbrev pub without_node : GraphValue → ℕ → GraphValue
 without_node g number = record { next = g.next; nodes = filter (λ n. not (n.number == number)) g.nodes }
 
--- numbers in their order, below the next, of at most 256 nodes
+-- numbers in their order, below the next, of no more nodes than it may have
 pub record IsGraph (g : GraphValue) : Type 0 where
   pub left : g.next ≤ 4294967296
-  pub count : length g.nodes ≤ 256
+  pub count : length g.nodes ≤ GREATEST_NODES
   pub numbers : AllPairs (λ a b. a.number < b.number) g.nodes
   pub below : All (λ n. n.number < g.next) g.nodes
   pub nodes : All (λ n. IsNode n.node) g.nodes

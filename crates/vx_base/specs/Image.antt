@@ -5,6 +5,7 @@ use Rattle.vx_base.specs.declared.format.Format.{Format}
 use Rattle.vx_base.specs.Sample.{IsSample}
 use Rattle.vx_base.specs.Rectangle.{Rectangle, inside, whole, IsOrdered, IsWithin}
 use Rattle.vx_base.specs.Description.{Description}
+use Rattle.vx_base.specs.declared.desc.TheConstants.{GREATEST_SIDE}
 
 -- f x, f (x + 1), .. at n places
 abbrev pub run : ℕ → ℕ → (ℕ → ℤ) → List ℤ
@@ -43,7 +44,7 @@ at image x y = slice_index_or image.samples (y * image.width + x) (pos 0)
 
 -- at each place a sample of the format, which is 0 where the place is not valid
 pub record IsImage (image : ImageValue) : Type 0 where
-  pub sides : (image.width ≤ 4096) × (image.height ≤ 4096)
+  pub sides : (image.width ≤ GREATEST_SIDE) × (image.height ≤ GREATEST_SIDE)
   pub size : length image.samples ≡ image.height * image.width
   pub ordered : IsOrdered image.valid
   pub room : IsWithin image.valid image.width image.height

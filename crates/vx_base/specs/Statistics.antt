@@ -9,6 +9,7 @@ use Rattle.vx_base.specs.declared.format.Format.TheVariants.{U32}
 use Rattle.vx_base.specs.declared.extremes.Extremes.{Extremes}
 use Rattle.vx_base.specs.Rectangle.{Rectangle, whole, meet_of}
 use Rattle.vx_base.specs.Image.{ImageValue, at, made}
+use Rattle.vx_base.specs.declared.bins.TheConstants.{GREATEST_BINS}
 
 -- n places of row y, from column x on
 abbrev pub row_places : ℕ → ℕ → ℕ → List (ℕ × ℕ)
@@ -35,7 +36,7 @@ pub record BinsValue : Type 0 where
 
 -- whether these numbers are allowed; the offset and the range may pass 256 together
 abbrev pub are_bins : ℕ → ℕ → ℕ → Bool
-are_bins bins offset range = ((nat_le 1 bins && nat_le bins 256) && nat_lt offset 256) && (nat_le 1 range && nat_le range 256)
+are_bins bins offset range = ((nat_le 1 bins && nat_le bins GREATEST_BINS) && nat_lt offset 256) && (nat_le 1 range && nat_le range 256)
 
 -- the bins with these numbers, if they are allowed
 abbrev pub bins_of : ℕ → ℕ → ℕ → Option BinsValue

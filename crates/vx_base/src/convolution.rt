@@ -1,5 +1,6 @@
 //! Matrices by which images are convolved.
-ghost use Rattle.std.specs.Prelude.{◌≡◌, ◌≤◌, ◌<◌, ◌*◌, ◌+◌, IsTrue, length, if◌then◌else◌, Some, None};
+ghost use Rattle.std.specs.Prelude.{◌≡◌, ◌≤◌, ◌<◌, ◌*◌, ◌+◌, IsTrue, length, if◌then◌else◌, Some};
+ghost use Rattle.std.specs.Prelude.{None};
 ghost use Rattle.vx_base.specs.Convolution.{is_odd_side, is_convolution, IsConvolution};
 
 use crate::samples::are_shorts;
@@ -25,9 +26,15 @@ impl Model for Convolution {
 
     ghost Value = { ConvolutionValue };
 
-    ghost view = { λ c. record { columns = c.columns; rows = c.rows; exponent = c.exponent; coefficients = take (c.rows * c.columns) c.coefficients } };
+    ghost view = { λ c. record {
+      columns = c.columns;
+      rows = c.rows;
+      exponent = c.exponent;
+      coefficients = take (c.rows * c.columns) c.coefficients;
+    } };
 
-    ghost invariant = { λ c. IsTrue (is_convolution c.columns c.rows c.exponent (c.rows * c.columns)) };
+    ghost invariant = { λ c. IsTrue (is_convolution c.columns c.rows c.exponent
+        (c.rows * c.columns)) };
 }
 
 /// Whether a matrix can have so many columns, or rows.
@@ -41,7 +48,14 @@ impl Convolution {
     /// The matrix with these coefficients by rows from the top. `None` unless the sides and the
     /// exponent are allowed, and there is a coefficient for each place.
     pub fn new(columns: u8, rows: u8, exponent: u8, coefficients: &[i16]) -> Option<Convolution>
-        ensures { result ≡ (if is_convolution columns rows exponent (length coefficients.now) then Some (record { columns = columns; rows = rows; exponent = exponent; coefficients = coefficients.now }) else None) }
+        ensures { result ≡ (if is_convolution columns rows exponent (length coefficients.now)
+            then Some (record {
+              columns = columns;
+              rows = rows;
+              exponent = exponent;
+              coefficients =
+                  coefficients.now;
+            }) else None) }
     {
         if !is_odd_side(columns) || !is_odd_side(rows) || exponent > 31 {
             return None;
@@ -105,8 +119,8 @@ impl Convolution {
         }
     }
 
-    /// Its numbers are those that their types allow, which the prover knows of what is read. Nothing
-    /// is done when this runs.
+    /// Its numbers are those that their types allow, which the prover knows of what is read.
+    /// Nothing is done when this runs.
     pub fn is_convolution(&self)
         ensures { IsConvolution self.now }
     {

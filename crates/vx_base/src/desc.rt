@@ -1,6 +1,7 @@
 //! Descriptions of images.
 ghost use Rattle.std.specs.Prelude.{◌≡◌, ◌≤◌, ◌*◌, IsTrue, ◌&&◌};
-ghost use Rattle.vx_base.specs.Description.{description, is_side, IsDescription, same_size, sample_count, byte_count};
+ghost use Rattle.vx_base.specs.Description.{description, is_side, IsDescription, same_size};
+ghost use Rattle.vx_base.specs.Description.{sample_count, byte_count};
 ghost use Rattle.vx_base.specs.Rectangle.{whole};
 
 use crate::format::Format;
@@ -9,6 +10,9 @@ use std::marker::Model;
 
 /// The greatest width and height of an image, in samples.
 pub const GREATEST_SIDE: u16 = 4096;
+
+/// The bytes of the largest image: of four bytes a sample, and of the greatest sides.
+pub const GREATEST_BYTES: usize = 67_108_864;
 
 /// The size and format of an image: 1 to 4096 samples wide and high.
 #[derive(Clone, Copy, PartialEq, Eq, Debug)]
@@ -73,7 +77,7 @@ impl Desc {
     /// The samples of a row.
     pub fn width(self) -> u16
         ensures value { result ≡ self.width }
-        ensures limits { (1 ≤ result) × (result ≤ 4096) }
+        ensures limits { (1 ≤ result) × (result ≤ GREATEST_SIDE) }
     {
         self.width
     }
@@ -81,7 +85,7 @@ impl Desc {
     /// The rows.
     pub fn height(self) -> u16
         ensures value { result ≡ self.height }
-        ensures limits { (1 ≤ result) × (result ≤ 4096) }
+        ensures limits { (1 ≤ result) × (result ≤ GREATEST_SIDE) }
     {
         self.height
     }
@@ -103,7 +107,7 @@ impl Desc {
     /// How many samples the image has.
     pub fn sample_count(self) -> usize
         ensures value { result ≡ sample_count self }
-        ensures limit { result ≤ 4096 * 4096 }
+        ensures limit { result ≤ GREATEST_SIDE * GREATEST_SIDE }
     {
         usize::from(self.height) * usize::from(self.width)
     }
@@ -111,7 +115,7 @@ impl Desc {
     /// How many bytes its samples take.
     pub fn byte_count(self) -> usize
         ensures value { result ≡ byte_count self }
-        ensures limit { result ≤ 4 * 4096 * 4096 }
+        ensures limit { result ≤ GREATEST_BYTES }
     {
         self.sample_count() * self.format.sample_bytes()
     }

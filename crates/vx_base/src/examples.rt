@@ -1,9 +1,12 @@
 //! Worked examples: what the definitions give, in numbers.
-ghost use Rattle.std.specs.Prelude.{◌≡◌, ◌-ℤ◌, List, [], ◌∷◌, Some, None, pos, negsuc, true, false, codes};
+ghost use Rattle.std.specs.Prelude.{◌≡◌, ◌-ℤ◌, List, [], ◌∷◌, Some, None, pos, negsuc, true, false};
+ghost use Rattle.std.specs.Prelude.{codes};
 ghost use Rattle.vx_base.specs.declared.format.Format.TheVariants.{U8, S16, U32};
 ghost use Rattle.vx_base.specs.declared.policy.Policy.TheVariants.{Wrap, Saturate};
 ghost use Rattle.vx_base.specs.declared.border.Border.TheVariants.{Undefined};
-ghost use Rattle.vx_base.specs.declared.function.Function.TheVariants.{AndBits, NotBits, Add, Threshold, TableLookup, ConvertDepth};
+ghost use Rattle.vx_base.specs.declared.function.Function.TheVariants.{AndBits, NotBits, Add};
+ghost use Rattle.vx_base.specs.declared.function.Function.TheVariants.{Threshold, TableLookup};
+ghost use Rattle.vx_base.specs.declared.function.Function.TheVariants.{ConvertDepth};
 ghost use Rattle.vx_base.specs.declared.threshold.ThresholdKind.TheVariants.{Binary, Range};
 ghost use Rattle.vx_base.specs.declared.code.Code.TheVariants.{InvalidFormat};
 ghost use Rattle.vx_base.specs.Sample.{narrow};
@@ -18,7 +21,9 @@ ghost use Rattle.vx_base.specs.Object.{ImageObject, LutObject, object_kind};
 ghost use Rattle.vx_base.specs.Formats.{takes_formats, open_format};
 ghost use Rattle.vx_base.specs.Function.{parameters};
 ghost use Rattle.vx_base.specs.declared.kind.Kind.TheVariants.{Image};
-ghost use Rattle.vx_base.specs.Pixelwise.{and_bits, or_bits, xor_bits, not_bits, sum, difference, product, absolute_difference, thresholded, converted, from_one};
+ghost use Rattle.vx_base.specs.Pixelwise.{and_bits, or_bits, xor_bits, not_bits, sum, difference};
+ghost use Rattle.vx_base.specs.Pixelwise.{product, absolute_difference, thresholded, converted};
+ghost use Rattle.vx_base.specs.Pixelwise.{from_one};
 ghost use Rattle.vx_base.specs.declared.output.Output.TheVariants.{First};
 ghost use Rattle.vx_base.specs.Outputs.{node_image};
 ghost use Rattle.vx_base.specs.Code.{code_number, code_name};
@@ -42,16 +47,20 @@ pub fn rectangles()
     ensures zeros { rectangle 0 0 0 0 ≡ Some empty }
     ensures no_places { rectangle 3 0 3 1 ≡ None }
     ensures turned { rectangle 3 0 1 1 ≡ None }
-    ensures met { meet_of (record { x0 = 0; y0 = 0; x1 = 3; y1 = 2 }) (record { x0 = 1; y0 = 1; x1 = 4; y1 = 4 }) ≡ record { x0 = 1; y0 = 1; x1 = 3; y1 = 2 } }
-    ensures apart { meet_of (record { x0 = 0; y0 = 0; x1 = 2; y1 = 1 }) (record { x0 = 2; y0 = 0; x1 = 4; y1 = 1 }) ≡ empty }
-    ensures inner { shrunk (record { x0 = 0; y0 = 0; x1 = 8; y1 = 7 }) 3 3 ≡ record { x0 = 3; y0 = 3; x1 = 5; y1 = 4 } }
+    ensures met { meet_of (record { x0 = 0; y0 = 0; x1 = 3; y1 = 2 })
+        (record { x0 = 1; y0 = 1; x1 = 4; y1 = 4 }) ≡ record { x0 = 1; y0 = 1; x1 = 3; y1 = 2 } }
+    ensures apart { meet_of (record { x0 = 0; y0 = 0; x1 = 2; y1 = 1 })
+        (record { x0 = 2; y0 = 0; x1 = 4; y1 = 1 }) ≡ empty }
+    ensures inner { shrunk (record { x0 = 0; y0 = 0; x1 = 8; y1 = 7 }) 3 3
+        ≡ record { x0 = 3; y0 = 3; x1 = 5; y1 = 4 } }
     ensures too_small { shrunk (record { x0 = 0; y0 = 0; x1 = 2; y1 = 2 }) 1 1 ≡ empty }
 {}
 
 /// Descriptions within the limits and beyond.
 pub fn descriptions()
     ensures least { description 1 1 U8 ≡ Some (record { width = 1; height = 1; format = U8 }) }
-    ensures greatest { description 4096 4096 U32 ≡ Some (record { width = 4096; height = 4096; format = U32 }) }
+    ensures greatest { description 4096 4096 U32
+        ≡ Some (record { width = 4096; height = 4096; format = U32 }) }
     ensures none_wide { description 0 1 U8 ≡ None }
     ensures too_high { description 1 4097 U8 ≡ None }
     ensures bytes { byte_count (record { width = 8; height = 7; format = S16 }) ≡ 112 }
@@ -59,14 +68,24 @@ pub fn descriptions()
 
 /// An image of two columns and two rows that is valid in its left column.
 pub fn images()
-    ensures samples { (made 2 2 U8 (record { x0 = 0; y0 = 0; x1 = 1; y1 = 2 }) (λ x y. pos 10)).samples ≡ pos 10 ∷ pos 0 ∷ pos 10 ∷ pos 0 ∷ [] }
-    ensures place { at (made 2 2 U8 (record { x0 = 0; y0 = 0; x1 = 1; y1 = 2 }) (λ x y. pos 10)) 0 1 ≡ pos 10 }
+    ensures samples { (made 2 2 U8 (record { x0 = 0; y0 = 0; x1 = 1; y1 = 2 })
+        (λ x y. pos 10)).samples ≡ pos 10 ∷ pos 0 ∷ pos 10 ∷ pos 0 ∷ [] }
+    ensures place { at (made 2 2 U8 (record { x0 = 0; y0 = 0; x1 = 1; y1 = 2 })
+        (λ x y. pos 10)) 0 1 ≡ pos 10 }
     ensures new { (new_image 2 1 S16).samples ≡ pos 0 ∷ pos 0 ∷ [] }
 {}
 
 /// Not of a row that holds 10 20 30 40 and is valid but for its ends.
 pub fn not_of_a_row()
-    ensures { (from_one U8 not_bits (record { width = 4; height = 1; format = U8; valid = record { x0 = 1; y0 = 0; x1 = 3; y1 = 1 }; samples = pos 0 ∷ pos 20 ∷ pos 30 ∷ pos 0 ∷ [] })).samples
+    ensures { (from_one U8 not_bits (record {
+      width = 4;
+      height = 1;
+      format = U8;
+      valid =
+          record { x0 = 1; y0 = 0; x1 = 3; y1 = 1 };
+      samples = pos 0 ∷ pos 20 ∷ pos 30
+          ∷ pos 0 ∷ [];
+    })).samples
         ≡ pos 0 ∷ pos 235 ∷ pos 225 ∷ pos 0 ∷ [] }
 {}
 
@@ -114,19 +133,58 @@ pub fn conversions()
 
 /// Samples at the limits of a range and of a binary threshold.
 pub fn thresholds()
-    ensures below { thresholded (record { format = U8; kind = Range (pos 10) (pos 20); true_value = 255; false_value = 0 }) (pos 9) ≡ pos 0 }
-    ensures lower { thresholded (record { format = U8; kind = Range (pos 10) (pos 20); true_value = 255; false_value = 0 }) (pos 10) ≡ pos 255 }
-    ensures upper { thresholded (record { format = U8; kind = Range (pos 10) (pos 20); true_value = 255; false_value = 0 }) (pos 20) ≡ pos 255 }
-    ensures above { thresholded (record { format = U8; kind = Range (pos 10) (pos 20); true_value = 255; false_value = 0 }) (pos 21) ≡ pos 0 }
-    ensures limit { thresholded (record { format = U8; kind = Binary (pos 10); true_value = 255; false_value = 0 }) (pos 10) ≡ pos 0 }
-    ensures above_limit { thresholded (record { format = U8; kind = Binary (pos 10); true_value = 255; false_value = 0 }) (pos 11) ≡ pos 255 }
+    ensures below { thresholded (record {
+      format = U8;
+      kind = Range (pos 10)
+          (pos 20);
+      true_value = 255;
+      false_value = 0;
+    }) (pos 9) ≡ pos 0 }
+    ensures lower { thresholded (record {
+      format = U8;
+      kind = Range (pos 10)
+          (pos 20);
+      true_value = 255;
+      false_value = 0;
+    }) (pos 10) ≡ pos 255 }
+    ensures upper { thresholded (record {
+      format = U8;
+      kind = Range (pos 10)
+          (pos 20);
+      true_value = 255;
+      false_value = 0;
+    }) (pos 20) ≡ pos 255 }
+    ensures above { thresholded (record {
+      format = U8;
+      kind = Range (pos 10)
+          (pos 20);
+      true_value = 255;
+      false_value = 0;
+    }) (pos 21) ≡ pos 0 }
+    ensures limit { thresholded (record {
+      format = U8;
+      kind = Binary
+          (pos 10);
+      true_value = 255;
+      false_value = 0;
+    }) (pos 10) ≡ pos 0 }
+    ensures above_limit { thresholded (record {
+      format = U8;
+      kind = Binary
+          (pos 10);
+      true_value = 255;
+      false_value = 0;
+    }) (pos 11) ≡ pos 255 }
 {}
 
 /// Entries of tables that begin with 5, 6, 7.
 pub fn tables()
-    ensures third { entry_for (record { format = U8; entries = pos 5 ∷ pos 6 ∷ pos 7 ∷ [] }) (pos 2) ≡ pos 7 }
-    ensures least { entry_for (record { format = S16; entries = pos 5 ∷ pos 6 ∷ pos 7 ∷ [] }) (negsuc 32767) ≡ pos 5 }
-    ensures second { (parameters TableLookup).second_input ≡ Some (object_kind (LutObject (record { format = U8; entries = [] }))) }
+    ensures third { entry_for (record { format = U8; entries = pos 5 ∷ pos 6 ∷ pos 7 ∷ [] })
+        (pos 2) ≡ pos 7 }
+    ensures least { entry_for (record { format = S16; entries = pos 5 ∷ pos 6 ∷ pos 7 ∷ [] })
+        (negsuc 32767) ≡ pos 5 }
+    ensures second { (parameters TableLookup).second_input
+        ≡ Some (object_kind (LutObject (record { format = U8; entries = [] }))) }
     ensures not_second { (parameters AndBits).second_input ≡ Some Image }
 {}
 
@@ -140,26 +198,95 @@ pub fn formats()
 
 /// And of a row that is valid in its left half and one that is valid in its right.
 pub fn and_of_halves()
-    ensures { node_image (record { function = AndBits; border = Undefined; policy = Wrap; amount = 0; in1 = record { name = 1; slot = None }; in2 = Some (record { name = 2; slot = None }); out1 = Some (record { name = 3; slot = None }); out2 = None }) First U8
-        (record { width = 4; height = 1; format = U8; valid = record { x0 = 0; y0 = 0; x1 = 2; y1 = 1 }; samples = pos 10 ∷ pos 20 ∷ pos 0 ∷ pos 0 ∷ [] })
-        (Some (ImageObject (record { width = 4; height = 1; format = U8; valid = record { x0 = 2; y0 = 0; x1 = 4; y1 = 1 }; samples = pos 0 ∷ pos 0 ∷ pos 30 ∷ pos 40 ∷ [] })))
-        ≡ record { width = 4; height = 1; format = U8; valid = empty; samples = pos 0 ∷ pos 0 ∷ pos 0 ∷ pos 0 ∷ [] } }
+    ensures { node_image (record {
+      function = AndBits;
+      border = Undefined;
+      policy = Wrap;
+      amount =
+          0;
+      in1 = record { name = 1; slot = None };
+      in2 = Some
+          (record { name = 2; slot = None });
+      out1 = Some
+          (record { name = 3; slot = None });
+      out2 = None;
+    }) First U8
+        (record {
+          width = 4;
+          height = 1;
+          format = U8;
+          valid =
+              record { x0 = 0; y0 = 0; x1 = 2; y1 = 1 };
+          samples = pos 10 ∷ pos 20 ∷ pos 0 ∷ pos 0 ∷ [];
+        })
+        (Some (ImageObject (record {
+          width = 4;
+          height = 1;
+          format = U8;
+          valid =
+              record { x0 = 2; y0 = 0; x1 = 4; y1 = 1 };
+          samples = pos 0 ∷ pos 0 ∷ pos 30
+              ∷ pos 40 ∷ [];
+        })))
+        ≡ record {
+          width = 4;
+          height = 1;
+          format = U8;
+          valid = empty;
+          samples = pos 0 ∷ pos 0
+              ∷ pos 0 ∷ pos 0 ∷ [];
+        } }
 {}
 
 /// A code, and nodes of Not with what it has, without an output, and with a policy that it lacks.
 pub fn nodes()
     ensures number { code_number InvalidFormat ≡ 5 }
     ensures name { code_name InvalidFormat ≡ codes "INVALID_FORMAT" }
-    ensures whole { is_node (record { function = NotBits; border = Undefined; policy = Wrap; amount = 0; in1 = record { name = 1; slot = None }; in2 = None; out1 = Some (record { name = 2; slot = None }); out2 = None }) ≡ true }
-    ensures no_output { is_node (record { function = NotBits; border = Undefined; policy = Wrap; amount = 0; in1 = record { name = 1; slot = None }; in2 = None; out1 = None; out2 = None }) ≡ false }
-    ensures other_policy { is_node (record { function = NotBits; border = Undefined; policy = Saturate; amount = 0; in1 = record { name = 1; slot = None }; in2 = None; out1 = Some (record { name = 2; slot = None }); out2 = None }) ≡ false }
+    ensures whole { is_node (record {
+      function = NotBits;
+      border = Undefined;
+      policy = Wrap;
+      amount
+          = 0;
+      in1 = record { name = 1; slot = None };
+      in2 = None;
+      out1 = Some
+          (record { name = 2; slot = None });
+      out2 = None;
+    }) ≡ true }
+    ensures no_output { is_node (record {
+      function = NotBits;
+      border = Undefined;
+      policy = Wrap;
+      amount = 0;
+      in1 = record { name = 1; slot = None };
+      in2 = None;
+      out1 = None;
+      out2 =
+          None;
+    }) ≡ false }
+    ensures other_policy { is_node (record {
+      function = NotBits;
+      border = Undefined;
+      policy =
+          Saturate;
+      amount = 0;
+      in1 = record { name = 1; slot = None };
+      in2 = None;
+      out1 = Some
+          (record { name = 2; slot = None });
+      out2 = None;
+    }) ≡ false }
 {}
 
 /// Outlines whose open parts are filled, and formats that are left open.
 pub fn outlines()
-    ensures filled { filled (record { width = Some 4; height = None; format = None }) (record { width = Some 8; height = Some 2; format = Some U8 }) ≡ record { width = Some 4; height = Some 2; format = Some U8 } }
+    ensures filled { filled (record { width = Some 4; height = None; format = None })
+        (record { width = Some 8; height = Some 2; format = Some U8 })
+        ≡ record { width = Some 4; height = Some 2; format = Some U8 } }
     ensures open { closed (record { width = Some 4; height = None; format = Some U8 }) ≡ None }
-    ensures closed { closed (outline_of (record { width = 4; height = 2; format = S16 })) ≡ Some (record { width = 4; height = 2; format = S16 }) }
+    ensures closed { closed (outline_of (record { width = 4; height = 2; format = S16 }))
+        ≡ Some (record { width = 4; height = 2; format = S16 }) }
     ensures side { outline (Some 4097) None None ≡ None }
     ensures sums { open_format Add U8 ≡ S16 }
     ensures kept { open_format TableLookup S16 ≡ S16 }
@@ -170,7 +297,9 @@ pub fn outlines()
 /// A graph whose only node is removed, and its next one: the number isn't used again.
 pub fn numbers_of_nodes()
     ensures first { (n : Node) → nodes_of (with_node new_graph n) ≡ n ∷ [] }
-    ensures removed { (n : Node) → without_node (with_node new_graph n) 1 ≡ record { next = 2; nodes = [] } }
-    ensures second { (m n : Node) → (with_node (without_node (with_node new_graph m) 1) n).nodes ≡ record { number = 2; node = n } ∷ [] }
+    ensures removed { (n : Node) → without_node (with_node new_graph n) 1
+        ≡ record { next = 2; nodes = [] } }
+    ensures second { (m n : Node) → (with_node (without_node (with_node new_graph m) 1) n).nodes
+        ≡ record { number = 2; node = n } ∷ [] }
     ensures full { can_add (record { next = 4294967296; nodes = [] }) ≡ false }
 {}

@@ -108,7 +108,8 @@ impl Function {
     /// The function with this number, if there is one.
     pub fn from_number(number: u8) -> Option<Function>
         ensures value { result ≡ function_numbered number }
-        ensures inverse { (function : VisionFunction) → (result ≡ Some function) ↔ (function_number function ≡ number) }
+        ensures inverse { (function : VisionFunction) →
+            (result ≡ Some function) ↔ (function_number function ≡ number) }
     {
         match number {
             1 => Some(Function::AndBits),

@@ -24,7 +24,11 @@ impl Model for Lut {
 
     ghost view = { λ t. record { format = samples_format t.entries; entries = values t.entries } };
 
-    ghost invariant = { λ t. IsLut (record { format = samples_format t.entries; entries = values t.entries }) };
+    ghost invariant = { λ t. IsLut (record {
+      format = samples_format t.entries;
+      entries =
+          values t.entries;
+    }) };
 }
 
 impl Lut {
@@ -32,7 +36,8 @@ impl Lut {
 
     /// The table with these entries. `None` unless they are 256 of U8 or 65,536 of S16.
     pub fn new(entries: Samples) -> Option<Lut>
-        ensures { result ≡ (if is_full (samples_format entries) (length (values entries)) then Some (record { format = samples_format entries; entries = values entries }) else None) }
+        ensures { result ≡ (if is_full (samples_format entries) (length (values entries)) then Some
+            (record { format = samples_format entries; entries = values entries }) else None) }
     {
         if entries.format() == Format::U32 || entries.len() != Lut::entry_count(entries.format()) {
             return None;

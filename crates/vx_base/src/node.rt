@@ -8,6 +8,9 @@ use crate::reference::ObjRef;
 use crate::shape::{has_numbers, is_node};
 use std::marker::Model;
 
+/// How many nodes a graph may have.
+pub const GREATEST_NODES: usize = 256;
+
 /// The fields of a node: a vision function, what it reads and what it writes.
 #[derive(Clone, Copy, PartialEq, Eq, Debug)]
 pub struct Node {

@@ -1,6 +1,7 @@
 //! What is known of images that aren't there.
 ghost use Rattle.std.specs.Prelude.{◌≡◌, IsTrue, ◌&&◌};
-ghost use Rattle.vx_base.specs.Outline.{outline, may_be_side, outline_of, filled, closed, IsOutline};
+ghost use Rattle.vx_base.specs.Outline.{outline, may_be_side, outline_of, filled, closed};
+ghost use Rattle.vx_base.specs.Outline.{IsOutline};
 
 use crate::desc::{Desc, GREATEST_SIDE};
 use crate::format::Format;

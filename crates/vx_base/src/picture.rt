@@ -21,7 +21,8 @@ impl Model for Picture {
 
     ghost view = { λ p. record { description = p.desc; samples = values p.samples } };
 
-    ghost invariant = { λ p. IsPicture (record { description = p.desc; samples = values p.samples }) × (samples_format p.samples ≡ p.desc.format) };
+    ghost invariant = { λ p. IsPicture (record { description = p.desc; samples = values p.samples })
+        × (samples_format p.samples ≡ p.desc.format) };
 }
 
 impl Picture {

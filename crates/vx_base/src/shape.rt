@@ -1,7 +1,8 @@
 //! Whether a node has what its function has.
 ghost use Rattle.std.specs.Prelude.{◌≡◌, ◌<◌, ◌^◌, IfSome};
 ghost use Rattle.vx_base.specs.Cell.{IsCell};
-ghost use Rattle.vx_base.specs.Node.{is_named, all_named, has_amount, has_operands, is_node, IsBorder};
+ghost use Rattle.vx_base.specs.Node.{is_named, all_named, has_amount, has_operands, is_node};
+ghost use Rattle.vx_base.specs.Node.{IsBorder};
 
 use crate::border::Border;
 use crate::function::Parameters;

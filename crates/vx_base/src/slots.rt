@@ -41,7 +41,7 @@ impl SlotCount {
     /// The number of slots.
     pub fn get(self) -> u8
         ensures value { result ≡ self }
-        ensures limits { (1 ≤ result) × (result ≤ 16) }
+        ensures limits { (1 ≤ result) × (result ≤ GREATEST_SLOTS) }
     {
         self.count
     }

@@ -30,11 +30,21 @@ impl Model for ThresholdRule {
 
     ghost Value = { ThresholdValue };
 
-    ghost view = { λ t. record { format = t.format; kind = t.kind; true_value = t.true_value; false_value = t.false_value } };
+    ghost view = { λ t. record {
+      format = t.format;
+      kind = t.kind;
+      true_value = t.true_value;
+      false_value = t.false_value;
+    } };
 
     ghost invariant = { λ t. IsTrue (has_limits t.format t.kind) };
 
-    ghost inverse = { λ t. record { format = t.format; kind = t.kind; true_value = t.true_value; false_value = t.false_value } };
+    ghost inverse = { λ t. record {
+      format = t.format;
+      kind = t.kind;
+      true_value = t.true_value;
+      false_value = t.false_value;
+    } };
 }
 
 impl ThresholdRule {
@@ -63,7 +73,12 @@ impl ThresholdRule {
         false_value: u8,
     ) -> ThresholdRule
         requires { IsTrue (has_limits format kind) }
-        ensures { result ≡ record { format = format; kind = kind; true_value = true_value; false_value = false_value } }
+        ensures { result ≡ record {
+          format = format;
+          kind = kind;
+          true_value = true_value;
+          false_value = false_value;
+        } }
     {
         ThresholdRule {
             format,

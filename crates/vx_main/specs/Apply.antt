@@ -11,7 +11,7 @@ use Rattle.vx_base.specs.Outputs.{node_image}
 use Rattle.pgm_images.specs.declared.fault.PgmFault.{PgmFault}
 use Rattle.pgm_images.specs.declared.fault.PgmFault.TheVariants as fault
 use Rattle.pgm_images.specs.Reading.{reading}
-use Rattle.pgm_images.specs.Writing.{written}
+use Rattle.pgm_images.specs.Writing.{pgm_text}
 use Rattle.vx_main.specs.declared.ended.Ended.{Ended}
 use Rattle.vx_main.specs.declared.ended.Ended.TheVariants.{Refused}
 use Rattle.vx_main.specs.declared.job.Job.{Job}
@@ -22,18 +22,18 @@ abbrev pub image_made : Job → PictureValue → ImageValue
 image_made job p = node_image (node_of job) First U8 (pictured p) None
 
 abbrev pub text_made : Job → PictureValue → List ℕ
-text_made job p = written (picture_of (image_made job p))
+text_made job p = pgm_text (picture_of (image_made job p))
 
 -- the code that tells a text's fault
-abbrev pub fault_code : PgmFault → Code
-fault_code fault.InvalidDimension = InvalidDimension
-fault_code fault.InvalidValue = InvalidValue
-fault_code fault.InvalidFormat = InvalidFormat
-fault_code fault.NoMemory = NoMemory
+abbrev pub pgm_fault_code : PgmFault → Code
+pgm_fault_code fault.InvalidDimension = InvalidDimension
+pgm_fault_code fault.InvalidValue = InvalidValue
+pgm_fault_code fault.InvalidFormat = InvalidFormat
+pgm_fault_code fault.NoMemory = NoMemory
 
 -- the text that comes of a picture of U8, or the code that says why there is none
 abbrev pub applied_to : Job → Result PictureValue PgmFault → Result (List ℕ) Code
-applied_to job (Err fault) = Err (fault_code fault)
+applied_to job (Err fault) = Err (pgm_fault_code fault)
 applied_to job (Ok p) = if same_format p.description.format U8 then Ok (text_made job p) else Err InvalidFormat
 
 abbrev pub applied : Job → List ℕ → Result (List ℕ) Code

@@ -3,7 +3,7 @@ ghost use Rattle.std.specs.Prelude.{◌≡◌, Ok, IfOk, IfErr, OnOk};
 ghost use Rattle.vx_base.specs.declared.format.Format.TheVariants.{U8 as FormatU8};
 ghost use Rattle.client_model.specs.Answer.{answer_to};
 ghost use Rattle.client_model.specs.Context.{state_of};
-ghost use Rattle.vx_main.specs.Apply.{applied, fault_code, text_made, EndsFor};
+ghost use Rattle.vx_main.specs.Apply.{applied, pgm_fault_code, text_made, EndsFor};
 
 use crate::ended::Ended;
 use crate::job::{Job, RESULT, SOURCE};
@@ -85,7 +85,8 @@ fn made(alloc: Global, job: Job, picture: Picture) -> Result<Text, NoMemory>
 /// Makes a request whose reply tells nothing more than that it was done.
 fn ask(runtime: &mut Runtime, alloc: Global, request: Request) -> Result<(), NoMemory>
     ensures limits { runtime.new.limits ≡ runtime.old.limits }
-    ensures state { OnOk result (state_of 1 runtime.new ≡ (answer_to runtime.old.limits (state_of 1 runtime.old) request).1) }
+    ensures state { OnOk result (state_of 1 runtime.new
+        ≡ (answer_to runtime.old.limits (state_of 1 runtime.old) request).1) }
 {
     runtime.apply(alloc, CLIENT, &request)?;
     Ok(())

@@ -73,10 +73,10 @@ impl From<NoMemory> for Ended {
 }
 
 impl From<PgmFault> for Ended {
-    ghost use Rattle.vx_main.specs.Apply.{fault_code};
+    ghost use Rattle.vx_main.specs.Apply.{pgm_fault_code};
     ghost use Rattle.vx_main.specs.declared.ended.Ended.TheVariants.{Refused};
 
-    ghost from_gives = { λ fault ended. ended ≡ Refused (fault_code fault) };
+    ghost from_gives = { λ fault ended. ended ≡ Refused (pgm_fault_code fault) };
 
     fn from(fault: PgmFault) -> Ended {
         Ended::Refused(match fault {

@@ -2,8 +2,8 @@
 //!
 //! `vx_main serve` reads request frames from standard input and writes a reply frame for each to
 //! standard output. `vx_main apply` reads one PGM text there, and writes the text of what one
-//! function makes of it. `program::run` is all of it over any reader and writer; `main` gives it the
-//! process's own, prints the line of how it ended, and ends with the status.
+//! function makes of it. `program::run` is all of it over any reader and writer; `main` gives it
+//! the process's own, prints the line of how it ended, and ends with the status.
 #![tactic(auto)]
 
 mod apply;

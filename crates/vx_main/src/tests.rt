@@ -8,8 +8,8 @@ use std::test::Fail;
 use vx_base::Code;
 use vx_requests::StreamFault;
 
-/// A context of client 7, two images of one U8 sample, 10 into the first, Not of it into the second,
-/// which is read.
+/// A context of client 7, two images of one U8 sample, 10 into the first, Not of it into the
+/// second, which is read.
 const REQUESTS: &[u8] = b"\x00\x00\x00\x03\x00\x07\x01\
 \x00\x00\x00\x08\x00\x07\x03\x01\x00\x01\x00\x01\
 \x00\x00\x00\x08\x00\x07\x03\x01\x00\x01\x00\x01\
@@ -91,8 +91,8 @@ fn tells_why_it_ended(rt: HostRuntime) -> Result<(), Fail> {
     Ok(())
 }
 
-/// Contexts of clients 7 and 8; two images of four bytes and one of one byte for 7; one of four bytes
-/// for 8.
+/// Contexts of clients 7 and 8; two images of four bytes and one of one byte for 7; one of four
+/// bytes for 8.
 const CREATES: &[u8] = b"\x00\x00\x00\x03\x00\x07\x01\
 \x00\x00\x00\x03\x00\x08\x01\
 \x00\x00\x00\x08\x00\x07\x03\x01\x00\x02\x00\x02\

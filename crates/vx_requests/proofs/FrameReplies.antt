@@ -18,7 +18,7 @@ use Rattle.vx_requests.specs.Serving.Lost.{SpellsTaking, MayBeLost}
 use Rattle.vx_requests.specs.Serving.Turn.{IsReply}
 use Rattle.client_model.specs.Request.{TakesMemory}
 use Rattle.vx_wire.specs.Replies.{Said, said_of}
-use Rattle.vx_wire.specs.Faults.{parse_fault, FailsFor, fault_code}
+use Rattle.vx_wire.specs.Faults.{parse_fault, MayFailWith, fault_code}
 use Rattle.vx_wire.specs.Requests.{request_of}
 
 -- the model's answer to a body, once it is known what the body spells
@@ -91,13 +91,13 @@ module _ (limits : Allowance) (old new : ℕ → State) (client op : ℕ) (body 
   wanting_reply request spelled takes same = lost_reply (inr (subst SpellsTaking (sym spelled) (inr takes))) same
 
   -- a body from which parse read no request
-  pub fault_reply : (fault : ParseFault) → FailsFor (request_of op body) fault → ((each : ℕ) → new each ≡ old each)
+  pub fault_reply : (fault : ParseFault) → MayFailWith (request_of op body) fault → ((each : ℕ) → new each ≡ old each)
       → IsReply limits (frame_of client op body) old new (spelled client op (said_of (Refused (fault_code fault))))
   fault_reply fault why same = known (request_of op body) refl why
     where
       Answered : ParseFault → Type 0
       Answered fault = IsReply limits (frame_of client op body) old new (spelled client op (said_of (Refused (fault_code fault))))
 
-      known : (spelled : Result Request BodyFault) → request_of op body ≡ spelled → FailsFor spelled fault → Answered fault
+      known : (spelled : Result Request BodyFault) → request_of op body ≡ spelled → MayFailWith spelled fault → Answered fault
       known (Ok request) is (wanted, holds) = subst Answered (sym wanted) (lost_reply (inr (subst SpellsTaking (sym is) (inl holds))) same)
       known (Err refused) is e = subst Answered (sym e) (refused_reply refused is same)

@@ -9,7 +9,7 @@ use Rattle.vx_base.specs.declared.format.Format.TheVariants.{U8, U32}
 use Rattle.vx_requests.specs.declared.stream.fault.StreamFault.{StreamFault}
 use Rattle.vx_requests.specs.declared.stream.fault.StreamFault.TheVariants.{WriteFailed}
 use Rattle.vx_requests.specs.Stream.Calls.{failed_calls}
-use Rattle.vx_requests.specs.Stream.Transfer.{AppendsPart, Writes, Sends}
+use Rattle.vx_requests.specs.Stream.Transfer.{AppendsPart, WritesAll, Sends}
 use Rattle.vx_requests.proofs.Pieces.{on_ok, on_err, part_front, whole_front}
 use Rattle.vx_wire.specs.Samples.{encoded_sample}
 
@@ -44,8 +44,8 @@ module _ {A : Type 0} (f : A → List ℕ) (a b c : Option (List ℕ)) (all done
 
 module _ {K : Type 0} (taken : K → Option (List ℕ)) (failures : K → ℕ) where
   -- the first of two pieces failed
-  pub Writes-first : {T U : Type 0} (a b : K) (x y both : List ℕ) (e : StreamFault) → x ++ y ≡ both → Writes {T = T} taken failures a b x (Err e) → Writes {T = U} taken failures a b both (Err e)
-  Writes-first a b x y both e joined wrote = record {
+  pub WritesAll-first : {T U : Type 0} (a b : K) (x y both : List ℕ) (e : StreamFault) → x ++ y ≡ both → WritesAll {T = T} taken failures a b x (Err e) → WritesAll {T = U} taken failures a b both (Err e)
+  WritesAll-first a b x y both e joined wrote = record {
     ok = tt;
     err = subst (AppendsPart (taken a) (taken b)) joined (AppendsPart-first (taken a) (taken b) x y wrote.err);
     fault = wrote.fault;
@@ -53,15 +53,15 @@ module _ {K : Type 0} (taken : K → Option (List ℕ)) (failures : K → ℕ) w
   }
 
   -- the second of two pieces was written, or failed
-  pub Writes-then : {T U : Type 0} (a b c : K) (x y both : List ℕ) (u : T) (result : Result U StreamFault) → x ++ y ≡ both
-      → Writes {T = T} taken failures a b x (Ok u) → Writes {T = U} taken failures b c y result → Writes taken failures a c both result
-  Writes-then a b c x y both u (Ok v) joined before wrote = record {
+  pub WritesAll-then : {T U : Type 0} (a b c : K) (x y both : List ℕ) (u : T) (result : Result U StreamFault) → x ++ y ≡ both
+      → WritesAll {T = T} taken failures a b x (Ok u) → WritesAll {T = U} taken failures b c y result → WritesAll taken failures a c both result
+  WritesAll-then a b c x y both u (Ok v) joined before wrote = record {
     ok = subst (Appends (taken a) (taken c)) joined (Appends-trans (taken a) (taken b) (taken c) x y before.ok wrote.ok);
     err = tt;
     fault = tt;
     failed = omega (arith, before.failed, wrote.failed);
   }
-  Writes-then a b c x y both u (Err e) joined before wrote = record {
+  WritesAll-then a b c x y both u (Err e) joined before wrote = record {
     ok = tt;
     err = subst (AppendsPart (taken a) (taken c)) joined (AppendsPart-second (taken a) (taken b) (taken c) x y before.ok wrote.err);
     fault = wrote.fault;
@@ -69,7 +69,7 @@ module _ {K : Type 0} (taken : K → Option (List ℕ)) (failures : K → ℕ) w
   }
 
   -- what failed before the flush
-  pub Sends-failed : {T U : Type 0} (a b : K) (bytes : List ℕ) (e : StreamFault) → Writes {T = T} taken failures a b bytes (Err e) → Sends {T = U} taken failures a b bytes (Err e)
+  pub Sends-failed : {T U : Type 0} (a b : K) (bytes : List ℕ) (e : StreamFault) → WritesAll {T = T} taken failures a b bytes (Err e) → Sends {T = U} taken failures a b bytes (Err e)
   Sends-failed a b bytes e wrote = record {
     ok = tt;
     err = part_front (taken a) (taken b) bytes wrote.err;
@@ -78,7 +78,7 @@ module _ {K : Type 0} (taken : K → Option (List ℕ)) (failures : K → ℕ) w
   }
 
   -- all was written, and then the sink was flushed
-  pub Sends-flushed : {T U : Type 0} (a b c : K) (bytes : List ℕ) (u : T) (result : Result U StreamFault) → Writes {T = T} taken failures a b bytes (Ok u)
+  pub Sends-flushed : {T U : Type 0} (a b c : K) (bytes : List ℕ) (u : T) (result : Result U StreamFault) → WritesAll {T = T} taken failures a b bytes (Ok u)
       → Keeps (taken b) (taken c) → IfErr result (λ e. e ≡ WriteFailed) → failures c ≡ failures b + failed_calls result → Sends taken failures a c bytes result
   Sends-flushed a b c bytes u result wrote kept fault failed = record {
     ok = on_ok result (Appends-kept (taken a) (taken b) (taken c) bytes wrote.ok kept);
@@ -88,10 +88,10 @@ module _ {K : Type 0} (taken : K → Option (List ℕ)) (failures : K → ℕ) w
   }
 
   -- a block failed, after others that were written
-  pub Writes-block : {A T U : Type 0} (f : A → List ℕ) (a b c : K) (all done rest front back : List A) (e : StreamFault) → all ≡ done ++ rest → rest ≡ front ++ back
-      → Appends (taken a) (taken b) (flat_map f done) → failures b ≡ failures a → Writes {T = T} taken failures b c (flat_map f front) (Err e)
-      → Writes {T = U} taken failures a c (flat_map f all) (Err e)
-  Writes-block f a b c all done rest front back e whole split before fewer wrote = record {
+  pub WritesAll-block : {A T U : Type 0} (f : A → List ℕ) (a b c : K) (all done rest front back : List A) (e : StreamFault) → all ≡ done ++ rest → rest ≡ front ++ back
+      → Appends (taken a) (taken b) (flat_map f done) → failures b ≡ failures a → WritesAll {T = T} taken failures b c (flat_map f front) (Err e)
+      → WritesAll {T = U} taken failures a c (flat_map f all) (Err e)
+  WritesAll-block f a b c all done rest front back e whole split before fewer wrote = record {
     ok = tt;
     err = block_part f (taken a) (taken b) (taken c) all done rest front back whole split before wrote.err;
     fault = wrote.fault;

@@ -8,11 +8,14 @@ ghost use Rattle.vx_wire.specs.Replies.{said_of};
 
 /// The frames in which client 258 asks for image 7, and removes node 3 from graph 7.
 pub fn frames()
-    ensures read { frame_bytes (request_frame 258 (ReadImage (record { name = 7; slot = None }))) ≡ 0 ∷ 0 ∷ 0 ∷ 8 ∷ 1 ∷ 2 ∷ 7 ∷ 0 ∷ 0 ∷ 0 ∷ 7 ∷ 255 ∷ [] }
-    ensures removed { frame_bytes (request_frame 258 (RemoveNode 7 3)) ≡ 0 ∷ 0 ∷ 0 ∷ 11 ∷ 1 ∷ 2 ∷ 21 ∷ 0 ∷ 0 ∷ 0 ∷ 7 ∷ 0 ∷ 0 ∷ 0 ∷ 3 ∷ [] }
+    ensures read { frame_bytes (request_frame 258 (ReadImage (record { name = 7; slot = None })))
+        ≡ 0 ∷ 0 ∷ 0 ∷ 8 ∷ 1 ∷ 2 ∷ 7 ∷ 0 ∷ 0 ∷ 0 ∷ 7 ∷ 255 ∷ [] }
+    ensures removed { frame_bytes (request_frame 258 (RemoveNode 7 3))
+        ≡ 0 ∷ 0 ∷ 0 ∷ 11 ∷ 1 ∷ 2 ∷ 21 ∷ 0 ∷ 0 ∷ 0 ∷ 7 ∷ 0 ∷ 0 ∷ 0 ∷ 3 ∷ [] }
 {}
 
 /// The frame in which client 258 is told the number of a node that was added.
 pub fn replies()
-    ensures { reply_bytes (spelled 258 20 (said_of (Node 3))) ≡ 0 ∷ 0 ∷ 0 ∷ 8 ∷ 1 ∷ 2 ∷ 20 ∷ 0 ∷ 0 ∷ 0 ∷ 0 ∷ 3 ∷ [] }
+    ensures { reply_bytes (spelled 258 20 (said_of (Node 3)))
+        ≡ 0 ∷ 0 ∷ 0 ∷ 8 ∷ 1 ∷ 2 ∷ 20 ∷ 0 ∷ 0 ∷ 0 ∷ 0 ∷ 3 ∷ [] }
 {}

@@ -15,7 +15,8 @@ fn clear(desc: Desc, valid: Rect, samples: &mut [u8])
     requires format { desc.format ≡ U8 }
     requires size { length samples.old ≡ sample_count desc }
     requires room { IsWithin valid desc.width desc.height }
-    ensures { image_over desc valid (map pos samples.new) ≡ made desc.width desc.height U8 valid (at (image_over desc valid (map pos samples.old))) }
+    ensures { image_over desc valid (map pos samples.new)
+        ≡ made desc.width desc.height U8 valid (at (image_over desc valid (map pos samples.old))) }
 {
     let mut image = ImageMut::new(desc, samples);
     image.set_valid(valid);

@@ -1,5 +1,5 @@
-//! A reply is written and flushed before a byte of the next frame is asked for: a source that watches
-//! the sink.
+//! A reply is written and flushed before a byte of the next frame is asked for: a source that
+//! watches the sink.
 ghost use Rattle.std.specs.Prelude.{None};
 
 use crate::devices::NEVER;

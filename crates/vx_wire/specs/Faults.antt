@@ -17,9 +17,9 @@ parse_fault InvalidDimension = parsing.InvalidDimension
 parse_fault InvalidValue = parsing.InvalidValue
 
 -- why parsing failed: there was no memory for the samples of the request that is spelled, or none is spelled
-abbrev pub FailsFor : Result Request BodyFault → ParseFault → Type 0
-FailsFor (Ok request) e = (e ≡ parsing.NoMemory) × HoldsSamples request
-FailsFor (Err fault) e = e ≡ parse_fault fault
+abbrev pub MayFailWith : Result Request BodyFault → ParseFault → Type 0
+MayFailWith (Ok request) e = (e ≡ parsing.NoMemory) × HoldsSamples request
+MayFailWith (Err fault) e = e ≡ parse_fault fault
 
 -- the code of the reply to a body from which no request was read
 abbrev pub fault_code : ParseFault → Code

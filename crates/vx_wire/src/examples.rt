@@ -5,8 +5,27 @@ ghost use Rattle.vx_base.specs.declared.policy.Policy.TheVariants.{Wrap, Saturat
 ghost use Rattle.vx_base.specs.declared.border.Border.TheVariants.{Undefined, Constant};
 ghost use Rattle.vx_base.specs.declared.function.Function.TheVariants.{NotBits, Multiply};
 ghost use Rattle.vx_base.specs.declared.threshold.ThresholdKind.TheVariants.{Binary, Range};
-ghost use Rattle.client_model.specs.declared.request.Request.TheVariants.{OpenContext, ReleaseContext, CreateImage, QueryImage, WriteImage, WriteImagePgm, ReadImage, ReadImagePgm, SetValid, Release, CreateThreshold, CreateConvolution, CreateDistribution, ReadDistribution, CreateMinMax, ReadMinMax, CreateGraph, CreateVirtualImage, AddNode, RemoveNode, VerifyGraph, ProcessGraph, Immediate, CreateDelay, AgeDelay};
-ghost use Rattle.vx_wire.specs.declared.body_fault.BodyFault.TheVariants.{InvalidParameters, InvalidFormat, InvalidDimension, InvalidValue};
+ghost use Rattle.client_model.specs.declared.request.Request.TheVariants.{OpenContext};
+ghost use Rattle.client_model.specs.declared.request.Request.TheVariants.{ReleaseContext};
+ghost use Rattle.client_model.specs.declared.request.Request.TheVariants.{CreateImage, QueryImage};
+ghost use Rattle.client_model.specs.declared.request.Request.TheVariants.{WriteImage};
+ghost use Rattle.client_model.specs.declared.request.Request.TheVariants.{WriteImagePgm, ReadImage};
+ghost use Rattle.client_model.specs.declared.request.Request.TheVariants.{ReadImagePgm, SetValid};
+ghost use Rattle.client_model.specs.declared.request.Request.TheVariants.{Release, CreateThreshold};
+ghost use Rattle.client_model.specs.declared.request.Request.TheVariants.{CreateConvolution};
+ghost use Rattle.client_model.specs.declared.request.Request.TheVariants.{CreateDistribution};
+ghost use Rattle.client_model.specs.declared.request.Request.TheVariants.{ReadDistribution};
+ghost use Rattle.client_model.specs.declared.request.Request.TheVariants.{CreateMinMax, ReadMinMax};
+ghost use Rattle.client_model.specs.declared.request.Request.TheVariants.{CreateGraph};
+ghost use Rattle.client_model.specs.declared.request.Request.TheVariants.{CreateVirtualImage};
+ghost use Rattle.client_model.specs.declared.request.Request.TheVariants.{AddNode, RemoveNode};
+ghost use Rattle.client_model.specs.declared.request.Request.TheVariants.{VerifyGraph};
+ghost use Rattle.client_model.specs.declared.request.Request.TheVariants.{ProcessGraph, Immediate};
+ghost use Rattle.client_model.specs.declared.request.Request.TheVariants.{CreateDelay, AgeDelay};
+ghost use Rattle.vx_wire.specs.declared.body_fault.BodyFault.TheVariants.{InvalidParameters};
+ghost use Rattle.vx_wire.specs.declared.body_fault.BodyFault.TheVariants.{InvalidFormat};
+ghost use Rattle.vx_wire.specs.declared.body_fault.BodyFault.TheVariants.{InvalidDimension};
+ghost use Rattle.vx_wire.specs.declared.body_fault.BodyFault.TheVariants.{InvalidValue};
 ghost use Rattle.vx_wire.specs.Requests.{request_of, body_of};
 ghost use Rattle.vx_wire.specs.Described.{described_bytes};
 ghost use Rattle.vx_wire.specs.Counts.{counts_bytes};
@@ -25,8 +44,10 @@ pub fn ops()
 
 /// Images of one sample, of 4096 by 2 samples, and of what no image has.
 pub fn images_made()
-    ensures smallest { request_of 3 (1 ∷ 0 ∷ 1 ∷ 0 ∷ 1 ∷ []) ≡ Ok (CreateImage (record { width = 1; height = 1; format = U8 })) }
-    ensures wide { request_of 3 (3 ∷ 16 ∷ 0 ∷ 0 ∷ 2 ∷ []) ≡ Ok (CreateImage (record { width = 4096; height = 2; format = U32 })) }
+    ensures smallest { request_of 3 (1 ∷ 0 ∷ 1 ∷ 0 ∷ 1 ∷ [])
+        ≡ Ok (CreateImage (record { width = 1; height = 1; format = U8 })) }
+    ensures wide { request_of 3 (3 ∷ 16 ∷ 0 ∷ 0 ∷ 2 ∷ [])
+        ≡ Ok (CreateImage (record { width = 4096; height = 2; format = U32 })) }
     ensures no_format { request_of 3 (4 ∷ 0 ∷ 1 ∷ 0 ∷ 1 ∷ []) ≡ Err InvalidFormat }
     ensures no_width { request_of 3 (1 ∷ 0 ∷ 0 ∷ 0 ∷ 1 ∷ []) ≡ Err InvalidDimension }
     ensures too_high { request_of 3 (1 ∷ 0 ∷ 1 ∷ 16 ∷ 1 ∷ []) ≡ Err InvalidDimension }
@@ -37,34 +58,50 @@ pub fn images_made()
 
 /// Two samples of -2 and 1 that are written to image 7, and slot 3 of delay 258 that is read.
 pub fn images_written_and_read()
-    ensures written { request_of 5 (0 ∷ 0 ∷ 0 ∷ 7 ∷ 255 ∷ 2 ∷ 0 ∷ 2 ∷ 0 ∷ 1 ∷ 255 ∷ 254 ∷ 0 ∷ 1 ∷ [])
-        ≡ Ok (WriteImage (record { name = 7; slot = None }) (record { description = record { width = 2; height = 1; format = S16 }; samples = negsuc 1 ∷ pos 1 ∷ [] })) }
-    ensures a_byte_short { request_of 5 (0 ∷ 0 ∷ 0 ∷ 7 ∷ 255 ∷ 2 ∷ 0 ∷ 2 ∷ 0 ∷ 1 ∷ 255 ∷ 254 ∷ 0 ∷ []) ≡ Err InvalidParameters }
-    ensures a_byte_more { request_of 5 (0 ∷ 0 ∷ 0 ∷ 7 ∷ 255 ∷ 1 ∷ 0 ∷ 1 ∷ 0 ∷ 1 ∷ 9 ∷ 9 ∷ []) ≡ Err InvalidParameters }
-    ensures read { request_of 7 (0 ∷ 0 ∷ 1 ∷ 2 ∷ 3 ∷ []) ≡ Ok (ReadImage (record { name = 258; slot = Some 3 })) }
+    ensures written { request_of 5 (0 ∷ 0 ∷ 0 ∷ 7 ∷ 255 ∷ 2 ∷ 0 ∷ 2 ∷ 0 ∷ 1 ∷ 255
+        ∷ 254 ∷ 0 ∷ 1 ∷ [])
+        ≡ Ok (WriteImage (record { name = 7; slot = None })
+        (record {
+          description = record { width = 2; height = 1; format = S16 };
+          samples = negsuc 1
+              ∷ pos 1 ∷ [];
+        })) }
+    ensures a_byte_short { request_of 5 (0 ∷ 0 ∷ 0 ∷ 7 ∷ 255 ∷ 2 ∷ 0 ∷ 2 ∷ 0 ∷ 1 ∷ 255 ∷ 254
+        ∷ 0 ∷ []) ≡ Err InvalidParameters }
+    ensures a_byte_more { request_of 5 (0 ∷ 0 ∷ 0 ∷ 7 ∷ 255 ∷ 1 ∷ 0 ∷ 1 ∷ 0 ∷ 1 ∷ 9 ∷ 9 ∷ [])
+        ≡ Err InvalidParameters }
+    ensures read { request_of 7 (0 ∷ 0 ∷ 1 ∷ 2 ∷ 3 ∷ [])
+        ≡ Ok (ReadImage (record { name = 258; slot = Some 3 })) }
 {}
 
 /// Texts that are written to image 7, also none: what they say is no matter here. A reference that
 /// is cut short has no text behind it.
 pub fn texts_written()
-    ensures written { request_of 6 (0 ∷ 0 ∷ 0 ∷ 7 ∷ 255 ∷ 80 ∷ 53 ∷ 10 ∷ []) ≡ Ok (WriteImagePgm (record { name = 7; slot = None }) (80 ∷ 53 ∷ 10 ∷ [])) }
-    ensures to_a_slot { request_of 6 (0 ∷ 0 ∷ 1 ∷ 2 ∷ 3 ∷ 255 ∷ []) ≡ Ok (WriteImagePgm (record { name = 258; slot = Some 3 }) (255 ∷ [])) }
-    ensures empty { request_of 6 (0 ∷ 0 ∷ 0 ∷ 7 ∷ 255 ∷ []) ≡ Ok (WriteImagePgm (record { name = 7; slot = None }) []) }
+    ensures written { request_of 6 (0 ∷ 0 ∷ 0 ∷ 7 ∷ 255 ∷ 80 ∷ 53 ∷ 10 ∷ [])
+        ≡ Ok (WriteImagePgm (record { name = 7; slot = None }) (80 ∷ 53 ∷ 10 ∷ [])) }
+    ensures to_a_slot { request_of 6 (0 ∷ 0 ∷ 1 ∷ 2 ∷ 3 ∷ 255 ∷ [])
+        ≡ Ok (WriteImagePgm (record { name = 258; slot = Some 3 }) (255 ∷ [])) }
+    ensures empty { request_of 6 (0 ∷ 0 ∷ 0 ∷ 7 ∷ 255 ∷ [])
+        ≡ Ok (WriteImagePgm (record { name = 7; slot = None }) []) }
     ensures cut { request_of 6 (0 ∷ 0 ∷ 0 ∷ 7 ∷ []) ≡ Err InvalidParameters }
 {}
 
 /// Image 7 that is read as a text, and references that are cut short or have more behind them.
 pub fn texts_read()
-    ensures read { request_of 8 (0 ∷ 0 ∷ 0 ∷ 7 ∷ 255 ∷ []) ≡ Ok (ReadImagePgm (record { name = 7; slot = None })) }
-    ensures of_a_slot { request_of 8 (0 ∷ 0 ∷ 1 ∷ 2 ∷ 3 ∷ []) ≡ Ok (ReadImagePgm (record { name = 258; slot = Some 3 })) }
+    ensures read { request_of 8 (0 ∷ 0 ∷ 0 ∷ 7 ∷ 255 ∷ [])
+        ≡ Ok (ReadImagePgm (record { name = 7; slot = None })) }
+    ensures of_a_slot { request_of 8 (0 ∷ 0 ∷ 1 ∷ 2 ∷ 3 ∷ [])
+        ≡ Ok (ReadImagePgm (record { name = 258; slot = Some 3 })) }
     ensures cut { request_of 8 (0 ∷ 0 ∷ 0 ∷ 7 ∷ []) ≡ Err InvalidParameters }
     ensures more { request_of 8 (0 ∷ 0 ∷ 0 ∷ 7 ∷ 255 ∷ 0 ∷ []) ≡ Err InvalidParameters }
 {}
 
 /// Image 1 that is asked about, and references that are cut short or have more behind them.
 pub fn images_queried()
-    ensures queried { request_of 4 (0 ∷ 0 ∷ 0 ∷ 1 ∷ 255 ∷ []) ≡ Ok (QueryImage (record { name = 1; slot = None })) }
-    ensures of_a_slot { request_of 4 (0 ∷ 0 ∷ 1 ∷ 2 ∷ 3 ∷ []) ≡ Ok (QueryImage (record { name = 258; slot = Some 3 })) }
+    ensures queried { request_of 4 (0 ∷ 0 ∷ 0 ∷ 1 ∷ 255 ∷ [])
+        ≡ Ok (QueryImage (record { name = 1; slot = None })) }
+    ensures of_a_slot { request_of 4 (0 ∷ 0 ∷ 1 ∷ 2 ∷ 3 ∷ [])
+        ≡ Ok (QueryImage (record { name = 258; slot = Some 3 })) }
     ensures cut { request_of 4 (0 ∷ 0 ∷ 0 ∷ 1 ∷ []) ≡ Err InvalidParameters }
     ensures more { request_of 4 (0 ∷ 0 ∷ 0 ∷ 1 ∷ 255 ∷ 0 ∷ []) ≡ Err InvalidParameters }
 {}
@@ -72,25 +109,49 @@ pub fn images_queried()
 /// What is told of a U8 image of 4 by 1 samples whose second and third are valid, and of one of
 /// 258 by 1 samples of an open format of which none is.
 pub fn images_described()
-    ensures known { described_bytes (record { format = Some U8; width = 4; height = 1; valid = record { x0 = 1; y0 = 0; x1 = 3; y1 = 1 } })
+    ensures known { described_bytes (record {
+      format = Some U8;
+      width = 4;
+      height = 1;
+      valid =
+          record { x0 = 1; y0 = 0; x1 = 3; y1 = 1 };
+    })
         ≡ 1 ∷ 0 ∷ 4 ∷ 0 ∷ 1 ∷ 0 ∷ 1 ∷ 0 ∷ 0 ∷ 0 ∷ 3 ∷ 0 ∷ 1 ∷ [] }
-    ensures open { described_bytes (record { format = None; width = 258; height = 1; valid = record { x0 = 0; y0 = 0; x1 = 0; y1 = 0 } })
+    ensures open { described_bytes (record {
+      format = None;
+      width = 258;
+      height = 1;
+      valid =
+          record { x0 = 0; y0 = 0; x1 = 0; y1 = 0 };
+    })
         ≡ 0 ∷ 1 ∷ 2 ∷ 0 ∷ 1 ∷ 0 ∷ 0 ∷ 0 ∷ 0 ∷ 0 ∷ 0 ∷ 0 ∷ 0 ∷ [] }
 {}
 
 /// Columns 1 and 2 of row 0 of image 1 that become valid, no place of it, and bounds that no
 /// rectangle has. Bounds are looked at once all four are there.
 pub fn valid_rectangles_set()
-    ensures set { request_of 9 (0 ∷ 0 ∷ 0 ∷ 1 ∷ 255 ∷ 0 ∷ 1 ∷ 0 ∷ 0 ∷ 0 ∷ 3 ∷ 0 ∷ 1 ∷ []) ≡ Ok (SetValid (record { name = 1; slot = None }) (record { x0 = 1; y0 = 0; x1 = 3; y1 = 1 })) }
-    ensures of_a_slot { request_of 9 (0 ∷ 0 ∷ 1 ∷ 2 ∷ 5 ∷ 0 ∷ 0 ∷ 0 ∷ 0 ∷ 1 ∷ 2 ∷ 16 ∷ 0 ∷ []) ≡ Ok (SetValid (record { name = 258; slot = Some 5 }) (record { x0 = 0; y0 = 0; x1 = 258; y1 = 4096 })) }
-    ensures none { request_of 9 (0 ∷ 0 ∷ 0 ∷ 1 ∷ 255 ∷ 0 ∷ 0 ∷ 0 ∷ 0 ∷ 0 ∷ 0 ∷ 0 ∷ 0 ∷ []) ≡ Ok (SetValid (record { name = 1; slot = None }) (record { x0 = 0; y0 = 0; x1 = 0; y1 = 0 })) }
-    ensures turned { request_of 9 (0 ∷ 0 ∷ 0 ∷ 1 ∷ 255 ∷ 0 ∷ 3 ∷ 0 ∷ 0 ∷ 0 ∷ 1 ∷ 0 ∷ 1 ∷ []) ≡ Err InvalidValue }
-    ensures turned_rows { request_of 9 (0 ∷ 0 ∷ 0 ∷ 1 ∷ 255 ∷ 0 ∷ 1 ∷ 0 ∷ 1 ∷ 0 ∷ 3 ∷ 0 ∷ 0 ∷ []) ≡ Err InvalidValue }
-    ensures no_columns { request_of 9 (0 ∷ 0 ∷ 0 ∷ 1 ∷ 255 ∷ 0 ∷ 1 ∷ 0 ∷ 0 ∷ 0 ∷ 1 ∷ 0 ∷ 1 ∷ []) ≡ Err InvalidValue }
-    ensures turned_and_more { request_of 9 (0 ∷ 0 ∷ 0 ∷ 1 ∷ 255 ∷ 0 ∷ 3 ∷ 0 ∷ 0 ∷ 0 ∷ 1 ∷ 0 ∷ 1 ∷ 0 ∷ []) ≡ Err InvalidValue }
-    ensures turned_and_cut { request_of 9 (0 ∷ 0 ∷ 0 ∷ 1 ∷ 255 ∷ 0 ∷ 3 ∷ 0 ∷ 0 ∷ 0 ∷ 1 ∷ 0 ∷ []) ≡ Err InvalidParameters }
+    ensures set { request_of 9 (0 ∷ 0 ∷ 0 ∷ 1 ∷ 255 ∷ 0 ∷ 1 ∷ 0 ∷ 0 ∷ 0 ∷ 3 ∷ 0 ∷ 1 ∷ [])
+        ≡ Ok (SetValid (record { name = 1; slot = None })
+        (record { x0 = 1; y0 = 0; x1 = 3; y1 = 1 })) }
+    ensures of_a_slot { request_of 9 (0 ∷ 0 ∷ 1 ∷ 2 ∷ 5 ∷ 0 ∷ 0 ∷ 0 ∷ 0 ∷ 1 ∷ 2 ∷ 16 ∷ 0 ∷ [])
+        ≡ Ok (SetValid (record { name = 258; slot = Some 5 })
+        (record { x0 = 0; y0 = 0; x1 = 258; y1 = 4096 })) }
+    ensures none { request_of 9 (0 ∷ 0 ∷ 0 ∷ 1 ∷ 255 ∷ 0 ∷ 0 ∷ 0 ∷ 0 ∷ 0 ∷ 0 ∷ 0 ∷ 0 ∷ [])
+        ≡ Ok (SetValid (record { name = 1; slot = None })
+        (record { x0 = 0; y0 = 0; x1 = 0; y1 = 0 })) }
+    ensures turned { request_of 9 (0 ∷ 0 ∷ 0 ∷ 1 ∷ 255 ∷ 0 ∷ 3 ∷ 0 ∷ 0 ∷ 0 ∷ 1 ∷ 0 ∷ 1 ∷ [])
+        ≡ Err InvalidValue }
+    ensures turned_rows { request_of 9 (0 ∷ 0 ∷ 0 ∷ 1 ∷ 255 ∷ 0 ∷ 1 ∷ 0 ∷ 1 ∷ 0 ∷ 3 ∷ 0 ∷ 0 ∷ [])
+        ≡ Err InvalidValue }
+    ensures no_columns { request_of 9 (0 ∷ 0 ∷ 0 ∷ 1 ∷ 255 ∷ 0 ∷ 1 ∷ 0 ∷ 0 ∷ 0 ∷ 1 ∷ 0 ∷ 1 ∷ [])
+        ≡ Err InvalidValue }
+    ensures turned_and_more { request_of 9
+        (0 ∷ 0 ∷ 0 ∷ 1 ∷ 255 ∷ 0 ∷ 3 ∷ 0 ∷ 0 ∷ 0 ∷ 1 ∷ 0 ∷ 1 ∷ 0 ∷ []) ≡ Err InvalidValue }
+    ensures turned_and_cut { request_of 9 (0 ∷ 0 ∷ 0 ∷ 1 ∷ 255 ∷ 0 ∷ 3 ∷ 0 ∷ 0 ∷ 0 ∷ 1 ∷ 0 ∷ [])
+        ≡ Err InvalidParameters }
     ensures cut { request_of 9 (0 ∷ 0 ∷ 0 ∷ 1 ∷ 255 ∷ []) ≡ Err InvalidParameters }
-    ensures more { request_of 9 (0 ∷ 0 ∷ 0 ∷ 1 ∷ 255 ∷ 0 ∷ 1 ∷ 0 ∷ 0 ∷ 0 ∷ 3 ∷ 0 ∷ 1 ∷ 0 ∷ []) ≡ Err InvalidParameters }
+    ensures more { request_of 9 (0 ∷ 0 ∷ 0 ∷ 1 ∷ 255 ∷ 0 ∷ 1 ∷ 0 ∷ 0 ∷ 0 ∷ 3 ∷ 0 ∷ 1 ∷ 0 ∷ [])
+        ≡ Err InvalidParameters }
 {}
 
 /// Object 258 that is released, and a name that is cut short or has a slot.
@@ -111,9 +172,21 @@ pub fn tables()
 /// U8 samples above 10, S16 samples from -1 to 2, and thresholds of what none is.
 pub fn thresholds()
     ensures binary { request_of 12 (0 ∷ 1 ∷ 0 ∷ 10 ∷ 255 ∷ 0 ∷ [])
-        ≡ Ok (CreateThreshold (record { format = U8; kind = Binary (pos 10); true_value = 255; false_value = 0 })) }
+        ≡ Ok (CreateThreshold (record {
+          format = U8;
+          kind = Binary
+              (pos 10);
+          true_value = 255;
+          false_value = 0;
+        })) }
     ensures range { request_of 12 (1 ∷ 2 ∷ 255 ∷ 255 ∷ 0 ∷ 2 ∷ 255 ∷ 0 ∷ [])
-        ≡ Ok (CreateThreshold (record { format = S16; kind = Range (negsuc 0) (pos 2); true_value = 255; false_value = 0 })) }
+        ≡ Ok (CreateThreshold (record {
+          format = S16;
+          kind = Range (negsuc 0)
+              (pos 2);
+          true_value = 255;
+          false_value = 0;
+        })) }
     ensures no_kind { request_of 12 (2 ∷ 1 ∷ 0 ∷ 10 ∷ 255 ∷ 0 ∷ []) ≡ Err InvalidParameters }
     ensures no_format { request_of 12 (0 ∷ 3 ∷ 0 ∷ 10 ∷ 255 ∷ 0 ∷ []) ≡ Err InvalidFormat }
     ensures below { request_of 12 (0 ∷ 1 ∷ 255 ∷ 255 ∷ 255 ∷ 0 ∷ []) ≡ Err InvalidValue }
@@ -126,14 +199,24 @@ pub fn thresholds()
 /// A convolution of 3 columns and 5 rows whose sums are divided by 2^31, and numbers that no
 /// convolution has. The first of them that is wrong decides, also where the coefficients are cut.
 pub fn convolutions()
-    ensures made { request_of 13 (3 ∷ 5 ∷ 31 ∷ 0 ∷ 1 ∷ 255 ∷ 254 ∷ 0 ∷ 3 ∷ 0 ∷ 4 ∷ 0 ∷ 5 ∷ 0 ∷ 6 ∷ 0 ∷ 7 ∷ 0 ∷ 8 ∷ 0 ∷ 9 ∷ 0 ∷ 10 ∷ 0 ∷ 11 ∷ 0 ∷ 12 ∷ 0 ∷ 13 ∷ 127 ∷ 255 ∷ 128 ∷ 0 ∷ [])
-        ≡ Ok (CreateConvolution (record { columns = 3; rows = 5; exponent = 31; coefficients = pos 1 ∷ negsuc 1 ∷ pos 3 ∷ pos 4 ∷ pos 5 ∷ pos 6 ∷ pos 7 ∷ pos 8 ∷ pos 9 ∷ pos 10 ∷ pos 11 ∷ pos 12 ∷ pos 13 ∷ pos 32767 ∷ negsuc 32767 ∷ [] })) }
+    ensures made { request_of 13 (3 ∷ 5 ∷ 31 ∷ 0 ∷ 1 ∷ 255 ∷ 254 ∷ 0 ∷ 3 ∷ 0 ∷ 4 ∷ 0 ∷ 5 ∷ 0 ∷ 6 ∷ 0
+        ∷ 7 ∷ 0 ∷ 8 ∷ 0 ∷ 9 ∷ 0 ∷ 10 ∷ 0 ∷ 11 ∷ 0 ∷ 12 ∷ 0 ∷ 13 ∷ 127 ∷ 255 ∷ 128 ∷ 0 ∷ [])
+        ≡ Ok (CreateConvolution (record {
+          columns = 3;
+          rows = 5;
+          exponent = 31;
+          coefficients = pos 1
+              ∷ negsuc 1 ∷ pos 3 ∷ pos 4 ∷ pos 5 ∷ pos 6 ∷ pos 7 ∷ pos 8 ∷ pos 9 ∷ pos 10 ∷ pos 11
+              ∷ pos 12 ∷ pos 13 ∷ pos 32767 ∷ negsuc 32767 ∷ [];
+        })) }
     ensures even_columns { request_of 13 (4 ∷ 5 ∷ 0 ∷ []) ≡ Err InvalidDimension }
     ensures one_column { request_of 13 (1 ∷ []) ≡ Err InvalidDimension }
     ensures too_many_rows { request_of 13 (3 ∷ 11 ∷ 32 ∷ []) ≡ Err InvalidDimension }
     ensures too_high { request_of 13 (9 ∷ 9 ∷ 32 ∷ []) ≡ Err InvalidValue }
-    ensures cut { request_of 13 (3 ∷ 3 ∷ 0 ∷ 0 ∷ 1 ∷ 255 ∷ 254 ∷ 0 ∷ 3 ∷ 0 ∷ 4 ∷ 0 ∷ 5 ∷ 0 ∷ 6 ∷ 0 ∷ 7 ∷ 0 ∷ 8 ∷ 0 ∷ []) ≡ Err InvalidParameters }
-    ensures more { request_of 13 (3 ∷ 3 ∷ 0 ∷ 0 ∷ 1 ∷ 255 ∷ 254 ∷ 0 ∷ 3 ∷ 0 ∷ 4 ∷ 0 ∷ 5 ∷ 0 ∷ 6 ∷ 0 ∷ 7 ∷ 0 ∷ 8 ∷ 0 ∷ 9 ∷ 0 ∷ []) ≡ Err InvalidParameters }
+    ensures cut { request_of 13 (3 ∷ 3 ∷ 0 ∷ 0 ∷ 1 ∷ 255 ∷ 254 ∷ 0 ∷ 3 ∷ 0 ∷ 4 ∷ 0 ∷ 5 ∷ 0 ∷ 6 ∷ 0
+        ∷ 7 ∷ 0 ∷ 8 ∷ 0 ∷ []) ≡ Err InvalidParameters }
+    ensures more { request_of 13 (3 ∷ 3 ∷ 0 ∷ 0 ∷ 1 ∷ 255 ∷ 254 ∷ 0 ∷ 3 ∷ 0 ∷ 4 ∷ 0 ∷ 5 ∷ 0 ∷ 6 ∷ 0
+        ∷ 7 ∷ 0 ∷ 8 ∷ 0 ∷ 9 ∷ 0 ∷ []) ≡ Err InvalidParameters }
     ensures no_coefficients { request_of 13 (7 ∷ 7 ∷ 0 ∷ []) ≡ Err InvalidParameters }
     ensures no_exponent { request_of 13 (5 ∷ 9 ∷ []) ≡ Err InvalidParameters }
     ensures empty { request_of 13 [] ≡ Err InvalidParameters }
@@ -142,9 +225,12 @@ pub fn convolutions()
 /// Distributions of 3 bins from 0 to 255, and of 256 that end above 255; and numbers that no bins
 /// have. The first of them that is wrong decides, also where the next is cut.
 pub fn distributions_made()
-    ensures made { request_of 14 (0 ∷ 3 ∷ 0 ∷ 0 ∷ 1 ∷ 0 ∷ []) ≡ Ok (CreateDistribution (record { bins = 3; offset = 0; range = 256 })) }
-    ensures past_the_end { request_of 14 (1 ∷ 0 ∷ 0 ∷ 255 ∷ 1 ∷ 0 ∷ []) ≡ Ok (CreateDistribution (record { bins = 256; offset = 255; range = 256 })) }
-    ensures more_than_samples { request_of 14 (0 ∷ 2 ∷ 0 ∷ 7 ∷ 0 ∷ 1 ∷ []) ≡ Ok (CreateDistribution (record { bins = 2; offset = 7; range = 1 })) }
+    ensures made { request_of 14 (0 ∷ 3 ∷ 0 ∷ 0 ∷ 1 ∷ 0 ∷ [])
+        ≡ Ok (CreateDistribution (record { bins = 3; offset = 0; range = 256 })) }
+    ensures past_the_end { request_of 14 (1 ∷ 0 ∷ 0 ∷ 255 ∷ 1 ∷ 0 ∷ [])
+        ≡ Ok (CreateDistribution (record { bins = 256; offset = 255; range = 256 })) }
+    ensures more_than_samples { request_of 14 (0 ∷ 2 ∷ 0 ∷ 7 ∷ 0 ∷ 1 ∷ [])
+        ≡ Ok (CreateDistribution (record { bins = 2; offset = 7; range = 1 })) }
     ensures no_bins { request_of 14 (0 ∷ 0 ∷ 0 ∷ 0 ∷ 1 ∷ 0 ∷ []) ≡ Err InvalidValue }
     ensures too_many { request_of 14 (1 ∷ 1 ∷ 0 ∷ 0 ∷ 1 ∷ 0 ∷ []) ≡ Err InvalidValue }
     ensures too_late { request_of 14 (0 ∷ 3 ∷ 1 ∷ 0 ∷ 1 ∷ 0 ∷ []) ≡ Err InvalidValue }
@@ -175,8 +261,16 @@ pub fn extremes_made_and_read()
 /// What is told of a distribution of 3 bins, and of extremes -2 and 258, of which there are 1 and
 /// 65,536, the first in column 3 and row 4, and in column 5 and row 515.
 pub fn statistics_told()
-    ensures counts { counts_bytes (1 ∷ 0 ∷ 16777216 ∷ []) ≡ 0 ∷ 3 ∷ 0 ∷ 0 ∷ 0 ∷ 1 ∷ 0 ∷ 0 ∷ 0 ∷ 0 ∷ 1 ∷ 0 ∷ 0 ∷ 0 ∷ [] }
-    ensures extremes { extremes_bytes (record { min = negsuc 1; max = pos 258; min_count = 1; max_count = 65536; min_at = (3, 4); max_at = (5, 515) })
+    ensures counts { counts_bytes (1 ∷ 0 ∷ 16777216 ∷ [])
+        ≡ 0 ∷ 3 ∷ 0 ∷ 0 ∷ 0 ∷ 1 ∷ 0 ∷ 0 ∷ 0 ∷ 0 ∷ 1 ∷ 0 ∷ 0 ∷ 0 ∷ [] }
+    ensures extremes { extremes_bytes (record {
+      min = negsuc 1;
+      max = pos 258;
+      min_count = 1;
+      max_count = 65536;
+      min_at = (3, 4);
+      max_at = (5, 515);
+    })
         ≡ 255 ∷ 254 ∷ 1 ∷ 2 ∷ 0 ∷ 0 ∷ 0 ∷ 1 ∷ 0 ∷ 1 ∷ 0 ∷ 0 ∷ 0 ∷ 3 ∷ 0 ∷ 4 ∷ 0 ∷ 5 ∷ 2 ∷ 3 ∷ [] }
 {}
 
@@ -189,19 +283,33 @@ pub fn graphs_made()
 /// Virtual images of graph 3 of which all is known, nothing or a part, and of what none is. The
 /// first field that is wrong decides, also where the next is cut.
 pub fn virtual_images_made()
-    ensures known { request_of 19 (0 ∷ 0 ∷ 0 ∷ 3 ∷ 1 ∷ 1 ∷ 2 ∷ 16 ∷ 0 ∷ []) ≡ Ok (CreateVirtualImage 3 (record { width = Some 258; height = Some 4096; format = Some U8 })) }
-    ensures open { request_of 19 (0 ∷ 0 ∷ 0 ∷ 3 ∷ 0 ∷ 0 ∷ 0 ∷ 0 ∷ 0 ∷ []) ≡ Ok (CreateVirtualImage 3 (record { width = None; height = None; format = None })) }
-    ensures open_width { request_of 19 (0 ∷ 0 ∷ 0 ∷ 3 ∷ 2 ∷ 0 ∷ 0 ∷ 0 ∷ 1 ∷ []) ≡ Ok (CreateVirtualImage 3 (record { width = None; height = Some 1; format = Some S16 })) }
-    ensures open_height { request_of 19 (0 ∷ 0 ∷ 0 ∷ 3 ∷ 3 ∷ 0 ∷ 1 ∷ 0 ∷ 0 ∷ []) ≡ Ok (CreateVirtualImage 3 (record { width = Some 1; height = None; format = Some U32 })) }
-    ensures open_format { request_of 19 (0 ∷ 0 ∷ 0 ∷ 3 ∷ 0 ∷ 0 ∷ 1 ∷ 0 ∷ 2 ∷ []) ≡ Ok (CreateVirtualImage 3 (record { width = Some 1; height = Some 2; format = None })) }
+    ensures known { request_of 19 (0 ∷ 0 ∷ 0 ∷ 3 ∷ 1 ∷ 1 ∷ 2 ∷ 16 ∷ 0 ∷ [])
+        ≡ Ok (CreateVirtualImage 3 (record {
+          width = Some 258;
+          height = Some 4096;
+          format = Some U8;
+        })) }
+    ensures open { request_of 19 (0 ∷ 0 ∷ 0 ∷ 3 ∷ 0 ∷ 0 ∷ 0 ∷ 0 ∷ 0 ∷ [])
+        ≡ Ok (CreateVirtualImage 3 (record { width = None; height = None; format = None })) }
+    ensures open_width { request_of 19 (0 ∷ 0 ∷ 0 ∷ 3 ∷ 2 ∷ 0 ∷ 0 ∷ 0 ∷ 1 ∷ [])
+        ≡ Ok (CreateVirtualImage 3 (record { width = None; height = Some 1; format = Some S16 })) }
+    ensures open_height { request_of 19 (0 ∷ 0 ∷ 0 ∷ 3 ∷ 3 ∷ 0 ∷ 1 ∷ 0 ∷ 0 ∷ [])
+        ≡ Ok (CreateVirtualImage 3 (record { width = Some 1; height = None; format = Some U32 })) }
+    ensures open_format { request_of 19 (0 ∷ 0 ∷ 0 ∷ 3 ∷ 0 ∷ 0 ∷ 1 ∷ 0 ∷ 2 ∷ [])
+        ≡ Ok (CreateVirtualImage 3 (record { width = Some 1; height = Some 2; format = None })) }
     ensures no_format { request_of 19 (0 ∷ 0 ∷ 0 ∷ 3 ∷ 4 ∷ 0 ∷ 1 ∷ 0 ∷ 1 ∷ []) ≡ Err InvalidFormat }
-    ensures too_wide { request_of 19 (0 ∷ 0 ∷ 0 ∷ 3 ∷ 1 ∷ 16 ∷ 1 ∷ 0 ∷ 1 ∷ []) ≡ Err InvalidDimension }
-    ensures too_high { request_of 19 (0 ∷ 0 ∷ 0 ∷ 3 ∷ 0 ∷ 0 ∷ 0 ∷ 16 ∷ 1 ∷ []) ≡ Err InvalidDimension }
+    ensures too_wide { request_of 19 (0 ∷ 0 ∷ 0 ∷ 3 ∷ 1 ∷ 16 ∷ 1 ∷ 0 ∷ 1 ∷ [])
+        ≡ Err InvalidDimension }
+    ensures too_high { request_of 19 (0 ∷ 0 ∷ 0 ∷ 3 ∷ 0 ∷ 0 ∷ 0 ∷ 16 ∷ 1 ∷ [])
+        ≡ Err InvalidDimension }
     ensures no_format_and_cut { request_of 19 (0 ∷ 0 ∷ 0 ∷ 3 ∷ 4 ∷ []) ≡ Err InvalidFormat }
-    ensures too_wide_and_cut { request_of 19 (0 ∷ 0 ∷ 0 ∷ 3 ∷ 1 ∷ 16 ∷ 1 ∷ 0 ∷ []) ≡ Err InvalidDimension }
-    ensures too_high_and_more { request_of 19 (0 ∷ 0 ∷ 0 ∷ 3 ∷ 1 ∷ 0 ∷ 1 ∷ 16 ∷ 1 ∷ 0 ∷ []) ≡ Err InvalidDimension }
+    ensures too_wide_and_cut { request_of 19 (0 ∷ 0 ∷ 0 ∷ 3 ∷ 1 ∷ 16 ∷ 1 ∷ 0 ∷ [])
+        ≡ Err InvalidDimension }
+    ensures too_high_and_more { request_of 19 (0 ∷ 0 ∷ 0 ∷ 3 ∷ 1 ∷ 0 ∷ 1 ∷ 16 ∷ 1 ∷ 0 ∷ [])
+        ≡ Err InvalidDimension }
     ensures cut { request_of 19 (0 ∷ 0 ∷ 0 ∷ 3 ∷ 0 ∷ 0 ∷ 0 ∷ 0 ∷ []) ≡ Err InvalidParameters }
-    ensures more { request_of 19 (0 ∷ 0 ∷ 0 ∷ 3 ∷ 0 ∷ 0 ∷ 0 ∷ 0 ∷ 0 ∷ 0 ∷ []) ≡ Err InvalidParameters }
+    ensures more { request_of 19 (0 ∷ 0 ∷ 0 ∷ 3 ∷ 0 ∷ 0 ∷ 0 ∷ 0 ∷ 0 ∷ 0 ∷ [])
+        ≡ Err InvalidParameters }
     ensures no_outline { request_of 19 (0 ∷ 0 ∷ 0 ∷ 3 ∷ []) ≡ Err InvalidParameters }
     ensures no_name { request_of 19 (0 ∷ 0 ∷ 0 ∷ []) ≡ Err InvalidParameters }
 {}
@@ -209,13 +317,30 @@ pub fn virtual_images_made()
 /// Not of image 1 to image 2 that is added to graph 258, and nodes that are none. The name is taken
 /// before the node.
 pub fn nodes_added()
-    ensures added { request_of 20 (0 ∷ 0 ∷ 1 ∷ 2 ∷ 4 ∷ 0 ∷ 0 ∷ 0 ∷ 0 ∷ 0 ∷ 0 ∷ 0 ∷ 1 ∷ 255 ∷ 0 ∷ 0 ∷ 0 ∷ 0 ∷ 255 ∷ 0 ∷ 0 ∷ 0 ∷ 2 ∷ 255 ∷ 0 ∷ 0 ∷ 0 ∷ 0 ∷ 255 ∷ [])
-        ≡ Ok (AddNode 258 (record { function = NotBits; border = Undefined; policy = Wrap; amount = 0; in1 = record { name = 1; slot = None }; in2 = None; out1 = Some (record { name = 2; slot = None }); out2 = None })) }
+    ensures added { request_of 20 (0 ∷ 0 ∷ 1 ∷ 2 ∷ 4 ∷ 0 ∷ 0 ∷ 0 ∷ 0 ∷ 0 ∷ 0 ∷ 0 ∷ 1 ∷ 255 ∷ 0 ∷ 0
+        ∷ 0 ∷ 0 ∷ 255 ∷ 0 ∷ 0 ∷ 0 ∷ 2 ∷ 255 ∷ 0 ∷ 0 ∷ 0 ∷ 0 ∷ 255 ∷ [])
+        ≡ Ok (AddNode 258 (record {
+          function = NotBits;
+          border = Undefined;
+          policy = Wrap;
+          amount =
+              0;
+          in1 = record { name = 1; slot = None };
+          in2 = None;
+          out1 = Some
+              (record { name = 2; slot = None });
+          out2 = None;
+        })) }
     ensures no_function { request_of 20 (0 ∷ 0 ∷ 1 ∷ 2 ∷ 0 ∷ []) ≡ Err InvalidParameters }
-    ensures too_much { request_of 20 (0 ∷ 0 ∷ 1 ∷ 2 ∷ 7 ∷ 0 ∷ 0 ∷ 1 ∷ 16 ∷ 0 ∷ 0 ∷ 0 ∷ 1 ∷ 255 ∷ 0 ∷ 0 ∷ 0 ∷ 2 ∷ 255 ∷ 0 ∷ 0 ∷ 0 ∷ 4 ∷ 255 ∷ 0 ∷ 0 ∷ 0 ∷ 0 ∷ 255 ∷ []) ≡ Err InvalidValue }
-    ensures too_much_and_cut { request_of 20 (0 ∷ 0 ∷ 1 ∷ 2 ∷ 7 ∷ 0 ∷ 0 ∷ 1 ∷ 16 ∷ []) ≡ Err InvalidValue }
-    ensures cut { request_of 20 (0 ∷ 0 ∷ 1 ∷ 2 ∷ 4 ∷ 0 ∷ 0 ∷ 0 ∷ 0 ∷ 0 ∷ 0 ∷ 0 ∷ 1 ∷ 255 ∷ 0 ∷ 0 ∷ 0 ∷ 0 ∷ 255 ∷ 0 ∷ 0 ∷ 0 ∷ 2 ∷ 255 ∷ 0 ∷ 0 ∷ 0 ∷ 0 ∷ []) ≡ Err InvalidParameters }
-    ensures more { request_of 20 (0 ∷ 0 ∷ 1 ∷ 2 ∷ 4 ∷ 0 ∷ 0 ∷ 0 ∷ 0 ∷ 0 ∷ 0 ∷ 0 ∷ 1 ∷ 255 ∷ 0 ∷ 0 ∷ 0 ∷ 0 ∷ 255 ∷ 0 ∷ 0 ∷ 0 ∷ 2 ∷ 255 ∷ 0 ∷ 0 ∷ 0 ∷ 0 ∷ 255 ∷ 0 ∷ []) ≡ Err InvalidParameters }
+    ensures too_much { request_of 20 (0 ∷ 0 ∷ 1 ∷ 2 ∷ 7 ∷ 0 ∷ 0 ∷ 1 ∷ 16 ∷ 0 ∷ 0 ∷ 0 ∷ 1 ∷ 255 ∷ 0
+        ∷ 0 ∷ 0 ∷ 2 ∷ 255 ∷ 0 ∷ 0 ∷ 0 ∷ 4 ∷ 255 ∷ 0 ∷ 0 ∷ 0 ∷ 0 ∷ 255 ∷ []) ≡ Err InvalidValue }
+    ensures too_much_and_cut { request_of 20 (0 ∷ 0 ∷ 1 ∷ 2 ∷ 7 ∷ 0 ∷ 0 ∷ 1 ∷ 16 ∷ [])
+        ≡ Err InvalidValue }
+    ensures cut { request_of 20 (0 ∷ 0 ∷ 1 ∷ 2 ∷ 4 ∷ 0 ∷ 0 ∷ 0 ∷ 0 ∷ 0 ∷ 0 ∷ 0 ∷ 1 ∷ 255 ∷ 0 ∷ 0 ∷ 0
+        ∷ 0 ∷ 255 ∷ 0 ∷ 0 ∷ 0 ∷ 2 ∷ 255 ∷ 0 ∷ 0 ∷ 0 ∷ 0 ∷ []) ≡ Err InvalidParameters }
+    ensures more { request_of 20 (0 ∷ 0 ∷ 1 ∷ 2 ∷ 4 ∷ 0 ∷ 0 ∷ 0 ∷ 0 ∷ 0 ∷ 0 ∷ 0 ∷ 1 ∷ 255 ∷ 0 ∷ 0
+        ∷ 0 ∷ 0 ∷ 255 ∷ 0 ∷ 0 ∷ 0 ∷ 2 ∷ 255 ∷ 0 ∷ 0 ∷ 0 ∷ 0 ∷ 255 ∷ 0 ∷ [])
+        ≡ Err InvalidParameters }
     ensures no_node { request_of 20 (0 ∷ 0 ∷ 1 ∷ 2 ∷ []) ≡ Err InvalidParameters }
     ensures no_name { request_of 20 (4 ∷ 0 ∷ 0 ∷ []) ≡ Err InvalidParameters }
 {}
@@ -224,14 +349,16 @@ pub fn nodes_added()
 pub fn nodes_removed()
     ensures removed { request_of 21 (0 ∷ 0 ∷ 0 ∷ 3 ∷ 0 ∷ 0 ∷ 1 ∷ 2 ∷ []) ≡ Ok (RemoveNode 3 258) }
     ensures cut { request_of 21 (0 ∷ 0 ∷ 0 ∷ 3 ∷ 0 ∷ 0 ∷ 1 ∷ []) ≡ Err InvalidParameters }
-    ensures more { request_of 21 (0 ∷ 0 ∷ 0 ∷ 3 ∷ 0 ∷ 0 ∷ 1 ∷ 2 ∷ 255 ∷ []) ≡ Err InvalidParameters }
+    ensures more { request_of 21 (0 ∷ 0 ∷ 0 ∷ 3 ∷ 0 ∷ 0 ∷ 1 ∷ 2 ∷ 255 ∷ [])
+        ≡ Err InvalidParameters }
 {}
 
 /// Graph 258 that is verified and run, and a name that is cut short or has a slot.
 pub fn graphs_verified_and_run()
     ensures verified { request_of 22 (0 ∷ 0 ∷ 1 ∷ 2 ∷ []) ≡ Ok (VerifyGraph 258) }
     ensures verified_cut { request_of 22 (0 ∷ 0 ∷ 1 ∷ []) ≡ Err InvalidParameters }
-    ensures verified_with_a_slot { request_of 22 (0 ∷ 0 ∷ 1 ∷ 2 ∷ 255 ∷ []) ≡ Err InvalidParameters }
+    ensures verified_with_a_slot { request_of 22 (0 ∷ 0 ∷ 1 ∷ 2 ∷ 255 ∷ [])
+        ≡ Err InvalidParameters }
     ensures run { request_of 23 (0 ∷ 0 ∷ 1 ∷ 2 ∷ []) ≡ Ok (ProcessGraph 258) }
     ensures run_cut { request_of 23 (0 ∷ 0 ∷ 1 ∷ []) ≡ Err InvalidParameters }
     ensures run_with_a_slot { request_of 23 (0 ∷ 0 ∷ 1 ∷ 2 ∷ 255 ∷ []) ≡ Err InvalidParameters }
@@ -239,34 +366,83 @@ pub fn graphs_verified_and_run()
 
 /// Not of image 1 to image 2, and nodes of Not with what it lacks or without what it has.
 pub fn nodes()
-    ensures whole { request_of 24 (4 ∷ 0 ∷ 0 ∷ 0 ∷ 0 ∷ 0 ∷ 0 ∷ 0 ∷ 1 ∷ 255 ∷ 0 ∷ 0 ∷ 0 ∷ 0 ∷ 255 ∷ 0 ∷ 0 ∷ 0 ∷ 2 ∷ 255 ∷ 0 ∷ 0 ∷ 0 ∷ 0 ∷ 255 ∷ [])
-        ≡ Ok (Immediate (record { function = NotBits; border = Undefined; policy = Wrap; amount = 0; in1 = record { name = 1; slot = None }; in2 = None; out1 = Some (record { name = 2; slot = None }); out2 = None })) }
-    ensures constant { request_of 24 (4 ∷ 1 ∷ 5 ∷ 0 ∷ 0 ∷ 0 ∷ 0 ∷ 0 ∷ 1 ∷ 255 ∷ 0 ∷ 0 ∷ 0 ∷ 0 ∷ 255 ∷ 0 ∷ 0 ∷ 0 ∷ 2 ∷ 255 ∷ 0 ∷ 0 ∷ 0 ∷ 0 ∷ 255 ∷ [])
-        ≡ Ok (Immediate (record { function = NotBits; border = Constant 5; policy = Wrap; amount = 0; in1 = record { name = 1; slot = None }; in2 = None; out1 = Some (record { name = 2; slot = None }); out2 = None })) }
+    ensures whole { request_of 24 (4 ∷ 0 ∷ 0 ∷ 0 ∷ 0 ∷ 0 ∷ 0 ∷ 0 ∷ 1 ∷ 255 ∷ 0 ∷ 0 ∷ 0 ∷ 0 ∷ 255 ∷ 0
+        ∷ 0 ∷ 0 ∷ 2 ∷ 255 ∷ 0 ∷ 0 ∷ 0 ∷ 0 ∷ 255 ∷ [])
+        ≡ Ok (Immediate (record {
+          function = NotBits;
+          border = Undefined;
+          policy = Wrap;
+          amount = 0;
+          in1 = record { name = 1; slot = None };
+          in2 = None;
+          out1 = Some
+              (record { name = 2; slot = None });
+          out2 = None;
+        })) }
+    ensures constant { request_of 24 (4 ∷ 1 ∷ 5 ∷ 0 ∷ 0 ∷ 0 ∷ 0 ∷ 0 ∷ 1 ∷ 255 ∷ 0 ∷ 0 ∷ 0 ∷ 0 ∷ 255
+        ∷ 0 ∷ 0 ∷ 0 ∷ 2 ∷ 255 ∷ 0 ∷ 0 ∷ 0 ∷ 0 ∷ 255 ∷ [])
+        ≡ Ok (Immediate (record {
+          function = NotBits;
+          border = Constant 5;
+          policy = Wrap;
+          amount =
+              0;
+          in1 = record { name = 1; slot = None };
+          in2 = None;
+          out1 = Some
+              (record { name = 2; slot = None });
+          out2 = None;
+        })) }
     ensures cut { request_of 24 (4 ∷ []) ≡ Err InvalidParameters }
-    ensures other_policy { request_of 24 (4 ∷ 0 ∷ 0 ∷ 1 ∷ 0 ∷ 0 ∷ 0 ∷ 0 ∷ 1 ∷ 255 ∷ 0 ∷ 0 ∷ 0 ∷ 0 ∷ 255 ∷ 0 ∷ 0 ∷ 0 ∷ 2 ∷ 255 ∷ 0 ∷ 0 ∷ 0 ∷ 0 ∷ 255 ∷ []) ≡ Err InvalidParameters }
-    ensures other_constant { request_of 24 (4 ∷ 0 ∷ 5 ∷ 0 ∷ 0 ∷ 0 ∷ 0 ∷ 0 ∷ 1 ∷ 255 ∷ 0 ∷ 0 ∷ 0 ∷ 0 ∷ 255 ∷ 0 ∷ 0 ∷ 0 ∷ 2 ∷ 255 ∷ 0 ∷ 0 ∷ 0 ∷ 0 ∷ 255 ∷ []) ≡ Err InvalidParameters }
-    ensures no_input { request_of 24 (4 ∷ 0 ∷ 0 ∷ 0 ∷ 0 ∷ 0 ∷ 0 ∷ 0 ∷ 0 ∷ 255 ∷ 0 ∷ 0 ∷ 0 ∷ 0 ∷ 255 ∷ 0 ∷ 0 ∷ 0 ∷ 2 ∷ 255 ∷ 0 ∷ 0 ∷ 0 ∷ 0 ∷ 255 ∷ []) ≡ Err InvalidParameters }
-    ensures second_input { request_of 24 (4 ∷ 0 ∷ 0 ∷ 0 ∷ 0 ∷ 0 ∷ 0 ∷ 0 ∷ 1 ∷ 255 ∷ 0 ∷ 0 ∷ 0 ∷ 3 ∷ 255 ∷ 0 ∷ 0 ∷ 0 ∷ 2 ∷ 255 ∷ 0 ∷ 0 ∷ 0 ∷ 0 ∷ 255 ∷ []) ≡ Err InvalidParameters }
+    ensures other_policy { request_of 24
+        (4 ∷ 0 ∷ 0 ∷ 1 ∷ 0 ∷ 0 ∷ 0 ∷ 0 ∷ 1 ∷ 255 ∷ 0 ∷ 0 ∷ 0 ∷ 0 ∷ 255 ∷ 0 ∷ 0 ∷ 0 ∷ 2 ∷ 255 ∷ 0 ∷ 0
+        ∷ 0 ∷ 0 ∷ 255 ∷ []) ≡ Err InvalidParameters }
+    ensures other_constant { request_of 24
+        (4 ∷ 0 ∷ 5 ∷ 0 ∷ 0 ∷ 0 ∷ 0 ∷ 0 ∷ 1 ∷ 255 ∷ 0 ∷ 0 ∷ 0 ∷ 0 ∷ 255 ∷ 0 ∷ 0 ∷ 0 ∷ 2 ∷ 255 ∷ 0 ∷ 0
+        ∷ 0 ∷ 0 ∷ 255 ∷ []) ≡ Err InvalidParameters }
+    ensures no_input { request_of 24 (4 ∷ 0 ∷ 0 ∷ 0 ∷ 0 ∷ 0 ∷ 0 ∷ 0 ∷ 0 ∷ 255 ∷ 0 ∷ 0 ∷ 0 ∷ 0 ∷ 255
+        ∷ 0 ∷ 0 ∷ 0 ∷ 2 ∷ 255 ∷ 0 ∷ 0 ∷ 0 ∷ 0 ∷ 255 ∷ []) ≡ Err InvalidParameters }
+    ensures second_input { request_of 24
+        (4 ∷ 0 ∷ 0 ∷ 0 ∷ 0 ∷ 0 ∷ 0 ∷ 0 ∷ 1 ∷ 255 ∷ 0 ∷ 0 ∷ 0 ∷ 3 ∷ 255 ∷ 0 ∷ 0 ∷ 0 ∷ 2 ∷ 255 ∷ 0 ∷ 0
+        ∷ 0 ∷ 0 ∷ 255 ∷ []) ≡ Err InvalidParameters }
 {}
 
 /// Multiply of images 1 and 2 to image 3 by 1 / 2^15, saturating, and amounts beyond 15.
 pub fn multiplied()
-    ensures whole { request_of 24 (7 ∷ 0 ∷ 0 ∷ 1 ∷ 15 ∷ 0 ∷ 0 ∷ 0 ∷ 1 ∷ 255 ∷ 0 ∷ 0 ∷ 0 ∷ 2 ∷ 255 ∷ 0 ∷ 0 ∷ 0 ∷ 3 ∷ 255 ∷ 0 ∷ 0 ∷ 0 ∷ 0 ∷ 255 ∷ [])
-        ≡ Ok (Immediate (record { function = Multiply; border = Undefined; policy = Saturate; amount = 15; in1 = record { name = 1; slot = None }; in2 = Some (record { name = 2; slot = None }); out1 = Some (record { name = 3; slot = None }); out2 = None })) }
-    ensures too_much { request_of 24 (7 ∷ 0 ∷ 0 ∷ 1 ∷ 16 ∷ 0 ∷ 0 ∷ 0 ∷ 1 ∷ 255 ∷ 0 ∷ 0 ∷ 0 ∷ 2 ∷ 255 ∷ 0 ∷ 0 ∷ 0 ∷ 3 ∷ 255 ∷ 0 ∷ 0 ∷ 0 ∷ 0 ∷ 255 ∷ []) ≡ Err InvalidValue }
+    ensures whole { request_of 24 (7 ∷ 0 ∷ 0 ∷ 1 ∷ 15 ∷ 0 ∷ 0 ∷ 0 ∷ 1 ∷ 255 ∷ 0 ∷ 0 ∷ 0 ∷ 2 ∷ 255
+        ∷ 0 ∷ 0 ∷ 0 ∷ 3 ∷ 255 ∷ 0 ∷ 0 ∷ 0 ∷ 0 ∷ 255 ∷ [])
+        ≡ Ok (Immediate (record {
+          function = Multiply;
+          border = Undefined;
+          policy = Saturate;
+          amount
+              = 15;
+          in1 = record { name = 1; slot = None };
+          in2 = Some
+              (record { name = 2; slot = None });
+          out1 = Some
+              (record { name = 3; slot = None });
+          out2 = None;
+        })) }
+    ensures too_much { request_of 24 (7 ∷ 0 ∷ 0 ∷ 1 ∷ 16 ∷ 0 ∷ 0 ∷ 0 ∷ 1 ∷ 255 ∷ 0 ∷ 0 ∷ 0 ∷ 2 ∷ 255
+        ∷ 0 ∷ 0 ∷ 0 ∷ 3 ∷ 255 ∷ 0 ∷ 0 ∷ 0 ∷ 0 ∷ 255 ∷ []) ≡ Err InvalidValue }
     ensures too_much_and_cut { request_of 24 (7 ∷ 0 ∷ 0 ∷ 0 ∷ 16 ∷ []) ≡ Err InvalidValue }
 {}
 
 /// A delay of 3 images like image 1, of 1 and of 16, and of what no delay has.
 pub fn delays_made()
-    ensures made { request_of 25 (0 ∷ 0 ∷ 0 ∷ 1 ∷ 255 ∷ 3 ∷ []) ≡ Ok (CreateDelay (record { name = 1; slot = None }) 3) }
-    ensures fewest { request_of 25 (0 ∷ 0 ∷ 0 ∷ 1 ∷ 255 ∷ 1 ∷ []) ≡ Ok (CreateDelay (record { name = 1; slot = None }) 1) }
-    ensures most { request_of 25 (0 ∷ 0 ∷ 0 ∷ 1 ∷ 255 ∷ 16 ∷ []) ≡ Ok (CreateDelay (record { name = 1; slot = None }) 16) }
-    ensures of_a_slot { request_of 25 (0 ∷ 0 ∷ 1 ∷ 2 ∷ 5 ∷ 3 ∷ []) ≡ Ok (CreateDelay (record { name = 258; slot = Some 5 }) 3) }
+    ensures made { request_of 25 (0 ∷ 0 ∷ 0 ∷ 1 ∷ 255 ∷ 3 ∷ [])
+        ≡ Ok (CreateDelay (record { name = 1; slot = None }) 3) }
+    ensures fewest { request_of 25 (0 ∷ 0 ∷ 0 ∷ 1 ∷ 255 ∷ 1 ∷ [])
+        ≡ Ok (CreateDelay (record { name = 1; slot = None }) 1) }
+    ensures most { request_of 25 (0 ∷ 0 ∷ 0 ∷ 1 ∷ 255 ∷ 16 ∷ [])
+        ≡ Ok (CreateDelay (record { name = 1; slot = None }) 16) }
+    ensures of_a_slot { request_of 25 (0 ∷ 0 ∷ 1 ∷ 2 ∷ 5 ∷ 3 ∷ [])
+        ≡ Ok (CreateDelay (record { name = 258; slot = Some 5 }) 3) }
     ensures no_slots { request_of 25 (0 ∷ 0 ∷ 0 ∷ 1 ∷ 255 ∷ 0 ∷ []) ≡ Err InvalidValue }
     ensures too_many { request_of 25 (0 ∷ 0 ∷ 0 ∷ 1 ∷ 255 ∷ 17 ∷ []) ≡ Err InvalidValue }
-    ensures too_many_and_more { request_of 25 (0 ∷ 0 ∷ 0 ∷ 1 ∷ 255 ∷ 17 ∷ 0 ∷ []) ≡ Err InvalidValue }
+    ensures too_many_and_more { request_of 25 (0 ∷ 0 ∷ 0 ∷ 1 ∷ 255 ∷ 17 ∷ 0 ∷ [])
+        ≡ Err InvalidValue }
     ensures cut { request_of 25 (0 ∷ 0 ∷ 0 ∷ 1 ∷ 255 ∷ []) ≡ Err InvalidParameters }
     ensures more { request_of 25 (0 ∷ 0 ∷ 0 ∷ 1 ∷ 255 ∷ 3 ∷ 0 ∷ []) ≡ Err InvalidParameters }
 {}
@@ -278,22 +454,64 @@ pub fn delays_aged()
     ensures with_a_slot { request_of 26 (0 ∷ 0 ∷ 0 ∷ 2 ∷ 255 ∷ []) ≡ Err InvalidParameters }
 {}
 
-/// The spellings of a picture, of a text, of a rectangle, of a threshold, of a convolution, of bins,
-/// of two outlines, of a node of a graph and of a delay.
+/// The spellings of a picture, of a text, of a rectangle, of a threshold, of a convolution, of
+/// bins, of two outlines, of a node of a graph and of a delay.
 pub fn spelled()
-    ensures picture { body_of (WriteImage (record { name = 7; slot = None }) (record { description = record { width = 2; height = 1; format = S16 }; samples = negsuc 1 ∷ pos 1 ∷ [] }))
+    ensures picture { body_of (WriteImage (record { name = 7; slot = None })
+        (record {
+          description = record { width = 2; height = 1; format = S16 };
+          samples = negsuc 1
+              ∷ pos 1 ∷ [];
+        }))
         ≡ 0 ∷ 0 ∷ 0 ∷ 7 ∷ 255 ∷ 2 ∷ 0 ∷ 2 ∷ 0 ∷ 1 ∷ 255 ∷ 254 ∷ 0 ∷ 1 ∷ [] }
-    ensures text { body_of (WriteImagePgm (record { name = 7; slot = None }) (80 ∷ 53 ∷ 10 ∷ [])) ≡ 0 ∷ 0 ∷ 0 ∷ 7 ∷ 255 ∷ 80 ∷ 53 ∷ 10 ∷ [] }
-    ensures rectangle { body_of (SetValid (record { name = 1; slot = None }) (record { x0 = 1; y0 = 0; x1 = 3; y1 = 1 }))
+    ensures text { body_of (WriteImagePgm (record { name = 7; slot = None }) (80 ∷ 53 ∷ 10 ∷ []))
+        ≡ 0 ∷ 0 ∷ 0 ∷ 7 ∷ 255 ∷ 80 ∷ 53 ∷ 10 ∷ [] }
+    ensures rectangle { body_of (SetValid (record { name = 1; slot = None })
+        (record { x0 = 1; y0 = 0; x1 = 3; y1 = 1 }))
         ≡ 0 ∷ 0 ∷ 0 ∷ 1 ∷ 255 ∷ 0 ∷ 1 ∷ 0 ∷ 0 ∷ 0 ∷ 3 ∷ 0 ∷ 1 ∷ [] }
-    ensures threshold { body_of (CreateThreshold (record { format = S16; kind = Range (negsuc 0) (pos 2); true_value = 255; false_value = 0 }))
+    ensures threshold { body_of (CreateThreshold
+        (record {
+          format = S16;
+          kind = Range (negsuc 0)
+              (pos 2);
+          true_value = 255;
+          false_value = 0;
+        }))
         ≡ 1 ∷ 2 ∷ 255 ∷ 255 ∷ 0 ∷ 2 ∷ 255 ∷ 0 ∷ [] }
-    ensures convolution { body_of (CreateConvolution (record { columns = 3; rows = 5; exponent = 31; coefficients = pos 1 ∷ negsuc 1 ∷ pos 3 ∷ pos 4 ∷ pos 5 ∷ pos 6 ∷ pos 7 ∷ pos 8 ∷ pos 9 ∷ pos 10 ∷ pos 11 ∷ pos 12 ∷ pos 13 ∷ pos 32767 ∷ negsuc 32767 ∷ [] }))
-        ≡ 3 ∷ 5 ∷ 31 ∷ 0 ∷ 1 ∷ 255 ∷ 254 ∷ 0 ∷ 3 ∷ 0 ∷ 4 ∷ 0 ∷ 5 ∷ 0 ∷ 6 ∷ 0 ∷ 7 ∷ 0 ∷ 8 ∷ 0 ∷ 9 ∷ 0 ∷ 10 ∷ 0 ∷ 11 ∷ 0 ∷ 12 ∷ 0 ∷ 13 ∷ 127 ∷ 255 ∷ 128 ∷ 0 ∷ [] }
-    ensures bins { body_of (CreateDistribution (record { bins = 3; offset = 0; range = 256 })) ≡ 0 ∷ 3 ∷ 0 ∷ 0 ∷ 1 ∷ 0 ∷ [] }
-    ensures outline { body_of (CreateVirtualImage 3 (record { width = Some 258; height = Some 4096; format = Some U8 })) ≡ 0 ∷ 0 ∷ 0 ∷ 3 ∷ 1 ∷ 1 ∷ 2 ∷ 16 ∷ 0 ∷ [] }
-    ensures open_outline { body_of (CreateVirtualImage 3 (record { width = None; height = Some 1; format = None })) ≡ 0 ∷ 0 ∷ 0 ∷ 3 ∷ 0 ∷ 0 ∷ 0 ∷ 0 ∷ 1 ∷ [] }
-    ensures node_of_a_graph { body_of (AddNode 258 (record { function = NotBits; border = Undefined; policy = Wrap; amount = 0; in1 = record { name = 1; slot = None }; in2 = None; out1 = Some (record { name = 2; slot = None }); out2 = None }))
-        ≡ 0 ∷ 0 ∷ 1 ∷ 2 ∷ 4 ∷ 0 ∷ 0 ∷ 0 ∷ 0 ∷ 0 ∷ 0 ∷ 0 ∷ 1 ∷ 255 ∷ 0 ∷ 0 ∷ 0 ∷ 0 ∷ 255 ∷ 0 ∷ 0 ∷ 0 ∷ 2 ∷ 255 ∷ 0 ∷ 0 ∷ 0 ∷ 0 ∷ 255 ∷ [] }
-    ensures delay { body_of (CreateDelay (record { name = 1; slot = None }) 3) ≡ 0 ∷ 0 ∷ 0 ∷ 1 ∷ 255 ∷ 3 ∷ [] }
+    ensures convolution { body_of (CreateConvolution
+        (record {
+          columns = 3;
+          rows = 5;
+          exponent = 31;
+          coefficients = pos 1 ∷ negsuc 1 ∷ pos 3
+              ∷ pos 4 ∷ pos 5 ∷ pos 6 ∷ pos 7 ∷ pos 8 ∷ pos 9 ∷ pos 10 ∷ pos 11 ∷ pos 12 ∷ pos 13
+              ∷ pos 32767 ∷ negsuc 32767 ∷ [];
+        }))
+        ≡ 3 ∷ 5 ∷ 31 ∷ 0 ∷ 1 ∷ 255 ∷ 254 ∷ 0 ∷ 3 ∷ 0 ∷ 4 ∷ 0 ∷ 5 ∷ 0 ∷ 6 ∷ 0 ∷ 7 ∷ 0 ∷ 8 ∷ 0 ∷ 9 ∷ 0
+        ∷ 10 ∷ 0 ∷ 11 ∷ 0 ∷ 12 ∷ 0 ∷ 13 ∷ 127 ∷ 255 ∷ 128 ∷ 0 ∷ [] }
+    ensures bins { body_of (CreateDistribution (record { bins = 3; offset = 0; range = 256 }))
+        ≡ 0 ∷ 3 ∷ 0 ∷ 0 ∷ 1 ∷ 0 ∷ [] }
+    ensures outline { body_of (CreateVirtualImage 3
+        (record { width = Some 258; height = Some 4096; format = Some U8 }))
+        ≡ 0 ∷ 0 ∷ 0 ∷ 3 ∷ 1 ∷ 1 ∷ 2 ∷ 16 ∷ 0 ∷ [] }
+    ensures open_outline { body_of (CreateVirtualImage 3
+        (record { width = None; height = Some 1; format = None }))
+        ≡ 0 ∷ 0 ∷ 0 ∷ 3 ∷ 0 ∷ 0 ∷ 0 ∷ 0 ∷ 1 ∷ [] }
+    ensures node_of_a_graph { body_of (AddNode 258
+        (record {
+          function = NotBits;
+          border = Undefined;
+          policy = Wrap;
+          amount = 0;
+          in1 =
+              record { name = 1; slot = None };
+          in2 = None;
+          out1 = Some
+              (record { name = 2; slot = None });
+          out2 = None;
+        }))
+        ≡ 0 ∷ 0 ∷ 1 ∷ 2 ∷ 4 ∷ 0 ∷ 0 ∷ 0 ∷ 0 ∷ 0 ∷ 0 ∷ 0 ∷ 1 ∷ 255 ∷ 0 ∷ 0 ∷ 0 ∷ 0 ∷ 255 ∷ 0 ∷ 0 ∷ 0
+        ∷ 2 ∷ 255 ∷ 0 ∷ 0 ∷ 0 ∷ 0 ∷ 255 ∷ [] }
+    ensures delay { body_of (CreateDelay (record { name = 1; slot = None }) 3)
+        ≡ 0 ∷ 0 ∷ 0 ∷ 1 ∷ 255 ∷ 3 ∷ [] }
 {}

@@ -102,7 +102,8 @@ impl<'a> Fields<'a> {
     /// The end: nothing follows the last field.
     pub fn end(&self) -> Result<(), BodyFault>
         ensures ok { OnOk result ((request : RequestValue) → at_end request self.now ≡ Ok request) }
-        ensures err { IfErr result (λ e. (request : RequestValue) → at_end request self.now ≡ Err e) }
+        ensures err { IfErr result (λ e. (request : RequestValue) →
+            at_end request self.now ≡ Err e) }
     {
         if self.rest.is_empty() {
             Ok(())

@@ -1,6 +1,6 @@
 //! The body of any request.
 ghost use Rattle.std.specs.Prelude.{◌≡◌, Ok, IfOk, IfErr};
-ghost use Rattle.vx_wire.specs.Faults.{FailsFor};
+ghost use Rattle.vx_wire.specs.Faults.{MayFailWith};
 ghost use Rattle.vx_wire.specs.Requests.{request_of};
 
 use crate::op::Op;
@@ -30,7 +30,7 @@ use std::alloc::Global;
 /// nothing else is wrong.
 pub fn parse(alloc: Global, op: u8, body: &[u8]) -> Result<Request, ParseFault>
     ensures ok { IfOk result (λ request. request_of op body.now ≡ Ok request) }
-    ensures err { IfErr result (FailsFor (request_of op body.now)) }
+    ensures err { IfErr result (MayFailWith (request_of op body.now)) }
 {
     match Op::from_number(op) {
         None => Err(ParseFault::InvalidParameters),

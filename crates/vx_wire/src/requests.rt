@@ -21,8 +21,10 @@ use vx_base::ObjRef;
 
 /// The name that is all of a body.
 fn name_alone(body: &[u8]) -> Result<u32, BodyFault>
-    ensures ok { IfOk result (λ name. (made : ℕ → RequestValue) → one_field take_long made body.now ≡ Ok (made name)) }
-    ensures err { IfErr result (λ e. (made : ℕ → RequestValue) → one_field take_long made body.now ≡ Err e) }
+    ensures ok { IfOk result (λ name. (made : ℕ → RequestValue) →
+        one_field take_long made body.now ≡ Ok (made name)) }
+    ensures err { IfErr result (λ e. (made : ℕ → RequestValue) →
+        one_field take_long made body.now ≡ Err e) }
 {
     let mut fields = Fields::new(body);
     let name = fields.long()?;
@@ -32,8 +34,10 @@ fn name_alone(body: &[u8]) -> Result<u32, BodyFault>
 
 /// The reference that is all of a body.
 fn reference_alone(body: &[u8]) -> Result<ObjRef, BodyFault>
-    ensures ok { IfOk result (λ cell. (made : Cell → RequestValue) → one_field take_reference made body.now ≡ Ok (made cell)) }
-    ensures err { IfErr result (λ e. (made : Cell → RequestValue) → one_field take_reference made body.now ≡ Err e) }
+    ensures ok { IfOk result (λ cell. (made : Cell → RequestValue) →
+        one_field take_reference made body.now ≡ Ok (made cell)) }
+    ensures err { IfErr result (λ e. (made : Cell → RequestValue) →
+        one_field take_reference made body.now ≡ Err e) }
 {
     let mut fields = Fields::new(body);
     let reference = take_reference(&mut fields)?;

@@ -11,7 +11,7 @@ use Rattle.vx_base.specs.Window.{row_product, matrix_product}
 use Rattle.vx_base.proofs.TableLaws.{get_or-run, run_part}
 use Rattle.vx_base.proofs.WindowLaws.{run_shifted}
 use Rattle.vx_base.proofs.ImageLaws.{get_or-table}
-use Rattle.window_kernels.specs.Products.{alternating, sum_below, row_of, row_sum, sum_of_rows, first_of_pair, second_of_pair, IsTable, turned, turned_tables}
+use Rattle.window_kernels.specs.Products.{alternating, sum_of_first, line_of, row_sum, sum_of_rows, first_of_pair, second_of_pair, IsPairTable, turned, turned_tables}
 use Rattle.window_kernels.proofs.ProductLaws.{sum-same, sum_turned, sum_is_total, pairs_add_up}
 
 -- a side of a matrix
@@ -31,26 +31,26 @@ entry_is m l j k r n a b c is =
     let column : n % 80 / 16 * 2 + n % 2 ≡ 2 * j + r = omega arith in
     ap (λ i. turned m i (n % 80 / 16 * 2 + n % 2)) row ∙ ap (turned m l) column
 
-row_of_tables : (m : ConvolutionValue) (tables : List ℤ) (l : ℕ) → tables ≡ turned_tables m → l < m.rows → row_of tables 80 l ≡ run 0 80 (λ n. entry m (l * 80 + n))
+row_of_tables : (m : ConvolutionValue) (tables : List ℤ) (l : ℕ) → tables ≡ turned_tables m → l < m.rows → line_of tables 80 l ≡ run 0 80 (λ n. entry m (l * 80 + n))
 unfolding entry
 row_of_tables m tables l are below =
-    ap (λ t. row_of t 80 l) are
+    ap (λ t. line_of t 80 l) are
     ∙ run_part (entry m) (m.rows * 80) (l * 80) 80 (omega arith)
     ∙ run_shifted (entry m) (λ n. entry m (l * 80 + n)) (l * 80) 0 80 (λ k h. ap (λ n. entry m (l * 80 + n)) (sym (zero-add k)))
 
-entry_read : (m : ConvolutionValue) (tables : List ℤ) (l j r : ℕ) → tables ≡ turned_tables m → l < m.rows → j < 5 → r < 2 → get_or (row_of tables 80 l) (16 * j + r) (pos 0) ≡ turned m l (2 * j + r)
+entry_read : (m : ConvolutionValue) (tables : List ℤ) (l j r : ℕ) → tables ≡ turned_tables m → l < m.rows → j < 5 → r < 2 → get_or (line_of tables 80 l) (16 * j + r) (pos 0) ≡ turned m l (2 * j + r)
 entry_read m tables l j r are below a b =
     ap (λ t. get_or t (16 * j + r) (pos 0)) (row_of_tables m tables l are below)
     ∙ get_or-run (λ n. entry m (l * 80 + n)) 0 80 (16 * j + r) (pos 0) (omega arith)
     ∙ entry_is m l j 0 r (l * 80 + (0 + (16 * j + r))) a (omega arith) b (omega arith)
 
-first_read : (m : ConvolutionValue) (tables : List ℤ) (l j : ℕ) → tables ≡ turned_tables m → l < m.rows → j < 5 → first_of_pair (row_of tables 80 l) j ≡ turned m l (2 * j)
+first_read : (m : ConvolutionValue) (tables : List ℤ) (l j : ℕ) → tables ≡ turned_tables m → l < m.rows → j < 5 → first_of_pair (line_of tables 80 l) j ≡ turned m l (2 * j)
 first_read m tables l j are below a =
     let at : 16 * j ≡ 16 * j + 0 = omega arith in
     let of : 2 * j + 0 ≡ 2 * j = omega arith in
-    ap (λ n. get_or (row_of tables 80 l) n (pos 0)) at ∙ entry_read m tables l j 0 are below a (omega arith) ∙ ap (turned m l) of
+    ap (λ n. get_or (line_of tables 80 l) n (pos 0)) at ∙ entry_read m tables l j 0 are below a (omega arith) ∙ ap (turned m l) of
 
-second_read : (m : ConvolutionValue) (tables : List ℤ) (l j : ℕ) → tables ≡ turned_tables m → l < m.rows → j < 5 → second_of_pair (row_of tables 80 l) j ≡ turned m l (2 * j + 1)
+second_read : (m : ConvolutionValue) (tables : List ℤ) (l j : ℕ) → tables ≡ turned_tables m → l < m.rows → j < 5 → second_of_pair (line_of tables 80 l) j ≡ turned m l (2 * j + 1)
 second_read m tables l j are below a = entry_read m tables l j 1 are below a (omega arith)
 
 twice : ℕ → ℕ
@@ -76,7 +76,7 @@ in_turn g a b (suc n) x first second =
     odd k = omega arith
 
 -- the tables of a matrix are tables
-pub are_tables : (m : ConvolutionValue) (tables : List ℤ) (pairs : ℕ) → tables ≡ turned_tables m → pairs ≤ 5 → (l : ℕ) → l < m.rows → IsTable pairs (row_of tables 80 l)
+pub are_tables : (m : ConvolutionValue) (tables : List ℤ) (pairs : ℕ) → tables ≡ turned_tables m → pairs ≤ 5 → (l : ℕ) → l < m.rows → IsPairTable pairs (line_of tables 80 l)
 unfolding twice
 are_tables m tables pairs are few l below j h =
     let g : ℕ → ℤ = λ n. entry m (l * 80 + n) in
@@ -84,7 +84,7 @@ are_tables m tables pairs are few l below j h =
     ∙ run_part g 80 (16 * j) 16 (omega arith)
     ∙ in_turn g (turned m l (2 * j)) (turned m l (2 * j + 1)) 8 (16 * j) (λ k b. first k b) (λ k b. second k b)
     ∙ ap (λ z. alternating 8 z (turned m l (2 * j + 1))) (sym (first_read m tables l j are below (omega arith)))
-    ∙ ap (λ z. alternating 8 (first_of_pair (row_of tables 80 l) j) z) (sym (second_read m tables l j are below (omega arith)))
+    ∙ ap (λ z. alternating 8 (first_of_pair (line_of tables 80 l) j) z) (sym (second_read m tables l j are below (omega arith)))
   where
     first : (k : ℕ) → k < 8 → entry m (l * 80 + (16 * j + 2 * k)) ≡ turned m l (2 * j)
     first k b = let of : 2 * j + 0 ≡ 2 * j = omega arith in entry_is m l j k 0 (l * 80 + (16 * j + 2 * k)) (omega arith) b (omega arith) (omega arith) ∙ ap (turned m l) of
@@ -105,14 +105,14 @@ times_none x y z is = ap (λ w. x +ℤ y *ℤ w) is ∙ omega (arith, ints)
 
 -- a row of it
 row_is_product : (m : ConvolutionValue) (f : ℤ → ℤ) (row tables : List ℤ) (x p l n : ℕ) → tables ≡ turned_tables m → IsTrue (is_odd_side m.columns) → l < m.rows → p + m.columns ≤ n
-    → ((c : ℕ) → c < n → get_or row c (pos 0) ≡ f (pos (x + c) -ℤ pos (m.columns / 2))) → row_sum row (row_of tables 80 l) (m.columns / 2 + 1) p ≡ row_product m f (pos (x + p)) l
+    → ((c : ℕ) → c < n → get_or row c (pos 0) ≡ f (pos (x + c) -ℤ pos (m.columns / 2))) → row_sum row (line_of tables 80 l) (m.columns / 2 + 1) p ≡ row_product m f (pos (x + p)) l
 row_is_product m f row tables x p l n are side below room seen =
     let odd = odd_side m.columns side in
     let count : 2 * (m.columns / 2 + 1) ≡ suc m.columns = omega (arith, odd) in
     let g : ℕ → ℤ = λ c. get_or row (p + c) (pos 0) *ℤ turned m l c in
-    pairs_add_up row (row_of tables 80 l) (turned m l) (m.columns / 2 + 1) p (λ j h. first_read m tables l j are below (omega (arith, odd))) (λ j h. second_read m tables l j are below (omega (arith, odd)))
-    ∙ ap (λ k. sum_below k g) count
-    ∙ times_none (sum_below m.columns g) (get_or row (p + m.columns) (pos 0)) (turned m l m.columns) (none_beyond m l)
+    pairs_add_up row (line_of tables 80 l) (turned m l) (m.columns / 2 + 1) p (λ j h. first_read m tables l j are below (omega (arith, odd))) (λ j h. second_read m tables l j are below (omega (arith, odd)))
+    ∙ ap (λ k. sum_of_first k g) count
+    ∙ times_none (sum_of_first m.columns g) (get_or row (p + m.columns) (pos 0)) (turned m l m.columns) (none_beyond m l)
     ∙ sum-same m.columns g (λ c. product (m.columns - 1 - c)) (λ c h. ap (λ z. z *ℤ turned m l c) (seen (p + c) (omega arith) ∙ ap f (at c h odd.2)) ∙ ap (λ z. f (pos (x + p) +ℤ pos (m.columns / 2) -ℤ pos (m.columns - 1 - c)) *ℤ z) (turned_is m l c h))
     ∙ sum_turned m.columns product
     ∙ sum_is_total m.columns product
@@ -129,11 +129,11 @@ pub sum_is_product : (m : ConvolutionValue) (f : ℤ → ℤ → ℤ) (rows tabl
     → tables ≡ turned_tables m → IsTrue (is_odd_side m.columns) → p + m.columns ≤ line
     → sum_of_rows rows line tables (m.columns / 2 + 1) m.rows p ≡ matrix_product m f (pos (x + p)) (pos y)
 sum_is_product m f rows tables x y p line loaded are side room =
-    sum-same m.rows (λ l. row_sum (row_of rows line l) (row_of tables 80 l) (m.columns / 2 + 1) p) (λ l. row_product m (λ u. f u (pos y +ℤ pos (m.rows / 2) -ℤ pos l)) (pos (x + p)) l)
-    (λ l h. row_is_product m (λ u. f u (pos y +ℤ pos (m.rows / 2) -ℤ pos l)) (row_of rows line l) tables x p l line are side h room (λ c b. seen l c h b))
+    sum-same m.rows (λ l. row_sum (line_of rows line l) (line_of tables 80 l) (m.columns / 2 + 1) p) (λ l. row_product m (λ u. f u (pos y +ℤ pos (m.rows / 2) -ℤ pos l)) (pos (x + p)) l)
+    (λ l h. row_is_product m (λ u. f u (pos y +ℤ pos (m.rows / 2) -ℤ pos l)) (line_of rows line l) tables x p l line are side h room (λ c b. seen l c h b))
     ∙ sum_is_total m.rows (λ l. row_product m (λ u. f u (pos y +ℤ pos (m.rows / 2) -ℤ pos l)) (pos (x + p)) l)
   where
-    seen : (l c : ℕ) → l < m.rows → c < line → get_or (row_of rows line l) c (pos 0) ≡ f (pos (x + c) -ℤ pos (m.columns / 2)) (pos y +ℤ pos (m.rows / 2) -ℤ pos l)
+    seen : (l c : ℕ) → l < m.rows → c < line → get_or (line_of rows line l) c (pos 0) ≡ f (pos (x + c) -ℤ pos (m.columns / 2)) (pos y +ℤ pos (m.rows / 2) -ℤ pos l)
     seen l c h b =
         get_or-chunk (l * line) line rows c (pos 0) b
         ∙ ap (λ t. get_or t (l * line + c) (pos 0)) loaded

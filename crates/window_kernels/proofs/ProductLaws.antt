@@ -6,7 +6,7 @@ use Rattle.std.proofs.lemmas.List.{take_more_set, map_push, map_more}
 use Rattle.vx_base.specs.Image.{run}
 use Rattle.vx_base.proofs.TableLaws.{run-more}
 use Rattle.vx_base.specs.Window.{total}
-use Rattle.window_kernels.specs.Products.{IsUpTo, sum_below, row_sum, pair_at, first_of_pair, second_of_pair}
+use Rattle.window_kernels.specs.Products.{IsUpTo, sum_of_first, row_sum, pair_at, first_of_pair, second_of_pair}
 
 -- a sum is what its bits say
 pub sum_of_bits : (sum : ℤ) → IsUpTo 752025600 sum → to_z w32 (of_z w32 sum) ≡ sum
@@ -29,23 +29,23 @@ plus_assoc x y z = omega (arith, ints)
 plus_turned : (x y : ℤ) → x +ℤ y ≡ y +ℤ x
 plus_turned x y = omega (arith, ints)
 
-pub sum-same : (n : ℕ) (f g : ℕ → ℤ) → ((k : ℕ) → k < n → f k ≡ g k) → sum_below n f ≡ sum_below n g
+pub sum-same : (n : ℕ) (f g : ℕ → ℤ) → ((k : ℕ) → k < n → f k ≡ g k) → sum_of_first n f ≡ sum_of_first n g
 sum-same zero f g same = refl
-sum-same (suc n) f g same = ap (λ z. z +ℤ f n) (sum-same n f g (λ k h. same k (omega arith))) ∙ ap (λ z. sum_below n g +ℤ z) (same n (omega arith))
+sum-same (suc n) f g same = ap (λ z. z +ℤ f n) (sum-same n f g (λ k h. same k (omega arith))) ∙ ap (λ z. sum_of_first n g +ℤ z) (same n (omega arith))
 
-sum_from_first : (n : ℕ) (f : ℕ → ℤ) → sum_below (suc n) f ≡ f 0 +ℤ sum_below n (λ k. f (suc k))
+sum_from_first : (n : ℕ) (f : ℕ → ℤ) → sum_of_first (suc n) f ≡ f 0 +ℤ sum_of_first n (λ k. f (suc k))
 sum_from_first zero f = plus_turned (pos 0) (f 0)
-sum_from_first (suc n) f = ap (λ z. z +ℤ f (suc n)) (sum_from_first n f) ∙ sym (plus_assoc (f 0) (sum_below n (λ k. f (suc k))) (f (suc n)))
+sum_from_first (suc n) f = ap (λ z. z +ℤ f (suc n)) (sum_from_first n f) ∙ sym (plus_assoc (f 0) (sum_of_first n (λ k. f (suc k))) (f (suc n)))
 
 -- from the last item to the first
-pub sum_turned : (n : ℕ) (f : ℕ → ℤ) → sum_below n (λ k. f (n - 1 - k)) ≡ sum_below n f
+pub sum_turned : (n : ℕ) (f : ℕ → ℤ) → sum_of_first n (λ k. f (n - 1 - k)) ≡ sum_of_first n f
 sum_turned zero f = refl
 sum_turned (suc n) f =
     let first : suc n - 1 - n ≡ 0 = omega arith in
     ap (λ z. z +ℤ f (suc n - 1 - n)) (sum-same n (λ k. f (suc n - 1 - k)) (λ k. f (suc (n - 1 - k))) (λ k h. ap f (at k h)))
     ∙ ap (λ z. z +ℤ f (suc n - 1 - n)) (sum_turned n (λ k. f (suc k)))
-    ∙ ap (λ i. sum_below n (λ k. f (suc k)) +ℤ f i) first
-    ∙ plus_turned (sum_below n (λ k. f (suc k))) (f 0)
+    ∙ ap (λ i. sum_of_first n (λ k. f (suc k)) +ℤ f i) first
+    ∙ plus_turned (sum_of_first n (λ k. f (suc k))) (f 0)
     ∙ sym (sum_from_first n f)
   where
     at : (k : ℕ) → k < n → suc n - 1 - k ≡ suc (n - 1 - k)
@@ -56,7 +56,7 @@ total-append [] zs = omega (arith, ints)
 total-append (y ∷ ys) zs = omega (arith, ints, total-append ys zs)
 
 -- the total of a run
-pub sum_is_total : (n : ℕ) (f : ℕ → ℤ) → sum_below n f ≡ total (run 0 n f)
+pub sum_is_total : (n : ℕ) (f : ℕ → ℤ) → sum_of_first n f ≡ total (run 0 n f)
 sum_is_total zero f = refl
 sum_is_total (suc n) f =
     let more : total (run 0 (n + 1) f) ≡ total (run 0 n f) +ℤ f n =
@@ -64,7 +64,7 @@ sum_is_total (suc n) f =
     ap (λ z. z +ℤ f n) (sum_is_total n f) ∙ sym more ∙ ap (λ k. total (run 0 k f)) (add-one n)
 
 -- what pairs of coefficients add up to
-pub pairs_add_up : (row table : List ℤ) (k : ℕ → ℤ) (n p : ℕ) → ((j : ℕ) → j < n → first_of_pair table j ≡ k (2 * j)) → ((j : ℕ) → j < n → second_of_pair table j ≡ k (2 * j + 1)) → row_sum row table n p ≡ sum_below (2 * n) (λ c. get_or row (p + c) (pos 0) *ℤ k c)
+pub pairs_add_up : (row table : List ℤ) (k : ℕ → ℤ) (n p : ℕ) → ((j : ℕ) → j < n → first_of_pair table j ≡ k (2 * j)) → ((j : ℕ) → j < n → second_of_pair table j ≡ k (2 * j + 1)) → row_sum row table n p ≡ sum_of_first (2 * n) (λ c. get_or row (p + c) (pos 0) *ℤ k c)
 pairs_add_up row table k zero p first second = refl
 pairs_add_up row table k (suc n) p first second =
     let g : ℕ → ℤ = λ c. get_or row (p + c) (pos 0) *ℤ k c in
@@ -75,7 +75,7 @@ pairs_add_up row table k (suc n) p first second =
     let one = ap (λ z. get_or row (p + 2 * n) (pos 0) *ℤ z) (first n (omega arith)) in
     let other = ap (λ i. get_or row i (pos 0) *ℤ second_of_pair table n) place ∙ ap (λ z. get_or row (p + suc (2 * n)) (pos 0) *ℤ z) (second n (omega arith) ∙ ap k next) in
     ap (λ z. z +ℤ pair_at row (first_of_pair table n) (second_of_pair table n) (p + 2 * n)) before
-    ∙ ap (λ z. sum_below (2 * n) g +ℤ (z +ℤ get_or row (p + 2 * n + 1) (pos 0) *ℤ second_of_pair table n)) one
-    ∙ ap (λ z. sum_below (2 * n) g +ℤ (g (2 * n) +ℤ z)) other
-    ∙ plus_assoc (sum_below (2 * n) g) (g (2 * n)) (g (suc (2 * n)))
-    ∙ ap (λ m. sum_below m g) count
+    ∙ ap (λ z. sum_of_first (2 * n) g +ℤ (z +ℤ get_or row (p + 2 * n + 1) (pos 0) *ℤ second_of_pair table n)) one
+    ∙ ap (λ z. sum_of_first (2 * n) g +ℤ (g (2 * n) +ℤ z)) other
+    ∙ plus_assoc (sum_of_first (2 * n) g) (g (2 * n)) (g (suc (2 * n)))
+    ∙ ap (λ m. sum_of_first m g) count

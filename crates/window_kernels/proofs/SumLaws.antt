@@ -7,7 +7,7 @@ use Rattle.std.proofs.lemmas.Simd.{Each1-chunk, Each1-replicate, Each1-get_or, l
 use Rattle.std.proofs.lemmas.Int.{to_z-of_z}
 use Rattle.vx_base.specs.Image.{run}
 use Rattle.vx_base.proofs.TableLaws.{run-same}
-use Rattle.window_kernels.specs.Products.{IsUpTo, row_sum, row_of, sum_of_rows}
+use Rattle.window_kernels.specs.Products.{IsUpTo, row_sum, line_of, sum_of_rows}
 use Rattle.window_kernels.proofs.BitLaws.{of_bits, picked, fits_32, each_fits_32, up_to_more, Each1-append}
 
 -- a row of those that stand one after another
@@ -33,7 +33,7 @@ no_row_added rows line tables pairs place = record { value = refl; len = refl; l
 
 -- one more of them is
 pub row_added : (rows : List ℤ) (line : ℕ) (tables : List ℤ) (pairs place l : ℕ) (sums : List ℕ) (next row table : List ℤ)
-    → AreSums rows line tables pairs place l sums → row ≡ row_of rows line l → table ≡ row_of tables 80 l → l < 9 → pairs ≤ 5
+    → AreSums rows line tables pairs place l sums → row ≡ line_of rows line l → table ≡ line_of tables 80 l → l < 9 → pairs ≤ 5
     → ((f : ℕ → ℤ) → map (to_z w32) sums ≡ run 0 16 f → next ≡ run 0 16 (λ i. f i +ℤ row_sum row table pairs (place + 2 * i)))
     → length next ≡ 16 → ((limit : ℕ) → Each1 (IsUpTo limit) (map (to_z w32) sums) → Each1 (IsUpTo (limit + pairs * 16711680)) next)
     → AreSums rows line tables pairs place (l + 1) (map (of_z w32) next)
@@ -46,7 +46,7 @@ row_added rows line tables pairs place l sums next row table before is_row is_ta
           same
           ∙ value (S l) before.value
           ∙ ap (λ r. run 0 16 (λ i. S l i +ℤ row_sum r table pairs (place + 2 * i))) is_row
-          ∙ ap (λ t. run 0 16 (λ i. S l i +ℤ row_sum (row_of rows line l) t pairs (place + 2 * i))) is_table
+          ∙ ap (λ t. run 0 16 (λ i. S l i +ℤ row_sum (line_of rows line l) t pairs (place + 2 * i))) is_table
           ∙ ap (λ n. run 0 16 (S n)) (sym (add-one l));
       len = length-map next (of_z w32) ∙ len;
       limit = subst (Each1 (IsUpTo ((l + 1) * 83558400))) (sym same) near;
@@ -67,10 +67,10 @@ pub all_rows_up_to : (rows : List ℤ) (line : ℕ) (tables : List ℤ) (pairs p
 all_rows_up_to rows line tables pairs place l sums are few = up_to_more (l * 83558400) 752025600 (map (to_z w32) sums) (omega arith) are.limit
 
 -- a row of items that are near, or fit
-pub each_of_row : (P : ℤ → Type 0) (items row : List ℤ) (line l : ℕ) → Each1 P items → row ≡ row_of items line l → Each1 P row
+pub each_of_row : (P : ℤ → Type 0) (items row : List ℤ) (line l : ℕ) → Each1 P items → row ≡ line_of items line l → Each1 P row
 each_of_row P items row line l each is = subst (Each1 P) (sym is) (Each1-chunk P (l * line) line items each)
 
-pub length_row : (items row : List ℤ) (line l : ℕ) → row ≡ row_of items line l → l * line + line ≤ length items → length row ≡ line
+pub length_row : (items row : List ℤ) (line l : ℕ) → row ≡ line_of items line l → l * line + line ≤ length items → length row ≡ line
 length_row items row line l is room = ap length is ∙ length-chunk (l * line) line items room
 
 -- ---- even places and odd ones, in turn

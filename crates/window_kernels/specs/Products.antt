@@ -29,9 +29,9 @@ alternating zero a b = []
 alternating (suc n) a b = a ∷ b ∷ alternating n a b
 
 -- g 0, g 1, .. added up, so many of them
-abbrev pub sum_below : ℕ → (ℕ → ℤ) → ℤ
-sum_below zero g = pos 0
-sum_below (suc n) g = sum_below n g +ℤ g n
+abbrev pub sum_of_first : ℕ → (ℕ → ℤ) → ℤ
+sum_of_first zero g = pos 0
+sum_of_first (suc n) g = sum_of_first n g +ℤ g n
 
 -- what two coefficients give of the sample at a place of a row and the next one
 abbrev pub pair_at : List ℤ → ℤ → ℤ → ℕ → ℤ
@@ -45,20 +45,20 @@ abbrev pub second_of_pair : List ℤ → ℕ → ℤ
 second_of_pair table j = slice_index_or table (16 * j + 1) (pos 0)
 
 -- each of n pairs stands eight times in the table
-abbrev pub IsTable : ℕ → List ℤ → Type 0
-IsTable n table = (j : ℕ) → j < n → chunk (16 * j) 16 table ≡ alternating 8 (first_of_pair table j) (second_of_pair table j)
+abbrev pub IsPairTable : ℕ → List ℤ → Type 0
+IsPairTable n table = (j : ℕ) → j < n → chunk (16 * j) 16 table ≡ alternating 8 (first_of_pair table j) (second_of_pair table j)
 
 -- what n pairs of coefficients give at a place of a row, each two places further to the right
 abbrev pub row_sum : List ℤ → List ℤ → ℕ → ℕ → ℤ
-row_sum row table n p = sum_below n (λ j. pair_at row (first_of_pair table j) (second_of_pair table j) (p + 2 * j))
+row_sum row table n p = sum_of_first n (λ j. pair_at row (first_of_pair table j) (second_of_pair table j) (p + 2 * j))
 
 -- one of the rows that stand one after another
-abbrev pub row_of : List ℤ → ℕ → ℕ → List ℤ
-row_of items line l = chunk (l * line) line items
+abbrev pub line_of : List ℤ → ℕ → ℕ → List ℤ
+line_of items line l = chunk (l * line) line items
 
 -- what the first n rows of tables give at a place of as many rows; a row of tables has room for five pairs
 abbrev pub sum_of_rows : List ℤ → ℕ → List ℤ → ℕ → ℕ → ℕ → ℤ
-sum_of_rows rows line table pairs n p = sum_below n (λ l. row_sum (row_of rows line l) (row_of table 80 l) pairs p)
+sum_of_rows rows line table pairs n p = sum_of_first n (λ l. row_sum (line_of rows line l) (line_of table 80 l) pairs p)
 
 -- coefficient c of row l of the matrix turned by half, 0 beyond its columns
 abbrev pub turned : ConvolutionValue → ℕ → ℕ → ℤ

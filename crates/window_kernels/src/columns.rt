@@ -1,5 +1,6 @@
 //! Columns of three samples.
-ghost use Rattle.std.specs.Prelude.{◌≡◌, ◌+◌, ◌-◌, ◌<◌, ◌≤◌, ◌++◌, ℕ, ℤ, pos, ◌-ℤ◌, map, length, replicate, slice_index};
+ghost use Rattle.std.specs.Prelude.{◌≡◌, ◌+◌, ◌-◌, ◌<◌, ◌≤◌, ◌++◌, ℕ, ℤ, pos, ◌-ℤ◌, map, length};
+ghost use Rattle.std.specs.Prelude.{replicate, slice_index};
 ghost use Rattle.vx_base.specs.declared.format.Format.TheVariants.{U8};
 ghost use Rattle.vx_base.specs.Image.{run};
 ghost use Rattle.vx_base.specs.Window.{look};
@@ -39,7 +40,8 @@ fn write_down<S: Number, C: OfColumn<S>>(
     requires above { length above.now ≡ length out.old }
     requires here { length here.now ≡ length out.old }
     requires below { length below.now ≡ length out.old }
-    ensures { map S.value out.new ≡ run 0 (length out.old) (column_in (C.gives column.now) above.now here.now below.now) }
+    ensures { map S.value out.new ≡ run 0 (length out.old)
+        (column_in (C.gives column.now) above.now here.now below.now) }
 {
     for (i, item) in out.iter_mut().enumerate() {
         *item = column.of_column(above[i], here[i], below[i]);
@@ -103,10 +105,13 @@ pub struct Window<'a, 'b> {
     pub off_rows: &'a [u8],
     pub area: Rect,
     ghost format: { image.now.format ≡ U8 },
-    ghost columns: { (area.x1 ≤ image.now.valid.x1) × (area.x0 < area.x1 → image.now.valid.x0 < image.now.valid.x1) },
+    ghost columns: { (area.x1 ≤ image.now.valid.x1) ×
+        (area.x0 < area.x1 → image.now.valid.x0 < image.now.valid.x1) },
     ghost inside: { area.x0 < area.x1 → image.now.valid.x0 ≤ area.x0 },
-    ghost rows: { (area.y1 ≤ image.now.valid.y1) × (area.y0 < area.y1 → image.now.valid.y0 < image.now.valid.y1) },
-    ghost off: { map pos off_rows.now ≡ replicate (length off_rows.now) (value_beside border (pos 0)) },
+    ghost rows: { (area.y1 ≤ image.now.valid.y1) ×
+        (area.y0 < area.y1 → image.now.valid.y0 < image.now.valid.y1) },
+    ghost off: { map pos off_rows.now ≡ replicate (length off_rows.now)
+        (value_beside border (pos 0)) },
     ghost room: { image.now.width ≤ length off_rows.now },
 }
 
@@ -121,8 +126,11 @@ impl Window<'_, '_> {
     )
         requires rows { self.now.image.now.valid.y0 < self.now.image.now.valid.y1 }
         requires column { (self.now.image.now.valid.x0 ≤ x) × (x < self.now.image.now.valid.x1) }
-        requires room { (3 ≤ length out.old) × (x + length out.old ≤ self.now.image.now.valid.x1 + 2) }
-        ensures { map S.value out.new ≡ run x (length out.old) (λ c. column_seen (C.gives column.now) (look self.now.image.now self.now.border) (pos c -ℤ pos 1) (pos y)) }
+        requires room { (3 ≤ length out.old) ×
+            (x + length out.old ≤ self.now.image.now.valid.x1 + 2) }
+        ensures { map S.value out.new ≡ run x (length out.old)
+            (λ c. column_seen (C.gives column.now) (look self.now.image.now self.now.border)
+            (pos c -ℤ pos 1) (pos y)) }
     {
         let valid = self.image.valid();
         let first = x.saturating_sub(1).max(valid.x0());

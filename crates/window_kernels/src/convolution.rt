@@ -1,5 +1,7 @@
 //! Images that are convolved by a matrix.
-ghost use Rattle.std.specs.Prelude.{◌≡◌, ◌+◌, ◌-◌, ◌*◌, ◌/◌, ◌%◌, ◌<◌, ◌≤◌, ◌^◌, ◌+ℤ◌, ◌-ℤ◌, ℕ, pos, unsigned_abs, int_div, map, length, FitsSigned, All, IsTrue};
+ghost use Rattle.std.specs.Prelude.{◌≡◌, ◌+◌, ◌-◌, ◌*◌, ◌/◌, ◌%◌, ◌<◌, ◌≤◌, ◌^◌, ◌+ℤ◌, ◌-ℤ◌, ℕ};
+ghost use Rattle.std.specs.Prelude.{pos, unsigned_abs, int_div, map, length, FitsSigned, All};
+ghost use Rattle.std.specs.Prelude.{IsTrue};
 ghost use Rattle.std.specs.Int.{w16};
 ghost use Rattle.std.specs.Simd.Lanes.{Each1};
 ghost use Rattle.vx_base.specs.declared.format.Format.TheVariants.{U8};
@@ -10,7 +12,8 @@ ghost use Rattle.vx_base.specs.Window.{look, convolved, from_matrix};
 ghost use Rattle.image_core.specs.Fits.{HaveSameSize};
 ghost use Rattle.image_core.specs.Target.{written, IsTarget, Writes};
 ghost use Rattle.window_kernels.specs.Fits.{ConvolutionFits};
-ghost use Rattle.window_kernels.specs.Products.{IsUpTo, AreUpTo, sum_of_rows, turned, turned_tables};
+ghost use Rattle.window_kernels.specs.Products.{IsUpTo, AreUpTo, sum_of_rows, turned};
+ghost use Rattle.window_kernels.specs.Products.{turned_tables};
 
 use crate::products::sum_block;
 use border_rows::{load_row, window_valid};
@@ -50,7 +53,8 @@ fn write_scaled<T: Clamped>(exponent: u8, sums: &[i32], out: &mut [T])
     requires len { length sums.now ≡ length out.old }
     requires size { AreUpTo 752025600 sums.now }
     requires exponent { exponent ≤ 31 }
-    ensures { map T.value out.new ≡ map (λ sum. clamp T.format (int_div sum (pos (2 ^ exponent)))) sums.now }
+    ensures { map T.value out.new ≡ map (λ sum.
+        clamp T.format (int_div sum (pos (2 ^ exponent)))) sums.now }
 {
     for (i, sample) in out.iter_mut().enumerate() {
         *sample = T::clamped(scaled(sums[i], exponent));
@@ -105,8 +109,10 @@ struct FromMatrix<'a, 'b> {
     border: Border,
     area: Rect,
     ghost format: { image.now.format ≡ U8 },
-    ghost columns: { (area.x1 ≤ image.now.valid.x1) × (area.x0 < area.x1 → image.now.valid.x0 < image.now.valid.x1) },
-    ghost rows: { (area.y1 ≤ image.now.valid.y1) × (area.y0 < area.y1 → image.now.valid.y0 < image.now.valid.y1) },
+    ghost columns: { (area.x1 ≤ image.now.valid.x1) ×
+        (area.x0 < area.x1 → image.now.valid.x0 < image.now.valid.x1) },
+    ghost rows: { (area.y1 ≤ image.now.valid.y1) ×
+        (area.y0 < area.y1 → image.now.valid.y0 < image.now.valid.y1) },
     ghost turned: { tables.now ≡ turned_tables convolution.now },
     ghost fits: { All (FitsSigned w16) tables.now },
     ghost side: { IsTrue (is_odd_side convolution.now.columns) },
@@ -118,7 +124,9 @@ impl FromMatrix<'_, '_> {
         requires columns { self.now.image.now.valid.x0 < self.now.image.now.valid.x1 }
         requires rows { self.now.image.now.valid.y0 < self.now.image.now.valid.y1 }
         requires len { length samples.old ≡ length line.old }
-        ensures value { line.new ≡ run x (length line.old) (λ c. look self.now.image.now self.now.border (pos c -ℤ pos (self.now.convolution.now.columns / 2)) row) }
+        ensures value { line.new ≡ run x (length line.old)
+            (λ c. look self.now.image.now self.now.border
+            (pos c -ℤ pos (self.now.convolution.now.columns / 2)) row) }
         ensures limit { Each1 (IsUpTo 255) line.new }
     {
         let radius = u16::from(self.convolution.columns() / 2);
@@ -133,7 +141,10 @@ impl FromMatrix<'_, '_> {
         requires rows { self.now.image.now.valid.y0 < self.now.image.now.valid.y1 }
         requires line { line ≤ 4144 }
         requires len { length rows.old ≡ self.now.convolution.now.rows * line }
-        ensures value { rows.new ≡ table line self.now.convolution.now.rows (λ c l. look self.now.image.now self.now.border (pos (x + c) -ℤ pos (self.now.convolution.now.columns / 2)) (pos y +ℤ pos (self.now.convolution.now.rows / 2) -ℤ pos l)) }
+        ensures value { rows.new ≡ table line self.now.convolution.now.rows
+            (λ c l. look self.now.image.now self.now.border
+            (pos (x + c) -ℤ pos (self.now.convolution.now.columns / 2))
+            (pos y +ℤ pos (self.now.convolution.now.rows / 2) -ℤ pos l)) }
         ensures limit { Each1 (IsUpTo 255) rows.new }
     {
         let mut samples = [0; (GREATEST_SIDE + AROUND) as usize];
@@ -153,7 +164,11 @@ impl FromMatrix<'_, '_> {
         requires rows { length rows.now ≡ self.now.convolution.now.rows * line }
         requires room { place + 41 ≤ line }
         requires limit { Each1 (IsUpTo 255) rows.now }
-        ensures { map T.value out.new ≡ run 0 (length out.old) (λ i. clamp T.format (int_div (sum_of_rows rows.now line self.now.tables.now (self.now.convolution.now.columns / 2 + 1) self.now.convolution.now.rows (place + i)) (pos (2 ^ self.now.convolution.now.exponent)))) }
+        ensures { map T.value out.new ≡ run 0 (length out.old)
+            (λ i. clamp T.format (int_div
+            (sum_of_rows rows.now line self.now.tables.now
+            (self.now.convolution.now.columns / 2 + 1) self.now.convolution.now.rows (place + i))
+            (pos (2 ^ self.now.convolution.now.exponent)))) }
     {
         let count = self.convolution.rows();
         let pairs = usize::from(self.convolution.columns()) / 2 + 1;
@@ -171,7 +186,11 @@ impl FromMatrix<'_, '_> {
         requires rows { length rows.now ≡ self.now.convolution.now.rows * line }
         requires room { length out.old + 48 ≤ line }
         requires limit { Each1 (IsUpTo 255) rows.now }
-        ensures { map T.value out.new ≡ run 0 (length out.old) (λ i. clamp T.format (int_div (sum_of_rows rows.now line self.now.tables.now (self.now.convolution.now.columns / 2 + 1) self.now.convolution.now.rows i) (pos (2 ^ self.now.convolution.now.exponent)))) }
+        ensures { map T.value out.new ≡ run 0 (length out.old)
+            (λ i. clamp T.format (int_div
+            (sum_of_rows rows.now line self.now.tables.now
+            (self.now.convolution.now.columns / 2 + 1) self.now.convolution.now.rows i)
+            (pos (2 ^ self.now.convolution.now.exponent)))) }
     {
         let count = out.len();
         for k in 0..count.div_ceil(32) {
@@ -183,7 +202,8 @@ impl FromMatrix<'_, '_> {
 }
 
 impl<T: Clamped> RowFormula<T, i16> for FromMatrix<'_, '_> {
-    ghost at = { λ s x y. convolved s.convolution.now T.format (look s.image.now s.border) (pos x) (pos y) };
+    ghost at = { λ s x y. convolved s.convolution.now T.format (look s.image.now s.border)
+        (pos x) (pos y) };
 
     ghost area = { λ s. s.area };
 
@@ -265,7 +285,8 @@ fn convolve_with(
 )
     requires fits { ConvolutionFits image.now output.old }
     requires scratch { 9 * (image.now.width + 48) ≤ length rows.old }
-    ensures { Writes (from_matrix (written output.old).format convolution.now border image.now) output.old output.new }
+    ensures { Writes (from_matrix (written output.old).format convolution.now border image.now)
+        output.old output.new }
 {
     match output.desc().format() {
         Format::U8 => write_convolved::<u8>(image, convolution, output, border, rows),
@@ -284,7 +305,8 @@ pub fn convolve(
     border: Border,
 )
     requires { ConvolutionFits image.now output.old }
-    ensures { Writes (from_matrix (written output.old).format convolution.now border image.now) output.old output.new }
+    ensures { Writes (from_matrix (written output.old).format convolution.now border image.now)
+        output.old output.new }
 {
     let _limits = image.valid();
     with_rows!(image.desc().width(), rows => {

@@ -1,5 +1,6 @@
 //! What the definitions mean: functions that do nothing, whose contracts are facts.
-ghost use Rattle.std.specs.Prelude.{◌≡◌, ◌<◌, ◌≤◌, ℕ, ℤ, pos, true, List, [], ◌∷◌, Contains, int_lt};
+ghost use Rattle.std.specs.Prelude.{◌≡◌, ◌<◌, ◌≤◌, ℕ, ℤ, pos, true, List, [], ◌∷◌, Contains};
+ghost use Rattle.std.specs.Prelude.{int_lt};
 ghost use Rattle.std.specs.List.{count_by};
 ghost use Rattle.vx_base.specs.declared.format.Format.{Format};
 ghost use Rattle.vx_base.specs.declared.format.Format.TheVariants.{U8, S16};
@@ -9,25 +10,34 @@ ghost use Rattle.vx_base.specs.Rectangle.{inside};
 ghost use Rattle.vx_base.specs.Convolution.{ConvolutionValue};
 ghost use Rattle.vx_base.specs.Image.{ImageValue, IsImage, at};
 ghost use Rattle.vx_base.specs.Node.{IsBorder};
-ghost use Rattle.vx_base.specs.Window.{nearest, look, box_mean, gaussian_mean, median, least_of, greatest_of, gradient_x, gradient_y, from_nine, from_matrix};
+ghost use Rattle.vx_base.specs.Window.{nearest, look, box_mean, gaussian_mean, median, least_of};
+ghost use Rattle.vx_base.specs.Window.{greatest_of, gradient_x, gradient_y, from_nine, from_matrix};
 
 /// At a valid place the image's sample is seen, under each border.
 pub fn valid_places()
-    ensures { (image : ImageValue) (border : Border) (x y : ℕ) → inside image.valid x y ≡ true → look image border (pos x) (pos y) ≡ at image x y }
+    ensures { (image : ImageValue) (border : Border) (x y : ℕ) → inside image.valid x y ≡ true →
+        look image border (pos x) (pos y) ≡ at image x y }
 {}
 
 /// The nearest of the numbers from `low` to `high - 1` is one of them, and none is nearer.
 pub fn nearest_number()
-    ensures within { (low high : ℕ) (v : ℤ) → low < high → (low ≤ nearest low high v) × (nearest low high v < high) }
-    ensures nearest { (low high n : ℕ) (v : ℤ) → low ≤ n → n < high → distance v (pos (nearest low high v)) ≤ distance v (pos n) }
+    ensures within { (low high : ℕ) (v : ℤ) → low < high → (low ≤ nearest low high v) ×
+        (nearest low high v < high) }
+    ensures nearest { (low high n : ℕ) (v : ℤ) → low ≤ n → n < high →
+        distance v (pos (nearest low high v)) ≤ distance v (pos n) }
 {}
 
 /// Nine numbers have one median: it is among them, at most four are smaller and at most four
 /// greater, and no other number is so.
 pub fn median_of_nine()
-    ensures among { (a b c d e f g h i : ℤ) → let zs = a ∷ b ∷ c ∷ d ∷ e ∷ f ∷ g ∷ h ∷ i ∷ [] in Contains zs (median zs) }
-    ensures fewer { (a b c d e f g h i : ℤ) → let zs = a ∷ b ∷ c ∷ d ∷ e ∷ f ∷ g ∷ h ∷ i ∷ [] in count_by (λ z. int_lt z (median zs)) zs ≤ 4 }
-    ensures more { (a b c d e f g h i : ℤ) → let zs = a ∷ b ∷ c ∷ d ∷ e ∷ f ∷ g ∷ h ∷ i ∷ [] in count_by (λ z. int_lt (median zs) z) zs ≤ 4 }
+    ensures among { (a b c d e f g h i : ℤ) →
+        let zs = a ∷ b ∷ c ∷ d ∷ e ∷ f ∷ g ∷ h ∷ i ∷ [] in Contains zs (median zs) }
+    ensures fewer { (a b c d e f g h i : ℤ) →
+        let zs = a ∷ b ∷ c ∷ d ∷ e ∷ f ∷ g ∷ h
+        ∷ i ∷ [] in count_by (λ z. int_lt z (median zs)) zs ≤ 4 }
+    ensures more { (a b c d e f g h i : ℤ) →
+        let zs = a ∷ b ∷ c ∷ d ∷ e ∷ f ∷ g ∷ h
+        ∷ i ∷ [] in count_by (λ z. int_lt (median zs) z) zs ≤ 4 }
     ensures one { (a b c d e f g h i v : ℤ) → let zs = a ∷ b ∷ c ∷ d ∷ e ∷ f ∷ g ∷ h ∷ i ∷ [] in
         count_by (λ z. int_lt z v) zs ≤ 4 → count_by (λ z. int_lt v z) zs ≤ 4 → v ≡ median zs }
 {}
@@ -35,12 +45,20 @@ pub fn median_of_nine()
 /// What a function of the nine samples gives of a U8 image is an image of the output's format, and
 /// so is what a matrix gives.
 pub fn results_are_images()
-    ensures box_means { (border : Border) (a : ImageValue) → IsBorder border → IsImage a → a.format ≡ U8 → IsImage (from_nine U8 box_mean border a) }
-    ensures gaussian_means { (border : Border) (a : ImageValue) → IsBorder border → IsImage a → a.format ≡ U8 → IsImage (from_nine U8 gaussian_mean border a) }
-    ensures medians { (border : Border) (a : ImageValue) → IsBorder border → IsImage a → a.format ≡ U8 → IsImage (from_nine U8 median border a) }
-    ensures least { (border : Border) (a : ImageValue) → IsBorder border → IsImage a → a.format ≡ U8 → IsImage (from_nine U8 least_of border a) }
-    ensures greatest { (border : Border) (a : ImageValue) → IsBorder border → IsImage a → a.format ≡ U8 → IsImage (from_nine U8 greatest_of border a) }
-    ensures gradients_x { (border : Border) (a : ImageValue) → IsBorder border → IsImage a → a.format ≡ U8 → IsImage (from_nine S16 gradient_x border a) }
-    ensures gradients_y { (border : Border) (a : ImageValue) → IsBorder border → IsImage a → a.format ≡ U8 → IsImage (from_nine S16 gradient_y border a) }
-    ensures convolutions { (format : Format) (c : ConvolutionValue) (border : Border) (a : ImageValue) → IsImage a → IsImage (from_matrix format c border a) }
+    ensures box_means { (border : Border) (a : ImageValue) → IsBorder border → IsImage a →
+        a.format ≡ U8 → IsImage (from_nine U8 box_mean border a) }
+    ensures gaussian_means { (border : Border) (a : ImageValue) → IsBorder border → IsImage a →
+        a.format ≡ U8 → IsImage (from_nine U8 gaussian_mean border a) }
+    ensures medians { (border : Border) (a : ImageValue) → IsBorder border → IsImage a →
+        a.format ≡ U8 → IsImage (from_nine U8 median border a) }
+    ensures least { (border : Border) (a : ImageValue) → IsBorder border → IsImage a →
+        a.format ≡ U8 → IsImage (from_nine U8 least_of border a) }
+    ensures greatest { (border : Border) (a : ImageValue) → IsBorder border → IsImage a →
+        a.format ≡ U8 → IsImage (from_nine U8 greatest_of border a) }
+    ensures gradients_x { (border : Border) (a : ImageValue) → IsBorder border → IsImage a →
+        a.format ≡ U8 → IsImage (from_nine S16 gradient_x border a) }
+    ensures gradients_y { (border : Border) (a : ImageValue) → IsBorder border → IsImage a →
+        a.format ≡ U8 → IsImage (from_nine S16 gradient_y border a) }
+    ensures convolutions { (format : Format) (c : ConvolutionValue) (border : Border)
+        (a : ImageValue) → IsImage a → IsImage (from_matrix format c border a) }
 {}

@@ -6,7 +6,8 @@
 //! of three rows, which are read where they stand, and then across three columns: `OfColumn` and
 //! `AcrossColumns`. `convolve` loads the rows that a window sees, with what counts beside them, and
 //! sums up the products with two coefficients at once, at 32 places (`products`). No function takes
-//! memory. `examples` works the definitions out in numbers, and `laws` states what the median means.
+//! memory. `examples` works the definitions out in numbers, and `laws` states what the median
+//! means.
 #![tactic(auto)]
 
 mod columns;

@@ -61,7 +61,9 @@ fn write_medians(low: &[u8], center: &[u8], high: &[u8], out: &mut [u8])
     requires low { length low.now ≡ length out.old + 2 }
     requires center { length center.now ≡ length out.old + 2 }
     requires high { length high.now ≡ length out.old + 2 }
-    ensures { map pos out.new ≡ run 0 (length out.old) (λ i. pos (median_of_sorted (three_at low.now i) (three_at center.now i) (three_at high.now i))) }
+    ensures { map pos out.new ≡ run 0 (length out.old)
+        (λ i. pos (median_of_sorted (three_at low.now i) (three_at center.now i)
+        (three_at high.now i))) }
 {
     for (i, sample) in out.iter_mut().enumerate() {
         *sample = median_of(

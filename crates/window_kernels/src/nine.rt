@@ -1,5 +1,6 @@
 //! Images of the nine samples around each place.
-ghost use Rattle.std.specs.Prelude.{◌≡◌, ◌+◌, ◌*◌, ◌<◌, ◌≤◌, ◌-ℤ◌, ℕ, ℤ, pos, List, [], ◌∷◌, map, length, replicate};
+ghost use Rattle.std.specs.Prelude.{◌≡◌, ◌+◌, ◌*◌, ◌<◌, ◌≤◌, ◌-ℤ◌, ℕ, ℤ, pos, List, [], ◌∷◌, map};
+ghost use Rattle.std.specs.Prelude.{length, replicate};
 ghost use Rattle.vx_base.specs.declared.format.Format.TheVariants.{U8, S16};
 ghost use Rattle.vx_base.specs.Image.{run};
 ghost use Rattle.vx_base.specs.Window.{look, nine_around, window_valid, from_nine};
@@ -23,10 +24,13 @@ pub trait OfNine<T: Sample, S: Number> {
     /// the image's, and what it holds means nothing.
     fn write_row(&self, window: &Window<'_, '_>, x: u16, y: u16, scratch: &mut [S], out: &mut [T])
         requires rows { window.now.image.now.valid.y0 < window.now.image.now.valid.y1 }
-        requires columns { (window.now.image.now.valid.x0 ≤ x) × (x + length out.old ≤ window.now.image.now.valid.x1) }
+        requires columns { (window.now.image.now.valid.x0 ≤ x) ×
+            (x + length out.old ≤ window.now.image.now.valid.x1) }
         requires some { 1 ≤ length out.old }
         requires scratch { 3 * (length out.old + 2) ≤ length scratch.old }
-        ensures { map T.value out.new ≡ run x (length out.old) (λ k. formula self.now (nine_around (look window.now.image.now window.now.border) (pos k) (pos y))) };
+        ensures { map T.value out.new ≡ run x (length out.old)
+            (λ k. formula self.now (nine_around (look window.now.image.now window.now.border)
+            (pos k) (pos y))) };
 }
 
 /// A function of nine samples that goes down the columns and then across three of them.
@@ -38,10 +42,12 @@ pub trait AcrossColumns<T: Sample, S: Number>: OfColumn<S> {
     ghost of_nine: { Self → List ℤ → ℤ };
 
     fn join(&self, left: S, middle: S, right: S) -> T
-        ensures { T.value result ≡ joined self.now (S.value left) (S.value middle) (S.value right) };
+        ensures { T.value result ≡ joined self.now (S.value left) (S.value middle)
+            (S.value right) };
 
     ghost is_of_nine: { (k : Self) (a b c d e f g h i : ℤ) →
-        joined k (Self.gives k a d g) (Self.gives k b e h) (Self.gives k c f i) ≡ of_nine k (a ∷ b ∷ c ∷ d ∷ e ∷ f ∷ g ∷ h ∷ i ∷ []) };
+        joined k (Self.gives k a d g) (Self.gives k b e h) (Self.gives k c f i)
+        ≡ of_nine k (a ∷ b ∷ c ∷ d ∷ e ∷ f ∷ g ∷ h ∷ i ∷ []) };
 }
 
 /// Writes what each three columns give.
@@ -51,7 +57,9 @@ fn write_across<T: Sample, S: Number, K: AcrossColumns<T, S>>(
     out: &mut [T],
 )
     requires { length columns.now ≡ length out.old + 2 }
-    ensures { (g : ℕ → ℤ) → map S.value columns.now ≡ run 0 (length columns.now) g → map T.value out.new ≡ run 0 (length out.old) (λ i. K.joined kernel.now (g i) (g (i + 1)) (g (i + 2))) }
+    ensures { (g : ℕ → ℤ) → map S.value columns.now ≡ run 0 (length columns.now) g →
+        map T.value out.new ≡ run 0 (length out.old)
+        (λ i. K.joined kernel.now (g i) (g (i + 1)) (g (i + 2))) }
 {
     for (i, sample) in out.iter_mut().enumerate() {
         *sample = kernel.join(columns[i], columns[i + 1], columns[i + 2]);
@@ -68,10 +76,13 @@ pub fn write_by_columns<T: Sample, S: Number, K: AcrossColumns<T, S>>(
     out: &mut [T],
 )
     requires rows { window.now.image.now.valid.y0 < window.now.image.now.valid.y1 }
-    requires columns { (window.now.image.now.valid.x0 ≤ x) × (x + length out.old ≤ window.now.image.now.valid.x1) }
+    requires columns { (window.now.image.now.valid.x0 ≤ x) ×
+        (x + length out.old ≤ window.now.image.now.valid.x1) }
     requires some { 1 ≤ length out.old }
     requires scratch { 3 * (length out.old + 2) ≤ length scratch.old }
-    ensures { map T.value out.new ≡ run x (length out.old) (λ k. K.of_nine kernel.now (nine_around (look window.now.image.now window.now.border) (pos k) (pos y))) }
+    ensures { map T.value out.new ≡ run x (length out.old)
+        (λ k. K.of_nine kernel.now (nine_around (look window.now.image.now window.now.border)
+        (pos k) (pos y))) }
 {
     let columns = &mut scratch[..out.len() + 2];
     window.write_columns(kernel, x, y, columns);
@@ -86,7 +97,8 @@ struct FromNine<'a, 'b, K> {
 }
 
 impl<T: Sample, S: Number, K: OfNine<T, S>> RowFormula<T, S> for FromNine<'_, '_, K> {
-    ghost at = { λ s x y. K.formula s.kernel.now (nine_around (look s.window.now.image.now s.window.now.border) (pos x) (pos y)) };
+    ghost at = { λ s x y. K.formula s.kernel.now
+        (nine_around (look s.window.now.image.now s.window.now.border) (pos x) (pos y)) };
 
     ghost area = { λ s. s.window.now.area };
 
@@ -119,10 +131,12 @@ fn write_with_rows<T: Sample, S: Number, K: OfNine<T, S>>(
     requires size { HaveSameSize (written output.old) image.now }
     requires input_format { image.now.format ≡ U8 }
     requires format { (written output.old).format ≡ T.format }
-    requires off_rows { map pos off_rows.now ≡ replicate (length off_rows.now) (value_beside border (pos 0)) }
+    requires off_rows { map pos off_rows.now
+        ≡ replicate (length off_rows.now) (value_beside border (pos 0)) }
     requires room { image.now.width ≤ length off_rows.now }
     requires scratch { 3 * (image.now.width + 2) ≤ length scratch.old }
-    ensures { Writes (from_nine T.format (K.formula kernel.now) border image.now) output.old output.new }
+    ensures { Writes (from_nine T.format (K.formula kernel.now) border image.now)
+        output.old output.new }
 {
     let area = window_valid(border, 1, 1, image.valid());
     let window = Window {
@@ -170,7 +184,8 @@ pub fn write_nine<T: Sample, S: Number, K: OfNine<T, S>>(
     requires input_format { image.now.format ≡ U8 }
     requires format { (written output.old).format ≡ T.format }
     requires scratch { 3 * (image.now.width + 2) ≤ length scratch.old }
-    ensures { Writes (from_nine T.format (K.formula kernel.now) border image.now) output.old output.new }
+    ensures { Writes (from_nine T.format (K.formula kernel.now) border image.now)
+        output.old output.new }
 {
     let _limits = image.valid();
     let width = image.desc().width();
@@ -194,12 +209,15 @@ fn write_two_with_rows<S: Number, R: Number, K: OfNine<i16, S>, L: OfNine<i16, R
     requires fits { WindowFits S16 image.now output.old }
     requires other_fits { WindowFits S16 image.now other.old }
     requires rows { other.old.rows ≡ output.old.rows }
-    requires off_rows { map pos off_rows.now ≡ replicate (length off_rows.now) (value_beside border (pos 0)) }
+    requires off_rows { map pos off_rows.now
+        ≡ replicate (length off_rows.now) (value_beside border (pos 0)) }
     requires room { image.now.width ≤ length off_rows.now }
     requires scratch { 3 * (image.now.width + 2) ≤ length scratch.old }
     requires other_scratch { 3 * (image.now.width + 2) ≤ length room.old }
-    ensures first { Writes (from_nine S16 (K.formula first.now) border image.now) output.old output.new }
-    ensures second { Writes (from_nine S16 (L.formula second.now) border image.now) other.old other.new }
+    ensures first { Writes (from_nine S16 (K.formula first.now) border image.now)
+        output.old output.new }
+    ensures second { Writes (from_nine S16 (L.formula second.now) border image.now)
+        other.old other.new }
 {
     let area = window_valid(border, 1, 1, image.valid());
     let window = Window {
@@ -237,8 +255,10 @@ pub fn write_two_nines<S: Number, R: Number, K: OfNine<i16, S>, L: OfNine<i16, R
     requires rows { other.old.rows ≡ output.old.rows }
     requires scratch { 3 * (image.now.width + 2) ≤ length scratch.old }
     requires other_scratch { 3 * (image.now.width + 2) ≤ length room.old }
-    ensures first { Writes (from_nine S16 (K.formula first.now) border image.now) output.old output.new }
-    ensures second { Writes (from_nine S16 (L.formula second.now) border image.now) other.old other.new }
+    ensures first { Writes (from_nine S16 (K.formula first.now) border image.now)
+        output.old output.new }
+    ensures second { Writes (from_nine S16 (L.formula second.now) border image.now)
+        other.old other.new }
 {
     let _limits = image.valid();
     let width = image.desc().width();

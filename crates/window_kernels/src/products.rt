@@ -3,11 +3,14 @@
 //! It multiplies 16 numbers by 16 others and adds up the products of each two neighbours. So a
 //! vector of two coefficients in turn gives what both of them add at every second place, and the
 //! same from the next place on what they add at the places between.
-ghost use Rattle.std.specs.Prelude.{◌≡◌, ◌+◌, ◌-◌, ◌*◌, ◌<◌, ◌≤◌, ℕ, ℤ, ◌+ℤ◌, ◌*ℤ◌, length, FitsSigned};
+ghost use Rattle.std.specs.Prelude.{◌≡◌, ◌+◌, ◌-◌, ◌*◌, ◌<◌, ◌≤◌, ℕ, ℤ, ◌+ℤ◌, ◌*ℤ◌, length};
+ghost use Rattle.std.specs.Prelude.{FitsSigned};
 ghost use Rattle.std.specs.Int.{w16};
 ghost use Rattle.std.specs.Simd.Lanes.{zip2, chunk, Each1};
 ghost use Rattle.vx_base.specs.Image.{run};
-ghost use Rattle.window_kernels.specs.Products.{IsUpTo, AreUpTo, evens_of, odds_of, alternating, pair_at, row_sum, IsTable, row_of, sum_of_rows};
+ghost use Rattle.window_kernels.specs.Products.{IsUpTo, AreUpTo, evens_of, odds_of, alternating};
+ghost use Rattle.window_kernels.specs.Products.{pair_at, row_sum, IsPairTable, line_of};
+ghost use Rattle.window_kernels.specs.Products.{sum_of_rows};
 
 use std::simd::prelude::*;
 
@@ -17,7 +20,8 @@ fn pair_products(samples: i16x16, coefficients: i16x16) -> i32x8
     requires coefficients_len { length coefficients ≡ 16 }
     requires limit { Each1 (IsUpTo 255) samples }
     requires fits { Each1 (FitsSigned w16) coefficients }
-    ensures value { result ≡ zip2 ◌+ℤ◌ (zip2 ◌*ℤ◌ (evens_of samples) (evens_of coefficients)) (zip2 ◌*ℤ◌ (odds_of samples) (odds_of coefficients)) }
+    ensures value { result ≡ zip2 ◌+ℤ◌ (zip2 ◌*ℤ◌ (evens_of samples) (evens_of coefficients))
+        (zip2 ◌*ℤ◌ (odds_of samples) (odds_of coefficients)) }
     ensures limit { Each1 (IsUpTo 16711680) result }
 {
     samples.swizzle([0, 2, 4, 6, 8, 10, 12, 14]).cast::<i32>()
@@ -38,7 +42,8 @@ fn eight_places(row: &[i16], place: usize, table: &[i16], at: usize) -> i32x8
     requires limit { Each1 (IsUpTo 255) row.now }
     requires table_room { at + 16 ≤ length table.now }
     requires fits { Each1 (FitsSigned w16) table.now }
-    ensures value { (a b : ℤ) → chunk at 16 table.now ≡ alternating 8 a b → result ≡ run 0 8 (λ i. pair_at row.now a b (place + 2 * i)) }
+    ensures value { (a b : ℤ) → chunk at 16 table.now ≡ alternating 8 a b →
+        result ≡ run 0 8 (λ i. pair_at row.now a b (place + 2 * i)) }
     ensures len { length result ≡ 8 }
     ensures limit { Each1 (IsUpTo 16711680) result }
 {
@@ -55,7 +60,8 @@ fn sixteen_places(row: &[i16], place: usize, table: &[i16], at: usize) -> i32x16
     requires limit { Each1 (IsUpTo 255) row.now }
     requires table_room { at + 16 ≤ length table.now }
     requires fits { Each1 (FitsSigned w16) table.now }
-    ensures value { (a b : ℤ) → chunk at 16 table.now ≡ alternating 8 a b → result ≡ run 0 16 (λ i. pair_at row.now a b (place + 2 * i)) }
+    ensures value { (a b : ℤ) → chunk at 16 table.now ≡ alternating 8 a b →
+        result ≡ run 0 16 (λ i. pair_at row.now a b (place + 2 * i)) }
     ensures len { length result ≡ 16 }
     ensures limit { Each1 (IsUpTo 16711680) result }
 {
@@ -83,18 +89,22 @@ fn add_row(
     requires room { place + 2 * pairs + 31 ≤ length row.now }
     requires limit { Each1 (IsUpTo 255) row.now }
     requires table_len { 16 * pairs ≤ length table.now }
-    requires table { IsTable pairs table.now }
+    requires table { IsPairTable pairs table.now }
     requires fits { Each1 (FitsSigned w16) table.now }
     requires even_len { length even ≡ 16 }
     requires odd_len { length odd ≡ 16 }
     requires even_limit { Each1 (IsUpTo ((45 - pairs) * 16711680)) even }
     requires odd_limit { Each1 (IsUpTo ((45 - pairs) * 16711680)) odd }
-    ensures even { (f : ℕ → ℤ) → even ≡ run 0 16 f → result.0 ≡ run 0 16 (λ i. f i +ℤ row_sum row.now table.now pairs (place + 2 * i)) }
-    ensures odd { (f : ℕ → ℤ) → odd ≡ run 0 16 f → result.1 ≡ run 0 16 (λ i. f i +ℤ row_sum row.now table.now pairs (place + 1 + 2 * i)) }
+    ensures even { (f : ℕ → ℤ) → even ≡ run 0 16 f →
+        result.0 ≡ run 0 16 (λ i. f i +ℤ row_sum row.now table.now pairs (place + 2 * i)) }
+    ensures odd { (f : ℕ → ℤ) → odd ≡ run 0 16 f →
+        result.1 ≡ run 0 16 (λ i. f i +ℤ row_sum row.now table.now pairs (place + 1 + 2 * i)) }
     ensures even_len { length result.0 ≡ 16 }
     ensures odd_len { length result.1 ≡ 16 }
-    ensures even_limit { (limit : ℕ) → Each1 (IsUpTo limit) even → Each1 (IsUpTo (limit + pairs * 16711680)) result.0 }
-    ensures odd_limit { (limit : ℕ) → Each1 (IsUpTo limit) odd → Each1 (IsUpTo (limit + pairs * 16711680)) result.1 }
+    ensures even_limit { (limit : ℕ) → Each1 (IsUpTo limit) even →
+        Each1 (IsUpTo (limit + pairs * 16711680)) result.0 }
+    ensures odd_limit { (limit : ℕ) → Each1 (IsUpTo limit) odd →
+        Each1 (IsUpTo (limit + pairs * 16711680)) result.1 }
 {
     let (mut left, mut right) = (even, odd);
     for j in 0..pairs {
@@ -109,7 +119,7 @@ fn add_row(
 /// One of the rows that stand one after another.
 fn row_of(items: &[i16], line: u16, l: u8) -> &[i16]
     requires { l * line + line ≤ length items.now }
-    ensures { result.now ≡ row_of items.now line l }
+    ensures { result.now ≡ line_of items.now line l }
 {
     let step = usize::from(line);
     let start = usize::from(l) * step;
@@ -131,10 +141,12 @@ fn sum_rows(
     requires room { place + 2 * pairs + 31 ≤ line }
     requires limit { Each1 (IsUpTo 255) rows.now }
     requires tables_len { length tables.now ≡ count * 80 }
-    requires tables { (l : ℕ) → l < count → IsTable pairs (row_of tables.now 80 l) }
+    requires tables { (l : ℕ) → l < count → IsPairTable pairs (line_of tables.now 80 l) }
     requires fits { Each1 (FitsSigned w16) tables.now }
-    ensures even { result.0 ≡ run 0 16 (λ i. sum_of_rows rows.now line tables.now pairs count (place + 2 * i)) }
-    ensures odd { result.1 ≡ run 0 16 (λ i. sum_of_rows rows.now line tables.now pairs count (place + 1 + 2 * i)) }
+    ensures even { result.0 ≡ run 0 16 (λ i.
+        sum_of_rows rows.now line tables.now pairs count (place + 2 * i)) }
+    ensures odd { result.1 ≡ run 0 16 (λ i.
+        sum_of_rows rows.now line tables.now pairs count (place + 1 + 2 * i)) }
     ensures even_limit { Each1 (IsUpTo 752025600) result.0 }
     ensures odd_limit { Each1 (IsUpTo 752025600) result.1 }
 {
@@ -162,9 +174,10 @@ pub fn sum_block(
     requires room { place + 2 * pairs + 31 ≤ line }
     requires limit { Each1 (IsUpTo 255) rows.now }
     requires tables_len { length tables.now ≡ count * 80 }
-    requires tables { (l : ℕ) → l < count → IsTable pairs (row_of tables.now 80 l) }
+    requires tables { (l : ℕ) → l < count → IsPairTable pairs (line_of tables.now 80 l) }
     requires fits { Each1 (FitsSigned w16) tables.now }
-    ensures value { result ≡ run 0 32 (λ i. sum_of_rows rows.now line tables.now pairs count (place + i)) }
+    ensures value { result ≡ run 0 32 (λ i.
+        sum_of_rows rows.now line tables.now pairs count (place + i)) }
     ensures size { AreUpTo 752025600 result }
 {
     let (even, odd) = sum_rows(rows, line, tables, count, pairs, place);

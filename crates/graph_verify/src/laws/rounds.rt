@@ -11,15 +11,22 @@ ghost use Rattle.graph_verify.specs.Verdict.{two_writers, verdict};
 /// Once through the nodes in an order is the rounds, where no cell has two writers and a node's
 /// value depends on what it reads alone.
 pub fn once_through_an_order<V>()
-    ensures { (value : Node → (Cell → V) → Cell → V) (nodes steps : List Node) (held : Cell → V) → ReadsAlone reads value → two_writers nodes ≡ false →
-        IsOrder feeds nodes steps → (cell : Cell) → once writes value steps held cell ≡ rounds writes value nodes (length nodes) held cell }
+    ensures { (value : Node → (Cell → V) → Cell → V) (nodes steps : List Node) (held : Cell → V) →
+        ReadsAlone reads value → two_writers nodes ≡ false →
+        IsOrder feeds nodes steps → (cell : Cell) →
+        once writes value steps held cell ≡ rounds writes value nodes (length nodes) held cell }
 {}
 
 /// The rounds of a graph that can run give its only solution: each written cell has its node's
 /// value, and every other cell is as it was.
 pub fn only_solution<V>()
-    ensures solves { (value : Node → (Cell → V) → Cell → V) (work : ℕ) (is : Cell → Operand) (nodes : List Node) (held : Cell → V) → ReadsAlone reads value → verdict work is nodes ≡ None →
+    ensures solves { (value : Node → (Cell → V) → Cell → V) (work : ℕ) (is : Cell → Operand)
+        (nodes : List Node) (held : Cell → V) → ReadsAlone reads value →
+        verdict work is nodes ≡ None →
         IsSolution writes value nodes held (rounds writes value nodes (length nodes) held) }
-    ensures only { (value : Node → (Cell → V) → Cell → V) (work : ℕ) (is : Cell → Operand) (nodes : List Node) (held after : Cell → V) → ReadsAlone reads value → verdict work is nodes ≡ None →
-        IsSolution writes value nodes held after → (cell : Cell) → after cell ≡ rounds writes value nodes (length nodes) held cell }
+    ensures only { (value : Node → (Cell → V) → Cell → V) (work : ℕ) (is : Cell → Operand)
+        (nodes : List Node) (held after : Cell → V) → ReadsAlone reads value →
+        verdict work is nodes ≡ None →
+        IsSolution writes value nodes held after → (cell : Cell) →
+        after cell ≡ rounds writes value nodes (length nodes) held cell }
 {}

@@ -12,12 +12,14 @@ ghost use Rattle.graph_verify.specs.Verdict.{verdict, verdict_on};
 
 /// A node of a graph that can run can run by itself, on what its cells are found to be.
 pub fn each_node_can_run()
-    ensures { (work : ℕ) (is : Cell → Operand) (nodes : List Node) (n : Node) → verdict work is nodes ≡ None → In n nodes →
+    ensures { (work : ℕ) (is : Cell → Operand) (nodes : List Node) (n : Node) →
+        verdict work is nodes ≡ None → In n nodes →
         verdict_on n (operands_of (resolved is nodes) n) ≡ None }
 {}
 
 /// The verdict on a graph of one node that names no virtual image is that on the node.
 pub fn one_node()
-    ensures { (work : ℕ) (is : Cell → Operand) (n : Node) → list_any (λ c. is_virtual (is c)) (inputs n ++ outputs n) ≡ false →
+    ensures { (work : ℕ) (is : Cell → Operand) (n : Node) →
+        list_any (λ c. is_virtual (is c)) (inputs n ++ outputs n) ≡ false →
         verdict work is (n ∷ []) ≡ verdict_on n (operands_of is n) }
 {}

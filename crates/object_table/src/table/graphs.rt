@@ -1,5 +1,6 @@
 //! The graphs of a table, whose nodes use what it holds.
-ghost use Rattle.std.specs.Prelude.{◌≡◌, ◌*◌, ◌<◌, ◌≤◌, true, map, not, if◌then◌else◌, IsTrue, is_some, is_none, All, Some, Ok, Err, IfOk, IfErr, OnOk, OnErr};
+ghost use Rattle.std.specs.Prelude.{◌≡◌, ◌*◌, ◌<◌, ◌≤◌, true, map, not, if◌then◌else◌, IsTrue};
+ghost use Rattle.std.specs.Prelude.{is_some, is_none, All, Some, Ok, Err, IfOk, IfErr, OnOk, OnErr};
 ghost use Rattle.std.specs.Result.{is_err};
 ghost use Rattle.std.specs.List.{flat_map};
 ghost use Rattle.std.specs.Option.{option_map};
@@ -15,8 +16,12 @@ ghost use Rattle.object_table.specs.declared.fault.TableFault.TheVariants.{Inval
 ghost use Rattle.object_table.specs.Context.{object_named, charge_of, with_objects, with_graph};
 ghost use Rattle.object_table.specs.Holds.{still_held, unnamed};
 ghost use Rattle.object_table.specs.Named.{object_held};
-ghost use Rattle.object_table.specs.Table.{IsUnder, graph_under, named, nodes_at, used_more, used_less, ended, is_kept, kept};
+ghost use Rattle.object_table.specs.Table.{IsUnder, graph_under, named, nodes_at, used_more};
+ghost use Rattle.object_table.specs.Table.{used_less, ended, is_kept, kept};
 ghost use Rattle.object_table.specs.Uses.{used_names};
+ghost use Rattle.vx_base.specs.declared.desc.TheConstants.{GREATEST_BYTES};
+ghost use Rattle.vx_base.specs.declared.slots.TheConstants.{GREATEST_SLOTS};
+ghost use Rattle.object_table.specs.declared.table.TheConstants.{GREATEST_COUNT};
 
 use crate::fault::TableFault;
 use crate::table::{Entry, Table};
@@ -42,11 +47,17 @@ impl Table {
     pub fn add_node(&mut self, graph: u32, node: NodeSpec) -> Result<u32, GraphFault>
         requires graph { IsUnder self.old.objects kind.Graph graph }
         requires live { IsTrue (is_some (object_named self.old.objects graph)) }
-        requires held { All (λ name. IsTrue (is_some (object_held self.old.objects name))) (used_names node) }
-        ensures number { IfOk result (λ number. number ≡ (graph_under self.old.objects graph).next) }
-        ensures ok { OnOk result (self.new ≡ with_objects self.old (with_graph self.old.objects graph (with_node (graph_under self.old.objects graph) node))) }
+        requires held { All (λ name. IsTrue (is_some (object_held self.old.objects name)))
+            (used_names node) }
+        ensures number { IfOk result (λ number. number
+            ≡ (graph_under self.old.objects graph).next) }
+        ensures ok { OnOk result (self.new
+            ≡ with_objects self.old (with_graph self.old.objects graph
+            (with_node (graph_under self.old.objects graph) node))) }
         ensures room { OnOk result (IsTrue (can_add (graph_under self.old.objects graph))) }
-        ensures fault { IfErr result (λ fault. fault ≡ (if can_add (graph_under self.old.objects graph) then graph_fault.NoMemory else graph_fault.NoResources)) }
+        ensures fault { IfErr result (λ fault. fault
+            ≡ (if can_add (graph_under self.old.objects graph)
+            then graph_fault.NoMemory else graph_fault.NoResources)) }
         ensures err { OnErr result (self.new ≡ self.old) }
     {
         let Some(entry) = self.entries.get_mut(&graph) else {
@@ -58,13 +69,17 @@ impl Table {
     }
 
     /// Removes the node of this number from the unreleased graph of this name. What is then neither
-    /// named nor used is no longer held. `InvalidReference`: the graph has no such node. It takes no
-    /// memory.
+    /// named nor used is no longer held. `InvalidReference`: the graph has no such node. It takes
+    /// no memory.
     pub fn remove_node(&mut self, graph: u32, number: u32) -> Result<(), GraphFault>
         requires graph { IsUnder self.old.objects kind.Graph graph }
         requires live { IsTrue (is_some (object_named self.old.objects graph)) }
-        ensures ok { OnOk result (self.new ≡ with_objects self.old (still_held (with_graph self.old.objects graph (without_node (graph_under self.old.objects graph) number)))) }
-        ensures missing { is_err result ≡ not (has_node (graph_under self.old.objects graph) number) }
+        ensures ok { OnOk result (self.new
+            ≡ with_objects self.old (still_held
+            (with_graph self.old.objects graph
+            (without_node (graph_under self.old.objects graph) number)))) }
+        ensures missing { is_err result ≡ not
+            (has_node (graph_under self.old.objects graph) number) }
         ensures fault { IfErr result (λ fault. fault ≡ graph_fault.InvalidReference) }
         ensures err { OnErr result (self.new ≡ self.old) }
     {
@@ -78,11 +93,13 @@ impl Table {
         Ok(())
     }
 
-    /// Ends a name; with a graph's name its nodes end their uses. What is then neither named nor used
-    /// is no longer held, and its memory is given back. It takes no memory.
+    /// Ends a name; with a graph's name its nodes end their uses. What is then neither named nor
+    /// used is no longer held, and its memory is given back. It takes no memory.
     pub fn release(&mut self, name: u32) -> Result<(), TableFault>
-        ensures result { result ≡ (if is_none (object_named self.old.objects name) then Err InvalidReference else Ok tt) }
-        ensures ok { OnOk result (self.new ≡ with_objects self.old (still_held (unnamed self.old.objects name))) }
+        ensures result { result ≡ (if is_none (object_named self.old.objects name)
+            then Err InvalidReference else Ok tt) }
+        ensures ok { OnOk result (self.new
+            ≡ with_objects self.old (still_held (unnamed self.old.objects name))) }
         ensures err { OnErr result (self.new ≡ self.old) }
     {
         let Some(entry) = self.entries.get(&name) else {
@@ -101,7 +118,7 @@ impl Table {
 
 /// A node begins to use what its operands name, each as often as it is an operand.
 fn begin_uses(entries: &mut BTreeMap<u32, Entry>, node: &Node)
-    requires { All (λ e. e.1.uses ≤ 1024 * 1024) entries.old.entries }
+    requires { All (λ e. e.1.uses ≤ GREATEST_COUNT * GREATEST_COUNT) entries.old.entries }
     ensures { entries.new.entries ≡ used_more (used_names node.now) entries.old.entries }
 {
     begin_use(entries, Some(node.in1));
@@ -113,7 +130,8 @@ fn begin_uses(entries: &mut BTreeMap<u32, Entry>, node: &Node)
 /// A node begins to use an operand, if it has that.
 fn begin_use(entries: &mut BTreeMap<u32, Entry>, operand: Option<ObjRef>)
     requires { All (λ e. e.1.uses < 4294967295) entries.old.entries }
-    ensures { entries.new.entries ≡ used_more (map (λ cell. cell.name) (given operand)) entries.old.entries }
+    ensures { entries.new.entries ≡ used_more (map (λ cell. cell.name) (given operand))
+        entries.old.entries }
 {
     if let Some(cell) = operand {
         if let Some(entry) = entries.get_mut(&cell.name()) {
@@ -122,12 +140,13 @@ fn begin_use(entries: &mut BTreeMap<u32, Entry>, operand: Option<ObjRef>)
     }
 }
 
-/// A node ends its uses. What is then neither named nor used is dropped. Says what all the others are
-/// charged.
+/// A node ends its uses. What is then neither named nor used is dropped. Says what all the others
+/// are charged.
 fn end_uses(entries: &mut BTreeMap<u32, Entry>, charge: u64, node: &Node) -> u64
     requires held { All (λ e. IsTrue (is_kept e)) entries.old.entries }
     requires charge { charge ≡ charge_of (map named entries.old.entries) }
-    ensures entries { entries.new.entries ≡ kept (used_less (used_names node.now) entries.old.entries) }
+    ensures entries { entries.new.entries
+        ≡ kept (used_less (used_names node.now) entries.old.entries) }
     ensures charge { result ≡ charge_of (map named entries.new.entries) }
 {
     let charge = end_use(entries, charge, Some(node.in1));
@@ -140,7 +159,8 @@ fn end_uses(entries: &mut BTreeMap<u32, Entry>, charge: u64, node: &Node) -> u64
 fn end_use(entries: &mut BTreeMap<u32, Entry>, charge: u64, operand: Option<ObjRef>) -> u64
     requires held { All (λ e. IsTrue (is_kept e)) entries.old.entries }
     requires charge { charge ≡ charge_of (map named entries.old.entries) }
-    ensures entries { entries.new.entries ≡ kept (used_less (map (λ cell. cell.name) (given operand)) entries.old.entries) }
+    ensures entries { entries.new.entries
+        ≡ kept (used_less (map (λ cell. cell.name) (given operand)) entries.old.entries) }
     ensures charge { result ≡ charge_of (map named entries.new.entries) }
 {
     let Some(cell) = operand else {
@@ -159,11 +179,15 @@ fn end_use(entries: &mut BTreeMap<u32, Entry>, charge: u64, operand: Option<ObjR
 
 /// All nodes of the graph under a live name end their uses, as `end_uses` says.
 fn end_all_uses(entries: &mut BTreeMap<u32, Entry>, charge: u64, graph: u32) -> u64
-    requires graph { option_map (λ e. object_kind e.object) (lookup (is_at (nat_cmp graph)) entries.old.entries) ≡ Some kind.Graph }
-    requires live { option_map (λ e. e.live) (lookup (is_at (nat_cmp graph)) entries.old.entries) ≡ Some true }
+    requires graph { option_map (λ e. object_kind e.object)
+        (lookup (is_at (nat_cmp graph)) entries.old.entries) ≡ Some kind.Graph }
+    requires live { option_map (λ e. e.live)
+        (lookup (is_at (nat_cmp graph)) entries.old.entries) ≡ Some true }
     requires held { All (λ e. IsTrue (is_kept e)) entries.old.entries }
     requires charge { charge ≡ charge_of (map named entries.old.entries) }
-    ensures entries { entries.new.entries ≡ kept (used_less (flat_map used_names (nodes_at graph entries.old.entries)) entries.old.entries) }
+    ensures entries { entries.new.entries
+        ≡ kept (used_less (flat_map used_names (nodes_at graph entries.old.entries))
+        entries.old.entries) }
     ensures charge { result ≡ charge_of (map named entries.new.entries) }
 {
     let mut left = charge;
@@ -175,7 +199,8 @@ fn end_all_uses(entries: &mut BTreeMap<u32, Entry>, charge: u64, graph: u32) -> 
     left
 }
 
-/// A name ends. What it stood for is dropped if no node uses it. Says what all the others are charged.
+/// A name ends. What it stood for is dropped if no node uses it. Says what all the others are
+/// charged.
 fn end_name(entries: &mut BTreeMap<u32, Entry>, charge: u64, name: u32) -> u64
     requires held { All (λ e. IsTrue (is_kept e)) entries.old.entries }
     requires charge { charge ≡ charge_of (map named entries.old.entries) }
@@ -195,7 +220,8 @@ fn end_name(entries: &mut BTreeMap<u32, Entry>, charge: u64, name: u32) -> u64
 /// Drops what is under a name, and says what all the others are charged.
 fn drop_entry(entries: &mut BTreeMap<u32, Entry>, charge: u64, name: u32) -> u64
     requires { charge ≡ charge_of (map named entries.old.entries) }
-    ensures entries { entries.new.entries ≡ remove_entry (is_at (nat_cmp name)) entries.old.entries }
+    ensures entries { entries.new.entries
+        ≡ remove_entry (is_at (nat_cmp name)) entries.old.entries }
     ensures charge { result ≡ charge_of (map named entries.new.entries) }
 {
     match entries.remove(&name) {
@@ -206,7 +232,8 @@ fn drop_entry(entries: &mut BTreeMap<u32, Entry>, charge: u64, name: u32) -> u64
 
 /// The nodes of the graph under a name.
 fn nodes_under(entries: &BTreeMap<u32, Entry>, graph: u32) -> &[Numbered]
-    requires { option_map (λ e. object_kind e.object) (lookup (is_at (nat_cmp graph)) entries.now.entries) ≡ Some kind.Graph }
+    requires { option_map (λ e. object_kind e.object)
+        (lookup (is_at (nat_cmp graph)) entries.now.entries) ≡ Some kind.Graph }
     ensures { map (λ n. n.node) result.now ≡ nodes_at graph entries.now.entries }
 {
     match entries.get(&graph) {

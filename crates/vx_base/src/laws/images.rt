@@ -4,8 +4,10 @@ ghost use Rattle.vx_base.specs.Sample.{IsSample};
 ghost use Rattle.vx_base.specs.declared.format.Format.{Format};
 ghost use Rattle.vx_base.specs.Rectangle.{Rectangle, inside, IsOrdered, IsWithin};
 ghost use Rattle.vx_base.specs.Description.{IsDescription};
-ghost use Rattle.vx_base.specs.Image.{ImageValue, IsImage, description_of, band, table, at, made, new_image};
+ghost use Rattle.vx_base.specs.Image.{ImageValue, IsImage, description_of, band, table, at, made};
+ghost use Rattle.vx_base.specs.Image.{new_image};
 ghost use Rattle.vx_base.specs.Picture.{PictureValue, IsPicture, picture_of, pictured};
+ghost use Rattle.vx_base.specs.declared.desc.TheConstants.{GREATEST_SIDE};
 
 /// A table has a sample for each place.
 pub fn table_size()
@@ -17,25 +19,33 @@ pub fn table_size()
 pub fn bands()
     ensures whole { (a : ImageValue) → IsImage a → band a.width 0 a.height (at a) ≡ a.samples }
     ensures joined { (width start above below : ℕ) (f : ℕ → ℕ → ℤ) →
-        band width start (above + below) f ≡ band width start above f ++ band width (start + above) below f }
+        band width start (above + below) f
+        ≡ band width start above f ++ band width (start + above) below f }
 {}
 
 /// An image made of a function is that function at the valid places, and 0 elsewhere; where the
 /// sides are allowed and the function gives samples of the format it is an image.
 pub fn made_samples()
     ensures image { (width height : ℕ) (format : Format) (valid : Rectangle) (f : ℕ → ℕ → ℤ) →
-        width ≤ 4096 → height ≤ 4096 → IsOrdered valid → IsWithin valid width height →
-        ((x y : ℕ) → inside valid x y ≡ true → IsSample format (f x y)) → IsImage (made width height format valid f) }
-    ensures valid { (width height : ℕ) (format : Format) (valid : Rectangle) (f : ℕ → ℕ → ℤ) (x y : ℕ) →
-        x < width → y < height → inside valid x y ≡ true → at (made width height format valid f) x y ≡ f x y }
-    ensures outside { (width height : ℕ) (format : Format) (valid : Rectangle) (f : ℕ → ℕ → ℤ) (x y : ℕ) →
-        x < width → y < height → inside valid x y ≡ false → at (made width height format valid f) x y ≡ pos 0 }
+        width ≤ GREATEST_SIDE → height ≤ GREATEST_SIDE → IsOrdered valid →
+        IsWithin valid width height →
+        ((x y : ℕ) → inside valid x y ≡ true → IsSample format (f x y)) →
+        IsImage (made width height format valid f) }
+    ensures valid { (width height : ℕ) (format : Format) (valid : Rectangle)
+        (f : ℕ → ℕ → ℤ) (x y : ℕ) →
+        x < width → y < height → inside valid x y ≡ true →
+        at (made width height format valid f) x y ≡ f x y }
+    ensures outside { (width height : ℕ) (format : Format) (valid : Rectangle)
+        (f : ℕ → ℕ → ℤ) (x y : ℕ) →
+        x < width → y < height → inside valid x y ≡ false →
+        at (made width height format valid f) x y ≡ pos 0 }
 {}
 
 /// A picture makes an image, and the samples of an image make a picture.
 pub fn pictures()
     ensures image { (p : PictureValue) → IsPicture p → IsImage (pictured p) }
-    ensures picture { (a : ImageValue) → IsDescription (description_of a) → IsImage a → IsPicture (picture_of a) }
+    ensures picture { (a : ImageValue) → IsDescription (description_of a) → IsImage a →
+        IsPicture (picture_of a) }
 {}
 
 /// Two images of one description and rectangle that agree at each place are one.
@@ -52,6 +62,8 @@ pub fn made_of_itself()
 
 /// A new image is an image, and 0 at each place.
 pub fn new_is_zero()
-    ensures image { (width height : ℕ) (format : Format) → width ≤ 4096 → height ≤ 4096 → IsImage (new_image width height format) }
-    ensures zero { (width height : ℕ) (format : Format) (x y : ℕ) → x < width → y < height → at (new_image width height format) x y ≡ pos 0 }
+    ensures image { (width height : ℕ) (format : Format) → width ≤ GREATEST_SIDE →
+        height ≤ GREATEST_SIDE → IsImage (new_image width height format) }
+    ensures zero { (width height : ℕ) (format : Format) (x y : ℕ) → x < width → y < height →
+        at (new_image width height format) x y ≡ pos 0 }
 {}

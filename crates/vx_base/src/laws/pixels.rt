@@ -1,5 +1,7 @@
 //! Laws of the pixel formulas.
-ghost use Rattle.std.specs.Prelude.{◌≡◌, ◌<◌, Option, IfSome, ◌≤◌, ◌+◌, ◌*◌, ◌^◌, ◌<ℤ◌, ◌≤ℤ◌, ◌+ℤ◌, ◌*ℤ◌, ◌&&◌, ℕ, ℤ, pos, true, IsTrue, All, Some, None, min, bit_xor, int_div, unsigned_abs};
+ghost use Rattle.std.specs.Prelude.{◌≡◌, ◌<◌, Option, IfSome, ◌≤◌, ◌+◌, ◌*◌, ◌^◌, ◌<ℤ◌, ◌≤ℤ◌, ◌+ℤ◌};
+ghost use Rattle.std.specs.Prelude.{◌*ℤ◌, ◌&&◌, ℕ, ℤ, pos, true, IsTrue, All, Some, None, min};
+ghost use Rattle.std.specs.Prelude.{bit_xor, int_div, unsigned_abs};
 ghost use Rattle.std.specs.Int.{int_div_euclid};
 ghost use Rattle.std.specs.Option.{option_and_then};
 ghost use Rattle.vx_base.specs.declared.format.Format.{Format};
@@ -18,7 +20,9 @@ ghost use Rattle.vx_base.specs.declared.node.Node.{Node};
 ghost use Rattle.vx_base.specs.declared.output.Output.{Output};
 ghost use Rattle.vx_base.specs.Outputs.{node_image};
 ghost use Rattle.vx_base.specs.Object.{ObjectValue, IsObject, object_kind, object_format};
-ghost use Rattle.vx_base.specs.Pixelwise.{and_bits, or_bits, xor_bits, not_bits, absolute_difference, thresholded, looked_up, formula_of_one, formula_of_two, from_one, from_two};
+ghost use Rattle.vx_base.specs.Pixelwise.{and_bits, or_bits, xor_bits, not_bits};
+ghost use Rattle.vx_base.specs.Pixelwise.{absolute_difference, thresholded, looked_up};
+ghost use Rattle.vx_base.specs.Pixelwise.{formula_of_one, formula_of_two, from_one, from_two};
 
 /// Bitwise Not turns each of the eight bits of a U8 sample over.
 pub fn not_turns_bits()
@@ -37,8 +41,10 @@ pub fn bits_are_samples()
 /// The quotient of a product and 2^n is rounded to zero: the next number away from zero, times
 /// 2^n, is beyond the product.
 pub fn products_round_to_zero()
-    ensures not_beyond { (z : ℤ) (n : ℕ) → unsigned_abs (int_div z (pos (2 ^ n))) * 2 ^ n ≤ unsigned_abs z }
-    ensures nearest { (z : ℤ) (n : ℕ) → unsigned_abs z < (unsigned_abs (int_div z (pos (2 ^ n))) + 1) * 2 ^ n }
+    ensures not_beyond { (z : ℤ) (n : ℕ) →
+        unsigned_abs (int_div z (pos (2 ^ n))) * 2 ^ n ≤ unsigned_abs z }
+    ensures nearest { (z : ℤ) (n : ℕ) → unsigned_abs z
+        < (unsigned_abs (int_div z (pos (2 ^ n))) + 1) * 2 ^ n }
     ensures not_negative { (z : ℤ) (n : ℕ) → pos 0 ≤ℤ z → pos 0 ≤ℤ int_div z (pos (2 ^ n)) }
     ensures not_positive { (z : ℤ) (n : ℕ) → z ≤ℤ pos 0 → int_div z (pos (2 ^ n)) ≤ℤ pos 0 }
 {}
@@ -46,26 +52,33 @@ pub fn products_round_to_zero()
 /// The quotient of a sample and 2^n that Convert Bit Depth narrows is rounded down.
 pub fn conversions_round_down()
     ensures not_above { (a : ℤ) (n : ℕ) → (int_div_euclid a (pos (2 ^ n)) *ℤ pos (2 ^ n)) ≤ℤ a }
-    ensures nearest { (a : ℤ) (n : ℕ) → a <ℤ ((int_div_euclid a (pos (2 ^ n)) +ℤ pos 1) *ℤ pos (2 ^ n)) }
+    ensures nearest { (a : ℤ) (n : ℕ) → a <ℤ
+        ((int_div_euclid a (pos (2 ^ n)) +ℤ pos 1) *ℤ pos (2 ^ n)) }
 {}
 
 /// Absolute Difference is the distance of two U8 samples; of two S16 samples the greatest sample
 /// where that is less.
 pub fn absolute_differences()
-    ensures bytes { (a b : ℤ) → IsSample U8 a → IsSample U8 b → absolute_difference U8 a b ≡ pos (distance a b) }
+    ensures bytes { (a b : ℤ) → IsSample U8 a → IsSample U8 b →
+        absolute_difference U8 a b ≡ pos (distance a b) }
     ensures shorts { (a b : ℤ) → absolute_difference S16 a b ≡ pos (min (distance a b) 32767) }
 {}
 
 /// From samples of the formats that a function takes come samples of the output's.
 pub fn results_are_samples()
     ensures one { (function : Function) (first output : Format) (policy : Policy) (n : ℕ) (a : ℤ) →
-        IsTrue (takes_formats function first None (Some output)) → IsTrue (has_amount (parameters function) policy n) →
+        IsTrue (takes_formats function first None (Some output)) →
+        IsTrue (has_amount (parameters function) policy n) →
         IsSample first a → IsSample output (formula_of_one function output policy n a) }
-    ensures two { (function : Function) (first second output : Format) (policy : Policy) (n : ℕ) (a b : ℤ) →
+    ensures two { (function : Function) (first second output : Format) (policy : Policy)
+        (n : ℕ) (a b : ℤ) →
         IsTrue (takes_formats function first (Some second) (Some output)) →
-        IsSample first a → IsSample second b → IsSample output (formula_of_two function output policy n a b) }
-    ensures looked_up { (lut : LutValue) (a : ℤ) → All (IsSample lut.format) lut.entries → IsSample lut.format (looked_up lut a) }
-    ensures thresholded { (threshold : ThresholdValue) (a : ℤ) → threshold.true_value < 256 → threshold.false_value < 256 →
+        IsSample first a → IsSample second b →
+        IsSample output (formula_of_two function output policy n a b) }
+    ensures looked_up { (lut : LutValue) (a : ℤ) → All (IsSample lut.format) lut.entries →
+        IsSample lut.format (looked_up lut a) }
+    ensures thresholded { (threshold : ThresholdValue) (a : ℤ) → threshold.true_value < 256 →
+        threshold.false_value < 256 →
         IsSample U8 (thresholded threshold a) }
 {}
 
@@ -73,25 +86,33 @@ pub fn results_are_samples()
 pub fn from_one_samples()
     ensures image { (format : Format) (f : ℤ → ℤ) (a : ImageValue) → IsImage a →
         ((z : ℤ) → IsSample a.format z → IsSample format (f z)) → IsImage (from_one format f a) }
-    ensures valid { (format : Format) (f : ℤ → ℤ) (a : ImageValue) (x y : ℕ) → IsImage a → inside a.valid x y ≡ true →
+    ensures valid { (format : Format) (f : ℤ → ℤ) (a : ImageValue) (x y : ℕ) → IsImage a →
+        inside a.valid x y ≡ true →
         at (from_one format f a) x y ≡ f (at a x y) }
 {}
 
-/// A formula of two images gives its value where both are valid, and where it gives samples an image.
+/// A formula of two images gives its value where both are valid, and where it gives samples an
+/// image.
 pub fn from_two_samples()
     ensures image { (format : Format) (f : ℤ → ℤ → ℤ) (a b : ImageValue) → IsImage a → IsImage b →
-        ((y z : ℤ) → IsSample a.format y → IsSample b.format z → IsSample format (f y z)) → IsImage (from_two format f a b) }
+        ((y z : ℤ) → IsSample a.format y → IsSample b.format z → IsSample format (f y z)) →
+        IsImage (from_two format f a b) }
     ensures rectangle { (format : Format) (f : ℤ → ℤ → ℤ) (a b : ImageValue) (x y : ℕ) →
         inside (from_two format f a b).valid x y ≡ (inside a.valid x y && inside b.valid x y) }
-    ensures valid { (format : Format) (f : ℤ → ℤ → ℤ) (a b : ImageValue) (x y : ℕ) → IsImage a → IsImage b →
-        inside a.valid x y ≡ true → inside b.valid x y ≡ true → at (from_two format f a b) x y ≡ f (at a x y) (at b x y) }
+    ensures valid { (format : Format) (f : ℤ → ℤ → ℤ) (a b : ImageValue) (x y : ℕ) →
+        IsImage a → IsImage b →
+        inside a.valid x y ≡ true → inside b.valid x y ≡ true →
+        at (from_two format f a b) x y ≡ f (at a x y) (at b x y) }
 {}
 
-/// What a node gives to an image, of operands of the formats and kinds that it takes, is an image of
-/// the output's format.
+/// What a node gives to an image, of operands of the formats and kinds that it takes, is an image
+/// of the output's format.
 pub fn results_are_images()
-    ensures { (n : Node) (output : Output) (format : Format) (a : ImageValue) (second : Option ObjectValue) → IsNode n →
-        IsImage a → IfSome second IsObject → IfSome second (λ object. (parameters n.function).second_input ≡ Some (object_kind object)) →
-        IsTrue (takes_formats n.function a.format (option_and_then object_format second) (Some format)) →
+    ensures { (n : Node) (output : Output) (format : Format) (a : ImageValue)
+        (second : Option ObjectValue) → IsNode n →
+        IsImage a → IfSome second IsObject →
+        IfSome second (λ object. (parameters n.function).second_input ≡ Some (object_kind object)) →
+        IsTrue (takes_formats n.function a.format (option_and_then object_format second)
+        (Some format)) →
         IsImage (node_image n output format a second) }
 {}

@@ -1,32 +1,39 @@
 //! Laws of rectangles as sets of places.
 ghost use Rattle.std.specs.Prelude.{◌≡◌, ◌≤◌, ◌+◌, ◌↔◌, ℕ, IsTrue, ◌&&◌, nat_le, nat_lt};
-ghost use Rattle.vx_base.specs.Rectangle.{Rectangle, inside, is_rectangle, bounded, whole, meet_of, shrunk};
+ghost use Rattle.vx_base.specs.Rectangle.{Rectangle, inside, is_rectangle, bounded, whole, meet_of};
+ghost use Rattle.vx_base.specs.Rectangle.{shrunk};
 
 /// Two rectangles with the same places are one.
 pub fn places_decide()
-    ensures { (r s : Rectangle) → IsTrue (is_rectangle r.x0 r.y0 r.x1 r.y1) → IsTrue (is_rectangle s.x0 s.y0 s.x1 s.y1) →
+    ensures { (r s : Rectangle) → IsTrue (is_rectangle r.x0 r.y0 r.x1 r.y1) →
+        IsTrue (is_rectangle s.x0 s.y0 s.x1 s.y1) →
         ((x y : ℕ) → inside r x y ≡ inside s x y) → r ≡ s }
 {}
 
 /// A rectangle by its bounds has the places between them.
 pub fn bounded_places()
-    ensures rectangle { (x0 y0 x1 y1 : ℕ) → let r = bounded x0 y0 x1 y1 in IsTrue (is_rectangle r.x0 r.y0 r.x1 r.y1) }
+    ensures rectangle { (x0 y0 x1 y1 : ℕ) →
+        let r = bounded x0 y0 x1 y1 in IsTrue (is_rectangle r.x0 r.y0 r.x1 r.y1) }
     ensures places { (x0 y0 x1 y1 x y : ℕ) →
-        inside (bounded x0 y0 x1 y1) x y ≡ ((nat_le x0 x && nat_lt x x1) && (nat_le y0 y && nat_lt y y1)) }
+        inside (bounded x0 y0 x1 y1) x y
+        ≡ ((nat_le x0 x && nat_lt x x1) && (nat_le y0 y && nat_lt y y1)) }
 {}
 
 /// The whole of an image has its places.
 pub fn whole_places()
-    ensures { (width height x y : ℕ) → inside (whole width height) x y ≡ (nat_lt x width && nat_lt y height) }
+    ensures { (width height x y : ℕ) → inside (whole width height) x y
+        ≡ (nat_lt x width && nat_lt y height) }
 {}
 
 /// The meet of two rectangles has the places that are in both.
 pub fn meet_places()
-    ensures { (r s : Rectangle) (x y : ℕ) → inside (meet_of r s) x y ≡ (inside r x y && inside s x y) }
+    ensures { (r s : Rectangle) (x y : ℕ) →
+        inside (meet_of r s) x y ≡ (inside r x y && inside s x y) }
 {}
 
 /// A rectangle shrunk by a radius has the places whose whole window is in the rectangle.
 pub fn shrunk_places()
     ensures { (r : Rectangle) (rx ry x y : ℕ) → IsTrue (inside (shrunk r rx ry) x y) ↔
-        ((rx ≤ x) × (ry ≤ y) × ((i j : ℕ) → x ≤ i + rx → i ≤ x + rx → y ≤ j + ry → j ≤ y + ry → IsTrue (inside r i j))) }
+        ((rx ≤ x) × (ry ≤ y) × ((i j : ℕ) → x ≤ i + rx → i ≤ x + rx → y ≤ j + ry → j ≤ y + ry →
+        IsTrue (inside r i j))) }
 {}

@@ -6,13 +6,17 @@ ghost use Rattle.vx_base.specs.Sample.{IsSample, AgreesModulo, distance, range_s
 /// `wrap` gives the only sample that agrees with a number modulo the size of the range.
 pub fn wrap_agrees()
     ensures sample { (format : Format) (v : ℤ) → IsSample format (wrap format v) }
-    ensures agrees { (format : Format) (v : ℤ) → AgreesModulo (range_size format) v (wrap format v) }
-    ensures only { (format : Format) (v z : ℤ) → IsSample format z → AgreesModulo (range_size format) v z → z ≡ wrap format v }
+    ensures agrees { (format : Format) (v : ℤ) →
+        AgreesModulo (range_size format) v (wrap format v) }
+    ensures only { (format : Format) (v z : ℤ) → IsSample format z →
+        AgreesModulo (range_size format) v z → z ≡ wrap format v }
 {}
 
 /// `clamp` gives the only sample that is nearest to a number.
 pub fn clamp_is_nearest()
     ensures sample { (format : Format) (v : ℤ) → IsSample format (clamp format v) }
-    ensures nearest { (format : Format) (v z : ℤ) → IsSample format z → distance v (clamp format v) ≤ distance v z }
-    ensures only { (format : Format) (v z : ℤ) → IsSample format z → distance v z ≤ distance v (clamp format v) → z ≡ clamp format v }
+    ensures nearest { (format : Format) (v z : ℤ) → IsSample format z →
+        distance v (clamp format v) ≤ distance v z }
+    ensures only { (format : Format) (v z : ℤ) → IsSample format z →
+        distance v z ≤ distance v (clamp format v) → z ≡ clamp format v }
 {}

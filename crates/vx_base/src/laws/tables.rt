@@ -6,7 +6,9 @@ ghost use Rattle.vx_base.specs.Lut.{LutValue, is_full, entry_for};
 /// The entries stand in the order of the samples, from the least one's on, and a full table has
 /// one for each sample.
 pub fn entries_in_order()
-    ensures entry { (lut : LutValue) (k : ℕ) → entry_for lut (least lut.format +ℤ pos k) ≡ slice_index_or lut.entries k (pos 0) }
-    ensures each_sample { (lut : LutValue) (a : ℤ) → IsTrue (is_full lut.format (length lut.entries)) → IsSample lut.format a →
+    ensures entry { (lut : LutValue) (k : ℕ) →
+        entry_for lut (least lut.format +ℤ pos k) ≡ slice_index_or lut.entries k (pos 0) }
+    ensures each_sample { (lut : LutValue) (a : ℤ) →
+        IsTrue (is_full lut.format (length lut.entries)) → IsSample lut.format a →
         (k : ℕ) × (k < length lut.entries) × (a ≡ least lut.format +ℤ pos k) }
 {}

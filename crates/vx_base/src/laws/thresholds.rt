@@ -8,7 +8,8 @@ ghost use Rattle.vx_base.specs.Threshold.{passes};
 /// A sample passes a binary threshold where it is above the limit, and a range where it is in it.
 pub fn passing()
     ensures binary { (limit a : ℤ) → IsTrue (passes (Binary limit) a) ↔ (limit <ℤ a) }
-    ensures range { (lower upper a : ℤ) → IsTrue (passes (Range lower upper) a) ↔ ((lower ≤ℤ a) × (a ≤ℤ upper)) }
+    ensures range { (lower upper a : ℤ) →
+        IsTrue (passes (Range lower upper) a) ↔ ((lower ≤ℤ a) × (a ≤ℤ upper)) }
     ensures binary_as_range { (format : Format) (limit a : ℤ) → IsSample format a →
         passes (Binary limit) a ≡ passes (Range (limit +ℤ pos 1) (greatest format)) a }
 {}

@@ -47,7 +47,7 @@ AppendsFront old new bytes = (front : List ℕ) × (rest : List ℕ) × (bytes �
 -- ---- what a sink was given: taken and failures are what a sink tells of itself
 
 -- all of the bytes were written; or a write failed, and not all of them were taken
-pub record Writes {K T : Type 0} (taken : K → Option (List ℕ)) (failures : K → ℕ) (old new : K) (bytes : List ℕ) (result : Result T StreamFault) : Type 0 where
+pub record WritesAll {K T : Type 0} (taken : K → Option (List ℕ)) (failures : K → ℕ) (old new : K) (bytes : List ℕ) (result : Result T StreamFault) : Type 0 where
   pub ok : OnOk result (Appends (taken old) (taken new) bytes)
   pub err : OnErr result (AppendsPart (taken old) (taken new) bytes)
   pub fault : IfErr result (λ e. e ≡ WriteFailed)

@@ -2,7 +2,8 @@
 ghost use Rattle.std.specs.Prelude.{◌≡◌, ◌<◌, ◌^◌, [], ◌∷◌, ◌++◌, length, All, OnOk, IfOk, IfErr};
 ghost use Rattle.std.specs.Int.{w16, w32, to_be_bytes};
 ghost use Rattle.std.specs.Io.KnownBytes.{Consumes};
-ghost use Rattle.vx_requests.specs.Frame.Reading.{ReadsPart, ReadsSome, ReadsLength, CanRead, KeepsCount};
+ghost use Rattle.vx_requests.specs.Frame.Reading.{ReadsPart, ReadsSome, ReadsLength, CanRead};
+ghost use Rattle.vx_requests.specs.Frame.Reading.{KeepsCount};
 
 use crate::stream::{Source, StreamFault, fill};
 

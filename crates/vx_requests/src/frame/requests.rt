@@ -1,14 +1,25 @@
 //! Requests as frames.
-ghost use Rattle.std.specs.Prelude.{◌≡◌, ◌+◌, ◌*◌, ◌<◌, ◌≤◌, ◌^◌, false, [], ◌∷◌, ◌++◌, length, IsTrue};
+ghost use Rattle.std.specs.Prelude.{◌≡◌, ◌+◌, ◌*◌, ◌<◌, ◌≤◌, ◌^◌, false, [], ◌∷◌, ◌++◌, length};
+ghost use Rattle.std.specs.Prelude.{IsTrue};
 ghost use Rattle.std.specs.Int.{w32, to_be_bytes};
-ghost use Rattle.client_model.specs.declared.request.Request.TheVariants.{WriteImage as WriteImageRequest, WriteImagePgm as WriteImagePgmRequest, SetValid as SetValidRequest, CreateLut as CreateLutRequest, CreateThreshold as CreateThresholdRequest, CreateConvolution as CreateConvolutionRequest, CreateDelay as CreateDelayRequest};
+ghost use Rattle.client_model.specs.declared.request.Request.TheVariants.{WriteImage as WriteImageRequest};
+ghost use Rattle.client_model.specs.declared.request.Request.TheVariants.{WriteImagePgm as WriteImagePgmRequest};
+ghost use Rattle.client_model.specs.declared.request.Request.TheVariants.{SetValid as SetValidRequest};
+ghost use Rattle.client_model.specs.declared.request.Request.TheVariants.{CreateLut as CreateLutRequest};
+ghost use Rattle.client_model.specs.declared.request.Request.TheVariants.{CreateThreshold as CreateThresholdRequest};
+ghost use Rattle.client_model.specs.declared.request.Request.TheVariants.{CreateConvolution as CreateConvolutionRequest};
+ghost use Rattle.client_model.specs.declared.request.Request.TheVariants.{CreateDelay as CreateDelayRequest};
 ghost use Rattle.vx_base.specs.Description.{byte_count};
 ghost use Rattle.vx_base.specs.Lut.{is_full};
-ghost use Rattle.vx_wire.specs.declared.op.Op.TheVariants.{WriteImage as WriteImageOp, WriteImagePgm as WriteImagePgmOp, CreateLut as CreateLutOp, CreateConvolution as CreateConvolutionOp};
+ghost use Rattle.vx_wire.specs.declared.op.Op.TheVariants.{WriteImage as WriteImageOp};
+ghost use Rattle.vx_wire.specs.declared.op.Op.TheVariants.{WriteImagePgm as WriteImagePgmOp};
+ghost use Rattle.vx_wire.specs.declared.op.Op.TheVariants.{CreateLut as CreateLutOp};
+ghost use Rattle.vx_wire.specs.declared.op.Op.TheVariants.{CreateConvolution as CreateConvolutionOp};
 ghost use Rattle.vx_wire.specs.Op.{op_number};
 ghost use Rattle.vx_base.specs.Sample.{sample_bytes};
-ghost use Rattle.vx_requests.specs.Stream.Transfer.{Writes};
-ghost use Rattle.vx_requests.specs.Frame.Frames.{frame_head, frame_bytes, request_frame, fits_a_frame};
+ghost use Rattle.vx_requests.specs.Stream.Transfer.{WritesAll};
+ghost use Rattle.vx_requests.specs.Frame.Frames.{frame_head, frame_bytes, request_frame};
+ghost use Rattle.vx_requests.specs.Frame.Frames.{fits_a_frame};
 ghost use Rattle.client_model.specs.Request.{IsRequest};
 ghost use Rattle.vx_wire.specs.Reference.{reference_bytes};
 ghost use Rattle.vx_wire.specs.Description.{description_bytes};
@@ -38,7 +49,7 @@ pub fn write_request<K: Sink>(
 ) -> Result<(), StreamFault>
     requires { K.failures sink.old < 2 ^ 62 }
     ensures written { IsTrue (fits_a_frame request.now) →
-        Writes K.taken K.failures sink.old sink.new
+        WritesAll K.taken K.failures sink.old sink.new
         (frame_bytes (request_frame client request.now)) result }
     ensures too_long { fits_a_frame request.now ≡ false →
         (result ≡ Err StreamFault.BadLength) × (sink.new ≡ sink.old) }
@@ -56,7 +67,7 @@ pub fn write_request<K: Sink>(
 fn write_frame<K: Sink>(sink: &mut K, client: u16, request: &Request) -> Result<(), StreamFault>
     requires failures_fit { K.failures sink.old < 2 ^ 62 }
     requires fits { IsTrue (fits_a_frame request.now) }
-    ensures { Writes K.taken K.failures sink.old sink.new
+    ensures { WritesAll K.taken K.failures sink.old sink.new
         (frame_bytes (request_frame client request.now)) result }
 {
     match request {
@@ -114,7 +125,7 @@ fn write_frame<K: Sink>(sink: &mut K, client: u16, request: &Request) -> Result<
 /// Writes a frame whose body is a name, at once.
 fn write_name<K: Sink>(sink: &mut K, client: u16, op: Op, name: u32) -> Result<(), StreamFault>
     requires { K.failures sink.old < 2 ^ 62 }
-    ensures { Writes K.taken K.failures sink.old sink.new
+    ensures { WritesAll K.taken K.failures sink.old sink.new
         (frame_bytes (record { client = client; op = op_number op; body = to_be_bytes w32 name })) result }
 {
     write_short(sink, client, op.number(), &name.to_be_bytes())
@@ -130,7 +141,7 @@ fn write_named<K: Sink>(
 ) -> Result<(), StreamFault>
     requires failures_fit { K.failures sink.old < 2 ^ 62 }
     requires room { length field.now ≤ 25 }
-    ensures { Writes K.taken K.failures sink.old sink.new
+    ensures { WritesAll K.taken K.failures sink.old sink.new
         (frame_bytes (record { client = client; op = op_number op; body = to_be_bytes w32 name ++ field.now })) result }
 {
     let mut room = [0; 29];
@@ -156,7 +167,7 @@ fn write_reference<K: Sink>(
     reference: ObjRef,
 ) -> Result<(), StreamFault>
     requires { K.failures sink.old < 2 ^ 62 }
-    ensures { Writes K.taken K.failures sink.old sink.new
+    ensures { WritesAll K.taken K.failures sink.old sink.new
         (frame_bytes (record { client = client; op = op_number op; body = reference_bytes reference })) result }
 {
     write_short(sink, client, op.number(), &reference_bytes(reference))
@@ -166,7 +177,7 @@ fn write_reference<K: Sink>(
 fn write_short<K: Sink>(sink: &mut K, client: u16, op: u8, body: &[u8]) -> Result<(), StreamFault>
     requires failures_fit { K.failures sink.old < 2 ^ 62 }
     requires room { length body.now ≤ 29 }
-    ensures { Writes K.taken K.failures sink.old sink.new
+    ensures { WritesAll K.taken K.failures sink.old sink.new
         (frame_bytes (record { client = client; op = op; body = body.now })) result }
 {
     let mut room = [0; 36];
@@ -203,7 +214,7 @@ fn write_write_image<K: Sink>(
     picture: &Picture,
 ) -> Result<(), StreamFault>
     requires { K.failures sink.old < 2 ^ 62 }
-    ensures { Writes K.taken K.failures sink.old sink.new
+    ensures { WritesAll K.taken K.failures sink.old sink.new
         (frame_bytes (request_frame client (WriteImageRequest image picture.now))) result }
 {
     let samples = picture.samples();
@@ -213,7 +224,8 @@ fn write_write_image<K: Sink>(
 
 /// What stands before the samples in the frame of a `WriteImage`.
 fn write_image_head(client: u16, image: ObjRef, desc: Desc) -> [u8; 17]
-    ensures { result ≡ frame_head (13 + byte_count desc) client (op_number WriteImageOp) ++ (reference_bytes image ++ description_bytes desc) }
+    ensures { result ≡ frame_head (13 + byte_count desc) client (op_number WriteImageOp)
+        ++ (reference_bytes image ++ description_bytes desc) }
 {
     let len = 13 + desc.byte_count() as u32;
     let mut bytes = [0; 17];
@@ -232,7 +244,7 @@ fn write_write_image_pgm<K: Sink>(
 ) -> Result<(), StreamFault>
     requires failures_fit { K.failures sink.old < 2 ^ 62 }
     requires fits { length text.now ≤ 134217720 }
-    ensures { Writes K.taken K.failures sink.old sink.new
+    ensures { WritesAll K.taken K.failures sink.old sink.new
         (frame_bytes (request_frame client (WriteImagePgmRequest image text.now))) result }
 {
     let bytes = text.bytes();
@@ -243,7 +255,8 @@ fn write_write_image_pgm<K: Sink>(
 /// What stands before the text in the frame of a `WriteImagePgm`.
 fn write_image_pgm_head(client: u16, image: ObjRef, count: usize) -> [u8; 12]
     requires { count ≤ 134217720 }
-    ensures { result ≡ frame_head (8 + count) client (op_number WriteImagePgmOp) ++ reference_bytes image }
+    ensures { result ≡ frame_head (8 + count) client (op_number WriteImagePgmOp)
+        ++ reference_bytes image }
 {
     let len = 8 + count as u32;
     let mut bytes = [0; 12];
@@ -260,7 +273,7 @@ fn write_set_valid<K: Sink>(
     valid: Rect,
 ) -> Result<(), StreamFault>
     requires { K.failures sink.old < 2 ^ 62 }
-    ensures { Writes K.taken K.failures sink.old sink.new
+    ensures { WritesAll K.taken K.failures sink.old sink.new
         (frame_bytes (request_frame client (SetValidRequest image valid))) result }
 {
     let [a, b, c, d, e] = reference_bytes(image);
@@ -272,7 +285,7 @@ fn write_set_valid<K: Sink>(
 /// Writes the frame of a `CreateLut`: all before the entries at once, and then the entries.
 fn write_create_lut<K: Sink>(sink: &mut K, client: u16, lut: &Lut) -> Result<(), StreamFault>
     requires { K.failures sink.old < 2 ^ 62 }
-    ensures { Writes K.taken K.failures sink.old sink.new
+    ensures { WritesAll K.taken K.failures sink.old sink.new
         (frame_bytes (request_frame client (CreateLutRequest lut.now))) result }
 {
     let entries = lut.entries();
@@ -286,7 +299,8 @@ fn write_create_lut<K: Sink>(sink: &mut K, client: u16, lut: &Lut) -> Result<(),
 /// What stands before the entries in the frame of a `CreateLut`.
 fn create_lut_head(client: u16, format: Format, count: usize) -> [u8; 8]
     requires { IsTrue (is_full format count) }
-    ensures { result ≡ frame_head (4 + count * sample_bytes format) client (op_number CreateLutOp) ++ format_number format ∷ [] }
+    ensures { result ≡ frame_head (4 + count * sample_bytes format) client (op_number CreateLutOp)
+        ++ format_number format ∷ [] }
 {
     let len = 4 + (count * format.sample_bytes()) as u32;
     let [a, b, c, d, e, f, op] = frame_head(len, client, Op::CreateLut.number());
@@ -300,7 +314,7 @@ fn write_create_threshold<K: Sink>(
     threshold: ThresholdRule,
 ) -> Result<(), StreamFault>
     requires { K.failures sink.old < 2 ^ 62 }
-    ensures { Writes K.taken K.failures sink.old sink.new
+    ensures { WritesAll K.taken K.failures sink.old sink.new
         (frame_bytes (request_frame client (CreateThresholdRequest threshold))) result }
 {
     let format = threshold.format();
@@ -326,7 +340,7 @@ fn write_create_convolution<K: Sink>(
     convolution: &Convolution,
 ) -> Result<(), StreamFault>
     requires { K.failures sink.old < 2 ^ 62 }
-    ensures { Writes K.taken K.failures sink.old sink.new
+    ensures { WritesAll K.taken K.failures sink.old sink.new
         (frame_bytes (request_frame client (CreateConvolutionRequest convolution.now))) result }
 {
     let coefficients = convolution.coefficients();
@@ -337,7 +351,8 @@ fn write_create_convolution<K: Sink>(
 /// What stands before the coefficients in the frame of a `CreateConvolution`.
 fn create_convolution_head(client: u16, convolution: &Convolution) -> [u8; 10]
     ensures { let c = convolution.now in
-        result ≡ frame_head (6 + c.rows * c.columns * 2) client (op_number CreateConvolutionOp) ++ c.columns ∷ c.rows ∷ c.exponent ∷ [] }
+        result ≡ frame_head (6 + c.rows * c.columns * 2) client (op_number CreateConvolutionOp)
+        ++ c.columns ∷ c.rows ∷ c.exponent ∷ [] }
 {
     let (columns, rows) = (convolution.columns(), convolution.rows());
     let len = 6 + u32::from(rows) * u32::from(columns) * 2;
@@ -353,7 +368,7 @@ fn write_create_delay<K: Sink>(
     slots: SlotCount,
 ) -> Result<(), StreamFault>
     requires { K.failures sink.old < 2 ^ 62 }
-    ensures { Writes K.taken K.failures sink.old sink.new
+    ensures { WritesAll K.taken K.failures sink.old sink.new
         (frame_bytes (request_frame client (CreateDelayRequest exemplar slots))) result }
 {
     let [a, b, c, d, e] = reference_bytes(exemplar);

@@ -3,7 +3,7 @@ ghost use Rattle.std.specs.Prelude.{◌*◌, ◌<◌, ◌≤◌, ◌^◌, length
 ghost use Rattle.std.specs.List.{flat_map};
 ghost use Rattle.vx_base.specs.Sample.{sample_bytes};
 ghost use Rattle.vx_base.specs.Picture.{values, samples_format};
-ghost use Rattle.vx_requests.specs.Stream.Transfer.{Writes};
+ghost use Rattle.vx_requests.specs.Stream.Transfer.{WritesAll};
 ghost use Rattle.vx_wire.specs.Samples.{encoded_sample};
 
 use crate::stream::{Sink, StreamFault, write_all};
@@ -13,7 +13,7 @@ use vx_wire::{WideSample, encode};
 /// Writes samples of any format, in their order.
 pub fn write_samples<K: Sink>(sink: &mut K, samples: &Samples) -> Result<(), StreamFault>
     requires { K.failures sink.old < 2 ^ 62 }
-    ensures { Writes K.taken K.failures sink.old sink.new
+    ensures { WritesAll K.taken K.failures sink.old sink.new
         (flat_map (encoded_sample (samples_format samples.now)) (values samples.now)) result }
 {
     match samples {
@@ -26,7 +26,7 @@ pub fn write_samples<K: Sink>(sink: &mut K, samples: &Samples) -> Result<(), Str
 /// Writes numbers that take several bytes each, as samples do, in blocks of 1024.
 pub fn write_wide<S: WideSample, K: Sink>(sink: &mut K, samples: &[S]) -> Result<(), StreamFault>
     requires { K.failures sink.old < 2 ^ 62 }
-    ensures { Writes K.taken K.failures sink.old sink.new
+    ensures { WritesAll K.taken K.failures sink.old sink.new
         (flat_map (λ s. encoded_sample S.format (S.value s)) samples.now) result }
 {
     let mut block = [0; 4096];
@@ -47,7 +47,7 @@ fn write_block<S: WideSample, K: Sink>(
 ) -> Result<(), StreamFault>
     requires failures_fit { K.failures sink.old < 2 ^ 62 }
     requires room { length samples.now * sample_bytes S.format ≤ length block.old }
-    ensures { Writes K.taken K.failures sink.old sink.new
+    ensures { WritesAll K.taken K.failures sink.old sink.new
         (flat_map (λ s. encoded_sample S.format (S.value s)) samples.now) result }
 {
     let bytes = &mut block[..S::size() * samples.len()];

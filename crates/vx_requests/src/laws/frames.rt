@@ -6,6 +6,8 @@ ghost use Rattle.vx_requests.specs.Frame.Frames.{IsFrame, request_frame, fits_a_
 
 /// A request fits a frame, unless it writes a text of more than 134,217,720 bytes.
 pub fn fits_a_frame()
-    ensures fits { (client : ℕ) (request : Request) → client < 2 ^ 16 → IsRequest request → IsTrue (fits_a_frame request) → IsFrame (request_frame client request) }
-    ensures no_other { (client : ℕ) (request : Request) → IsFrame (request_frame client request) → IsTrue (fits_a_frame request) }
+    ensures fits { (client : ℕ) (request : Request) → client < 2 ^ 16 → IsRequest request →
+        IsTrue (fits_a_frame request) → IsFrame (request_frame client request) }
+    ensures no_other { (client : ℕ) (request : Request) → IsFrame (request_frame client request) →
+        IsTrue (fits_a_frame request) }
 {}

@@ -1,5 +1,6 @@
 //! Laws of streams and of their clients.
-ghost use Rattle.std.specs.Prelude.{◌≡◌, ℕ, ◌<◌, false, List, [], ◌++◌, ◌==◌, map, All, Option, Some, IfSome, IfOk, Result};
+ghost use Rattle.std.specs.Prelude.{◌≡◌, ℕ, ◌<◌, false, List, [], ◌++◌, ◌==◌, map, All, Option};
+ghost use Rattle.std.specs.Prelude.{Some, IfSome, IfOk, Result};
 ghost use Rattle.vx_base.specs.Cell.{Cell};
 ghost use Rattle.vx_base.specs.Image.{IsImage};
 ghost use Rattle.client_model.specs.Allowance.{Allowance};
@@ -9,7 +10,8 @@ ghost use Rattle.client_model.specs.States.{KeepsLimits};
 ghost use Rattle.vx_requests.specs.declared.stream.fault.StreamFault.{StreamFault};
 ghost use Rattle.vx_requests.specs.declared.serving.summary.Summary.{Summary};
 ghost use Rattle.vx_requests.specs.Frame.Frames.{Frame, IsFrame, frame_bytes, Splits};
-ghost use Rattle.vx_requests.specs.Serving.Clients.{Received, mine, sent_to, kept_replies, alone, after, served, frames_of};
+ghost use Rattle.vx_requests.specs.Serving.Clients.{Received, mine, sent_to, kept_replies, alone};
+ghost use Rattle.vx_requests.specs.Serving.Clients.{after, served, frames_of};
 ghost use Rattle.vx_requests.specs.Serving.Answer.{answer};
 ghost use Rattle.vx_requests.specs.Serving.Ends.{ReadsToARest};
 ghost use Rattle.vx_requests.specs.Serving.Session.{Session};
@@ -43,7 +45,8 @@ pub fn each_alone()
 pub fn one_client()
     ensures { (limits : Allowance) (start : ℕ → State) (marked : List Received) (client : ℕ) →
         All (λ m. (m.frame.client ≡ client) × (m.lost ≡ false)) marked →
-        served (answer limits) start marked ≡ alone (answer limits) (start client) (frames_of marked) }
+        served (answer limits) start marked
+        ≡ alone (answer limits) (start client) (frames_of marked) }
 {}
 
 /// Where two streams agree on a client's kept frames and it starts in the same state, it gets the

@@ -1,6 +1,7 @@
 //! Whole buffers, from a source and to a sink.
 ghost use Rattle.std.specs.Prelude.{◌≡◌, ◌+◌, ◌<◌, ◌≤◌, ◌^◌, length, IfOk, IfErr, OnErr};
-ghost use Rattle.vx_requests.specs.Stream.Transfer.{read_failures, IsReadFault, CountsReads, Fills, FillsPart, Writes};
+ghost use Rattle.vx_requests.specs.Stream.Transfer.{read_failures, IsReadFault, CountsReads, Fills};
+ghost use Rattle.vx_requests.specs.Stream.Transfer.{FillsPart, WritesAll};
 
 use crate::stream::{Failed, Sink, Source, StreamFault};
 
@@ -46,7 +47,7 @@ pub fn fill<S: Source>(
 /// of the rest, and a front of the bytes was taken then.
 pub fn write_all<K: Sink>(sink: &mut K, bytes: &[u8]) -> Result<(), StreamFault>
     requires { K.failures sink.old < 2 ^ 62 }
-    ensures { Writes K.taken K.failures sink.old sink.new bytes.now result }
+    ensures { WritesAll K.taken K.failures sink.old sink.new bytes.now result }
 {
     let mut rest = bytes;
     while !rest.is_empty() {

@@ -1,7 +1,8 @@
 //! The bins of a distribution: how many there are, the offset and the range.
 ghost use Rattle.std.specs.Prelude.{◌≡◌, ◌<◌, IfOk, IsTrue};
 ghost use Rattle.vx_wire.specs.Fields.{Takes};
-ghost use Rattle.vx_wire.specs.Bins.{is_up_to_256, take_up_to_256, take_offset, take_bins, bins_bytes};
+ghost use Rattle.vx_wire.specs.Bins.{is_up_to_256, take_up_to_256, take_offset, take_bins};
+ghost use Rattle.vx_wire.specs.Bins.{bins_bytes};
 
 use crate::body_fault::BodyFault;
 use crate::fields::Fields;

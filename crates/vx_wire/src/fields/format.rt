@@ -2,7 +2,8 @@
 ghost use Rattle.std.specs.Prelude.{◌≡◌, ◌≢◌, IfOk};
 ghost use Rattle.vx_base.specs.declared.format.Format.TheVariants.{U32 as FormatU32};
 ghost use Rattle.vx_wire.specs.Fields.{Takes};
-ghost use Rattle.vx_wire.specs.Format.{format_number, open_format_number, take_format, take_input_format, take_open_format};
+ghost use Rattle.vx_wire.specs.Format.{format_number, open_format_number, take_format};
+ghost use Rattle.vx_wire.specs.Format.{take_input_format, take_open_format};
 
 use crate::body_fault::BodyFault;
 use crate::fields::Fields;

@@ -1,8 +1,10 @@
-//! The nine fields of a node: function, border mode, constant, policy, amount, in1, in2, out1, out2.
+//! The nine fields of a node: function, border mode, constant, policy, amount, in1, in2, out1,
+//! out2.
 ghost use Rattle.std.specs.Prelude.{◌≡◌, ◌||◌, nat_le, unwrap_or, IfOk, IsTrue};
 ghost use Rattle.vx_base.specs.Node.{is_wrap};
 ghost use Rattle.vx_wire.specs.Fields.{Takes};
-ghost use Rattle.vx_wire.specs.Node.{take_function, take_border, border_bytes, take_policy, policy_number, take_amount, take_node, node_bytes};
+ghost use Rattle.vx_wire.specs.Node.{take_function, take_border, border_bytes, take_policy};
+ghost use Rattle.vx_wire.specs.Node.{policy_number, take_amount, take_node, node_bytes};
 
 use crate::body_fault::BodyFault;
 use crate::fields::Fields;

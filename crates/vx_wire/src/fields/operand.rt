@@ -2,7 +2,9 @@
 ghost use Rattle.std.specs.Prelude.{◌≡◌, not, IfOk, IsTrue};
 ghost use Rattle.vx_base.specs.Node.{is_nothing};
 ghost use Rattle.vx_wire.specs.Fields.{Takes};
-ghost use Rattle.vx_wire.specs.Operand.{take_operand, operand_bytes, is_operand, second_input, first_output, second_output, take_first_input, take_operands};
+ghost use Rattle.vx_wire.specs.Operand.{take_operand, operand_bytes, is_operand, second_input};
+ghost use Rattle.vx_wire.specs.Operand.{first_output, second_output, take_first_input};
+ghost use Rattle.vx_wire.specs.Operand.{take_operands};
 
 use crate::body_fault::BodyFault;
 use crate::fields::Fields;
@@ -95,7 +97,8 @@ pub fn take_operands(
     ensures taken { Takes (take_operands parameters) fields.old fields.new result }
     ensures in2 { IfOk result (λ others. IsTrue (is_operand (second_input parameters) others.0)) }
     ensures out1 { IfOk result (λ others. IsTrue (is_operand (first_output parameters) others.1)) }
-    ensures out2 { IfOk result (λ others. IsTrue (is_operand (second_output parameters others.1) others.2)) }
+    ensures out2 { IfOk result (λ others.
+        IsTrue (is_operand (second_output parameters others.1) others.2)) }
 {
     let in2 = take_operand(fields, second_input(parameters))?;
     let out1 = take_operand(fields, first_output(parameters))?;

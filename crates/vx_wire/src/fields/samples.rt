@@ -1,8 +1,10 @@
 //! Samples as bytes: each of 1, 2 or 4, the most significant first.
-ghost use Rattle.std.specs.Prelude.{◌≡◌, ◌+◌, ◌*◌, ◌≤◌, ◌^◌, ℤ, pos, length, map, Ok, Err, IfOk, IfErr};
+ghost use Rattle.std.specs.Prelude.{◌≡◌, ◌+◌, ◌*◌, ◌≤◌, ◌^◌, ℤ, pos, length, map, Ok, Err, IfOk};
+ghost use Rattle.std.specs.Prelude.{IfErr};
 ghost use Rattle.std.specs.List.{flat_map};
 ghost use Rattle.vx_base.specs.declared.format.Format.{Format as SampleFormat};
-ghost use Rattle.vx_base.specs.declared.format.Format.TheVariants.{S16 as FormatS16, U32 as FormatU32};
+ghost use Rattle.vx_base.specs.declared.format.Format.TheVariants.{S16 as FormatS16};
+ghost use Rattle.vx_base.specs.declared.format.Format.TheVariants.{U32 as FormatU32};
 ghost use Rattle.vx_base.specs.Sample.{sample_bytes};
 ghost use Rattle.vx_base.specs.Picture.{values, samples_format};
 ghost use Rattle.vx_wire.specs.Samples.{decoded_sample, encoded_sample, decoded, take_samples};
@@ -19,7 +21,8 @@ pub fn take_samples<'a>(
     count: usize,
 ) -> Result<&'a [u8], BodyFault>
     requires { count ≤ 2 ^ 32 }
-    ensures ok { IfOk result (λ bytes. take_samples format count fields.old ≡ Ok (decoded format count bytes.now, fields.new)) }
+    ensures ok { IfOk result (λ bytes. take_samples format count fields.old
+        ≡ Ok (decoded format count bytes.now, fields.new)) }
     ensures len { IfOk result (λ bytes. length bytes.now ≡ count * sample_bytes format) }
     ensures err { IfErr result (λ e. take_samples format count fields.old ≡ Err e) }
 {

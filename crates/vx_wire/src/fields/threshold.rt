@@ -4,7 +4,8 @@ ghost use Rattle.vx_base.specs.declared.format.Format.TheVariants.{U32 as Format
 ghost use Rattle.vx_base.specs.declared.threshold.ThresholdKind.TheVariants.{Binary, Range};
 ghost use Rattle.vx_base.specs.Threshold.{has_limits, is_sample};
 ghost use Rattle.vx_wire.specs.Fields.{Takes};
-ghost use Rattle.vx_wire.specs.Threshold.{take_is_range, take_signed, take_limit, take_upper, take_limits, take_threshold, threshold_bytes};
+ghost use Rattle.vx_wire.specs.Threshold.{take_is_range, take_signed, take_limit, take_upper};
+ghost use Rattle.vx_wire.specs.Threshold.{take_limits, take_threshold, threshold_bytes};
 
 use crate::body_fault::BodyFault;
 use crate::fields::Fields;
@@ -90,7 +91,13 @@ pub fn take_threshold(fields: &mut Fields) -> Result<ThresholdRule, BodyFault>
 
 /// The bytes of a BINARY threshold.
 pub fn binary_bytes(format: Format, limit: i16, true_value: u8, false_value: u8) -> [u8; 6]
-    ensures { result ≡ threshold_bytes (record { format = format; kind = Binary limit; true_value = true_value; false_value = false_value }) }
+    ensures { result ≡ threshold_bytes (record {
+      format = format;
+      kind = Binary limit;
+      true_value =
+          true_value;
+      false_value = false_value;
+    }) }
 {
     let [a, b] = limit.to_be_bytes();
     [0, format_number(format), a, b, true_value, false_value]
@@ -104,7 +111,12 @@ pub fn range_bytes(
     true_value: u8,
     false_value: u8,
 ) -> [u8; 8]
-    ensures { result ≡ threshold_bytes (record { format = format; kind = Range lower upper; true_value = true_value; false_value = false_value }) }
+    ensures { result ≡ threshold_bytes (record {
+      format = format;
+      kind = Range lower upper;
+      true_value = true_value;
+      false_value = false_value;
+    }) }
 {
     let [a, b] = lower.to_be_bytes();
     let [c, d] = upper.to_be_bytes();

@@ -7,13 +7,17 @@ ghost use Rattle.client_model.specs.Request.{IsRequest};
 
 /// A request is read back from its op and body.
 pub fn read_back()
-    ensures { (request : Request) → IsRequest request → request_of (op_number (op_of request)) (body_of request) ≡ Ok request }
+    ensures { (request : Request) → IsRequest request →
+        request_of (op_number (op_of request)) (body_of request) ≡ Ok request }
 {}
 
 /// A body spells at most one request of an op, each request has one spelling, and what is read
 /// is within the limits of the types.
 pub fn one_spelling()
-    ensures op { (op : ℕ) (body : List ℕ) (request : Request) → All (λ b. b < 2 ^ 8) body → request_of op body ≡ Ok request → op ≡ op_number (op_of request) }
-    ensures body { (op : ℕ) (body : List ℕ) (request : Request) → All (λ b. b < 2 ^ 8) body → request_of op body ≡ Ok request → body ≡ body_of request }
-    ensures limits { (op : ℕ) (body : List ℕ) (request : Request) → All (λ b. b < 2 ^ 8) body → request_of op body ≡ Ok request → IsRequest request }
+    ensures op { (op : ℕ) (body : List ℕ) (request : Request) → All (λ b. b < 2 ^ 8) body →
+        request_of op body ≡ Ok request → op ≡ op_number (op_of request) }
+    ensures body { (op : ℕ) (body : List ℕ) (request : Request) → All (λ b. b < 2 ^ 8) body →
+        request_of op body ≡ Ok request → body ≡ body_of request }
+    ensures limits { (op : ℕ) (body : List ℕ) (request : Request) → All (λ b. b < 2 ^ 8) body →
+        request_of op body ≡ Ok request → IsRequest request }
 {}

@@ -1,6 +1,7 @@
 //! The bodies of requests about graphs, their nodes and their virtual images.
 ghost use Rattle.std.specs.Prelude.{◌≡◌};
-ghost use Rattle.vx_wire.specs.Graphs.{create_graph_in, create_virtual_image_in, add_node_in, remove_node_in, verify_graph_in, process_graph_in};
+ghost use Rattle.vx_wire.specs.Graphs.{create_graph_in, create_virtual_image_in, add_node_in};
+ghost use Rattle.vx_wire.specs.Graphs.{remove_node_in, verify_graph_in, process_graph_in};
 
 use crate::body_fault::BodyFault;
 use crate::fields::Fields;

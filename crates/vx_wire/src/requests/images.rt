@@ -1,7 +1,9 @@
 //! The bodies of requests about images.
 ghost use Rattle.std.specs.Prelude.{◌≡◌, Ok, IfOk, IfErr};
-ghost use Rattle.vx_wire.specs.Faults.{FailsFor};
-ghost use Rattle.vx_wire.specs.Images.{create_image_in, query_image_in, write_image_in, write_image_pgm_in, read_image_in, read_image_pgm_in, set_valid_in};
+ghost use Rattle.vx_wire.specs.Faults.{MayFailWith};
+ghost use Rattle.vx_wire.specs.Images.{create_image_in, query_image_in, write_image_in};
+ghost use Rattle.vx_wire.specs.Images.{write_image_pgm_in, read_image_in, read_image_pgm_in};
+ghost use Rattle.vx_wire.specs.Images.{set_valid_in};
 
 use crate::body_fault::BodyFault;
 use crate::fields::Fields;
@@ -35,7 +37,7 @@ pub fn query_image(body: &[u8]) -> Result<Request, BodyFault>
 /// A reference and a picture.
 pub fn write_image(alloc: Global, body: &[u8]) -> Result<Request, ParseFault>
     ensures ok { IfOk result (λ request. write_image_in body.now ≡ Ok request) }
-    ensures err { IfErr result (FailsFor (write_image_in body.now)) }
+    ensures err { IfErr result (MayFailWith (write_image_in body.now)) }
 {
     let mut fields = Fields::new(body);
     let image = take_reference(&mut fields)?;
@@ -50,7 +52,7 @@ pub fn write_image(alloc: Global, body: &[u8]) -> Result<Request, ParseFault>
 /// A reference and a text: all bytes that are left, which nothing reads here.
 pub fn write_image_pgm(alloc: Global, body: &[u8]) -> Result<Request, ParseFault>
     ensures ok { IfOk result (λ request. write_image_pgm_in body.now ≡ Ok request) }
-    ensures err { IfErr result (FailsFor (write_image_pgm_in body.now)) }
+    ensures err { IfErr result (MayFailWith (write_image_pgm_in body.now)) }
 {
     let mut fields = Fields::new(body);
     let image = take_reference(&mut fields)?;

@@ -1,6 +1,7 @@
 //! The bodies of requests about distributions and extremes.
 ghost use Rattle.std.specs.Prelude.{◌≡◌};
-ghost use Rattle.vx_wire.specs.Statistics.{create_distribution_in, read_distribution_in, create_min_max_in, read_min_max_in};
+ghost use Rattle.vx_wire.specs.Statistics.{create_distribution_in, read_distribution_in};
+ghost use Rattle.vx_wire.specs.Statistics.{create_min_max_in, read_min_max_in};
 
 use crate::body_fault::BodyFault;
 use crate::fields::Fields;

@@ -1,6 +1,6 @@
 //! The bodies of requests about lookup tables, thresholds and convolutions.
 ghost use Rattle.std.specs.Prelude.{◌≡◌, Ok, IfOk, IfErr};
-ghost use Rattle.vx_wire.specs.Faults.{FailsFor};
+ghost use Rattle.vx_wire.specs.Faults.{MayFailWith};
 ghost use Rattle.vx_wire.specs.Tables.{create_lut_in, create_threshold_in, create_convolution_in};
 
 use crate::body_fault::BodyFault;
@@ -17,7 +17,7 @@ use vx_base::Lut;
 /// A format and its table's entries.
 pub fn create_lut(alloc: Global, body: &[u8]) -> Result<Request, ParseFault>
     ensures ok { IfOk result (λ request. create_lut_in body.now ≡ Ok request) }
-    ensures err { IfErr result (FailsFor (create_lut_in body.now)) }
+    ensures err { IfErr result (MayFailWith (create_lut_in body.now)) }
 {
     let mut fields = Fields::new(body);
     let format = take_input_format(&mut fields)?;

@@ -2,7 +2,7 @@ use Rattle.std.proofs.Common.{rules, Ok, ap, sym, subst, ◌∙◌, ◌==◌, So
 use Rattle.vx_base.specs.declared.kind.Kind.TheVariants as kind
 use Rattle.vx_base.specs.declared.node.Node.{Node}
 use Rattle.vx_base.specs.Node.{operands}
-use Rattle.object_table.specs.Context.{cell_of}
+use Rattle.vx_base.specs.Cell.{cell_of}
 use Rattle.client_model.specs.declared.reply.Reply.TheVariants as reply
 use Rattle.client_model.specs.Operands.{operands_refusal}
 use Rattle.client_model.specs.Graphs.{add_node}

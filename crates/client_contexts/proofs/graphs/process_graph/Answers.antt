@@ -10,7 +10,7 @@ use Rattle.graph_verify.specs.Operand.{is_image}
 use Rattle.graph_verify.specs.Outlines.{resolved}
 use Rattle.graph_verify.specs.Verdict.{verdict}
 use Rattle.graph_verify.specs.Verified.{IsVerified}
-use Rattle.graph_run.specs.Graph.{run}
+use Rattle.graph_run.specs.Graph.{run_of_graph}
 use Rattle.graph_run.specs.Operands.{operand_held}
 use Rattle.client_model.specs.declared.refusal.Refusal.TheVariants.{Rejected}
 use Rattle.client_model.specs.declared.reply.Reply.TheVariants.{Empty}
@@ -27,8 +27,8 @@ verify_in-requires c =
     subst (λ (g : GraphValue). All (λ n. IsTrue (is_image (operand_held t.objects n.in1))) (nodes_of g)) (sym c.graph.ensures)
     (graph_firsts c.requires.0 t c.args.graph c.in_ok-found.found.now c.requires.1 c.in_ok-found.ensures.ok)
 
-pub run-requires-clause-ready : goal.run-requires-clause-ready
-run-requires-clause-ready c =
+pub run_of_graph-requires-clause-ready : goal.run-requires-clause-ready
+run_of_graph-requires-clause-ready c =
     let t = c.args.table.now in
     let v = c.in_ok-verified.verified in (
       nodes_of (graph_value c.in_ok-found.found.now),
@@ -43,7 +43,7 @@ returns-clause-comes c =
     let v = c.in_ok-verified.verified in
     let graph = graph_value c.in_ok-found.found.now in
     let nodes = nodes_of graph in
-    let after = with_objects t (run (resolved (operand_held t.objects) nodes) nodes t.objects) in
+    let after = with_objects t (run_of_graph (resolved (operand_held t.objects) nodes) nodes t.objects) in
     let allowed : graph_verdict c.args.limits t.objects graph ≡ None =
     ap (λ n. verdict n (operand_held t.objects) nodes) (sym c.work.ensures)
     ∙ ap (λ (g : GraphValue). verdict c.work.result (operand_held t.objects) (nodes_of g)) (sym c.graph.ensures) ∙ c.in_ok-verified.ensures.ok in
@@ -54,7 +54,7 @@ returns-clause-comes c =
       done =
           ap (λ g. process_found g c.args.limits t) (graph_is_named c.requires.0 t c.args.graph c.in_ok-found.found.now c.requires.1 c.in_ok-found.ensures.ok)
           ∙ ap (λ o. unless (option_map Rejected o) Empty after) allowed
-          ∙ ap (λ (k : Context). let r : Outcome = Ok (Empty, Some k) in r) (sym (c.in_ok-run.ensures.value nodes ready));
+          ∙ ap (λ (k : Context). let r : Outcome = Ok (Empty, Some k) in r) (sym (c.in_ok-run_of_graph.ensures.value nodes ready));
       refused = tt;
       kept = tt;
     }

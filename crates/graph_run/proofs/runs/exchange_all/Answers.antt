@@ -2,7 +2,8 @@ use Rattle.std.proofs.Common.{◌≡◌, ◌∙◌, ◌+◌, ◌++◌, List, len
 use Rattle.std.specs.Prelude.{All, unwrap_or, []}
 use Rattle.std.proofs.lemmas.List.Elements.{All-set, All-weaker}
 use Rattle.vx_base.specs.Object.{ObjectValue}
-use Rattle.object_table.specs.Context.{Context, cell_of}
+use Rattle.vx_base.specs.Cell.{cell_of}
+use Rattle.object_table.specs.Context.{Context}
 use Rattle.object_table.specs.Named.{Named, object_held, with_object}
 use Rattle.object_table.specs.Table.{object_under}
 use Rattle.object_table.specs.Uses.{nodes_in}

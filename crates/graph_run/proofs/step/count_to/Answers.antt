@@ -4,7 +4,8 @@ use Rattle.vx_base.specs.declared.format.Format.TheVariants.{U8}
 use Rattle.vx_base.specs.Image.{new_image}
 use Rattle.vx_base.specs.Object.{ImageObject}
 use Rattle.vx_base.specs.Statistics.{histogram, BinsValue}
-use Rattle.object_table.specs.Context.{with_objects, cell_of}
+use Rattle.vx_base.specs.Cell.{cell_of}
+use Rattle.object_table.specs.Context.{with_objects}
 use Rattle.object_table.specs.Named.{with_object}
 use Rattle.object_table.specs.Object.{distribution_value, with_counts}
 use Rattle.object_table.specs.Table.{object_under}

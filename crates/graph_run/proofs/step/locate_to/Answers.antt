@@ -2,7 +2,8 @@ use Rattle.std.proofs.Common.{◌∙◌, ap}
 use Rattle.vx_base.specs.declared.extremes.Extremes.{Extremes}
 use Rattle.vx_base.specs.Object.{ExtremesObject}
 use Rattle.vx_base.specs.Statistics.{extremes}
-use Rattle.object_table.specs.Context.{with_objects, cell_of}
+use Rattle.vx_base.specs.Cell.{cell_of}
+use Rattle.object_table.specs.Context.{with_objects}
 use Rattle.object_table.specs.Named.{with_object}
 use Rattle.graph_run.proofs.step.locate_to.Goals as goal
 

@@ -1,8 +1,8 @@
 use Rattle.std.proofs.Common.{◌∙◌, Option, ap, sym, subst}
 use Rattle.std.specs.Prelude.{IfSome}
-use Rattle.vx_base.specs.Cell.{Cell}
+use Rattle.vx_base.specs.Cell.{Cell, cell_of}
 use Rattle.vx_base.specs.declared.function.Parameters.{Parameters}
-use Rattle.object_table.specs.Context.{with_objects, cell_of}
+use Rattle.object_table.specs.Context.{with_objects}
 use Rattle.vx_base.specs.Object.{ExtremesObject}
 use Rattle.vx_base.specs.Statistics.{extremes}
 use Rattle.object_table.specs.Named.{with_object}

@@ -1,7 +1,7 @@
 use Rattle.std.proofs.Common.{◌∙◌, ap, arith}
 use Rattle.std.specs.Prelude.{Some, None}
 use Rattle.std.specs.List.{filter_map}
-use Rattle.graph_verify.specs.Known.{described}
+use Rattle.graph_verify.specs.Known.{closed_output}
 use Rattle.graph_verify.specs.Linked.{linked_nodes}
 use Rattle.graph_verify.proofs.VerdictLemmas.{too_large, there_is_room}
 use Rattle.graph_verify.proofs.VerifyLemmas.{nodes_order, steps_one_writer, steps_images, loose_end_found, verdict_found, bytes_found, verified_found, few_outputs}
@@ -27,12 +27,12 @@ returns-in-Some-clause-refused c is operands =
 
 pub sample_bytes-requires : goal.sample_bytes-requires
 sample_bytes-requires c =
-    let outputs = c.deref-3.ensures.value ∙ c.in_ok-virtual_outputs.ensures ∙ ap (filter_map described) c.deref-2.ensures.value in
+    let outputs = c.deref-3.ensures.value ∙ c.in_ok-virtual_outputs.ensures ∙ ap (filter_map closed_output) c.deref-2.ensures.value in
     few_outputs c.args.nodes.now c.args.steps.now c.in_ok-known.known.items c.deref-3.result.now c.requires.count c.requires.order c.in_ok-known.ensures.limit outputs
 
 pub returns-then-sample_bytes-work-clause-refused : goal.returns-then-sample_bytes-work-clause-refused
 returns-then-sample_bytes-work-clause-refused c is operands =
-    let outputs = c.deref-3.ensures.value ∙ c.in_ok-virtual_outputs.ensures ∙ ap (filter_map described) c.deref-2.ensures.value in
+    let outputs = c.deref-3.ensures.value ∙ c.in_ok-virtual_outputs.ensures ∙ ap (filter_map closed_output) c.deref-2.ensures.value in
     let bytes = c.sample_bytes.ensures ∙ bytes_found c.args.nodes.now c.args.steps.now c.requires.one_writer c.requires.order is c.in_ok-known.known.items c.deref-3.result.now operands c.in_ok-known.ensures.known outputs in
     verdict_found c.args.nodes.now c.args.steps.now c.requires.one_writer c.requires.order c.args.work is c.in_ok-known.known.items c.deref.result.now None operands
     c.in_ok-known.ensures.known c.deref.ensures.value c.in_default.ensures (c.if-reads_loose.ensures is operands)
@@ -41,11 +41,11 @@ returns-then-sample_bytes-work-clause-refused c is operands =
 pub returns-clause-verified : goal.returns-clause-verified
 returns-clause-verified c is operands =
     verified_found c.args.nodes.now c.args.steps.now c.requires.one_writer c.requires.order is c.in_ok-known.known.items c.deref.result.now _ operands
-    c.in_ok-known.ensures.known c.deref.ensures.value c.in_default.ensures c.requires.images c.in_ok-steps.ensures (c.in_ok-virtual_outputs.ensures ∙ ap (filter_map described) c.deref-2.ensures.value)
+    c.in_ok-known.ensures.known c.deref.ensures.value c.in_default.ensures c.requires.images c.in_ok-steps.ensures (c.in_ok-virtual_outputs.ensures ∙ ap (filter_map closed_output) c.deref-2.ensures.value)
 
 pub returns-clause-ok : goal.returns-clause-ok
 returns-clause-ok c is operands =
-    let outputs = c.deref-3.ensures.value ∙ c.in_ok-virtual_outputs.ensures ∙ ap (filter_map described) c.deref-2.ensures.value in
+    let outputs = c.deref-3.ensures.value ∙ c.in_ok-virtual_outputs.ensures ∙ ap (filter_map closed_output) c.deref-2.ensures.value in
     let bytes = c.sample_bytes.ensures ∙ bytes_found c.args.nodes.now c.args.steps.now c.requires.one_writer c.requires.order is c.in_ok-known.known.items c.deref-3.result.now operands c.in_ok-known.ensures.known outputs in
     verdict_found c.args.nodes.now c.args.steps.now c.requires.one_writer c.requires.order c.args.work is c.in_ok-known.known.items c.deref.result.now None operands
     c.in_ok-known.ensures.known c.deref.ensures.value c.in_default.ensures (c.if-reads_loose.ensures is operands)

@@ -1,5 +1,5 @@
 use Rattle.std.proofs.Common.{◌<◌, [], ◌∷◌, ◌++◌, ◌∙◌, arith}
-use Rattle.pgm_images.specs.Raster.{take_pair, nothing_left}
+use Rattle.pgm_images.specs.Raster.{take_long_sample, nothing_left}
 use Rattle.pgm_images.proofs.RasterLemmas.{so_many-more}
 use Rattle.pgm_images.proofs.raster.pair_samples.Goals as goal
 
@@ -13,6 +13,6 @@ loop-left-preserved c =
       gathered = (
         done ++ kept.number ∷ [],
         c.in_ok-add.ensures.numbers done kept.number gathers (c.in-Some.number-is ∙ kept.least),
-        so_many-more take_pair nothing_left c.loop-left.left kept.number done _ _ _ some_left whole kept.is,
+        so_many-more take_long_sample nothing_left c.loop-left.left kept.number done _ _ _ some_left whole kept.is,
       );
     }

@@ -1,6 +1,6 @@
 use Rattle.std.proofs.Common.{◌≡◌, ◌+◌, ◌<◌, ℤ, List, sym, subst, arith, w16, FitsSigned}
 use Rattle.vx_base.proofs.TableLaws.{row_fits}
-use Rattle.window_kernels.specs.Products.{IsUpTo, IsTable}
+use Rattle.window_kernels.specs.Products.{IsUpTo, IsPairTable}
 use Rattle.window_kernels.proofs.SumLaws.{each_of_row, length_row, no_row_added, row_added, sums_up_to, length_sums, all_rows_added, all_rows_up_to}
 use Rattle.window_kernels.proofs.products.sum_rows.Goals as goal
 
@@ -25,7 +25,7 @@ add_row-requires-clause-table_len c =
     omega (arith, c.requires.some, length_row c.args.tables.now c.row_of-table.result.now 80 c.loop-l.l c.row_of-table.ensures (omega (arith, c.requires.tables_len, c.loop-l-test.true)))
 
 pub add_row-requires-clause-table : goal.add_row-requires-clause-table
-add_row-requires-clause-table c = subst (λ (t : List ℤ). IsTable c.args.pairs t) (sym c.row_of-table.ensures) (c.requires.tables c.loop-l.l c.loop-l-test.true)
+add_row-requires-clause-table c = subst (λ (t : List ℤ). IsPairTable c.args.pairs t) (sym c.row_of-table.ensures) (c.requires.tables c.loop-l.l c.loop-l-test.true)
 
 pub add_row-requires-clause-fits : goal.add_row-requires-clause-fits
 add_row-requires-clause-fits c = each_of_row (FitsSigned w16) c.args.tables.now c.row_of-table.result.now 80 c.loop-l.l c.requires.fits c.row_of-table.ensures
