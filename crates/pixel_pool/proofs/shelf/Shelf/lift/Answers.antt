@@ -1,0 +1,14 @@
+use Rattle.std.proofs.Common.{None}
+use Rattle.std.specs.Option.{option_map}
+use Rattle.pixel_pool.proofs.ShelfLemmas.{ChangesHand-with_value, count-with_value, IsSome-from_samples}
+use Rattle.pixel_pool.proofs.shelf.Shelf.lift.Goals as goal
+
+pub returns-clause-hand : goal.returns-clause-hand
+returns-clause-hand g c =
+    let held = rw (← c.self.view_is) at c.requires in
+    rw (← c.self.view_is, c.take.ensures.after) (ChangesHand-with_value (option_map (λ v. v.items)) c.self.inside.hands _ c.args.key None (IsSome-from_samples _ held))
+
+pub returns-clause-hands : goal.returns-clause-hands
+returns-clause-hands g c =
+    let held = rw (← c.self.view_is) at c.requires in
+    rw (← c.self.view_is) (count-with_value (option_map (λ v. v.items)) c.self.inside.hands c.args.key c.take.new.self (IsSome-from_samples _ held))
