@@ -68,7 +68,8 @@ fn greatest_samples(
 ) -> Result<Vec<usize>, AllocError>
     requires { (p : PlacedLife) → In p placed.now → p.slot < count }
     ensures count { IfOk result (λ samples. length samples.items ≡ count) }
-    ensures greatest { IfOk result (λ samples. (k : ℕ) → slice_index samples.items k ≡ samples_in placed.now k) }
+    ensures greatest { IfOk result (λ samples. (k : ℕ) →
+        slice_index samples.items k ≡ samples_in placed.now k) }
 {
     let mut samples = vec![in alloc; 0; count]?;
     for placed in placed {
