@@ -1,4 +1,5 @@
--- When the virtual images of a graph are live, along an order of its nodes. Steps are counted from 1.
+-- When the virtual images of a graph are live, along an order of its nodes, whose steps are counted
+-- from 1.
 use Rattle.std.specs.Prelude.{◌≡◌, ℕ, ◌+◌, ◌-◌, Bool, ◌&&◌, ◌||◌, nat_le, List, map, take, drop}
 use Rattle.std.specs.List.{list_any, position_or_len}
 use Rattle.vx_base.specs.declared.node.Node.{Node}
@@ -12,8 +13,9 @@ use Rattle.buffer_plan.specs.declared.lives.Life.{Life}
 abbrev pub is_used : List Node → Cell → Bool
 is_used nodes cell = list_any (λ n. reads n cell || writes n cell) nodes
 
--- whether a cell is live at a step: it or an earlier one writes the cell, and it or a later one reads or writes it. A cell that
--- one node writes is so from the step that writes it to the last step that reads it, or at its own step alone
+-- whether a cell is live at a step: it or an earlier one writes the cell, and it or a later one
+-- reads or writes it. A cell that one node writes is so from the step that writes it to the last
+-- step that reads it, or at its own step alone
 abbrev pub is_live : List Node → Cell → ℕ → Bool
 is_live steps cell step = is_written (take step steps) cell && is_used (drop (step - 1) steps) cell
 
@@ -29,6 +31,7 @@ pub record IsLife (steps : List Node) (l : Life) : Type 0 where
   pub live : (step : ℕ) → is_live steps l.image.cell step ≡ is_in step l
 
 -- a life for each image
-pub record AreLives (steps : List Node) (images : List VirtualOutput) (lives : List Life) : Type 0 where
+pub record AreLives (steps : List Node) (images : List VirtualOutput)
+    (lives : List Life) : Type 0 where
   pub each : map (λ l. l.image) lives ≡ images
   pub exact : (l : Life) → In l lives → IsLife steps l

@@ -22,22 +22,29 @@ count_in step lives = length (filter (is_in step) lives)
 
 -- the slot of an image
 abbrev pub slot_among : List Placed → Cell → Option ℕ
-slot_among placed cell = option_map (λ p. p.slot) (find (λ p. same_cell p.life.image.cell cell) placed)
+slot_among placed cell =
+    option_map (λ p. p.slot) (find (λ p. same_cell p.life.image.cell cell) placed)
 
 -- the greatest sample count of the images of a slot
 abbrev pub samples_in : List Placed → ℕ → ℕ
-samples_in placed k = greatest (map (λ p. sample_count p.life.image.desc) (filter (λ p. p.slot == k) placed))
+samples_in placed k =
+    greatest (map (λ p. sample_count p.life.image.desc) (filter (λ p. p.slot == k) placed))
 
--- a slot for a life, by the last steps at which the images of each slot are live: one that is free again, or a new one where none is
+-- a slot for a life, by the last steps at which the images of each slot are live: one that is free
+-- again, or a new one where none is
 abbrev pub TakesSlot : Life → List ℕ → List ℕ → ℕ → Type 0
 TakesSlot l ends ends' slot =
-    ((slot < length ends) × (slice_index_or ends slot 0 < l.first) × (ends' ≡ slice_set ends slot l.last))
-    ⊎ ((slot ≡ length ends) × (ends' ≡ ends ++ l.last ∷ []) × ((k : ℕ) → k < length ends → l.first ≤ slice_index_or ends k 0))
+    ((slot < length ends) × (slice_index_or ends slot 0 < l.first)
+    × (ends' ≡ slice_set ends slot l.last))
+    ⊎ ((slot ≡ length ends) × (ends' ≡ ends ++ l.last ∷ [])
+    × ((k : ℕ) → k < length ends → l.first ≤ slice_index_or ends k 0))
 
--- two that are live at one step have different slots
+-- none that is live at one step with p has p's slot
 abbrev pub IsApart : Placed → List Placed → Type 0
-IsApart p ps = (q : Placed) (step : ℕ) → In q ps → is_in step p.life ≡ true → is_in step q.life ≡ true → p.slot ≢ q.slot
+IsApart p ps = (q : Placed) (step : ℕ) → In q ps → is_in step p.life ≡ true →
+    is_in step q.life ≡ true → p.slot ≢ q.slot
 
+-- no two that are live at one step have one slot
 abbrev pub AllApart : List Placed → Type 0
 AllApart [] = Unit {0}
 AllApart (p ∷ ps) = IsApart p ps × AllApart ps
@@ -48,10 +55,14 @@ pub record IsReached (lives : List Life) (count step : ℕ) : Type 0 where
   pub there : count ≤ count_in step lives
   pub fewer_before : (earlier : ℕ) → earlier < step → count_in earlier lives < count
 
+-- the lives, each in a slot below the number of slots, with room for its image; where the lives
+-- stand in the order of writing, no two that are live at one step have the same slot, and as many
+-- are live at the peak as there are slots
 pub record ArePlaced (lives : List Life) (p : Places) : Type 0 where
   pub each : map (λ q. q.life) p.placed.items ≡ lives
   pub below : (q : Placed) → In q p.placed.items → q.slot < length p.samples.items
   pub apart : Rising lives → AllApart p.placed.items
   pub samples : (k : ℕ) → slice_index p.samples.items k ≡ samples_in p.placed.items k
   pub none : p.peak_step ≡ None → length p.samples.items ≡ 0
-  pub reached : Rising lives → (step : ℕ) → p.peak_step ≡ Some step → IsReached lives (length p.samples.items) step
+  pub reached : Rising lives → (step : ℕ) → p.peak_step ≡ Some step →
+      IsReached lives (length p.samples.items) step

@@ -13,6 +13,7 @@ use Rattle.buffer_plan.specs.Placed.{slot_among, ArePlaced}
 use Rattle.buffer_plan.specs.Plan.{PlanValue}
 use Rattle.buffer_plan.specs.Slots.{of_format}
 
+-- the images of a format, each in a slot
 abbrev pub places_in : Plan → Format → Places
 places_in p U8 = p.u8s
 places_in p S16 = p.s16s
@@ -22,14 +23,17 @@ places_in p U32 = p.u32s
 abbrev pub told : Plan → PlanValue
 told p =
     record {
-      slot_of = λ cell. option_or (option_or (slot_among p.u8s.placed.items cell) (slot_among p.s16s.placed.items cell)) (slot_among p.u32s.placed.items cell);
+      slot_of = λ cell. option_or
+          (option_or (slot_among p.u8s.placed.items cell) (slot_among p.s16s.placed.items cell))
+          (slot_among p.u32s.placed.items cell);
       slot_count = λ format. length (places_in p format).samples.items;
       slot_samples = λ format k. slice_index (places_in p format).samples.items k;
       peak_step = λ format. (places_in p format).peak_step;
     }
 
 -- the images of a format with their lives, each in a slot
-pub record IsPlacedFor (steps : List Node) (images : List VirtualOutput) (format : Format) (p : Places) : Type 0 where
+pub record IsPlacedFor (steps : List Node) (images : List VirtualOutput) (format : Format)
+    (p : Places) : Type 0 where
   pub lives : List Life
   pub are_lives : AreLives steps (of_format format images) lives
   pub placed : ArePlaced lives p

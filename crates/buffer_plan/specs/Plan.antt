@@ -10,21 +10,25 @@ use Rattle.graph_verify.specs.Links.{has_twice}
 use Rattle.graph_verify.specs.Members.{In}
 use Rattle.buffer_plan.specs.Slots.{of_format, is_slot, greatest, IsValid, IsPeak}
 
--- a plan by what it tells: the slot of an image, and of each format how many slots there are, how many samples each has to hold,
--- and the first step that needs so many slots
+-- a plan by what it tells: the slot of an image, and of each format how many slots there are, how
+-- many samples each has to hold, and the first step that needs so many slots
 pub record PlanValue : Type 0 where
   pub slot_of : Cell → Option ℕ
   pub slot_count : Format → ℕ
   pub slot_samples : Format → ℕ → ℕ
   pub peak_step : Format → Option ℕ
 
--- a valid plan with a slot for each image and no other cell; there are as many slots of a format as the peak says, and each has
--- room for those that share it
+-- a valid plan with a slot for each image, which are of different cells, and for no other cell;
+-- there are as many slots of a format as the peak says, and each has room for those that share it
 pub record IsPlan (steps : List Node) (images : List VirtualOutput) (p : PlanValue) : Type 0 where
   pub once : has_twice (map (λ o. o.cell) images) ≡ false
-  pub given : (cell : Cell) → is_some (p.slot_of cell) ≡ list_any (λ o. same_cell o.cell cell) images
+  pub given : (cell : Cell) →
+      is_some (p.slot_of cell) ≡ list_any (λ o. same_cell o.cell cell) images
   pub valid : IsValid steps images p.slot_of
-  pub below : (o : VirtualOutput) → In o images → IfSome (p.slot_of o.cell) (λ k. k < p.slot_count o.desc.format)
-  pub peak : (format : Format) → IsPeak steps images format (p.slot_count format) (p.peak_step format)
+  pub below : (o : VirtualOutput) → In o images →
+      IfSome (p.slot_of o.cell) (λ k. k < p.slot_count o.desc.format)
+  pub peak : (format : Format) →
+      IsPeak steps images format (p.slot_count format) (p.peak_step format)
   pub samples : (format : Format) (k : ℕ) →
-      p.slot_samples format k ≡ greatest (map (λ o. sample_count o.desc) (filter (λ o. is_slot k (p.slot_of o.cell)) (of_format format images)))
+      p.slot_samples format k ≡ greatest (map (λ o. sample_count o.desc)
+      (filter (λ o. is_slot k (p.slot_of o.cell)) (of_format format images)))

@@ -15,25 +15,32 @@ of_format format images = filter (λ o. same_format o.desc.format format) images
 
 -- the images of a format that are live at a step
 abbrev pub live_images : List Node → List VirtualOutput → Format → ℕ → List VirtualOutput
-live_images steps images format step = filter (λ o. is_live steps o.cell step) (of_format format images)
+live_images steps images format step =
+    filter (λ o. is_live steps o.cell step) (of_format format images)
 
 -- a valid plan: no two images of a format that are live at one step have one slot
 abbrev pub IsValid : {S : Type 0} → List Node → List VirtualOutput → (Cell → S) → Type 0
-IsValid steps images slot = (format : Format) (step : ℕ) (a b : VirtualOutput) → In a (live_images steps images format step) →
-    In b (live_images steps images format step) → slot a.cell ≡ slot b.cell → a ≡ b
+IsValid steps images slot = (format : Format) (step : ℕ) (a b : VirtualOutput) →
+    In a (live_images steps images format step) → In b (live_images steps images format step) →
+    slot a.cell ≡ slot b.cell → a ≡ b
 
 -- the list has the slot of each image of the format
 abbrev pub AreSlotsOf : {S : Type 0} → (Cell → S) → Format → List VirtualOutput → List S → Type 0
-AreSlotsOf slot format images slots = (o : VirtualOutput) → In o (of_format format images) → In (slot o.cell) slots
+AreSlotsOf slot format images slots = (o : VirtualOutput) → In o (of_format format images) →
+    In (slot o.cell) slots
 
 -- the first step at which so many images of a format are live
-pub record IsFirstWith (steps : List Node) (images : List VirtualOutput) (format : Format) (count step : ℕ) : Type 0 where
+pub record IsFirstWith (steps : List Node) (images : List VirtualOutput) (format : Format)
+    (count step : ℕ) : Type 0 where
   pub some : 0 < count
   pub there : length (live_images steps images format step) ≡ count
-  pub fewer_before : (earlier : ℕ) → earlier < step → length (live_images steps images format earlier) < count
+  pub fewer_before : (earlier : ℕ) → earlier < step →
+      length (live_images steps images format earlier) < count
 
--- the peak of a format: the greatest number of its images that are live at one step, and the first step at which so many are
-pub record IsPeak (steps : List Node) (images : List VirtualOutput) (format : Format) (count : ℕ) (first : Option ℕ) : Type 0 where
+-- the peak of a format: the greatest number of its images that are live at one step, and the first
+-- step at which so many are, None where that is 0
+pub record IsPeak (steps : List Node) (images : List VirtualOutput) (format : Format) (count : ℕ)
+    (first : Option ℕ) : Type 0 where
   pub most : (step : ℕ) → length (live_images steps images format step) ≤ count
   pub none : first ≡ None → count ≡ 0
   pub some : (step : ℕ) → first ≡ Some step → IsFirstWith steps images format count step

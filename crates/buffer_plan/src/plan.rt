@@ -1,6 +1,5 @@
 //! The plan of a verified graph.
 ghost use Rattle.std.specs.Prelude.{◌≡◌, ℕ, ◌≤◌, ◌&&◌, List, length, is_some, IfOk, None};
-ghost use Rattle.std.specs.Prelude.{slice_index};
 ghost use Rattle.vx_base.specs.declared.node.Node.{Node as NodeFields};
 ghost use Rattle.vx_base.specs.Cell.{Cell};
 ghost use Rattle.graph_verify.specs.declared.known.VirtualOutput.{VirtualOutput as Image};
@@ -30,16 +29,16 @@ pub struct Plan {
 
 impl Plan {
     /// Plans where the virtual images that a verified graph writes stand while it runs in its
-    /// order.
+    /// order. It takes memory, and an error says that none was found.
     pub fn new(alloc: Global, verified: &Verified) -> Result<Plan, AllocError>
-        ensures plan { IfOk result (λ p.
-            (work : ℕ) (is : Cell → Operand) (nodes : List NodeFields) →
+        ensures plan { IfOk result (λ p. (work : ℕ) (is : Cell → Operand)
+            (nodes : List NodeFields) →
             verdict work is nodes ≡ None → IsVerified is nodes verified.now →
             IsPlan verified.now.steps.items verified.now.virtual_outputs.items (told p)) }
         ensures images { IfOk result (λ p. (is : Cell → Operand) (nodes : List NodeFields) →
             IsVerified is nodes verified.now →
-            (cell : Cell) → is_some ((told p).slot_of cell)
-            ≡ (is_virtual (is cell) && is_written nodes cell)) }
+            (cell : Cell) → is_some ((told p).slot_of cell) ≡
+            (is_virtual (is cell) && is_written nodes cell)) }
     {
         Ok(Plan {
             u8s: places_of(alloc, verified, Format::U8)?,
@@ -72,8 +71,7 @@ impl Plan {
     pub fn slot_count(&self, format: Format) -> usize
         ensures value { result ≡ (told self.now).slot_count format }
         ensures least { (steps : List NodeFields) (images : List Image) →
-            IsPlan steps images (told self.now) →
-            (slot : Cell → ℕ) → IsValid steps images slot →
+            IsPlan steps images (told self.now) → (slot : Cell → ℕ) → IsValid steps images slot →
             (slots : List ℕ) → AreSlotsOf slot format images slots → result ≤ length slots }
     {
         self.places(format).samples.len()
@@ -99,8 +97,8 @@ impl Plan {
 
 /// The images of a format that a verified graph writes, each in a slot.
 fn places_of(alloc: Global, verified: &Verified, format: Format) -> Result<Places, AllocError>
-    ensures { IfOk result (λ places. IsPlacedFor verified.now.steps.items
-        verified.now.virtual_outputs.items format places) }
+    ensures { IfOk result (λ places.
+        IsPlacedFor verified.now.steps.items verified.now.virtual_outputs.items format places) }
 {
     let lives = lives_of(alloc, &verified.steps, &verified.virtual_outputs, format)?;
     place(alloc, &lives)

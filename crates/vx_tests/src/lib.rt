@@ -11,6 +11,7 @@
 //! - `clients`: what a client with a small quota may hold
 //! - `tables`: names and the charge of a table, and objects that are set
 //! - `graphs`: graphs, the numbers of their nodes, and what these use in a table
+//! - `plans`: the slots of virtual images, and the steps that need so many
 //! - `values`: rectangles, codes and tables
 //! - `images`: images that are valid in a part
 //! - `bands`: a few rows of an image alone
@@ -32,6 +33,8 @@ mod graphs;
 mod images;
 #[cfg(test)]
 mod kernels;
+#[cfg(test)]
+mod plans;
 #[cfg(test)]
 mod requests;
 #[cfg(test)]
