@@ -14,7 +14,8 @@ const SMALL_ROOM: usize = 1024;
 pub(crate) fn best_fit<T>(free: &[Vec<T>], count: usize) -> usize
     requires { 0 < length free.now }
     ensures within { result < length free.now }
-    ensures best { All (λ room. suits_better count room (slice_index (rooms free.now) result) ≡ false) (rooms free.now) }
+    ensures best { All (λ room. suits_better count room
+        (slice_index (rooms free.now) result) ≡ false) (rooms free.now) }
 {
     let mut best = 0;
     for at in 1..free.len() {
@@ -35,7 +36,8 @@ pub(crate) fn take_at<T: Copy + Drop>(
 ) -> Result<Vec<T>, AllocError>
     requires { at < vec_len free.old }
     ensures count { IfOk result (λ samples. length samples.items ≡ count) }
-    ensures rooms { OnOk result (IsPermutation (rooms free.old.items) (slice_index (rooms free.old.items) at ∷ rooms free.new.items)) }
+    ensures rooms { OnOk result (IsPermutation (rooms free.old.items)
+        (slice_index (rooms free.old.items) at ∷ rooms free.new.items)) }
     ensures len { OnOk result (vec_len free.new + 1 ≡ vec_len free.old) }
     ensures capacity { vec_capacity free.new ≡ vec_capacity free.old }
     ensures succeeds { count ≤ slice_index (rooms free.old.items) at → IsOk result }
