@@ -10,8 +10,8 @@ rooms free = map (λ v. vec_capacity v) free
 abbrev pub HasRoom : List ℕ → ℕ → Type 0
 HasRoom free count = Any (λ room. count ≤ room) free
 
--- whether a room suits so many samples better than another: they fit in it alone, or it is the smaller of two in which they
--- fit, or the larger of two in which they don't
+-- whether a room suits so many samples better than another: they fit in it alone, or it is the
+-- smaller of two in which they fit, or the larger of two in which they don't
 abbrev pub suits_better : ℕ → ℕ → ℕ → Bool
 suits_better count room than =
     if nat_le count than then (nat_le count room && nat_lt room than) else nat_lt than room

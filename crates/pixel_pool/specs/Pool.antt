@@ -1,5 +1,5 @@
 -- What a contract sees of a `Pool` and its blocks.
-use Rattle.std.specs.Prelude.{◌≡◌, ℕ, ℤ, pos, ◌+◌, ◌==◌, ◌&&◌, Bool, false, List, length, map, Option, Some, None, IsSome, IsSomeAnd}
+use Rattle.std.specs.Prelude.{◌≡◌, ◌≢◌, ℕ, ℤ, pos, ◌+◌, ◌==◌, ◌&&◌, Bool, false, List, length, map, Option, Some, None, IsSome, IsSomeAnd}
 use Rattle.std.specs.Option.{option_map}
 use Rattle.vx_base.specs.declared.format.Format.{Format}
 use Rattle.vx_base.specs.declared.format.Format.TheVariants.{U8, S16, U32}
@@ -30,7 +30,8 @@ rooms_of p U32 = p.u32s.rooms
 abbrev pub blocks_of : Pool → Format → ℕ
 blocks_of p format = hands_of p format + length (rooms_of p format)
 
--- what a block has: nothing where it is in no hand, and else its samples, or nothing while they are lifted out of it
+-- what a block has: nothing where it is in no hand, and else its samples, or nothing while they are
+-- lifted out of it
 abbrev pub hand : Pool → Block → Option (Option (List ℤ))
 hand p b = hand_at p b.format b.key
 
@@ -48,16 +49,23 @@ same_block a b = same_format a.format b.format && (a.key == b.key)
 
 -- every other block is as it was: in a hand or not, with its samples
 abbrev pub KeepsOthers : Pool → Pool → Block → Type 0
-KeepsOthers old new b = (other : Block) → same_block other b ≡ false → hand new other ≡ hand old other
+KeepsOthers old new b =
+    (other : Block) → same_block other b ≡ false → hand new other ≡ hand old other
 
 -- the free blocks are as they were, and as many are in hands
 pub record KeepsCounts (old new : Pool) : Type 0 where
   pub rooms : (format : Format) → rooms_of new format ≡ rooms_of old format
   pub hands : (format : Format) → hands_of new format ≡ hands_of old format
 
+-- all but one format have their free blocks, and as many in hands
+pub record KeepsOtherFormats (old new : Pool) (changed : Format) : Type 0 where
+  pub rooms : (format : Format) → format ≢ changed → rooms_of new format ≡ rooms_of old format
+  pub hands : (format : Format) → format ≢ changed → hands_of new format ≡ hands_of old format
+
 -- a block of a format, with so many samples, which was in no hand
 pub record IsTaken (old new : Pool) (asked : Format) (wanted : ℕ) (b : Block) : Type 0 where
   pub format : b.format ≡ asked
   pub count : b.count ≡ wanted
   pub was_free : hand old b ≡ None
-  pub samples : (samples : List ℤ) × ((length samples ≡ wanted) × (hand new b ≡ Some (Some samples)))
+  pub samples :
+      (samples : List ℤ) × ((length samples ≡ wanted) × (hand new b ≡ Some (Some samples)))

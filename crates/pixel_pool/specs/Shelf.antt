@@ -2,8 +2,8 @@
 use Rattle.std.specs.Prelude.{◌≡◌, ◌≢◌, ℕ, ◌+◌, List, length, Option, None, is_some, count_by, slice_index_or, refl}
 use Rattle.std.specs.Coded.{Coded, code_by, coded×, coded_ℕ, coded_list, coded_option}
 
--- under each key from 0 on what the block in a hand has, or nothing where no hand has the key: its samples, or nothing while
--- they are lifted out of it; and the rooms of the free blocks
+-- under each key from 0 on what the block in a hand has, or nothing where no hand has the key: its
+-- samples, or nothing while they are lifted out of it; and the rooms of the free blocks
 pub record ShelfValue (T : Type 0) : Type 0 where
   pub hands : List (Option (Option (List T)))
   pub rooms : List ℕ

@@ -15,8 +15,8 @@ const SMALL_ROOM: usize = 1024;
 pub(crate) fn best_fit<T>(free: &[Vec<T>], count: usize) -> usize
     requires { 0 < length free.now }
     ensures within { result < length free.now }
-    ensures best { All (λ room. suits_better count room (slice_index (rooms free.now) result)
-        ≡ false) (rooms free.now) }
+    ensures best { All (λ room. suits_better count room
+        (slice_index (rooms free.now) result) ≡ false) (rooms free.now) }
 {
     let mut best = 0;
     for at in 1..free.len() {

@@ -10,10 +10,10 @@ use vx_base::Format;
 
 /// What is given back is taken again: that takes no memory, and adds no block.
 pub fn taken_again(pool: &mut Pool, format: Format, count: usize) -> Result<Block, AllocError>
-    ensures taken { IfOk result (λ b. (samples : List ℤ) ×
-        ((length samples ≡ count) × (hand pool.new b ≡ Some (Some samples)))) }
-    ensures blocks { OnOk result (blocks_of pool.new format
-        ≡ max (blocks_of pool.old format) (hands_of pool.old format + 1)) }
+    ensures taken { IfOk result (λ b. (samples : List ℤ) × ((length samples ≡ count) ×
+        (hand pool.new b ≡ Some (Some samples)))) }
+    ensures blocks { OnOk result (blocks_of pool.new format ≡
+        max (blocks_of pool.old format) (hands_of pool.old format + 1)) }
 {
     let block = pool.take(format, count)?;
     pool.give_back(block);
@@ -46,8 +46,8 @@ pub fn two_taken(
 /// What is lifted out of a block and put back as it is has changed no block.
 pub fn put_back(pool: &mut Pool, block: &Block)
     requires samples { HasSamples pool.old block.now }
-    requires count { (samples : List ℤ) → hand pool.old block.now ≡ Some (Some samples) →
-        length samples ≡ block.now.count }
+    requires count { (samples : List ℤ) →
+        hand pool.old block.now ≡ Some (Some samples) → length samples ≡ block.now.count }
     ensures { (other : Block) → hand pool.new other ≡ hand pool.old other }
 {
     let samples = pool.lift(block);

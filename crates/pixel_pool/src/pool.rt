@@ -3,8 +3,7 @@ ghost use Rattle.std.specs.Prelude.{◌≡◌, ◌≢◌, ◌+◌, ℤ, [], List
 ghost use Rattle.std.specs.Prelude.{IsOk, Some, None};
 ghost use Rattle.vx_base.specs.Picture.{values, samples_format};
 ghost use Rattle.pixel_pool.specs.Free.{HasRoom, UsesBest, GetsRoom};
-ghost use Rattle.pixel_pool.specs.Pool.{hand, rooms_of, hands_of, blocks_of, HasSamples, IsLifted};
-ghost use Rattle.pixel_pool.specs.Pool.{KeepsOthers, KeepsCounts, IsTaken};
+ghost use Rattle.pixel_pool.specs.Pool.{hand, rooms_of, hands_of, blocks_of, HasSamples, IsLifted, KeepsOthers, KeepsCounts, KeepsOtherFormats, IsTaken};
 
 use crate::block::Block;
 use crate::shelf::Shelf;
@@ -45,14 +44,11 @@ impl Pool {
         ensures taken { IfOk result (λ b. IsTaken self.old self.new format count b) }
         ensures others { IfOk result (λ b. KeepsOthers self.old self.new b) }
         ensures hands { OnOk result (hands_of self.new format ≡ hands_of self.old format + 1) }
-        ensures blocks { OnOk result (blocks_of self.new format
-            ≡ max (blocks_of self.old format) (hands_of self.new format)) }
+        ensures blocks { OnOk result (blocks_of self.new format ≡
+            max (blocks_of self.old format) (hands_of self.new format)) }
         ensures best { OnOk result (rooms_of self.old format ≢ [] →
             UsesBest count (rooms_of self.old format) (rooms_of self.new format)) }
-        ensures other_hands { (other : Format) → other ≢ format →
-            hands_of self.new other ≡ hands_of self.old other }
-        ensures other_rooms { (other : Format) → other ≢ format →
-            rooms_of self.new other ≡ rooms_of self.old other }
+        ensures other_formats { KeepsOtherFormats self.old self.new format }
         ensures err { OnErr result (self.new ≡ self.old) }
 
         // No memory is taken where a free block has room.
@@ -73,11 +69,9 @@ impl Pool {
         ensures others { KeepsOthers self.old self.new block }
         ensures hands { hands_of self.new block.format + 1 ≡ hands_of self.old block.format }
         ensures room { (samples : List ℤ) → hand self.old block ≡ Some (Some samples) →
-            GetsRoom (rooms_of self.old block.format) (rooms_of self.new block.format) (length samples) }
-        ensures other_hands { (other : Format) → other ≢ block.format →
-            hands_of self.new other ≡ hands_of self.old other }
-        ensures other_rooms { (other : Format) → other ≢ block.format →
-            rooms_of self.new other ≡ rooms_of self.old other }
+            GetsRoom (rooms_of self.old block.format) (rooms_of self.new block.format)
+            (length samples) }
+        ensures other_formats { KeepsOtherFormats self.old self.new block.format }
     {
         let Block {
             format,

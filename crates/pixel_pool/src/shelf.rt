@@ -69,11 +69,11 @@ impl<T: Copy + Drop> Shelf<T> {
     /// A block of so many samples, which may hold anything, under a key that no hand has.
     pub fn take(&mut self, zero: T, count: usize) -> Result<usize, AllocError>
         ensures was_free { IfOk result (λ key. held_at self.old key ≡ None) }
-        ensures hand { IfOk result (λ key. (samples : List T) ×
-            ((length samples ≡ count) × ChangesHand self.old self.new key (Some (Some samples)))) }
+        ensures hand { IfOk result (λ key. (samples : List T) × ((length samples ≡ count) ×
+            ChangesHand self.old self.new key (Some (Some samples)))) }
         ensures hands { OnOk result (hand_count self.new ≡ hand_count self.old + 1) }
-        ensures blocks { OnOk result (block_count self.new
-            ≡ max (block_count self.old) (hand_count self.new)) }
+        ensures blocks { OnOk result (block_count self.new ≡
+            max (block_count self.old) (hand_count self.new)) }
         ensures best { OnOk result (self.old.rooms ≢ [] →
             UsesBest count self.old.rooms self.new.rooms) }
         ensures fits { HasRoom self.old.rooms count → IsOk result }
@@ -92,8 +92,8 @@ impl<T: Copy + Drop> Shelf<T> {
     fn add(&mut self, zero: T, count: usize) -> Result<usize, AllocError>
         requires { self.old.rooms ≡ [] }
         ensures was_free { IfOk result (λ key. held_at self.old key ≡ None) }
-        ensures hand { IfOk result (λ key. (samples : List T) ×
-            ((length samples ≡ count) × ChangesHand self.old self.new key (Some (Some samples)))) }
+        ensures hand { IfOk result (λ key. (samples : List T) × ((length samples ≡ count) ×
+            ChangesHand self.old self.new key (Some (Some samples)))) }
         ensures hands { OnOk result (hand_count self.new ≡ hand_count self.old + 1) }
         ensures rooms { self.new.rooms ≡ [] }
         ensures err { OnErr result (self.new ≡ self.old) }
@@ -109,8 +109,7 @@ impl<T: Copy + Drop> Shelf<T> {
         requires { IsSomeAnd (held_at self.old key) IsSome }
         ensures hand { ChangesHand self.old self.new key None }
         ensures hands { hand_count self.new + 1 ≡ hand_count self.old }
-        ensures rooms { IfSome (held_at self.old key)
-            (λ held. IfSome held (λ samples.
+        ensures rooms { IfSome (held_at self.old key) (λ held. IfSome held (λ samples.
             GetsRoom self.old.rooms self.new.rooms (length samples))) }
     {
         let samples = self.hands.remove(key).unwrap();

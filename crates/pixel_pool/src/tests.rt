@@ -10,8 +10,8 @@ use vx_base::{Format, Samples};
 /// Gives a block of U8 back, and tells for how many samples it has room.
 fn give_back(pool: &mut Pool, block: Block) -> usize
     requires samples { HasSamples pool.old block }
-    requires count { (samples : List ℤ) → hand pool.old block ≡ Some (Some samples) →
-        length samples ≡ block.count }
+    requires count { (samples : List ℤ) →
+        hand pool.old block ≡ Some (Some samples) → length samples ≡ block.count }
 {
     let samples = pool.lift(&block);
     let room = match &samples {
