@@ -26,7 +26,6 @@ pub fn create_graph(table: &mut Table, limits: Limits) -> Result<Reply, RequestF
 {
     look_for_room(table, limits, 0)?;
     let graph = Graph::new(table.allocator());
-    graph.is_graph();
     hold(table, limits, Object::new(Content::Graph(graph)))
 }
 

@@ -5,6 +5,8 @@ ghost use Rattle.client_model.specs.Images.{create_image, described, described_v
 ghost use Rattle.client_model.specs.Images.{query_image, write_image, write_text, read_image};
 ghost use Rattle.client_model.specs.Images.{read_text, set_valid, picture_refusal, valid_refusal};
 ghost use Rattle.client_model.specs.States.{KeepsLimits};
+ghost use Rattle.vx_base.specs.Image.{ImageValue, description_of};
+ghost use Rattle.client_contexts.specs.Lookup.{IsImageOf};
 ghost use Rattle.client_contexts.specs.Steps.{ComesTo, MayComeTo, IsContext, Keeps};
 
 use crate::fault::RequestFault;
@@ -86,8 +88,23 @@ pub fn write_image(
         table.old table.new result }
     ensures kept { Keeps table.old table.new }
 {
-    let image = find_image(table, reference)?;
-    if let Some(refusal) = picture_refusal(image.desc(), picture.desc()) {
+    let desc = find_image(table, reference)?.desc();
+    write_found(table, reference, desc, picture)
+}
+
+/// Writes a picture to the image of this description that a reference names.
+fn write_found(
+    table: &mut Table,
+    reference: ObjRef,
+    desc: Desc,
+    picture: &Picture,
+) -> Result<Reply, Refusal>
+    requires context { IsContext table.old }
+    requires found { (image : ImageValue) × (IsImageOf table.old.objects reference image × (desc ≡ description_of image)) }
+    ensures comes { ComesTo (write_image table.old reference picture.now) table.old table.new result }
+    ensures kept { Keeps table.old table.new }
+{
+    if let Some(refusal) = picture_refusal(desc, picture.desc()) {
         return Err(refusal);
     }
     // Its contract says that the picture is one.
@@ -108,9 +125,9 @@ pub fn write_text(
     ensures comes { MayComeTo (write_text table.old reference text.now) table.old table.new result }
     ensures kept { Keeps table.old table.new }
 {
-    find_image(table, reference)?;
+    let desc = find_image(table, reference)?.desc();
     let picture = pgm_images::read(alloc, text.bytes())?;
-    Ok(write_image(table, reference, &picture)?)
+    Ok(write_found(table, reference, desc, &picture)?)
 }
 
 /// The samples of an image, in memory of the allocator.

@@ -1,6 +1,6 @@
 -- Graphs with one more node, and with one less.
-use Rattle.std.proofs.Common.{◌≡◌, ℕ, ◌+◌, ◌<◌, Bool, true, false, cond, List, [], ◌∷◌, length, IsTrue, refl, sym, ap, ◌∙◌, arith}
-use Rattle.std.specs.Prelude.{Some, ◌==◌, not, ◌||◌, find}
+use Rattle.std.proofs.Common.{◌≡◌, ℕ, ◌+◌, ◌<◌, Bool, true, false, cond, List, [], ◌∷◌, length, IsTrue, refl, ap, ◌∙◌, arith}
+use Rattle.std.specs.Prelude.{Some, ◌==◌, not, find}
 use Rattle.std.specs.List.{filter, list_any, items_where_true}
 use Rattle.std.specs.List.Retain.{IsFiltered, ReturnsInTurn}
 use Rattle.std.specs.Option.{is_none}

@@ -1,5 +1,5 @@
 -- What is known of the virtual images that nodes write, node by node.
-use Rattle.std.proofs.Common.{◌≡◌, ℕ, ◌+◌, ◌<◌, ◌≤◌, Bool, true, false, cond, List, [], ◌∷◌, ◌++◌, length, map, take, drop, get_or, IsTrue, refl, sym, ◌∙◌, ap, subst, inl, inr, arith}
+use Rattle.std.proofs.Common.{◌≡◌, ℕ, ◌+◌, ◌<◌, ◌≤◌, Bool, true, false, List, [], ◌∷◌, ◌++◌, length, map, take, drop, get_or, IsTrue, refl, sym, ◌∙◌, ap, subst, inl, inr, arith}
 use Rattle.std.specs.Prelude.{◌⊎◌, Option, Some, None, find, unwrap_or, All}
 use Rattle.std.specs.Option.{option_map}
 use Rattle.std.specs.List.{filter, flat_map}
@@ -17,12 +17,12 @@ use Rattle.graph_verify.specs.declared.operand.Operand.{Operand}
 use Rattle.graph_verify.specs.declared.operand.Operand.TheVariants.{Image, Lut, Threshold, Delay, Convolution, Distribution, Extremes, Graph, Virtual}
 use Rattle.graph_verify.specs.declared.operand.Operands.{Operands}
 use Rattle.graph_verify.specs.Members.{In}
-use Rattle.graph_verify.specs.Known.{known_of, known_outline, learnt, learnt_from, known_operand, known_given, known_operands, AreKnown}
+use Rattle.graph_verify.specs.Known.{known_of, known_outline, learnt, learnt_from, known_operand, known_operands, AreKnown}
 use Rattle.graph_verify.specs.Linked.{linked_nodes, AreOperands}
 use Rattle.graph_verify.specs.Links.{writes, feeds}
 use Rattle.graph_verify.specs.Operand.{is_virtual, is_image, operands_of}
 use Rattle.graph_verify.specs.Order.{InTurn}
-use Rattle.graph_verify.specs.Outlines.{operand_outline, given_outline, written_outline, outlines, as_known, resolved}
+use Rattle.graph_verify.specs.Outlines.{operand_outline, given_outline, written_outline, outlines, resolved}
 use Rattle.graph_verify.specs.Rounds.{IsSolution}
 use Rattle.graph_verify.specs.Verdict.{two_writers, virtual_outputs}
 use Rattle.graph_verify.proofs.LinkLemmas.{same_cell-true, same_cell-is, In-outputs, feeds_is, same-from_In}

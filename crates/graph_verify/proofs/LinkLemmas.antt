@@ -15,7 +15,7 @@ use Rattle.graph_verify.specs.Members.{In}
 use Rattle.graph_verify.specs.Links.{reads, writes, feeds, has_twice, is_written}
 use Rattle.graph_verify.specs.Rounds.{OneWriter}
 use Rattle.graph_verify.specs.Verdict.{two_writers, writes_twice}
-use Rattle.graph_verify.proofs.MemberLemmas.{In-right, In-from_any, any-from_In, fails-from_In, In-flat_map}
+use Rattle.graph_verify.proofs.MemberLemmas.{In-right, In-from_any, any-from_In, In-flat_map}
 use Rattle.graph_verify.proofs.OrderLemmas.{is_fed}
 
 -- ---- cells

@@ -1,6 +1,6 @@
 -- Virtual images that are read and not written.
-use Rattle.std.proofs.Common.{◌≡◌, Bool, true, false, zero, suc, List, [], ◌∷◌, refl, sym, ◌∙◌, ap, arith}
-use Rattle.std.specs.Prelude.{Option, Some, None, ◌||◌}
+use Rattle.std.proofs.Common.{◌≡◌, zero, suc, List, [], ◌∷◌, refl, arith}
+use Rattle.std.specs.Prelude.{Option, Some, None}
 use Rattle.std.specs.Option.{option_map}
 use Rattle.std.specs.List.{list_any}
 use Rattle.vx_base.specs.declared.node.Node.{Node}
@@ -8,8 +8,7 @@ use Rattle.vx_base.specs.Cell.{Cell}
 use Rattle.vx_base.specs.Node.{given, inputs}
 use Rattle.graph_verify.specs.declared.linked.Linked.{Linked}
 use Rattle.graph_verify.specs.declared.operand.Operand.{Operand}
-use Rattle.graph_verify.specs.declared.operand.Operands.{Operands}
-use Rattle.graph_verify.specs.Linked.{linked_nodes, AreOperands, is_loose_end, is_given_loose, has_loose_input}
+use Rattle.graph_verify.specs.Linked.{linked_nodes, AreOperands, is_given_loose, has_loose_input}
 use Rattle.graph_verify.specs.Operand.{operands_of}
 use Rattle.graph_verify.specs.Verdict.{is_loose}
 

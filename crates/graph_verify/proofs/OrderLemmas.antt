@@ -1,5 +1,5 @@
 -- Orders of nodes: that there is one where there is no cycle, and how one is made node by node.
-use Rattle.std.proofs.Common.{◌≡◌, ℕ, ◌<◌, suc, zero, Bool, true, false, List, [], ◌∷◌, ◌++◌, length, get_or, map, append-nil, length-append, refl, sym, ◌∙◌, ap, inl, inr, arith, rules}
+use Rattle.std.proofs.Common.{◌≡◌, ℕ, ◌<◌, suc, zero, Bool, true, false, List, [], ◌∷◌, ◌++◌, length, get_or, map, append-nil, length-append, refl, ◌∙◌, ap, inl, inr, arith, rules}
 use Rattle.std.specs.Prelude.{not}
 use Rattle.std.specs.List.{filter, list_any, remove}
 use Rattle.std.specs.List.Sorted.{IsPermutation}

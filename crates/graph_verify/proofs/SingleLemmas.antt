@@ -1,6 +1,6 @@
 -- The graph of one node.
-use Rattle.std.proofs.Common.{◌≡◌, ℕ, Bool, true, false, cond, List, [], ◌∷◌, ◌++◌, append-nil, refl, sym, ◌∙◌, ap, arith}
-use Rattle.std.specs.Prelude.{Option, Some, None, ◌||◌, ◌&&◌, not, nat_le, sum_by, if◌then◌else◌}
+use Rattle.std.proofs.Common.{◌≡◌, ℕ, Bool, true, false, cond, List, [], ◌∷◌, ◌++◌, append-nil, refl, ◌∙◌, ap, arith}
+use Rattle.std.specs.Prelude.{Option, Some, None, ◌||◌, ◌&&◌, not, nat_le, if◌then◌else◌}
 use Rattle.std.specs.Option.{option_map, option_or}
 use Rattle.std.specs.List.{list_any, filter}
 use Rattle.std.proofs.lemmas.Bool.{or_parts}
@@ -13,12 +13,12 @@ use Rattle.vx_base.specs.Outline.{Outline}
 use Rattle.graph_verify.specs.declared.operand.Operand.{Operand}
 use Rattle.graph_verify.specs.declared.operand.Operand.TheVariants.{Image, Lut, Threshold, Delay, Convolution, Distribution, Extremes, Graph, Virtual}
 use Rattle.graph_verify.specs.declared.verdict.Verdict.{Verdict}
-use Rattle.graph_verify.specs.declared.verdict.Verdict.TheVariants.{MultipleWriters, InvalidGraph, InvalidLink, NoResources}
-use Rattle.graph_verify.specs.Cycle.{has_cycle, is_empty}
-use Rattle.graph_verify.specs.Links.{writes, feeds, has_twice, is_written}
-use Rattle.graph_verify.specs.Operand.{is_virtual, virtual_bytes, operands_of}
+use Rattle.graph_verify.specs.declared.verdict.Verdict.TheVariants.{NoResources}
+use Rattle.graph_verify.specs.Cycle.{has_cycle}
+use Rattle.graph_verify.specs.Links.{writes, feeds, is_written}
+use Rattle.graph_verify.specs.Operand.{is_virtual, operands_of}
 use Rattle.graph_verify.specs.Outlines.{outlines, as_known, resolved}
-use Rattle.graph_verify.specs.Verdict.{writes_twice, reads_own_output, node_fault, verdict_on, two_writers, is_loose, reads_loose, virtual_outputs, work_bytes, verdict}
+use Rattle.graph_verify.specs.Verdict.{reads_own_output, verdict_on, is_loose, verdict}
 use Rattle.graph_verify.proofs.LinkLemmas.{is_fed-written, any_agree}
 
 or_false : (b : Bool) → (b || false) ≡ b

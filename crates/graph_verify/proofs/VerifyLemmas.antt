@@ -1,8 +1,8 @@
 -- Why a graph is found to run, or not, by what is known of its virtual images.
-use Rattle.std.proofs.Common.{◌≡◌, ℕ, ◌+◌, ◌*◌, ◌≤◌, suc, Bool, true, false, not, List, [], ◌∷◌, length, map, get_or, IsTrue, refl, sym, ◌∙◌, ap, subst, inl, inr, arith, rules}
+use Rattle.std.proofs.Common.{◌≡◌, ℕ, ◌+◌, ◌*◌, ◌≤◌, Bool, true, false, List, [], ◌∷◌, length, map, get_or, IsTrue, refl, sym, ◌∙◌, ap, subst, inl, inr, arith, rules}
 use Rattle.std.specs.Prelude.{Option, Some, None, All, find, sum_by, ◌&&◌, if◌then◌else◌}
-use Rattle.std.specs.Option.{option_map, option_or, option_and_then}
-use Rattle.std.specs.List.{filter, flat_map, filter_map, list_all, cons_option}
+use Rattle.std.specs.Option.{option_map, option_or}
+use Rattle.std.specs.List.{filter, flat_map, filter_map, cons_option}
 use Rattle.std.specs.List.Sorted.{IsPermutation}
 use Rattle.std.proofs.lemmas.Bool.{and_from, and_parts, false_from_ne_true}
 use Rattle.std.proofs.lemmas.List.Elements.{filter-append}
@@ -16,7 +16,7 @@ use Rattle.vx_base.specs.Cell.{Cell, same_cell}
 use Rattle.vx_base.specs.Description.{Description, byte_count}
 use Rattle.vx_base.specs.Formats.{open_format}
 use Rattle.vx_base.specs.Node.{outputs}
-use Rattle.vx_base.specs.Outline.{Outline, outline_of, filled, closed, described_by}
+use Rattle.vx_base.specs.Outline.{Outline, outline_of, filled, closed}
 use Rattle.graph_verify.specs.declared.known.Known.{Known}
 use Rattle.graph_verify.specs.declared.known.VirtualOutput.{VirtualOutput}
 use Rattle.graph_verify.specs.declared.linked.Linked.{Linked}
@@ -24,18 +24,18 @@ use Rattle.graph_verify.specs.declared.operand.Operand.{Operand}
 use Rattle.graph_verify.specs.declared.operand.Operand.TheVariants.{Image, Lut, Threshold, Delay, Convolution, Distribution, Extremes, Graph, Virtual}
 use Rattle.graph_verify.specs.declared.operand.Operands.{Operands}
 use Rattle.graph_verify.specs.declared.verdict.Verdict.{Verdict}
-use Rattle.graph_verify.specs.declared.verdict.Verdict.TheVariants.{InvalidLink, InvalidFormat, InvalidDimension}
+use Rattle.graph_verify.specs.declared.verdict.Verdict.TheVariants.{InvalidLink}
 use Rattle.graph_verify.specs.declared.verified.Verified.{Verified}
 use Rattle.graph_verify.specs.Members.{In}
 use Rattle.graph_verify.specs.Cycle.{has_cycle}
 use Rattle.graph_verify.specs.Known.{closed_output, known_operands, AreKnown}
 use Rattle.graph_verify.specs.Linked.{linked_nodes, AreOperands}
 use Rattle.graph_verify.specs.Links.{writes, feeds, is_written}
-use Rattle.graph_verify.specs.Operand.{is_virtual, is_image, operand_format, virtual_bytes, operands_of, operand_description, written_operands, other_operands, are_of_one_size}
+use Rattle.graph_verify.specs.Operand.{is_virtual, is_image, operand_format, operand_bytes, operands_of, operand_description}
 use Rattle.graph_verify.specs.Order.{IsOrder}
 use Rattle.graph_verify.specs.Outlines.{operand_outline, given_outline, written_outline, outlines, virtual_or_image, as_known, resolved}
 use Rattle.graph_verify.specs.Rounds.{IsSolution}
-use Rattle.graph_verify.specs.Verdict.{two_writers, reads_loose, node_fault, takes_operands, takes_first, first_fault, virtual_outputs, work_bytes, verdict}
+use Rattle.graph_verify.specs.Verdict.{two_writers, reads_loose, node_fault, first_fault, virtual_outputs, work_bytes, verdict}
 use Rattle.graph_verify.specs.Verified.{IsVerified, written_description}
 use Rattle.graph_verify.proofs.KnownLemmas.{find_cases, learnt_from_known, operands_known}
 use Rattle.graph_verify.proofs.LinkLemmas.{two_writers-permutation, same-from_In, same_cell-true, same_cell-is, In-outputs}

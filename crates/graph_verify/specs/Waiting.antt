@@ -1,19 +1,24 @@
 -- Nodes that are still to be put in order.
-use Rattle.std.specs.Prelude.{not, ◌&&◌, List}
+use Rattle.std.specs.Prelude.{Bool, not, ◌&&◌, List}
 use Rattle.std.specs.List.{list_any}
 use Rattle.vx_base.specs.declared.node.Node.{Node}
 use Rattle.vx_base.specs.Node.{given}
 use Rattle.graph_verify.specs.declared.linked.Linked.{Linked}
-use Rattle.graph_verify.specs.declared.order.Waiting.{Waiting}
 use Rattle.graph_verify.specs.Links.{writes, is_written}
 
+-- a node that isn't in the order yet, and whether nodes that aren't either write its inputs
+pub record WaitingNode : Type 0 where
+  pub linked : Linked
+  pub for_in1 : Bool
+  pub for_in2 : Bool
+
 -- a node, and whether its inputs are written by nodes that aren't in the order yet
-abbrev pub waiting_among : List Node → Linked → Waiting
+abbrev pub waiting_among : List Node → Linked → WaitingNode
 waiting_among nodes l =
     record { linked = l; for_in1 = is_written nodes l.node.in1; for_in2 = list_any (is_written nodes) (given l.node.in2) }
 
 -- the same once one of those nodes is in the order: no other writes what that one writes
-abbrev pub once_ordered : Node → Waiting → Waiting
+abbrev pub once_ordered : Node → WaitingNode → WaitingNode
 once_ordered ordered w =
     record {
       linked = w.linked;

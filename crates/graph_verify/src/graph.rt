@@ -37,19 +37,13 @@ impl Model for Graph {
 impl Graph {
     /// A graph without nodes. Number 1 comes next.
     pub fn new(alloc: Global) -> Graph
-        ensures { result ≡ new_graph }
+        ensures value { result ≡ new_graph }
+        ensures graph { IsGraph result }
     {
         Graph {
             next: 1,
             nodes: Vec::new(alloc),
         }
-    }
-
-    /// What is always true of a graph, which the prover knows where its fields are read.
-    pub fn is_graph(&self)
-        ensures { IsGraph self.now }
-    {
-        let _next = self.next;
     }
 
     /// The nodes in the order of adding, at most 256.
@@ -91,8 +85,8 @@ impl Graph {
 
     /// Removes the node of this number, and hands it back. `InvalidReference` where there is none.
     pub fn remove_node(&mut self, number: u32) -> Result<NodeSpec, GraphFault>
-        ensures removed { IfOk result (λ node. find (λ n. n.number == number) self.old.nodes
-            ≡ Some (record { number = number; node = node })) }
+        ensures graph { IsGraph self.old }
+        ensures removed { IfOk result (λ node. find (λ n. n.number == number) self.old.nodes ≡ Some (record { number = number; node = node })) }
         ensures ok { OnOk result (self.new ≡ without_node self.old number) }
         ensures missing { is_err result ≡ not (has_node self.old number) }
         ensures fault { IfErr result (λ fault. fault ≡ InvalidReference) }

@@ -2,55 +2,59 @@
 ghost use Rattle.std.specs.Prelude.{◌≡◌, ◌+◌, ◌<◌, false, not, ◌||◌, length, map, slice_index_or};
 ghost use Rattle.std.specs.Prelude.{position, is_none, IfOk, IfSome};
 ghost use Rattle.std.specs.List.{remove};
-ghost use Rattle.graph_verify.specs.declared.order.Waiting.{Waiting};
 ghost use Rattle.graph_verify.specs.Cycle.{has_cycle};
 ghost use Rattle.graph_verify.specs.Links.{feeds};
 ghost use Rattle.graph_verify.specs.Linked.{linked_nodes};
 ghost use Rattle.graph_verify.specs.Order.{IsOrder};
 ghost use Rattle.graph_verify.specs.Verdict.{two_writers};
-ghost use Rattle.graph_verify.specs.Waiting.{waiting_among, once_ordered};
+ghost use Rattle.graph_verify.specs.Waiting.{WaitingNode, waiting_among, once_ordered};
 
 use crate::linked::{Linked, is_given_written, is_written, writes, writes_given};
 use std::alloc::{AllocError, Global};
+use std::marker::Model;
 use vx_base::Node;
 
 /// A node that isn't in the order yet, and whether nodes that aren't either write its inputs.
-#[derive(Clone, Copy)]
-struct Waiting {
-    linked: Linked,
+#[derive(Drop)]
+struct Waiting<'a> {
+    linked: &'a Linked,
     for_in1: bool,
     for_in2: bool,
 }
 
-impl Waiting {
+impl<'a> Model for Waiting<'a> {
+    ghost use Rattle.graph_verify.specs.Waiting.{WaitingNode};
+
+    ghost Value = { WaitingNode };
+
+    ghost view = { λ w. record { linked = w.linked.now; for_in1 = w.for_in1; for_in2 = w.for_in2 } };
+}
+
+impl<'a> Waiting<'a> {
     /// A node among those that aren't in the order, itself one of them.
-    fn among(nodes: &[Linked], linked: &Linked) -> Waiting
+    fn among(nodes: &[Linked], linked: &'a Linked) -> Waiting<'a>
         ensures { result ≡ waiting_among (linked_nodes nodes.now) linked.now }
     {
         Waiting {
-            linked: *linked,
+            linked,
             for_in1: is_written(nodes, linked.node.in1),
             for_in2: is_given_written(nodes, linked.node.in2),
         }
     }
 
-    /// This node, once another is in the order. No third writes what that one writes.
-    fn once_ordered(self, ordered: &Node) -> Waiting
-        ensures { result ≡ once_ordered ordered.now self }
+    /// Another node is in the order now. No third writes what that one writes.
+    fn once_ordered(&mut self, ordered: &Node)
+        ensures { self.new ≡ once_ordered ordered.now self.old }
     {
         let node = &self.linked.node;
-        Waiting {
-            linked: self.linked,
-            for_in1: self.for_in1 && !writes(ordered, node.in1),
-            for_in2: self.for_in2 && !writes_given(ordered, node.in2),
-        }
+        self.for_in1 = self.for_in1 && !writes(ordered, node.in1);
+        self.for_in2 = self.for_in2 && !writes_given(ordered, node.in2);
     }
 }
 
 /// The nodes, before any is in the order.
-fn all_waiting(alloc: Global, nodes: &[Linked]) -> Result<Vec<Waiting>, AllocError>
-    ensures { IfOk result (λ rest. rest.items
-        ≡ map (waiting_among (linked_nodes nodes.now)) nodes.now) }
+fn all_waiting<'a>(alloc: Global, nodes: &'a [Linked]) -> Result<Vec<Waiting<'a>>, AllocError>
+    ensures { IfOk result (λ rest. rest.items ≡ map (waiting_among (linked_nodes nodes.now)) nodes.now) }
 {
     nodes
         .iter()
@@ -59,7 +63,7 @@ fn all_waiting(alloc: Global, nodes: &[Linked]) -> Result<Vec<Waiting>, AllocErr
 }
 
 /// The index of the first node that waits for none.
-fn first_ready(rest: &[Waiting]) -> Option<usize>
+fn first_ready(rest: &[Waiting<'_>]) -> Option<usize>
     ensures { result ≡ position (λ w. not (w.for_in1 || w.for_in2)) rest.now }
 {
     rest.iter()
@@ -67,22 +71,23 @@ fn first_ready(rest: &[Waiting]) -> Option<usize>
 }
 
 /// The nodes that are left, once one more is in the order.
-fn settle(rest: &mut [Waiting], ordered: &Node)
+fn settle(rest: &mut [Waiting<'_>], ordered: &Node)
     ensures { rest.new ≡ map (once_ordered ordered.now) rest.old }
 {
     for waiting in rest.iter_mut() {
-        *waiting = waiting.once_ordered(ordered);
+        waiting.once_ordered(ordered);
     }
 }
 
 /// Takes out the node at an index, which comes next in the order.
-fn take_out(rest: &mut Vec<Waiting>, index: usize) -> Linked
+fn take_out(rest: &mut Vec<Waiting<'_>>, index: usize) -> Linked
     requires { index < length rest.old.items }
-    ensures ordered { (d : Waiting) → result ≡ (slice_index_or rest.old.items index d).linked }
+    ensures ordered { (d : WaitingNode) → result ≡ (slice_index_or rest.old.items index d).linked }
     ensures fewer { length rest.new.items + 1 ≡ length rest.old.items }
     ensures rest { rest.new.items ≡ map (once_ordered result.node) (remove rest.old.items index) }
 {
-    let ordered = rest.remove(index).linked;
+    let waiting = rest.remove(index);
+    let ordered = *waiting.linked;
     settle(rest.as_mut_slice(), &ordered.node);
     ordered
 }

@@ -86,8 +86,6 @@ impl Table {
         let Some(entry) = self.entries.get_mut(&graph) else {
             unreachable!()
         };
-        // The prover knows then that no two nodes have one number.
-        entry.object.graph().is_graph();
         let node = entry.object.remove_node(number)?;
         self.charge = end_uses(&mut self.entries, self.charge, &node.node());
         Ok(())

@@ -5,7 +5,7 @@ use Rattle.std.specs.Ordering.{nat_cmp}
 use Rattle.std.proofs.lemmas.Result.{err_from_is_err_and}
 use Rattle.vx_base.specs.declared.kind.Kind.TheVariants as kind
 use Rattle.vx_base.specs.declared.node.Node.{Node}
-use Rattle.vx_base.specs.Graph.{IsGraph, has_node, without_node}
+use Rattle.vx_base.specs.Graph.{has_node, without_node}
 use Rattle.vx_base.specs.Object.{ObjectValue, GraphObject}
 use Rattle.object_table.specs.declared.table.Entry.{Entry}
 use Rattle.object_table.specs.Context.{Context, charge_of, with_objects}
@@ -23,11 +23,6 @@ pub unreachable-requires : goal.unreachable-requires
 unreachable-requires c =
     let s = c.self.inside in
     nothing_under c.args.self.now s.next s.entries.entries c.self.view_is kind.Graph c.args.graph (sym c.in_default.ensures.value) c.requires.graph
-
-pub graph-requires : goal.graph-requires
-graph-requires c =
-    let s = c.self.inside in
-    kind_under c.args.self.now s.next s.entries.entries c.self.view_is kind.Graph c.args.graph c.in-Some.entry.now (sym c.in-Some.ensures.value) c.requires.graph
 
 pub remove_node-requires : goal.remove_node-requires
 remove_node-requires c =
@@ -82,7 +77,7 @@ invariant_of-self-2 c =
     removed-left s.next s.charge s.entries.entries c.self.invariant c.args.graph old found
     (live_there c.args.self.now s.next s.charge s.entries.entries c.self.view_is c.self.invariant c.args.graph old found c.requires.live) less
     c.remove_node.new.self c.remove_node.ensures.bytes (kind_under c.args.self.now s.next s.entries.entries c.self.view_is kind.Graph c.args.graph old found c.requires.graph)
-    c.in_ok-node.node c.args.number (subst IsGraph c.graph.ensures c.is_graph.ensures) c.in_ok-node.ensures.removed c.in_ok-node.ensures.ok refl in
+    c.in_ok-node.node c.args.number c.remove_node.ensures.graph c.in_ok-node.ensures.removed c.in_ok-node.ensures.ok refl in
     let is : c.end_uses-self-inside.new.entries.entries ≡ kept less =
     c.end_uses-self-inside.ensures.entries
     ∙ ap (λ (l : List (ℕ × Entry)). kept (used_less (used_names c.node.result) l)) (c.get_mut.follows.holds new).0
@@ -102,7 +97,7 @@ returns-clause-ok c =
     removed-left s.next s.charge s.entries.entries c.self.invariant c.args.graph old found
     (live_there c.args.self.now s.next s.charge s.entries.entries c.self.view_is c.self.invariant c.args.graph old found c.requires.live) less
     c.remove_node.new.self c.remove_node.ensures.bytes (kind_under c.args.self.now s.next s.entries.entries c.self.view_is kind.Graph c.args.graph old found c.requires.graph)
-    c.in_ok-node.node c.args.number (subst IsGraph c.graph.ensures c.is_graph.ensures) c.in_ok-node.ensures.removed c.in_ok-node.ensures.ok refl in
+    c.in_ok-node.node c.args.number c.remove_node.ensures.graph c.in_ok-node.ensures.removed c.in_ok-node.ensures.ok refl in
     let is : c.end_uses-self-inside.new.entries.entries ≡ kept less =
     c.end_uses-self-inside.ensures.entries
     ∙ ap (λ (l : List (ℕ × Entry)). kept (used_less (used_names c.node.result) l)) (c.get_mut.follows.holds new).0
