@@ -100,8 +100,10 @@ fn write_found(
     picture: &Picture,
 ) -> Result<Reply, Refusal>
     requires context { IsContext table.old }
-    requires found { (image : ImageValue) × (IsImageOf table.old.objects reference image × (desc ≡ description_of image)) }
-    ensures comes { ComesTo (write_image table.old reference picture.now) table.old table.new result }
+    requires found { (image : ImageValue) ×
+        (IsImageOf table.old.objects reference image × (desc ≡ description_of image)) }
+    ensures comes { ComesTo (write_image table.old reference picture.now)
+        table.old table.new result }
     ensures kept { Keeps table.old table.new }
 {
     if let Some(refusal) = picture_refusal(desc, picture.desc()) {

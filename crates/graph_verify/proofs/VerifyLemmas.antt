@@ -31,7 +31,7 @@ use Rattle.graph_verify.specs.Cycle.{has_cycle}
 use Rattle.graph_verify.specs.Known.{closed_output, known_operands, AreKnown}
 use Rattle.graph_verify.specs.Linked.{linked_nodes, AreOperands}
 use Rattle.graph_verify.specs.Links.{writes, feeds, is_written}
-use Rattle.graph_verify.specs.Operand.{is_virtual, is_image, operand_format, operand_bytes, operands_of, operand_description}
+use Rattle.graph_verify.specs.Operand.{is_virtual, is_image, operand_format, virtual_bytes, operands_of, operand_description}
 use Rattle.graph_verify.specs.Order.{IsOrder}
 use Rattle.graph_verify.specs.Outlines.{operand_outline, given_outline, written_outline, outlines, virtual_or_image, as_known, resolved}
 use Rattle.graph_verify.specs.Rounds.{IsSolution}

@@ -86,7 +86,8 @@ impl Graph {
     /// Removes the node of this number, and hands it back. `InvalidReference` where there is none.
     pub fn remove_node(&mut self, number: u32) -> Result<NodeSpec, GraphFault>
         ensures graph { IsGraph self.old }
-        ensures removed { IfOk result (λ node. find (λ n. n.number == number) self.old.nodes ≡ Some (record { number = number; node = node })) }
+        ensures removed { IfOk result (λ node. find (λ n. n.number == number) self.old.nodes
+            ≡ Some (record { number = number; node = node })) }
         ensures ok { OnOk result (self.new ≡ without_node self.old number) }
         ensures missing { is_err result ≡ not (has_node self.old number) }
         ensures fault { IfErr result (λ fault. fault ≡ InvalidReference) }

@@ -27,7 +27,11 @@ impl<'a> Model for Waiting<'a> {
 
     ghost Value = { WaitingNode };
 
-    ghost view = { λ w. record { linked = w.linked.now; for_in1 = w.for_in1; for_in2 = w.for_in2 } };
+    ghost view = { λ w. record {
+      linked = w.linked.now;
+      for_in1 = w.for_in1;
+      for_in2 = w.for_in2;
+    } };
 }
 
 impl<'a> Waiting<'a> {
@@ -54,7 +58,8 @@ impl<'a> Waiting<'a> {
 
 /// The nodes, before any is in the order.
 fn all_waiting<'a>(alloc: Global, nodes: &'a [Linked]) -> Result<Vec<Waiting<'a>>, AllocError>
-    ensures { IfOk result (λ rest. rest.items ≡ map (waiting_among (linked_nodes nodes.now)) nodes.now) }
+    ensures { IfOk result (λ rest. rest.items
+        ≡ map (waiting_among (linked_nodes nodes.now)) nodes.now) }
 {
     nodes
         .iter()

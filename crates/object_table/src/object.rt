@@ -6,7 +6,8 @@ ghost use Rattle.vx_base.specs.declared.kind.Kind.TheVariants as kind;
 ghost use Rattle.vx_base.specs.Rectangle.{IsWithin};
 ghost use Rattle.vx_base.specs.Image.{IsImage, description_of, with_valid};
 ghost use Rattle.vx_base.specs.Graph.{IsGraph, can_add, with_node, has_node, without_node};
-ghost use Rattle.vx_base.specs.Object.{ImageObject, DelayObject, ExtremesObject, GraphObject, IsObject, object_bytes, object_kind};
+ghost use Rattle.vx_base.specs.Object.{ImageObject, DelayObject, ExtremesObject, GraphObject};
+ghost use Rattle.vx_base.specs.Object.{IsObject, object_bytes, object_kind};
 ghost use Rattle.vx_base.specs.Picture.{values, samples_format, pictured};
 ghost use Rattle.object_table.specs.Delay.{in_slot, object_in, slot_kind, with_slot, HasImage};
 ghost use Rattle.object_table.specs.Object.{value_of, image_value, distribution_value, graph_value};
@@ -270,8 +271,11 @@ impl Object {
     pub fn remove_node(&mut self, number: u32) -> Result<NodeSpec, GraphFault>
         requires { object_kind self.old ≡ kind.Graph }
         ensures graph { IsGraph (graph_value self.old) }
-        ensures removed { IfOk result (λ node. find (λ n. n.number == number) (graph_value self.old).nodes ≡ Some (record { number = number; node = node })) }
-        ensures ok { OnOk result (self.new ≡ GraphObject (without_node (graph_value self.old) number)) }
+        ensures removed { IfOk result (λ node.
+            find (λ n. n.number == number) (graph_value self.old).nodes
+            ≡ Some (record { number = number; node = node })) }
+        ensures ok { OnOk result (self.new
+            ≡ GraphObject (without_node (graph_value self.old) number)) }
         ensures missing { is_err result ≡ not (has_node (graph_value self.old) number) }
         ensures fault { IfErr result (λ fault. fault ≡ InvalidReference) }
         ensures err { OnErr result (self.new ≡ self.old) }

@@ -3,7 +3,8 @@ ghost use Rattle.std.specs.Prelude.{◌≡◌, ◌≢◌, ◌+◌, ℤ, [], List
 ghost use Rattle.std.specs.Prelude.{IsOk, Some, None};
 ghost use Rattle.vx_base.specs.Picture.{values, samples_format};
 ghost use Rattle.pixel_pool.specs.Free.{HasRoom, UsesBest, GetsRoom};
-ghost use Rattle.pixel_pool.specs.Pool.{hand, rooms_of, hands_of, blocks_of, HasSamples, IsLifted, KeepsOthers, KeepsCounts, KeepsOtherFormats, IsTaken};
+ghost use Rattle.pixel_pool.specs.Pool.{hand, rooms_of, hands_of, blocks_of, HasSamples, IsLifted};
+ghost use Rattle.pixel_pool.specs.Pool.{KeepsOthers, KeepsCounts, KeepsOtherFormats, IsTaken};
 
 use crate::block::Block;
 use crate::shelf::Shelf;
