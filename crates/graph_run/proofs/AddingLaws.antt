@@ -47,12 +47,12 @@ module _ (nodes others : List Node) (two : two_writers nodes ≡ false) (to : Al
   object_rounds : (k : ℕ) (objects : List Named) → Rising (map label_of objects) → WritesNo kind.Delay nodes objects → rounds_of_nodes nodes k objects ≡ rounds_of_nodes others k objects
   object_rounds k objects up whole =
       let one = one_writer nodes two in
-      let labels = labels-rounds_of_nodes nodes k objects in
+      let labels = labels-rounds nodes k objects in
       let same : seen (rounds_of_nodes nodes k objects) ≡ seen (rounds_of_nodes others k objects) =
-      seen-rounds_of_nodes nodes k objects one whole
+      seen-rounds nodes k objects one whole
       ∙ cell_rounds writes given_in nodes others one to from k (seen objects)
-      ∙ sym (seen-rounds_of_nodes others k objects (λ m n c i j. one m n c (from m i) (from n j)) (WritesNo-others objects whole)) in
-      same_objects (rounds_of_nodes nodes k objects) (rounds_of_nodes others k objects) (subst (λ z. Rising z) (sym labels) up) (labels ∙ sym (labels-rounds_of_nodes others k objects)) (λ c. ap (λ f. f c) same)
+      ∙ sym (seen-rounds others k objects (λ m n c i j. one m n c (from m i) (from n j)) (WritesNo-others objects whole)) in
+      same_objects (rounds_of_nodes nodes k objects) (rounds_of_nodes others k objects) (subst (λ z. Rising z) (sym labels) up) (labels ∙ sym (labels-rounds others k objects)) (λ c. ap (λ f. f c) same)
 
   same_resolved : (is : Cell → Operand) → resolved is nodes ≡ resolved is others
   same_resolved is = grind (arith, cell_rounds, one_writer)

@@ -25,9 +25,9 @@ rounds_in_order nodes steps objects order two up whole =
     let start : Cell → Option ObjectValue = seen objects in
     let one = one_writer nodes two in
     let from = (steps_from_order feeds nodes steps order).from in
-    let labels = labels-rounds_of_nodes nodes (length nodes) objects in
+    let labels = labels-rounds nodes (length nodes) objects in
     let same : (c : Cell) → seen (rounds_of_nodes nodes (length nodes) objects) c ≡ seen (one_by_one steps objects) c = λ c.
-    ap (λ f. f c) (seen-rounds_of_nodes nodes (length nodes) objects one whole ∙ same_rounds nodes start one (length nodes))
+    ap (λ f. f c) (seen-rounds nodes (length nodes) objects one whole ∙ same_rounds nodes start one (length nodes))
     ∙ sym (once_through_order (given_from start) nodes steps start (reads_alone start) two order c)
     ∙ ap (λ f. f c) (sym (same_once nodes start one steps from) ∙ sym (seen-one_by_one nodes steps objects whole from)) in
     same_objects (rounds_of_nodes nodes (length nodes) objects) (one_by_one steps objects) (subst (λ z. Rising z) (sym labels) up)

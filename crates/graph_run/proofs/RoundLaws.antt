@@ -42,9 +42,9 @@ module _ {N C V : Type 0} (writes : N → C → Bool) (value : N → (C → V) �
   round_other (n ∷ ns) held c h = let both = or_parts (writes n c) (list_any (λ m. writes m c) ns) h in rw both.0 (round_other ns held c both.1)
 
 -- what is seen is rounded alike
-shown-round_of_nodes : (ns : List Node) (held : Cell → Option ObjectValue) (c : Cell) → option_map shown (cells.round writes given_in ns held c) ≡ cells.round writes given_in ns (λ d. option_map shown (held d)) c
-shown-round_of_nodes [] held c = refl
-shown-round_of_nodes (n ∷ ns) held c = elim (cases_Bool (writes n c)) [ inl e ↦ rw e (shown-given_in n held c) | inr e ↦ rw e (shown-round_of_nodes ns held c) ]
+shown-round : (ns : List Node) (held : Cell → Option ObjectValue) (c : Cell) → option_map shown (cells.round writes given_in ns held c) ≡ cells.round writes given_in ns (λ d. option_map shown (held d)) c
+shown-round [] held c = refl
+shown-round (n ∷ ns) held c = elim (cases_Bool (writes n c)) [ inl e ↦ rw e (shown-given_in n held c) | inr e ↦ rw e (shown-round ns held c) ]
 
 -- ---- what is written in a round
 
@@ -93,8 +93,8 @@ In-from_flat_map f (x ∷ xs) a h = elim (In-append a (f x) (flat_map f xs) h) [
 AreWrites-node : (nodes : List Node) (objects : List Named) → WritesNo kind.Delay nodes objects → (n : Node) → In n nodes → AreWrites objects (written_by n (held objects))
 AreWrites-node nodes objects whole n i = AreWrites-written objects n (λ c w. whole c (any-from_In (λ m. writes m c) n nodes i w))
 
-AreWrites-round_of_nodes : (nodes : List Node) (objects : List Named) → WritesNo kind.Delay nodes objects → AreWrites objects (flat_map (λ n. written_by n (held objects)) nodes)
-AreWrites-round_of_nodes nodes objects whole w i = grind (arith, In-from_flat_map, AreWrites-node)
+AreWrites-round : (nodes : List Node) (objects : List Named) → WritesNo kind.Delay nodes objects → AreWrites objects (flat_map (λ n. written_by n (held objects)) nodes)
+AreWrites-round nodes objects whole w i = grind (arith, In-from_flat_map, AreWrites-node)
 
 -- where forms are the same, no delay is written as a whole either
 pub WritesNo-forms : (nodes : List Node) (old new : List Named) → ((c : Cell) → form_held new c ≡ form_held old c) → WritesNo kind.Delay nodes old → WritesNo kind.Delay nodes new
@@ -102,12 +102,12 @@ WritesNo-forms nodes old new forms whole c w e = grind (arith, kind-form_seen (h
 
 -- ---- rounds and runs
 
-seen-round_of_nodes : (nodes : List Node) (objects : List Named) → OneWriter writes nodes → WritesNo kind.Delay nodes objects → seen (round_of_nodes nodes objects) ≡ cells.round writes given_in nodes (seen objects)
-seen-round_of_nodes nodes objects one whole = fun_ext (λ c.
-    seen-with_written (flat_map (λ n. written_by n (held objects)) nodes) objects (AreWrites-round_of_nodes nodes objects whole) c
+seen-round : (nodes : List Node) (objects : List Named) → OneWriter writes nodes → WritesNo kind.Delay nodes objects → seen (round_of_nodes nodes objects) ≡ cells.round writes given_in nodes (seen objects)
+seen-round nodes objects one whole = fun_ext (λ c.
+    seen-with_written (flat_map (λ n. written_by n (held objects)) nodes) objects (AreWrites-round nodes objects whole) c
     ∙ sym (map-or shown (last_to c (flat_map (λ n. written_by n (held objects)) nodes)) (held objects c))
     ∙ ap (option_map shown) (last_in_round nodes (held objects) c one)
-    ∙ shown-round_of_nodes nodes (held objects) c)
+    ∙ shown-round nodes (held objects) c)
 
 seen-step : (nodes : List Node) (n : Node) (objects : List Named) → WritesNo kind.Delay nodes objects → In n nodes
     → seen (with_written objects (written_by n (held objects))) ≡ cells.step writes given_in n (seen objects)
@@ -117,21 +117,21 @@ seen-step nodes n objects whole i = fun_ext (λ c.
     ∙ ap (option_map shown) (last_written n (held objects) c)
     ∙ elim (cases_Bool (writes n c)) [ inl e ↦ rw e (shown-given_in n (held objects) c) | inr e ↦ rw e refl ])
 
-pub form-rounds_of_nodes : (nodes : List Node) (k : ℕ) (objects : List Named) → WritesNo kind.Delay nodes objects → (c : Cell) → form_held (rounds_of_nodes nodes k objects) c ≡ form_held objects c
-form-rounds_of_nodes nodes zero objects whole c = refl
-form-rounds_of_nodes nodes (suc k) objects whole c = search (rules, form-rounds_of_nodes nodes k objects whole, form-with_written, AreWrites-round_of_nodes, WritesNo-forms)
+pub form-rounds : (nodes : List Node) (k : ℕ) (objects : List Named) → WritesNo kind.Delay nodes objects → (c : Cell) → form_held (rounds_of_nodes nodes k objects) c ≡ form_held objects c
+form-rounds nodes zero objects whole c = refl
+form-rounds nodes (suc k) objects whole c = search (rules, form-rounds nodes k objects whole, form-with_written, AreWrites-round, WritesNo-forms)
 
-pub seen-rounds_of_nodes : (nodes : List Node) (k : ℕ) (objects : List Named) → OneWriter writes nodes → WritesNo kind.Delay nodes objects
+pub seen-rounds : (nodes : List Node) (k : ℕ) (objects : List Named) → OneWriter writes nodes → WritesNo kind.Delay nodes objects
     → seen (rounds_of_nodes nodes k objects) ≡ cells.rounds writes given_in nodes k (seen objects)
-seen-rounds_of_nodes nodes zero objects one whole = refl
-seen-rounds_of_nodes nodes (suc k) objects one whole =
+seen-rounds nodes zero objects one whole = refl
+seen-rounds nodes (suc k) objects one whole =
     let before : List Named = rounds_of_nodes nodes k objects in
-    seen-round_of_nodes nodes before one (WritesNo-forms nodes objects before (form-rounds_of_nodes nodes k objects whole) whole)
-    ∙ ap (cells.round writes given_in nodes) (seen-rounds_of_nodes nodes k objects one whole)
+    seen-round nodes before one (WritesNo-forms nodes objects before (form-rounds nodes k objects whole) whole)
+    ∙ ap (cells.round writes given_in nodes) (seen-rounds nodes k objects one whole)
 
-pub labels-rounds_of_nodes : (nodes : List Node) (k : ℕ) (objects : List Named) → map label_of (rounds_of_nodes nodes k objects) ≡ map label_of objects
-labels-rounds_of_nodes nodes zero objects = refl
-labels-rounds_of_nodes nodes (suc k) objects = grind (arith, labels-rounds_of_nodes nodes k objects, labels-with_written)
+pub labels-rounds : (nodes : List Node) (k : ℕ) (objects : List Named) → map label_of (rounds_of_nodes nodes k objects) ≡ map label_of objects
+labels-rounds nodes zero objects = refl
+labels-rounds nodes (suc k) objects = grind (arith, labels-rounds nodes k objects, labels-with_written)
 
 pub seen-one_by_one : (nodes steps : List Node) (objects : List Named) → WritesNo kind.Delay nodes objects → AllIn steps nodes
     → seen (one_by_one steps objects) ≡ cells.once writes given_in steps (seen objects)

@@ -50,7 +50,7 @@ module _ (nodes : List Node) (objects : List Named) (one : two_writers nodes ≡
   values = cells.rounds writes (given_from (seen objects)) nodes (length nodes) (seen objects)
 
   seen_values : seen after ≡ values
-  seen_values = seen-rounds_of_nodes nodes (length nodes) objects (one_writer nodes one) whole ∙ same_rounds nodes (seen objects) (one_writer nodes one) (length nodes)
+  seen_values = seen-rounds nodes (length nodes) objects (one_writer nodes one) whole ∙ same_rounds nodes (seen objects) (one_writer nodes one) (length nodes)
 
   values_solve : IsSolution writes (given_from (seen objects)) nodes (seen objects) values
   values_solve = cell_solutions.rounds_solve (given_from (seen objects)) nodes (seen objects) (reads_alone (seen objects)) one runs
@@ -59,18 +59,18 @@ module _ (nodes : List Node) (objects : List Named) (one : two_writers nodes ≡
   seen_holds n c i w =
       ap (λ f. f c) seen_values
       ∙ values_solve.written n c i w
-      ∙ sym (given_same nodes (seen objects) values (Follows-rounds_of_nodes nodes (seen objects) (one_writer nodes one) (length nodes)) n c i w)
+      ∙ sym (given_same nodes (seen objects) values (Follows-rounds nodes (seen objects) (one_writer nodes one) (length nodes)) n c i w)
       ∙ ap (λ f. given_in n f c) (sym seen_values)
       ∙ sym (shown-given_in n (held after) c)
 
   -- each written cell holds what its node gives
   holds : (n : Node) (c : Cell) → In n nodes → writes n c ≡ true → held after c ≡ given_in n (held after) c
-  holds n c i w = grind (arith, unshown, given_in, WritesNo-forms, form-rounds_of_nodes, any-from_In, seen_holds)
+  holds n c i w = grind (arith, unshown, given_in, WritesNo-forms, form-rounds, any-from_In, seen_holds)
 
   pub rounds_are_solution : Solves nodes objects (rounds_of_nodes nodes (length nodes) objects)
   rounds_are_solution = record {
-    labels = labels-rounds_of_nodes nodes (length nodes) objects;
-    forms = form-rounds_of_nodes nodes (length nodes) objects whole;
+    labels = labels-rounds nodes (length nodes) objects;
+    forms = form-rounds nodes (length nodes) objects whole;
     written = All-from_In (λ n. All (λ w. held after w.0 ≡ Some w.1) (written_by n (held after))) nodes
         (λ n i. All-from_In (λ w. held after w.0 ≡ Some w.1) (written_by n (held after))
         (given_holds n (held after) (no_twice_each nodes n one i) (λ c w. holds n c i w)));
@@ -120,7 +120,7 @@ only_solution nodes before after one runs names whole images solves =
     let start : Cell → Option ObjectValue = seen before in
     same_objects after (rounds_of_nodes nodes (length nodes) before)
     (subst (λ z. Rising z) (sym solves.labels) (rising before names))
-    (solves.labels ∙ sym (labels-rounds_of_nodes nodes (length nodes) before))
+    (solves.labels ∙ sym (labels-rounds nodes (length nodes) before))
     (λ c.
     cell_solutions.only_solution (given_from start) nodes start (seen after) (reads_alone start) one runs (solution_seen nodes before after whole images solves) c
     ∙ ap (λ f. f c) (sym (seen_values nodes before one runs whole)))

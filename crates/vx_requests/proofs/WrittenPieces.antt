@@ -44,8 +44,8 @@ module _ {A : Type 0} (f : A → List ℕ) (a b c : Option (List ℕ)) (all done
 
 module _ {K : Type 0} (taken : K → Option (List ℕ)) (failures : K → ℕ) where
   -- the first of two pieces failed
-  pub WritesAll-first : {T U : Type 0} (a b : K) (x y both : List ℕ) (e : StreamFault) → x ++ y ≡ both → WritesAll {T = T} taken failures a b x (Err e) → WritesAll {T = U} taken failures a b both (Err e)
-  WritesAll-first a b x y both e joined wrote = record {
+  pub Writes-first : {T U : Type 0} (a b : K) (x y both : List ℕ) (e : StreamFault) → x ++ y ≡ both → WritesAll {T = T} taken failures a b x (Err e) → WritesAll {T = U} taken failures a b both (Err e)
+  Writes-first a b x y both e joined wrote = record {
     ok = tt;
     err = subst (AppendsPart (taken a) (taken b)) joined (AppendsPart-first (taken a) (taken b) x y wrote.err);
     fault = wrote.fault;
@@ -53,15 +53,15 @@ module _ {K : Type 0} (taken : K → Option (List ℕ)) (failures : K → ℕ) w
   }
 
   -- the second of two pieces was written, or failed
-  pub WritesAll-then : {T U : Type 0} (a b c : K) (x y both : List ℕ) (u : T) (result : Result U StreamFault) → x ++ y ≡ both
+  pub Writes-then : {T U : Type 0} (a b c : K) (x y both : List ℕ) (u : T) (result : Result U StreamFault) → x ++ y ≡ both
       → WritesAll {T = T} taken failures a b x (Ok u) → WritesAll {T = U} taken failures b c y result → WritesAll taken failures a c both result
-  WritesAll-then a b c x y both u (Ok v) joined before wrote = record {
+  Writes-then a b c x y both u (Ok v) joined before wrote = record {
     ok = subst (Appends (taken a) (taken c)) joined (Appends-trans (taken a) (taken b) (taken c) x y before.ok wrote.ok);
     err = tt;
     fault = tt;
     failed = omega (arith, before.failed, wrote.failed);
   }
-  WritesAll-then a b c x y both u (Err e) joined before wrote = record {
+  Writes-then a b c x y both u (Err e) joined before wrote = record {
     ok = tt;
     err = subst (AppendsPart (taken a) (taken c)) joined (AppendsPart-second (taken a) (taken b) (taken c) x y before.ok wrote.err);
     fault = wrote.fault;
@@ -88,10 +88,10 @@ module _ {K : Type 0} (taken : K → Option (List ℕ)) (failures : K → ℕ) w
   }
 
   -- a block failed, after others that were written
-  pub WritesAll-block : {A T U : Type 0} (f : A → List ℕ) (a b c : K) (all done rest front back : List A) (e : StreamFault) → all ≡ done ++ rest → rest ≡ front ++ back
+  pub Writes-block : {A T U : Type 0} (f : A → List ℕ) (a b c : K) (all done rest front back : List A) (e : StreamFault) → all ≡ done ++ rest → rest ≡ front ++ back
       → Appends (taken a) (taken b) (flat_map f done) → failures b ≡ failures a → WritesAll {T = T} taken failures b c (flat_map f front) (Err e)
       → WritesAll {T = U} taken failures a c (flat_map f all) (Err e)
-  WritesAll-block f a b c all done rest front back e whole split before fewer wrote = record {
+  Writes-block f a b c all done rest front back e whole split before fewer wrote = record {
     ok = tt;
     err = block_part f (taken a) (taken b) (taken c) all done rest front back whole split before wrote.err;
     fault = wrote.fault;

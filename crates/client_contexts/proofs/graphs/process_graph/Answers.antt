@@ -27,8 +27,8 @@ verify_in-requires c =
     subst (λ (g : GraphValue). All (λ n. IsTrue (is_image (operand_held t.objects n.in1))) (nodes_of g)) (sym c.graph.ensures)
     (graph_firsts c.requires.0 t c.args.graph c.in_ok-found.found.now c.requires.1 c.in_ok-found.ensures.ok)
 
-pub run_of_graph-requires-clause-ready : goal.run-requires-clause-ready
-run_of_graph-requires-clause-ready c =
+pub run-requires-clause-ready : goal.run-requires-clause-ready
+run-requires-clause-ready c =
     let t = c.args.table.now in
     let v = c.in_ok-verified.verified in (
       nodes_of (graph_value c.in_ok-found.found.now),
@@ -54,7 +54,7 @@ returns-clause-comes c =
       done =
           ap (λ g. process_found g c.args.limits t) (graph_is_named c.requires.0 t c.args.graph c.in_ok-found.found.now c.requires.1 c.in_ok-found.ensures.ok)
           ∙ ap (λ o. unless (option_map Rejected o) Empty after) allowed
-          ∙ ap (λ (k : Context). let r : Outcome = Ok (Empty, Some k) in r) (sym (c.in_ok-run_of_graph.ensures.value nodes ready));
+          ∙ ap (λ (k : Context). let r : Outcome = Ok (Empty, Some k) in r) (sym (c.in_ok-run.ensures.value nodes ready));
       refused = tt;
       kept = tt;
     }
