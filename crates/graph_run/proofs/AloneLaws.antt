@@ -1,19 +1,15 @@
 -- A graph of one node runs as the node does at once.
-use Rattle.std.proofs.Common.{◌≡◌, ℕ, ◌<◌, true, false, eqb, List, [], ◌∷◌, append-nil, refl, sym, ap, ◌∙◌, inl, inr, Option, Some, None, arith}
-use Rattle.std.specs.Option.{option_map, option_and_then}
+use Rattle.std.proofs.Common.{◌≡◌, ℕ, ◌<◌, true, List, [], ◌∷◌, append-nil, Some, arith}
 use Rattle.std.specs.List.{AllPairs}
 use Rattle.std.proofs.lemmas.Bool.{cases_Bool, eqb-true, or_left}
 use Rattle.vx_base.specs.declared.kind.Kind.TheVariants as kind
 use Rattle.vx_base.specs.declared.node.Node.{Node}
 use Rattle.vx_base.specs.Cell.{Cell}
-use Rattle.vx_base.specs.Object.{ObjectValue, object_kind}
+use Rattle.vx_base.specs.Object.{ObjectValue}
 use Rattle.vx_base.specs.Outputs.{written_by}
-use Rattle.object_table.specs.Delay.{in_slot}
 use Rattle.object_table.specs.Named.{Named, object_held, held, with_written}
 use Rattle.graph_verify.specs.declared.operand.Operand.{Operand}
-use Rattle.graph_verify.specs.Members.{In}
-use Rattle.graph_verify.specs.Links.{writes}
-use Rattle.graph_run.specs.Graph.{is_virtual, forgotten, rounds, run}
+use Rattle.graph_run.specs.Graph.{is_virtual, run}
 use Rattle.graph_run.specs.Solution.{WritesNo}
 use Rattle.graph_run.proofs.HeldLaws.{labels-with_written}
 use Rattle.graph_run.proofs.NameLaws.{rising}

@@ -1,13 +1,12 @@
 -- Objects that change places with those under the names of outputs.
-use Rattle.std.proofs.Common.{◌≡◌, ◌≢◌, ℕ, ◌+◌, ◌<◌, ◌≤◌, Bool, true, false, cond, List, [], ◌∷◌, ◌++◌, map, length, get_or, set, take, drop, suc, Option, Some, None, refl, sym, ap, ◌∙◌, arith}
-use Rattle.std.specs.Prelude.{All, IsSome, ◌==◌, unwrap_or}
+use Rattle.std.proofs.Common.{◌≡◌, ◌≢◌, ℕ, ◌+◌, ◌<◌, ◌≤◌, List, [], ◌∷◌, ◌++◌, length, get_or, set, take, drop, Some, refl, sym, ap, arith}
+use Rattle.std.specs.Prelude.{All, IsSome, unwrap_or}
 use Rattle.std.specs.List.{AllPairs}
 use Rattle.std.specs.Option.{option_map}
 use Rattle.std.proofs.lemmas.Bool.{ne_eqb}
 use Rattle.std.proofs.lemmas.List.{drop-set-lt, take_more, take_more_set, map_push, get_or_read, get_or-drop, append_assoc, length-drop, drop_all}
 use Rattle.std.proofs.lemmas.List.Elements.{All-head, All-tail}
 use Rattle.std.proofs.Math.Seq.{drop-cons}
-use Rattle.vx_base.specs.declared.format.Format.TheVariants.{U8}
 use Rattle.vx_base.specs.Image.{new_image}
 use Rattle.vx_base.specs.Object.{ObjectValue, ImageObject}
 use Rattle.object_table.specs.Context.{Context, with_objects, cell_of}
@@ -15,7 +14,7 @@ use Rattle.object_table.specs.Named.{Named, object_held, with_object}
 use Rattle.object_table.specs.Table.{object_under}
 use Rattle.object_table.specs.Uses.{nodes_in}
 use Rattle.graph_verify.specs.declared.known.VirtualOutput.{VirtualOutput}
-use Rattle.graph_run.specs.Turns.{cleared, exchanged, exchanged_in, handed_out}
+use Rattle.graph_run.specs.Turns.{cleared, exchanged_in, handed_out}
 use Rattle.graph_run.proofs.HeldLaws.{object_held-with_object}
 
 -- ---- objects without nodes

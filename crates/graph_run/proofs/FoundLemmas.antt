@@ -1,5 +1,5 @@
 -- What the cells of nodes hold in a table, and what it is to the nodes.
-use Rattle.std.proofs.Common.{◌≡◌, ℕ, ◌<◌, ◌+◌, List, [], ◌∷◌, ◌++◌, map, length, take, get_or, Option, Some, None, IsTrue, sym, ap, subst, ◌∙◌, arith}
+use Rattle.std.proofs.Common.{◌≡◌, ℕ, ◌<◌, ◌+◌, List, [], ◌∷◌, ◌++◌, map, length, take, get_or, Option, Some, None, IsTrue, ap, subst, arith}
 use Rattle.std.specs.Prelude.{IfSome, unwrap_or, All, Result, Ok, Err, IfErr}
 use Rattle.std.specs.Option.{option_map, option_and_then}
 use Rattle.std.proofs.lemmas.List.{map-append, take_more}
@@ -18,7 +18,6 @@ use Rattle.object_table.proofs.HeldLemmas.{All-from_map}
 use Rattle.graph_verify.specs.declared.linked.Linked.{Linked}
 use Rattle.graph_verify.specs.declared.operand.Operand.{Operand}
 use Rattle.graph_verify.specs.declared.operand.Operand.TheVariants.{Delay}
-use Rattle.graph_verify.specs.declared.operand.Operands.{Operands}
 use Rattle.graph_verify.specs.declared.verified.Verified.{Verified}
 use Rattle.graph_verify.specs.declared.verified.VerifyFault.{VerifyFault}
 use Rattle.graph_verify.specs.Linked.{linked_nodes, AreOperands}

@@ -1,5 +1,5 @@
 -- The cells that nodes read and write, and lists of them.
-use Rattle.std.proofs.Common.{◌≡◌, true, false, List, get_or, ap, subst, ◌∙◌, Some, arith}
+use Rattle.std.proofs.Common.{◌≡◌, true, false, List, get_or, subst, Some, arith}
 use Rattle.std.specs.List.{list_any, All}
 use Rattle.std.proofs.lemmas.Bool.{or_left, or_right, false_from_ne_true}
 use Rattle.vx_base.specs.declared.node.Node.{Node}

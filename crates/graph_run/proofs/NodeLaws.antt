@@ -1,15 +1,14 @@
 -- What a node writes, cell by cell.
-use Rattle.std.proofs.Common.{◌≡◌, ◌≢◌, Bool, true, false, ◌||◌, if◌then◌else◌, List, [], ◌∷◌, ◌++◌, refl, sym, ap, subst, ◌∙◌, inl, inr, Option, Some, None, arith}
+use Rattle.std.proofs.Common.{◌≡◌, ◌≢◌, Bool, true, false, ◌||◌, if◌then◌else◌, List, [], ◌∷◌, refl, sym, ap, ◌∙◌, inl, inr, Option, Some, None, arith}
 use Rattle.std.specs.Option.{option_map, option_and_then, option_or}
 use Rattle.std.specs.Prelude.{◌⊎◌}
-use Rattle.std.specs.List.{list_any}
 use Rattle.std.proofs.lemmas.Bool.{cases_Bool, or_left, or_right, or_parts}
 use Rattle.vx_base.specs.declared.kind.Kind.TheVariants as kind
 use Rattle.vx_base.specs.declared.node.Node.{Node}
 use Rattle.vx_base.specs.declared.output.Output.{Output}
 use Rattle.vx_base.specs.declared.output.Output.TheVariants.{First, Second}
 use Rattle.vx_base.specs.Cell.{Cell, same_cell}
-use Rattle.vx_base.specs.Node.{given, outputs}
+use Rattle.vx_base.specs.Node.{outputs}
 use Rattle.vx_base.specs.Object.{ObjectValue, object_kind}
 use Rattle.vx_base.specs.Outputs.{node_output, written_to, written_in, written_by}
 use Rattle.object_table.specs.Named.{Named, held}
@@ -18,7 +17,7 @@ use Rattle.graph_verify.specs.Links.{writes, has_twice}
 use Rattle.graph_run.specs.Solution.{kind_held, form_of}
 use Rattle.graph_verify.proofs.MemberLemmas.{In-append}
 use Rattle.graph_verify.proofs.LinkLemmas.{same_cell-true, same_cell-refl}
-use Rattle.graph_run.proofs.ObjectLaws.{is_delay, shown, is_delay-form, not_delay, form-node_output, node_output_again, shown-node_output}
+use Rattle.graph_run.proofs.ObjectLaws.{is_delay, shown, is_delay-form, not_delay, form-node_output, shown-node_output}
 use Rattle.graph_run.proofs.HeldLaws.{IsWrite, AreWrites, last_to, last_to-append, or_assoc}
 
 -- ---- what a node gives to a cell

@@ -8,7 +8,7 @@ use mathlib.Core.Path.{fun_ext}
 use Rattle.vx_base.specs.declared.kind.Kind.TheVariants as kind
 use Rattle.vx_base.specs.declared.node.Node.{Node}
 use Rattle.vx_base.specs.Cell.{Cell}
-use Rattle.vx_base.specs.Object.{ObjectValue, object_kind}
+use Rattle.vx_base.specs.Object.{ObjectValue}
 use Rattle.vx_base.specs.Outputs.{written_by}
 use Rattle.object_table.specs.Named.{Named, held, with_written}
 use Rattle.graph_verify.specs.Members.{In, AllIn}

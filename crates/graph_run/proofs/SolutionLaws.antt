@@ -1,5 +1,5 @@
 -- What the rounds give solves a graph, and nothing else does.
-use Rattle.std.proofs.Common.{◌≡◌, ◌≢◌, ◌<◌, true, false, List, length, refl, sym, ap, subst, ◌∙◌, inl, inr, Option, Some, None, arith}
+use Rattle.std.proofs.Common.{◌≡◌, ◌≢◌, ◌<◌, true, false, List, length, refl, sym, ap, subst, ◌∙◌, Option, Some, None, arith}
 use Rattle.std.specs.Prelude.{All}
 use Rattle.std.specs.Option.{option_map, option_and_then}
 use Rattle.std.specs.List.{AllPairs}
@@ -9,7 +9,7 @@ use Rattle.vx_base.specs.declared.node.Node.{Node}
 use Rattle.vx_base.specs.declared.output.Output.{Output}
 use Rattle.vx_base.specs.Cell.{Cell}
 use Rattle.vx_base.specs.Object.{ObjectValue, ImageObject, object_kind}
-use Rattle.vx_base.specs.Outputs.{written_by, node_output}
+use Rattle.vx_base.specs.Outputs.{written_by}
 use Rattle.object_table.specs.Named.{Named, held}
 use Rattle.graph_verify.specs.Members.{In}
 use Rattle.graph_verify.specs.Links.{writes, feeds}
@@ -24,7 +24,7 @@ use Rattle.graph_verify.proofs.SolutionLemmas as cell_solutions
 use Rattle.graph_verify.proofs.LinkLemmas.{one_writer}
 use Rattle.graph_run.proofs.LinkLaws.{All-from_In, In-from_All, unwritten, is_unwritten}
 use Rattle.graph_verify.proofs.NodeVerdictLemmas.{no_twice_each}
-use Rattle.graph_run.proofs.ObjectLaws.{is_delay, shown, shown_whole, is_delay-shown, not_delay, delay_kind, delay_shown, is_delay-form, node_output-form}
+use Rattle.graph_run.proofs.ObjectLaws.{is_delay, shown, is_delay-shown, not_delay, is_delay-form}
 use Rattle.graph_run.proofs.HeldLaws.{seen, kind-form_seen}
 use Rattle.graph_run.proofs.NameLaws.{Rising, rising, same_objects}
 use Rattle.graph_run.proofs.NodeLaws.{output_at, output_of, given_to, given_in, shown-given_to, shown-given_in, given_holds, holds_given}

@@ -1,5 +1,5 @@
 -- A graph that is found able to run: how it runs.
-use Rattle.std.proofs.Common.{◌≡◌, ◌≢◌, ℕ, ◌<◌, Bool, true, false, cond, List, [], ◌∷◌, ◌++◌, map, get_or, zero, suc, Option, Some, None, inl, inr, refl, sym, ap, subst, ◌∙◌, arith}
+use Rattle.std.proofs.Common.{◌≡◌, ◌≢◌, ℕ, ◌<◌, Bool, true, false, cond, List, [], ◌∷◌, map, get_or, zero, suc, Option, Some, None, inl, inr, refl, sym, ap, subst, ◌∙◌, arith}
 use Rattle.std.specs.Prelude.{All, ◌==◌, ◌||◌, if◌then◌else◌, unwrap_or}
 use Rattle.std.specs.List.{AllPairs, list_any, filter, flat_map}
 use Rattle.std.specs.List.Sorted.{IsStrictlyIncreasing}
@@ -14,10 +14,9 @@ use Rattle.vx_base.specs.declared.kind.Kind.TheVariants as kind
 use Rattle.vx_base.specs.declared.node.Node.{Node}
 use Rattle.vx_base.specs.declared.virtual_image.VirtualImage.{VirtualImage}
 use Rattle.vx_base.specs.Cell.{Cell, same_cell}
-use Rattle.vx_base.specs.Function.{parameters}
 use Rattle.vx_base.specs.Image.{new_image}
 use Rattle.vx_base.specs.Outline.{Outline}
-use Rattle.vx_base.specs.Node.{IsNode, given, inputs, outputs, operands, second_kind, with_kind}
+use Rattle.vx_base.specs.Node.{IsNode, inputs, outputs, operands}
 use Rattle.vx_base.specs.Object.{ObjectValue, ImageObject, VirtualObject, object_kind}
 use Rattle.vx_base.specs.Outputs.{written_by}
 use Rattle.object_table.specs.Delay.{in_slot}
@@ -36,10 +35,10 @@ use Rattle.graph_verify.specs.Verified.{IsVerified}
 use Rattle.graph_verify.proofs.LinkLemmas.{same_cell-is, same-from_In, In-outputs, two_writers-permutation}
 use Rattle.graph_verify.proofs.MemberLemmas.{In-left, In-right, In-append, In-from_any, any-from_In, In-filter, In-from_filter, In-map, In-from_map, In-from_flat_map, In-at, AllIn-permutation, AllIn-permutation_back}
 use Rattle.graph_verify.proofs.VerdictLemmas.{CanRun, can_run}
-use Rattle.graph_run.specs.Graph.{begun, begun_as, is_virtual, forgotten, one_by_one, run}
+use Rattle.graph_run.specs.Graph.{begun, begun_as, forgotten, one_by_one, run}
 use Rattle.graph_run.specs.Operands.{IsReady, names_cell, StandsFor, CellsStand, operand_held}
 use Rattle.graph_run.proofs.LinkLaws.{All-from_In, In-from_All}
-use Rattle.graph_run.proofs.OperandLaws.{kind-operand, no_fault, virtual_there, outline_of_virtual, known_kept, virtual_written, stands_after}
+use Rattle.graph_run.proofs.OperandLaws.{kind-operand, no_fault, outline_of_virtual, known_kept, virtual_written, stands_after}
 use Rattle.graph_run.proofs.TurnLaws.{each_alone, at_its_turn, run_in_order}
 use Rattle.graph_run.specs.Turns.{HoldsKind, CanRunNow, CanRunInTurn, AreVirtual, exchanged, cleared, begun_with}
 use Rattle.graph_run.proofs.BegunLaws.{begun_stays, virtual_as_operand}
