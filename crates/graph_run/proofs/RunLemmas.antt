@@ -29,6 +29,7 @@ use Rattle.graph_verify.specs.Links.{has_twice}
 use Rattle.graph_verify.specs.Operand.{operand_of, operands_of, operand_format, are_of_one_size, written_operands, other_operands}
 use Rattle.graph_verify.specs.Verdict.{writes_twice, reads_own_output, takes_operands, node_fault, verdict_on}
 use Rattle.graph_verify.proofs.SuitLemmas.{passed, met, Suits, no_fault_suits}
+use Rattle.object_table.specs.Context.{cell_of}
 use Rattle.object_table.specs.Delay.{in_slot, object_in}
 use Rattle.object_table.specs.Named.{Named, held, with_object, with_written}
 use Rattle.object_table.specs.Object.{image_value}
