@@ -17,7 +17,7 @@ use Rattle.graph_verify.specs.Outlines.{resolved}
 use Rattle.graph_verify.specs.Verdict.{two_writers}
 use Rattle.graph_verify.proofs.LinkLemmas.{one_writer}
 use Rattle.graph_verify.proofs.MemberLemmas.{In-from_any, any-from_In, AllIn-permutation, AllIn-permutation_back}
-use Rattle.graph_run.specs.Graph.{rounds, run}
+use Rattle.graph_run.specs.Graph.{rounds_of_nodes, run_of_graph}
 use Rattle.graph_run.specs.Solution.{WritesNo, label_of}
 use Rattle.graph_run.proofs.HeldLaws.{seen}
 use Rattle.graph_run.proofs.NameLaws.{Rising, rising, same_objects}

@@ -9,7 +9,7 @@ use Rattle.vx_base.specs.Object.{ObjectValue}
 use Rattle.vx_base.specs.Outputs.{written_by}
 use Rattle.object_table.specs.Named.{Named, object_held, held, with_written}
 use Rattle.graph_verify.specs.declared.operand.Operand.{Operand}
-use Rattle.graph_run.specs.Graph.{is_virtual, run}
+use Rattle.graph_run.specs.Graph.{is_virtual_object, run_of_graph}
 use Rattle.graph_run.specs.Solution.{WritesNo}
 use Rattle.graph_run.proofs.HeldLaws.{labels-with_written}
 use Rattle.graph_run.proofs.NameLaws.{rising}

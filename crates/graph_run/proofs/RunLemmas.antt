@@ -13,7 +13,7 @@ use Rattle.vx_base.specs.declared.output.Output.TheVariants.{First, Second}
 use Rattle.vx_base.specs.declared.kind.Kind.{Kind}
 use Rattle.vx_base.specs.declared.kind.Kind.TheVariants as kind
 use Rattle.vx_base.specs.declared.node.Node.{Node}
-use Rattle.vx_base.specs.Cell.{Cell, same_slot, same_cell, cell_of}
+use Rattle.vx_base.specs.Cell.{Cell, same_slot, same_cell, cell_of, cell_of}
 use Rattle.vx_base.specs.Description.{Description, same_size}
 use Rattle.vx_base.specs.Function.{parameters}
 use Rattle.vx_base.specs.Image.{ImageValue, IsImage, description_of}
@@ -29,7 +29,6 @@ use Rattle.graph_verify.specs.Links.{has_twice}
 use Rattle.graph_verify.specs.Operand.{operand_of, operands_of, operand_format, are_of_one_size, written_operands, other_operands}
 use Rattle.graph_verify.specs.Verdict.{writes_twice, reads_own_output, takes_operands, node_fault, verdict_on}
 use Rattle.graph_verify.proofs.SuitLemmas.{passed, met, Suits, no_fault_suits}
-use Rattle.object_table.specs.Context.{cell_of}
 use Rattle.object_table.specs.Delay.{in_slot, object_in}
 use Rattle.object_table.specs.Named.{Named, held, with_object, with_written}
 use Rattle.object_table.specs.Object.{image_value}

@@ -35,7 +35,7 @@ use Rattle.graph_verify.specs.Verified.{IsVerified}
 use Rattle.graph_verify.proofs.LinkLemmas.{same_cell-is, same-from_In, In-outputs, two_writers-permutation}
 use Rattle.graph_verify.proofs.MemberLemmas.{In-left, In-right, In-append, In-from_any, any-from_In, In-filter, In-from_filter, In-map, In-from_map, In-from_flat_map, In-at, AllIn-permutation, AllIn-permutation_back}
 use Rattle.graph_verify.proofs.VerdictLemmas.{CanRun, can_run}
-use Rattle.graph_run.specs.Graph.{begun, begun_as, forgotten, one_by_one, run}
+use Rattle.graph_run.specs.Graph.{begun, begun_as, forgotten, one_by_one, run_of_graph}
 use Rattle.graph_run.specs.Operands.{IsReady, names_cell, StandsFor, CellsStand, operand_held}
 use Rattle.graph_run.proofs.LinkLaws.{All-from_In, In-from_All}
 use Rattle.graph_run.proofs.OperandLaws.{kind-operand, no_fault, outline_of_virtual, known_kept, virtual_written, stands_after}
