@@ -6,3 +6,4 @@ pub mod OnceLemmas
 pub mod PlanLemmas
 pub mod LeastLemmas
 pub mod VerifiedLemmas
+pub mod TakenLemmas

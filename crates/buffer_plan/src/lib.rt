@@ -9,8 +9,10 @@
 //! - `lives`: from which step to which images are live
 //! - `slots`: the images of one format, each in a slot
 //! - `plan`: the plan of a verified graph
+//! - `laws`: what plans mean
 #![tactic(auto)]
 
+pub mod laws;
 mod lives;
 mod plan;
 mod slots;
