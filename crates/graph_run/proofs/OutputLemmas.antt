@@ -1,11 +1,11 @@
 -- What nodes write to an output, whose samples are taken out, and put back once they are written.
-use Rattle.std.proofs.Common.{◌≡◌, length, true, ℤ, refl, List, Option, ap, ◌∙◌, sym, [], Some, subst, arith}
+use Rattle.std.proofs.Common.{◌≡◌, ◌*◌, length, true, ℤ, refl, List, Option, ap, ◌∙◌, sym, [], Some, None, subst, arith}
 use Rattle.std.specs.Prelude.{unsigned_abs, ◌==◌, IfSome}
 use Rattle.std.specs.List.{count_by}
 use Rattle.std.proofs.lemmas.List.FromFn.{length-map-range_with_len}
 use Rattle.vx_base.specs.Image.{ImageValue, IsImage, image_over, description_of}
 use Rattle.vx_base.specs.Statistics.{BinsValue, bin_of, is_bin, histogram, valid_samples}
-use Rattle.std.proofs.lemmas.Bool.{and_parts}
+use Rattle.std.proofs.lemmas.Bool.{eqb-true, and_parts}
 use Rattle.vx_base.specs.declared.node.Node.{Node}
 use Rattle.vx_base.specs.declared.format.Format.{Format}
 use Rattle.vx_base.specs.Rectangle.{Rectangle, empty}
