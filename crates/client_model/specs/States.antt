@@ -18,7 +18,7 @@ use Rattle.client_model.specs.Context.{State}
 use Rattle.client_model.specs.Operands.{is_kind, holds_nothing, is_of_other_graph}
 use Rattle.client_model.specs.Request.{IsRequest}
 use Rattle.client_model.specs.Answer.{answer_to}
-use Rattle.object_table.specs.declared.table.TheConstants.{GREATEST_COUNT}
+use Rattle.object_table.specs.declared.table.TheConstants.{GREATEST_OBJECTS}
 
 -- the kind of what a cell that a node names is for
 abbrev pub kind_held : List Named → Cell → Option Kind
@@ -45,7 +45,7 @@ pub record KeepsLimits (limits : Allowance) (c : Context) : Type 0 where
   pub left : c.next ≤ 4294967296
   pub held : All (λ o. IsTrue (is_held c.objects o)) c.objects
   pub nodes : All (NodesStand c.objects) c.objects
-  pub count : length c.objects ≤ GREATEST_COUNT
+  pub count : length c.objects ≤ GREATEST_OBJECTS
   pub quota : charge_of c.objects ≤ limits.quota
 
 -- a client's state after these requests of its own

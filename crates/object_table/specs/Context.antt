@@ -5,7 +5,7 @@ use Rattle.vx_base.specs.Cell.{Cell, cell_of}
 use Rattle.vx_base.specs.Graph.{GraphValue}
 use Rattle.vx_base.specs.Object.{ObjectValue, GraphObject, object_bytes}
 use Rattle.object_table.specs.Named.{Named, with_object}
-use Rattle.object_table.specs.declared.table.TheConstants.{END_OF_NAMES, GREATEST_COUNT}
+use Rattle.object_table.specs.declared.table.TheConstants.{END_OF_NAMES, GREATEST_OBJECTS}
 
 -- the name that comes next, and the objects in the order of their names
 pub record Context : Type 0 where
@@ -26,7 +26,7 @@ charge_of objects = sum_by (λ o. object_bytes o.object) objects
 
 -- whether one more object can be held: a name is left, and fewer than 1,024 are held
 abbrev pub can_insert : Context → Bool
-can_insert c = nat_lt c.next END_OF_NAMES && nat_lt (length c.objects) GREATEST_COUNT
+can_insert c = nat_lt c.next END_OF_NAMES && nat_lt (length c.objects) GREATEST_OBJECTS
 
 -- the context with one more object, under the next name
 abbrev pub with_new : Context → ObjectValue → Context

@@ -20,7 +20,7 @@ use Rattle.object_table.specs.Object.{image_value, graph_value}
 use Rattle.object_table.specs.Uses.{nodes_in, names_used, times}
 use Rattle.vx_base.specs.declared.desc.TheConstants.{GREATEST_BYTES}
 use Rattle.vx_base.specs.declared.slots.TheConstants.{GREATEST_SLOTS}
-use Rattle.object_table.specs.declared.table.TheConstants.{GREATEST_COUNT}
+use Rattle.object_table.specs.declared.table.TheConstants.{GREATEST_OBJECTS}
 use Rattle.vx_base.specs.declared.node.TheConstants.{GREATEST_NODES}
 
 -- ---- what a name and a cell stand for
@@ -87,7 +87,7 @@ pub record IsTable (next charge : ℕ) (entries : List (ℕ × Entry)) : Type 0 
   pub names : IsStrictlyIncreasing (map (λ e. e.0) entries)
   pub below : All (λ e. e.0 < next) entries
   pub left : next ≤ 4294967296
-  pub count : length entries ≤ GREATEST_COUNT
+  pub count : length entries ≤ GREATEST_OBJECTS
   pub each : All (λ e. object_bytes e.1.object ≤ GREATEST_SLOTS * GREATEST_BYTES) entries
   pub nodes : All (λ e. length (nodes_in e.1.object) ≤ GREATEST_NODES) entries
   pub charged : charge ≡ charge_of (map named entries)

@@ -27,4 +27,4 @@ pub use distribution::Distribution;
 pub use fault::{InsertFault, TableFault};
 pub use object::{Content, Object};
 pub use stored::Stored;
-pub use table::Table;
+pub use table::{GREATEST_OBJECTS, Table};

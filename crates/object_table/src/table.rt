@@ -36,7 +36,7 @@ use vx_base::{Desc, Extremes, ObjRef, Picture, Rect, Samples};
 const END_OF_NAMES: u64 = 4_294_967_296;
 
 /// The greatest number of objects that are held.
-const GREATEST_COUNT: usize = 1024;
+pub const GREATEST_OBJECTS: usize = 1024;
 
 /// What is held under a name: the name is live, or nodes use what it stands for.
 #[derive(Drop)]
@@ -95,7 +95,7 @@ impl Table {
     /// What the client is charged for its objects, in bytes.
     pub fn charged_bytes(&self) -> u64
         ensures value { result ≡ charge_of self.now.objects }
-        ensures limit { result ≤ GREATEST_COUNT * (GREATEST_SLOTS * GREATEST_BYTES) }
+        ensures limit { result ≤ GREATEST_OBJECTS * (GREATEST_SLOTS * GREATEST_BYTES) }
     {
         self.charge
     }
@@ -104,7 +104,7 @@ impl Table {
     pub fn can_insert(&self) -> bool
         ensures { result ≡ can_insert self.now }
     {
-        self.next < END_OF_NAMES && self.entries.len() < GREATEST_COUNT
+        self.next < END_OF_NAMES && self.entries.len() < GREATEST_OBJECTS
     }
 
     /// Holds an object under the next name, which is live; a graph has no nodes yet. Each fault

@@ -21,7 +21,7 @@ ghost use Rattle.object_table.specs.Table.{used_less, ended, is_kept, kept};
 ghost use Rattle.object_table.specs.Uses.{used_names};
 ghost use Rattle.vx_base.specs.declared.desc.TheConstants.{GREATEST_BYTES};
 ghost use Rattle.vx_base.specs.declared.slots.TheConstants.{GREATEST_SLOTS};
-ghost use Rattle.object_table.specs.declared.table.TheConstants.{GREATEST_COUNT};
+ghost use Rattle.object_table.specs.declared.table.TheConstants.{GREATEST_OBJECTS};
 
 use crate::fault::TableFault;
 use crate::table::{Entry, Table};
@@ -116,7 +116,7 @@ impl Table {
 
 /// A node begins to use what its operands name, each as often as it is an operand.
 fn begin_uses(entries: &mut BTreeMap<u32, Entry>, node: &Node)
-    requires { All (λ e. e.1.uses ≤ GREATEST_COUNT * GREATEST_COUNT) entries.old.entries }
+    requires { All (λ e. e.1.uses ≤ GREATEST_OBJECTS * GREATEST_OBJECTS) entries.old.entries }
     ensures { entries.new.entries ≡ used_more (used_names node.now) entries.old.entries }
 {
     begin_use(entries, Some(node.in1));
