@@ -18,7 +18,7 @@ use Rattle.graph_verify.specs.declared.operand.Operands.{Operands}
 use Rattle.graph_verify.specs.declared.verdict.Verdict.{Verdict}
 use Rattle.graph_verify.specs.Operand.{operand_of, operands_of, is_virtual, written_operands, other_operands}
 use Rattle.graph_verify.specs.Verdict.{verdict_on}
-use Rattle.graph_run.specs.Graph.{is_virtual as is_virtual_object}
+use Rattle.graph_run.specs.Graph.{is_virtual_object}
 use Rattle.object_table.specs.Named.{Named, held, with_written}
 use Rattle.client_model.specs.declared.refusal.Refusal.{Refusal}
 use Rattle.client_model.specs.declared.refusal.Refusal.TheVariants.{OptimizedAway, Rejected}
