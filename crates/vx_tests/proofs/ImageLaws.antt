@@ -6,9 +6,16 @@ use Rattle.vx_base.specs.declared.format.Format.TheVariants.{U8}
 use Rattle.vx_base.specs.Sample.{IsSample}
 use Rattle.vx_base.specs.Rectangle.{Rectangle, inside, IsOrdered, IsWithin}
 use Rattle.vx_base.specs.Description.{Description, IsDescription}
-use Rattle.vx_base.specs.Image.{ImageValue, IsImage, at, made, image_over}
+use Rattle.vx_base.specs.Image.{ImageValue, IsImage, within, at, made, image_over}
 use Rattle.vx_base.proofs.PictureLaws.{side}
 use Rattle.vx_base.proofs.ImageLaws.{at-made, made_image, column_inside, row_inside}
+use Rattle.vx_base.proofs.TableLaws.{length-table}
+use Rattle.image_core.specs.declared.band.Band.{Band}
+use Rattle.image_core.specs.declared.image_mut.ImageMut.{ImageMut}
+use Rattle.image_core.specs.Bands.{all_rows, rows_in}
+use Rattle.image_core.specs.Rows.{sample_from}
+use Rattle.image_core.specs.Target.{written, Writes}
+use Rattle.image_core.proofs.BandLaws.{all_rows_are}
 
 -- what equals an image is one
 image_by : (a b : ImageValue) → a ≡ b → IsImage b → IsImage a
@@ -28,3 +35,15 @@ bytes_image d valid bytes f same sides ordered room fits = image_by _ _ same (ma
         let P : ℤ → Type 0 = λ z. IsSample U8 z in
         let fit = fits (y * d.width + x) in
         subst P (sym here ∙ there) (record { at_least = omega (arith, ints); at_most = omega (arith, ints, fit) })
+
+-- all rows of an image, once what is outside a rectangle is cleared
+pub cleared : (valid : Rectangle) (lent old new : ImageMut) → lent.rows ≡ all_rows lent.desc.height → written old ≡ image_over lent.desc valid (written lent).samples → old.rows ≡ lent.rows
+    → Writes (made (written old).width (written old).height (written old).format (written old).valid (sample_from old.desc.width old.rows.start (written old).samples)) old new
+    → written new ≡ made lent.desc.width lent.desc.height lent.desc.format valid (sample_from lent.desc.width 0 (written lent).samples)
+cleared valid lent old new all value kept is =
+    is.value
+    ∙ ap (λ (a : ImageValue). rows_in old.rows (made a.width a.height a.format a.valid (sample_from a.width old.rows.start a.samples))) value
+    ∙ ap (λ (rows : Band). rows_in rows (made lent.desc.width lent.desc.height lent.desc.format valid (sample_from lent.desc.width rows.start (written lent).samples))) (kept ∙ all)
+    ∙ all_rows_are
+    (made lent.desc.width lent.desc.height lent.desc.format valid (sample_from lent.desc.width 0 (written lent).samples))
+    (length-table lent.desc.width lent.desc.height (within valid (sample_from lent.desc.width 0 (written lent).samples)))

@@ -3,7 +3,10 @@ ghost use Rattle.std.specs.Prelude.{◌≡◌, ◌<◌, ℕ, map, pos, length, g
 ghost use Rattle.vx_base.specs.declared.format.Format.TheVariants.{U8};
 ghost use Rattle.vx_base.specs.Description.{sample_count};
 ghost use Rattle.vx_base.specs.Rectangle.{IsWithin};
-ghost use Rattle.vx_base.specs.Image.{at, made, image_over, description_of};
+ghost use Rattle.vx_base.specs.Image.{made, image_over, description_of};
+ghost use Rattle.image_core.specs.Bands.{all_rows};
+ghost use Rattle.image_core.specs.Rows.{sample_from};
+ghost use Rattle.image_core.specs.Target.{written, IsTarget, SameSlices};
 
 use image_core::{Image, ImageMut};
 use pixel_kernels::bit_xor;
@@ -16,9 +19,23 @@ fn clear(desc: Desc, valid: Rect, samples: &mut [u8])
     requires size { length samples.old ≡ sample_count desc }
     requires room { IsWithin valid desc.width desc.height }
     ensures { image_over desc valid (map pos samples.new)
-        ≡ made desc.width desc.height U8 valid (at (image_over desc valid (map pos samples.old))) }
+        ≡ made desc.width desc.height U8 valid
+        (sample_from desc.width 0 (map pos samples.old)) }
 {
     let mut image = ImageMut::new(desc, samples);
+    clear_to(&mut image, valid);
+}
+
+/// Makes this the valid rectangle of an image, and its samples outside 0.
+fn clear_to(image: &mut ImageMut<'_>, valid: Rect)
+    requires target { IsTarget image.old }
+    requires rows { image.old.rows ≡ all_rows image.old.desc.height }
+    requires room { IsWithin valid image.old.desc.width image.old.desc.height }
+    ensures value { written image.new
+        ≡ made image.old.desc.width image.old.desc.height image.old.desc.format valid
+        (sample_from image.old.desc.width 0 (written image.old).samples) }
+    ensures slices { SameSlices image.old image.new }
+{
     image.set_valid(valid);
     image.clear_outside();
 }
