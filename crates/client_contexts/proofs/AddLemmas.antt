@@ -1,5 +1,5 @@
 -- Nodes that are added to a graph.
-use Rattle.std.proofs.Common.{◌≡◌, ℕ, Bool, true, false, IsTrue, List, [], ◌∷◌, ◌++◌, get_or, Option, Some, None, Ok, Err, IfSome, refl, sym, ap, subst, ◌∙◌}
+use Rattle.std.proofs.Common.{◌≡◌, ℕ, Bool, true, false, IsTrue, List, [], ◌∷◌, ◌++◌, Option, Some, None, Ok, Err, IfSome, refl, sym, ap, subst, ◌∙◌}
 use Rattle.std.specs.Prelude.{All, is_some, is_none, unwrap_or, if◌then◌else◌}
 use Rattle.std.specs.Option.{option_map, option_and_then}
 use Rattle.std.proofs.lemmas.List.Elements.{All-nil, All-cons, All-append, All-map}
@@ -22,20 +22,16 @@ use Rattle.object_table.specs.Object.{graph_value}
 use Rattle.object_table.specs.Table.{IsUnder, graph_under}
 use Rattle.object_table.specs.Uses.{used_names}
 use Rattle.object_table.proofs.SlotLemmas.{graph_of_kind}
-use Rattle.client_model.specs.declared.refusal.Refusal.{Refusal}
 use Rattle.client_model.specs.declared.refusal.Refusal.TheVariants.{NoResources}
 use Rattle.client_model.specs.declared.reply.Reply.TheVariants as reply
 use Rattle.client_model.specs.Allowance.{Allowance}
 use Rattle.client_model.specs.Graphs.{as_graph, graph_named, add_to, add_node}
 use Rattle.client_model.specs.Refusal.{Outcome, refused_or}
-use Rattle.client_model.specs.Operands.{is_kind, stands_for, operands_refusal}
-use Rattle.client_model.specs.States.{KeepsLimits, kind_held, stands}
-use Rattle.client_model.proofs.HoldLaws.{OperandsStand, stands_from, stands_parts}
-use Rattle.client_model.proofs.NamedLaws.{held_if_live, held_kind}
-use Rattle.client_model.proofs.NodeStepLaws.{Passes, operands_pass, stands_for_equal}
-use Rattle.client_contexts.specs.Lookup.{Found, IsFound}
-use Rattle.client_contexts.specs.Steps.{MayComeTo, SaysWhy, first_class, graph_fault as fault_of}
-use Rattle.client_contexts.proofs.LookupLemmas.{refusal-append}
+use Rattle.client_model.specs.Operands.{operands_refusal}
+use Rattle.client_model.specs.States.{KeepsLimits, stands}
+use Rattle.client_model.proofs.HoldLaws.{OperandsStand, stands_parts}
+use Rattle.client_model.proofs.NamedLaws.{held_if_live}
+use Rattle.client_contexts.specs.Steps.{MayComeTo, SaysWhy, graph_fault as fault_of}
 
 -- the name of each operand that stands is held
 pub names_held : (objects : List Named) (graph : ℕ) (n : Node) → OperandsStand objects graph n → All (λ name. IsTrue (is_some (object_held objects name))) (used_names n)

@@ -27,7 +27,6 @@ use Rattle.object_table.specs.Context.{Context, with_objects}
 use Rattle.client_model.specs.Refusal.{unless}
 use Rattle.client_model.specs.Operands.{stands_for, operands_refusal}
 use Rattle.client_model.specs.Immediate.{operand_in, operand_if, operands_in, is_some_virtual, away_refusal, node_refusal, immediate}
-use Rattle.graph_verify.specs.declared.operand.Operand.{Operand}
 use Rattle.graph_verify.specs.declared.operand.Operand.TheVariants.{Delay}
 use Rattle.graph_run.specs.Operands.{operand_held}
 use Rattle.graph_run.specs.Turns.{HoldsKind}

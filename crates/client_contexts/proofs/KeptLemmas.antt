@@ -1,5 +1,5 @@
 -- What a request comes to keeps what its outcome keeps.
-use Rattle.std.proofs.Common.{◌≡◌, ℕ, Bool, sym, subst}
+use Rattle.std.proofs.Common.{ℕ, Bool, sym, subst}
 use Rattle.std.specs.Prelude.{Ok, Err, Result}
 use Rattle.object_table.specs.Context.{Context}
 use Rattle.client_model.specs.declared.refusal.Refusal.{Refusal}

@@ -1,8 +1,13 @@
 mod LookupLemmas
 mod ScopeLemmas
 mod StandLemmas
+mod ReadyLemmas
 mod AddLemmas
 mod KeptLemmas
+mod ForgetLemmas
+mod KeptGraphLemmas
+mod BlockLemmas
+mod RuntimeLemmas
 mod ImmediateLemmas
 mod OutcomeLemmas
 mod TextLemmas

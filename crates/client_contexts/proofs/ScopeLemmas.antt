@@ -1,6 +1,6 @@
 -- Operands that are found, in the scope of a graph or of none.
-use Rattle.std.proofs.Common.{◌≡◌, ℕ, true, IsTrue, List, [], ◌∷◌, Option, Some, None, IfSome, refl, sym, ap, subst, ◌∙◌}
-use Rattle.std.specs.Prelude.{All, Result, Ok, OnOk, is_none, is_some}
+use Rattle.std.proofs.Common.{◌≡◌, ℕ, IsTrue, List, [], ◌∷◌, Option, Some, None, IfSome, refl, sym, ap, subst, ◌∙◌}
+use Rattle.std.specs.Prelude.{All, Result, Ok, OnOk, is_some}
 use Rattle.std.specs.Option.{option_map, option_and_then}
 use Rattle.std.proofs.lemmas.List.Elements.{All-nil, All-cons, All-append}
 use Rattle.vx_base.specs.declared.kind.Kind.{Kind}
@@ -10,8 +10,7 @@ use Rattle.vx_base.specs.declared.node.Node.{Node}
 use Rattle.vx_base.specs.Cell.{Cell, cell_of}
 use Rattle.vx_base.specs.Function.{parameters}
 use Rattle.vx_base.specs.Node.{operands, second_kind, with_kind}
-use Rattle.vx_base.specs.Object.{ObjectValue, object_kind, same_kind}
-use Rattle.vx_base.proofs.NodeLaws.{same_kind_equal}
+use Rattle.vx_base.specs.Object.{ObjectValue, object_kind}
 use Rattle.object_table.specs.Context.{object_named}
 use Rattle.object_table.specs.Delay.{in_slot}
 use Rattle.object_table.specs.Named.{Named, object_held}

@@ -1,3 +1,5 @@
 pub mod Applies
 pub mod Lookup
 pub mod Steps
+pub mod Blocks
+pub mod Kept

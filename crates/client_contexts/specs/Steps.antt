@@ -1,5 +1,5 @@
 -- What a request does in the context of its client, and where it finds what a node names.
-use Rattle.std.specs.Prelude.{ℕ, ◌≡◌, Bool, false, not, is_none, ⊤, if◌then◌else◌, List, ◌∷◌, Option, Some, None, Result, Ok, Err, IfOk, IfErr, OnErr, IfSome}
+use Rattle.std.specs.Prelude.{ℕ, ◌≡◌, Bool, false, not, is_none, ⊤, if◌then◌else◌, List, ◌∷◌, Option, Some, None, Result, Ok, Err, IfOk, IfErr, OnErr}
 use Rattle.vx_base.specs.declared.kind.Kind.{Kind}
 use Rattle.vx_base.specs.Object.{ObjectValue, object_kind, same_kind}
 use Rattle.graph_verify.specs.declared.operand.Operands.{Operands}

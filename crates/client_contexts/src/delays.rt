@@ -1,18 +1,21 @@
 //! Requests on delays: creating and ageing them.
 ghost use Rattle.client_model.specs.Delays.{create_delay, age_delay};
 ghost use Rattle.client_model.specs.States.{KeepsLimits};
+ghost use Rattle.object_table.specs.Blocks.{Balances, KeepsBlocks};
 ghost use Rattle.client_contexts.specs.Steps.{ComesTo, MayComeTo, IsContext, Keeps};
 
 use crate::fault::RequestFault;
 use crate::lookup::{find_image, find_named};
-use crate::room::{hold, look_for_room};
+use crate::room::{hold_images, look_for_room};
 use client_model::{Limits, Refusal, Reply};
 use object_table::{Content, Delay, Object, Table};
+use pixel_pool::Pool;
 use vx_base::{Kind, ObjRef, SlotCount};
 
 /// Creates a delay of so many new images of the size and format of an image.
 pub fn create_delay(
     table: &mut Table,
+    pool: &mut Pool,
     limits: Limits,
     exemplar: ObjRef,
     slots: SlotCount,
@@ -20,11 +23,12 @@ pub fn create_delay(
     ensures comes { MayComeTo (create_delay limits table.old exemplar slots)
         table.old table.new result }
     ensures kept { KeepsLimits limits table.old → KeepsLimits limits table.new }
+    ensures balances { Balances pool.old pool.new table.old.objects table.new.objects }
 {
     let desc = find_image(table, exemplar)?.desc();
     look_for_room(table, limits, usize::from(slots.get()) * desc.byte_count())?;
-    let delay = Delay::new(table.allocator(), desc, slots)?;
-    hold(table, limits, Object::new(Content::Delay(delay)))
+    let delay = Delay::new(table.allocator(), pool, desc, slots)?;
+    hold_images(table, pool, limits, Object::new(Content::Delay(delay)))
 }
 
 /// Ages a delay: each image comes to the slot behind its own, the last to slot 0.
@@ -32,6 +36,7 @@ pub fn age_delay(table: &mut Table, name: u32) -> Result<Reply, Refusal>
     requires { IsContext table.old }
     ensures comes { ComesTo (age_delay table.old name) table.old table.new result }
     ensures kept { Keeps table.old table.new }
+    ensures blocks { KeepsBlocks table.old.objects table.new.objects }
 {
     find_named(table, name, Kind::Delay)?;
     table.age(name);

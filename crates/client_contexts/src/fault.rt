@@ -2,7 +2,7 @@
 use crate::memory::NoMemory;
 use client_model::Refusal;
 use graph_verify::{GraphFault, VerifyFault};
-use object_table::{InsertFault, TableFault};
+use object_table::TableFault;
 use pgm_images::PgmFault;
 use std::alloc::AllocError;
 
@@ -64,14 +64,14 @@ impl From<PgmFault> for RequestFault {
     }
 }
 
-impl From<InsertFault> for RequestFault {
+impl From<TableFault> for RequestFault {
     ghost use Rattle.std.specs.Prelude.{◌≡◌};
     ghost use Rattle.client_contexts.specs.Steps.{table_fault};
 
-    ghost from_gives = { λ failed f. f ≡ table_fault failed.fault };
+    ghost from_gives = { λ fault f. f ≡ table_fault fault };
 
-    fn from(failed: InsertFault) -> RequestFault {
-        match failed.fault {
+    fn from(fault: TableFault) -> RequestFault {
+        match fault {
             TableFault::NoMemory => RequestFault::NoMemory,
             TableFault::InvalidReference => RequestFault::Refused(Refusal::InvalidReference),
             TableFault::NoResources => RequestFault::Refused(Refusal::NoResources),

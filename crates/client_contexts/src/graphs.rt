@@ -1,21 +1,31 @@
 //! Requests on graphs: creating them and their virtual images, adding and removing nodes, verifying
 //! and running them.
+ghost use Rattle.std.specs.Prelude.{◌≡◌, true, Some, OnOk};
+ghost use Rattle.std.specs.BTreeMap.{is_at};
+ghost use Rattle.std.specs.Map.{lookup};
+ghost use Rattle.std.specs.Option.{option_map};
+ghost use Rattle.std.specs.Ordering.{nat_cmp};
 ghost use Rattle.vx_base.specs.Graph.{new_graph};
 ghost use Rattle.vx_base.specs.Object.{GraphObject};
 ghost use Rattle.client_model.specs.Graphs.{create_virtual_image, add_node, remove_node};
 ghost use Rattle.client_model.specs.Graphs.{verify_graph, process_graph};
 ghost use Rattle.client_model.specs.Images.{create};
 ghost use Rattle.client_model.specs.States.{KeepsLimits};
+ghost use Rattle.object_table.specs.Blocks.{blocks_in, LendsAtLeast, Balances, KeepsBlocks};
+ghost use Rattle.client_contexts.specs.Kept.{AreKept};
 ghost use Rattle.client_contexts.specs.Steps.{ComesTo, MayComeTo, IsContext, Keeps};
 
 use crate::fault::RequestFault;
+use crate::kept::Kept;
 use crate::lookup::{find_graph_for, find_named};
 use crate::room::{hold, look_for_room};
 use client_model::{Limits, Refusal, Reply};
 use graph_run::{run, verify_in};
 use graph_verify::Graph;
 use object_table::{Content, Object, Table};
+use pixel_pool::Pool;
 use std::alloc::Global;
+use std::collections::BTreeMap;
 use vx_base::{Kind, NodeSpec, Outline, VirtualImage};
 
 /// Creates a graph without nodes.
@@ -23,6 +33,7 @@ pub fn create_graph(table: &mut Table, limits: Limits) -> Result<Reply, RequestF
     ensures comes { MayComeTo (create limits table.old (GraphObject new_graph))
         table.old table.new result }
     ensures kept { KeepsLimits limits table.old → KeepsLimits limits table.new }
+    ensures blocks { KeepsBlocks table.old.objects table.new.objects }
 {
     look_for_room(table, limits, 0)?;
     let graph = Graph::new(table.allocator());
@@ -39,6 +50,7 @@ pub fn create_virtual_image(
     ensures comes { MayComeTo (create_virtual_image limits table.old graph declared)
         table.old table.new result }
     ensures kept { KeepsLimits limits table.old → KeepsLimits limits table.new }
+    ensures blocks { KeepsBlocks table.old.objects table.new.objects }
 {
     find_named(table, graph, Kind::Graph)?;
     look_for_room(table, limits, 0)?;
@@ -52,53 +64,92 @@ pub fn add_node(table: &mut Table, graph: u32, node: NodeSpec) -> Result<Reply, 
     requires { IsContext table.old }
     ensures comes { MayComeTo (add_node table.old graph node) table.old table.new result }
     ensures kept { Keeps table.old table.new }
+    ensures blocks { KeepsBlocks table.old.objects table.new.objects }
 {
     find_graph_for(table, graph, &node.node())?;
     Ok(Reply::Node(table.add_node(graph, node)?))
 }
 
 /// Removes the node of this number from the graph with this name.
-pub fn remove_node(table: &mut Table, graph: u32, number: u32) -> Result<Reply, Refusal>
-    requires { IsContext table.old }
+pub fn remove_node(
+    table: &mut Table,
+    pool: &mut Pool,
+    graph: u32,
+    number: u32,
+) -> Result<Reply, Refusal>
+    requires context { IsContext table.old }
+    requires owns { LendsAtLeast pool.old (blocks_in table.old.objects) }
     ensures comes { ComesTo (remove_node table.old graph number) table.old table.new result }
     ensures kept { Keeps table.old table.new }
+    ensures balances { Balances pool.old pool.new table.old.objects table.new.objects }
 {
     find_named(table, graph, Kind::Graph)?;
-    match table.remove_node(graph, number) {
+    match table.remove_node(graph, number, pool) {
         Ok(()) => Ok(Reply::Empty),
         Err(_) => Err(Refusal::InvalidReference),
     }
 }
 
-/// Verifies the graph with this name: whether it can run, and if not why.
+/// Verifies the graph with this name: whether it can run, and if not why. How a graph runs is kept,
+/// so that it isn't verified again, and takes no memory, until its nodes change.
 pub fn verify_graph(
     table: &Table,
+    kept: &mut BTreeMap<u32, Kept>,
     limits: Limits,
     alloc: Global,
     graph: u32,
 ) -> Result<Reply, RequestFault>
-    requires { IsContext table.now }
-    ensures { MayComeTo (verify_graph limits table.now graph) table.now table.now result }
+    requires context { IsContext table.now }
+    requires kept { AreKept table.now kept.old.entries }
+    ensures comes { MayComeTo (verify_graph limits table.now graph) table.now table.now result }
+    ensures kept { AreKept table.now kept.new.entries }
+    ensures found { OnOk result (option_map (λ k. k.work) (lookup (is_at (nat_cmp graph))
+        kept.new.entries) ≡ Some limits.work) }
 {
     let found = find_named(table, graph, Kind::Graph)?;
-    verify_in(alloc, table, found.graph(), limits.work())?;
-    Ok(Reply::Empty)
+    let work = limits.work();
+    if is_kept(kept, graph, work) {
+        return Ok(Reply::Empty);
+    }
+    let verified = verify_in(alloc, table, found.graph(), work)?;
+    match kept.insert(graph, Kept { work, verified }) {
+        Ok(_) => Ok(Reply::Empty),
+        Err(_) => Err(RequestFault::NoMemory),
+    }
+}
+
+/// Whether it is kept how a graph runs, found within so many work bytes.
+fn is_kept(kept: &BTreeMap<u32, Kept>, graph: u32, work: u64) -> bool
+    ensures { result ≡ true → option_map (λ k. k.work) (lookup (is_at (nat_cmp graph))
+        kept.now.entries) ≡ Some work }
+{
+    match kept.get(&graph) {
+        Some(kept) => kept.work == work,
+        None => false,
+    }
 }
 
 /// Runs the graph with this name if it can run: its nodes in an order in which they can, each once.
 /// Otherwise says why not, as `verify_graph` does.
 pub fn process_graph(
     table: &mut Table,
+    kept: &mut BTreeMap<u32, Kept>,
+    pool: &mut Pool,
     limits: Limits,
     alloc: Global,
     graph: u32,
 ) -> Result<Reply, RequestFault>
-    requires { IsContext table.old }
+    requires context { KeepsLimits limits table.old }
+    requires kept { AreKept table.old kept.old.entries }
     ensures comes { MayComeTo (process_graph limits table.old graph) table.old table.new result }
-    ensures kept { KeepsLimits limits table.old → KeepsLimits limits table.new }
+    ensures limits { KeepsLimits limits table.new }
+    ensures balances { Balances pool.old pool.new table.old.objects table.new.objects }
+    ensures kept { AreKept table.new kept.new.entries }
 {
-    let found = find_named(table, graph, Kind::Graph)?;
-    let verified = verify_in(alloc, table, found.graph(), limits.work())?;
-    run(alloc, &verified, table)?;
+    verify_graph(table, kept, limits, alloc, graph)?;
+    let Some(kept) = kept.get(&graph) else {
+        unreachable!()
+    };
+    run(alloc, &kept.verified, table, pool)?;
     Ok(Reply::Empty)
 }

@@ -6,25 +6,33 @@ ghost use Rattle.client_model.specs.Images.{query_image, write_image, write_text
 ghost use Rattle.client_model.specs.Images.{read_text, set_valid, picture_refusal, valid_refusal};
 ghost use Rattle.client_model.specs.States.{KeepsLimits};
 ghost use Rattle.vx_base.specs.Image.{ImageValue, description_of};
+ghost use Rattle.object_table.specs.Blocks.{Balances, KeepsBlocks};
 ghost use Rattle.client_contexts.specs.Lookup.{IsImageOf};
 ghost use Rattle.client_contexts.specs.Steps.{ComesTo, MayComeTo, IsContext, Keeps};
 
 use crate::fault::RequestFault;
 use crate::lookup::{find, find_image};
-use crate::room::{hold, look_for_room};
+use crate::room::{hold_images, look_for_room};
 use client_model::{Described, Limits, Refusal, Reply, Text};
 use object_table::{Content, Object, Stored, Table};
+use pixel_pool::Pool;
 use std::alloc::Global;
 use vx_base::{Desc, Format, Kind, ObjRef, Outline, Picture, Rect};
 
 /// Creates an image that is 0 everywhere and wholly valid.
-pub fn create_image(table: &mut Table, limits: Limits, desc: Desc) -> Result<Reply, RequestFault>
+pub fn create_image(
+    table: &mut Table,
+    pool: &mut Pool,
+    limits: Limits,
+    desc: Desc,
+) -> Result<Reply, RequestFault>
     ensures comes { MayComeTo (create_image limits table.old desc) table.old table.new result }
     ensures kept { KeepsLimits limits table.old → KeepsLimits limits table.new }
+    ensures balances { Balances pool.old pool.new table.old.objects table.new.objects }
 {
     look_for_room(table, limits, desc.byte_count())?;
-    let image = Stored::new(table.allocator(), desc)?;
-    hold(table, limits, Object::new(Content::Image(image)))
+    let image = Stored::new(pool, desc)?;
+    hold_images(table, pool, limits, Object::new(Content::Image(image)))
 }
 
 /// What is told of an image with samples.
@@ -87,6 +95,7 @@ pub fn write_image(
     ensures comes { ComesTo (write_image table.old reference picture.now)
         table.old table.new result }
     ensures kept { Keeps table.old table.new }
+    ensures blocks { KeepsBlocks table.old.objects table.new.objects }
 {
     let desc = find_image(table, reference)?.desc();
     write_found(table, reference, desc, picture)
@@ -105,6 +114,7 @@ fn write_found(
     ensures comes { ComesTo (write_image table.old reference picture.now)
         table.old table.new result }
     ensures kept { Keeps table.old table.new }
+    ensures blocks { KeepsBlocks table.old.objects table.new.objects }
 {
     if let Some(refusal) = picture_refusal(desc, picture.desc()) {
         return Err(refusal);
@@ -126,6 +136,7 @@ pub fn write_text(
     requires { IsContext table.old }
     ensures comes { MayComeTo (write_text table.old reference text.now) table.old table.new result }
     ensures kept { Keeps table.old table.new }
+    ensures blocks { KeepsBlocks table.old.objects table.new.objects }
 {
     let desc = find_image(table, reference)?.desc();
     let picture = pgm_images::read(alloc, text.bytes())?;
@@ -169,6 +180,7 @@ pub fn set_valid(table: &mut Table, reference: ObjRef, valid: Rect) -> Result<Re
     requires { IsContext table.old }
     ensures comes { ComesTo (set_valid table.old reference valid) table.old table.new result }
     ensures kept { Keeps table.old table.new }
+    ensures blocks { KeepsBlocks table.old.objects table.new.objects }
 {
     let desc = find_image(table, reference)?.desc();
     if let Some(refusal) = valid_refusal(desc, valid) {

@@ -1,5 +1,6 @@
 //! Nodes that run by themselves, at once.
 ghost use Rattle.client_model.specs.Immediate.{immediate};
+ghost use Rattle.object_table.specs.Blocks.{KeepsBlocks};
 ghost use Rattle.client_contexts.specs.Steps.{ComesTo, IsContext, Keeps};
 
 use crate::lookup::{find_operands, has_virtual};
@@ -14,6 +15,7 @@ pub fn run_at_once(table: &mut Table, node: NodeSpec) -> Result<Reply, Refusal>
     requires { IsContext table.old }
     ensures comes { ComesTo (immediate table.old node) table.old table.new result }
     ensures kept { Keeps table.old table.new }
+    ensures blocks { KeepsBlocks table.old.objects table.new.objects }
 {
     let node = node.node();
     let operands = match find_operands(table, &node, None) {

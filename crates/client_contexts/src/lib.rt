@@ -15,14 +15,19 @@
 //!   convolutions), `statistics` (to create and read distributions and extremes), `graphs` (to
 //!   create them and their virtual images, to add and remove nodes, to verify and to run them),
 //!   `immediate` (nodes that run at once), `delays` (to create and age them)
-//! - `runtime`: all clients; contexts are opened and released there
+//! - `kept`: graphs that were found able to run, and are kept as they were verified
+//! - `client`: a client's context, which answers all requests but those that open or release it
+//! - `runtime`: all clients, and the pool of blocks in which the samples of their images are;
+//!   contexts are opened and released there
 #![tactic(auto)]
 
+mod client;
 mod delays;
 mod fault;
 mod graphs;
 mod images;
 mod immediate;
+mod kept;
 mod lookup;
 mod memory;
 mod objects;

@@ -1,18 +1,22 @@
 //! Requests on objects of any kind: releasing them.
+ghost use Rattle.object_table.specs.Blocks.{blocks_in, LendsAtLeast, Balances};
 ghost use Rattle.client_model.specs.Objects.{release};
 ghost use Rattle.client_contexts.specs.Steps.{ComesTo, IsContext, Keeps};
 
 use client_model::{Refusal, Reply};
 use object_table::Table;
+use pixel_pool::Pool;
 
-/// Ends an object's name. The object is dropped unless a node uses it; a graph's nodes are dropped
-/// with the graph.
-pub fn release(table: &mut Table, name: u32) -> Result<Reply, Refusal>
-    requires { IsContext table.old }
+/// Ends an object's name. The object is dropped unless a node uses it, and its blocks are given
+/// back; a graph's nodes are dropped with the graph.
+pub fn release(table: &mut Table, pool: &mut Pool, name: u32) -> Result<Reply, Refusal>
+    requires context { IsContext table.old }
+    requires owns { LendsAtLeast pool.old (blocks_in table.old.objects) }
     ensures comes { ComesTo (release table.old name) table.old table.new result }
     ensures kept { Keeps table.old table.new }
+    ensures balances { Balances pool.old pool.new table.old.objects table.new.objects }
 {
-    match table.release(name) {
+    match table.release(name, pool) {
         Ok(()) => Ok(Reply::Empty),
         Err(_) => Err(Refusal::InvalidReference),
     }

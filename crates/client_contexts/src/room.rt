@@ -1,6 +1,9 @@
 //! Room for one more object of a client, and objects that are held anew.
-ghost use Rattle.std.specs.Prelude.{◌≡◌, ◌*◌, ◌≤◌, if◌then◌else◌, IsTrue, [], Ok, Err};
+ghost use Rattle.std.specs.Prelude.{◌≡◌, ◌*◌, ◌+◌, ◌≤◌, if◌then◌else◌, IsTrue, [], Ok, Err};
 ghost use Rattle.vx_base.specs.Object.{IsObject, object_bytes};
+ghost use Rattle.vx_base.specs.declared.format.Format.{Format};
+ghost use Rattle.pixel_pool.specs.Pool.{lent_of};
+ghost use Rattle.object_table.specs.Blocks.{blocks_in, object_blocks, LendsAtLeast, KeepsBlocks};
 ghost use Rattle.object_table.specs.Uses.{nodes_in};
 ghost use Rattle.client_model.specs.declared.refusal.Refusal.TheVariants.{NoResources};
 ghost use Rattle.client_model.specs.Context.{has_room};
@@ -12,7 +15,8 @@ ghost use Rattle.vx_base.specs.declared.slots.TheConstants.{GREATEST_SLOTS};
 
 use crate::fault::RequestFault;
 use client_model::{Limits, Refusal, Reply};
-use object_table::{Object, Table};
+use object_table::{InsertFault, Object, Table};
+use pixel_pool::Pool;
 
 /// Room for an object that is charged so many bytes, at most those of 16 of the largest images.
 /// `NoResources` unless a name is left, fewer than 1,024 objects are held, and the quota allows it.
@@ -28,13 +32,46 @@ pub fn look_for_room(table: &Table, limits: Limits, bytes: usize) -> Result<(), 
     }
 }
 
-/// Holds a new object, for which there is room, and says its name. A graph has no nodes yet.
+/// Holds a new object that isn't images, for which there is room, and says its name. A graph has no
+/// nodes yet.
 pub fn hold(table: &mut Table, limits: Limits, object: Object) -> Result<Reply, RequestFault>
     requires room { IsTrue (has_room limits table.old (object_bytes object)) }
     requires object { IsObject object }
     requires plain { nodes_in object ≡ [] }
+    requires no_blocks { (format : Format) → object_blocks object format ≡ 0 }
     ensures comes { MayComeTo (create limits table.old object) table.old table.new result }
     ensures kept { KeepsLimits limits table.old → KeepsLimits limits table.new }
+    ensures blocks { KeepsBlocks table.old.objects table.new.objects }
 {
-    Ok(Reply::Name(table.insert(object)?))
+    match table.insert(object) {
+        Ok(name) => Ok(Reply::Name(name)),
+        Err(failed) => Err(RequestFault::from(failed.fault)),
+    }
+}
+
+/// Holds new images, for which there is room, and says their name. Where there is no memory to hold
+/// them, their blocks are given back.
+pub fn hold_images(
+    table: &mut Table,
+    pool: &mut Pool,
+    limits: Limits,
+    object: Object,
+) -> Result<Reply, RequestFault>
+    requires room { IsTrue (has_room limits table.old (object_bytes object)) }
+    requires object { IsObject object }
+    requires plain { nodes_in object ≡ [] }
+    requires owns { LendsAtLeast pool.old (object_blocks object) }
+    ensures comes { MayComeTo (create limits table.old object) table.old table.new result }
+    ensures kept { KeepsLimits limits table.old → KeepsLimits limits table.new }
+    ensures balances { (format : Format) →
+        lent_of pool.new format + blocks_in table.old.objects format + object_blocks object format
+        ≡ lent_of pool.old format + blocks_in table.new.objects format }
+{
+    match table.insert(object) {
+        Ok(name) => Ok(Reply::Name(name)),
+        Err(InsertFault { fault, object }) => {
+            object.end(pool);
+            Err(RequestFault::from(fault))
+        }
+    }
 }

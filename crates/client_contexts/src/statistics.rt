@@ -4,6 +4,7 @@ ghost use Rattle.vx_base.specs.Object.{no_extremes};
 ghost use Rattle.client_model.specs.Images.{create};
 ghost use Rattle.client_model.specs.Statistics.{read_distribution, read_min_max};
 ghost use Rattle.client_model.specs.States.{KeepsLimits};
+ghost use Rattle.object_table.specs.Blocks.{KeepsBlocks};
 ghost use Rattle.client_contexts.specs.Steps.{ComesTo, MayComeTo};
 
 use crate::fault::RequestFault;
@@ -23,6 +24,7 @@ pub fn create_distribution(
     ensures comes { MayComeTo (create limits table.old (DistributionObject (new_distribution bins)))
         table.old table.new result }
     ensures kept { KeepsLimits limits table.old → KeepsLimits limits table.new }
+    ensures blocks { KeepsBlocks table.old.objects table.new.objects }
 {
     look_for_room(table, limits, 0)?;
     let distribution = Distribution::new(table.allocator(), bins)?;
@@ -52,6 +54,7 @@ pub fn create_min_max(table: &mut Table, limits: Limits) -> Result<Reply, Reques
     ensures comes { MayComeTo (create limits table.old (ExtremesObject no_extremes))
         table.old table.new result }
     ensures kept { KeepsLimits limits table.old → KeepsLimits limits table.new }
+    ensures blocks { KeepsBlocks table.old.objects table.new.objects }
 {
     look_for_room(table, limits, 0)?;
     let extremes = Extremes {

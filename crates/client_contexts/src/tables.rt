@@ -3,6 +3,7 @@
 ghost use Rattle.vx_base.specs.Object.{LutObject, ThresholdObject, ConvolutionObject};
 ghost use Rattle.client_model.specs.Images.{create};
 ghost use Rattle.client_model.specs.States.{KeepsLimits};
+ghost use Rattle.object_table.specs.Blocks.{KeepsBlocks};
 ghost use Rattle.client_contexts.specs.Steps.{MayComeTo};
 
 use crate::fault::RequestFault;
@@ -16,6 +17,7 @@ pub fn create_lut(table: &mut Table, limits: Limits, lut: &Lut) -> Result<Reply,
     ensures comes { MayComeTo (create limits table.old (LutObject lut.now))
         table.old table.new result }
     ensures kept { KeepsLimits limits table.old → KeepsLimits limits table.new }
+    ensures blocks { KeepsBlocks table.old.objects table.new.objects }
 {
     look_for_room(table, limits, 0)?;
     let copy = lut.copy(table.allocator())?;
@@ -31,6 +33,7 @@ pub fn create_threshold(
     ensures comes { MayComeTo (create limits table.old (ThresholdObject threshold))
         table.old table.new result }
     ensures kept { KeepsLimits limits table.old → KeepsLimits limits table.new }
+    ensures blocks { KeepsBlocks table.old.objects table.new.objects }
 {
     look_for_room(table, limits, 0)?;
     let _format = threshold.format();
@@ -46,6 +49,7 @@ pub fn create_convolution(
     ensures comes { MayComeTo (create limits table.old (ConvolutionObject convolution.now))
         table.old table.new result }
     ensures kept { KeepsLimits limits table.old → KeepsLimits limits table.new }
+    ensures blocks { KeepsBlocks table.old.objects table.new.objects }
 {
     look_for_room(table, limits, 0)?;
     convolution.is_convolution();

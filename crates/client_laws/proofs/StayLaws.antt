@@ -1,6 +1,6 @@
 -- What stays of the objects that are held, as requests are answered.
-use Rattle.std.proofs.Common.{◌≡◌, ◌≢◌, ℕ, ◌<◌, false, IsTrue, List, [], ◌∷◌, Option, Some, None, IfSome, refl, sym, ap, subst, ◌∙◌, arith}
-use Rattle.std.specs.Prelude.{All, IsSome, MatchOption, Ok, unwrap_or}
+use Rattle.std.proofs.Common.{◌≡◌, ◌≢◌, ℕ, ◌<◌, false, List, [], ◌∷◌, Option, Some, None, IfSome, refl, sym, ap, subst, ◌∙◌, arith}
+use Rattle.std.specs.Prelude.{All, IsSome, MatchOption, Ok}
 use Rattle.std.specs.Option.{option_map, option_and_then}
 use Rattle.std.proofs.lemmas.List.Elements.{All-nil, All-cons, All-head, All-tail}
 use Rattle.std.proofs.lemmas.Option.{IfSome_then}
@@ -15,10 +15,10 @@ use Rattle.object_table.specs.Skeleton.{skeleton}
 use Rattle.object_table.specs.Uses.{nodes_in}
 use Rattle.object_table.proofs.HeldLemmas.{named_has}
 use Rattle.object_table.proofs.SkeletonLaws.{option_map-told, slots_alike}
-use Rattle.graph_verify.specs.declared.operand.Operand.TheVariants.{Delay}
+use Rattle.graph_verify.specs.declared.verified.Verified.{Verified}
 use Rattle.graph_verify.specs.Operand.{operand_of}
 use Rattle.graph_verify.specs.Verdict.{verdict}
-use Rattle.graph_run.specs.Operands.{operand_held}
+use Rattle.graph_run.specs.Operands.{operand_held, IsReady}
 use Rattle.graph_run.proofs.OperandLaws.{operand-skeleton}
 use Rattle.client_model.specs.declared.request.Request.{Request}
 use Rattle.client_model.specs.declared.request.Request.TheVariants.{ReleaseContext}
@@ -33,7 +33,7 @@ use Rattle.client_model.proofs.HoldLaws.{OperandsStand}
 use Rattle.client_model.proofs.NamedLaws.{held_if_live}
 use Rattle.client_laws.proofs.StandLaws.{cells_stand}
 use Rattle.client_laws.proofs.StepLaws.{answer_leaves, state_after_keeps}
-use Rattle.client_laws.proofs.VerdictLaws.{IsNamed, verdict_alike}
+use Rattle.client_laws.proofs.VerdictLaws.{IsNamed, verdict_alike, held_alike, ready_alike}
 
 -- what stays from one list to a next, and from that to another, stays from the first to the last
 stays_on : {X : Type 0} (part : ObjectValue → X) (before between after : List Named) (name : ℕ) → Stays part before between name → Stays part between after name → Stays part before after name
@@ -135,6 +135,15 @@ module _ (limits : Allowance) (c : Context) (name : ℕ) (h : KeepsLimits limits
       of_cell None is below = absurd (cc)
       of_cell (Some x) is below = (refl, below)
 
+-- each cell that the nodes of a graph name is the same operand as long as the graph has these nodes
+module _ (limits : Allowance) (c later : Context) (requests : List Request) (name : ℕ) (nodes : List Node) (is : IsLater limits c requests later)
+    (was : option_map nodes_in (object_held c.objects name) ≡ Some nodes) (now : option_map nodes_in (object_held later.objects name) ≡ Some nodes) where
+  named_stay : (cell : Cell) → IsNamed nodes cell → option_map operand_of (held later.objects cell) ≡ option_map operand_of (held c.objects cell)
+  named_stay cell named =
+      let there = nodes_find limits later name (later_keeps limits c later requests is) nodes now cell named in
+      let given = nodes_find limits c name is.keeps nodes was cell named in
+      operand_stays c.objects later.objects cell (skeletons_stay limits c later requests cell.name is given.1) there.0
+
 -- the verdict on a graph whose nodes stay stays
 pub verdict_stays : (limits : Allowance) (c later : Context) (requests : List Request) (name : ℕ) (before after : GraphValue) → IsLater limits c requests later
     → All (λ request. changes_nodes request name ≡ false) requests → graph_named c.objects name ≡ Ok before → graph_named later.objects name ≡ Ok after
@@ -147,8 +156,34 @@ verdict_stays limits c later requests name before after is leave was now =
     subst (λ (o : Option ObjectValue). IfSome o (λ x. option_map nodes_in (object_held c.objects name) ≡ Some (nodes_in x))) (graph_held limits later name then after now) (nodes_stay limits c later requests name is leave known) in
     let same : nodes_of before ≡ nodes = (let both = sym (ap (option_map nodes_in) (graph_held limits c name is.keeps before was)) ∙ stay in cc) in
     verdict_alike nodes (operand_held later.objects) (operand_held c.objects)
-    (λ cell named.
-    let there = nodes_find limits later name then nodes (ap (option_map nodes_in) (graph_held limits later name then after now)) cell named in
-    let given = nodes_find limits c name is.keeps nodes stay cell named in
-    ap (λ o. unwrap_or o Delay) (operand_stays c.objects later.objects cell (skeletons_stay limits c later requests cell.name is given.1) there.0)) limits.work
+    (held_alike nodes c.objects later.objects
+    (named_stay limits c later requests name nodes is stay (ap (option_map nodes_in) (graph_held limits later name then after now)))) limits.work
     ∙ ap (verdict limits.work (operand_held c.objects)) (sym same)
+
+-- a graph that is ready to run stays so while its nodes stay
+pub ready_stays : (limits : Allowance) (c later : Context) (requests : List Request) (name : ℕ) (nodes : List Node) (v : Verified) → IsLater limits c requests later
+    → All (λ request. changes_nodes request name ≡ false) requests → name < c.next → option_map nodes_in (object_held c.objects name) ≡ Some nodes
+    → IsSome (object_held later.objects name) → IsReady c.objects nodes v → IsReady later.objects nodes v
+ready_stays limits c later requests name nodes v is leave known was there ready =
+    ready_alike nodes c.objects later.objects
+    (named_stay limits c later requests name nodes is was (kept (object_held later.objects name) (nodes_stay limits c later requests name is leave known) there)) v ready
+  where
+    kept : (o : Option ObjectValue) → IfSome o (λ x. option_map nodes_in (object_held c.objects name) ≡ Some (nodes_in x)) → IsSome o → option_map nodes_in o ≡ Some nodes
+    kept None stayed some = absurd (cc)
+    kept (Some x) stayed some = sym stayed ∙ was
+
+-- so does its verdict, within any work bytes
+pub verdict_stays_held : (limits : Allowance) (c later : Context) (requests : List Request) (name : ℕ) (nodes : List Node) (work : ℕ) → IsLater limits c requests later
+    → option_map nodes_in (object_held c.objects name) ≡ Some nodes → option_map nodes_in (object_held later.objects name) ≡ Some nodes
+    → verdict work (operand_held later.objects) nodes ≡ verdict work (operand_held c.objects) nodes
+verdict_stays_held limits c later requests name nodes work is was now =
+    verdict_alike nodes (operand_held later.objects) (operand_held c.objects)
+    (held_alike nodes c.objects later.objects (named_stay limits c later requests name nodes is was now)) work
+
+-- through one request, for whoever keeps what was verified
+pub ready_after_one : (limits : Allowance) (c later : Context) (request : Request) (name : ℕ) (nodes : List Node) (v : Verified) → KeepsLimits limits c → IsRequest request
+    → (answer_to limits (Some c) request).1 ≡ Some later → changes_nodes request name ≡ false → name < c.next → option_map nodes_in (object_held c.objects name) ≡ Some nodes
+    → IsSome (object_held later.objects name) → IsReady c.objects nodes v → IsReady later.objects nodes v
+ready_after_one limits c later request name nodes v h is e leaves known was there ready =
+    ready_stays limits c later (request ∷ []) name nodes v (after_one limits c later request h is e)
+    (All-cons (λ r. changes_nodes r name ≡ false) request [] leaves (All-nil (λ r. changes_nodes r name ≡ false))) known was there ready

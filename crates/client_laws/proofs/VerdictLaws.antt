@@ -1,28 +1,36 @@
--- A verdict depends on what the cells that its nodes name are, and on nothing else.
-use Rattle.std.proofs.Common.{◌≡◌, ℕ, zero, suc, ◌+◌, inl, inr, true, cond, List, [], ◌∷◌, length, Option, Some, None, refl, sym, ap, ◌∙◌, arith}
-use Rattle.std.specs.Prelude.{All, Bool, not, ◌&&◌, nat_le, sum_by, if◌then◌else◌}
+-- A verdict, and how a graph runs, depend on what the cells that its nodes name are, and on nothing else.
+use Rattle.std.proofs.Common.{◌≡◌, ℕ, zero, suc, inl, inr, true, cond, List, [], ◌∷◌, length, Option, Some, None, refl, sym, ap, subst, ◌∙◌, arith}
+use Rattle.std.specs.Prelude.{All, Bool, not, ◌&&◌, nat_le, sum_by, if◌then◌else◌, unwrap_or}
 use Rattle.std.specs.List.{list_any, filter, flat_map}
-use Rattle.std.specs.Option.{option_or}
+use Rattle.std.specs.Option.{option_or, option_map}
+use Rattle.std.proofs.lemmas.Bool.{or_right}
 use Rattle.std.proofs.lemmas.List.Elements.{All-head, All-tail, All-weaker, All-filter}
 use Rattle.std.proofs.lemmas.List.Sums.{sum_by-cons}
+use Rattle.vx_base.specs.declared.kind.Kind.{Kind}
 use Rattle.vx_base.specs.declared.node.Node.{Node}
 use Rattle.vx_base.specs.Cell.{Cell}
-use Rattle.vx_base.specs.Node.{inputs, outputs}
+use Rattle.vx_base.specs.Function.{parameters}
+use Rattle.vx_base.specs.Node.{inputs, outputs, operands}
 use Rattle.vx_base.specs.Outline.{Outline, filled}
+use Rattle.object_table.specs.Named.{Named, held}
 use Rattle.object_table.proofs.GraphLemmas.{any_alike}
+use Rattle.graph_verify.specs.declared.known.VirtualOutput.{VirtualOutput}
 use Rattle.graph_verify.specs.declared.operand.Operand.{Operand}
+use Rattle.graph_verify.specs.declared.operand.Operand.TheVariants.{Image, Delay}
+use Rattle.graph_verify.specs.declared.verified.Verified.{Verified}
 use Rattle.graph_verify.specs.declared.verdict.Verdict.{Verdict}
 use Rattle.graph_verify.specs.declared.verdict.Verdict.TheVariants.{MultipleWriters, InvalidGraph, InvalidLink, NoResources}
 use Rattle.graph_verify.specs.Cycle.{has_cycle}
-use Rattle.graph_verify.specs.Links.{writes, feeds, is_written}
-use Rattle.graph_verify.specs.Members.{In}
-use Rattle.graph_verify.specs.Operand.{operands_of, is_virtual, virtual_bytes}
+use Rattle.graph_verify.specs.Links.{reads, writes, feeds, is_written}
+use Rattle.graph_verify.specs.Members.{In, AllIn}
+use Rattle.graph_verify.specs.Operand.{operand_of, operands_of, is_virtual, virtual_bytes}
 use Rattle.graph_verify.specs.Outlines.{operand_outline, given_outline, written_outline, outlines, as_known, resolved}
 use Rattle.graph_verify.specs.Rounds.{round, rounds}
-use Rattle.graph_verify.specs.Verdict.{two_writers, node_fault, is_loose, reads_loose, first_fault, work_bytes, verdict}
-use Rattle.graph_verify.proofs.MemberLemmas.{In-from_flat_map}
-use Rattle.graph_run.specs.Operands.{names_cell}
-use Rattle.graph_run.proofs.LinkLaws.{All-from_In}
+use Rattle.graph_verify.specs.Verdict.{two_writers, node_fault, is_loose, reads_loose, first_fault, virtual_outputs, work_bytes, verdict}
+use Rattle.graph_verify.specs.Verified.{IsVerified}
+use Rattle.graph_verify.proofs.MemberLemmas.{In-left, In-right, In-append, In-from_filter, In-map, In-from_flat_map, AllIn-permutation_back}
+use Rattle.graph_run.specs.Operands.{names_cell, StandsFor, operand_held, IsReady}
+use Rattle.graph_run.proofs.LinkLaws.{All-from_In, In-from_All}
 use Rattle.graph_run.proofs.VerifiedLemmas.{named_by_input, named_by_output, same_operands}
 
 -- ---- lists of elements of which something is the same
@@ -50,8 +58,8 @@ module _ (nodes : List Node) where
   read_named : (n : Node) → In n nodes → All IsNamed (inputs n)
   read_named n i = All-from_In IsNamed (inputs n) (λ cell j. (n, i, named_by_input n cell j))
 
-  written_named : All IsNamed (flat_map outputs nodes)
-  written_named = All-from_In IsNamed (flat_map outputs nodes) (λ cell j. let r = In-from_flat_map outputs cell nodes j in (r.0, r.1, named_by_output r.0 cell r.2))
+  written_named : (ns : List Node) → AllIn ns nodes → All IsNamed (flat_map outputs ns)
+  written_named ns are = All-from_In IsNamed (flat_map outputs ns) (λ cell j. let r = In-from_flat_map outputs cell ns j in (r.0, are r.0 r.1, named_by_output r.0 cell r.2))
 
   module _ (one other : Cell → Operand) (same : (cell : Cell) → IsNamed cell → one cell ≡ other cell) where
     -- as much is known of each cell
@@ -93,17 +101,21 @@ module _ (nodes : List Node) where
         any_alike (is_loose one nodes) (is_loose other nodes) (inputs n)
         (All-weaker IsNamed (λ cell. is_loose one nodes cell ≡ is_loose other nodes cell) (λ cell named. ap (λ o. is_virtual o && not (is_written nodes cell)) (same cell named)) (inputs n) (read_named n i))))
 
+    -- the same nodes write the same virtual images
+    virtual_alike : (ns : List Node) → AllIn ns nodes → virtual_outputs one ns ≡ virtual_outputs other ns
+    virtual_alike ns are =
+        filter_alike (λ cell. is_virtual (one cell)) (λ cell. is_virtual (other cell)) (flat_map outputs ns)
+        (All-weaker IsNamed (λ cell. is_virtual (one cell) ≡ is_virtual (other cell)) (λ cell named. ap is_virtual (same cell named)) (flat_map outputs ns) (written_named ns are))
+
     -- as many bytes are worked on
     work_alike : work_bytes one nodes ≡ work_bytes other nodes
     work_alike =
         let bytes : (Cell → Operand) → Cell → ℕ = λ is cell. virtual_bytes (resolved is nodes cell) in
-        let wanted = filter (λ cell. is_virtual (other cell)) (flat_map outputs nodes) in
-        ap (sum_by (bytes one))
-        (filter_alike (λ cell. is_virtual (one cell)) (λ cell. is_virtual (other cell)) (flat_map outputs nodes)
-        (All-weaker IsNamed (λ cell. is_virtual (one cell) ≡ is_virtual (other cell)) (λ cell named. ap is_virtual (same cell named)) (flat_map outputs nodes) written_named))
+        let wanted = virtual_outputs other nodes in
+        ap (sum_by (bytes one)) (virtual_alike nodes (λ n i. i))
         ∙ sum_alike (bytes one) (bytes other) wanted
         (All-weaker IsNamed (λ cell. bytes one cell ≡ bytes other cell) (λ cell named. ap virtual_bytes (resolved_alike cell named)) wanted
-        (All-filter (λ cell. is_virtual (other cell)) IsNamed (flat_map outputs nodes) written_named))
+        (All-filter (λ cell. is_virtual (other cell)) IsNamed (flat_map outputs nodes) (written_named nodes (λ n i. i))))
 
     pub verdict_alike : (work : ℕ) → verdict work one nodes ≡ verdict work other nodes
     verdict_alike work =
@@ -117,3 +129,64 @@ module _ (nodes : List Node) where
             else (if has_cycle feeds nodes then Some InvalidGraph
             else (if loose then Some InvalidLink
             else option_or fault (if nat_le bytes work then None else Some NoResources)))
+
+    -- the same order and the same descriptions are found
+    pub verified_alike : (v : Verified) → IsVerified one nodes v → IsVerified other nodes v
+    verified_alike v h =
+        record {
+          order = h.order;
+          cells = h.cells ∙ virtual_alike steps are;
+          descriptions =
+              All-from_In (λ o. resolved other nodes o.cell ≡ Image o.desc) outs
+              (λ o i. sym (resolved_alike o.cell (output_named o i)) ∙ In-from_All (λ (p : VirtualOutput). resolved one nodes p.cell ≡ Image p.desc) outs h.descriptions o i);
+        }
+      where
+        steps : List Node
+        steps = v.steps.items
+
+        outs : List VirtualOutput
+        outs = v.virtual_outputs.items
+
+        are : AllIn steps nodes
+        are = AllIn-permutation_back nodes steps h.order.same_nodes
+
+        output_named : (o : VirtualOutput) → In o outs → IsNamed o.cell
+        output_named o i =
+            In-from_All IsNamed (flat_map outputs steps) (written_named steps are) o.cell
+            (In-from_filter (λ cell. is_virtual (one cell)) o.cell (flat_map outputs steps)
+            (subst (λ l. In o.cell l) h.cells (In-map (λ (p : VirtualOutput). p.cell) o outs i))).0
+
+-- ---- graphs that are ready to run
+
+-- a node names the cells of its operands
+operand_named : (n : Node) (operand : Cell × Kind) → In operand (operands n) → names_cell n operand.0 ≡ true
+operand_named n operand (inl same) = named_by_input n operand.0 (inl (ap (λ (o : Cell × Kind). o.0) same))
+operand_named n operand (inr i) = grind (arith, In-append, named_by_input, named_by_output, In-left, In-right)
+
+-- a graph that is ready is so too where each cell that its nodes name holds the same operand
+module _ (nodes : List Node) (before after : List Named)
+    (stay : (cell : Cell) → IsNamed nodes cell → option_map operand_of (held after cell) ≡ option_map operand_of (held before cell)) where
+  pub held_alike : (cell : Cell) → IsNamed nodes cell → operand_held after cell ≡ operand_held before cell
+  held_alike cell named = ap (λ o. unwrap_or o Delay) (stay cell named)
+
+  stands_still : (cell : Cell) (wanted : Kind) → IsNamed nodes cell → StandsFor (operand_held before cell) wanted → StandsFor (operand_held after cell) wanted
+  stands_still cell wanted named stands = subst (λ o. StandsFor o wanted) (sym (held_alike cell named)) stands
+
+  pub ready_alike : (v : Verified) → IsReady before nodes v → IsReady after nodes v
+  ready_alike v h =
+      record {
+        verified = verified_alike nodes (operand_held before) (operand_held after) (λ cell named. sym (held_alike cell named)) v h.verified;
+        runs = (h.runs.0, verdict_alike nodes (operand_held after) (operand_held before) held_alike h.runs.0 ∙ h.runs.1);
+        are_nodes = h.are_nodes;
+        cells =
+            record {
+              found = λ n cell i there. stay cell (n, i, there) ∙ h.cells.found n cell i there ∙ ap Some (sym (held_alike cell (n, i, there)));
+              kinds = λ n cell i written. stands_still cell (parameters n.function).output (n, i, or_right (reads n cell) (writes n cell) written) (h.cells.kinds n cell i written);
+            };
+        kinds =
+            All-from_In (λ n. All (λ operand. StandsFor (operand_held after operand.0) operand.1) (operands n)) nodes
+            (λ n i. All-from_In (λ operand. StandsFor (operand_held after operand.0) operand.1) (operands n)
+            (λ operand j. stands_still operand.0 operand.1 (n, i, operand_named n operand j)
+            (In-from_All (λ (o : Cell × Kind). StandsFor (operand_held before o.0) o.1) (operands n)
+            (In-from_All (λ m. All (λ operand. StandsFor (operand_held before operand.0) operand.1) (operands m)) nodes h.kinds n i) operand j)));
+      }

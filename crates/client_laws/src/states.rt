@@ -5,12 +5,15 @@ ghost use Rattle.std.specs.Option.{option_map};
 ghost use Rattle.vx_base.specs.Cell.{Cell};
 ghost use Rattle.vx_base.specs.declared.code.Code.{Code};
 ghost use Rattle.vx_base.specs.declared.code.Code.TheVariants.{Success, NoMemory};
+ghost use Rattle.vx_base.specs.declared.node.Node.{Node};
 ghost use Rattle.vx_base.specs.Graph.{GraphValue};
 ghost use Rattle.object_table.specs.Context.{Context};
 ghost use Rattle.object_table.specs.Named.{object_held, held};
 ghost use Rattle.object_table.specs.Skeleton.{skeleton};
 ghost use Rattle.object_table.specs.Uses.{nodes_in};
+ghost use Rattle.graph_verify.specs.declared.verified.Verified.{Verified};
 ghost use Rattle.graph_verify.specs.Operand.{operand_of};
+ghost use Rattle.graph_run.specs.Operands.{IsReady};
 ghost use Rattle.client_model.specs.declared.request.Request.{Request};
 ghost use Rattle.client_model.specs.declared.reply.Reply.TheVariants.{Refused};
 ghost use Rattle.client_model.specs.Allowance.{Allowance};
@@ -35,7 +38,8 @@ pub fn limits_are_kept()
 /// matrix or a declared outline. A graph keeps its nodes until one is added to it or removed from
 /// it. So each cell is the same operand as long as something is held under its name, and the
 /// verdict on a graph stays what it was, SUCCESS or not, until a node is added to it or removed
-/// from it.
+/// from it. A graph that was verified can run still, in the order and with the descriptions that
+/// were found, until a node is added to it or removed from it or it is gone.
 pub fn what_is_held_stays()
     ensures after_one { (limits : Allowance) (c later : Context) (request : Request) (name : ℕ) →
         KeepsLimits limits c → IsRequest request →
@@ -58,6 +62,12 @@ pub fn what_is_held_stays()
         All (λ request. changes_nodes request name ≡ false) requests →
         graph_named c.objects name ≡ Ok before → graph_named later.objects name ≡ Ok after →
         graph_verdict limits later.objects after ≡ graph_verdict limits c.objects before }
+    ensures ready { (limits : Allowance) (c later : Context) (requests : List Request) (name : ℕ)
+        (nodes : List Node) (v : Verified) → IsLater limits c requests later →
+        All (λ request. changes_nodes request name ≡ false) requests →
+        name < c.next → option_map nodes_in (object_held c.objects name) ≡ Some nodes →
+        IsSome (object_held later.objects name) →
+        IsReady c.objects nodes v → IsReady later.objects nodes v }
 {}
 
 /// A reply that is a refusal leaves the state, and its code is neither SUCCESS nor NO_MEMORY.

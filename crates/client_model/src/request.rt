@@ -1,4 +1,7 @@
 //! Requests of clients.
+ghost use Rattle.std.specs.Prelude.{◌<◌, ◌^◌, All};
+ghost use Rattle.client_model.specs.Request.{IsRequest};
+
 use crate::text::Text;
 use vx_base::{
     Bins, Convolution, Desc, Lut, NodeSpec, ObjRef, Outline, Picture, Rect, SlotCount,
@@ -61,3 +64,75 @@ pub enum Request {
     /// Ages the delay with this name: each image comes to the next slot, the last to the first.
     AgeDelay(u32),
 }
+
+impl Request {
+    /// The request is one that the laws of requests speak of. Nothing is done when this runs: the
+    /// prover learns what a type keeps where a part is read.
+    pub fn is_request(&self)
+        ensures { IsRequest self.now }
+    {
+        match self {
+            Request::OpenContext
+            | Request::ReleaseContext
+            | Request::CreateMinMax
+            | Request::CreateGraph => {}
+            Request::CreateImage(desc) => desc.has_sides(),
+            Request::WriteImage(image, picture) => {
+                image.is_cell();
+                let _samples = picture.samples();
+            }
+            Request::WriteImagePgm(image, text) => {
+                image.is_cell();
+                are_bytes(text.bytes());
+            }
+            Request::QueryImage(image) | Request::ReadImage(image) | Request::ReadImagePgm(image) =>
+                { image.is_cell() }
+            Request::SetValid(image, valid) => {
+                image.is_cell();
+                valid.is_rectangle();
+            }
+            Request::Release(name) | Request::ReadDistribution(name) | Request::ReadMinMax(name) =>
+                {
+                    let _name = *name;
+                }
+            Request::CreateLut(lut) => {
+                let _entries = lut.entries();
+            }
+            Request::CreateThreshold(threshold) => {
+                let _format = threshold.format();
+            }
+            Request::CreateConvolution(convolution) => convolution.is_convolution(),
+            Request::CreateDistribution(bins) => {
+                let _numbers = (bins.bins(), bins.offset(), bins.range());
+            }
+            Request::CreateVirtualImage(graph, declared) => {
+                let _graph = *graph;
+                declared.has_sides();
+            }
+            Request::AddNode(graph, node) => {
+                let _graph = *graph;
+                let _fields = node.node();
+            }
+            Request::RemoveNode(graph, number) => {
+                let _names = (*graph, *number);
+            }
+            Request::VerifyGraph(graph) | Request::ProcessGraph(graph) => {
+                let _graph = *graph;
+            }
+            Request::Immediate(node) => {
+                let _fields = node.node();
+            }
+            Request::CreateDelay(exemplar, slots) => {
+                exemplar.is_cell();
+                let _count = slots.get();
+            }
+            Request::AgeDelay(name) => {
+                let _name = *name;
+            }
+        }
+    }
+}
+
+fn are_bytes(bytes: &[u8])
+    ensures { All (λ byte. byte < 2 ^ 8) bytes.now }
+{}

@@ -4,18 +4,17 @@ use Rattle.std.specs.Prelude.{All, IsSome, unwrap_or}
 use Rattle.std.specs.List.{AllPairs}
 use Rattle.std.specs.Option.{option_map}
 use Rattle.std.proofs.lemmas.Bool.{ne_eqb}
-use Rattle.std.proofs.lemmas.List.{drop-set-lt, take_more, take_more_set, map_push, get_or_read, get_or-drop, append_assoc, length-drop, drop_all}
+use Rattle.std.proofs.lemmas.List.{drop-set-lt, take_more_set, get_or_read, get_or-drop, append_assoc, length-drop, drop_all}
 use Rattle.std.proofs.lemmas.List.Elements.{All-head, All-tail}
 use Rattle.std.proofs.Math.Seq.{drop-cons}
-use Rattle.vx_base.specs.Image.{new_image}
-use Rattle.vx_base.specs.Object.{ObjectValue, ImageObject}
+use Rattle.vx_base.specs.Object.{ObjectValue}
 use Rattle.vx_base.specs.Cell.{cell_of}
 use Rattle.object_table.specs.Context.{Context, with_objects}
 use Rattle.object_table.specs.Named.{Named, object_held, with_object}
 use Rattle.object_table.specs.Table.{object_under}
 use Rattle.object_table.specs.Uses.{nodes_in}
 use Rattle.graph_verify.specs.declared.known.VirtualOutput.{VirtualOutput}
-use Rattle.graph_run.specs.Turns.{cleared, exchanged_in, handed_out}
+use Rattle.graph_run.specs.Turns.{exchanged_in, handed_out}
 use Rattle.graph_run.proofs.HeldLaws.{object_held-with_object}
 
 -- ---- objects without nodes
@@ -102,11 +101,3 @@ exchanged_in-nil left (o ∷ objects) = ap (λ l. o ∷ l) (exchanged_in-nil lef
 pub exchanged_all : (outputs : List VirtualOutput) (left : List ObjectValue) (k : ℕ) (new old : Context) (objects : List Named)
     → length outputs ≤ k → new.next ≡ old.next → exchanged_in (drop k outputs) left new.objects ≡ objects → new ≡ with_objects old objects
 exchanged_all outputs left k new old objects past next is = grind (arith, exchanged_in-nil left new.objects, drop_all k outputs past)
-
--- ---- cleared images
-
--- one more cleared image
-pub cleared_more : (outputs : List VirtualOutput) (k : ℕ) (o : VirtualOutput) (images : List ObjectValue) (object : ObjectValue)
-    → k < length outputs → o ≡ get_or outputs k o → images ≡ cleared (take k outputs)
-    → object ≡ ImageObject (new_image o.desc.width o.desc.height o.desc.format) → images ++ object ∷ [] ≡ cleared (take (k + 1) outputs)
-cleared_more outputs k o images object within read is made = grind (arith, take_more outputs k o within, map_push, take_more)

@@ -17,6 +17,8 @@ pub mod CellLemmas
 pub mod FoundLemmas
 pub mod OutputLemmas
 pub mod RunLemmas
+pub mod PairLemmas
 pub mod ExchangeLemmas
 pub mod StandInLemmas
+pub mod UnwrittenLemmas
 pub mod VerifiedLemmas

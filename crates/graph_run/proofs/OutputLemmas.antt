@@ -5,7 +5,7 @@ use Rattle.std.specs.List.{count_by}
 use Rattle.std.proofs.lemmas.List.FromFn.{length-map-range_with_len}
 use Rattle.vx_base.specs.Image.{ImageValue, IsImage, image_over, description_of}
 use Rattle.vx_base.specs.Statistics.{BinsValue, bin_of, is_bin, histogram, valid_samples}
-use Rattle.std.proofs.lemmas.Bool.{eqb-true, and_parts}
+use Rattle.std.proofs.lemmas.Bool.{and_parts}
 use Rattle.vx_base.specs.declared.node.Node.{Node}
 use Rattle.vx_base.specs.declared.format.Format.{Format}
 use Rattle.vx_base.specs.Rectangle.{Rectangle, empty}
@@ -131,7 +131,7 @@ module _ (objects : List Named) (n : Node) (which : Output) (output : Cell) (h :
 
   -- what the node reads stands beside the output, whatever stands there
   module _ (after : Context) (left : ObjectValue) (before : Context) (taken : after ≡ with_objects before (with_object objects output left)) where
-    first_there : image_held after.objects n.in1 ≡ first
+    pub first_there : image_held after.objects n.in1 ≡ first
     first_there = ap (λ (t : Context). image_held t.objects n.in1) taken ∙ ap image_value (object_beside objects output n.in1 left h.in1_apart)
 
     pub reads_image : HoldsImage after.objects n.in1

@@ -40,7 +40,7 @@ use Rattle.graph_run.specs.Steps.{Holds, TwoSlots, AreApart, RunsOn, RunsTo, cou
 use Rattle.graph_run.specs.Turns.{HoldsKind}
 use Rattle.graph_run.proofs.FoundLemmas.{OfOperands}
 use Rattle.graph_run.proofs.CellLemmas.{object_beside, object_if_beside, holds_beside, hold_beside, image_beside, there_is, kind_there, holds_there, operand_there, Lasts-with_object}
-use Rattle.graph_run.proofs.LastingLemmas.{images-last}
+use Rattle.graph_run.proofs.LastingLemmas.{images-last, Lasts-trans, Lasts-names}
 use Rattle.graph_run.proofs.OutputLemmas.{image_of_object, description_kept, length-histogram}
 use Rattle.graph_run.proofs.OperandLaws.{no_delay_written}
 use Rattle.vx_base.proofs.NodeLaws.{node_image_is}
@@ -68,7 +68,7 @@ second_no_delay : (function : Function) → unwrap_or (parameters function).seco
 second_no_delay AndBits = λ e. cc
 second_no_delay other = λ e. cc
 
-has_of_node : (n : Node) → is_node n ≡ true → has_operands (parameters n.function) n ≡ true
+pub has_of_node : (n : Node) → is_node n ≡ true → has_operands (parameters n.function) n ≡ true
 has_of_node n shape = (and_parts (has_operands (parameters n.function) n) (all_named n) (and_parts (has_amount (parameters n.function) n.policy n.amount) (has_operands (parameters n.function) n && all_named n) shape).1).0
 
 no_image : kind.Image ≢ kind.Delay
@@ -108,7 +108,7 @@ with_written-append objects [] others = refl
 with_written-append objects (w ∷ written) others = with_written-append (with_object objects w.0 w.1) written others
 
 -- slots that differ differ the other way round
-apart_back : (p q : Cell) → AreApart p q → AreApart q p
+pub apart_back : (p q : Cell) → AreApart p q → AreApart q p
 apart_back p q h e = grind arith
 
 -- what a node would write stays where another output of it is written
@@ -116,10 +116,10 @@ module _ (l : List Named) (n : Node) (one other : Cell) (x : ObjectValue) (h : R
   abbrev after : List Named
   after = with_object l one x
 
-  runs_beside : RunsTo after n other
+  pub runs_beside : RunsTo after n other
   runs_beside = search (rules, image_beside, hold_beside, holds_beside, object_beside, object_if_beside)
 
-  output_beside : (which : Output) → output_of after n which other ≡ output_of l n which other
+  pub output_beside : (which : Output) → output_of after n which other ≡ output_of l n which other
   output_beside which = grind (arith, object_beside l one n.in1 x in1, object_if_beside l one n.in2 x in2, object_beside l one other x out)
 
 -- what cells hold, as operands
@@ -228,7 +228,7 @@ module _ (n : Node) (node : IsNode n) where
         let differ = (or_parts (same_cell a b) false (or_parts (list_any (same_cell a) (b ∷ [])) false e).0).0 in
         apart_back a b (apart objects a b wanted wanted (no_delay_written n.function) (no_delay_written n.function) s t differ)
 
-    two_outputs : IfSome n.out1 (λ a. IfSome n.out2 (λ b. AreApart b a))
+    pub two_outputs : IfSome n.out1 (λ a. IfSome n.out2 (λ b. AreApart b a))
     two_outputs = outputs_apart n.out1 n.out2 h.out1 h.out2 parts.0
 
     -- the second output can be written once the first is
@@ -336,3 +336,12 @@ Lasts-with_output l n which (Some output) names are runs =
     let made = output_lasts n which (cell_object l n.in1) (option_map (cell_object l) n.in2) (cell_object l output) runs.runs in
     Lasts-with_object l (output, output_of l n which output)
     (record { is_object = made.0; lasts = ap (option_map lasting) (there_is l output runs.out) ∙ ap Some (sym made.1) }) names are
+
+-- so do the objects once a node has run
+module _ (n : Node) (node : IsNode n) (l : List Named) (are : All (λ o. IsObject o.object) l) (h : OfOperands (HoldsKind l) n) (verdict : verdict_on n (operands_of (operand_held l) n) ≡ None) where
+  pub Lasts-outputs : IsStrictlyIncreasing (names_of l) → Lasts l (with_output (with_output l n First n.out1) n Second n.out2)
+  Lasts-outputs names =
+      let between = with_output l n First n.out1 in
+      let first = Lasts-with_output l n First n.out1 names are (runs_first n node l are h verdict) in
+      let second = Lasts-with_output between n Second n.out2 (Lasts-names l between first names) first.objects (runs_then n node l are h verdict) in
+      Lasts-trans l between (with_output between n Second n.out2) first second

@@ -1,5 +1,5 @@
 -- What the rounds give solves a graph, and nothing else does.
-use Rattle.std.proofs.Common.{◌≡◌, ◌≢◌, ◌<◌, true, false, List, length, refl, sym, ap, subst, ◌∙◌, Option, Some, None, arith}
+use Rattle.std.proofs.Common.{◌≡◌, ◌≢◌, ◌<◌, true, false, List, length, map, refl, sym, ap, subst, ◌∙◌, Option, Some, None, arith}
 use Rattle.std.specs.Prelude.{All}
 use Rattle.std.specs.Option.{option_map, option_and_then}
 use Rattle.std.specs.List.{AllPairs}
@@ -18,7 +18,7 @@ use Rattle.graph_verify.specs.Rounds as cells
 use Rattle.graph_verify.specs.Rounds.{IsSolution}
 use Rattle.graph_verify.specs.Verdict.{two_writers}
 use Rattle.graph_run.specs.Graph.{rounds_of_nodes}
-use Rattle.graph_run.specs.Solution.{WritesNo, ReadImages, Solves, kind_in, form_of}
+use Rattle.graph_run.specs.Solution.{WritesNo, ReadImages, Solves, kind_in, form_of, label_of}
 use Rattle.graph_verify.proofs.MemberLemmas.{any-from_In}
 use Rattle.graph_verify.proofs.SolutionLemmas as cell_solutions
 use Rattle.graph_verify.proofs.LinkLemmas.{one_writer}
@@ -114,13 +114,18 @@ solution_seen nodes before after whole images solves = record {
         ∙ same_given n (output_at n c) (held after n.in1) (option_and_then (held after) n.in2) (held after c) (held before c) (image n i) (solves.forms c)
         (whole c (any-from_In (λ m. writes m c) n nodes i w))
 
-pub only_solution : (nodes : List Node) (before after : List Named) → two_writers nodes ≡ false → has_cycle feeds nodes ≡ false → AllPairs (λ a b. a.name < b.name) before
+-- where names increase
+pub only_rising : (nodes : List Node) (before after : List Named) → two_writers nodes ≡ false → has_cycle feeds nodes ≡ false → Rising (map label_of before)
     → WritesNo kind.Delay nodes before → ReadImages nodes before → Solves nodes before after → after ≡ rounds_of_nodes nodes (length nodes) before
-only_solution nodes before after one runs names whole images solves =
+only_rising nodes before after one runs up whole images solves =
     let start : Cell → Option ObjectValue = seen before in
     same_objects after (rounds_of_nodes nodes (length nodes) before)
-    (subst (λ z. Rising z) (sym solves.labels) (rising before names))
+    (subst (λ z. Rising z) (sym solves.labels) up)
     (solves.labels ∙ sym (labels-rounds nodes (length nodes) before))
     (λ c.
     cell_solutions.only_solution (given_from start) nodes start (seen after) (reads_alone start) one runs (solution_seen nodes before after whole images solves) c
     ∙ ap (λ f. f c) (sym (seen_values nodes before one runs whole)))
+
+pub only_solution : (nodes : List Node) (before after : List Named) → two_writers nodes ≡ false → has_cycle feeds nodes ≡ false → AllPairs (λ a b. a.name < b.name) before
+    → WritesNo kind.Delay nodes before → ReadImages nodes before → Solves nodes before after → after ≡ rounds_of_nodes nodes (length nodes) before
+only_solution nodes before after one runs names whole images solves = only_rising nodes before after one runs (rising before names) whole images solves

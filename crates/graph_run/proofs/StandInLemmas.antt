@@ -1,12 +1,15 @@
 -- Images that stand in for virtual images as a graph runs.
-use Rattle.std.proofs.Common.{◌≡◌, ℕ, Bool, true, false, cond, List, [], ◌∷◌, map, length, get_or, drop, Option, Some, None, refl, sym, ap, subst, ◌∙◌, arith, rules}
+use Rattle.std.proofs.Common.{◌≡◌, ◌≢◌, ℕ, zero, suc, ◌+◌, ◌<◌, Bool, true, false, cond, List, [], ◌∷◌, ◌++◌, map, length, get_or, take, drop, Option, Some, None, refl, sym, ap, subst, ◌∙◌, arith, rules}
 use Rattle.std.specs.Prelude.{All, ◌==◌, ◌||◌, if◌then◌else◌, unwrap_or}
-use Rattle.std.specs.List.{list_any}
+use Rattle.std.specs.List.{AllPairs, list_any}
 use Rattle.std.specs.List.Sorted.{IsStrictlyIncreasing}
 use Rattle.std.specs.Option.{option_map}
-use Rattle.std.proofs.lemmas.Bool.{cond_both, eqb-true, or_parts}
-use Rattle.std.proofs.lemmas.List.Elements.{All-cons, All-head, All-tail, All-map}
+use Rattle.std.proofs.lemmas.Bool.{cond_both, eqb-true, eq-eqb, ne_eqb, or_parts}
+use Rattle.std.proofs.lemmas.List.{length-map, map-append, take_more}
+use Rattle.std.proofs.lemmas.List.Elements.{All-nil, All-cons, All-head, All-tail, All-map}
 use Rattle.vx_base.specs.declared.kind.Kind.TheVariants as kind
+use Rattle.vx_base.specs.Image.{ImageValue, image_over, description_of}
+use Rattle.vx_base.specs.Rectangle.{empty}
 use Rattle.vx_base.specs.Object.{ObjectValue, ImageObject, DelayObject, DistributionObject, ExtremesObject, GraphObject, VirtualObject, IsObject, object_kind}
 use Rattle.object_table.specs.Named.{Named, object_held}
 use Rattle.object_table.specs.Skeleton.{skeleton}
@@ -15,9 +18,10 @@ use Rattle.object_table.proofs.HeldLemmas.{names_of, held_by_name, object_held_h
 use Rattle.graph_verify.specs.declared.known.VirtualOutput.{VirtualOutput}
 use Rattle.graph_run.specs.Graph.{is_virtual_object, forgotten}
 use Rattle.graph_run.specs.Lasting.{lasting_named, Lasts}
-use Rattle.graph_run.specs.Turns.{AreVirtual, AreExchanged, exchanged, exchanged_in, handed_out, cleared}
+use Rattle.graph_run.specs.Solution.{label_of}
+use Rattle.graph_run.specs.Turns.{AreVirtual, AreExchanged, AreStandIns, exchanged, exchanged_in, handed_out}
 use Rattle.graph_run.proofs.ExchangeLemmas.{ArePlain, HoldsPlain}
-use Rattle.graph_run.proofs.LastingLemmas.{Lasting, nodes-last, held-lasts}
+use Rattle.graph_run.proofs.LastingLemmas.{Lasting, skeletons-last, nodes-last, held-lasts}
 
 -- ---- as a run begins
 
@@ -39,6 +43,19 @@ pub names-exchanged : (outputs : List VirtualOutput) (new : List ObjectValue) (o
     → names_of (exchanged_in outputs new objects) ≡ names_of objects
 names-exchanged outputs new [] = refl
 names-exchanged outputs new (o ∷ objects) = ap (λ l. o.name ∷ l) (names-exchanged outputs new objects)
+
+-- and labels
+pub labels-exchanged : (outputs : List VirtualOutput) (new : List ObjectValue) (objects : List Named)
+    → map label_of (exchanged_in outputs new objects) ≡ map label_of objects
+labels-exchanged outputs new [] = refl
+labels-exchanged outputs new (o ∷ objects) = ap (λ l. label_of o ∷ l) (labels-exchanged outputs new objects)
+
+-- what is then held under a name
+pub object_held-exchanged : (outputs : List VirtualOutput) (new : List ObjectValue) (objects : List Named) (name : ℕ)
+    → object_held (exchanged_in outputs new objects) name ≡ option_map (exchanged outputs new name) (object_held objects name)
+object_held-exchanged outputs new objects name =
+    object_held-map (λ (o : Named). record o { object = exchanged outputs new o.name o.object }) (exchanged outputs new name) objects name
+    (λ o. refl) (λ o same. ap (λ n. exchanged outputs new n o.object) same)
 
 pub handed_are : (outputs : List VirtualOutput) (new : List ObjectValue) (objects : List Named) → All IsObject new
     → All (λ o. IsObject o.object) objects → All IsObject (handed_out outputs new objects)
@@ -204,9 +221,34 @@ run_ends objects begun left ended outputs new back names are virtual count fresh
 
 -- ---- objects without nodes, as they come and go
 
--- cleared images have none
-pub plain_cleared : (outputs : List VirtualOutput) → ArePlain (cleared outputs)
-plain_cleared outputs = search (rules, All-map)
+-- images that stand in have none
+pub plain_stand_ins : (outputs : List VirtualOutput) (images : List ObjectValue) → AreStandIns outputs images → ArePlain images
+plain_stand_ins [] [] are = All-nil (λ y. nodes_in y ≡ [])
+plain_stand_ins (o ∷ outputs) [] are = absurd (cc)
+plain_stand_ins [] (x ∷ images) are = absurd (cc)
+plain_stand_ins (o ∷ outputs) (x ∷ images) are =
+    All-cons (λ y. nodes_in y ≡ []) x images (of_image x (image_over o.desc empty []) (ap (λ l. get_or l 0 x) are))
+    (plain_stand_ins outputs images (ap (drop 1) are))
+  where
+    of_image : (y : ObjectValue) (image : ImageValue) → skeleton y ≡ ImageObject image → nodes_in y ≡ []
+    of_image (GraphObject graph) image e = absurd (cc)
+    of_image other image e = refl
+
+-- one more of them
+pub stand_ins_more : (outputs : List VirtualOutput) (k : ℕ) (o : VirtualOutput) (images : List ObjectValue) (image : ImageValue)
+    → k < length outputs → o ≡ get_or outputs k o → AreStandIns (take k outputs) images → description_of image ≡ o.desc
+    → AreStandIns (take (k + 1) outputs) (images ++ ImageObject image ∷ [])
+stand_ins_more outputs k o images image within read are same =
+    let of_output : VirtualOutput → ObjectValue = λ p. ImageObject (image_over p.desc empty []) in
+    map-append skeleton images (ImageObject image ∷ [])
+    ∙ ap (λ l. l ++ skeleton (ImageObject image) ∷ []) are
+    ∙ ap (λ d. map of_output (take k outputs) ++ ImageObject (image_over d empty []) ∷ []) same
+    ∙ sym (map-append of_output (take k outputs) (o ∷ []))
+    ∙ ap (map of_output) (sym (take_more outputs k o within ∙ ap (λ p. take k outputs ++ p ∷ []) (sym read)))
+
+-- there is one for each output
+pub stand_ins_count : (outputs : List VirtualOutput) (images : List ObjectValue) → AreStandIns outputs images → length images ≡ length outputs
+stand_ins_count outputs images are = sym (length-map images skeleton) ∙ ap length are ∙ length-map outputs _
 
 -- nor have virtual images
 virtual_plain : (found : Option ObjectValue) → option_map object_kind found ≡ Some kind.VirtualImage → option_map nodes_in found ≡ Some []
@@ -246,9 +288,7 @@ exchanged_plain (o ∷ outputs) (x ∷ new) name object come plain =
 plain_exchanged : (objects : List Named) (outputs : List VirtualOutput) (new : List ObjectValue) (name : ℕ) → ArePlain new
     → HoldsPlain objects name → HoldsPlain (exchanged_in outputs new objects) name
 plain_exchanged objects outputs new name come plain =
-    ap (option_map nodes_in)
-    (object_held-map (λ (o : Named). record o { object = exchanged outputs new o.name o.object }) (exchanged outputs new name) objects name
-    (λ o. refl) (λ o same. ap (λ n. exchanged outputs new n o.object) same))
+    ap (option_map nodes_in) (object_held-exchanged outputs new objects name)
     ∙ of_found (object_held objects name) plain
   where
     of_found : (found : Option ObjectValue) → option_map nodes_in found ≡ Some []
@@ -269,3 +309,76 @@ exchanged_again objects begun left outputs new virtual come begins lasts =
           ∙ ap (λ l. option_map nodes_in (object_held l name)) begins
           ∙ plain_exchanged objects outputs new name come (once.plain k d below);
     }
+
+-- ---- images that come back
+
+-- under each output's name an object of its image's skeleton is held
+abbrev StandThere : List Named → List VirtualOutput → List ObjectValue → Type 0
+StandThere objects (o ∷ outputs) (x ∷ images) = (option_map skeleton (object_held objects o.cell.name) ≡ Some (skeleton x)) × StandThere objects outputs images
+StandThere objects outputs images = Unit {0}
+
+-- a name is none of those of outputs
+none_of : (outputs : List VirtualOutput) (name : ℕ) → All (λ o. name ≢ o.cell.name) outputs → is_output outputs name ≡ false
+none_of [] name apart = refl
+none_of (o ∷ outputs) name apart =
+    let Apart : VirtualOutput → Type 0 = λ p. name ≢ p.cell.name in
+    ap (λ b. b || is_output outputs name) (ne_eqb name o.cell.name (All-head Apart o outputs apart))
+    ∙ none_of outputs name (All-tail Apart o outputs apart)
+
+-- each image stands there, once all have come
+stand_there : (objects : List Named) (outputs : List VirtualOutput) (images : List ObjectValue) → AllPairs (λ a b. a.cell.name ≢ b.cell.name) outputs
+    → All (λ o. (x : ObjectValue) × (option_map skeleton (object_held objects o.cell.name) ≡ Some (skeleton (exchanged outputs images o.cell.name x)))) outputs
+    → StandThere objects outputs images
+stand_there objects [] images apart held = tt
+stand_there objects (o ∷ outputs) [] apart held = tt
+stand_there objects (o ∷ outputs) (x ∷ images) apart held =
+    let name = o.cell.name in
+    let Held : VirtualOutput → Type 0 =
+    λ p. (y : ObjectValue) × (option_map skeleton (object_held objects p.cell.name) ≡ Some (skeleton (exchanged (o ∷ outputs) (x ∷ images) p.cell.name y))) in
+    let first : Held o = All-head Held o outputs held in (
+      first.1
+          ∙ ap (λ b. Some (skeleton (exchanged outputs images name (cond b x first.0)))) (eq-eqb name name refl)
+          ∙ ap (λ y. Some (skeleton y))
+          (exchanged_beside outputs images name x (none_of outputs name (λ k d below. apart zero (suc k) d (omega arith) (omega arith)))),
+      stand_there objects outputs images (λ i j d less below. apart (suc i) (suc j) d (omega arith) (omega arith))
+          (λ k d below. let h : Held (get_or outputs k d) = All-tail Held o outputs held k d below in (cond ((get_or outputs k d).cell.name == name) x h.0, h.1)),
+    )
+
+-- so what is handed out has the skeletons of the images
+handed_skeletons : (objects : List Named) (outputs : List VirtualOutput) (images new : List ObjectValue) → length images ≡ length outputs
+    → length new ≡ length outputs → StandThere objects outputs images → map skeleton (handed_out outputs new objects) ≡ map skeleton images
+handed_skeletons objects [] [] [] count as_many there = refl
+handed_skeletons objects (o ∷ outputs) (x ∷ images) (y ∷ new) count as_many there =
+    ap (λ z. z ∷ map skeleton (handed_out outputs new objects)) (found (object_held objects o.cell.name) there.0)
+    ∙ ap (λ l. skeleton x ∷ l) (handed_skeletons objects outputs images new (omega (arith, count)) (omega (arith, as_many)) there.1)
+  where
+    found : (held : Option ObjectValue) → option_map skeleton held ≡ Some (skeleton x) → skeleton (unwrap_or held y) ≡ skeleton x
+    found None e = absurd (cc)
+    found (Some z) e = cc
+handed_skeletons objects outputs images new count as_many there = absurd (omega (arith, count, as_many))
+
+handed_count : (outputs : List VirtualOutput) (new : List ObjectValue) (objects : List Named) → length (handed_out outputs new objects) ≡ length new
+handed_count [] new objects = refl
+handed_count (o ∷ outputs) [] objects = refl
+handed_count (o ∷ outputs) (x ∷ new) objects = omega (arith, handed_count outputs new objects)
+
+-- images that stood in come back with their skeletons
+pub skeletons_back : (objects begun left : List Named) (outputs : List VirtualOutput) (images out back : List ObjectValue) → AreVirtual objects outputs
+    → length images ≡ length outputs → begun ≡ exchanged_in outputs images objects → Lasts begun left → out ≡ handed_out outputs images objects
+    → back ≡ handed_out outputs out left → map skeleton back ≡ map skeleton images
+skeletons_back objects begun left outputs images out back virtual count begins lasts gone come =
+    ap (map skeleton) come
+    ∙ handed_skeletons left outputs images out count (ap length gone ∙ handed_count outputs images objects ∙ count)
+    (stand_there left outputs images virtual.apart
+    (λ k d below.
+    let name = (get_or outputs k d).cell.name in
+    there name (object_held objects name) (virtual.held k d below)
+    (skeletons-last (object_held left name) (object_held begun name) (held-lasts begun left name lasts.lasting)
+    ∙ ap (λ (l : List Named). option_map skeleton (object_held l name)) begins
+    ∙ ap (option_map skeleton) (object_held-exchanged outputs images objects name))))
+  where
+    there : (name : ℕ) (found : Option ObjectValue) → option_map object_kind found ≡ Some kind.VirtualImage
+        → option_map skeleton (object_held left name) ≡ option_map skeleton (option_map (exchanged outputs images name) found)
+        → (x : ObjectValue) × (option_map skeleton (object_held left name) ≡ Some (skeleton (exchanged outputs images name x)))
+    there name None is same = absurd (cc)
+    there name (Some x) is same = (x, same)

@@ -1,12 +1,11 @@
 -- A graph that is found able to run: how it runs.
-use Rattle.std.proofs.Common.{◌≡◌, ◌≢◌, ℕ, ◌<◌, Bool, true, false, cond, List, [], ◌∷◌, map, get_or, zero, suc, Option, Some, None, inl, inr, refl, sym, ap, subst, ◌∙◌, arith}
-use Rattle.std.specs.Prelude.{All, ◌==◌, ◌||◌, if◌then◌else◌, unwrap_or}
+use Rattle.std.proofs.Common.{◌≡◌, ◌≢◌, ℕ, ◌<◌, Bool, true, false, cond, List, [], ◌∷◌, map, drop, get_or, zero, suc, Option, Some, None, inl, inr, refl, sym, ap, subst, ◌∙◌, arith}
+use Rattle.std.specs.Prelude.{All, ◌==◌, ◌||◌, unwrap_or}
 use Rattle.std.specs.List.{AllPairs, list_any, filter, flat_map}
 use Rattle.std.specs.List.Sorted.{IsStrictlyIncreasing}
 use Rattle.std.specs.Option.{option_map, option_and_then}
 use Rattle.std.proofs.lemmas.Bool.{false_from_ne_true, cases_Bool, cond_both, eqb-true, eq-eqb, or_parts, or_left, or_right, or_from}
 use Rattle.std.proofs.lemmas.List.{length-map, get_or-map}
-use Rattle.std.proofs.lemmas.List.Elements.{All-head, All-tail}
 use Rattle.std.proofs.lemmas.List.Kept.{AllPairs-from_increasing}
 use Rattle.std.proofs.Math.ListN.{get_or-map as get_or-map_default}
 use Rattle.vx_base.specs.declared.kind.Kind.{Kind}
@@ -14,13 +13,17 @@ use Rattle.vx_base.specs.declared.kind.Kind.TheVariants as kind
 use Rattle.vx_base.specs.declared.node.Node.{Node}
 use Rattle.vx_base.specs.declared.virtual_image.VirtualImage.{VirtualImage}
 use Rattle.vx_base.specs.Cell.{Cell, same_cell}
-use Rattle.vx_base.specs.Image.{new_image}
+use Rattle.vx_base.specs.Description.{Description}
+use Rattle.vx_base.specs.Image.{ImageValue, new_image, image_over, description_of}
 use Rattle.vx_base.specs.Outline.{Outline}
 use Rattle.vx_base.specs.Node.{IsNode, inputs, outputs, operands}
 use Rattle.vx_base.specs.Object.{ObjectValue, ImageObject, VirtualObject, object_kind}
 use Rattle.vx_base.specs.Outputs.{written_by}
+use Rattle.vx_base.specs.Rectangle.{empty}
 use Rattle.object_table.specs.Delay.{in_slot}
 use Rattle.object_table.specs.Named.{Named, object_held, held, with_written}
+use Rattle.object_table.specs.Object.{image_value}
+use Rattle.object_table.specs.Skeleton.{skeleton}
 use Rattle.graph_verify.specs.declared.known.VirtualOutput.{VirtualOutput}
 use Rattle.graph_verify.specs.declared.operand.Operand.{Operand}
 use Rattle.graph_verify.specs.declared.operand.Operand.TheVariants.{Image, Delay, Virtual}
@@ -38,12 +41,16 @@ use Rattle.graph_verify.proofs.VerdictLemmas.{CanRun, can_run}
 use Rattle.graph_run.specs.Graph.{begun, begun_as, forgotten, one_by_one, run_of_graph}
 use Rattle.graph_run.specs.Operands.{IsReady, names_cell, StandsFor, CellsStand, operand_held}
 use Rattle.graph_run.proofs.LinkLaws.{All-from_In, In-from_All}
-use Rattle.graph_run.proofs.OperandLaws.{kind-operand, no_fault, outline_of_virtual, known_kept, virtual_written, stands_after}
-use Rattle.graph_run.proofs.TurnLaws.{each_alone, at_its_turn, run_in_order}
-use Rattle.graph_run.specs.Turns.{HoldsKind, CanRunNow, CanRunInTurn, AreVirtual, exchanged, cleared, begun_with}
-use Rattle.graph_run.proofs.BegunLaws.{begun_stays, virtual_as_operand}
-use Rattle.object_table.proofs.HeldLemmas.{names_of, held_by_name}
-use Rattle.graph_run.proofs.StandInLemmas.{is_output, exchanged_beside}
+use Rattle.graph_run.proofs.OperandLaws.{kind-operand, no_fault, outline_of_virtual, known_kept, virtual_written, begun_stands, no_delay, stands_after}
+use Rattle.graph_run.proofs.FoundLemmas.{of_operands}
+use Rattle.graph_run.proofs.NameLaws.{Rising, rising}
+use Rattle.graph_run.proofs.TurnLaws.{each_alone}
+use Rattle.graph_run.proofs.UnwrittenLemmas.{whole, AreOfOne, AreAlike, HaveAlike, AllAlike, stand_alike, runs_alike}
+use Rattle.graph_run.specs.Solution.{ReadImages, kind_in}
+use Rattle.graph_run.specs.Turns.{HoldsKind, CanRunNow, CanRunInTurn, AreVirtual, AreStandIns, exchanged, exchanged_in}
+use Rattle.graph_run.proofs.BegunLaws.{begun_under, object_held-begun, labels-begun, begun_if, begun_stays, virtual_as_operand}
+use Rattle.object_table.proofs.HeldLemmas.{names_of}
+use Rattle.graph_run.proofs.StandInLemmas.{is_output, exchanged_beside, labels-exchanged, object_held-exchanged}
 
 -- ---- cells that stand in a list once
 
@@ -98,28 +105,31 @@ virtual_found : (found : Option Operand) (declared : Outline) → unwrap_or foun
 virtual_found None declared e = absurd (cc)
 virtual_found (Some operand) declared e = ap Some e
 
--- an image that stands in for each output of a name
-exchanged_same : (outputs : List VirtualOutput) (name : ℕ) (object new : ObjectValue)
-    → ((o : VirtualOutput) → In o outputs → name ≡ o.cell.name → ImageObject (new_image o.desc.width o.desc.height o.desc.format) ≡ new)
-    → is_output outputs name ≡ true → exchanged outputs (cleared outputs) name object ≡ new
-exchanged_same [] name object new same there = absurd (cc)
-exchanged_same (o ∷ outputs) name object new same there =
-    let image : ObjectValue = ImageObject (new_image o.desc.width o.desc.height o.desc.format) in
-    elim (cases_Bool (is_output outputs name)) [
-      | inl later ↦ exchanged_same outputs name (cond (name == o.cell.name) image object) new (λ p i. same p (inr i)) later
-      | inr last ↦
-          (let here : (name == o.cell.name) ≡ true = only (name == o.cell.name) (is_output outputs name) there last in
-          exchanged_beside outputs (cleared outputs) name (cond (name == o.cell.name) image object) last
-          ∙ ap (λ b. cond b image object) here
-          ∙ same o (inl refl) (eqb-true name o.cell.name here))
-    ]
+-- an image that stands in for an output of a name is one of the description that this was found to have
+stand_in : (d : Description) (outputs : List VirtualOutput) (images : List ObjectValue) (name : ℕ) (object : ObjectValue)
+    → ((o : VirtualOutput) → In o outputs → name ≡ o.cell.name → o.desc ≡ d) → AreStandIns outputs images → is_output outputs name ≡ true
+    → skeleton (exchanged outputs images name object) ≡ ImageObject (image_over d empty [])
+stand_in d [] images name object known are there = absurd (cc)
+stand_in d (o ∷ outputs) [] name object known are there = absurd (cc)
+stand_in d (o ∷ outputs) (x ∷ images) name object known are there = elim (cases_Bool (is_output outputs name)) [
+  | inl later ↦ stand_in d outputs images name (cond (name == o.cell.name) x object) (λ p i. known p (inr i)) (ap (drop 1) are) later
+  | inr last ↦
+      (let here : (name == o.cell.name) ≡ true = only (name == o.cell.name) (is_output outputs name) there last in
+      let first : skeleton x ≡ ImageObject (image_over o.desc empty []) = ap (λ l. get_or l 0 object) are in
+      ap skeleton (exchanged_beside outputs images name (cond (name == o.cell.name) x object) last ∙ ap (λ b. cond b x object) here)
+      ∙ first
+      ∙ ap (λ e. ImageObject (image_over e empty [])) (known o (inl refl) (eqb-true name o.cell.name here)))
+]
   where
     only : (b c : Bool) → (b || c) ≡ true → c ≡ false → b ≡ true
     only true c there last = refl
     only false c there last = absurd (cc)
 
-abbrev whole : ℕ → Cell
-whole name = record { name = name; slot = None }
+-- an image, by its skeleton
+image_of_skeleton : (x : ObjectValue) (d : Description) → skeleton x ≡ ImageObject (image_over d empty [])
+    → (image : ImageValue) × (x ≡ ImageObject image) × (description_of image ≡ d)
+image_of_skeleton (ImageObject image) d e = (image, refl, ap (λ y. description_of (image_value y)) e)
+image_of_skeleton other d e = absurd (cc)
 
 module _ (objects : List Named) (nodes : List Node) (v : Verified) (work : ℕ) (how : IsVerified (operand_held objects) nodes v)
     (runs : verdict work (operand_held objects) nodes ≡ None) where
@@ -199,45 +209,60 @@ module _ (objects : List Named) (nodes : List Node) (v : Verified) (work : ℕ) 
   own_operand : (o : Named) → object_held objects o.name ≡ Some o.object → is (whole o.name) ≡ operand_of o.object
   own_operand o there = ap (λ found. unwrap_or (option_map operand_of (option_and_then (in_slot None) found)) Delay) there
 
-  abbrev with_image : Named → ObjectValue → Named
-  with_image o object = record o { object = object }
-
   -- what isn't an output begins as it was
-  begun_kept : (o : Named) → object_held objects o.name ≡ Some o.object → is_output outs o.name ≡ false → o ≡ begun known nodes o
-  begun_kept o there none = grind (arith, cases_Bool, in_outputs, own_operand, virtual_as_operand, any-from_In, eq-eqb, begun_stays)
+  begun_kept : (name : ℕ) (x : ObjectValue) → object_held objects name ≡ Some x → is_output outs name ≡ false → x ≡ begun_under known nodes name x
+  begun_kept name x there none = grind (arith, cases_Bool, in_outputs, own_operand, virtual_as_operand, any-from_In, eq-eqb, begun_stays)
 
-  -- an output begins as a cleared image
-  begun_cleared : (o : Named) → object_held objects o.name ≡ Some o.object → is_output outs o.name ≡ true
-      → with_image o (exchanged outs (cleared outs) o.name o.object) ≡ begun known nodes o
-  begun_cleared o there some =
-      let cell = whole o.name in
-      let output = In-from_any (λ (p : VirtualOutput). o.name == p.cell.name) outs some in
-      let named_so : o.name ≡ output.0.cell.name = eqb-true o.name output.0.cell.name output.2 in
-      let at : output.0.cell ≡ cell = output_whole output.0 output.1 ∙ ap whole (sym named_so) in
-      let image = (output_object output.0 output.1).1 in
-      let virtual : o.object ≡ VirtualObject image.0 = let e = sym there ∙ ap (object_held objects) named_so ∙ image.1 in cc in
-      let written : is_written nodes cell ≡ true = ap (is_written nodes) (sym at) ∙ output_written output.0 output.1 in
-      ap (with_image o)
-      (exchanged_same outs o.name o.object (begun_as o.object (known cell))
-      (λ p i same.
-      let there : p.cell ≡ cell = output_whole p i ∙ ap whole (sym same) in
-      sym
-      (ap (λ x. begun_as x (known cell)) virtual ∙ ap (begun_as (VirtualObject image.0)) (ap known (sym there) ∙ output_known p i))) some)
-      ∙ sym (ap (λ b. if b then with_image o (begun_as o.object (known cell)) else o) written)
+  module _ (images : List ObjectValue) (are : AreStandIns outs images) where
+    -- an output begins as an image of the description that stands in for it
+    stands_in : (name : ℕ) (x : ObjectValue) → object_held objects name ≡ Some x → is_output outs name ≡ true
+        → (is_written nodes (whole name) ≡ true) × AreOfOne (exchanged outs images name x) (begun_under known nodes name x)
+    stands_in name x there some =
+        let output = In-from_any (λ (p : VirtualOutput). name == p.cell.name) outs some in
+        let d = output.0.desc in
+        let at : (p : VirtualOutput) → In p outs → name ≡ p.cell.name → p.cell ≡ whole name = λ p i same. output_whole p i ∙ ap whole (sym same) in
+        let named_so : name ≡ output.0.cell.name = eqb-true name output.0.cell.name output.2 in
+        let here = at output.0 output.1 named_so in
+        let found : known (whole name) ≡ Image d = ap known (sym here) ∙ output_known output.0 output.1 in
+        let written : is_written nodes (whole name) ≡ true = ap (is_written nodes) (sym here) ∙ output_written output.0 output.1 in
+        let virtual = (output_object output.0 output.1).1 in
+        let was : x ≡ VirtualObject virtual.0 = let e = sym there ∙ ap (object_held objects) named_so ∙ virtual.1 in cc in
+        let one_of : (p : VirtualOutput) → In p outs → name ≡ p.cell.name → p.desc ≡ d =
+        λ p i same. let e : Image p.desc ≡ Image d = sym (output_known p i) ∙ ap known (at p i same) ∙ found in cc in
+        let image = image_of_skeleton (exchanged outs images name x) d (stand_in d outs images name x one_of are some) in (
+          written,
+          record {
+            one = image.0;
+            other = new_image d.width d.height d.format;
+            is_one = image.1;
+            is_other = ap (λ b. begun_if b x (known (whole name))) written ∙ ap (λ y. begun_as y (known (whole name))) was
+                ∙ ap (begun_as (VirtualObject virtual.0)) found;
+            same = image.2;
+          },
+        )
 
-  begun_one : (o : Named) → object_held objects o.name ≡ Some o.object
-      → with_image o (exchanged outs (cleared outs) o.name o.object) ≡ begun known nodes o
-  begun_one o there = grind (arith, cases_Bool, is_output, begun_cleared, exchanged_beside, begun_kept)
+    alike : (name : ℕ) (x : ObjectValue) → object_held objects name ≡ Some x
+        → AreAlike nodes name (exchanged outs images name x) (begun_under known nodes name x)
+    alike name x there = elim (cases_Bool (is_output outs name)) [
+      | inl some ↦ inr (stands_in name x there some)
+      | inr none ↦ inl (exchanged_beside outs images name x none ∙ begun_kept name x there none)
+    ]
 
-  begun_each : (l : List Named) → All (λ o. object_held objects o.name ≡ Some o.object) l → begun_with outs l ≡ map (begun known nodes) l
-  begun_each [] there = refl
-  begun_each (o ∷ l) there =
-      let Held : Named → Type 0 = λ o. object_held objects o.name ≡ Some o.object in
-      ap (λ p. p ∷ begun_with outs l) (begun_one o (All-head Held o l there))
-      ∙ ap (λ k. begun known nodes o ∷ k) (begun_each l (All-tail Held o l there))
-
-  pub begun_is : IsStrictlyIncreasing (names_of objects) → begun_with outs objects ≡ map (begun known nodes) objects
-  begun_is names = begun_each objects (held_by_name objects names)
+    -- the graph begins with objects that are alike to those that a run is said to begin with
+    begun_alike : AllAlike nodes (exchanged_in outs images objects) (map (begun known nodes) objects)
+    begun_alike =
+        record {
+          labels = labels-exchanged outs images objects ∙ sym (labels-begun known nodes objects);
+          objects = λ name.
+              subst (λ o. HaveAlike nodes name o (object_held (map (begun known nodes) objects) name)) (sym (object_held-exchanged outs images objects name))
+              (subst (HaveAlike nodes name (option_map (exchanged outs images name) (object_held objects name)))
+              (sym (object_held-begun known nodes objects name)) (each name (object_held objects name) refl));
+        }
+      where
+        each : (name : ℕ) (found : Option ObjectValue) → object_held objects name ≡ found
+            → HaveAlike nodes name (option_map (exchanged outs images name) found) (option_map (begun_under known nodes name) found)
+        each name None there = tt
+        each name (Some x) there = alike name x there
 
   -- ---- each node can run at its turn
 
@@ -295,19 +320,32 @@ module _ (objects : List Named) (nodes : List Node) (v : Verified) (work : ℕ) 
               (stands_after known nodes now stand_now n i (no_fault n known (each_alone work is nodes runs n i))),
         )
 
-    pub steps_run : ((n : Node) → In n nodes → IsNode n)
-        → ((n : Node) → In n nodes → All (λ operand. StandsFor (is operand.0) operand.1) (operands n))
-        → IsStrictlyIncreasing (names_of objects)
-        → CanRunInTurn steps (begun_with outs objects)
-    steps_run are_nodes stands names =
-        subst (λ l. CanRunInTurn steps l) (sym (begun_is names))
-        (in_turn are_nodes stands steps (map (begun known nodes) objects) (AllIn-permutation_back nodes steps
-        how.order.same_nodes) (at_its_turn work is nodes runs objects stand [] (λ m none. absurd none)))
+    module _ (are_nodes : (n : Node) → In n nodes → IsNode n)
+        (stands : (n : Node) → In n nodes → All (λ operand. StandsFor (is operand.0) operand.1) (operands n))
+        (images : List ObjectValue) (are : AreStandIns outs images) where
+      abbrev begin : List Named
+      begin = map (begun known nodes) objects
 
-    -- the run is the nodes in turn
-    pub run_is : AllPairs (λ a b. a.name < b.name) objects → IsStrictlyIncreasing (names_of objects)
-        → forgotten objects (one_by_one steps (begun_with outs objects)) ≡ run_of_graph known nodes objects
-    run_is pairs names = grind (arith, begun_is names, run_in_order work is nodes runs objects stand pairs steps how.order)
+      stand_begun : CellsStand known nodes begin
+      stand_begun = begun_stands work is nodes can objects stand
+
+      pub steps_run : CanRunInTurn steps (exchanged_in outs images objects)
+      steps_run =
+          in_turn are_nodes stands steps (exchanged_in outs images objects) (AllIn-permutation_back nodes steps how.order.same_nodes)
+          (stand_alike nodes (exchanged_in outs images objects) begin (begun_alike images are) known stand_begun)
+
+      read_images : ReadImages nodes begin
+      read_images =
+          All-from_In (λ n. kind_in begin n.in1 ≡ Some kind.Image) nodes
+          (λ n i. (of_operands (HoldsKind begin) n (can_run_now n begin i (are_nodes n i) (stands n i) stand_begun).kinds).in1)
+
+      -- the run is the nodes in turn
+      pub run_is : AllPairs (λ a b. a.name < b.name) objects
+          → forgotten objects (one_by_one steps (exchanged_in outs images objects)) ≡ run_of_graph known nodes objects
+      run_is pairs =
+          ap (forgotten objects)
+          (runs_alike nodes (exchanged_in outs images objects) begin (begun_alike images are) steps how.order can.one_writer can.no_cycle
+          (subst Rising (sym (labels-begun known nodes objects)) (rising objects pairs)) (no_delay known nodes begin stand_begun) read_images)
 
 -- ---- a graph that is ready to run on what a table holds
 
@@ -321,12 +359,18 @@ module _ (objects : List Named) (names : IsStrictlyIncreasing (names_of objects)
   pub ready_outputs : AreVirtual objects v.virtual_outputs.items
   ready_outputs = are_virtual objects nodes v h.runs.0 h.verified h.runs.1
 
-  pub ready_steps : CanRunInTurn v.steps.items (begun_with v.virtual_outputs.items objects)
-  ready_steps =
-      steps_run objects nodes v h.runs.0 h.verified h.runs.1 h.cells (In-from_All IsNode nodes h.are_nodes)
-      (In-from_All (λ n. All (λ operand. StandsFor (operand_held objects operand.0) operand.1) (operands n)) nodes h.kinds)
-      names
+  module _ (images : List ObjectValue) (are : AreStandIns v.virtual_outputs.items images) where
+    abbrev began : List Named
+    began = exchanged_in v.virtual_outputs.items images objects
 
-  pub ready_run : forgotten objects (one_by_one v.steps.items (begun_with v.virtual_outputs.items objects))
-      ≡ run_of_graph (resolved (operand_held objects) nodes) nodes objects
-  ready_run = run_is objects nodes v h.runs.0 h.verified h.runs.1 h.cells (pairs_of objects names) names
+    are_nodes : (n : Node) → In n nodes → IsNode n
+    are_nodes = In-from_All IsNode nodes h.are_nodes
+
+    stands : (n : Node) → In n nodes → All (λ operand. StandsFor (operand_held objects operand.0) operand.1) (operands n)
+    stands = In-from_All (λ n. All (λ operand. StandsFor (operand_held objects operand.0) operand.1) (operands n)) nodes h.kinds
+
+    pub ready_steps : CanRunInTurn v.steps.items began
+    ready_steps = steps_run objects nodes v h.runs.0 h.verified h.runs.1 h.cells are_nodes stands images are
+
+    pub ready_run : forgotten objects (one_by_one v.steps.items began) ≡ run_of_graph (resolved (operand_held objects) nodes) nodes objects
+    ready_run = run_is objects nodes v h.runs.0 h.verified h.runs.1 h.cells are_nodes stands images are (pairs_of objects names)

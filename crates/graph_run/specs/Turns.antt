@@ -6,11 +6,13 @@ use Rattle.vx_base.specs.declared.kind.Kind.{Kind}
 use Rattle.vx_base.specs.declared.kind.Kind.TheVariants as kind
 use Rattle.vx_base.specs.declared.node.Node.{Node}
 use Rattle.vx_base.specs.Cell.{Cell}
-use Rattle.vx_base.specs.Image.{new_image}
+use Rattle.vx_base.specs.Image.{image_over}
 use Rattle.vx_base.specs.Node.{IsNode, operands}
 use Rattle.vx_base.specs.Object.{ObjectValue, ImageObject, object_kind}
 use Rattle.vx_base.specs.Outputs.{written_by}
+use Rattle.vx_base.specs.Rectangle.{empty}
 use Rattle.object_table.specs.Named.{Named, object_held, held, with_written}
+use Rattle.object_table.specs.Skeleton.{skeleton}
 use Rattle.object_table.specs.Uses.{nodes_in}
 use Rattle.graph_verify.specs.declared.known.VirtualOutput.{VirtualOutput}
 use Rattle.graph_verify.specs.Operand.{operands_of}
@@ -60,10 +62,6 @@ abbrev pub handed_out : List VirtualOutput → List ObjectValue → List Named �
 handed_out (o ∷ outputs) (new ∷ others) objects = unwrap_or (object_held objects o.cell.name) new ∷ handed_out outputs others objects
 handed_out outputs new objects = new
 
--- a cleared image for each virtual image that nodes write
-abbrev pub cleared : List VirtualOutput → List ObjectValue
-cleared outputs = map (λ o. ImageObject (new_image o.desc.width o.desc.height o.desc.format)) outputs
-
--- the objects, where virtual images are cleared images
-abbrev pub begun_with : List VirtualOutput → List Named → List Named
-begun_with outputs objects = exchanged_in outputs (cleared outputs) objects
+-- images that can stand in for virtual images: of the descriptions that these were found to have, with any samples
+abbrev pub AreStandIns : List VirtualOutput → List ObjectValue → Type 0
+AreStandIns outputs images = map skeleton images ≡ map (λ o. ImageObject (image_over o.desc empty [])) outputs

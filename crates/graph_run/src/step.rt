@@ -1,15 +1,18 @@
 //! Nodes that run on what their cells hold in a table.
-ghost use Rattle.std.specs.Prelude.{◌≡◌, ◌≢◌, [], length, map, pos, is_some, IsTrue, All, Some};
-ghost use Rattle.std.specs.Prelude.{IfSome};
+ghost use Rattle.std.specs.Prelude.{◌≡◌, ◌≢◌, [], length, map, pos, is_some, IsTrue, All};
+ghost use Rattle.std.specs.Prelude.{IfSome, None, Some};
 ghost use Rattle.std.specs.List.Sorted.{IsStrictlyIncreasing};
 ghost use Rattle.std.specs.Option.{option_map};
 ghost use Rattle.vx_base.specs.declared.format.Format.TheVariants.{U8, S16, U32};
+ghost use Rattle.vx_base.specs.declared.function.Function.TheVariants.{Sobel};
 ghost use Rattle.vx_base.specs.declared.kind.Kind.TheVariants as kind;
+ghost use Rattle.vx_base.specs.declared.output.Output.TheVariants as outputs;
 ghost use Rattle.vx_base.specs.Description.{sample_count};
 ghost use Rattle.vx_base.specs.Function.{parameters};
 ghost use Rattle.vx_base.specs.Image.{IsImage, image_over};
 ghost use Rattle.vx_base.specs.Object.{ExtremesObject, IsObject, object_kind};
 ghost use Rattle.vx_base.specs.Outputs.{node_image, written_by};
+ghost use Rattle.vx_base.specs.Picture.{values, samples_format};
 ghost use Rattle.vx_base.specs.Rectangle.{empty};
 ghost use Rattle.vx_base.specs.Statistics.{extremes};
 ghost use Rattle.image_core.specs.Second.{second_object};
@@ -21,7 +24,8 @@ ghost use Rattle.object_table.specs.Named.{held, with_object, with_written};
 ghost use Rattle.object_table.specs.Table.{object_under, IsUnder, cell_object, image_held};
 ghost use Rattle.object_table.specs.Table.{HoldsImage};
 ghost use Rattle.graph_run.specs.Lasting.{Lasts};
-ghost use Rattle.graph_run.specs.Steps.{Holds, CanRunTo, RunsTo, IsRead, counted_in, with_output};
+ghost use Rattle.graph_run.specs.Steps.{AreApart, Holds, CanRunTo, RunsTo, IsRead};
+ghost use Rattle.graph_run.specs.Steps.{counted_in, with_output};
 ghost use Rattle.graph_run.specs.Turns.{CanRunNow};
 
 use crate::kernel::run_whole;
@@ -29,6 +33,7 @@ use image_core::{Image, ImageMut, Second};
 use object_table::{Content, Object, Table};
 use stat_kernels::{histogram, min_max};
 use vx_base::{Bins, Desc, GREATEST_BINS, Kind, Node, ObjRef, Output, Rect, Samples};
+use window_kernels::sobel3;
 
 /// Runs a node that nothing refuses on what its cells hold in a table. It takes no memory.
 pub fn run_once(table: &mut Table, node: &Node)
@@ -39,8 +44,12 @@ pub fn run_once(table: &mut Table, node: &Node)
         (written_by node.now (held table.old.objects))) }
     ensures lasts { Lasts table.old.objects table.new.objects }
 {
-    run_to(table, node, Output::First, node.out1);
-    run_to(table, node, Output::Second, node.out2);
+    if let (Some(out1), Some(out2)) = (node.out1, node.out2) {
+        write_both(table, node, out1, out2);
+    } else {
+        run_to(table, node, Output::First, node.out1);
+        run_to(table, node, Output::Second, node.out2);
+    }
 }
 
 /// Runs a node to one of its outputs, if it has that. The inputs are none of the outputs, and are
@@ -85,6 +94,37 @@ fn write_to(table: &mut Table, node: &Node, which: Output, output: ObjRef)
         }
     };
     table.put(output, samples, valid);
+}
+
+/// Writes both gradients that a node gives, each to its output: the input is read once for both.
+fn write_both(table: &mut Table, node: &Node, out1: ObjRef, out2: ObjRef)
+    requires function { node.now.function ≡ Sobel }
+    requires first { RunsTo table.old.objects node.now out1 }
+    requires second { RunsTo table.old.objects node.now out2 }
+    requires apart { AreApart out2 out1 }
+    ensures { table.new ≡ with_objects table.old
+        (with_output (with_output table.old.objects node.now outputs.First (Some out1))
+        node.now outputs.Second (Some out2)) }
+{
+    let (desc_x, samples) = table.take(out1);
+    let mut samples_x = shorts_of(samples);
+    let (desc_y, samples) = table.take(out2);
+    let mut samples_y = shorts_of(samples);
+    let image = table.image(node.in1).image();
+    let (x, y) = run_both(node, &image, desc_x, &mut samples_x, desc_y, &mut samples_y);
+    table.put(out2, Samples::S16(samples_y), y);
+    table.put(out1, Samples::S16(samples_x), x);
+}
+
+/// The samples of an S16 image.
+fn shorts_of(samples: Samples) -> Vec<i16>
+    requires { samples_format samples ≡ S16 }
+    ensures { result.items ≡ values samples }
+{
+    match samples {
+        Samples::S16(samples) => samples,
+        _ => unreachable!(),
+    }
 }
 
 /// Counts the valid samples of a U8 image in the bins of the distribution under a name.
@@ -247,4 +287,31 @@ fn run_u32(
         ≡ (node_image node.now which U32 first.now (second_object second.now)).samples }
 {
     run_on!(desc, samples, node, which, first, second)
+}
+
+/// Writes the samples of both gradients that a node gives, and gives their valid rectangles.
+fn run_both(
+    node: &Node,
+    image: &Image<'_>,
+    desc_x: Desc,
+    samples_x: &mut [i16],
+    desc_y: Desc,
+    samples_y: &mut [i16],
+) -> (Rect, Rect)
+    requires function { node.now.function ≡ Sobel }
+    requires size_x { length samples_x.old ≡ sample_count desc_x }
+    requires size_y { length samples_y.old ≡ sample_count desc_y }
+    requires can_x { CanRunTo node.now image.now None (image_over desc_x empty []) }
+    requires can_y { CanRunTo node.now image.now None (image_over desc_y empty []) }
+    ensures valid_x { result.0 ≡ (node_image node.now outputs.First S16 image.now None).valid }
+    ensures valid_y { result.1 ≡ (node_image node.now outputs.Second S16 image.now None).valid }
+    ensures samples_x { samples_x.new
+        ≡ (node_image node.now outputs.First S16 image.now None).samples }
+    ensures samples_y { samples_y.new
+        ≡ (node_image node.now outputs.Second S16 image.now None).samples }
+{
+    let mut x = ImageMut::new(desc_x, samples_x);
+    let mut y = ImageMut::new(desc_y, samples_y);
+    sobel3(image, &mut x, &mut y, node.border);
+    (x.valid(), y.valid())
 }

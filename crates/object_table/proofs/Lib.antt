@@ -2,8 +2,11 @@ mod StoredLemmas
 pub mod DelayLemmas
 pub mod SlotLemmas
 pub mod SkeletonLaws
+pub mod BlockLaws
+pub mod BlockLemmas
 pub mod HeldLemmas
 pub mod EntryLemmas
 pub mod UseLemmas
 pub mod KeptLemmas
+pub mod EntryBlockLemmas
 pub mod GraphLemmas

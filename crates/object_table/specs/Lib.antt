@@ -6,3 +6,4 @@ pub mod Context
 pub mod Holds
 pub mod Uses
 pub mod Table
+pub mod Blocks

@@ -1,6 +1,6 @@
 //! Delays: images in slots.
 ghost use Rattle.std.specs.Prelude.{◌≡◌, ◌<◌, ◌≤◌, ◌*◌, [], length, slice_get, slice_index_or};
-ghost use Rattle.std.specs.Prelude.{slice_set, sum_by, Some, None, IfOk, IfErr};
+ghost use Rattle.std.specs.Prelude.{slice_set, sum_by, Some, None, IfOk, IfErr, OnErr};
 ghost use Rattle.vx_base.specs.declared.format.Format.TheVariants.{U8};
 ghost use Rattle.vx_base.specs.Rectangle.{IsWithin};
 ghost use Rattle.vx_base.specs.Image.{ImageValue, IsImage, new_image, image_over, description_of};
@@ -8,12 +8,15 @@ ghost use Rattle.vx_base.specs.Image.{with_valid};
 ghost use Rattle.vx_base.specs.Object.{IsDelay, image_bytes};
 ghost use Rattle.vx_base.specs.Picture.{values, samples_format, pictured};
 ghost use Rattle.object_table.specs.declared.fault.TableFault.TheVariants.{InvalidValue};
+ghost use Rattle.pixel_pool.specs.Pool.{KeepsLent};
+ghost use Rattle.object_table.specs.Blocks.{delay_blocks, LendsAtLeast, LendsMore, LendsLess};
 ghost use Rattle.object_table.specs.Delay.{new_delay, aged, image_in};
 ghost use Rattle.vx_base.specs.declared.desc.TheConstants.{GREATEST_BYTES};
 ghost use Rattle.vx_base.specs.declared.slots.TheConstants.{GREATEST_SLOTS};
 
 use crate::fault::TableFault;
 use crate::stored::Stored;
+use pixel_pool::Pool;
 use std::alloc::{AllocError, Global};
 use std::marker::Model;
 use vx_base::{Desc, Picture, Rect, Samples, SlotCount};
@@ -39,14 +42,29 @@ impl Model for Delay {
 
 impl Delay {
     /// A delay of so many new images of a description.
-    pub fn new(alloc: Global, desc: Desc, slots: SlotCount) -> Result<Delay, AllocError>
+    pub fn new(
+        alloc: Global,
+        pool: &mut Pool,
+        desc: Desc,
+        slots: SlotCount,
+    ) -> Result<Delay, AllocError>
         ensures value { IfOk result (λ delay. delay ≡ new_delay desc slots) }
         ensures delay { IfOk result IsDelay }
+        ensures lends { IfOk result (λ delay. LendsMore pool.old pool.new (delay_blocks delay)) }
+        ensures err { OnErr result (KeepsLent pool.old pool.new) }
     {
         desc.has_sides();
         let count = usize::from(slots.get());
-        let images = new_images(alloc, desc, count)?;
+        let images = new_images(alloc, pool, desc, count)?;
         Ok(Delay { desc, images })
+    }
+
+    /// Gives the blocks of all images back. It takes no memory.
+    pub fn end(self, pool: &mut Pool)
+        requires { LendsAtLeast pool.old (delay_blocks self) }
+        ensures { LendsLess pool.old pool.new (delay_blocks self) }
+    {
+        end_images(self.images, pool);
     }
 
     /// The image in a slot; slot 0 is the newest. `InvalidValue`: the delay has no such slot.
@@ -130,13 +148,37 @@ impl Delay {
     }
 }
 
-/// So many new images of a description.
-fn new_images(alloc: Global, desc: Desc, count: usize) -> Result<Vec<Stored>, AllocError>
-    ensures { IfOk result (λ images. images.items ≡ new_delay desc count) }
+/// So many new images of a description. An error has given back what was taken.
+fn new_images(
+    alloc: Global,
+    pool: &mut Pool,
+    desc: Desc,
+    count: usize,
+) -> Result<Vec<Stored>, AllocError>
+    ensures value { IfOk result (λ images. images.items ≡ new_delay desc count) }
+    ensures lends { IfOk result (λ images.
+        LendsMore pool.old pool.new (delay_blocks images.items)) }
+    ensures err { OnErr result (KeepsLent pool.old pool.new) }
 {
     let mut images = Vec::with_capacity(alloc, count)?;
     while images.len() < count {
-        images.push(Stored::new(alloc, desc)?)?;
+        match Stored::new(pool, desc) {
+            Ok(image) => images.push_reserved(image),
+            Err(fault) => {
+                end_images(images, pool);
+                return Err(fault);
+            }
+        }
     }
     Ok(images)
+}
+
+/// Gives the blocks of images back.
+fn end_images(images: Vec<Stored>, pool: &mut Pool)
+    requires { LendsAtLeast pool.old (delay_blocks images.items) }
+    ensures { LendsLess pool.old pool.new (delay_blocks images.items) }
+{
+    for image in images {
+        image.end(pool);
+    }
 }

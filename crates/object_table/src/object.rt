@@ -9,6 +9,7 @@ ghost use Rattle.vx_base.specs.Graph.{IsGraph, can_add, with_node, has_node, wit
 ghost use Rattle.vx_base.specs.Object.{ImageObject, DelayObject, ExtremesObject, GraphObject};
 ghost use Rattle.vx_base.specs.Object.{IsObject, object_bytes, object_kind};
 ghost use Rattle.vx_base.specs.Picture.{values, samples_format, pictured};
+ghost use Rattle.object_table.specs.Blocks.{object_blocks, LendsAtLeast, LendsLess};
 ghost use Rattle.object_table.specs.Delay.{in_slot, object_in, slot_kind, with_slot, HasImage};
 ghost use Rattle.object_table.specs.Object.{value_of, image_value, distribution_value, graph_value};
 ghost use Rattle.object_table.specs.Object.{aged_object, with_samples, with_counts};
@@ -21,6 +22,7 @@ use crate::delay::Delay;
 use crate::distribution::Distribution;
 use crate::stored::Stored;
 use graph_verify::{Graph, GraphFault};
+use pixel_pool::Pool;
 use std::marker::Model;
 use vx_base::{
     Convolution, Desc, Extremes, Kind, Lut, NodeSpec, Picture, Rect, Samples, ThresholdRule,
@@ -61,6 +63,18 @@ impl Object {
         ensures { result ≡ value_of content }
     {
         Object { content }
+    }
+
+    /// Gives the blocks of the object's images back, and drops the rest. It takes no memory.
+    pub fn end(self, pool: &mut Pool)
+        requires { LendsAtLeast pool.old (object_blocks self) }
+        ensures { LendsLess pool.old pool.new (object_blocks self) }
+    {
+        match self.content {
+            Content::Image(image) => image.end(pool),
+            Content::Delay(delay) => delay.end(pool),
+            _ => {}
+        }
     }
 
     pub fn content(&self) -> &Content

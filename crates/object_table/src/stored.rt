@@ -1,15 +1,18 @@
 //! Images that a context holds.
-ghost use Rattle.std.specs.Prelude.{◌≡◌, [], IfOk};
-ghost use Rattle.vx_base.specs.Rectangle.{IsWithin};
+ghost use Rattle.std.specs.Prelude.{◌≡◌, [], IfOk, OnErr};
+ghost use Rattle.vx_base.specs.Rectangle.{IsWithin, whole};
 ghost use Rattle.vx_base.specs.Image.{IsImage, new_image, image_over, description_of, with_valid};
 ghost use Rattle.vx_base.specs.Picture.{values, samples_format, picture_of, pictured};
+ghost use Rattle.object_table.specs.Blocks.{image_blocks, LendsAtLeast, LendsMore, LendsLess};
 
 use image_core::{Band, Image, clear_rows};
+use pixel_pool::Pool;
 use std::alloc::{AllocError, Global};
 use std::marker::Model;
 use vx_base::{Desc, Picture, Rect, Samples};
 
-/// An image with samples of its own. While it is written they stand elsewhere, and it has none.
+/// An image with samples of its own, which are a block of a pool. While it is written they stand
+/// elsewhere, and it has none.
 #[derive(Drop)]
 pub struct Stored {
     desc: Desc,
@@ -31,18 +34,47 @@ impl Model for Stored {
 
 impl Stored {
     /// A new image: 0 everywhere, and wholly valid.
-    pub fn new(alloc: Global, desc: Desc) -> Result<Stored, AllocError>
+    pub fn new(pool: &mut Pool, desc: Desc) -> Result<Stored, AllocError>
         ensures value { IfOk result (λ image. image
             ≡ new_image desc.width desc.height desc.format) }
         ensures image { IfOk result IsImage }
+        ensures lends { IfOk result (λ image. LendsMore pool.old pool.new (image_blocks image)) }
+        ensures err { OnErr result (pool.new ≡ pool.old) }
     {
         desc.has_sides();
-        let samples = Samples::zeros(alloc, desc.format(), desc.sample_count())?;
+        let samples = pool.take_zeros(desc.format(), desc.sample_count())?;
         Ok(Stored {
             desc,
             valid: desc.whole(),
             samples,
         })
+    }
+
+    /// A wholly valid image for who writes each of its samples: they are what their block happens
+    /// to hold.
+    pub fn unwritten(pool: &mut Pool, desc: Desc) -> Result<Stored, AllocError>
+        ensures desc { IfOk result (λ image. description_of image ≡ desc) }
+        ensures valid { IfOk result (λ image. image.valid ≡ whole desc.width desc.height) }
+        ensures image { IfOk result IsImage }
+        ensures lends { IfOk result (λ image. LendsMore pool.old pool.new (image_blocks image)) }
+        ensures err { OnErr result (pool.new ≡ pool.old) }
+    {
+        let samples = pool.take(desc.format(), desc.sample_count())?;
+        // A picture says of its numbers that they are samples.
+        let picture = Picture::new(desc, samples);
+        Ok(Stored {
+            desc,
+            valid: desc.whole(),
+            samples: picture.into_samples(),
+        })
+    }
+
+    /// Gives the image's block back. It takes no memory.
+    pub fn end(self, pool: &mut Pool)
+        requires { LendsAtLeast pool.old (image_blocks self) }
+        ensures { LendsLess pool.old pool.new (image_blocks self) }
+    {
+        pool.give_back(self.samples);
     }
 
     /// The size and format of the image, which never change.

@@ -10,6 +10,7 @@ ghost use Rattle.vx_base.specs.Picture.{values, samples_format, pictured};
 ghost use Rattle.object_table.specs.declared.fault.TableFault.TheVariants.{InvalidReference};
 ghost use Rattle.object_table.specs.declared.fault.TableFault.TheVariants.{NoMemory, NoResources};
 ghost use Rattle.vx_base.specs.Cell.{cell_of};
+ghost use Rattle.object_table.specs.Blocks.{blocks_in, LendsAtLeast, LendsLess};
 ghost use Rattle.object_table.specs.Context.{new_context, object_named, charge_of, can_insert};
 ghost use Rattle.object_table.specs.Context.{with_new, with_objects};
 ghost use Rattle.object_table.specs.Named.{object_held, with_object};
@@ -26,6 +27,7 @@ mod graphs;
 use crate::fault::{InsertFault, TableFault};
 use crate::object::Object;
 use crate::stored::Stored;
+use pixel_pool::Pool;
 use std::alloc::Global;
 use std::collections::BTreeMap;
 use std::marker::Model;
@@ -77,6 +79,16 @@ impl Table {
             next: 1,
             charge: 0,
             entries: BTreeMap::new(alloc),
+        }
+    }
+
+    /// Gives the blocks of all images back, and drops the objects. It takes no memory.
+    pub fn end(self, pool: &mut Pool)
+        requires { LendsAtLeast pool.old (blocks_in self.objects) }
+        ensures { LendsLess pool.old pool.new (blocks_in self.objects) }
+    {
+        for (_, entry) in self.entries {
+            entry.object.end(pool);
         }
     }
 

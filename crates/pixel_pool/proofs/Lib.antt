@@ -1,2 +1,1 @@
 mod FreeLemmas
-mod ShelfLemmas

@@ -1,5 +1,5 @@
 -- Free blocks, by their rooms: how many samples each has room for.
-use Rattle.std.specs.Prelude.{◌≡◌, ◌≤◌, ℕ, Bool, false, ◌&&◌, nat_le, nat_lt, if◌then◌else◌, List, [], ◌∷◌, ◌++◌, map, Vec, vec_capacity, All, Any}
+use Rattle.std.specs.Prelude.{◌≡◌, ◌≤◌, ℕ, Bool, false, ◌&&◌, nat_le, nat_lt, if◌then◌else◌, List, [], ◌∷◌, ◌++◌, map, Vec, vec_capacity, sum_by, All, Any, ◌⊎◌}
 use Rattle.std.specs.List.Sorted.{IsPermutation}
 
 -- the rooms of these vectors
@@ -22,8 +22,14 @@ pub record UsesBest (count : ℕ) (old new : List ℕ) : Type 0 where
   pub used : IsPermutation old (room ∷ new)
   pub best : All (λ other. suits_better count other room ≡ false) old
 
--- a room for so many samples or more came to the free ones
+-- the sum of rooms
+abbrev pub room_in : List ℕ → ℕ
+room_in free = sum_by (λ room. room) free
+
+-- a room for so many samples or more came to the free ones, of which the others are all kept, or none
 pub record GetsRoom (old new : List ℕ) (count : ℕ) : Type 0 where
   pub room : ℕ
+  pub before : List ℕ
   pub enough : count ≤ room
-  pub added : new ≡ old ++ room ∷ []
+  pub kept : (before ≡ old) ⊎ (before ≡ [])
+  pub added : new ≡ before ++ room ∷ []

@@ -71,7 +71,7 @@ fn is_far_too_large(room: usize, count: usize) -> bool {
 }
 
 /// For how many samples a block has room.
-fn room_at<T>(free: &[Vec<T>], at: usize) -> usize
+pub(crate) fn room_at<T>(free: &[Vec<T>], at: usize) -> usize
     requires { at < length free.now }
     ensures { result ≡ slice_index (rooms free.now) at }
 {

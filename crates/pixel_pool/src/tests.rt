@@ -1,25 +1,22 @@
 //! That blocks are used again, and how large they stay.
-ghost use Rattle.std.specs.Prelude.{◌≡◌, ℤ, List, length, Some};
-ghost use Rattle.pixel_pool.specs.Pool.{hand, HasSamples};
+ghost use Rattle.std.specs.Prelude.{◌≡◌};
+ghost use Rattle.vx_base.specs.Picture.{samples_format};
+ghost use Rattle.pixel_pool.specs.Pool.{HasLent};
 
-use crate::laws::{put_back, taken_again, two_taken};
-use crate::{Block, Pool};
+use crate::Pool;
+use crate::laws::{taken_again, taken_and_given_back};
 use std::test::Fail;
 use vx_base::{Format, Samples};
 
 /// Gives a block of U8 back, and tells for how many samples it has room.
-fn give_back(pool: &mut Pool, block: Block) -> usize
-    requires samples { HasSamples pool.old block }
-    requires count { (samples : List ℤ) →
-        hand pool.old block ≡ Some (Some samples) → length samples ≡ block.count }
+fn give_back(pool: &mut Pool, samples: Samples) -> usize
+    requires { HasLent pool.old (samples_format samples) }
 {
-    let samples = pool.lift(&block);
     let room = match &samples {
         Samples::U8(samples) => samples.capacity(),
         _ => 0,
     };
-    pool.put(&block, samples);
-    pool.give_back(block);
+    pool.give_back(samples);
     room
 }
 
@@ -27,15 +24,17 @@ fn give_back(pool: &mut Pool, block: Block) -> usize
 fn each_format_has_blocks(rt: HostRuntime) -> Result<(), Fail> {
     let mut pool = Pool::new(rt.alloc());
     for format in [Format::U8, Format::S16, Format::U32] {
-        let block = pool.take(format, 12)?;
-        assert_eq!(rt; block.format(), format);
-        assert_eq!(rt; block.count(), 12);
-        let samples = pool.lift(&block);
-        assert_eq!(rt; samples.len(), 12);
-        pool.put(&block, samples);
-        assert_eq!(rt; (pool.blocks(format), pool.free(format)), (1, 0));
-        pool.give_back(block);
-        assert_eq!(rt; (pool.blocks(format), pool.free(format)), (1, 1));
+        let samples = pool.take(format, 12)?;
+        assert_eq!(rt; (samples.format(), samples.len()), (format, 12));
+        assert_eq!(rt;
+            (pool.lent(format), pool.blocks(format), pool.free(format)),
+            (1, 1, 0)
+        );
+        pool.give_back(samples);
+        assert_eq!(rt;
+            (pool.lent(format), pool.blocks(format), pool.free(format)),
+            (0, 1, 1)
+        );
     }
     Ok(())
 }
@@ -43,22 +42,34 @@ fn each_format_has_blocks(rt: HostRuntime) -> Result<(), Fail> {
 #[test]
 fn a_block_is_taken_again(rt: HostRuntime) -> Result<(), Fail> {
     let mut pool = Pool::new(rt.alloc());
-    let block = pool.take(Format::U8, 49)?;
-    pool.give_back(block);
-    let again = pool.take(Format::U8, 49)?;
+    taken_and_given_back(&mut pool, Format::U8, 49)?;
     assert_eq!(rt; pool.blocks(Format::U8), 1);
-    put_back(&mut pool, &again);
-    pool.give_back(again);
     let again = taken_again(&mut pool, Format::U8, 49)?;
-    assert_eq!(rt; pool.blocks(Format::U8), 1);
-    pool.give_back(again);
+    assert_eq!(rt; (again.len(), pool.blocks(Format::U8)), (49, 1));
+    Ok(())
+}
+
+#[test]
+fn what_is_taken_as_zeros_is_cleared(rt: HostRuntime) -> Result<(), Fail> {
+    let mut pool = Pool::new(rt.alloc());
+    let mut samples = pool.take(Format::U8, 3)?;
+    if let Samples::U8(samples) = &mut samples {
+        samples.fill(7);
+    }
+    pool.give_back(samples);
+    let as_it_is = pool.take(Format::U8, 3)?;
+    assert_eq!(rt; as_it_is, Samples::U8(vec![in rt.alloc(); 7; 3]?));
+    pool.give_back(as_it_is);
+    let cleared = pool.take_zeros(Format::U8, 3)?;
+    assert_eq!(rt; cleared, Samples::U8(vec![in rt.alloc(); 0; 3]?));
     Ok(())
 }
 
 #[test]
 fn the_smallest_that_fits_is_taken(rt: HostRuntime) -> Result<(), Fail> {
     let mut pool = Pool::new(rt.alloc());
-    let (first, second) = two_taken(&mut pool, Format::U8, 100)?;
+    let first = pool.take(Format::U8, 100)?;
+    let second = pool.take(Format::U8, 100)?;
     pool.give_back(first);
     pool.give_back(second);
     let grown = pool.take(Format::U8, 500)?;
@@ -79,10 +90,9 @@ fn few_samples_keep_little_memory(rt: HostRuntime) -> Result<(), Fail> {
         (1_024, 1, 1_024),
     ] {
         let mut pool = Pool::new(rt.alloc());
-        let block = pool.take(Format::U8, first)?;
-        pool.give_back(block);
-        let block = pool.take(Format::U8, then)?;
-        assert_eq!(rt; give_back(&mut pool, block), kept);
+        taken_and_given_back(&mut pool, Format::U8, first)?;
+        let samples = pool.take(Format::U8, then)?;
+        assert_eq!(rt; give_back(&mut pool, samples), kept);
     }
     Ok(())
 }
@@ -91,9 +101,34 @@ fn few_samples_keep_little_memory(rt: HostRuntime) -> Result<(), Fail> {
 fn sizes_that_rise_keep_one_block(rt: HostRuntime) -> Result<(), Fail> {
     let mut pool = Pool::new(rt.alloc());
     for count in 10_000..10_100 {
-        let block = pool.take(Format::U32, count)?;
-        pool.give_back(block);
+        taken_and_given_back(&mut pool, Format::U32, count)?;
     }
     assert_eq!(rt; pool.blocks(Format::U32), 1);
+    Ok(())
+}
+
+#[test]
+fn free_blocks_are_given_up(rt: HostRuntime) -> Result<(), Fail> {
+    let mut pool = Pool::new(rt.alloc());
+    let lent = pool.take(Format::S16, 12)?;
+    taken_and_given_back(&mut pool, Format::S16, 50)?;
+    assert_eq!(rt; (pool.blocks(Format::S16), pool.free(Format::S16)), (2, 1));
+    pool.drop_free();
+    assert_eq!(rt; (pool.lent(Format::S16), pool.free(Format::S16)), (1, 0));
+    pool.give_back(lent);
+    assert_eq!(rt; (pool.lent(Format::S16), pool.free(Format::S16)), (0, 1));
+    Ok(())
+}
+
+#[test]
+fn free_blocks_keep_room_for_so_many_samples(rt: HostRuntime) -> Result<(), Fail> {
+    for (count, free) in [(33_554_432, 2), (33_554_433, 1)] {
+        let mut pool = Pool::new(rt.alloc());
+        let first = pool.take(Format::U8, count)?;
+        let second = pool.take(Format::U8, count)?;
+        pool.give_back(first);
+        pool.give_back(second);
+        assert_eq!(rt; (pool.lent(Format::U8), pool.free(Format::U8)), (0, free));
+    }
     Ok(())
 }

@@ -1,1 +1,3 @@
+mod BlockLemmas
 mod ImageLaws
+mod RunLemmas

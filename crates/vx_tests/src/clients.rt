@@ -40,7 +40,7 @@ fn each_has_its_quota(rt: HostRuntime) -> Result<(), Fail> {
 }
 
 /// The reply to a request of client 1.
-fn reply(alloc: Global, runtime: &mut Runtime, request: &Request) -> Result<Reply, Fail> {
+pub fn reply(alloc: Global, runtime: &mut Runtime, request: &Request) -> Result<Reply, Fail> {
     Ok(runtime.apply(alloc, 1, request).ok().ok_or("no memory")?)
 }
 
@@ -62,7 +62,7 @@ fn what_is_released_leaves_room(rt: HostRuntime) -> Result<(), Fail> {
 }
 
 /// What the tests of graphs make: images 1 and 2 of one sample, graph 3 and its virtual image 4.
-fn makes_a_graph(alloc: Global, runtime: &mut Runtime) -> Result<bool, Fail> {
+pub fn makes_a_graph(alloc: Global, runtime: &mut Runtime) -> Result<bool, Fail> {
     let desc = Desc::new(1, 1, Format::U8).ok_or("within the limits")?;
     let open = Outline::new(None, None, None).ok_or("nothing is declared")?;
     let opened = reply(alloc, runtime, &Request::OpenContext)?;
@@ -78,7 +78,12 @@ fn makes_a_graph(alloc: Global, runtime: &mut Runtime) -> Result<bool, Fail> {
 }
 
 /// Adds Not of an image to another to graph 3.
-fn add_not(alloc: Global, runtime: &mut Runtime, input: u32, output: u32) -> Result<Reply, Fail> {
+pub fn add_not(
+    alloc: Global,
+    runtime: &mut Runtime,
+    input: u32,
+    output: u32,
+) -> Result<Reply, Fail> {
     let node = NodeSpec::new(Node {
         function: Function::NotBits,
         border: Border::Undefined,
@@ -94,7 +99,7 @@ fn add_not(alloc: Global, runtime: &mut Runtime, input: u32, output: u32) -> Res
 }
 
 /// Writes a sample to image 1.
-fn write_sample(alloc: Global, runtime: &mut Runtime, sample: u8) -> Result<Reply, Fail> {
+pub fn write_sample(alloc: Global, runtime: &mut Runtime, sample: u8) -> Result<Reply, Fail> {
     let desc = Desc::new(1, 1, Format::U8).ok_or("within the limits")?;
     let samples = Vec::from_slice(alloc, &[sample]).ok().ok_or("no memory")?;
     let picture = Picture::new(desc, Samples::U8(samples));
@@ -106,7 +111,7 @@ fn write_sample(alloc: Global, runtime: &mut Runtime, sample: u8) -> Result<Repl
 }
 
 /// Whether image 2 holds this sample.
-fn holds(alloc: Global, runtime: &mut Runtime, sample: u8) -> Result<bool, Fail> {
+pub fn holds(alloc: Global, runtime: &mut Runtime, sample: u8) -> Result<bool, Fail> {
     Ok(
         match reply(alloc, runtime, &Request::ReadImage(ObjRef::new(2, None)))? {
             Reply::Picture(picture) => match picture.samples() {

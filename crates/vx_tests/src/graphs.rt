@@ -1,12 +1,13 @@
 //! Graphs and the numbers of their nodes, and outlines of images that aren't there.
-ghost use Rattle.std.specs.Prelude.{◌≡◌, ◌∷◌, [], IfOk, IsTrue, is_some, true};
+ghost use Rattle.std.specs.Prelude.{◌≡◌, IfOk, IsTrue, is_some, true};
 ghost use Rattle.vx_base.specs.declared.kind.Kind.TheVariants as kind;
+ghost use Rattle.graph_verify.specs.Examples.{not_to};
 ghost use Rattle.object_table.specs.Context.{object_named};
 ghost use Rattle.object_table.specs.Table.{IsUnder};
-ghost use Rattle.object_table.specs.Uses.{used_names};
 
+use crate::holdings::Holdings;
 use graph_verify::{Graph, GraphFault, Linked, Operand, Operands, Verdict, VerifyFault, verify};
-use object_table::{Content, Object, Stored, Table, TableFault};
+use object_table::{Content, Object, Table, TableFault};
 use std::alloc::Global;
 use std::test::Fail;
 use vx_base::{
@@ -14,8 +15,8 @@ use vx_base::{
 };
 
 /// Not of the image of one name to that of another.
-fn not(input: u32, output: u32) -> Result<NodeSpec, Fail>
-    ensures { IfOk result (λ n. used_names n ≡ input ∷ output ∷ []) }
+pub fn not(input: u32, output: u32) -> Result<NodeSpec, Fail>
+    ensures { IfOk result (λ n. n ≡ not_to input output) }
 {
     let node = Node {
         function: Function::NotBits,
@@ -115,17 +116,15 @@ fn a_verified_graph_has_an_order_and_descriptions(rt: HostRuntime) -> Result<(),
     Ok(())
 }
 
-/// A table that holds images of four samples named 1 and 2, and a graph named 3.
-fn images_and_a_graph(alloc: Global) -> Result<Table, Fail> {
+/// Images of four samples named 1 and 2, and a graph named 3.
+fn images_and_a_graph(alloc: Global) -> Result<Holdings, Fail> {
     let desc = Desc::new(2, 2, Format::U8).ok_or("within the limits")?;
-    let mut table = Table::new(alloc);
-    for _ in 0..2 {
-        let image = Object::new(Content::Image(Stored::new(alloc, desc)?));
-        table.insert(image).ok().ok_or("no memory")?;
-    }
+    let mut holdings = Holdings::new(alloc);
+    holdings.insert(desc)?;
+    holdings.insert(desc)?;
     let graph = Object::new(Content::Graph(Graph::new(alloc)));
-    table.insert(graph).ok().ok_or("no memory")?;
-    Ok(table)
+    holdings.table.insert(graph).ok().ok_or("no memory")?;
+    Ok(holdings)
 }
 
 /// Whether the name is a graph's.
@@ -140,8 +139,9 @@ fn is_graph(table: &Table, name: u32) -> bool
 }
 
 /// Adds the node Not, from the image of one name to that of another, to the graph of a name.
-fn add_not(table: &mut Table, graph: u32, input: u32, output: u32) -> Result<u32, Fail> {
+fn add_not(holdings: &mut Holdings, graph: u32, input: u32, output: u32) -> Result<u32, Fail> {
     let node = not(input, output)?;
+    let table = &mut holdings.table;
     if !is_graph(table, graph)
         || table.get_held(input).is_none()
         || table.get_held(output).is_none()
@@ -152,11 +152,14 @@ fn add_not(table: &mut Table, graph: u32, input: u32, output: u32) -> Result<u32
 }
 
 /// Removes a node of the graph of a name.
-fn remove_node(table: &mut Table, graph: u32, number: u32) -> Result<(), Fail> {
-    if !is_graph(table, graph) {
+fn remove_node(holdings: &mut Holdings, graph: u32, number: u32) -> Result<(), Fail> {
+    if !is_graph(&holdings.table, graph) {
         return Err("not there".into());
     }
-    Ok(table.remove_node(graph, number).or(Err("no such node"))?)
+    let removed = holdings
+        .table
+        .remove_node(graph, number, &mut holdings.pool);
+    Ok(removed.or(Err("no such node"))?)
 }
 
 /// How many nodes the graph of a name has.
@@ -168,34 +171,45 @@ fn count_of_nodes(table: &Table, name: u32) -> usize {
     }
 }
 
+/// How many objects are held, what they are charged, and how many blocks of U8 are lent.
+fn figures(holdings: &Holdings) -> (usize, u64, usize) {
+    let table = &holdings.table;
+    (
+        table.held(),
+        table.charged_bytes(),
+        holdings.pool.lent(Format::U8),
+    )
+}
+
 #[test]
 fn what_a_node_uses_is_held(rt: HostRuntime) -> Result<(), Fail> {
-    let mut table = images_and_a_graph(rt.alloc())?;
-    assert_eq!(rt; add_not(&mut table, 3, 1, 2)?, 1);
-    assert_eq!(rt; add_not(&mut table, 3, 1, 1)?, 2);
-    assert_eq!(rt; count_of_nodes(&table, 3), 2);
-    assert_eq!(rt; table.release(1), Ok(()));
-    assert_eq!(rt; table.release(1), Err(TableFault::InvalidReference));
-    assert!(rt; table.get(1).is_err() && table.get_held(1).is_some());
-    assert_eq!(rt; (table.held(), table.charged_bytes()), (3, 8));
-    remove_node(&mut table, 3, 1)?;
-    assert_eq!(rt; (table.held(), table.charged_bytes()), (3, 8));
-    remove_node(&mut table, 3, 2)?;
-    assert!(rt; table.get_held(1).is_none());
-    assert_eq!(rt; (table.held(), table.charged_bytes()), (2, 4));
-    assert_eq!(rt; count_of_nodes(&table, 3), 0);
+    let mut holdings = images_and_a_graph(rt.alloc())?;
+    assert_eq!(rt; add_not(&mut holdings, 3, 1, 2)?, 1);
+    assert_eq!(rt; add_not(&mut holdings, 3, 1, 1)?, 2);
+    assert_eq!(rt; count_of_nodes(&holdings.table, 3), 2);
+    assert_eq!(rt; holdings.release(1), Ok(()));
+    assert_eq!(rt; holdings.release(1), Err(TableFault::InvalidReference));
+    assert!(rt; holdings.table.get(1).is_err() && holdings.table.get_held(1).is_some());
+    assert_eq!(rt; figures(&holdings), (3, 8, 2));
+    remove_node(&mut holdings, 3, 1)?;
+    assert_eq!(rt; figures(&holdings), (3, 8, 2));
+    remove_node(&mut holdings, 3, 2)?;
+    assert!(rt; holdings.table.get_held(1).is_none());
+    assert_eq!(rt; figures(&holdings), (2, 4, 1));
+    assert_eq!(rt; count_of_nodes(&holdings.table, 3), 0);
     Ok(())
 }
 
 #[test]
 fn a_released_graph_uses_nothing(rt: HostRuntime) -> Result<(), Fail> {
-    let mut table = images_and_a_graph(rt.alloc())?;
-    assert_eq!(rt; add_not(&mut table, 3, 1, 2)?, 1);
-    assert_eq!(rt; table.release(2), Ok(()));
-    assert_eq!(rt; (table.held(), table.charged_bytes()), (3, 8));
-    assert_eq!(rt; table.release(3), Ok(()));
+    let mut holdings = images_and_a_graph(rt.alloc())?;
+    assert_eq!(rt; add_not(&mut holdings, 3, 1, 2)?, 1);
+    assert_eq!(rt; holdings.release(2), Ok(()));
+    assert_eq!(rt; figures(&holdings), (3, 8, 2));
+    assert_eq!(rt; holdings.release(3), Ok(()));
+    let table = &holdings.table;
     assert!(rt; table.get_held(2).is_none() && table.get(1).is_ok());
-    assert_eq!(rt; (table.held(), table.charged_bytes()), (1, 4));
+    assert_eq!(rt; figures(&holdings), (1, 4, 1));
     Ok(())
 }
 

@@ -10,8 +10,12 @@
 //! - `requests`: requests as bytes, and back; texts of faults
 //! - `clients`: what a client with a small quota may hold
 //! - `tables`: names and the charge of a table, and objects that are set
+//! - `cells`: images and slots of delays in a table, which are read, written and exchanged
+//! - `holdings`: a table and its pool, for these tests
 //! - `graphs`: graphs, the numbers of their nodes, and what these use in a table
 //! - `plans`: the slots of virtual images, and the steps that need so many
+//! - `runs`: nodes and graphs that run in a table
+//! - `pooled`: the blocks in which clients' images have their samples
 //! - `values`: rectangles, codes and tables
 //! - `images`: images that are valid in a part
 //! - `bands`: a few rows of an image alone
@@ -24,11 +28,15 @@ mod adapters;
 #[cfg(test)]
 mod bands;
 #[cfg(test)]
+mod cells;
+#[cfg(test)]
 mod clients;
 #[cfg(test)]
 mod devices;
 #[cfg(test)]
 mod graphs;
+#[cfg(test)]
+mod holdings;
 #[cfg(test)]
 mod images;
 #[cfg(test)]
@@ -36,9 +44,13 @@ mod kernels;
 #[cfg(test)]
 mod plans;
 #[cfg(test)]
+mod pooled;
+#[cfg(test)]
 mod requests;
 #[cfg(test)]
 mod rows;
+#[cfg(test)]
+mod runs;
 #[cfg(test)]
 mod streams;
 #[cfg(test)]

@@ -1,37 +1,31 @@
 //! Names and the charge of a table, the slots of a delay, and objects that are set.
-ghost use Rattle.std.specs.Prelude.{◌≡◌, [], IfOk};
+ghost use Rattle.std.specs.Prelude.{◌≡◌, [], IfOk, OnOk};
+ghost use Rattle.object_table.specs.Context.{with_new};
 ghost use Rattle.object_table.specs.Object.{value_of};
 ghost use Rattle.object_table.specs.Uses.{nodes_in};
 
+use crate::holdings::Holdings;
 use object_table::{Content, Delay, Distribution, Object, Stored, Table, TableFault};
-use std::alloc::Global;
+use pixel_pool::Pool;
 use std::test::Fail;
 use vx_base::{Bins, Convolution, Desc, Extremes, Format, Kind, SlotCount};
 
-/// An image of 2 by 2 samples of U8.
-fn image(alloc: Global) -> Result<Object, Fail>
-    ensures { IfOk result (λ object. nodes_in object ≡ []) }
-{
-    let desc = Desc::new(2, 2, Format::U8).ok_or("within the limits")?;
-    Ok(Object::new(Content::Image(Stored::new(alloc, desc)?)))
-}
-
-/// Holds one more image, under this name.
-fn insert(alloc: Global, table: &mut Table) -> Result<u32, Fail> {
-    let object = image(alloc)?;
-    Ok(table.insert(object).ok().ok_or("no memory")?)
+/// 2 by 2 samples of U8.
+fn small() -> Result<Desc, Fail> {
+    Ok(Desc::new(2, 2, Format::U8).ok_or("within the limits")?)
 }
 
 #[test]
 fn names_follow_each_other(rt: HostRuntime) -> Result<(), Fail> {
-    let alloc = rt.alloc();
-    let mut table = Table::new(alloc);
+    let desc = small()?;
+    let mut holdings = Holdings::new(rt.alloc());
     for name in 1..5 {
-        assert_eq!(rt; insert(alloc, &mut table)?, name);
+        assert_eq!(rt; holdings.insert(desc)?, name);
     }
-    assert_eq!(rt; table.release(4), Ok(()));
-    assert_eq!(rt; table.release(4), Err(TableFault::InvalidReference));
-    assert_eq!(rt; insert(alloc, &mut table)?, 5);
+    assert_eq!(rt; holdings.release(4), Ok(()));
+    assert_eq!(rt; holdings.release(4), Err(TableFault::InvalidReference));
+    assert_eq!(rt; holdings.insert(desc)?, 5);
+    let table = &holdings.table;
     assert_eq!(rt; table.held(), 4);
     assert_eq!(rt; table.charged_bytes(), 16);
     assert!(rt; table.get_held(5).is_some());
@@ -45,18 +39,17 @@ fn names_follow_each_other(rt: HostRuntime) -> Result<(), Fail> {
 
 #[test]
 fn at_most_1024_are_held(rt: HostRuntime) -> Result<(), Fail> {
-    let alloc = rt.alloc();
-    let mut table = Table::new(alloc);
+    let desc = small()?;
+    let mut holdings = Holdings::new(rt.alloc());
     for _ in 0..1024 {
-        insert(alloc, &mut table)?;
+        holdings.insert(desc)?;
     }
-    assert!(rt; !table.can_insert());
-    let object = image(alloc)?;
-    let refused = table.insert(object).err().ok_or("one too many")?;
+    assert!(rt; !holdings.table.can_insert());
+    let refused = holdings.offer(desc)?.err().ok_or("one too many")?;
     assert_eq!(rt; refused.fault, TableFault::NoResources);
     assert_eq!(rt; refused.object.bytes(), 4);
-    assert_eq!(rt; table.release(1), Ok(()));
-    assert_eq!(rt; insert(alloc, &mut table)?, 1025);
+    assert_eq!(rt; holdings.release(1), Ok(()));
+    assert_eq!(rt; holdings.insert(desc)?, 1025);
     Ok(())
 }
 
@@ -65,7 +58,9 @@ fn a_delay_has_its_slots(rt: HostRuntime) -> Result<(), Fail> {
     let desc = Desc::new(3, 2, Format::S16).ok_or("within the limits")?;
     let slots = SlotCount::new(3).ok_or("within the limits")?;
     assert!(rt; SlotCount::new(17).is_none());
-    let mut delay = Delay::new(rt.alloc(), desc, slots)?;
+    let mut pool = Pool::new(rt.alloc());
+    let mut delay = Delay::new(rt.alloc(), &mut pool, desc, slots)?;
+    assert_eq!(rt; pool.lent(Format::S16), 3);
     delay.age();
     for k in 0..3 {
         let found = delay.slot(k).map(|image| image.desc());
@@ -80,8 +75,9 @@ fn a_delay_has_its_slots(rt: HostRuntime) -> Result<(), Fail> {
 }
 
 /// Holds these contents, which are no graph with nodes, under this name.
-fn hold(table: &mut Table, content: Content) -> Result<u32, Fail>
+pub fn hold(table: &mut Table, content: Content) -> Result<u32, Fail>
     requires { nodes_in (value_of content) ≡ [] }
+    ensures { OnOk result (table.new ≡ with_new table.old (value_of content)) }
 {
     let object = Object::new(content);
     Ok(table.insert(object).ok().ok_or("no memory")?)
@@ -134,7 +130,8 @@ fn a_distribution_has_the_last_counts(rt: HostRuntime) -> Result<(), Fail> {
     let alloc = rt.alloc();
     let bins = Bins::new(4, 10, 100).ok_or("within the limits")?;
     let mut table = Table::new(alloc);
-    insert(alloc, &mut table)?;
+    let image = Stored::new(&mut Pool::new(alloc), small()?)?;
+    hold(&mut table, Content::Image(image))?;
     let name = hold(
         &mut table,
         Content::Distribution(Distribution::new(alloc, bins)?),
@@ -189,7 +186,8 @@ fn extremes_are_the_last(rt: HostRuntime) -> Result<(), Fail> {
         max_at: (1, 4094),
     };
     let mut table = Table::new(alloc);
-    insert(alloc, &mut table)?;
+    let image = Stored::new(&mut Pool::new(alloc), small()?)?;
+    hold(&mut table, Content::Image(image))?;
     let name = hold(&mut table, Content::Extremes(nowhere))?;
     assert_eq!(rt; kind_of(&table, name), Some((Kind::Extremes, 0)));
     assert_eq!(rt; extremes_of(&table, name), Some(nowhere));

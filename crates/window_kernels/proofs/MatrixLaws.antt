@@ -1,18 +1,21 @@
 -- What a matrix that is turned gives of the rows that its windows see.
-use Rattle.std.proofs.Common.{◌≡◌, ℕ, ℤ, pos, zero, suc, ◌+◌, ◌-◌, ◌*◌, ◌/◌, ◌%◌, ◌<◌, ◌≤◌, ◌+ℤ◌, ◌-ℤ◌, List, get_or, refl, zero-add, ap, ◌∙◌, sym, arith}
+use Rattle.std.proofs.Common.{◌≡◌, ℕ, ℤ, pos, zero, suc, ◌+◌, ◌-◌, ◌*◌, ◌/◌, ◌%◌, ◌<◌, ◌≤◌, ◌+ℤ◌, ◌-ℤ◌, List, length, map, take, get_or, refl, zero-add, ap, ◌∙◌, sym, subst, arith}
 use Rattle.std.specs.Prelude.{IsTrue, ◌*ℤ◌}
-use Rattle.std.specs.Simd.Lanes.{chunk}
+use Rattle.std.specs.Simd.Lanes.{chunk, Each1}
 use Rattle.std.proofs.lemmas.Int.{ints}
 use Rattle.std.proofs.lemmas.Simd.{get_or-chunk}
 use Rattle.std.proofs.lemmas.Bool.Decides.{nat_tests}
+use Rattle.std.proofs.lemmas.List.{map-id}
+use borrow.Rule.Slice.PartMut.{put_mid}
 use Rattle.vx_base.specs.Convolution.{ConvolutionValue, is_odd_side, coefficient}
 use Rattle.vx_base.specs.Image.{run, table}
 use Rattle.vx_base.specs.Window.{row_product, matrix_product}
-use Rattle.vx_base.proofs.TableLaws.{get_or-run, run_part}
+use Rattle.vx_base.proofs.TableLaws.{length-run, get_or-run, run_part, run-same}
 use Rattle.vx_base.proofs.WindowLaws.{run_shifted}
 use Rattle.vx_base.proofs.ImageLaws.{get_or-table}
-use Rattle.window_kernels.specs.Products.{alternating, sum_of_first, line_of, row_sum, sum_of_rows, first_of_pair, second_of_pair, IsPairTable, turned, turned_tables}
+use Rattle.window_kernels.specs.Products.{alternating, sum_of_first, line_of, row_sum, sum_of_rows, first_of_pair, second_of_pair, IsPairTable, turned, turned_pairs, turned_tables}
 use Rattle.window_kernels.proofs.ProductLaws.{sum-same, sum_turned, sum_is_total, pairs_add_up}
+use Rattle.window_kernels.proofs.RowLaws.{part_written, part_fits}
 
 -- a side of a matrix
 pub odd_side : (n : ℕ) → IsTrue (is_odd_side n) → (0 < n) × (n ≤ 9) × (n ≡ 2 * (n / 2) + 1)
@@ -74,6 +77,61 @@ in_turn g a b (suc n) x first second =
 
     odd : (k : ℕ) → x + 1 + 1 + 2 * k + 1 ≡ x + 2 * (k + 1) + 1
     odd k = omega arith
+
+-- a pair of them, eight times
+pair_run : (m : ConvolutionValue) (l j : ℕ) → alternating 8 (turned m l (2 * j)) (turned m l (2 * j + 1)) ≡ run 0 16 (λ i. turned_pairs m l (16 * j + i))
+unfolding twice
+pair_run m l j =
+    sym (in_turn (λ i. turned_pairs m l (16 * j + i)) (turned m l (2 * j)) (turned m l (2 * j + 1)) 8 0 (λ k h. ap (turned m l) (first k h)) (λ k h. ap (turned m l) (second k h)))
+  where
+    first : (k : ℕ) → k < 8 → (16 * j + (0 + 2 * k)) / 16 * 2 + (16 * j + (0 + 2 * k)) % 2 ≡ 2 * j
+    first k h = omega arith
+
+    second : (k : ℕ) → k < 8 → (16 * j + (0 + 2 * k + 1)) / 16 * 2 + (16 * j + (0 + 2 * k + 1)) % 2 ≡ 2 * j + 1
+    second k h = omega arith
+
+-- one more pair of a row, eight times
+pub pair_written : (m : ConvolutionValue) (l j k : ℕ) (out ws : List ℤ) (a b : ℤ) → 16 * j ≤ length out → map (λ z. z) (take (16 * j) out) ≡ run 0 (16 * j) (turned_pairs m l) → ws ≡ alternating 8 a b → a ≡ turned m l (2 * j) → b ≡ turned m l (2 * j + 1)
+    → map (λ z. z) (take (16 * (j + 1)) (put_mid (16 * j) k out ws)) ≡ run 0 (16 * (j + 1)) (turned_pairs m l)
+pair_written m l j k out ws a b room before is first second =
+    let long : length ws ≡ 16 = ap length is in
+    part_written (λ z. z) (turned_pairs m l) out ws (16 * j) k (16 * (j + 1)) room (omega (arith, long)) before
+    (map-id ws ∙ is
+    ∙ ap (λ z. alternating 8 z b) first
+    ∙ ap (alternating 8 (turned m l (2 * j))) second
+    ∙ pair_run m l j
+    ∙ ap (λ n. run 0 n (λ i. turned_pairs m l (16 * j + i))) (sym long))
+
+-- two numbers in turn fit, if both do
+alternating_fits : (P : ℤ → Type 0) (n : ℕ) (a b : ℤ) → P a → P b → Each1 P (alternating n a b)
+alternating_fits P zero a b p q = tt
+alternating_fits P (suc n) a b p q = (p, (q, alternating_fits P n a b p q))
+
+-- one more pair of a row fits, if both of its numbers do
+pub pair_fits : (P : ℤ → Type 0) (j k : ℕ) (out ws : List ℤ) (a b : ℤ) → 16 * j ≤ length out → Each1 P (take (16 * j) out) → ws ≡ alternating 8 a b → P a → P b → Each1 P (take (16 * (j + 1)) (put_mid (16 * j) k out ws))
+pair_fits P j k out ws a b room before is p q =
+    let long : length ws ≡ 16 = ap length is in
+    part_fits P out ws (16 * j) k (16 * (j + 1)) room (omega (arith, long)) before (subst (Each1 P) (sym is) (alternating_fits P 8 a b p q))
+
+-- the table of a row is that row of the tables
+row_of_turned : (m : ConvolutionValue) (l : ℕ) → run 0 80 (turned_pairs m l) ≡ run 0 80 (λ n. entry m (80 * l + n))
+unfolding entry
+row_of_turned m l = run-same (turned_pairs m l) (λ n. entry m (80 * l + n)) 0 80 (λ n a b. sym (ap (λ i. turned m i ((80 * l + n) % 80 / 16 * 2 + (80 * l + n) % 2)) (row n (omega arith)) ∙ ap (turned m l) (column n (omega arith))))
+  where
+    row : (n : ℕ) → n < 80 → (80 * l + n) / 80 ≡ l
+    row n h = omega arith
+
+    column : (n : ℕ) → n < 80 → (80 * l + n) % 80 / 16 * 2 + (80 * l + n) % 2 ≡ n / 16 * 2 + n % 2
+    column n h = omega arith
+
+-- one more row of the tables
+pub table_written : (m : ConvolutionValue) (l k : ℕ) (out ws : List ℤ) → 80 * l ≤ length out → map (λ z. z) (take (80 * l) out) ≡ run 0 (80 * l) (λ n. turned m (n / 80) (n % 80 / 16 * 2 + n % 2)) → ws ≡ run 0 80 (turned_pairs m l)
+    → map (λ z. z) (take (80 * (l + 1)) (put_mid (80 * l) k out ws)) ≡ run 0 (80 * (l + 1)) (λ n. turned m (n / 80) (n % 80 / 16 * 2 + n % 2))
+unfolding entry
+table_written m l k out ws room before is =
+    let long : length ws ≡ 80 = ap length is ∙ length-run (turned_pairs m l) 0 80 in
+    part_written (λ z. z) (entry m) out ws (80 * l) k (80 * (l + 1)) room (omega (arith, long)) before
+    (map-id ws ∙ is ∙ row_of_turned m l ∙ ap (λ n. run 0 n (λ n. entry m (80 * l + n))) (sym long))
 
 -- the tables of a matrix are tables
 pub are_tables : (m : ConvolutionValue) (tables : List ℤ) (pairs : ℕ) → tables ≡ turned_tables m → pairs ≤ 5 → (l : ℕ) → l < m.rows → IsPairTable pairs (line_of tables 80 l)

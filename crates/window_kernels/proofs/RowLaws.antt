@@ -24,13 +24,15 @@ bytes_up_to samples fits =
 pub item_fits : (P : ℤ → Type 0) (out : List ℤ) (i : ℕ) (z : ℤ) → Each1 P (take i out) → i < length out → P z → Each1 P (take (i + 1) (set out i z))
 item_fits P out i z before room fits = subst (Each1 P) (sym (take_more_set out i z room)) (Each1-append P (take i out) (z ∷ []) before (fits, tt))
 
+-- one more part of them, from item `at` on
+pub part_fits : (P : ℤ → Type 0) (out ws : List ℤ) (at k end : ℕ) → at ≤ length out → end ≡ at + length ws → Each1 P (take at out) → Each1 P ws → Each1 P (take end (put_mid at k out ws))
+part_fits P out ws at k end room more before fits = subst (Each1 P) (sym (take-put_mid at k out ws end more room)) (Each1-append P (take at out) ws before fits)
+
 -- one more row of them
 pub row_fits_too : (P : ℤ → Type 0) (out row : List ℤ) (line l first step k : ℕ) → Each1 P (take (l * line) out) → first * step ≡ l * line → length row ≡ line → l * line ≤ length out → Each1 P row
     → Each1 P (take ((l + 1) * line) (put_mid (first * step) k out row))
 row_fits_too P out row line l first step k before at long room fits =
-    let more : (l + 1) * line ≡ first * step + length row = omega (arith, at, long) in
-    subst (Each1 P) (sym (take-put_mid (first * step) k out row ((l + 1) * line) more (omega (arith, at))))
-    (Each1-append P (take (first * step) out) row (subst (λ (n : ℕ). Each1 P (take n out)) (sym at) before) fits)
+    part_fits P out row (first * step) k ((l + 1) * line) (omega (arith, at)) (omega (arith, at, long)) (subst (λ (n : ℕ). Each1 P (take n out)) (sym at) before) fits
 
 -- the number of a row, as it is computed in bits
 small : (z : ℤ) → unsigned_abs z ≤ 100000 → to_z w32 (of_z w32 z) ≡ z
@@ -55,6 +57,20 @@ line_seen f row x n line r y h l at are long is =
     ∙ run_shifted (λ c. f (pos c -ℤ pos r) (pos y +ℤ pos h -ℤ pos l)) (λ c. f (pos (x + c) -ℤ pos r) (pos y +ℤ pos h -ℤ pos l)) x 0 line
     (λ k b. ap (λ c. f (pos (x + c) -ℤ pos r) (pos y +ℤ pos h -ℤ pos l)) (sym (zero-add k)))
 
+-- one more part of a run, from item `at` on
+pub part_written : {T : Type 0} (value : T → ℤ) (g : ℕ → ℤ) (out ws : List T) (at m end : ℕ) → at ≤ length out → end ≡ at + length ws
+    → map value (take at out) ≡ run 0 at g → map value ws ≡ run 0 (length ws) (λ i. g (at + i)) → map value (take end (put_mid at m out ws)) ≡ run 0 end g
+part_written value g out ws at m end room more before is =
+    ap (map value) (take-put_mid at m out ws end more room)
+    ∙ map-append value (take at out) ws
+    ∙ ap (λ l. l ++ map value ws) before
+    ∙ ap (λ l. run 0 at g ++ l) (is ∙ run_shifted (λ i. g (at + i)) g 0 (0 + at) (length ws) (λ i h. ap g (place i)))
+    ∙ sym (run-append g 0 at (length ws))
+    ∙ ap (λ i. run 0 i g) (sym more)
+  where
+    place : (i : ℕ) → at + (0 + i) ≡ 0 + at + i
+    place i = omega arith
+
 -- one more block of at most 32 items
 pub block_written : {T : Type 0} (value : T → ℤ) (g : ℕ → ℤ) (out ws : List T) (k m n e : ℕ) → length out ≡ n → e ≡ min (32 * k + 32) n → 32 * k ≤ n
     → map value (take (min (32 * k) n) out) ≡ run 0 (min (32 * k) n) g → length ws ≡ e - 32 * k → map value ws ≡ run 0 (length ws) (λ i. g (32 * k + i))
@@ -62,15 +78,8 @@ pub block_written : {T : Type 0} (value : T → ℤ) (g : ℕ → ℤ) (out ws :
 block_written value g out ws k m n e size end begun before long is =
     let first : min (32 * k) n ≡ 32 * k = omega arith in
     let more : min (32 * (k + 1)) n ≡ 32 * k + length ws = omega (arith, long, end) in
-    ap (map value) (take-put_mid (32 * k) m out ws (min (32 * (k + 1)) n) more (omega (arith, size)))
-    ∙ map-append value (take (32 * k) out) ws
-    ∙ ap (λ l. l ++ map value ws) (ap (λ i. map value (take i out)) (sym first) ∙ before ∙ ap (λ i. run 0 i g) first)
-    ∙ ap (λ l. run 0 (32 * k) g ++ l) (is ∙ run_shifted (λ i. g (32 * k + i)) g 0 (0 + 32 * k) (length ws) (λ i h. ap g (at i)))
-    ∙ sym (run-append g 0 (32 * k) (length ws))
-    ∙ ap (λ i. run 0 i g) (sym more)
-  where
-    at : (i : ℕ) → 32 * k + (0 + i) ≡ 0 + 32 * k + i
-    at i = omega arith
+    part_written value g out ws (32 * k) m (min (32 * (k + 1)) n) (omega (arith, size)) more
+    (ap (λ i. map value (take i out)) (sym first) ∙ before ∙ ap (λ i. run 0 i g) first) is
 
 -- blocks that are not all written yet begin in the row
 pub block_begins : (n k : ℕ) → k < n / 32 + min 1 (n % 32) → 32 * k ≤ n

@@ -64,6 +64,10 @@ sum_of_rows rows line table pairs n p = sum_of_first n (λ l. row_sum (line_of r
 abbrev pub turned : ConvolutionValue → ℕ → ℕ → ℤ
 turned m l c = if nat_lt c m.columns then coefficient m l (m.columns - 1 - c) else pos 0
 
+-- the pairs of coefficients of such a row, each eight times: item n
+abbrev pub turned_pairs : ConvolutionValue → ℕ → ℕ → ℤ
+turned_pairs m l n = turned m l (n / 16 * 2 + n % 2)
+
 -- the tables of a matrix that is turned: row by row five pairs of coefficients, each eight times
 abbrev pub turned_tables : ConvolutionValue → List ℤ
 turned_tables m = run 0 (m.rows * 80) (λ n. turned m (n / 80) (n % 80 / 16 * 2 + n % 2))

@@ -12,8 +12,8 @@ ghost use Rattle.vx_base.specs.Window.{look, convolved, from_matrix};
 ghost use Rattle.image_core.specs.Fits.{HaveSameSize};
 ghost use Rattle.image_core.specs.Target.{written, IsTarget, Writes};
 ghost use Rattle.window_kernels.specs.Fits.{ConvolutionFits};
-ghost use Rattle.window_kernels.specs.Products.{IsUpTo, AreUpTo, sum_of_rows, turned};
-ghost use Rattle.window_kernels.specs.Products.{turned_tables};
+ghost use Rattle.window_kernels.specs.Products.{IsUpTo, AreUpTo, alternating, sum_of_rows, turned};
+ghost use Rattle.window_kernels.specs.Products.{turned_pairs, turned_tables};
 
 use crate::products::sum_block;
 use border_rows::{load_row, window_valid};
@@ -74,14 +74,50 @@ fn turned(convolution: &Convolution, row: usize, column: usize) -> i16
     }
 }
 
+/// Writes two coefficients in turn, each eight times.
+fn write_pair(first: i16, second: i16, out: &mut [i16])
+    requires { length out.old ≡ 16 }
+    ensures { out.new ≡ alternating 8 first second }
+{
+    let (a, b) = (first, second);
+    out.copy_from_slice(&[a, b, a, b, a, b, a, b, a, b, a, b, a, b, a, b]);
+}
+
+/// Writes the pairs of coefficients of a row of a matrix that is turned, each eight times.
+fn write_pairs(convolution: &Convolution, row: usize, pairs: &mut [i16])
+    requires row { row < convolution.now.rows }
+    requires len { length pairs.old ≡ 16 * (convolution.now.columns / 2 + 1) }
+    ensures value { pairs.new ≡ run 0 (length pairs.old) (turned_pairs convolution.now row) }
+    ensures fits { Each1 (FitsSigned w16) pairs.new }
+{
+    for j in 0..usize::from(convolution.columns()) / 2 + 1 {
+        let first = turned(convolution, row, 2 * j);
+        let second = turned(convolution, row, 2 * j + 1);
+        write_pair(first, second, &mut pairs[16 * j..16 * j + 16]);
+    }
+}
+
+/// Writes the table of a row of a matrix that is turned: the pairs that it has, and zeros.
+fn write_table(convolution: &Convolution, row: usize, table: &mut [i16])
+    requires row { row < convolution.now.rows }
+    requires len { length table.old ≡ 80 }
+    ensures value { table.new ≡ run 0 80 (turned_pairs convolution.now row) }
+    ensures fits { Each1 (FitsSigned w16) table.new }
+{
+    let count = usize::from(convolution.columns()) / 2 + 1;
+    let (pairs, rest) = table.split_at_mut(16 * count);
+    write_pairs(convolution, row, pairs);
+    rest.fill(0);
+}
+
 /// Writes the tables of a matrix that is turned.
 fn write_tables(convolution: &Convolution, tables: &mut [i16])
     requires { length tables.old ≡ convolution.now.rows * 80 }
     ensures value { tables.new ≡ turned_tables convolution.now }
     ensures fits { All (FitsSigned w16) tables.new }
 {
-    for (n, item) in tables.iter_mut().enumerate() {
-        *item = turned(convolution, n / 80, n % 80 / 16 * 2 + n % 2);
+    for row in 0..usize::from(convolution.rows()) {
+        write_table(convolution, row, &mut tables[80 * row..80 * row + 80]);
     }
 }
 

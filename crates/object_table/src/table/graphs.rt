@@ -13,6 +13,7 @@ ghost use Rattle.vx_base.specs.Node.{given};
 ghost use Rattle.vx_base.specs.Object.{object_kind};
 ghost use Rattle.graph_verify.specs.declared.fault.GraphFault.TheVariants as graph_fault;
 ghost use Rattle.object_table.specs.declared.fault.TableFault.TheVariants.{InvalidReference};
+ghost use Rattle.object_table.specs.Blocks.{blocks_in, LendsAtLeast, Balances};
 ghost use Rattle.object_table.specs.Context.{object_named, charge_of, with_objects, with_graph};
 ghost use Rattle.object_table.specs.Holds.{still_held, unnamed};
 ghost use Rattle.object_table.specs.Named.{object_held};
@@ -26,6 +27,7 @@ ghost use Rattle.object_table.specs.declared.table.TheConstants.{GREATEST_OBJECT
 use crate::fault::TableFault;
 use crate::table::{Entry, Table};
 use graph_verify::{Graph, GraphFault};
+use pixel_pool::Pool;
 use std::collections::BTreeMap;
 use vx_base::{Kind, Node, NodeSpec, Numbered, ObjRef};
 
@@ -69,9 +71,15 @@ impl Table {
     }
 
     /// Removes the node of this number from the unreleased graph of this name. What is then neither
-    /// named nor used is no longer held. `InvalidReference`: the graph has no such node. It takes
-    /// no memory.
-    pub fn remove_node(&mut self, graph: u32, number: u32) -> Result<(), GraphFault>
+    /// named nor used is no longer held, and gives its blocks back. `InvalidReference`: the graph
+    /// has no such node. It takes no memory.
+    pub fn remove_node(
+        &mut self,
+        graph: u32,
+        number: u32,
+        pool: &mut Pool,
+    ) -> Result<(), GraphFault>
+        requires owns { LendsAtLeast pool.old (blocks_in self.old.objects) }
         requires graph { IsUnder self.old.objects kind.Graph graph }
         requires live { IsTrue (is_some (object_named self.old.objects graph)) }
         ensures ok { OnOk result (self.new
@@ -82,23 +90,26 @@ impl Table {
             (has_node (graph_under self.old.objects graph) number) }
         ensures fault { IfErr result (λ fault. fault ≡ graph_fault.InvalidReference) }
         ensures err { OnErr result (self.new ≡ self.old) }
+        ensures balances { Balances pool.old pool.new self.old.objects self.new.objects }
     {
         let Some(entry) = self.entries.get_mut(&graph) else {
             unreachable!()
         };
         let node = entry.object.remove_node(number)?;
-        self.charge = end_uses(&mut self.entries, self.charge, &node.node());
+        self.charge = end_uses(&mut self.entries, self.charge, &node.node(), pool);
         Ok(())
     }
 
     /// Ends a name; with a graph's name its nodes end their uses. What is then neither named nor
-    /// used is no longer held, and its memory is given back. It takes no memory.
-    pub fn release(&mut self, name: u32) -> Result<(), TableFault>
+    /// used is no longer held, and gives its blocks back. It takes no memory.
+    pub fn release(&mut self, name: u32, pool: &mut Pool) -> Result<(), TableFault>
+        requires { LendsAtLeast pool.old (blocks_in self.old.objects) }
         ensures result { result ≡ (if is_none (object_named self.old.objects name)
             then Err InvalidReference else Ok tt) }
         ensures ok { OnOk result (self.new
             ≡ with_objects self.old (still_held (unnamed self.old.objects name))) }
         ensures err { OnErr result (self.new ≡ self.old) }
+        ensures balances { Balances pool.old pool.new self.old.objects self.new.objects }
     {
         let Some(entry) = self.entries.get(&name) else {
             return Err(TableFault::InvalidReference);
@@ -107,9 +118,9 @@ impl Table {
             return Err(TableFault::InvalidReference);
         }
         if let Kind::Graph = entry.object.kind() {
-            self.charge = end_all_uses(&mut self.entries, self.charge, name);
+            self.charge = end_all_uses(&mut self.entries, self.charge, name, pool);
         }
-        self.charge = end_name(&mut self.entries, self.charge, name);
+        self.charge = end_name(&mut self.entries, self.charge, name, pool);
         Ok(())
     }
 }
@@ -138,28 +149,39 @@ fn begin_use(entries: &mut BTreeMap<u32, Entry>, operand: Option<ObjRef>)
     }
 }
 
-/// A node ends its uses. What is then neither named nor used is dropped. Says what all the others
+/// A node ends its uses. What is then neither named nor used ends. Says what all the others
 /// are charged.
-fn end_uses(entries: &mut BTreeMap<u32, Entry>, charge: u64, node: &Node) -> u64
+fn end_uses(entries: &mut BTreeMap<u32, Entry>, charge: u64, node: &Node, pool: &mut Pool) -> u64
     requires held { All (λ e. IsTrue (is_kept e)) entries.old.entries }
     requires charge { charge ≡ charge_of (map named entries.old.entries) }
+    requires owns { LendsAtLeast pool.old (blocks_in (map named entries.old.entries)) }
     ensures entries { entries.new.entries
         ≡ kept (used_less (used_names node.now) entries.old.entries) }
     ensures charge { result ≡ charge_of (map named entries.new.entries) }
+    ensures balances { Balances pool.old pool.new
+        (map named entries.old.entries) (map named entries.new.entries) }
 {
-    let charge = end_use(entries, charge, Some(node.in1));
-    let charge = end_use(entries, charge, node.in2);
-    let charge = end_use(entries, charge, node.out1);
-    end_use(entries, charge, node.out2)
+    let charge = end_use(entries, charge, Some(node.in1), pool);
+    let charge = end_use(entries, charge, node.in2, pool);
+    let charge = end_use(entries, charge, node.out1, pool);
+    end_use(entries, charge, node.out2, pool)
 }
 
 /// A node ends its use of an operand, if it has that, as `end_uses` does.
-fn end_use(entries: &mut BTreeMap<u32, Entry>, charge: u64, operand: Option<ObjRef>) -> u64
+fn end_use(
+    entries: &mut BTreeMap<u32, Entry>,
+    charge: u64,
+    operand: Option<ObjRef>,
+    pool: &mut Pool,
+) -> u64
     requires held { All (λ e. IsTrue (is_kept e)) entries.old.entries }
     requires charge { charge ≡ charge_of (map named entries.old.entries) }
+    requires owns { LendsAtLeast pool.old (blocks_in (map named entries.old.entries)) }
     ensures entries { entries.new.entries
         ≡ kept (used_less (map (λ cell. cell.name) (given operand)) entries.old.entries) }
     ensures charge { result ≡ charge_of (map named entries.new.entries) }
+    ensures balances { Balances pool.old pool.new
+        (map named entries.old.entries) (map named entries.new.entries) }
 {
     let Some(cell) = operand else {
         return charge;
@@ -172,38 +194,44 @@ fn end_use(entries: &mut BTreeMap<u32, Entry>, charge: u64, operand: Option<ObjR
     if entry.live || entry.uses > 0 {
         return charge;
     }
-    drop_entry(entries, charge, name)
+    end_entry(entries, charge, name, pool)
 }
 
 /// All nodes of the graph under a live name end their uses, as `end_uses` says.
-fn end_all_uses(entries: &mut BTreeMap<u32, Entry>, charge: u64, graph: u32) -> u64
+fn end_all_uses(entries: &mut BTreeMap<u32, Entry>, charge: u64, graph: u32, pool: &mut Pool) -> u64
     requires graph { option_map (λ e. object_kind e.object)
         (lookup (is_at (nat_cmp graph)) entries.old.entries) ≡ Some kind.Graph }
     requires live { option_map (λ e. e.live)
         (lookup (is_at (nat_cmp graph)) entries.old.entries) ≡ Some true }
     requires held { All (λ e. IsTrue (is_kept e)) entries.old.entries }
     requires charge { charge ≡ charge_of (map named entries.old.entries) }
+    requires owns { LendsAtLeast pool.old (blocks_in (map named entries.old.entries)) }
     ensures entries { entries.new.entries
         ≡ kept (used_less (flat_map used_names (nodes_at graph entries.old.entries))
         entries.old.entries) }
     ensures charge { result ≡ charge_of (map named entries.new.entries) }
+    ensures balances { Balances pool.old pool.new
+        (map named entries.old.entries) (map named entries.new.entries) }
 {
     let mut left = charge;
     let count = nodes_under(entries, graph).len();
     for k in 0..count {
         let node = nodes_under(entries, graph)[k].node;
-        left = end_uses(entries, left, &node.node());
+        left = end_uses(entries, left, &node.node(), pool);
     }
     left
 }
 
-/// A name ends. What it stood for is dropped if no node uses it. Says what all the others are
+/// A name ends. What it stood for ends if no node uses it. Says what all the others are
 /// charged.
-fn end_name(entries: &mut BTreeMap<u32, Entry>, charge: u64, name: u32) -> u64
+fn end_name(entries: &mut BTreeMap<u32, Entry>, charge: u64, name: u32, pool: &mut Pool) -> u64
     requires held { All (λ e. IsTrue (is_kept e)) entries.old.entries }
     requires charge { charge ≡ charge_of (map named entries.old.entries) }
+    requires owns { LendsAtLeast pool.old (blocks_in (map named entries.old.entries)) }
     ensures entries { entries.new.entries ≡ kept (ended name entries.old.entries) }
     ensures charge { result ≡ charge_of (map named entries.new.entries) }
+    ensures balances { Balances pool.old pool.new
+        (map named entries.old.entries) (map named entries.new.entries) }
 {
     let Some(entry) = entries.get_mut(&name) else {
         return charge;
@@ -212,18 +240,25 @@ fn end_name(entries: &mut BTreeMap<u32, Entry>, charge: u64, name: u32) -> u64
     if entry.uses > 0 {
         return charge;
     }
-    drop_entry(entries, charge, name)
+    end_entry(entries, charge, name, pool)
 }
 
-/// Drops what is under a name, and says what all the others are charged.
-fn drop_entry(entries: &mut BTreeMap<u32, Entry>, charge: u64, name: u32) -> u64
-    requires { charge ≡ charge_of (map named entries.old.entries) }
+/// Ends what is under a name, and says what all the others are charged.
+fn end_entry(entries: &mut BTreeMap<u32, Entry>, charge: u64, name: u32, pool: &mut Pool) -> u64
+    requires charge { charge ≡ charge_of (map named entries.old.entries) }
+    requires owns { LendsAtLeast pool.old (blocks_in (map named entries.old.entries)) }
     ensures entries { entries.new.entries
         ≡ remove_entry (is_at (nat_cmp name)) entries.old.entries }
     ensures charge { result ≡ charge_of (map named entries.new.entries) }
+    ensures balances { Balances pool.old pool.new
+        (map named entries.old.entries) (map named entries.new.entries) }
 {
     match entries.remove(&name) {
-        Some(entry) => charge - entry.object.bytes() as u64,
+        Some(entry) => {
+            let bytes = entry.object.bytes() as u64;
+            entry.object.end(pool);
+            charge - bytes
+        }
         None => charge,
     }
 }

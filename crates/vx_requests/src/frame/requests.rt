@@ -25,7 +25,7 @@ ghost use Rattle.vx_wire.specs.Reference.{reference_bytes};
 ghost use Rattle.vx_wire.specs.Description.{description_bytes};
 ghost use Rattle.vx_wire.specs.Format.{format_number};
 
-use crate::frame::limits::{fits_a_frame, is_request};
+use crate::frame::limits::fits_a_frame;
 use crate::frame::samples::{write_samples, write_wide};
 use crate::stream::{Sink, StreamFault, write_all};
 use client_model::{Request, Text};
@@ -55,7 +55,7 @@ pub fn write_request<K: Sink>(
         (result ≡ Err StreamFault.BadLength) × (sink.new ≡ sink.old) }
     ensures request { IsRequest request.now }
 {
-    is_request(request);
+    request.is_request();
     if fits_a_frame(request) {
         write_frame(sink, client, request)
     } else {

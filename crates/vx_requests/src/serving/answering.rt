@@ -57,9 +57,23 @@ pub fn answer_payload<S: Source>(
         let mut small = [0u8; SMALL];
         return answer_whole(alloc, reader, runtime, &mut small[..count]);
     }
-    match zeros(alloc, count) {
+    match room_for(alloc, runtime, count) {
         Ok(mut large) => answer_whole(alloc, reader, runtime, large.as_mut_slice()),
         Err(AllocError) => lose_payload(reader, count),
+    }
+}
+
+/// Memory for so many bytes. Where there is none, blocks that no image has are given up for it.
+fn room_for(alloc: Global, runtime: &mut Runtime, count: usize) -> Result<Vec<u8>, AllocError>
+    ensures count { IfOk result (λ bytes. length bytes.items ≡ count) }
+    ensures same { runtime.new ≡ runtime.old }
+{
+    match zeros(alloc, count) {
+        Ok(bytes) => Ok(bytes),
+        Err(AllocError) => {
+            runtime.drop_free();
+            zeros(alloc, count)
+        }
     }
 }
 
@@ -88,6 +102,10 @@ fn answer_whole<S: Source>(
     let frame = frame_in(buffer);
     let (client, op) = (frame.client, frame.op);
     let reply = reply_for(alloc, runtime, &frame);
+    if let Reply::Refused(Code::NoMemory) = reply {
+        // Who asks again finds what was kept in blocks that no image has.
+        runtime.drop_free();
+    }
     Ok(Answered { client, op, reply })
 }
 

@@ -18,4 +18,4 @@ returns-clause-comes c =
     ap (λ image. create_like limits before image slots) c.in_ok-find_image.ensures.ok.image
     ∙ ap (λ (d : Description). create limits before (DelayObject (new_delay d slots))) (sym c.desc-desc.ensures)
     ∙ ap (λ (o : ObjectValue). create limits before o) object in
-    subst (λ (outcome : Outcome). MayComeTo outcome before c.hold.new.table c.hold.result) (sym same) c.hold.ensures.comes
+    subst (λ (outcome : Outcome). MayComeTo outcome before c.hold_images.new.table c.hold_images.result) (sym same) c.hold_images.ensures.comes

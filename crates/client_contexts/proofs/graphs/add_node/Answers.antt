@@ -3,12 +3,17 @@ use Rattle.vx_base.specs.declared.kind.Kind.TheVariants as kind
 use Rattle.vx_base.specs.declared.node.Node.{Node}
 use Rattle.vx_base.specs.Node.{operands}
 use Rattle.vx_base.specs.Cell.{cell_of}
+use Rattle.vx_base.specs.Graph.{with_node}
+use Rattle.object_table.specs.Blocks.{KeepsBlocks}
+use Rattle.object_table.specs.Context.{Context}
+use Rattle.object_table.specs.Table.{graph_under}
 use Rattle.client_model.specs.declared.reply.Reply.TheVariants as reply
 use Rattle.client_model.specs.Operands.{operands_refusal}
 use Rattle.client_model.specs.Graphs.{add_node}
 use Rattle.client_model.proofs.HoldLaws.{OperandsStand}
 use Rattle.client_model.proofs.GraphStepLaws.{add_node_keeps}
 use Rattle.client_contexts.proofs.KeptLemmas.{may_kept_by}
+use Rattle.client_contexts.proofs.BlockLemmas.{graph_keeps_blocks}
 use Rattle.client_contexts.proofs.AddLemmas.{names_held, node_added, node_refused}
 use Rattle.client_contexts.proofs.graphs.add_node.Goals as goal
 
@@ -38,3 +43,9 @@ returns-clause-kept c = λ limits h.
     let comes = node_added limits c.args.table.now c.args.graph h found.ok.0 found.ok.1 c.args.node known _ _ added.room added.number added.ok in
     may_kept_by (λ other. c.args.graph == other) limits (add_node c.args.table.now c.args.graph c.args.node) c.args.table.now c.add_node.new.self (Ok (reply.Node c.in_ok-add_node.field-0)) comes
     (add_node_keeps limits c.args.table.now c.args.graph c.args.node h c.node.ensures.node) h
+
+pub returns-clause-blocks : goal.returns-clause-blocks
+returns-clause-blocks c =
+    let t = c.args.table.now in
+    subst (λ (k : Context). KeepsBlocks t.objects k.objects) (sym c.in_ok-add_node.ensures.ok)
+    (graph_keeps_blocks t.objects c.requires.1.names c.args.graph (with_node (graph_under t.objects c.args.graph) c.args.node) c.in_ok-find_graph_for.ensures.ok.1)

@@ -1,10 +1,13 @@
 use Rattle.std.proofs.Common.{◌∙◌, ap, sym, subst}
-use Rattle.object_table.specs.Context.{with_objects}
+use Rattle.object_table.specs.Context.{Context, with_objects}
+use Rattle.object_table.specs.Table.{image_held}
 use Rattle.object_table.specs.Named.{with_object}
-use Rattle.vx_base.specs.Image.{ImageValue, with_valid}
+use Rattle.vx_base.specs.Image.{ImageValue, description_of, with_valid}
 use Rattle.vx_base.specs.Object.{ImageObject}
 use Rattle.client_model.specs.Images.{valid_refusal}
 use Rattle.client_model.specs.States.{KeepsLimits}
+use Rattle.object_table.specs.Blocks.{KeepsBlocks}
+use Rattle.client_contexts.proofs.BlockLemmas.{image_blocks_kept}
 use Rattle.client_contexts.proofs.OutcomeLemmas.{holder_is, set_keeps}
 use Rattle.client_contexts.proofs.images.set_valid.Goals as goal
 
@@ -19,3 +22,11 @@ returns-clause-kept c = λ limits h.
     let kept = set_keeps limits before c.args.reference c.in_ok-find_image.field-0.now c.args.valid h found c.is_rectangle.ensures allowed in
     subst (KeepsLimits limits) (sym c.set_valid.ensures)
     (subst (λ (image : ImageValue). KeepsLimits limits (with_objects before (with_object before.objects c.args.reference (ImageObject (with_valid c.args.valid image))))) (sym found.held) kept)
+
+pub returns-clause-blocks : goal.returns-clause-blocks
+returns-clause-blocks c =
+    let t = c.args.table.now in
+    let found = c.in_ok-find_image.ensures.ok in
+    subst (λ (k : Context). KeepsBlocks t.objects k.objects) (sym c.set_valid.ensures)
+    (image_blocks_kept t.objects c.requires.1.names c.args.reference c.in_ok-find_image.field-0.now (with_valid c.args.valid (image_held t.objects c.args.reference)) found.there found.held
+    (ap description_of found.held))

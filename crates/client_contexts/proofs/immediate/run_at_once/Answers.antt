@@ -1,5 +1,5 @@
-use Rattle.std.proofs.Common.{◌≡◌, ◌∙◌, true, false, ap, sym, refl, subst}
-use Rattle.std.specs.Prelude.{Some, None, Ok}
+use Rattle.std.proofs.Common.{◌∙◌, ap, sym, refl, subst}
+use Rattle.std.specs.Prelude.{Some, Ok}
 use Rattle.std.specs.List.{list_any}
 use Rattle.vx_base.specs.declared.node.Node.{Node}
 use Rattle.vx_base.specs.Node.{IsNode}
@@ -12,6 +12,7 @@ use Rattle.client_model.specs.Refusal.{Outcome}
 use Rattle.client_model.proofs.NodeStepLaws.{immediate_keeps}
 use Rattle.client_model.proofs.OutcomeLaws.{Keeps}
 use Rattle.client_contexts.specs.Steps.{all_operands}
+use Rattle.client_contexts.proofs.BlockLemmas.{lasting_blocks}
 use Rattle.client_contexts.proofs.ImmediateLemmas.{away_refuses, verdict_refuses, nothing_refuses, all_of_kind}
 use Rattle.client_contexts.proofs.immediate.run_at_once.Goals as goal
 
@@ -67,3 +68,6 @@ returns-clause-comes c =
 pub returns-clause-kept : goal.returns-clause-kept
 returns-clause-kept c = λ limits. λ h.
     (subst (Keeps limits c.args.table.now) (returns-clause-comes c).done (immediate_keeps limits c.args.table.now c.args.node h c.node-node.ensures.node)).keeps
+
+pub returns-clause-blocks : goal.returns-clause-blocks
+returns-clause-blocks c = lasting_blocks c.args.table.now.objects c.run_once.new.table.objects c.run_once.ensures.lasts

@@ -1,4 +1,4 @@
-use Rattle.client_laws.proofs.StayLaws.{skeletons_stay, nodes_stay, after_one, operand_stays, verdict_stays}
+use Rattle.client_laws.proofs.StayLaws.{skeletons_stay, nodes_stay, after_one, operand_stays, verdict_stays, ready_stays}
 use Rattle.client_laws.proofs.states.what_is_held_stays.Goals as goal
 use Rattle.std.proofs.Common.{[], ◌∷◌}
 
@@ -18,3 +18,6 @@ returns-clause-operands c = λ limits before later requests cell is known there.
 
 pub returns-clause-verdicts : goal.returns-clause-verdicts
 returns-clause-verdicts c = verdict_stays
+
+pub returns-clause-ready : goal.returns-clause-ready
+returns-clause-ready c = ready_stays

@@ -1,22 +1,25 @@
-use Rattle.std.proofs.Common.{◌≡◌, ◌∙◌, List, length, refl, sym, ap, subst}
+use Rattle.std.proofs.Common.{◌≡◌, ◌∙◌, List, refl, sym, ap, subst}
 use Rattle.std.specs.Prelude.{All}
 use Rattle.std.specs.List.Sorted.{IsStrictlyIncreasing}
-use Rattle.std.proofs.lemmas.List.{length-map}
-use Rattle.vx_base.specs.Object.{ObjectValue, IsObject}
+use Rattle.vx_base.specs.Object.{IsObject}
 use Rattle.object_table.specs.Context.{Context, with_objects}
 use Rattle.object_table.specs.Named.{Named}
+use Rattle.object_table.proofs.BlockLaws.{blocks_of_all-same}
 use Rattle.object_table.proofs.HeldLemmas.{names_of}
 use Rattle.graph_run.specs.Graph.{forgotten, one_by_one}
-use Rattle.graph_run.specs.Turns.{exchanged_in, begun_with}
+use Rattle.graph_run.specs.Turns.{exchanged_in}
 use Rattle.graph_run.proofs.ExchangeLemmas.{ArePlain}
-use Rattle.graph_run.proofs.StandInLemmas.{exchanged_are, names-exchanged, run_ends, plain_cleared, virtual_exchanged, plain_handed, exchanged_again}
+use Rattle.graph_run.proofs.StandInLemmas.{exchanged_are, names-exchanged, run_ends, plain_stand_ins, stand_ins_count, skeletons_back, virtual_exchanged, plain_handed, exchanged_again}
 use Rattle.graph_run.proofs.runs.run_over.Goals as goal
 
 abbrev objects_of : Context → List Named
 objects_of t = t.objects
 
+pub exchange_all-requires-clause-count : goal.exchange_all-requires-clause-count
+exchange_all-requires-clause-count c = stand_ins_count c.args.outputs.now c.args.images.now c.requires.stand_ins
+
 pub exchange_all-requires-clause-come : goal.exchange_all-requires-clause-come
-exchange_all-requires-clause-come c = subst ArePlain (sym c.requires.cleared) (plain_cleared c.args.outputs.now)
+exchange_all-requires-clause-come c = plain_stand_ins c.args.outputs.now c.args.images.now c.requires.stand_ins
 
 pub exchange_all-requires-clause-gone : goal.exchange_all-requires-clause-gone
 exchange_all-requires-clause-gone c = virtual_exchanged c.args.table.now.objects c.args.outputs.now c.requires.outputs
@@ -37,15 +40,17 @@ pub exchange_all-requires-2-clause-come : goal.exchange_all-requires-2-clause-co
 exchange_all-requires-2-clause-come c =
     let objects = c.args.table.now.objects in
     let outputs = c.args.outputs.now in
+    let images = c.args.images.now in
     subst ArePlain (sym c.exchange_all.ensures.handed_out)
-    (plain_handed objects outputs c.args.images.now (subst ArePlain (sym c.requires.cleared) (plain_cleared outputs))
+    (plain_handed objects outputs images (plain_stand_ins outputs images c.requires.stand_ins)
     (virtual_exchanged objects outputs c.requires.outputs).plain)
 
 pub exchange_all-requires-2-clause-gone : goal.exchange_all-requires-2-clause-gone
 exchange_all-requires-2-clause-gone c =
     let outputs = c.args.outputs.now in
-    exchanged_again c.args.table.now.objects c.exchange_all.new.table.objects c.run_steps.new.table.objects outputs c.args.images.now
-    c.requires.outputs (subst ArePlain (sym c.requires.cleared) (plain_cleared outputs)) (ap objects_of c.exchange_all.ensures.value)
+    let images = c.args.images.now in
+    exchanged_again c.args.table.now.objects c.exchange_all.new.table.objects c.run_steps.new.table.objects outputs images
+    c.requires.outputs (plain_stand_ins outputs images c.requires.stand_ins) (ap objects_of c.exchange_all.ensures.value)
     c.run_steps.ensures.lasts
 
 pub returns-clause-value : goal.returns-clause-value
@@ -54,17 +59,14 @@ returns-clause-value c =
     let outputs = c.args.outputs.now in
     let images = c.args.images.now in
     let left = c.run_steps.new.table.objects in
-    let count : length images ≡ length outputs = ap length c.requires.cleared ∙ length-map outputs _ in
     let begins = ap objects_of c.exchange_all.ensures.value in
-    let begun : c.exchange_all.new.table.objects ≡ begun_with outputs t.objects =
-    begins ∙ ap (λ (new : List ObjectValue). exchanged_in outputs new t.objects) c.requires.cleared in
     let ended : List Named = exchanged_in outputs c.exchange_all.new.objects left in
     let ends =
     run_ends t.objects c.exchange_all.new.table.objects left ended outputs images c.exchange_all.new.objects
-    c.requires.names c.requires.objects c.requires.outputs count c.requires.images begins c.run_steps.ensures.lasts
-    c.exchange_all.ensures.handed_out refl in
-    let steps : left ≡ one_by_one c.args.steps.now (begun_with outputs t.objects) =
-    ap objects_of c.run_steps.ensures.value ∙ ap (one_by_one c.args.steps.now) begun in
+    c.requires.names c.requires.objects c.requires.outputs (stand_ins_count outputs images c.requires.stand_ins) c.requires.images begins
+    c.run_steps.ensures.lasts c.exchange_all.ensures.handed_out refl in
+    let steps : left ≡ one_by_one c.args.steps.now (exchanged_in outputs images t.objects) =
+    ap objects_of c.run_steps.ensures.value ∙ ap (one_by_one c.args.steps.now) begins in
     c.exchange_all-2.ensures.value
     ∙ ap (λ (v : Context). with_objects v ended) c.run_steps.ensures.value
     ∙ ap (λ (v : Context). with_objects v ended) c.exchange_all.ensures.value
@@ -72,13 +74,22 @@ returns-clause-value c =
 
 pub returns-clause-lasts : goal.returns-clause-lasts
 returns-clause-lasts c =
-    let t = c.args.table.now in
     let outputs = c.args.outputs.now in
     let images = c.args.images.now in
-    let count : length images ≡ length outputs = ap length c.requires.cleared ∙ length-map outputs _ in
     let ends =
-    run_ends t.objects c.exchange_all.new.table.objects c.run_steps.new.table.objects c.exchange_all-2.new.table.objects outputs images
-    c.exchange_all.new.objects c.requires.names c.requires.objects c.requires.outputs count c.requires.images
+    run_ends c.args.table.now.objects c.exchange_all.new.table.objects c.run_steps.new.table.objects c.exchange_all-2.new.table.objects
+    outputs images c.exchange_all.new.objects c.requires.names c.requires.objects c.requires.outputs
+    (stand_ins_count outputs images c.requires.stand_ins) c.requires.images
     (ap objects_of c.exchange_all.ensures.value) c.run_steps.ensures.lasts c.exchange_all.ensures.handed_out
     (ap objects_of c.exchange_all-2.ensures.value) in
     ends.1
+
+pub returns-clause-blocks : goal.returns-clause-blocks
+returns-clause-blocks c = λ format.
+    let outputs = c.args.outputs.now in
+    let images = c.args.images.now in
+    blocks_of_all-same c.exchange_all-2.new.objects images format
+    (skeletons_back c.args.table.now.objects c.exchange_all.new.table.objects c.run_steps.new.table.objects outputs images
+    c.exchange_all.new.objects c.exchange_all-2.new.objects c.requires.outputs (stand_ins_count outputs images c.requires.stand_ins)
+    (ap objects_of c.exchange_all.ensures.value) c.run_steps.ensures.lasts c.exchange_all.ensures.handed_out
+    c.exchange_all-2.ensures.handed_out)

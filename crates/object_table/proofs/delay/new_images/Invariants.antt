@@ -1,9 +1,17 @@
-use Rattle.std.proofs.Common.{◌≡◌, ◌≤◌, ◌-◌, length}
+use Rattle.std.proofs.Common.{◌≡◌, ◌≤◌, ◌+◌, ◌-◌, length, vec_capacity}
+use Rattle.vx_base.specs.declared.format.Format.{Format}
+use Rattle.pixel_pool.specs.Pool.{lent_of}
+use Rattle.object_table.specs.Blocks.{delay_blocks}
 use Rattle.object_table.specs.Delay.{new_delay}
 use Rattle.object_table.proofs.delay.new_images.Given as goal
 
-abbrev pub invariant-loop-alloc : goal.invariant-loop-alloc
-invariant-loop-alloc l = (length l.images.items ≤ l.count) × (l.images.items ≡ new_delay l.desc (length l.images.items))
+abbrev pub invariant-loop-desc : goal.invariant-loop-desc
+invariant-loop-desc l = record {
+  room : l.count ≤ vec_capacity l.images;
+  within : length l.images.items ≤ l.count;
+  new : l.images.items ≡ new_delay l.desc (length l.images.items);
+  lends : (format : Format) → lent_of l.pool format ≡ lent_of l.fn.pool format + delay_blocks l.images.items format;
+}
 
-abbrev pub decreases-loop-alloc : goal.decreases-loop-alloc
-decreases-loop-alloc l = l.count - length l.images.items
+abbrev pub decreases-loop-desc : goal.decreases-loop-desc
+decreases-loop-desc l = l.count - length l.images.items

@@ -1,36 +1,36 @@
-use Rattle.std.proofs.Common.{◌≡◌, ℕ, ℤ, rules, ◌∙◌, ap, sym, subst, arith, ◌*◌, ◌/◌, ◌%◌, ◌+◌, zero-add, refl, w16, FitsSigned, to_z, of_z}
+use Rattle.std.proofs.Common.{◌≡◌, ◌≤◌, ◌*◌, ◌/◌, ◌%◌, ◌+◌, ◌∙◌, ap, sym, subst, map, length, arith, w16, FitsSigned}
 use Rattle.std.specs.Simd.Lanes.{Each1}
-use Rattle.std.proofs.lemmas.Int.{ints}
-use Rattle.std.proofs.lemmas.List.{take_all}
+use Rattle.std.proofs.lemmas.List.{map-id, take_all}
 use Rattle.std.proofs.lemmas.Simd.{Each1-get_or}
 use Rattle.vx_base.specs.Image.{run}
-use Rattle.vx_base.proofs.TableLaws.{sample_written}
-use Rattle.window_kernels.specs.Products.{turned}
-use Rattle.window_kernels.proofs.RowLaws.{item_fits}
+use Rattle.vx_base.proofs.TableLaws.{length-run}
+use Rattle.window_kernels.specs.Products.{turned, turned_pairs}
+use Rattle.window_kernels.proofs.MatrixLaws.{table_written}
+use Rattle.window_kernels.proofs.RowLaws.{part_fits}
 use Rattle.window_kernels.proofs.convolution.write_tables.Goals as goal
 
-pub turned-requires : goal.turned-requires
-turned-requires c = omega (arith, c.requires)
-
-pub loop-n-init : goal.loop-n-init
-loop-n-init c = record { value = refl; fits = tt }
-
-pub loop-n-preserved : goal.loop-n-preserved
-loop-n-preserved c =
-    let f : ℕ → ℤ = λ n. turned c.args.convolution.now (n / 80) (n % 80 / 16 * 2 + n % 2) in
-    let same : to_z w16 (of_z w16 c.turned.result) ≡ c.turned.result = omega (arith, ints, c.turned.type_inv) in
-    let fits : FitsSigned w16 c.turned.result = search rules in
+pub loop-row-preserved : goal.loop-row-preserved
+loop-row-preserved c =
+    let l = c.loop-row.row in
+    let out = c.loop-row.tables in
+    let ws = c.write_table.new.table in
+    let long : length ws ≡ 80 = ap length c.write_table.ensures.value ∙ length-run (turned_pairs c.args.convolution.now l) 0 80 in
+    let room : 80 * l ≤ length out = omega (arith, c.requires, c.loop-row.auto.tables, c.loop-row-test.true, c.from-row-end.ensures, c.rows.ensures.value) in
     record {
-      value = sample_written f 0 c.loop-n.n c.loop-n.tables _ c.loop-n.invariant.value (omega arith) (same ∙ c.turned.ensures ∙ ap f (sym (zero-add c.loop-n.n)));
-      fits = item_fits (FitsSigned w16) c.loop-n.tables c.loop-n.n _ c.loop-n.invariant.fits (omega arith) (subst (FitsSigned w16) (sym same) fits);
+      value = table_written c.args.convolution.now l _ out ws room c.loop-row.invariant.value c.write_table.ensures.value;
+      fits = part_fits (FitsSigned w16) out ws (80 * l) _ (80 * (l + 1)) room (omega (arith, long)) c.loop-row.invariant.fits c.write_table.ensures.fits;
     }
 
 pub returns-clause-value : goal.returns-clause-value
 returns-clause-value c =
-    let end : c.loop-n.n ≡ c.args.convolution.now.rows * 80 = omega (arith, c.requires) in
-    sym (take_all c.loop-n.n c.loop-n.tables (omega arith)) ∙ c.loop-n.invariant.value ∙ ap (λ n. run 0 n (λ n. turned c.args.convolution.now (n / 80) (n % 80 / 16 * 2 + n % 2))) end
+    let end : 80 * c.loop-row.row ≡ c.args.convolution.now.rows * 80 = omega (arith, c.from-row-end.ensures, c.rows.ensures.value) in
+    sym (map-id c.loop-row.tables)
+    ∙ ap (map (λ z. z)) (sym (take_all (80 * c.loop-row.row) c.loop-row.tables (omega (arith, c.requires))))
+    ∙ c.loop-row.invariant.value
+    ∙ ap (λ n. run 0 n (λ n. turned c.args.convolution.now (n / 80) (n % 80 / 16 * 2 + n % 2))) end
 
 pub returns-clause-fits : goal.returns-clause-fits
 returns-clause-fits c =
-    let each = subst (Each1 (FitsSigned w16)) (take_all c.loop-n.n c.loop-n.tables (omega arith)) c.loop-n.invariant.fits in
-    λ i d below. Each1-get_or (FitsSigned w16) c.loop-n.tables i d below each
+    let end : 80 * c.loop-row.row ≡ c.args.convolution.now.rows * 80 = omega (arith, c.from-row-end.ensures, c.rows.ensures.value) in
+    let each = subst (Each1 (FitsSigned w16)) (take_all (80 * c.loop-row.row) c.loop-row.tables (omega (arith, c.requires))) c.loop-row.invariant.fits in
+    λ i d below. Each1-get_or (FitsSigned w16) c.loop-row.tables i d below each

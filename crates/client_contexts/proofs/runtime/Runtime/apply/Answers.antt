@@ -1,14 +1,17 @@
-use Rattle.std.proofs.Common.{sym, subst}
-use Rattle.std.specs.Prelude.{All}
-use Rattle.std.specs.Ordering.{nat_cmp}
-use Rattle.std.specs.Map.{values_of}
-use Rattle.std.specs.BTreeMap.{is_at}
-use Rattle.std.proofs.lemmas.Map.Views.{All-values-set_value}
-use Rattle.client_model.specs.States.{KeepsLimits}
+use Rattle.std.proofs.Common.{ℕ, List, sym, subst}
+use Rattle.object_table.specs.Context.{Context}
+use Rattle.client_contexts.specs.Blocks.{IsRuntime}
+use Rattle.client_contexts.proofs.RuntimeLemmas.{lends_to_client, changed_is}
 use Rattle.client_contexts.proofs.runtime.Runtime.apply.Goals as goal
+
+pub answer-requires-clause-owns : goal.answer-requires-clause-owns
+answer-requires-clause-owns c =
+    let s = c.self.inside in
+    lends_to_client s.limits s.contexts.entries s.pool c.self.invariant c.args.client c.in-Some.held.now (sym c.in-Some.ensures.value)
 
 pub invariant_of-self : goal.invariant_of-self
 invariant_of-self c =
     let s = c.self.inside in
-    subst (λ entries. All (KeepsLimits s.limits) (values_of entries)) (sym (c.get_mut.follows.holds c.answer.new.table).0)
-    (All-values-set_value (is_at (nat_cmp c.args.client)) (KeepsLimits s.limits) s.contexts.entries c.answer.new.table c.self.invariant c.answer.ensures.kept)
+    subst (λ (entries : List (ℕ × Context)). IsRuntime s.limits entries c.answer.new.pool) (sym (c.get_mut.follows.holds c.answer.new.self).0)
+    (changed_is s.limits s.contexts.entries s.pool c.self.invariant c.args.client c.in-Some.held.now c.answer.new.self c.answer.new.pool (sym c.in-Some.ensures.value)
+    c.answer.ensures.kept c.answer.ensures.balances)

@@ -1,15 +1,16 @@
-use Rattle.std.proofs.Common.{ℕ, sym, subst}
-use Rattle.std.specs.Prelude.{All}
-use Rattle.std.specs.Ordering.{nat_cmp}
-use Rattle.std.specs.Map.{values_of}
-use Rattle.std.specs.BTreeMap.{is_at}
-use Rattle.std.proofs.lemmas.Map.Views.{All-map-remove_entry}
+use Rattle.std.proofs.Common.{ℕ, List, sym, subst}
 use Rattle.object_table.specs.Context.{Context}
-use Rattle.client_model.specs.States.{KeepsLimits}
+use Rattle.client_contexts.specs.Blocks.{IsRuntime}
+use Rattle.client_contexts.proofs.RuntimeLemmas.{lends_to_client, removed_is}
 use Rattle.client_contexts.proofs.runtime.Runtime.release_context.Goals as goal
+
+pub end-requires : goal.end-requires
+end-requires c =
+    let s = c.self.inside in
+    lends_to_client s.limits s.contexts.entries s.pool c.self.invariant c.args.client c.in-Some.held (sym c.in-Some.ensures.value)
 
 pub invariant_of-self : goal.invariant_of-self
 invariant_of-self c =
     let s = c.self.inside in
-    subst (λ entries. All (KeepsLimits s.limits) (values_of entries)) (sym c.remove.ensures.entries)
-    (All-map-remove_entry (is_at (nat_cmp c.args.client)) (λ (e : ℕ × Context). e.1) (KeepsLimits s.limits) s.contexts.entries c.self.invariant)
+    subst (λ (entries : List (ℕ × Context)). IsRuntime s.limits entries c.end.new.pool) (sym c.remove.ensures.entries)
+    (removed_is s.limits s.contexts.entries s.pool c.self.invariant c.args.client c.in-Some.held c.end.new.pool (sym c.in-Some.ensures.value) c.end.ensures)

@@ -8,5 +8,5 @@ pub returns-clause-delay : goal.returns-clause-delay
 returns-clause-delay c =
     let d = c.args.desc in
     let n = c.from-count.result in
-    subst IsDelay (sym c.in_ok-images.ensures)
+    subst IsDelay (sym c.in_ok-images.ensures.value)
     (new_delay_is d n (side d.width c.has_sides.ensures.width) (side d.height c.has_sides.ensures.height) (omega (arith, c.from-count.ensures, c.get.ensures.limits.0)) (omega (arith, c.from-count.ensures, c.get.ensures.limits.1)))

@@ -1,12 +1,18 @@
-use Rattle.std.proofs.Common.{subst, sym}
+use Rattle.std.proofs.Common.{subst, sym, rules}
 use Rattle.vx_base.specs.Image.{IsImage}
 use Rattle.vx_base.proofs.ImageLaws.{new_image_is}
 use Rattle.vx_base.proofs.PictureLaws.{side}
 use Rattle.object_table.proofs.StoredLemmas.{zeros_are_new}
 use Rattle.object_table.proofs.stored.Stored.new.Goals as goal
 
+-- (that the samples are 0 is searched for, not named: a body that takes what is not cleared is refused for the fact that it lacks)
 pub returns : goal.returns
 returns c =
     let d = c.args.desc in
-    let new = zeros_are_new d c.whole.result c.in_ok-samples.samples c.sample_count.result c.whole.ensures c.sample_count.ensures.value c.in_ok-samples.ensures.zero in
-    record { value = new; image = subst IsImage (sym new) (new_image_is d.width d.height d.format (side d.width c.has_sides.ensures.width) (side d.height c.has_sides.ensures.height)) }
+    let new = zeros_are_new d c.whole.result c.in_ok-samples.samples c.sample_count.result c.whole.ensures c.sample_count.ensures.value (search rules) in
+    record {
+      value = new;
+      image = subst IsImage (sym new) (new_image_is d.width d.height d.format (side d.width c.has_sides.ensures.width) (side d.height c.has_sides.ensures.height));
+      lends = search rules;
+      err = tt;
+    }

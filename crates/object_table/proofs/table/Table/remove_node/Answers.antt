@@ -8,6 +8,7 @@ use Rattle.vx_base.specs.declared.node.Node.{Node}
 use Rattle.vx_base.specs.Graph.{has_node, without_node}
 use Rattle.vx_base.specs.Object.{ObjectValue, GraphObject}
 use Rattle.object_table.specs.declared.table.Entry.{Entry}
+use Rattle.object_table.specs.Blocks.{object_blocks, blocks_in, LendsAtLeast, Balances}
 use Rattle.object_table.specs.Context.{Context, charge_of, with_objects}
 use Rattle.object_table.specs.Holds.{still_held}
 use Rattle.object_table.specs.Named.{Named}
@@ -16,6 +17,7 @@ use Rattle.std.specs.Prelude.{All, IsTrue}
 use Rattle.object_table.specs.Table.{IsTable, named, used_less, is_kept, kept}
 use Rattle.object_table.specs.Uses.{used_names}
 use Rattle.object_table.proofs.EntryLemmas.{nothing_under, kind_under, under_is, shown_name}
+use Rattle.object_table.proofs.EntryBlockLemmas.{owns-written, Balances-written, Balances-written_then, graph_blocks}
 use Rattle.object_table.proofs.GraphLemmas.{unchanged, charged-after, held-after, live_there, removed-left, IsTable-same}
 use Rattle.object_table.proofs.table.Table.remove_node.Goals as goal
 
@@ -113,3 +115,39 @@ returns-clause-missing c =
     let s = c.self.inside in
     let under = under_is c.args.self.now s.next s.entries.entries c.self.view_is c.args.graph c.in-Some.entry.now (sym c.in-Some.ensures.value) in
     c.in_ok-node.ensures.missing ∙ ap (λ (o : ObjectValue). not (has_node (graph_value o) c.args.number)) (sym under)
+
+pub returns-in_err-node-clause-balances : goal.returns-in_err-node-clause-balances
+returns-in_err-node-clause-balances c =
+    let s = c.self.inside in
+    let old = c.in-Some.entry.now in
+    let new = record old { object = c.remove_node.new.self } in
+    let written = c.get_mut.follows.holds new in
+    subst (λ (t : Context). Balances c.args.pool.now c.args.pool.now t.objects (map named (c.get_mut.follows.lender new).entries)) c.self.view_is
+    (Balances-written s.entries.entries c.args.graph old new (sym c.in-Some.ensures.value) (λ format. ap (λ o. object_blocks o format) c.in_err-node.ensures.err) (c.get_mut.follows.lender new).entries written.0
+    c.args.pool.now)
+
+pub end_uses-self-inside-requires-clause-owns : goal.end_uses-self-inside-requires-clause-owns
+end_uses-self-inside-requires-clause-owns c =
+    let s = c.self.inside in
+    let old = c.in-Some.entry.now in
+    let new = record old { object = c.remove_node.new.self } in
+    let written = c.get_mut.follows.holds new in
+    let found = sym c.in-Some.ensures.value in
+    let of_graph = kind_under c.args.self.now s.next s.entries.entries c.self.view_is kind.Graph c.args.graph old found c.requires.graph in
+    let same = graph_blocks old.object new.object (without_node (graph_value old.object) c.args.number) of_graph c.in_ok-node.ensures.ok in
+    owns-written s.entries.entries c.args.graph old new found same (c.get_mut.follows.lender new).entries written.0 c.args.pool.now
+    (subst (λ (t : Context). LendsAtLeast c.args.pool.now (blocks_in t.objects)) (sym c.self.view_is) c.requires.owns)
+
+pub returns-clause-balances : goal.returns-clause-balances
+returns-clause-balances c =
+    let s = c.self.inside in
+    let old = c.in-Some.entry.now in
+    let new = record old { object = c.remove_node.new.self } in
+    let written = c.get_mut.follows.holds new in
+    let found = sym c.in-Some.ensures.value in
+    let of_graph = kind_under c.args.self.now s.next s.entries.entries c.self.view_is kind.Graph c.args.graph old found c.requires.graph in
+    let same = graph_blocks old.object new.object (without_node (graph_value old.object) c.args.number) of_graph c.in_ok-node.ensures.ok in
+    let left = c.end_uses-self-inside.new.entries.entries in
+    subst (λ (t : Context). Balances c.args.pool.now c.end_uses-self-inside.new.pool t.objects (map named left)) c.self.view_is
+    (Balances-written_then s.entries.entries c.args.graph old new found same (c.get_mut.follows.lender new).entries written.0
+    c.args.pool.now c.end_uses-self-inside.new.pool left c.end_uses-self-inside.ensures.balances)

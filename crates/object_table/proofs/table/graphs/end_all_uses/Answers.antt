@@ -1,24 +1,25 @@
-use Rattle.std.proofs.Common.{◌<◌, ◌≤◌, length, take, ap, ◌∙◌, arith}
+use Rattle.std.proofs.Common.{◌<◌, ◌≤◌, length, map, take, refl, ap, ◌∙◌, arith}
 use Rattle.std.specs.List.{flat_map}
 use Rattle.std.proofs.lemmas.List.{length-map, take_all}
-use Rattle.object_table.specs.Table.{nodes_at}
+use Rattle.object_table.specs.Table.{named, nodes_at}
 use Rattle.object_table.specs.Uses.{used_names}
 use Rattle.object_table.proofs.UseLemmas.{node_more}
 use Rattle.object_table.proofs.KeptLemmas.{left_of, left-nil, left-append, held-left, kind_kept, nodes_kept, count_kept}
+use Rattle.object_table.proofs.EntryBlockLemmas.{owns_after, Balances-trans}
 use Rattle.object_table.proofs.table.graphs.end_all_uses.Goals as goal
 
 pub loop-k-init : goal.loop-k-init
-loop-k-init c = (left-nil c.args.entries.now.entries c.requires.held, c.requires.charge)
+loop-k-init c = record { left_over = left-nil c.args.entries.now.entries c.requires.held; charge = c.requires.charge; balances = λ format. refl }
 
 pub nodes_under-requires : goal.nodes_under-requires
 nodes_under-requires c =
     let old = c.args.entries.now.entries in
-    kind_kept c.args.graph (flat_map used_names (take c.loop-k.k (nodes_at c.args.graph old))) old c.loop-k.entries.entries c.loop-k.invariant.0 c.requires.live ∙ c.requires.graph
+    kind_kept c.args.graph (flat_map used_names (take c.loop-k.k (nodes_at c.args.graph old))) old c.loop-k.entries.entries c.loop-k.invariant.left_over c.requires.live ∙ c.requires.graph
 
 pub bounds-nodes_under-k : goal.bounds-nodes_under-k
 bounds-nodes_under-k c =
     let old = c.args.entries.now.entries in
-    let same = count_kept c.args.graph (flat_map used_names (take c.loop-k.k (nodes_at c.args.graph old))) old c.loop-k.entries.entries c.loop-k.invariant.0 c.requires.live
+    let same = count_kept c.args.graph (flat_map used_names (take c.loop-k.k (nodes_at c.args.graph old))) old c.loop-k.entries.entries c.loop-k.invariant.left_over c.requires.live
     c.nodes_under-count.result.now c.nodes_under.result.now c.nodes_under-count.ensures c.nodes_under.ensures in
     omega (arith, same, c.loop-k-test.true)
 
@@ -28,10 +29,10 @@ bounds-nodes_under-k-in-loop-k c = bounds-nodes_under-k c
 pub end_uses-left-requires-clause-held : goal.end_uses-left-requires-clause-held
 end_uses-left-requires-clause-held c =
     let old = c.args.entries.now.entries in
-    held-left (flat_map used_names (take c.loop-k.k (nodes_at c.args.graph old))) old c.loop-k.entries.entries c.loop-k.invariant.0
+    held-left (flat_map used_names (take c.loop-k.k (nodes_at c.args.graph old))) old c.loop-k.entries.entries c.loop-k.invariant.left_over
 
 pub end_uses-left-requires-clause-charge : goal.end_uses-left-requires-clause-charge
-end_uses-left-requires-clause-charge c = c.loop-k.invariant.1
+end_uses-left-requires-clause-charge c = c.loop-k.invariant.charge
 
 pub loop-k-preserved : goal.loop-k-preserved
 loop-k-preserved c =
@@ -40,16 +41,25 @@ loop-k-preserved c =
     let names = flat_map used_names (take c.loop-k.k nodes) in
     let now = c.loop-k.entries.entries in
     let found = c.nodes_under.result.now in
-    let same = count_kept c.args.graph names old now c.loop-k.invariant.0 c.requires.live c.nodes_under-count.result.now found c.nodes_under-count.ensures c.nodes_under.ensures in
-    let there : c.loop-k.k < length found = omega (arith, same, c.loop-k-test.true) in (
-      node_more left_of left-append nodes found c.loop-k.k c.index-nodes_under-k.result c.node.result old now c.end_uses-left.new.entries.entries c.loop-k.invariant.0
-          (c.nodes_under.ensures ∙ nodes_kept c.args.graph names old now c.loop-k.invariant.0 c.requires.live) there c.node.ensures.value c.end_uses-left.ensures.entries,
-      c.end_uses-left.ensures.charge,
-    )
+    let same = count_kept c.args.graph names old now c.loop-k.invariant.left_over c.requires.live c.nodes_under-count.result.now found c.nodes_under-count.ensures c.nodes_under.ensures in
+    let there : c.loop-k.k < length found = omega (arith, same, c.loop-k-test.true) in
+    record {
+      left_over =
+          node_more left_of left-append nodes found c.loop-k.k c.index-nodes_under-k.result c.node.result old now c.end_uses-left.new.entries.entries c.loop-k.invariant.left_over
+          (c.nodes_under.ensures ∙ nodes_kept c.args.graph names old now c.loop-k.invariant.left_over c.requires.live) there c.node.ensures.value c.end_uses-left.ensures.entries;
+      charge = c.end_uses-left.ensures.charge;
+      balances =
+          Balances-trans c.args.pool.now c.loop-k.pool c.end_uses-left.new.pool (map named old) (map named now) (map named c.end_uses-left.new.entries.entries) c.loop-k.invariant.balances
+          c.end_uses-left.ensures.balances;
+    }
+
+pub end_uses-left-requires-clause-owns : goal.end_uses-left-requires-clause-owns
+end_uses-left-requires-clause-owns c =
+    owns_after c.args.pool.now c.loop-k.pool (map named c.args.entries.now.entries) (map named c.loop-k.entries.entries) c.requires.owns c.loop-k.invariant.balances
 
 pub returns-clause-entries : goal.returns-clause-entries
 returns-clause-entries c =
     let old = c.args.entries.now.entries in
     let nodes = nodes_at c.args.graph old in
     let past : length nodes ≤ c.loop-k.k = omega (arith, c.loop-k-test.false, ap length c.nodes_under-count.ensures, length-map c.nodes_under-count.result.now (λ n. n.node)) in
-    c.loop-k.invariant.0 ∙ ap (λ l. left_of (flat_map used_names l) old) (take_all c.loop-k.k nodes past)
+    c.loop-k.invariant.left_over ∙ ap (λ l. left_of (flat_map used_names l) old) (take_all c.loop-k.k nodes past)

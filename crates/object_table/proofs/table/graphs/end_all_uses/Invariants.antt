@@ -1,11 +1,14 @@
 use Rattle.std.proofs.Common.{◌≡◌, take, map}
 use Rattle.std.specs.List.{flat_map}
+use Rattle.object_table.specs.Blocks.{Balances}
 use Rattle.object_table.specs.Context.{charge_of}
 use Rattle.object_table.specs.Table.{named, nodes_at, used_less, kept}
 use Rattle.object_table.specs.Uses.{used_names}
 use Rattle.object_table.proofs.table.graphs.end_all_uses.Given as goal
 
 abbrev pub invariant-loop-k : goal.invariant-loop-k
-invariant-loop-k l =
-    (l.entries.entries ≡ kept (used_less (flat_map used_names (take l.k (nodes_at l.graph l.fn.entries.entries))) l.fn.entries.entries))
-    × (l.left ≡ charge_of (map named l.entries.entries))
+invariant-loop-k l = record {
+  left_over : l.entries.entries ≡ kept (used_less (flat_map used_names (take l.k (nodes_at l.graph l.fn.entries.entries))) l.fn.entries.entries);
+  charge : l.left ≡ charge_of (map named l.entries.entries);
+  balances : Balances l.fn.pool l.pool (map named l.fn.entries.entries) (map named l.entries.entries);
+}

@@ -6,6 +6,7 @@ use Rattle.std.proofs.lemmas.Bool.{lt-ltb, le-ltb}
 use Rattle.object_table.specs.Context.{charge_of}
 use Rattle.object_table.specs.Table.{named, kept}
 use Rattle.object_table.proofs.KeptLemmas.{all_kept, held-written, dropped, charge-written, ended-none, ended-one}
+use Rattle.object_table.proofs.EntryBlockLemmas.{owns-written, Balances-written, Balances-written_then}
 use Rattle.object_table.proofs.table.graphs.end_name.Goals as goal
 
 pub returns-in_default-clause-entries : goal.returns-in_default-clause-entries
@@ -30,8 +31,8 @@ returns-then-entry-gt0-clause-charge c =
     c.requires.charge ∙ charge-written c.args.entries.now.entries c.args.name old new (sym c.in-Some.ensures.value) refl
     ∙ ap (λ l. charge_of (map named l)) (sym (c.get_mut.follows.holds new).0)
 
-pub drop_entry-requires : goal.drop_entry-requires
-drop_entry-requires c =
+pub end_entry-requires-clause-charge : goal.end_entry-requires-clause-charge
+end_entry-requires-clause-charge c =
     let old = c.in-Some.entry.now in
     let new = record old { live = false } in
     c.requires.charge ∙ charge-written c.args.entries.now.entries c.args.name old new (sym c.in-Some.ensures.value) refl
@@ -43,7 +44,29 @@ returns-clause-entries c =
     let old = c.in-Some.entry.now in
     let new = record old { live = false } in
     let found = sym c.in-Some.ensures.value in
-    c.drop_entry.ensures.entries
+    c.end_entry.ensures.entries
     ∙ ap (remove_entry (is_at (nat_cmp c.args.name))) (c.get_mut.follows.holds new).0
     ∙ dropped entries c.args.name old new found c.requires.held (le-ltb 0 old.uses c.if-entry-gt0.false)
     ∙ ap kept (ended-one entries c.args.name old c.get_mut.ensures.ordered found)
+
+pub returns-then-entry-gt0-clause-balances : goal.returns-then-entry-gt0-clause-balances
+returns-then-entry-gt0-clause-balances c =
+    let old = c.in-Some.entry.now in
+    let new = record old { live = false } in
+    let written = c.get_mut.follows.holds new in
+    Balances-written c.args.entries.now.entries c.args.name old new (sym c.in-Some.ensures.value) (λ format. refl) (c.get_mut.follows.lender new).entries written.0 c.args.pool.now
+
+pub end_entry-requires-clause-owns : goal.end_entry-requires-clause-owns
+end_entry-requires-clause-owns c =
+    let old = c.in-Some.entry.now in
+    let new = record old { live = false } in
+    let written = c.get_mut.follows.holds new in
+    owns-written c.args.entries.now.entries c.args.name old new (sym c.in-Some.ensures.value) (λ format. refl) (c.get_mut.follows.lender new).entries written.0 c.args.pool.now c.requires.owns
+
+pub returns-clause-balances : goal.returns-clause-balances
+returns-clause-balances c =
+    let old = c.in-Some.entry.now in
+    let new = record old { live = false } in
+    let written = c.get_mut.follows.holds new in
+    Balances-written_then c.args.entries.now.entries c.args.name old new (sym c.in-Some.ensures.value) (λ format. refl) (c.get_mut.follows.lender new).entries written.0
+    c.args.pool.now c.end_entry.new.pool c.end_entry.new.entries.entries c.end_entry.ensures.balances

@@ -8,6 +8,7 @@ use Rattle.object_table.specs.Context.{charge_of}
 use Rattle.object_table.specs.Table.{named, kept}
 use Rattle.object_table.proofs.UseLemmas.{with_uses, less, less_is, used-one, used-none, operand_uses, no_operand_uses}
 use Rattle.object_table.proofs.KeptLemmas.{all_kept, held-written, dropped, charge-written, left_of, left-nil}
+use Rattle.object_table.proofs.EntryBlockLemmas.{owns-written, Balances-written, Balances-written_then}
 use Rattle.object_table.proofs.table.graphs.end_use.Goals as goal
 use Rattle.object_table.proofs.table.graphs.end_use.Goals.{then-entry-via-then-entry, then-entry-via-else-entry+then-entry-gt0}
 
@@ -59,8 +60,8 @@ returns-then-entry-clause-charge c =
     c.requires.charge ∙ charge-written c.args.entries.now.entries c.name-name.result old new (sym c.in-Some-get_mut.ensures.value) refl
     ∙ ap (λ l. charge_of (map named l)) (sym then)
 
-pub drop_entry-requires : goal.drop_entry-requires
-drop_entry-requires c =
+pub end_entry-requires-clause-charge : goal.end_entry-requires-clause-charge
+end_entry-requires-clause-charge c =
     let old = c.in-Some-get_mut.entry.now in
     let new = with_uses old c.saturating_sub-entry.result in
     c.requires.charge ∙ charge-written c.args.entries.now.entries c.name-name.result old new (sym c.in-Some-get_mut.ensures.value) refl
@@ -74,9 +75,35 @@ returns-clause-entries c =
     let left = c.saturating_sub-entry.result in
     let new = with_uses old left in
     let found = sym c.in-Some-get_mut.ensures.value in
-    c.drop_entry.ensures.entries
+    c.end_entry.ensures.entries
     ∙ ap (remove_entry (is_at (nat_cmp name))) (c.get_mut.follows.holds new).0
     ∙ dropped entries name old new found c.requires.held (or_from old.live (nat_lt 0 left) c.if-entry.false (le-ltb 0 left c.if-entry-gt0.false))
     ∙ ap (λ n. kept (set_value (is_at (nat_cmp name)) entries (with_uses old n))) c.saturating_sub-entry.ensures
     ∙ ap kept (used-one less less_is entries name old c.get_mut.ensures.ordered found)
     ∙ operand_uses left_of c.args.operand c.in-Some.cell name entries c.in-Some.is c.name-name.ensures.value
+
+pub returns-then-entry-clause-balances : goal.returns-then-entry-clause-balances
+returns-then-entry-clause-balances c =
+    let old = c.in-Some-get_mut.entry.now in
+    let new = with_uses old c.saturating_sub-entry.result in
+    let then : c.then-entry.entries.entries ≡ set_value (is_at (nat_cmp c.name-name.result)) c.args.entries.now.entries new =
+    elim c.then-entry.branch [
+      | then-entry-via-then-entry w ↦ ap (λ m. m.entries) w.entries-is ∙ (c.get_mut.follows.holds new).0
+      | then-entry-via-else-entry+then-entry-gt0 w ↦ ap (λ m. m.entries) w.entries-is ∙ (c.get_mut.follows.holds new).0
+    ] in
+    Balances-written c.args.entries.now.entries c.name-name.result old new (sym c.in-Some-get_mut.ensures.value) (λ format. refl) c.then-entry.entries.entries then c.args.pool.now
+
+pub end_entry-requires-clause-owns : goal.end_entry-requires-clause-owns
+end_entry-requires-clause-owns c =
+    let old = c.in-Some-get_mut.entry.now in
+    let new = with_uses old c.saturating_sub-entry.result in
+    let written = c.get_mut.follows.holds new in
+    owns-written c.args.entries.now.entries c.name-name.result old new (sym c.in-Some-get_mut.ensures.value) (λ format. refl) (c.get_mut.follows.lender new).entries written.0 c.args.pool.now c.requires.owns
+
+pub returns-clause-balances : goal.returns-clause-balances
+returns-clause-balances c =
+    let old = c.in-Some-get_mut.entry.now in
+    let new = with_uses old c.saturating_sub-entry.result in
+    let written = c.get_mut.follows.holds new in
+    Balances-written_then c.args.entries.now.entries c.name-name.result old new (sym c.in-Some-get_mut.ensures.value) (λ format. refl) (c.get_mut.follows.lender new).entries written.0
+    c.args.pool.now c.end_entry.new.pool c.end_entry.new.entries.entries c.end_entry.ensures.balances

@@ -1,0 +1,120 @@
+-- In how many blocks a context has its samples: as one object more is held, and as objects are written.
+use Rattle.std.proofs.Common.{◌≡◌, ◌∙◌, ℕ, ◌+◌, ◌-◌, true, List, [], Option, Some, None, length, take, drop, refl, sym, ap, subst, arith}
+use Rattle.std.specs.Prelude.{sum, sum_by, unwrap_or}
+use Rattle.std.specs.List.Sorted.{IsStrictlyIncreasing}
+use Rattle.std.specs.Option.{option_map, option_and_then}
+use Rattle.std.proofs.lemmas.List.{take-append-drop}
+use Rattle.std.proofs.lemmas.List.Elements.{All-weaker}
+use Rattle.std.proofs.lemmas.List.Sums.{sum-map, sum_by-append}
+use Rattle.vx_base.specs.declared.format.Format.{Format}
+use Rattle.vx_base.specs.declared.format.Format.TheVariants.{U8}
+use Rattle.vx_base.specs.declared.kind.Kind.TheVariants as kind
+use Rattle.vx_base.specs.Cell.{Cell, cell_of}
+use Rattle.vx_base.specs.Description.{Description}
+use Rattle.vx_base.specs.Graph.{GraphValue}
+use Rattle.vx_base.specs.Image.{ImageValue, new_image, image_over, description_of}
+use Rattle.vx_base.specs.Object.{ObjectValue, ImageObject, DelayObject, GraphObject, object_kind}
+use Rattle.vx_base.specs.Rectangle.{empty}
+use Rattle.object_table.specs.Blocks.{image_blocks, object_blocks, blocks_in, KeepsBlocks}
+use Rattle.object_table.specs.Context.{Context, with_new, with_graph}
+use Rattle.object_table.specs.Delay.{in_slot, with_slot}
+use Rattle.object_table.specs.Named.{Named, object_held, held, with_object}
+use Rattle.object_table.specs.Object.{image_value, aged_object}
+use Rattle.object_table.specs.Skeleton.{skeleton}
+use Rattle.object_table.specs.Table.{IsUnder, HoldsImage, object_under, image_held}
+use Rattle.object_table.proofs.BlockLaws.{blocks-with_new, same_blocks, keeps_blocks}
+use Rattle.object_table.proofs.HeldLemmas.{names_of, HasObject, map-with_object}
+use Rattle.object_table.proofs.SkeletonLaws.{map-told, skeleton-with_slot}
+use Rattle.object_table.proofs.SlotLemmas.{image_of_kind}
+use Rattle.graph_run.specs.Lasting.{lasting_named, Lasts}
+use Rattle.graph_run.proofs.CellLemmas.{held_once}
+
+-- ---- one object more
+
+-- as many more as that has
+pub blocks_more : (c new : Context) (object : ObjectValue) (format : Format) → new ≡ with_new c object
+    → blocks_in new.objects format ≡ blocks_in c.objects format + object_blocks object format
+blocks_more c new object format is =
+    ap (λ (k : Context). blocks_in k.objects format) is
+    ∙ blocks-with_new c.objects (record { name = c.next; live = true; object = object }) format
+
+-- ---- objects that are written
+
+-- as many where as much lasts as writes leave
+pub lasting_blocks : (objects new : List Named) → Lasts objects new → KeepsBlocks objects new
+lasting_blocks objects new h =
+    keeps_blocks new objects (map-told lasting_named (λ o. skeleton o.object) (λ left. left.0.object) (λ _. refl) new objects h.lasting)
+
+-- as many of a delay that ages
+aged_blocks : (object : ObjectValue) (format : Format) → object_blocks (aged_object object) format ≡ object_blocks object format
+aged_blocks (DelayObject images) format =
+    let n = length images - 1 in
+    omega (
+      arith,
+      sum_by-append (λ image. image_blocks image format) (drop n images) (take n images),
+      sum_by-append (λ image. image_blocks image format) (take n images) (drop n images),
+      ap (sum_by (λ image. image_blocks image format)) (take-append-drop n images),
+    )
+aged_blocks other format = refl
+
+module _ (objects : List Named) (names : IsStrictlyIncreasing (names_of objects)) where
+  -- as many where the object of a name has as many once it is written
+  blocks_replaced : (cell : Cell) (new object : ObjectValue) → object_held objects cell.name ≡ Some object
+      → ((format : Format) → object_blocks (with_slot cell.slot new object) format ≡ object_blocks object format) → KeepsBlocks objects (with_object objects cell new)
+  blocks_replaced cell new object found same format =
+      let of_named : Named → ℕ = λ o. object_blocks o.object format in
+      sym (sum-map of_named (with_object objects cell new))
+      ∙ ap sum (map-with_object of_named objects cell new
+      (All-weaker (HasObject cell.name object) (λ o. o.name ≡ cell.name → of_named (record o { object = with_slot cell.slot new o.object }) ≡ of_named o)
+      (λ o at named. subst (λ x. object_blocks (with_slot cell.slot new x) format ≡ object_blocks x format) (sym (at named)) (same format))
+      objects (held_once objects cell.name object names found)))
+      ∙ sum-map of_named objects
+
+  -- where a cell is written with what has the skeleton of what is there
+  blocks_written : (cell : Cell) (new : ObjectValue) → option_map skeleton (held objects cell) ≡ Some (skeleton new) → KeepsBlocks objects (with_object objects cell new)
+  blocks_written cell new there = found (object_held objects cell.name) refl
+    where
+      as_found : (o : Option ObjectValue) → object_held objects cell.name ≡ o → option_map skeleton (option_and_then (in_slot cell.slot) o) ≡ Some (skeleton new)
+      as_found o e = ap (λ y. option_map skeleton (option_and_then (in_slot cell.slot) y)) (sym e) ∙ there
+
+      found : (o : Option ObjectValue) → object_held objects cell.name ≡ o → KeepsBlocks objects (with_object objects cell new)
+      found None e = let no : ◌≡◌ {A = Option ObjectValue} None (Some (skeleton new)) = as_found None e in absurd (cc)
+      found (Some object) e =
+          blocks_replaced cell new object e
+          (λ format. same_blocks (with_slot cell.slot new object) object format (skeleton-with_slot cell.slot new object (as_found (Some object) e)))
+
+  -- where an image is written over one of its size and format
+  pub image_blocks_kept : (cell : Cell) (image new : ImageValue) → HoldsImage objects cell → image_held objects cell ≡ image → description_of new ≡ description_of image
+      → KeepsBlocks objects (with_object objects cell (ImageObject new))
+  image_blocks_kept cell image new there is same = blocks_written cell (ImageObject new) (as_there (held objects cell) there is)
+    where
+      as_there : (o : Option ObjectValue) → option_map object_kind o ≡ Some kind.Image → image_value (unwrap_or o (ImageObject (new_image 0 0 U8))) ≡ image
+          → option_map skeleton o ≡ Some (skeleton (ImageObject new))
+      as_there None e i = absurd (cc)
+      as_there (Some object) e i =
+          let of_kind : object_kind object ≡ kind.Image = cc in
+          ap (λ (x : ObjectValue). Some (skeleton x)) (image_of_kind object of_kind ∙ ap ImageObject i)
+          ∙ ap (λ (d : Description). let left : Option ObjectValue = Some (ImageObject (image_over d empty [])) in left) (sym same)
+
+  -- where the object of a name ages
+  pub age_keeps_blocks : (name : ℕ) (object : ObjectValue) → object_held objects name ≡ Some object
+      → KeepsBlocks objects (with_object objects (cell_of name) (aged_object (object_under objects name)))
+  age_keeps_blocks name object found =
+      blocks_replaced (cell_of name) (aged_object (object_under objects name)) object found
+      (λ format.
+      ap (λ (o : Option ObjectValue). object_blocks (aged_object (unwrap_or o (ImageObject (new_image 0 0 U8)))) format) found ∙ aged_blocks object format)
+
+  -- where a graph is another
+  pub graph_keeps_blocks : (name : ℕ) (graph : GraphValue) → IsUnder objects kind.Graph name → KeepsBlocks objects (with_graph objects name graph)
+  graph_keeps_blocks name graph is = found (object_held objects name) refl
+    where
+      none : (object : ObjectValue) → object_kind object ≡ kind.Graph → (format : Format) → 0 ≡ object_blocks object format
+      none (GraphObject was) e format = refl
+      none other e format = cc
+
+      found : (o : Option ObjectValue) → object_held objects name ≡ o → KeepsBlocks objects (with_graph objects name graph)
+      found None e = let no = ap (option_map object_kind) (sym e) ∙ is in absurd (cc)
+      found (Some object) e =
+          let there : Some (object_kind object) ≡ Some kind.Graph = ap (option_map object_kind) (sym e) ∙ is in
+          let of_kind : object_kind object ≡ kind.Graph = cc in
+          blocks_replaced (cell_of name) (GraphObject graph) object e (none object of_kind)

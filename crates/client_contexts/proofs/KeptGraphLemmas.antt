@@ -1,0 +1,71 @@
+-- How a graph runs is kept, and stays right through the requests that leave its nodes.
+use Rattle.std.proofs.Common.{◌≡◌, ◌≢◌, ℕ, ◌<◌, false, List, [], ◌∷◌, Option, Some, None, IfSome, get_or, refl, sym, ap, subst, ◌∙◌, arith}
+use Rattle.std.specs.Prelude.{All, MatchOption, is_some}
+use Rattle.std.specs.Option.{option_map}
+use Rattle.std.proofs.lemmas.List.Elements.{All-nil, All-cons}
+use Rattle.vx_base.specs.declared.node.Node.{Node}
+use Rattle.vx_base.specs.Object.{ObjectValue}
+use Rattle.object_table.specs.Context.{Context}
+use Rattle.object_table.specs.Named.{object_held}
+use Rattle.object_table.specs.Uses.{nodes_in}
+use Rattle.graph_verify.specs.Verdict.{verdict}
+use Rattle.graph_run.specs.Operands.{operand_held, IsReady}
+use Rattle.client_model.specs.declared.request.Request.{Request}
+use Rattle.client_model.specs.declared.request.Request.TheVariants.{ReleaseContext}
+use Rattle.client_model.specs.Allowance.{Allowance}
+use Rattle.client_model.specs.Context.{State}
+use Rattle.client_model.specs.Request.{IsRequest}
+use Rattle.client_model.specs.Answer.{answer_to}
+use Rattle.client_model.specs.States.{KeepsLimits, Stays, changes_nodes}
+use Rattle.client_model.proofs.StateLaws.{Leaves}
+use Rattle.client_laws.proofs.StayLaws.{after_one, nodes_stay, ready_after_one, verdict_stays_held}
+use Rattle.client_laws.proofs.StepLaws.{answer_leaves}
+use Rattle.client_contexts.specs.declared.kept.Kept.{Kept}
+use Rattle.client_contexts.specs.Kept.{IsKept, AreKept, forgotten_by}
+use Rattle.client_contexts.proofs.ForgetLemmas.{left_by}
+
+-- what follows of an object that is held from what is said of it
+of_held : {P Q : ObjectValue → Type 0} (o : Option ObjectValue) → IfSome o P → ((object : ObjectValue) → o ≡ Some object → P object → Q object) → IfSome o Q
+of_held None said follows = tt
+of_held (Some object) said follows = follows object refl said
+
+-- what is said of the nodes of an object that is held
+of_nodes : (P : List Node → Type 0) (o : Option ObjectValue) (nodes : List Node) → option_map nodes_in o ≡ Some nodes → IfSome o (λ object. P (nodes_in object)) → P nodes
+of_nodes P None nodes e said = absurd (cc)
+of_nodes P (Some object) nodes e said = let same : nodes_in object ≡ nodes = cc in subst P same said
+
+-- what is kept of a graph holds after a request that leaves its nodes
+module _ (limits : Allowance) (c later : Context) (request : Request) (h : KeepsLimits limits c) (is : IsRequest request)
+    (e : (answer_to limits (Some c) request).1 ≡ Some later) where
+  next_stays : Leaves limits (changes_nodes request) c later
+  next_stays =
+      let is_later = after_one limits c later request h is e in
+      let stays : request ≢ ReleaseContext = (λ release. let gone : ◌≡◌ {A = State} None (Some later) = ap (λ r. (answer_to limits (Some c) r).1) (sym release) ∙ e in cc) in
+      subst (λ (state : State). MatchOption state ⊥ (Leaves limits (changes_nodes request) c)) e (answer_leaves limits c request stays h is)
+
+  -- what is held under a name that was given was held before, with the nodes that it has now
+  had_nodes : (name : ℕ) → changes_nodes request name ≡ false → name < c.next → Stays nodes_in c.objects later.objects name
+  had_nodes name leaves known =
+      nodes_stay limits c later (request ∷ []) name (after_one limits c later request h is e)
+      (All-cons (λ r. changes_nodes r name ≡ false) request [] leaves (All-nil (λ r. changes_nodes r name ≡ false))) known
+
+  pub kept_after_one : (name : ℕ) (k : Kept) → changes_nodes request name ≡ false → IsKept c name k → IsKept later name k
+  kept_after_one name k leaves kept =
+      let stayed = had_nodes name leaves kept.below in
+      record {
+        below = omega (arith, kept.below, next_stays.next);
+        ready =
+            of_held (object_held later.objects name) stayed
+            (λ object there stays. ready_after_one limits c later request name (nodes_in object) k.verified h is e leaves kept.below stays (ap is_some there)
+            (of_nodes (λ nodes. IsReady c.objects nodes k.verified) (object_held c.objects name) (nodes_in object) stays kept.ready));
+        allowed =
+            of_held (object_held later.objects name) stayed
+            (λ object there stays. verdict_stays_held limits c later (request ∷ []) name (nodes_in object) k.work (after_one limits c later request h is e) stays (ap (option_map nodes_in) there)
+            ∙ of_nodes (λ nodes. verdict k.work (operand_held c.objects) nodes ≡ None) (object_held c.objects name) (nodes_in object) stays kept.allowed);
+      }
+
+  -- what is left of all that is kept, once the request is done
+  pub left_are_kept : (kept left : List (ℕ × Kept)) → AreKept c kept → left ≡ forgotten_by request kept → All (λ k. changes_nodes request k.0 ≡ false) left → AreKept later left
+  left_are_kept kept left are forgotten leave =
+      let held : AreKept c left = subst (AreKept c) (sym forgotten) (left_by (λ k. IsKept c k.0 k.1) request kept are) in
+      λ n d below. kept_after_one (get_or left n d).0 (get_or left n d).1 (leave n d below) (held n d below)

@@ -1,0 +1,170 @@
+-- What is kept of a graph: what it says of the graph's verdict and run, and that it is so once the graph is verified.
+use Rattle.std.proofs.Common.{◌≡◌, ℕ, ◌<◌, ◌^◌, List, [], ◌∷◌, Option, Some, None, Result, Ok, Err, Ordering, Less, Equal, Greater, IfSome, refl, sym, ap, subst, ◌∙◌}
+use Rattle.std.specs.Prelude.{All}
+use Rattle.std.specs.BTreeMap.{insert_entry, is_at}
+use Rattle.std.specs.Map.{lookup}
+use Rattle.std.specs.Option.{option_map}
+use Rattle.std.specs.Ordering.{match_ordering, nat_cmp, eq_by_cmp}
+use Rattle.std.proofs.lemmas.List.Elements.{All-nil, All-cons, All-head, All-tail, All-contains, All-weaker}
+use Rattle.std.proofs.lemmas.Map.Lookups.{exact_unsigned}
+use Rattle.std.proofs.lemmas.Map.Views.{Contains-from_lookup, tells_apart}
+use Rattle.vx_base.specs.declared.kind.Kind.TheVariants as kind
+use Rattle.vx_base.specs.Graph.{GraphValue, nodes_of}
+use Rattle.vx_base.specs.Object.{ObjectValue, GraphObject}
+use Rattle.object_table.specs.Context.{Context, with_objects}
+use Rattle.object_table.specs.Named.{object_held}
+use Rattle.object_table.specs.Object.{graph_value}
+use Rattle.object_table.specs.Uses.{nodes_in}
+use Rattle.object_table.proofs.HeldLemmas.{named_has}
+use Rattle.object_table.proofs.SlotLemmas.{graph_of_kind}
+use Rattle.graph_verify.specs.declared.verdict.Verdict.{Verdict}
+use Rattle.graph_verify.specs.Outlines.{resolved}
+use Rattle.graph_verify.specs.Verdict.{verdict}
+use Rattle.graph_verify.specs.Verified.{IsVerified}
+use Rattle.graph_run.specs.Graph.{run_of_graph}
+use Rattle.graph_run.specs.Operands.{IsReady, operand_held}
+use Rattle.client_model.specs.declared.refusal.Refusal.{Refusal}
+use Rattle.client_model.specs.declared.refusal.Refusal.TheVariants.{Rejected}
+use Rattle.client_model.specs.declared.reply.Reply.{Reply}
+use Rattle.client_model.specs.declared.reply.Reply.TheVariants.{Empty}
+use Rattle.client_model.specs.declared.request.Request.TheVariants.{ProcessGraph}
+use Rattle.client_model.specs.Allowance.{Allowance}
+use Rattle.client_model.specs.Answer.{answered}
+use Rattle.client_model.specs.Graphs.{graph_named, graph_verdict, verify_found, verify_graph, process_found, process_graph}
+use Rattle.client_model.specs.Refusal.{Outcome, unless}
+use Rattle.client_model.specs.States.{KeepsLimits}
+use Rattle.client_laws.proofs.StayLaws.{graph_held}
+use Rattle.client_contexts.specs.declared.fault.RequestFault.{RequestFault}
+use Rattle.client_contexts.specs.declared.fault.RequestFault.TheVariants.{Refused, NoMemory}
+use Rattle.client_contexts.specs.declared.kept.Kept.{Kept}
+use Rattle.client_contexts.specs.Kept.{IsKept, AreKept}
+use Rattle.client_contexts.specs.Lookup.{IsNamed}
+use Rattle.client_contexts.specs.Steps.{MayComeTo, SaysWhy}
+use Rattle.client_contexts.proofs.KeptGraphLemmas.{kept_after_one}
+use Rattle.client_contexts.proofs.StandLemmas.{graph_ready, graph_is_named}
+
+-- ---- entries by names
+
+module _ {X : Type 0} (name : ℕ) (value : X) where
+  -- what holds of each entry holds of each once another comes of which it holds
+  pub All-insert : (P : ℕ × X → Type 0) (entries : List (ℕ × X)) → All P entries → P (name, value) → All P (insert_entry nat_cmp entries name value)
+  All-insert P [] each new = All-cons P (name, value) [] new (All-nil P)
+  All-insert P (e ∷ es) each new = by_order (nat_cmp name e.0) refl (All-insert P es (All-tail P e es each) new)
+    where
+      by_order : (order : Ordering) → nat_cmp name e.0 ≡ order → All P (insert_entry nat_cmp es name value)
+          → All P (match_ordering order ((name, value) ∷ e ∷ es) ((e.0, value) ∷ es) (e ∷ insert_entry nat_cmp es name value))
+      by_order Less is others = All-cons P (name, value) (e ∷ es) new each
+      by_order Equal is others = All-cons P (e.0, value) es (subst (λ (n : ℕ). P (n, value)) (exact_unsigned name e.0 is) new) (All-tail P e es each)
+      by_order Greater is others = All-cons P e (insert_entry nat_cmp es name value) (All-head P e es each) others
+
+-- ---- what is kept under a name
+
+-- what is found under a name is kept of the graph of that name
+kept_there : (c : Context) (name : ℕ) (k : Kept) (entries : List (ℕ × Kept)) → AreKept c entries → lookup (is_at (nat_cmp name)) entries ≡ Some k → IsKept c name k
+kept_there c name k entries are is =
+    All-contains (λ (entry : ℕ × Kept). IsKept c entry.0 entry.1) entries (name, k) are
+    (Contains-from_lookup {eq = eq_by_cmp nat_cmp} (tells_apart exact_unsigned) name k entries is)
+
+-- so is what was found within so many work bytes
+pub found_kept : (c : Context) (name work : ℕ) (entries : List (ℕ × Kept)) → AreKept c entries → option_map (λ (k : Kept). k.work) (lookup (is_at (nat_cmp name)) entries) ≡ Some work
+    → (k : Kept) × (k.work ≡ work) × IsKept c name k
+found_kept c name work entries are same = of_entry (lookup (is_at (nat_cmp name)) entries) refl same
+  where
+    of_entry : (o : Option Kept) → lookup (is_at (nat_cmp name)) entries ≡ o → option_map (λ (k : Kept). k.work) o ≡ Some work → (k : Kept) × (k.work ≡ work) × IsKept c name k
+    of_entry None is e = absurd (cc)
+    of_entry (Some k) is e = let so : k.work ≡ work = cc in (k, so, kept_there c name k entries are is)
+
+-- ---- a graph that is found under its name
+
+module _ (limits : Allowance) (c : Context) (name : ℕ) (x : ObjectValue) (h : KeepsLimits limits c) (named : IsNamed c.objects name kind.Graph x) where
+  -- it is held as a graph
+  held_graph : object_held c.objects name ≡ Some (GraphObject (graph_value x))
+  held_graph = named.held ∙ ap {B = Option ObjectValue} Some (graph_of_kind x named.kind)
+
+  -- what is kept of it is its verdict
+  pub kept_verifies : (within : Allowance) (k : Kept) → IsKept c name k → k.work ≡ within.work → verify_graph within c name ≡ Ok (Empty, Some c)
+  kept_verifies within k kept same =
+      let allowed : verdict k.work (operand_held c.objects) (nodes_of (graph_value x)) ≡ None =
+      subst (λ (o : Option ObjectValue). IfSome o (λ object. verdict k.work (operand_held c.objects) (nodes_in object) ≡ None)) held_graph kept.allowed in
+      let passes : graph_verdict within c.objects (graph_value x) ≡ None = ap (λ n. verdict n (operand_held c.objects) (nodes_of (graph_value x))) (sym same) ∙ allowed in
+      ap (λ g. verify_found g within c) (graph_is_named limits c name x h named) ∙ ap (λ o. unless (option_map Rejected o) Empty c) passes
+
+  -- once it is verified, so much is kept of it
+  pub verified_is_kept : (k : Kept) → IsVerified (operand_held c.objects) (nodes_of (graph_value x)) k.verified
+      → verdict k.work (operand_held c.objects) (nodes_of (graph_value x)) ≡ None → IsKept c name k
+  verified_is_kept k verified allowed =
+      record {
+        below = subst (λ (o : Option ObjectValue). IfSome o (λ object. name < c.next)) held_graph (named_has (λ n object. n < c.next) c.objects name h.below);
+        ready =
+            subst (λ (o : Option ObjectValue). IfSome o (λ object. IsReady c.objects (nodes_in object) k.verified)) (sym held_graph)
+            (graph_ready limits c name x h named k.verified k.work verified allowed);
+        allowed = subst (λ (o : Option ObjectValue). IfSome o (λ object. verdict k.work (operand_held c.objects) (nodes_in object) ≡ None)) (sym held_graph) allowed;
+      }
+
+-- ---- a graph that runs
+
+module _ (limits : Allowance) (c : Context) (name : ℕ) where
+  -- what refuses its verification refuses its run
+  refuses_run : (refusal : Refusal) → verify_graph limits c name ≡ Err refusal → process_graph limits c name ≡ Err refusal
+  refuses_run refusal = of_graph (graph_named c.objects name)
+    where
+      of_verdict : (o : Option Verdict) (after : Context) → unless (option_map Rejected o) Empty c ≡ Err refusal → unless (option_map Rejected o) Empty after ≡ Err refusal
+      of_verdict None after e = absurd (cc)
+      of_verdict (Some v) after e = e
+
+      of_graph : (g : Result GraphValue Refusal) → verify_found g limits c ≡ Err refusal → process_found g limits c ≡ Err refusal
+      of_graph (Err other) e = e
+      of_graph (Ok graph) e =
+          of_verdict (graph_verdict limits c.objects graph) (with_objects c (run_of_graph (resolved (operand_held c.objects) (nodes_of graph)) (nodes_of graph) c.objects)) e
+
+  pub fails_to_run : (fault : RequestFault) (result : Result Reply RequestFault) → MayComeTo (verify_graph limits c name) c c (Err fault) → result ≡ Err fault
+      → MayComeTo (process_graph limits c name) c c result
+  fails_to_run fault result comes is =
+      subst (MayComeTo (process_graph limits c name) c c) (sym is) (record { done = tt; refused = of_fault fault comes.refused; kept = refl })
+    where
+      of_fault : (f : RequestFault) → SaysWhy (verify_graph limits c name) f → SaysWhy (process_graph limits c name) f
+      of_fault (Refused refusal) why = refuses_run refusal why
+      of_fault NoMemory why = tt
+
+  -- a graph that is verified is there, and nothing refuses it
+  passed : (done : Reply × Option Context) → verify_graph limits c name ≡ Ok done
+      → (graph : GraphValue) × (graph_named c.objects name ≡ Ok graph) × (graph_verdict limits c.objects graph ≡ None)
+  passed done = of_graph (graph_named c.objects name) refl
+    where
+      of_verdict : (o : Option Verdict) → unless (option_map Rejected o) Empty c ≡ Ok done → o ≡ None
+      of_verdict None e = refl
+      of_verdict (Some v) e = absurd (cc)
+
+      of_graph : (g : Result GraphValue Refusal) → graph_named c.objects name ≡ g → verify_found g limits c ≡ Ok done
+          → (graph : GraphValue) × (graph_named c.objects name ≡ Ok graph) × (graph_verdict limits c.objects graph ≡ None)
+      of_graph (Err refusal) is e = absurd (cc)
+      of_graph (Ok graph) is e = (graph, is, of_verdict (graph_verdict limits c.objects graph) e)
+
+  -- its run leaves this
+  pub runs_to : (graph : GraphValue) (after : Context) → graph_named c.objects name ≡ Ok graph → graph_verdict limits c.objects graph ≡ None
+      → after ≡ with_objects c (run_of_graph (resolved (operand_held c.objects) (nodes_of graph)) (nodes_of graph) c.objects)
+      → process_graph limits c name ≡ Ok (Empty, Some after)
+  runs_to graph after is allowed e =
+      ap (λ g. process_found g limits c) is
+      ∙ ap (λ o. unless (option_map Rejected o) Empty (with_objects c (run_of_graph (resolved (operand_held c.objects) (nodes_of graph)) (nodes_of graph) c.objects))) allowed
+      ∙ ap (λ (k : Context). let r : Outcome = Ok (Empty, Some k) in r) (sym e)
+
+  -- what is kept of a graph that is verified runs its nodes
+  pub kept_runs : KeepsLimits limits c → (done : Reply × Option Context) → verify_graph limits c name ≡ Ok done → (k : Kept) (entries : List (ℕ × Kept)) → AreKept c entries
+      → lookup (is_at (nat_cmp name)) entries ≡ Some k
+      → (graph : GraphValue) × (graph_named c.objects name ≡ Ok graph) × (graph_verdict limits c.objects graph ≡ None) × IsReady c.objects (nodes_of graph) k.verified
+  kept_runs h done passes k entries are is =
+      let graph = passed done passes in (
+        graph.0,
+        graph.1,
+        graph.2,
+        subst (λ (o : Option ObjectValue). IfSome o (λ object. IsReady c.objects (nodes_in object) k.verified)) (graph_held limits c name h graph.0 graph.1)
+            (kept_there c name k entries are is).ready,
+      )
+
+-- what is kept of each graph holds after a run
+pub kept_after_run : (limits : Allowance) (c later : Context) (name : ℕ) → KeepsLimits limits c → name < 2 ^ 32 → process_graph limits c name ≡ Ok (Empty, Some later)
+    → (entries : List (ℕ × Kept)) → AreKept c entries → AreKept later entries
+kept_after_run limits c later name h fits done entries are =
+    All-weaker (λ (e : ℕ × Kept). IsKept c e.0 e.1) (λ (e : ℕ × Kept). IsKept later e.0 e.1)
+    (λ e kept. kept_after_one limits c later (ProcessGraph name) h fits (ap (λ (o : Outcome). (answered c o).1) done) e.0 e.1 refl kept) entries are

@@ -1,0 +1,14 @@
+use Rattle.std.proofs.Common.{◌≡◌, ℕ, false, List, inl, inr, refl, sym, subst}
+use Rattle.std.specs.Prelude.{All}
+use Rattle.client_model.specs.declared.request.Request.{Request}
+use Rattle.client_model.specs.States.{changes_nodes}
+use Rattle.client_contexts.specs.declared.kept.Kept.{Kept}
+use Rattle.client_contexts.proofs.ForgetLemmas.{others_left}
+use Rattle.client_contexts.proofs.kept.forget.Goals as goal
+
+pub returns-in-AddNode-clause-left : goal.returns-in-AddNode-clause-left
+returns-in-AddNode-clause-left c =
+    let entries : List (ℕ × Kept) = c.remove-forgotten.new.self.entries in
+    let left = others_left c.in-AddNode.graph entries c.remove-forgotten.ensures.updates.1 in
+    let leave : Request → Type 0 = λ request. All (λ (k : ℕ × Kept). changes_nodes request k.0 ≡ false) entries in
+    elim c.in-AddNode.is [ inl added ↦ subst leave (sym added.1) left | inr other ↦ elim other [ inl removed ↦ subst leave (sym removed.1) left | inr released ↦ subst leave (sym released) (λ k d below. refl) ] ]

@@ -1,0 +1,14 @@
+use Rattle.std.proofs.Common.{sym, subst, arith}
+use Rattle.client_model.specs.States.{KeepsLimits}
+use Rattle.client_model.proofs.StateLaws.{with_new_keeps}
+use Rattle.client_contexts.proofs.BlockLemmas.{blocks_more}
+use Rattle.client_contexts.proofs.room.hold_images.Goals as goal
+
+pub returns-in-Ok-clause-kept : goal.returns-in-Ok-clause-kept
+returns-in-Ok-clause-kept c = λ h.
+    subst (KeepsLimits c.args.limits) (sym c.in-Ok.ensures.ok)
+    (with_new_keeps c.args.limits c.args.table.now c.args.object h c.requires.object c.requires.plain c.requires.room)
+
+pub returns-in-Ok-clause-balances : goal.returns-in-Ok-clause-balances
+returns-in-Ok-clause-balances c = λ format.
+    omega (arith, blocks_more c.args.table.now c.insert.new.self c.args.object format c.in-Ok.ensures.ok)

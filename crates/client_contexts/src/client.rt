@@ -1,0 +1,178 @@
+//! A client's context: its objects, and its graphs that were found able to run.
+ghost use Rattle.std.specs.Prelude.{◌≡◌, ◌≢◌, false, IfErr};
+ghost use Rattle.client_model.specs.declared.request.Request.TheVariants.{ReleaseContext};
+ghost use Rattle.client_model.specs.Request.{TakesMemory};
+ghost use Rattle.client_model.specs.Answer.{outcome_of};
+ghost use Rattle.client_model.specs.States.{KeepsLimits};
+ghost use Rattle.object_table.specs.Blocks.{blocks_in, LendsAtLeast, LendsLess, Balances};
+ghost use Rattle.object_table.specs.Context.{new_context};
+ghost use Rattle.client_contexts.specs.Kept.{runs_graph};
+ghost use Rattle.client_contexts.specs.Steps.{MayComeTo, WantsMemory};
+
+use crate::delays::{age_delay, create_delay};
+use crate::fault::RequestFault;
+use crate::graphs::{
+    add_node, create_graph, create_virtual_image, process_graph, remove_node, verify_graph,
+};
+use crate::images::{
+    create_image, query_image, read_image, read_text, set_valid, write_image, write_text,
+};
+use crate::immediate::run_at_once;
+use crate::kept::{Kept, forget};
+use crate::objects::release;
+use crate::statistics::{create_distribution, create_min_max, read_distribution, read_min_max};
+use crate::tables::{create_convolution, create_lut, create_threshold};
+use client_model::{Limits, Refusal, Reply, Request};
+use object_table::Table;
+use pixel_pool::Pool;
+use std::alloc::Global;
+use std::collections::BTreeMap;
+use std::marker::Model;
+
+/// The objects that a client holds, and what was found of its graphs that can run. What is kept of
+/// a graph holds until a node is added to it or removed from it; nothing else changes it.
+#[derive(Drop)]
+pub struct Client {
+    table: Table,
+    kept: BTreeMap<u32, Kept>,
+}
+
+impl Model for Client {
+    ghost use Rattle.object_table.specs.Context.{Context};
+    ghost use Rattle.client_contexts.specs.Kept.{AreKept};
+
+    ghost Value = { Context };
+
+    ghost view = { λ c. c.table };
+
+    ghost invariant = { λ c. AreKept c.table c.kept.entries };
+}
+
+impl Client {
+    /// A client without objects.
+    pub fn new(alloc: Global) -> Client
+        ensures { result ≡ new_context }
+    {
+        Client {
+            table: Table::new(alloc),
+            kept: BTreeMap::new(alloc),
+        }
+    }
+
+    /// Gives the blocks of all images back, and drops the objects. It takes no memory.
+    pub fn end(self, pool: &mut Pool)
+        requires { LendsAtLeast pool.old (blocks_in self.objects) }
+        ensures { LendsLess pool.old pool.new (blocks_in self.objects) }
+    {
+        self.table.end(pool);
+    }
+
+    /// Answers a request of a client that keeps its context, or says why not.
+    pub fn answer(
+        &mut self,
+        pool: &mut Pool,
+        limits: Limits,
+        alloc: Global,
+        request: &Request,
+    ) -> Result<Reply, RequestFault>
+        requires other { request.now ≢ ReleaseContext }
+        requires keeps { KeepsLimits limits self.old }
+        requires owns { LendsAtLeast pool.old (blocks_in self.old.objects) }
+        ensures comes { MayComeTo (outcome_of limits self.old request.now)
+            self.old self.new result }
+        ensures kept { KeepsLimits limits self.new }
+        ensures balances { Balances pool.old pool.new self.old.objects self.new.objects }
+        ensures takes { IfErr result (λ fault. WantsMemory fault (TakesMemory request.now)) }
+    {
+        match request {
+            Request::VerifyGraph(graph) => {
+                verify_graph(&self.table, &mut self.kept, limits, alloc, *graph)
+            }
+            Request::ProcessGraph(graph) => process_graph(
+                &mut self.table,
+                &mut self.kept,
+                pool,
+                limits,
+                alloc,
+                *graph,
+            ),
+            _ => self.change(pool, limits, alloc, request),
+        }
+    }
+
+    /// Answers a request that needs no more than the objects. What is kept of a graph is forgotten
+    /// where its nodes change or its name ends.
+    fn change(
+        &mut self,
+        pool: &mut Pool,
+        limits: Limits,
+        alloc: Global,
+        request: &Request,
+    ) -> Result<Reply, RequestFault>
+        requires other { request.now ≢ ReleaseContext }
+        requires no_graph { runs_graph request.now ≡ false }
+        requires keeps { KeepsLimits limits self.old }
+        requires owns { LendsAtLeast pool.old (blocks_in self.old.objects) }
+        ensures comes { MayComeTo (outcome_of limits self.old request.now)
+            self.old self.new result }
+        ensures kept { KeepsLimits limits self.new }
+        ensures balances { Balances pool.old pool.new self.old.objects self.new.objects }
+        ensures takes { IfErr result (λ fault. WantsMemory fault (TakesMemory request.now)) }
+    {
+        // The laws of requests speak of it.
+        request.is_request();
+        let reply = answer(&mut self.table, pool, limits, alloc, request)?;
+        forget(&mut self.kept, request);
+        Ok(reply)
+    }
+}
+
+/// Answers a request that needs no more than a client's objects, or says why not.
+fn answer(
+    table: &mut Table,
+    pool: &mut Pool,
+    limits: Limits,
+    alloc: Global,
+    request: &Request,
+) -> Result<Reply, RequestFault>
+    requires other { request.now ≢ ReleaseContext }
+    requires no_graph { runs_graph request.now ≡ false }
+    requires keeps { KeepsLimits limits table.old }
+    requires owns { LendsAtLeast pool.old (blocks_in table.old.objects) }
+    ensures comes { MayComeTo (outcome_of limits table.old request.now) table.old table.new result }
+    ensures kept { KeepsLimits limits table.new }
+    ensures balances { Balances pool.old pool.new table.old.objects table.new.objects }
+    ensures takes { IfErr result (λ fault. WantsMemory fault (TakesMemory request.now)) }
+{
+    match request {
+        Request::OpenContext => Err(RequestFault::Refused(Refusal::InvalidValue)),
+        Request::ReleaseContext => unreachable!(),
+        Request::CreateImage(desc) => create_image(table, pool, limits, *desc),
+        Request::QueryImage(reference) => Ok(query_image(table, *reference)?),
+        Request::WriteImage(reference, picture) => Ok(write_image(table, *reference, picture)?),
+        Request::WriteImagePgm(reference, text) => write_text(table, alloc, *reference, text),
+        Request::ReadImage(reference) => read_image(table, alloc, *reference),
+        Request::ReadImagePgm(reference) => read_text(table, alloc, *reference),
+        Request::SetValid(reference, valid) => Ok(set_valid(table, *reference, *valid)?),
+        Request::Release(name) => Ok(release(table, pool, *name)?),
+        Request::CreateLut(lut) => create_lut(table, limits, lut),
+        Request::CreateThreshold(threshold) => create_threshold(table, limits, *threshold),
+        Request::CreateConvolution(convolution) => create_convolution(table, limits, convolution),
+        Request::CreateDistribution(bins) => create_distribution(table, limits, *bins),
+        Request::ReadDistribution(name) => read_distribution(table, alloc, *name),
+        Request::CreateMinMax => create_min_max(table, limits),
+        Request::ReadMinMax(name) => Ok(read_min_max(table, *name)?),
+        Request::CreateGraph => create_graph(table, limits),
+        Request::CreateVirtualImage(graph, declared) => {
+            create_virtual_image(table, limits, *graph, *declared)
+        }
+        Request::AddNode(graph, node) => add_node(table, *graph, *node),
+        Request::RemoveNode(graph, number) => Ok(remove_node(table, pool, *graph, *number)?),
+        Request::VerifyGraph(_) | Request::ProcessGraph(_) => unreachable!(),
+        Request::Immediate(node) => Ok(run_at_once(table, *node)?),
+        Request::CreateDelay(exemplar, slots) => {
+            create_delay(table, pool, limits, *exemplar, *slots)
+        }
+        Request::AgeDelay(name) => Ok(age_delay(table, *name)?),
+    }
+}

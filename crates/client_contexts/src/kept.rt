@@ -1,0 +1,28 @@
+//! Graphs that were found able to run, and are kept as they were verified.
+ghost use Rattle.std.specs.Prelude.{◌≡◌, false, All};
+ghost use Rattle.client_model.specs.States.{changes_nodes};
+ghost use Rattle.client_contexts.specs.Kept.{forgotten_by};
+
+use client_model::Request;
+use graph_verify::Verified;
+use std::collections::BTreeMap;
+
+/// How a graph runs, found within so many work bytes. It holds until the graph's nodes change.
+#[derive(Drop)]
+pub struct Kept {
+    pub work: u64,
+    pub verified: Verified,
+}
+
+/// Forgets how a graph runs whose nodes a request has changed, or whose name it has ended.
+pub fn forget(kept: &mut BTreeMap<u32, Kept>, request: &Request)
+    ensures forgotten { kept.new.entries ≡ forgotten_by request.now kept.old.entries }
+    ensures left { All (λ k. changes_nodes request.now k.0 ≡ false) kept.new.entries }
+{
+    match request {
+        Request::AddNode(graph, _) | Request::RemoveNode(graph, _) | Request::Release(graph) => {
+            let _forgotten = kept.remove(graph);
+        }
+        _ => {}
+    }
+}

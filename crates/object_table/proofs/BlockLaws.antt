@@ -1,0 +1,47 @@
+-- In how many blocks objects have their samples is told by their skeletons.
+use Rattle.std.proofs.Common.{◌≡◌, ℕ, ◌+◌, List, [], ◌∷◌, ◌++◌, map, refl, sym, ap, ◌∙◌}
+use Rattle.std.specs.Prelude.{sum, sum_by}
+use Rattle.std.proofs.lemmas.List.Sums.{sum-map, sum_by_push}
+use Rattle.std.proofs.lemmas.Simd.{map-map}
+use Rattle.vx_base.specs.declared.format.Format.{Format}
+use Rattle.vx_base.specs.Image.{ImageValue}
+use Rattle.vx_base.specs.Object.{ObjectValue, DelayObject}
+use Rattle.object_table.specs.Blocks.{image_blocks, object_blocks, blocks_of_all, blocks_in, KeepsBlocks}
+use Rattle.object_table.specs.Named.{Named}
+use Rattle.object_table.specs.Skeleton.{image_skeleton, skeleton}
+use Rattle.object_table.proofs.SkeletonLaws.{map-told}
+
+-- ---- of one object
+
+pub blocks_of_skeleton : (object : ObjectValue) (format : Format) → object_blocks (skeleton object) format ≡ object_blocks object format
+blocks_of_skeleton (DelayObject images) format =
+    let of_image : ImageValue → ℕ = λ image. image_blocks image format in
+    sym (sum-map of_image (map image_skeleton images)) ∙ ap sum (map-map of_image image_skeleton images) ∙ sum-map of_image images
+blocks_of_skeleton other format = refl
+
+-- objects of one skeleton have as many
+pub same_blocks : (one other : ObjectValue) (format : Format) → skeleton one ≡ skeleton other → object_blocks one format ≡ object_blocks other format
+same_blocks one other format same =
+    sym (blocks_of_skeleton one format) ∙ ap (λ object. object_blocks object format) same ∙ blocks_of_skeleton other format
+
+-- ---- of several
+
+-- so have lists of objects whose skeletons are the same
+pub blocks_of_all-same : (new old : List ObjectValue) (format : Format) → map skeleton new ≡ map skeleton old → blocks_of_all new format ≡ blocks_of_all old format
+blocks_of_all-same new old format same =
+    let of_object : ObjectValue → ℕ = λ object. object_blocks object format in
+    sym (sum-map of_object new) ∙ ap sum (map-told skeleton of_object of_object (λ object. blocks_of_skeleton object format) new old same) ∙ sum-map of_object old
+
+-- and objects under names
+pub keeps_blocks : (new old : List Named) → map (λ o. skeleton o.object) new ≡ map (λ o. skeleton o.object) old → KeepsBlocks old new
+keeps_blocks new old same format =
+    let of_named : Named → ℕ = λ o. object_blocks o.object format in
+    let of_object : ObjectValue → ℕ = λ object. object_blocks object format in
+    sym (sum-map of_named new)
+    ∙ ap sum (map-told (λ (o : Named). skeleton o.object) of_named of_object (λ o. blocks_of_skeleton o.object format) new old same)
+    ∙ sum-map of_named old
+
+-- ---- when an object is added
+
+pub blocks-with_new : (objects : List Named) (o : Named) (format : Format) → blocks_in (objects ++ o ∷ []) format ≡ blocks_in objects format + object_blocks o.object format
+blocks-with_new objects o format = sum_by_push (λ (p : Named). object_blocks p.object format) objects o

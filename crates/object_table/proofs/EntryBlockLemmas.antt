@@ -1,0 +1,105 @@
+-- In how many blocks of a pool the entries of a map have their samples.
+use Rattle.std.proofs.Common.{◌≡◌, ℕ, ◌+◌, ◌≤◌, Bool, true, false, cond, List, [], ◌∷◌, map, Option, Some, refl, sym, ap, ◌∙◌, arith, rules}
+use Rattle.std.specs.Prelude.{sum_by}
+use Rattle.std.specs.Map.{lookup, set_value, remove_entry}
+use Rattle.std.specs.BTreeMap.{is_at}
+use Rattle.std.specs.Ordering.{nat_cmp}
+use Rattle.std.proofs.lemmas.List.Sums.{sum_by-cons}
+use Rattle.vx_base.specs.declared.format.Format.{Format}
+use Rattle.object_table.specs.declared.table.Entry.{Entry}
+use Rattle.vx_base.specs.declared.kind.Kind.TheVariants as kind
+use Rattle.vx_base.specs.Graph.{GraphValue}
+use Rattle.vx_base.specs.Object.{ObjectValue, ImageObject, DelayObject, GraphObject, object_kind}
+use Rattle.pixel_pool.specs.declared.pool.Pool.{Pool}
+use Rattle.object_table.specs.Blocks.{object_blocks, blocks_in, LendsAtLeast, LendsLess, Balances}
+use Rattle.object_table.specs.Named.{Named}
+use Rattle.object_table.specs.Table.{named}
+use Rattle.object_table.proofs.EntryLemmas.{sum-written}
+
+-- in how many blocks of a format they have theirs
+abbrev pub entry_blocks : List (ℕ × Entry) → Format → ℕ
+entry_blocks entries format = blocks_in (map named entries) format
+
+-- those of the first, and of the rest
+pub blocks-cons : (e : ℕ × Entry) (entries : List (ℕ × Entry)) (format : Format) → entry_blocks (e ∷ entries) format ≡ object_blocks e.1.object format + entry_blocks entries format
+blocks-cons e entries format = sum_by-cons (λ (o : Named). object_blocks o.object format) (named e) (map named entries)
+
+-- they are the sum over the entries
+blocks_is : (entries : List (ℕ × Entry)) (format : Format) → entry_blocks entries format ≡ sum_by (λ e. object_blocks e.1.object format) entries
+blocks_is [] format = refl
+blocks_is (e ∷ entries) format =
+    blocks-cons e entries format ∙ ap (λ n. object_blocks e.1.object format + n) (blocks_is entries format)
+    ∙ sym (sum_by-cons (λ (e : ℕ × Entry). object_blocks e.1.object format) e entries)
+
+-- an entry that is written with an object of as many has as many
+pub blocks-written : (entries : List (ℕ × Entry)) (name : ℕ) (old new : Entry) (format : Format) → lookup (is_at (nat_cmp name)) entries ≡ Some old → object_blocks new.object format ≡ object_blocks old.object format
+    → entry_blocks (set_value (is_at (nat_cmp name)) entries new) format ≡ entry_blocks entries format
+blocks-written entries name old new format found same =
+    omega (arith, same, blocks_is entries format, blocks_is (set_value (is_at (nat_cmp name)) entries new) format, sum-written (λ e. object_blocks e.1.object format) entries name old new found)
+
+-- an entry that is removed leaves those of the others
+pub blocks-removed : (entries : List (ℕ × Entry)) (name : ℕ) (old : Entry) → lookup (is_at (nat_cmp name)) entries ≡ Some old
+    → (format : Format) → entry_blocks (remove_entry (is_at (nat_cmp name)) entries) format + object_blocks old.object format ≡ entry_blocks entries format
+blocks-removed [] name old found format = cc
+blocks-removed (e ∷ entries) name old found format = either (is_at (nat_cmp name) e.0) found (λ later. blocks-removed entries name old later format)
+  where
+    test : ℕ → Bool
+    test = is_at (nat_cmp name)
+
+    either : (b : Bool) → cond b (Some e.1) (lookup test entries) ≡ Some old
+        → (lookup test entries ≡ Some old → entry_blocks (remove_entry test entries) format + object_blocks old.object format ≡ entry_blocks entries format)
+        → entry_blocks (cond b entries (e ∷ remove_entry test entries)) format + object_blocks old.object format ≡ entry_blocks (e ∷ entries) format
+    either true found rest = let same : e.1 ≡ old = cc in omega (arith, blocks-cons e entries format, ap (λ (x : Entry). object_blocks x.object format) same)
+    either false found rest = omega (arith, blocks-cons e entries format, blocks-cons e (remove_entry test entries) format, rest found)
+
+-- ---- what is lent as the entries change
+
+-- what is left of them has no more than are lent
+pub owns_after : (pool changed : Pool) (before after : List Named) → LendsAtLeast pool (blocks_in before) → Balances pool changed before after → LendsAtLeast changed (blocks_in after)
+owns_after pool changed before after owns balances format = omega (arith, owns format, balances format)
+
+-- two changes, one after the other
+pub Balances-trans : (pool middle changed : Pool) (first second third : List Named) → Balances pool middle first second → Balances middle changed second third → Balances pool changed first third
+Balances-trans pool middle changed first second third one other format = omega (arith, one format, other format)
+
+-- an entry that is written with an object of as many blocks
+module _ (entries : List (ℕ × Entry)) (name : ℕ) (old new : Entry) (found : lookup (is_at (nat_cmp name)) entries ≡ Some old) (same : (format : Format) → object_blocks new.object format ≡ object_blocks old.object format) (written : List (ℕ × Entry)) (is : written ≡ set_value (is_at (nat_cmp name)) entries new) where
+  as_many : (format : Format) → entry_blocks written format ≡ entry_blocks entries format
+  as_many format = ap (λ l. entry_blocks l format) is ∙ blocks-written entries name old new format found (same format)
+
+  pub owns-written : (pool : Pool) → LendsAtLeast pool (blocks_in (map named entries)) → LendsAtLeast pool (blocks_in (map named written))
+  owns-written pool owns format = omega (arith, as_many format, owns format)
+
+  pub Balances-written : (pool : Pool) → Balances pool pool (map named entries) (map named written)
+  Balances-written pool format = omega (arith, as_many format)
+
+  -- and what comes after it
+  pub Balances-written_then : (pool changed : Pool) (after : List (ℕ × Entry)) → Balances pool changed (map named written) (map named after) → Balances pool changed (map named entries) (map named after)
+  Balances-written_then pool changed after balances format = omega (arith, as_many format, balances format)
+
+-- entries that end, each in its turn: the first of those that are left
+pub owns_first : (pool changed : Pool) (before : List Named) (entries : List (ℕ × Entry)) (e : ℕ × Entry) (rest : List (ℕ × Entry)) → entries ≡ e ∷ rest → LendsAtLeast pool (blocks_in before)
+    → Balances pool changed before (map named entries) → LendsAtLeast changed (object_blocks e.1.object)
+owns_first pool changed before entries e rest first owns balances format =
+    omega (arith, owns format, balances format, blocks-cons e rest format, ap (λ l. entry_blocks l format) first)
+
+pub Balances-first : (pool changed next : Pool) (before : List Named) (entries : List (ℕ × Entry)) (e : ℕ × Entry) (rest : List (ℕ × Entry)) → entries ≡ e ∷ rest
+    → Balances pool changed before (map named entries) → LendsLess changed next (object_blocks e.1.object) → Balances pool next before (map named rest)
+Balances-first pool changed next before entries e rest first balances less format =
+    omega (arith, balances format, less format, blocks-cons e rest format, ap (λ l. entry_blocks l format) first)
+
+-- once none is left
+pub Balances-all : (pool changed : Pool) (before : List Named) (entries : List (ℕ × Entry)) → entries ≡ [] → Balances pool changed before (map named entries) → LendsLess pool changed (blocks_in before)
+Balances-all pool changed before entries none balances format = omega (arith, balances format, ap (λ l. entry_blocks l format) none)
+
+-- ---- graphs
+
+-- they have no samples
+no_blocks : (object : ObjectValue) → object_kind object ≡ kind.Graph → (format : Format) → object_blocks object format ≡ 0
+no_blocks (ImageObject image) is format = cc
+no_blocks (DelayObject images) is format = cc
+no_blocks other is format = refl
+
+-- so a graph in a graph's place has as many
+pub graph_blocks : (old new : ObjectValue) (graph : GraphValue) → object_kind old ≡ kind.Graph → new ≡ GraphObject graph → (format : Format) → object_blocks new format ≡ object_blocks old format
+graph_blocks old new graph of_graph is format = ap (λ o. object_blocks o format) is ∙ sym (no_blocks old of_graph format)

@@ -1,0 +1,31 @@
+use Rattle.std.proofs.Common.{◌≡◌, ℕ, ◌+◌, List, [], ◌∷◌, map, refl, sym, ap, subst}
+use Rattle.pixel_pool.specs.Pool.{lent_of}
+use Rattle.std.proofs.lemmas.Map.Iter.{rest_more, rest_all}
+use Rattle.object_table.specs.declared.table.Entry.{Entry}
+use Rattle.object_table.specs.Blocks.{Balances}
+use Rattle.object_table.specs.Context.{Context}
+use Rattle.object_table.specs.Table.{named}
+use Rattle.object_table.proofs.EntryBlockLemmas.{entry_blocks, owns_first, Balances-first, Balances-all}
+use Rattle.object_table.proofs.table.Table.end.Goals as goal
+
+pub loop-entry-init : goal.loop-entry-init
+loop-entry-init c =
+    subst (λ (t : Context). Balances c.args.pool.now c.args.pool.now t.objects (map named c.into_iter-entry-iterator.result)) c.self.view_is
+    (λ format. ap (λ (l : List (ℕ × Entry)). lent_of c.args.pool.now format + entry_blocks l format) (sym c.into_iter-entry-iterator.ensures.into_iter_gives.0))
+
+pub end-requires : goal.end-requires
+end-requires c =
+    let e : ℕ × Entry = (c.in-Some.field-0-0, c.in-Some.entry) in
+    let rest : c.loop-entry.entry-iterator ≡ e ∷ c.next.new.self = rest_more (λ p. p) c.loop-entry.entry-iterator c.next.new.self c.next.result e c.in-Some.is c.next.ensures.steps in
+    owns_first c.args.pool.now c.loop-entry.pool c.args.self.objects c.loop-entry.entry-iterator e c.next.new.self rest c.requires c.loop-entry.invariant
+
+pub loop-entry-preserved : goal.loop-entry-preserved
+loop-entry-preserved c =
+    let e : ℕ × Entry = (c.in-Some.field-0-0, c.in-Some.entry) in
+    let rest : c.loop-entry.entry-iterator ≡ e ∷ c.next.new.self = rest_more (λ p. p) c.loop-entry.entry-iterator c.next.new.self c.next.result e c.in-Some.is c.next.ensures.steps in
+    Balances-first c.args.pool.now c.loop-entry.pool c.end.new.pool c.args.self.objects c.loop-entry.entry-iterator e c.next.new.self rest c.loop-entry.invariant c.end.ensures
+
+pub returns : goal.returns
+returns c =
+    let none : c.loop-entry.entry-iterator ≡ [] = rest_all (λ p. p) c.loop-entry.entry-iterator c.next.new.self c.next.result c.in-None.is c.next.ensures.steps in
+    Balances-all c.args.pool.now c.loop-entry.pool c.args.self.objects c.loop-entry.entry-iterator none c.loop-entry.invariant

@@ -1,0 +1,134 @@
+//! Nodes and graphs that run in a table.
+ghost use Rattle.std.specs.Prelude.{◌≡◌, IfOk};
+ghost use Rattle.vx_base.specs.declared.format.Format.TheVariants.{U8};
+ghost use Rattle.vx_base.specs.Image.{IsImage, description_of};
+ghost use Rattle.object_table.specs.Context.{new_context};
+
+use crate::cells::holds;
+use crate::graphs::not;
+use crate::images::lend;
+use crate::tables::hold;
+use graph_run::{operand_in, operand_of, run, run_node, run_once, verify_in};
+use graph_verify::{Graph, Operand};
+use image_core::{ImageMut, Second};
+use object_table::{Content, Delay, Object, Stored, Table};
+use pixel_pool::Pool;
+use std::alloc::Global;
+use std::test::Fail;
+use vx_base::{Desc, Format, Outline, Output, Picture, Rect, Samples, SlotCount, VirtualImage};
+
+/// An image of two samples of U8.
+fn image(alloc: Global, pool: &mut Pool, samples: [u8; 2]) -> Result<Stored, Fail>
+    ensures image { IfOk result IsImage }
+    ensures desc { IfOk result (λ i.
+        description_of i ≡ record { width = 2; height = 1; format = U8 }) }
+{
+    let desc = Desc::new(2, 1, Format::U8).ok_or("within the limits")?;
+    let mut image = Stored::new(pool, desc)?;
+    let samples = Vec::from_slice(alloc, &samples)?;
+    image.write(&Picture::new(desc, Samples::U8(samples)));
+    Ok(image)
+}
+
+#[test]
+fn objects_are_operands(rt: HostRuntime) -> Result<(), Fail> {
+    let desc = Desc::new(3, 2, Format::S16).ok_or("within the limits")?;
+    let slots = SlotCount::new(2).ok_or("within the limits")?;
+    let mut pool = Pool::new(rt.alloc());
+    let delay = Delay::new(rt.alloc(), &mut pool, desc, slots)?;
+    let delay = Object::new(Content::Delay(delay));
+    assert_eq!(rt; operand_of(&delay), Operand::Delay);
+    assert_eq!(rt; operand_in(&delay, None), Some(Operand::Delay));
+    assert_eq!(rt; operand_in(&delay, Some(1)), Some(Operand::Image(desc)));
+    assert_eq!(rt; operand_in(&delay, Some(2)), None);
+    let image = Object::new(Content::Image(Stored::new(&mut pool, desc)?));
+    assert_eq!(rt; operand_in(&image, None), Some(Operand::Image(desc)));
+    assert_eq!(rt; operand_in(&image, Some(0)), None);
+    Ok(())
+}
+
+/// What a node of Not writes of two samples.
+fn not_of(mut samples: [u8; 2]) -> Result<[u8; 2], Fail> {
+    let node = not(1, 2)?.node();
+    let desc = Desc::new(2, 1, Format::U8).ok_or("within the limits")?;
+    let whole = Rect::new(0, 0, 2, 1).ok_or("a rectangle")?;
+    let mut written = [77; 2];
+    let image = lend(desc, whole, &mut samples);
+    let mut output = ImageMut::new(desc, &mut written);
+    run_node(&node, Output::First, &image, &Second::Nothing, &mut output);
+    Ok(written)
+}
+
+#[test]
+fn a_node_writes_its_output(rt: HostRuntime) -> Result<(), Fail> {
+    assert_eq!(rt; not_of([10, 255])?, [245, 0]);
+    Ok(())
+}
+
+/// Runs Not from one image to another, which a new table holds under 1 and 2.
+fn run_not(table: &mut Table, input: Stored, output: Stored) -> Result<(), Fail>
+    requires table { table.old ≡ new_context }
+    requires input { IsImage input }
+    requires input_desc { description_of input ≡ record { width = 2; height = 1; format = U8 } }
+    requires output { IsImage output }
+    requires output_desc { description_of output ≡ record { width = 2; height = 1; format = U8 } }
+{
+    hold(table, Content::Image(input))?;
+    hold(table, Content::Image(output))?;
+    let node = not(1, 2)?.node();
+    run_once(table, &node);
+    Ok(())
+}
+
+#[test]
+fn a_node_runs_by_itself(rt: HostRuntime) -> Result<(), Fail> {
+    let alloc = rt.alloc();
+    let (mut table, mut pool) = (Table::new(alloc), Pool::new(alloc));
+    let input = image(alloc, &mut pool, [10, 255])?;
+    let output = image(alloc, &mut pool, [1, 2])?;
+    run_not(&mut table, input, output)?;
+    assert!(rt; holds(&mut table, 1, [10, 255]));
+    assert!(rt; holds(&mut table, 2, [245, 0]));
+    Ok(())
+}
+
+/// Runs a graph named 3 of a new table, which holds two images under 1 and 2: Not from the first to
+/// a virtual image, and Not from that to the second, which is added first.
+fn run_two(
+    alloc: Global,
+    table: &mut Table,
+    pool: &mut Pool,
+    input: Stored,
+    output: Stored,
+    declared: Outline,
+) -> Result<(), Fail>
+    requires table { table.old ≡ new_context }
+    requires input { IsImage input }
+    requires output { IsImage output }
+{
+    hold(table, Content::Image(input))?;
+    hold(table, Content::Image(output))?;
+    hold(table, Content::Graph(Graph::new(alloc)))?;
+    declared.has_sides();
+    let through = VirtualImage { graph: 3, declared };
+    hold(table, Content::Virtual(through))?;
+    table.add_node(3, not(4, 2)?)?;
+    table.add_node(3, not(1, 4)?)?;
+    let verified = verify_in(alloc, table, table.graph(3), 2)?;
+    run(alloc, &verified, table, pool)?;
+    Ok(())
+}
+
+#[test]
+fn a_graph_runs_through_a_virtual_image(rt: HostRuntime) -> Result<(), Fail> {
+    let alloc = rt.alloc();
+    let open = Outline::new(None, None, None).ok_or("nothing is declared")?;
+    let (mut table, mut pool) = (Table::new(alloc), Pool::new(alloc));
+    let input = image(alloc, &mut pool, [10, 255])?;
+    let output = image(alloc, &mut pool, [1, 2])?;
+    run_two(alloc, &mut table, &mut pool, input, output, open)?;
+    assert!(rt; holds(&mut table, 1, [10, 255]));
+    assert!(rt; holds(&mut table, 2, [10, 255]));
+    assert_eq!(rt; (table.held(), table.charged_bytes()), (4, 4));
+    Ok(())
+}
