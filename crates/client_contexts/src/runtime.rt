@@ -96,8 +96,8 @@ impl Runtime {
         }
     }
 
-    /// Drops the context of a client that has one, with all of its objects; the blocks of its images
-    /// are free then.
+    /// Drops the context of a client that has one, with all of its objects; the blocks of its
+    /// images are free then.
     fn release_context(&mut self, client: u16) -> Reply
         ensures { Applies client ReleaseContext self.old self.new (Ok result) }
     {

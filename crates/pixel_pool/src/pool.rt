@@ -79,9 +79,9 @@ impl Pool {
         Ok(samples)
     }
 
-    /// Makes a block that was lent free. Its samples stay as they are. It takes no memory. The free
-    /// blocks of a format have room for at most 67,108,864 samples together, unless it is one block:
-    /// where this one would come beside too many, those before are dropped.
+    /// Makes a block that was lent free. Its samples stay as they are. It takes no memory. The
+    /// free blocks of a format have room for at most 67,108,864 samples together, unless it is one
+    /// block: where this one would come beside too many, those before are dropped.
     pub fn give_back(&mut self, samples: Samples)
         requires { HasLent self.old (samples_format samples) }
         ensures gets_back { GetsBack self.old self.new (samples_format samples) }

@@ -120,11 +120,10 @@ impl<T: Copy + Drop> Shelf<T> {
         ensures lent { self.new.lent + 1 ≡ self.old.lent }
         ensures rooms { GetsRoom self.old.rooms self.new.rooms (length samples.items) }
     {
-        self.lent -= 1;
         if samples.capacity() > KEPT_ROOM.saturating_sub(self.room) {
-            self.free.clear();
-            self.room = 0;
+            self.drop_free();
         }
+        self.lent -= 1;
         self.room += samples.capacity();
         self.free.push_reserved(samples);
     }
