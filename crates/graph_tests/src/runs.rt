@@ -6,7 +6,6 @@ ghost use Rattle.object_table.specs.Context.{new_context};
 
 use crate::cells::holds;
 use crate::graphs::not;
-use crate::images::lend;
 use crate::tables::hold;
 use graph_run::{operand_in, operand_of, run, run_node, run_once, verify_in};
 use graph_verify::{Graph, Operand};
@@ -15,7 +14,7 @@ use object_table::{Content, Delay, Object, Stored, Table};
 use pixel_pool::Pool;
 use std::alloc::Global;
 use std::test::Fail;
-use vx_base::{Desc, Format, Outline, Output, Picture, Rect, Samples, SlotCount, VirtualImage};
+use vx_base::{Desc, Format, Outline, Output, Picture, Samples, SlotCount, VirtualImage};
 
 /// An image of two samples of U8.
 fn image(alloc: Global, pool: &mut Pool, samples: [u8; 2]) -> Result<Stored, Fail>
@@ -48,20 +47,19 @@ fn objects_are_operands(rt: HostRuntime) -> Result<(), Fail> {
 }
 
 /// What a node of Not writes of two samples.
-fn not_of(mut samples: [u8; 2]) -> Result<[u8; 2], Fail> {
+fn not_of(alloc: Global, samples: [u8; 2]) -> Result<[u8; 2], Fail> {
     let node = not(1, 2)?.node();
     let desc = Desc::new(2, 1, Format::U8).ok_or("within the limits")?;
-    let whole = Rect::new(0, 0, 2, 1).ok_or("a rectangle")?;
+    let input = image(alloc, &mut Pool::new(alloc), samples)?;
     let mut written = [77; 2];
-    let image = lend(desc, whole, &mut samples);
     let mut output = ImageMut::new(desc, &mut written);
-    run_node(&node, Output::First, &image, &Second::Nothing, &mut output);
+    run_node(&node, Output::First, &input.image(), &Second::Nothing, &mut output);
     Ok(written)
 }
 
 #[test]
 fn a_node_writes_its_output(rt: HostRuntime) -> Result<(), Fail> {
-    assert_eq!(rt; not_of([10, 255])?, [245, 0]);
+    assert_eq!(rt; not_of(rt.alloc(), [10, 255])?, [245, 0]);
     Ok(())
 }
 

@@ -9,8 +9,8 @@ use Rattle.object_table.specs.Table.{graph_under}
 use Rattle.graph_verify.specs.Verdict.{verdict}
 use Rattle.graph_verify.specs.Verified.{IsVerified}
 use Rattle.graph_run.specs.Operands.{IsReady, operand_held}
-use Rattle.vx_tests.proofs.RunLemmas.{linked, linked_held, nodes, linked_names, linked_objects, ready}
-use Rattle.vx_tests.proofs.runs.run_two.Goals as goal
+use Rattle.graph_tests.proofs.RunLemmas.{linked, linked_held, nodes, linked_names, linked_objects, ready}
+use Rattle.graph_tests.proofs.runs.run_two.Goals as goal
 
 pub run-requires : goal.run-requires
 run-requires c =

@@ -1,5 +1,5 @@
-use Rattle.vx_tests.proofs.ImageLaws.{bytes_image}
-use Rattle.vx_tests.proofs.images.lend.Goals as goal
+use Rattle.image_tests.proofs.ImageLaws.{bytes_image}
+use Rattle.image_tests.proofs.images.lend.Goals as goal
 
 pub new-requires-clause-image : goal.new-requires-clause-image
 new-requires-clause-image c = bytes_image _ _ _ _ c.clear.ensures c.has_sides.ensures c.x0-ordered.ensures.ordered c.requires.room c.are_bytes.ensures

@@ -3,8 +3,8 @@ use Rattle.vx_base.specs.declared.node.Node.{Node}
 use Rattle.object_table.specs.Named.{Named}
 use Rattle.graph_verify.specs.Examples.{not_to}
 use Rattle.graph_run.specs.Turns.{CanRunNow}
-use Rattle.vx_tests.proofs.RunLemmas.{images, images_held, runs_now}
-use Rattle.vx_tests.proofs.runs.run_not.Goals as goal
+use Rattle.graph_tests.proofs.RunLemmas.{images, images_held, runs_now}
+use Rattle.graph_tests.proofs.runs.run_not.Goals as goal
 
 pub run_once-requires-clause-runs : goal.run_once-requires-clause-runs
 run_once-requires-clause-runs c =

@@ -4,7 +4,7 @@ use Rattle.object_table.specs.Context.{Context}
 use Rattle.object_table.specs.Object.{image_value}
 use Rattle.object_table.specs.Table.{HoldsImage, image_held}
 use Rattle.graph_run.proofs.CellLemmas.{image_after, object_after}
-use Rattle.vx_tests.proofs.cells.holds.Goals as goal
+use Rattle.graph_tests.proofs.cells.holds.Goals as goal
 
 pub put-requires-clause-there : goal.put-requires-clause-there
 put-requires-clause-there c =
