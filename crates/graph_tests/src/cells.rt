@@ -41,6 +41,13 @@ fn are(samples: &Samples, wanted: [u8; 2]) -> bool {
     }
 }
 
+#[test]
+fn a_new_image_is_0_everywhere(rt: HostRuntime) -> Result<(), Fail> {
+    let image = Stored::new(&mut Pool::new(rt.alloc()), small()?)?;
+    assert!(rt; are(image.samples(), [0, 0]));
+    Ok(())
+}
+
 /// Whether an image is held under a name.
 fn is_image(table: &Table, name: u32) -> bool
     ensures { result ≡ true → HoldsImage table.now.objects (cell_of name) }

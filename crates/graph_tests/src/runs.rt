@@ -53,7 +53,13 @@ fn not_of(alloc: Global, samples: [u8; 2]) -> Result<[u8; 2], Fail> {
     let input = image(alloc, &mut Pool::new(alloc), samples)?;
     let mut written = [77; 2];
     let mut output = ImageMut::new(desc, &mut written);
-    run_node(&node, Output::First, &input.image(), &Second::Nothing, &mut output);
+    run_node(
+        &node,
+        Output::First,
+        &input.image(),
+        &Second::Nothing,
+        &mut output,
+    );
     Ok(written)
 }
 

@@ -91,7 +91,15 @@ impl Stored {
         self.valid
     }
 
-    /// The samples of all places.
+    /// The samples of all places, by rows from the top.
+    pub fn samples(&self) -> &Samples
+        ensures value { values result.now ≡ self.now.samples }
+        ensures format { samples_format result.now ≡ self.now.format }
+    {
+        &self.samples
+    }
+
+    /// A copy of the samples of all places.
     pub fn picture(&self, alloc: Global) -> Result<Picture, AllocError>
         requires { IsImage self.now }
         ensures { IfOk result (λ picture. picture ≡ picture_of self.now) }
