@@ -130,7 +130,7 @@ class TheServer(BrokerTest):
             broker = self.begin("--servers", "2", command=[path])
             program = self.connect(broker)
             self.assertEqual(program.ask(plain(1)), success(1))
-            self.write_script(path, "exit 7")
+            self.write_script(path, "sleep 0.3; exit 7")
             broker.process.send_signal(signal.SIGHUP)
             self.assertTrue(
                 broker.wait_for(lambda: broker.words().count("has ended with status 7") >= 3))

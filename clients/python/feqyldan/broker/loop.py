@@ -236,13 +236,14 @@ class Broker:
 
     def wait_for_turn(self, connection: Connection) -> None:
         """Has it wait for its server, which is the one with the fewest connections where it has
-        asked nothing yet."""
+        asked nothing yet; one that may end as others have is asked last."""
         if connection.server is None:
             servers = [server for server in self.servers if server.takes_connections]
             if not servers:
                 self.homeless.add(connection)
                 return
-            min(servers, key=lambda server: len(server.members)).add(connection)
+            min(servers, key=lambda server: (
+                self.failures > 0 and self.is_untried(server), len(server.members))).add(connection)
         assert connection.server is not None
         connection.server.line.add(connection)
 
@@ -443,12 +444,16 @@ class Broker:
         self.lines.say(f"{server} has ended with status {status}")
         self.counts.servers_ended += 1
         self.failure = status or 1
-        has_failed = not server.answers and self.now < server.began_at + EARLY_SECONDS
+        has_failed = self.is_untried(server)
         self.failures = self.failures + 1 if has_failed else 0
         if has_failed:
             self.starts_from = self.now + RESTART_PAUSE
         if self.failures >= FAILURES:
             self.give_up()
+
+    def is_untried(self, server: Server) -> bool:
+        """Whether a server has just begun, and has answered nothing yet."""
+        return not server.answers and self.now < server.began_at + EARLY_SECONDS
 
     def give_up(self) -> None:
         """Ends where no server is left that has ever answered; else goes on with those, and tries
