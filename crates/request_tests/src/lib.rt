@@ -7,6 +7,7 @@
 //! - `turns`: a reply is flushed before a byte of the next frame is asked for
 //! - `adapters`: what std's readers and writers answer, through `FromRead` and `FromWrite`
 //! - `requests`: requests as bytes, and back; texts of faults
+//! - `pictures`: pictures of more bytes than a small frame has, in pieces, cut short and refused
 //! - `clients`: what a client with a small quota may hold
 //! - `pooled`: the blocks in which clients' images have their samples
 #![tactic(auto)]
@@ -17,6 +18,8 @@ mod adapters;
 mod clients;
 #[cfg(test)]
 mod devices;
+#[cfg(test)]
+mod pictures;
 #[cfg(test)]
 mod pooled;
 #[cfg(test)]

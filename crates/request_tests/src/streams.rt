@@ -32,23 +32,28 @@ const REPLY_ENDS: [usize; 9] = [0, 8, 16, 28, 40, 48, 56, 70, 84];
 
 /// How the devices of a stream behave: pieces, and calls until one fails.
 #[derive(Clone, Copy)]
-struct Devices {
-    source_piece: usize,
-    good_reads: u64,
-    sink_piece: usize,
-    good_writes: u64,
+pub struct Devices {
+    pub source_piece: usize,
+    pub good_reads: u64,
+    pub sink_piece: usize,
+    pub good_writes: u64,
 }
 
 /// What serving a stream gave.
 #[derive(Drop)]
-struct Served {
-    result: Result<Summary, StreamFault>,
-    written: Vec<u8>,
+pub struct Served {
+    pub result: Result<Summary, StreamFault>,
+    pub written: Vec<u8>,
     /// How many bytes were left, and how often they were read.
     left: (usize, u64),
 }
 
-fn serve_bytes(alloc: Global, runtime: &mut Runtime, stream: &[u8], devices: Devices) -> Served {
+pub fn serve_bytes(
+    alloc: Global,
+    runtime: &mut Runtime,
+    stream: &[u8],
+    devices: Devices,
+) -> Served {
     let mut source = PiecewiseSource {
         bytes: stream,
         piece: devices.source_piece.max(1),
@@ -76,10 +81,10 @@ fn serve_turns(alloc: Global, devices: Devices) -> Served {
     serve_bytes(alloc, &mut runtime, TURNS, devices)
 }
 
-const ALL_AT_ONCE: Devices = Devices {
-    source_piece: 1000,
+pub const ALL_AT_ONCE: Devices = Devices {
+    source_piece: 1_000_000,
     good_reads: NEVER,
-    sink_piece: 1000,
+    sink_piece: 1_000_000,
     good_writes: NEVER,
 };
 

@@ -1,0 +1,195 @@
+//! Pictures of more bytes than a small frame has: in pieces, cut short, and refused.
+use crate::devices::{NEVER, PiecewiseSink};
+use crate::streams::{ALL_AT_ONCE, Devices, serve_bytes};
+use client_contexts::Runtime;
+use client_model::{Limits, Request};
+use std::alloc::Global;
+use std::test::Fail;
+use vx_base::{Desc, Format, ObjRef, Picture, Samples};
+use vx_requests::{StreamFault, write_request};
+
+const IMAGE: ObjRef = ObjRef::new(1, None);
+
+/// A format and sizes of each: the samples of the last two take more bytes than are decoded at once.
+const PICTURES: [(Format, u16, u16); 3] = [
+    (Format::U8, 13, 11),
+    (Format::S16, 70, 130),
+    (Format::U32, 97, 61),
+];
+
+/// Fills samples with numbers that follow no pattern.
+fn scatter(samples: &mut Samples, seed: u32) {
+    let mut number = seed;
+    match samples {
+        Samples::U8(samples) => {
+            for sample in samples.iter_mut() {
+                number = number.wrapping_mul(1_664_525).wrapping_add(1_013_904_223);
+                *sample = number.to_be_bytes()[0];
+            }
+        }
+        Samples::S16(samples) => {
+            for sample in samples.iter_mut() {
+                number = number.wrapping_mul(1_664_525).wrapping_add(1_013_904_223);
+                let [high, low, _, _] = number.to_be_bytes();
+                *sample = i16::from_be_bytes([high, low]);
+            }
+        }
+        Samples::U32(samples) => {
+            for sample in samples.iter_mut() {
+                number = number.wrapping_mul(1_664_525).wrapping_add(1_013_904_223);
+                *sample = number;
+            }
+        }
+    }
+}
+
+/// The frame in which client 1 sends a request.
+fn frame(alloc: Global, request: &Request) -> Result<Vec<u8>, Fail> {
+    let mut sink = PiecewiseSink {
+        bytes: Vec::new(alloc),
+        piece: 1_000_000,
+        until_failure: NEVER,
+        failures: 0,
+    };
+    match write_request(&mut sink, 1, request) {
+        Ok(()) => Ok(sink.bytes),
+        Err(_) => Err("not written".into()),
+    }
+}
+
+/// The frame in which client 1 writes a picture to its image.
+fn writing(alloc: Global, desc: Desc, seed: u32) -> Result<Vec<u8>, Fail> {
+    let mut samples = Samples::zeros(alloc, desc.format(), desc.sample_count())?;
+    scatter(&mut samples, seed);
+    if samples.len() != desc.sample_count() || samples.format() != desc.format() {
+        return Err("so many of the format".into());
+    }
+    frame(
+        alloc,
+        &Request::WriteImage(IMAGE, Picture::new(desc, samples)),
+    )
+}
+
+/// What client 1 is answered that reads what such a frame has written: the frame's body after the
+/// reference.
+fn read(writing: &[u8]) -> &[u8] {
+    if writing.len() < 12 {
+        writing
+    } else {
+        &writing[12..]
+    }
+}
+
+/// The replies to a stream that is served whole.
+fn ask(alloc: Global, runtime: &mut Runtime, stream: &[u8]) -> Result<Vec<u8>, Fail> {
+    let served = serve_bytes(alloc, runtime, stream, ALL_AT_ONCE);
+    if served.result.is_err() {
+        return Err("it ended badly".into());
+    }
+    Ok(served.written)
+}
+
+/// Client 1's context, with an image of this description under 1.
+fn opened(alloc: Global, desc: Desc) -> Result<Runtime, Fail> {
+    let mut runtime = Runtime::new(alloc, Limits::default());
+    ask(
+        alloc,
+        &mut runtime,
+        frame(alloc, &Request::OpenContext)?.as_slice(),
+    )?;
+    ask(
+        alloc,
+        &mut runtime,
+        frame(alloc, &Request::CreateImage(desc))?.as_slice(),
+    )?;
+    Ok(runtime)
+}
+
+/// Whether the image is read as such a frame has written it.
+fn holds(alloc: Global, runtime: &mut Runtime, writing: &[u8]) -> Result<bool, Fail> {
+    let asked = frame(alloc, &Request::ReadImage(IMAGE))?;
+    let replies = ask(alloc, runtime, asked.as_slice())?;
+    Ok(replies.len() > 8 && replies[7] == 0 && &replies[8..] == read(writing))
+}
+
+#[test]
+fn pictures_in_pieces(rt: HostRuntime) -> Result<(), Fail> {
+    let alloc = rt.alloc();
+    for (format, width, height) in PICTURES {
+        let desc = Desc::new(width, height, format).ok_or("within the limits")?;
+        for (source_piece, sink_piece) in [(1_000_000, 1_000_000), (1000, 999), (7, 3)] {
+            let devices = Devices {
+                source_piece,
+                sink_piece,
+                ..ALL_AT_ONCE
+            };
+            let mut runtime = opened(alloc, desc)?;
+            let mut stream = writing(alloc, desc, 1)?;
+            let written = stream.len();
+            stream.extend_from_slice(frame(alloc, &Request::ReadImage(IMAGE))?.as_slice())?;
+            let served = serve_bytes(alloc, &mut runtime, stream.as_slice(), devices);
+            assert!(rt; served.result.is_ok());
+            assert!(rt; written < stream.len() && served.written.len() > 16);
+            assert_eq!(rt; &served.written[..8], b"\0\0\0\x04\0\x01\x05\0");
+            assert_eq!(rt; &served.written[16..], read(&stream[..written]));
+        }
+    }
+    Ok(())
+}
+
+/// An image is as it was where the stream ends within the frame that writes it, or a read fails.
+#[test]
+fn pictures_cut_short(rt: HostRuntime) -> Result<(), Fail> {
+    let alloc = rt.alloc();
+    for (format, width, height) in PICTURES {
+        let desc = Desc::new(width, height, format).ok_or("within the limits")?;
+        let (first, next) = (writing(alloc, desc, 1)?, writing(alloc, desc, 2)?);
+        let mut runtime = opened(alloc, desc)?;
+        ask(alloc, &mut runtime, first.as_slice())?;
+        for parts in 1..24 {
+            let count = next.len() / 24 * parts;
+            assert!(rt; count < next.len());
+            let served = serve_bytes(alloc, &mut runtime, &next.as_slice()[..count], ALL_AT_ONCE);
+            assert_eq!(rt; served.result, Err(StreamFault::Truncated));
+            assert!(rt; holds(alloc, &mut runtime, first.as_slice())?);
+            let fails = Devices {
+                source_piece: count,
+                good_reads: 5,
+                ..ALL_AT_ONCE
+            };
+            let served = serve_bytes(alloc, &mut runtime, next.as_slice(), fails);
+            assert_eq!(rt; served.result, Err(StreamFault::ReadFailed));
+            assert!(rt; holds(alloc, &mut runtime, first.as_slice())?);
+        }
+        ask(alloc, &mut runtime, next.as_slice())?;
+        assert!(rt; holds(alloc, &mut runtime, next.as_slice())?);
+    }
+    Ok(())
+}
+
+/// A refused picture is read past, and the next one is written.
+#[test]
+fn pictures_refused(rt: HostRuntime) -> Result<(), Fail> {
+    let alloc = rt.alloc();
+    let desc = Desc::new(40, 30, Format::S16).ok_or("within the limits")?;
+    let (first, next) = (writing(alloc, desc, 1)?, writing(alloc, desc, 2)?);
+    let mut runtime = opened(alloc, desc)?;
+    ask(alloc, &mut runtime, first.as_slice())?;
+    for (format, width, height, code) in [
+        (Format::S16, 30, 40, 6),
+        (Format::S16, 41, 30, 6),
+        (Format::U8, 40, 30, 5),
+        (Format::U32, 40, 30, 5),
+    ] {
+        let other = Desc::new(width, height, format).ok_or("within the limits")?;
+        let mut stream = writing(alloc, other, 3)?;
+        stream.extend_from_slice(frame(alloc, &Request::ReadImage(IMAGE))?.as_slice())?;
+        let replies = ask(alloc, &mut runtime, stream.as_slice())?;
+        assert!(rt; replies.len() > 16);
+        assert_eq!(rt; replies[7], code);
+        assert_eq!(rt; &replies[16..], read(first.as_slice()));
+    }
+    ask(alloc, &mut runtime, next.as_slice())?;
+    assert!(rt; holds(alloc, &mut runtime, next.as_slice())?);
+    Ok(())
+}
