@@ -153,8 +153,8 @@ fn pictures_cut_short(rt: HostRuntime) -> Result<(), Fail> {
             assert_eq!(rt; served.result, Err(StreamFault::Truncated));
             assert!(rt; holds(alloc, &mut runtime, first.as_slice())?);
             let fails = Devices {
-                source_piece: count,
-                good_reads: 5,
+                source_piece: next.len() / 32,
+                good_reads: parts as u64,
                 ..ALL_AT_ONCE
             };
             let served = serve_bytes(alloc, &mut runtime, next.as_slice(), fails);
