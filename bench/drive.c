@@ -6,7 +6,10 @@
  *   drive lockstep COUNT PROGRAM [WORD..]   COUNT small requests, each after the reply to the last
  *   drive streamed COUNT PROGRAM [WORD..]   COUNT small requests, written ahead of their replies
  *   drive image COUNT PROGRAM [WORD..]      COUNT times a 1920x1080 U8 image in, Not of it, and out
- *   drive bytes COUNT PROGRAM [WORD..]      COUNT times as many bytes in and out (for cat)
+ *   drive image=WxHxN COUNT PROGRAM [..]    the same of another size; where N is 2 and not 1, S16
+ *                                           images, and the greater of the image and itself for Not
+ *   drive bytes COUNT PROGRAM [WORD..]      COUNT times as many bytes in and out (for cat), also
+ *                                           with =WxHxN
  *
  * A small request is WriteImage of one sample (18 bytes), its reply has 8 bytes. */
 #include <errno.h>
@@ -23,7 +26,10 @@
 #include <time.h>
 #include <unistd.h>
 
-enum { WIDTH = 1920, HEIGHT = 1080, SAMPLES = WIDTH * HEIGHT };
+enum { MOST = 4096, NOT = 4, MAX = 10 };
+
+/* The size of images, and the bytes of a sample: 1 for U8, 2 for S16. */
+static uint32_t width = 1920, height = 1080, size = 1;
 
 static int to_server, from_server;
 
@@ -102,42 +108,45 @@ static uint8_t *put_reference(uint8_t *at, uint32_t name) {
   return put_number(at, 255, 1);
 }
 
-static uint8_t *put_write(uint8_t *at, uint32_t name, uint32_t width, uint32_t height) {
-  at = put_head(at, 10 + width * height, 5);
-  at = put_reference(at, name);
-  at = put_number(at, 1, 1);
+static uint8_t *put_description(uint8_t *at) {
+  at = put_number(at, size, 1);
   at = put_number(at, width, 2);
-  at = put_number(at, height, 2);
-  memset(at, 10, width * height);
-  return at + width * height;
+  return put_number(at, height, 2);
 }
 
-/* A context, and two images of this size. */
-static void prepare(uint32_t width, uint32_t height) {
+static size_t byte_count(void) { return (size_t)width * height * size; }
+
+static uint8_t *put_write(uint8_t *at, uint32_t name) {
+  at = put_head(at, 10 + (uint32_t)byte_count(), 5);
+  at = put_description(put_reference(at, name));
+  memset(at, 10, byte_count());
+  return at + byte_count();
+}
+
+/* A context, and two images. */
+static void prepare(void) {
   uint8_t requests[64], replies[64], *at = put_head(requests, 0, 1);
-  for (int k = 0; k < 2; k++) {
-    at = put_head(at, 5, 3);
-    at = put_number(at, 1, 1);
-    at = put_number(at, width, 2);
-    at = put_number(at, height, 2);
-  }
+  for (int k = 0; k < 2; k++)
+    at = put_description(put_head(at, 5, 3));
   exchange(requests, (size_t)(at - requests), replies, 8 + 12 + 12);
 }
 
-static uint8_t *put_not(uint8_t *at) {
+/* Not of the first image to the second, or the greater of it and itself. */
+static uint8_t *put_node(uint8_t *at) {
   at = put_head(at, 25, 24);
-  at = put_number(at, 4, 1);
+  at = put_number(at, size == 1 ? NOT : MAX, 1);
   at = put_number(at, 0, 4);
   at = put_reference(at, 1);
-  at = put_reference(at, 0);
+  at = put_reference(at, size == 1 ? 0 : 1);
   at = put_reference(at, 2);
   return put_reference(at, 0);
 }
 
 static void small_requests(long count, int ahead) {
-  prepare(1, 1);
+  width = height = 1;
+  prepare();
   uint8_t request[32], reply[8];
-  size_t length = (size_t)(put_write(request, 1, 1, 1) - request);
+  size_t length = (size_t)(put_write(request, 1) - request);
   if (!ahead) {
     for (long k = 0; k < count; k++)
       exchange(request, length, reply, 8);
@@ -150,21 +159,33 @@ static void small_requests(long count, int ahead) {
 }
 
 static void images(long count) {
-  prepare(WIDTH, HEIGHT);
-  uint8_t *requests = malloc(SAMPLES + 256), *replies = malloc(SAMPLES + 256);
-  uint8_t *at = put_not(put_write(requests, 1, WIDTH, HEIGHT));
+  prepare();
+  uint8_t *requests = malloc(byte_count() + 256), *replies = malloc(byte_count() + 256);
+  uint8_t *at = put_node(put_write(requests, 1));
   at = put_reference(put_head(at, 5, 7), 2);
   for (long k = 0; k < count; k++) {
-    exchange(requests, (size_t)(at - requests), replies, 8 + 8 + 8 + 5 + SAMPLES);
-    if (replies[7] || replies[15] || replies[23] || replies[29] != 245)
+    exchange(requests, (size_t)(at - requests), replies, 8 + 8 + 8 + 5 + byte_count());
+    if (replies[7] || replies[15] || replies[23] || replies[29] != (size == 1 ? 245 : 10))
       fail("a reply");
   }
 }
 
 static void bytes(long count) {
-  uint8_t *there = calloc(1, SAMPLES), *back = malloc(SAMPLES);
+  uint8_t *there = calloc(1, byte_count()), *back = malloc(byte_count());
   for (long k = 0; k < count; k++)
-    exchange(there, SAMPLES, back, SAMPLES);
+    exchange(there, byte_count(), back, byte_count());
+}
+
+/* The mode that a word begins with, once its size is taken off. */
+static const char *mode_of(char *word) {
+  char *sides = strchr(word, '=');
+  if (!sides)
+    return word;
+  *sides = 0;
+  if (sscanf(sides + 1, "%ux%ux%u", &width, &height, &size) != 3 || width < 1 || width > MOST ||
+      height < 1 || height > MOST || size < 1 || size > 2)
+    exit(2);
+  return word;
 }
 
 int main(int argc, char **argv) {
@@ -179,11 +200,12 @@ int main(int argc, char **argv) {
     reach(argv[4]);
   else
     return 2;
+  const char *mode = mode_of(argv[1]);
   struct timespec begin, end;
   clock_gettime(CLOCK_MONOTONIC, &begin);
-  if (!strcmp(argv[1], "lockstep") || !strcmp(argv[1], "streamed"))
-    small_requests(count, !strcmp(argv[1], "streamed"));
-  else if (!strcmp(argv[1], "image"))
+  if (!strcmp(mode, "lockstep") || !strcmp(mode, "streamed"))
+    small_requests(count, !strcmp(mode, "streamed"));
+  else if (!strcmp(mode, "image"))
     images(count);
   else
     bytes(count);
