@@ -6,3 +6,5 @@ pub mod StepLaws
 pub mod StandLaws
 mod VerdictLaws
 pub mod StayLaws
+mod RunLaws
+mod OrderLaws

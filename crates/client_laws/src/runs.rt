@@ -1,0 +1,62 @@
+//! Laws of the requests that verify and run graphs.
+ghost use Rattle.std.specs.Prelude.{◌≡◌, ◌≢◌, ℕ, false, Some, Ok};
+ghost use Rattle.std.specs.List.Sorted.{IsPermutation};
+ghost use Rattle.vx_base.specs.declared.kind.Kind.TheVariants as kind;
+ghost use Rattle.vx_base.specs.Cell.{Cell};
+ghost use Rattle.vx_base.specs.Graph.{GraphValue, nodes_of};
+ghost use Rattle.object_table.specs.Context.{Context};
+ghost use Rattle.object_table.specs.Named.{held};
+ghost use Rattle.graph_verify.specs.Links.{is_written};
+ghost use Rattle.graph_run.specs.Solution.{kind_in};
+ghost use Rattle.client_model.specs.declared.request.Request.TheVariants.{VerifyGraph};
+ghost use Rattle.client_model.specs.declared.request.Request.TheVariants.{ProcessGraph};
+ghost use Rattle.client_model.specs.declared.reply.Reply.TheVariants.{Empty};
+ghost use Rattle.client_model.specs.Allowance.{Allowance};
+ghost use Rattle.client_model.specs.Answer.{answer_to};
+ghost use Rattle.client_model.specs.Context.{State};
+ghost use Rattle.client_model.specs.Graphs.{graph_named, process_found};
+ghost use Rattle.client_model.specs.States.{KeepsLimits};
+ghost use Rattle.client_laws.specs.Run.{IsRunOf};
+
+/// ProcessGraph is answered what VerifyGraph is.
+pub fn what_verifies_runs()
+    ensures { (limits : Allowance) (state : State) (name : ℕ) →
+        (answer_to limits state (ProcessGraph name)).0
+        ≡ (answer_to limits state (VerifyGraph name)).0 }
+{}
+
+/// Where ProcessGraph succeeds, what it leaves is the only solution of the graph: at the end of the
+/// run each image, distribution and extremes that a node writes, virtual images among them, is what
+/// the node's function gives of its inputs as they are then, and everything else is as it was.
+/// Virtual images are then virtual again.
+pub fn a_run_is_the_only_solution()
+    ensures { (limits : Allowance) (c later : Context) (name : ℕ) → KeepsLimits limits c →
+        answer_to limits (Some c) (ProcessGraph name) ≡ (Empty, Some later) →
+        IsRunOf name c later }
+{}
+
+/// A run changes what the graph's nodes write and nothing else: each cell that none of them writes
+/// holds what it held, and so does each that holds a virtual image. A delay's images are in its
+/// slots.
+pub fn a_run_changes_what_it_writes()
+    ensures others { (limits : Allowance) (c later : Context) (name : ℕ) (graph : GraphValue)
+        (cell : Cell) → KeepsLimits limits c →
+        answer_to limits (Some c) (ProcessGraph name) ≡ (Empty, Some later) →
+        graph_named c.objects name ≡ Ok graph → is_written (nodes_of graph) cell ≡ false →
+        kind_in c.objects cell ≢ Some kind.Delay →
+        held later.objects cell ≡ held c.objects cell }
+    ensures virtual_images { (limits : Allowance) (c later : Context) (name : ℕ) (cell : Cell) →
+        KeepsLimits limits c →
+        answer_to limits (Some c) (ProcessGraph name) ≡ (Empty, Some later) →
+        kind_in c.objects cell ≡ Some kind.VirtualImage →
+        held later.objects cell ≡ held c.objects cell }
+{}
+
+/// Had the nodes of the graph been added in any other order, it would run too, and leave the same.
+pub fn nodes_in_any_order()
+    ensures { (limits : Allowance) (c later : Context) (name : ℕ) (graph other : GraphValue) →
+        KeepsLimits limits c → graph_named c.objects name ≡ Ok graph →
+        IsPermutation (nodes_of graph) (nodes_of other) →
+        process_found (Ok graph) limits c ≡ Ok (Empty, Some later) →
+        process_found (Ok other) limits c ≡ Ok (Empty, Some later) }
+{}
