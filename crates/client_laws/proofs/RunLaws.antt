@@ -5,7 +5,7 @@ use Rattle.std.specs.List.{AllPairs}
 use Rattle.std.specs.List.Sorted.{IsStrictlyIncreasing}
 use Rattle.std.specs.Option.{option_map, option_and_then}
 use Rattle.std.proofs.Math.ListN.{get_or-map as get_or-map_default}
-use Rattle.std.proofs.lemmas.Bool.{cases_Bool, false_from_ne_true, or_left}
+use Rattle.std.proofs.lemmas.Bool.{cases_Bool, false_from_ne_true, or_left, or_right}
 use Rattle.std.proofs.lemmas.List.{length-map}
 use Rattle.std.proofs.lemmas.List.Kept.{AllPairs-from_increasing}
 use Rattle.vx_base.specs.declared.format.Format.{Format}
@@ -18,6 +18,7 @@ use Rattle.vx_base.specs.Graph.{GraphValue, nodes_of}
 use Rattle.vx_base.specs.Image.{ImageValue}
 use Rattle.vx_base.specs.Object.{ObjectValue, ImageObject, DelayObject, GraphObject, VirtualObject, object_kind}
 use Rattle.vx_base.specs.Outline.{Outline, closed}
+use Rattle.vx_base.specs.Outputs.{written_by}
 use Rattle.object_table.specs.Context.{Context, object_named, with_objects}
 use Rattle.object_table.specs.Delay.{in_slot}
 use Rattle.object_table.specs.Named.{Named, object_held, held}
@@ -32,9 +33,10 @@ use Rattle.graph_verify.specs.Members.{In}
 use Rattle.graph_verify.specs.Operand.{operand_of, operand_kind, operand_format, operands_of, is_image}
 use Rattle.graph_verify.specs.Outlines.{outlines, virtual_or_image, as_known, resolved}
 use Rattle.graph_verify.specs.Verdict.{node_fault}
+use Rattle.graph_verify.proofs.MemberLemmas.{In-left, In-right}
 use Rattle.graph_verify.proofs.VerdictLemmas.{CanRun, can_run}
 use Rattle.graph_run.specs.Graph.{rounds_of_nodes, is_virtual_object, forgotten, run_of_graph}
-use Rattle.graph_run.specs.Operands.{CellsStand, operand_held}
+use Rattle.graph_run.specs.Operands.{CellsStand, names_cell, operand_held}
 use Rattle.graph_run.specs.Solution.{WritesNo, ReadImages, kind_in, label_of}
 use Rattle.graph_run.proofs.BegunLaws.{begun_under, object_held-begun, labels-begun, begun_stays}
 use Rattle.graph_run.proofs.LinkLaws.{All-from_In, In-from_All, reads_first}
@@ -43,7 +45,9 @@ use Rattle.graph_run.proofs.OperandLaws.{begun_stands, kind-operand, no_delay, n
 use Rattle.graph_run.proofs.OrderLaws.{rounds_in_order}
 use Rattle.graph_run.proofs.SolutionLaws.{rounds_are_solution, only_rising}
 use Rattle.graph_run.proofs.TurnLaws.{each_alone}
+use Rattle.graph_run.proofs.NodeLaws.{written_held}
 use Rattle.graph_run.proofs.UnwrittenLemmas.{whole}
+use Rattle.graph_run.proofs.VerifiedLemmas.{named_by_input, named_by_output}
 use Rattle.client_model.specs.declared.refusal.Refusal.{Refusal}
 use Rattle.client_model.specs.declared.refusal.Refusal.TheVariants.{Rejected}
 use Rattle.client_model.specs.declared.reply.Reply.{Reply}
@@ -58,6 +62,7 @@ use Rattle.client_model.specs.States.{KeepsLimits}
 use Rattle.client_model.proofs.GraphStepLaws.{graph_stands}
 use Rattle.client_model.proofs.HoldLaws.{OperandsStand}
 use Rattle.client_laws.specs.Run.{at_begin, IsTheRun, IsRunOf}
+use Rattle.client_laws.proofs.InTurnLaws.{an_order}
 use Rattle.client_laws.proofs.StandLaws.{cells_stand, firsts_are_images}
 
 -- ---- what runs have to find
@@ -139,6 +144,7 @@ module _ (limits : Allowance) (c : Context) (name : ℕ) (graph : GraphValue) (h
         at_end = rounds_of_nodes nodes (length nodes) begin;
         solves = rounds_are_solution nodes begin can.one_writer can.no_cycle no_delays;
         only = λ other. only_rising nodes begin other can.one_writer can.no_cycle names no_delays images;
+        order = an_order nodes can.no_cycle;
         in_order = λ steps order. sym (rounds_in_order nodes steps begin order can.one_writer names no_delays);
         left = refl;
       }
@@ -201,6 +207,37 @@ module _ (nodes : List Node) (before later : List Named) (run : IsTheRun nodes b
       by (Some false) e = other (λ is. cc)
       by None e = other (λ is. cc)
 
+-- what a node writes depends on the cells that it names
+written_alike : (n : Node) (one other : Cell → Option ObjectValue) → ((cell : Cell) → names_cell n cell ≡ true → one cell ≡ other cell) → written_by n one ≡ written_by n other
+written_alike n one other same = grind (arith, named_by_input, named_by_output, In-left, In-right)
+
+-- a cell that holds what is no virtual image is under a name of none
+no_virtual : (slot : Option ℕ) (o : Option ObjectValue) (operand : Operand) → option_map operand_of (option_and_then (in_slot slot) o) ≡ Some operand → option_map object_kind (option_and_then (in_slot slot) o) ≢ Some kind.VirtualImage
+    → option_map is_virtual_object o ≢ Some true
+no_virtual slot None operand there real e = cc
+no_virtual None (Some (VirtualObject image)) operand there real e = real refl
+no_virtual (Some k) (Some (VirtualObject image)) operand there real e = cc
+no_virtual slot (Some other) operand there real e = cc
+
+module _ (nodes : List Node) (before later : List Named) (run : IsTheRun nodes before later) (stand : CellsStand (operand_held before) nodes before) (n : Node) (i : In n nodes) where
+  -- a node that names no virtual image finds what it gives
+  found_again : ((cell : Cell) → names_cell n cell ≡ true → kind_in before cell ≢ Some kind.VirtualImage) → All (λ w. held later w.0 ≡ Some w.1) (written_by n (held later))
+  found_again real =
+      subst (All (λ (w : Cell × ObjectValue). held later w.0 ≡ Some w.1)) (sym (written_alike n (held later) (held at_end) as_then))
+      (All-from_In (λ (w : Cell × ObjectValue). held later w.0 ≡ Some w.1) (written_by n (held at_end))
+      (λ w j. as_then w.0 (or_right (reads n w.0) (writes n w.0) (written_held n (held at_end) w j).0) ∙ In-from_All (λ (v : Cell × ObjectValue). held at_end v.0 ≡ Some v.1) (written_by n (held at_end)) solved w j))
+    where
+      at_end : List Named
+      at_end = run.at_end
+
+      as_then : (cell : Cell) → names_cell n cell ≡ true → held later cell ≡ held at_end cell
+      as_then cell named_there =
+          as_at_end nodes before later run cell
+          (no_virtual cell.slot (object_held before cell.name) (operand_held before cell) (stand.found n cell i named_there) (real cell named_there))
+
+      solved : All (λ w. held at_end w.0 ≡ Some w.1) (written_by n (held at_end))
+      solved = In-from_All (λ m. All (λ w. held at_end w.0 ≡ Some w.1) (written_by m (held at_end))) nodes run.solves.written n i
+
 -- a cell of a virtual image has no slot
 virtual_held : (slot : Option ℕ) (o : Option ObjectValue) → option_map object_kind (option_and_then (in_slot slot) o) ≡ Some kind.VirtualImage → option_map is_virtual_object o ≡ Some true
 virtual_held slot None e = absurd (cc)
@@ -239,7 +276,17 @@ run_is limits c later name h = of_graph (graph_named c.objects name) refl
 one_graph : (objects : List Named) (name : ℕ) (graph other : GraphValue) → graph_named objects name ≡ Ok graph → graph_named objects name ≡ Ok other → graph ≡ other
 one_graph objects name graph other a b = let same : ◌≡◌ {A = Result GraphValue Refusal} (Ok graph) (Ok other) = sym a ∙ b in cc
 
--- so each cell that no node writes holds what it held
+-- so each node that names no virtual image finds what it gives
+pub written_stay : (limits : Allowance) (c later : Context) (name : ℕ) (graph : GraphValue) (n : Node) → KeepsLimits limits c → answer_to limits (Some c) (ProcessGraph name) ≡ (Empty, Some later)
+    → graph_named c.objects name ≡ Ok graph → In n (nodes_of graph) → ((cell : Cell) → names_cell n cell ≡ true → kind_in c.objects cell ≢ Some kind.VirtualImage)
+    → All (λ w. held later.objects w.0 ≡ Some w.1) (written_by n (held later.objects))
+written_stay limits c later name graph n h done is_graph i real =
+    let ran = run_is limits c later name h done in
+    let same = one_graph c.objects name graph ran.graph is_graph ran.named in
+    let nodes = nodes_of ran.graph in
+    found_again nodes c.objects later.objects ran.run (cells_stand c.objects name nodes (graph_stood limits c name ran.graph h ran.named)) n (subst (λ (g : GraphValue). In n (nodes_of g)) same i) real
+
+-- each cell that no node writes holds what it held
 pub others_stay : (limits : Allowance) (c later : Context) (name : ℕ) (graph : GraphValue) (cell : Cell) → KeepsLimits limits c → answer_to limits (Some c) (ProcessGraph name) ≡ (Empty, Some later)
     → graph_named c.objects name ≡ Ok graph → is_written (nodes_of graph) cell ≡ false → kind_in c.objects cell ≢ Some kind.Delay → held later.objects cell ≡ held c.objects cell
 others_stay limits c later name graph cell h done is_graph free plain =

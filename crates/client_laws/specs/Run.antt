@@ -18,12 +18,13 @@ abbrev pub at_begin : List Node → List Named → List Named
 at_begin nodes objects = map (begun (resolved (operand_held objects) nodes) nodes) objects
 
 -- the run of a graph with these nodes: at its end each cell that a node writes holds what the node gives of what the cells hold then,
--- and every other cell what it held at the begin. Nothing else does so, and it is what the nodes leave one after the other, each once and
--- after those whose outputs it reads. Then virtual images are virtual again
+-- and every other cell what it held as the run began. Nothing else is so. The nodes have an order, each once and after those whose outputs
+-- it reads, and one after the other they leave this in every such order. Then virtual images are virtual again
 pub record IsTheRun (nodes : List Node) (before later : List Named) : Type 0 where
   pub at_end : List Named
   pub solves : Solves nodes (at_begin nodes before) at_end
   pub only : (other : List Named) → Solves nodes (at_begin nodes before) other → other ≡ at_end
+  pub order : (steps : List Node) × IsOrder feeds nodes steps
   pub in_order : (steps : List Node) → IsOrder feeds nodes steps → one_by_one steps (at_begin nodes before) ≡ at_end
   pub left : later ≡ forgotten before at_end
 

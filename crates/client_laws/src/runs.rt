@@ -1,12 +1,16 @@
 //! Laws of the requests that verify and run graphs.
-ghost use Rattle.std.specs.Prelude.{◌≡◌, ◌≢◌, ℕ, false, Some, Ok};
+ghost use Rattle.std.specs.Prelude.{◌≡◌, ◌≢◌, ℕ, true, false, All, Some, Ok};
 ghost use Rattle.std.specs.List.Sorted.{IsPermutation};
 ghost use Rattle.vx_base.specs.declared.kind.Kind.TheVariants as kind;
+ghost use Rattle.vx_base.specs.declared.node.Node.{Node};
 ghost use Rattle.vx_base.specs.Cell.{Cell};
 ghost use Rattle.vx_base.specs.Graph.{GraphValue, nodes_of};
+ghost use Rattle.vx_base.specs.Outputs.{written_by};
 ghost use Rattle.object_table.specs.Context.{Context};
 ghost use Rattle.object_table.specs.Named.{held};
 ghost use Rattle.graph_verify.specs.Links.{is_written};
+ghost use Rattle.graph_verify.specs.Members.{In};
+ghost use Rattle.graph_run.specs.Operands.{names_cell};
 ghost use Rattle.graph_run.specs.Solution.{kind_in};
 ghost use Rattle.client_model.specs.declared.request.Request.TheVariants.{VerifyGraph};
 ghost use Rattle.client_model.specs.declared.request.Request.TheVariants.{ProcessGraph};
@@ -35,10 +39,17 @@ pub fn a_run_is_the_only_solution()
         IsRunOf name c later }
 {}
 
-/// A run changes what the graph's nodes write and nothing else: each cell that none of them writes
-/// holds what it held, and so does each that holds a virtual image. A delay's images are in its
-/// slots.
-pub fn a_run_changes_what_it_writes()
+/// What is then left of each cell. Each node that names no virtual image finds in its outputs what
+/// it gives of what its cells hold. A cell that no node writes holds what it held, and so does one
+/// that holds a virtual image; a delay's images are in its slots.
+pub fn what_a_run_leaves()
+    ensures written { (limits : Allowance) (c later : Context) (name : ℕ) (graph : GraphValue)
+        (n : Node) → KeepsLimits limits c →
+        answer_to limits (Some c) (ProcessGraph name) ≡ (Empty, Some later) →
+        graph_named c.objects name ≡ Ok graph → In n (nodes_of graph) →
+        ((cell : Cell) → names_cell n cell ≡ true →
+            kind_in c.objects cell ≢ Some kind.VirtualImage) →
+        All (λ w. held later.objects w.0 ≡ Some w.1) (written_by n (held later.objects)) }
     ensures others { (limits : Allowance) (c later : Context) (name : ℕ) (graph : GraphValue)
         (cell : Cell) → KeepsLimits limits c →
         answer_to limits (Some c) (ProcessGraph name) ≡ (Empty, Some later) →
