@@ -36,11 +36,13 @@ use Rattle.graph_run.proofs.OperandLaws.{no_delay, no_fault}
 use Rattle.graph_run.proofs.TurnLaws.{each_alone}
 use Rattle.client_model.specs.declared.refusal.Refusal.TheVariants.{Rejected}
 use Rattle.client_model.specs.declared.reply.Reply.TheVariants.{Empty}
+use Rattle.client_model.specs.declared.request.Request.TheVariants.{ProcessGraph}
 use Rattle.client_model.specs.Allowance.{Allowance}
+use Rattle.client_model.specs.Answer.{answered, answer_to}
 use Rattle.client_model.specs.Graphs.{graph_named, graph_verdict, process_found}
 use Rattle.client_model.specs.Refusal.{Outcome, unless}
 use Rattle.client_model.specs.States.{KeepsLimits}
-use Rattle.client_laws.proofs.RunLaws.{graph_stood, pairs_of}
+use Rattle.client_laws.proofs.RunLaws.{graph_stood, pairs_of, outcome_is}
 use Rattle.client_laws.proofs.StandLaws.{cells_stand}
 
 -- ---- what a verdict asks of the nodes, one by one
@@ -139,3 +141,10 @@ same_run limits c later name graph other h is_graph same done = of_verdict (grap
         ∙ ap (λ (objects : List Named). let r : Outcome = Ok (Empty, Some (with_objects c objects)) in r) (sym run)
         ∙ e
     of_verdict (Some v) refused e = absurd (cc)
+
+-- of requests on two graphs of one client
+pub same_answer : (limits : Allowance) (c later : Context) (one two : ℕ) (graph other : GraphValue) → KeepsLimits limits c → graph_named c.objects one ≡ Ok graph → graph_named c.objects two ≡ Ok other
+    → IsPermutation (nodes_of graph) (nodes_of other) → answer_to limits (Some c) (ProcessGraph one) ≡ (Empty, Some later) → answer_to limits (Some c) (ProcessGraph two) ≡ (Empty, Some later)
+same_answer limits c later one two graph other h is_graph is_other same done =
+    ap (λ found. answered c (process_found found limits c)) is_other
+    ∙ ap (answered c) (same_run limits c later one graph other h is_graph same (outcome_is c later (process_found (Ok graph) limits c) (ap (λ found. answered c (process_found found limits c)) (sym is_graph) ∙ done)))

@@ -57,7 +57,7 @@ use Rattle.client_model.specs.Allowance.{Allowance}
 use Rattle.client_model.specs.Answer.{answered, answer_to}
 use Rattle.client_model.specs.Context.{State}
 use Rattle.client_model.specs.Graphs.{as_graph, graph_named, graph_verdict, verify_found, process_found}
-use Rattle.client_model.specs.Refusal.{refusal_code, unless}
+use Rattle.client_model.specs.Refusal.{Outcome, refusal_code, unless}
 use Rattle.client_model.specs.States.{KeepsLimits}
 use Rattle.client_model.proofs.GraphStepLaws.{graph_stands}
 use Rattle.client_model.proofs.HoldLaws.{OperandsStand}
@@ -252,25 +252,26 @@ virtual_held (Some k) (Some other) e = absurd (cc)
 
 -- ---- requests
 
--- a refusal is no success
-no_success : (refusal : Refusal) (c later : Context) → answered c (Err refusal) ≡ (Empty, Some later) → ⊥
-no_success refusal c later e = let reply : Refused (refusal_code refusal) ≡ Empty = ap (λ (r : Reply × State). r.0) e in cc
+-- a request that succeeds is done
+pub outcome_is : (c later : Context) (outcome : Outcome) → answered c outcome ≡ (Empty, Some later) → outcome ≡ Ok (Empty, Some later)
+outcome_is c later (Ok done) e = ap (λ (d : Reply × State). let o : Outcome = Ok d in o) e
+outcome_is c later (Err refusal) e = let reply : Refused (refusal_code refusal) ≡ Empty = ap (λ (d : Reply × State). d.0) e in absurd (cc)
 
--- a request that succeeds unless a verdict refuses it
-done_is : (v : Option Verdict) (c after later : Context) → answered c (unless (option_map Rejected v) Empty after) ≡ (Empty, Some later) → (v ≡ None) × (after ≡ later)
-done_is None c after later e = (refl, ap (λ (r : Reply × State). unwrap_or r.1 after) e)
-done_is (Some v) c after later e = absurd (no_success (Rejected v) c later e)
+-- it was refused by no verdict
+done_is : (v : Option Verdict) (after later : Context) → unless (option_map Rejected v) Empty after ≡ Ok (Empty, Some later) → (v ≡ None) × (after ≡ later)
+done_is None after later e = let told : ◌≡◌ {A = Reply × State} (Empty, Some after) (Empty, Some later) = cc in (refl, ap (λ (d : Reply × State). unwrap_or d.1 after) told)
+done_is (Some v) after later e = absurd (cc)
 
 -- what ProcessGraph leaves is that run
 pub run_is : (limits : Allowance) (c later : Context) (name : ℕ) → KeepsLimits limits c → answer_to limits (Some c) (ProcessGraph name) ≡ (Empty, Some later) → IsRunOf name c later
-run_is limits c later name h = of_graph (graph_named c.objects name) refl
+run_is limits c later name h done = of_graph (graph_named c.objects name) refl (outcome_is c later (process_found (graph_named c.objects name) limits c) done)
   where
-    of_graph : (found : Result GraphValue Refusal) → graph_named c.objects name ≡ found → answered c (process_found found limits c) ≡ (Empty, Some later) → IsRunOf name c later
-    of_graph (Err refusal) is_graph e = absurd (no_success refusal c later e)
+    of_graph : (found : Result GraphValue Refusal) → graph_named c.objects name ≡ found → process_found found limits c ≡ Ok (Empty, Some later) → IsRunOf name c later
+    of_graph (Err refusal) is_graph e = absurd (cc)
     of_graph (Ok graph) is_graph e =
         let left : List Named = run_of_graph (resolved (operand_held c.objects) (nodes_of graph)) (nodes_of graph) c.objects in
-        let done = done_is (graph_verdict limits c.objects graph) c (with_objects c left) later e in
-        subst (IsRunOf name c) done.1 (record { graph = graph; named = is_graph; run = the_run limits c name graph h is_graph done.0; next = refl })
+        let ran = done_is (graph_verdict limits c.objects graph) (with_objects c left) later e in
+        subst (IsRunOf name c) ran.1 (record { graph = graph; named = is_graph; run = the_run limits c name graph h is_graph ran.0; next = refl })
 
 -- a graph of a name is one
 one_graph : (objects : List Named) (name : ℕ) (graph other : GraphValue) → graph_named objects name ≡ Ok graph → graph_named objects name ≡ Ok other → graph ≡ other

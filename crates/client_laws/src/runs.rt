@@ -63,11 +63,18 @@ pub fn what_a_run_leaves()
         held later.objects cell ≡ held c.objects cell }
 {}
 
-/// Had the nodes of the graph been added in any other order, it would run too, and leave the same.
+/// Had the nodes of a graph been added in any other order, it would run too, and leave the same. So
+/// do two graphs that have the same nodes.
 pub fn nodes_in_any_order()
-    ensures { (limits : Allowance) (c later : Context) (name : ℕ) (graph other : GraphValue) →
+    ensures had { (limits : Allowance) (c later : Context) (name : ℕ) (graph other : GraphValue) →
         KeepsLimits limits c → graph_named c.objects name ≡ Ok graph →
         IsPermutation (nodes_of graph) (nodes_of other) →
         process_found (Ok graph) limits c ≡ Ok (Empty, Some later) →
         process_found (Ok other) limits c ≡ Ok (Empty, Some later) }
+    ensures graphs { (limits : Allowance) (c later : Context) (one two : ℕ)
+        (graph other : GraphValue) → KeepsLimits limits c →
+        graph_named c.objects one ≡ Ok graph → graph_named c.objects two ≡ Ok other →
+        IsPermutation (nodes_of graph) (nodes_of other) →
+        answer_to limits (Some c) (ProcessGraph one) ≡ (Empty, Some later) →
+        answer_to limits (Some c) (ProcessGraph two) ≡ (Empty, Some later) }
 {}
