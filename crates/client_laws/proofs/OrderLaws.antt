@@ -1,6 +1,6 @@
 -- The order in which the nodes of a graph were added makes no difference to whether it runs, nor to what it leaves.
-use Rattle.std.proofs.Common.{◌≡◌, ℕ, ◌+◌, ◌≤◌, Bool, true, false, List, [], ◌∷◌, length, map, Option, Some, None, Result, Ok, Err, inl, inr, refl, sym, ap, subst, ◌∙◌, arith}
-use Rattle.std.specs.Prelude.{All, ◌&&◌, not, sum_by}
+use Rattle.std.proofs.Common.{◌≡◌, ℕ, ◌+◌, ◌≤◌, Bool, false, List, [], ◌∷◌, length, Option, Some, None, Ok, inl, inr, refl, sym, ap, ◌∙◌, arith}
+use Rattle.std.specs.Prelude.{◌&&◌, not, sum_by}
 use Rattle.std.specs.List.{list_any, filter, flat_map}
 use Rattle.std.specs.List.Sorted.{IsPermutation}
 use Rattle.std.specs.Option.{option_map, option_or}
@@ -9,7 +9,6 @@ use Rattle.std.proofs.lemmas.Bool.{false_from_ne_true}
 use Rattle.std.proofs.lemmas.List.Elements.{filter-append}
 use Rattle.std.proofs.lemmas.List.Sorted.{length_permutation, list_any-IsPermutation, sum_by-IsPermutation}
 use Rattle.std.proofs.lemmas.List.Sums.{sum_by-append, sum_by-cons}
-use Rattle.vx_base.specs.declared.kind.Kind.TheVariants as kind
 use Rattle.vx_base.specs.declared.node.Node.{Node}
 use Rattle.vx_base.specs.Cell.{Cell}
 use Rattle.vx_base.specs.Graph.{GraphValue, nodes_of}
@@ -18,13 +17,13 @@ use Rattle.object_table.specs.Context.{Context, with_objects}
 use Rattle.object_table.specs.Named.{Named}
 use Rattle.graph_verify.specs.declared.operand.Operand.{Operand}
 use Rattle.graph_verify.specs.declared.verdict.Verdict.{Verdict}
-use Rattle.graph_verify.specs.Cycle.{HasCycle, has_cycle}
-use Rattle.graph_verify.specs.Links.{writes, feeds, is_written}
+use Rattle.graph_verify.specs.Cycle.{has_cycle}
+use Rattle.graph_verify.specs.Links.{writes, feeds}
 use Rattle.graph_verify.specs.Members.{In, AllIn}
 use Rattle.graph_verify.specs.Operand.{is_virtual, operands_of, virtual_bytes}
 use Rattle.graph_verify.specs.Outlines.{operand_outline, written_outline, as_known, resolved}
 use Rattle.graph_verify.specs.Rounds.{rounds}
-use Rattle.graph_verify.specs.Verdict.{two_writers, node_fault, is_loose, reads_loose, first_fault, virtual_outputs, work_bytes, verdict}
+use Rattle.graph_verify.specs.Verdict.{node_fault, is_loose, reads_loose, first_fault, virtual_outputs, work_bytes, verdict}
 use Rattle.graph_verify.proofs.CycleLemmas.{has_cycle-from_cycle, cycle_from-has_cycle}
 use Rattle.graph_verify.proofs.LinkLemmas.{one_writer, two_writers-permutation}
 use Rattle.graph_verify.proofs.MemberLemmas.{AllIn-permutation, AllIn-permutation_back}

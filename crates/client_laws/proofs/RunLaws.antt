@@ -1,6 +1,6 @@
 -- What a graph leaves that runs: its only solution.
 use Rattle.std.proofs.Common.{◌≡◌, ◌≢◌, ℕ, ◌<◌, Bool, true, false, eqb, List, [], ◌∷◌, length, map, Option, Some, None, Result, Ok, Err, IsTrue, IfSome, refl, sym, ap, subst, ◌∙◌, arith}
-use Rattle.std.specs.Prelude.{All, ◌⊎◌, slice_get, unwrap_or}
+use Rattle.std.specs.Prelude.{All, slice_get, unwrap_or}
 use Rattle.std.specs.List.{AllPairs}
 use Rattle.std.specs.List.Sorted.{IsStrictlyIncreasing}
 use Rattle.std.specs.Option.{option_map, option_and_then}
@@ -16,14 +16,14 @@ use Rattle.vx_base.specs.declared.node.Node.{Node}
 use Rattle.vx_base.specs.Cell.{Cell}
 use Rattle.vx_base.specs.Graph.{GraphValue, nodes_of}
 use Rattle.vx_base.specs.Image.{ImageValue}
-use Rattle.vx_base.specs.Object.{ObjectValue, ImageObject, DelayObject, GraphObject, VirtualObject, object_kind}
-use Rattle.vx_base.specs.Outline.{Outline, closed}
+use Rattle.vx_base.specs.Object.{ObjectValue, ImageObject, DelayObject, VirtualObject, object_kind}
+use Rattle.vx_base.specs.Outline.{Outline}
 use Rattle.vx_base.specs.Outputs.{written_by}
-use Rattle.object_table.specs.Context.{Context, object_named, with_objects}
+use Rattle.object_table.specs.Context.{Context, with_objects}
 use Rattle.object_table.specs.Delay.{in_slot}
 use Rattle.object_table.specs.Named.{Named, object_held, held}
 use Rattle.object_table.specs.Uses.{nodes_in}
-use Rattle.object_table.proofs.HeldLemmas.{names_of}
+use Rattle.object_table.proofs.HeldLemmas.{names_of, named_has}
 use Rattle.graph_verify.specs.declared.operand.Operand.{Operand}
 use Rattle.graph_verify.specs.declared.operand.Operand.TheVariants.{Image, Virtual}
 use Rattle.graph_verify.specs.declared.operand.Operands.{Operands}
@@ -31,7 +31,7 @@ use Rattle.graph_verify.specs.declared.verdict.Verdict.{Verdict}
 use Rattle.graph_verify.specs.Links.{reads, writes, is_written}
 use Rattle.graph_verify.specs.Members.{In}
 use Rattle.graph_verify.specs.Operand.{operand_of, operand_kind, operand_format, operands_of, is_image}
-use Rattle.graph_verify.specs.Outlines.{outlines, virtual_or_image, as_known, resolved}
+use Rattle.graph_verify.specs.Outlines.{outlines, as_known, resolved}
 use Rattle.graph_verify.specs.Verdict.{node_fault}
 use Rattle.graph_verify.proofs.MemberLemmas.{In-left, In-right}
 use Rattle.graph_verify.proofs.VerdictLemmas.{CanRun, can_run}
@@ -56,14 +56,14 @@ use Rattle.client_model.specs.declared.request.Request.TheVariants.{ProcessGraph
 use Rattle.client_model.specs.Allowance.{Allowance}
 use Rattle.client_model.specs.Answer.{answered, answer_to}
 use Rattle.client_model.specs.Context.{State}
-use Rattle.client_model.specs.Graphs.{as_graph, graph_named, graph_verdict, verify_found, process_found}
+use Rattle.client_model.specs.Graphs.{graph_named, graph_verdict, verify_found, process_found}
 use Rattle.client_model.specs.Refusal.{Outcome, refusal_code, unless}
 use Rattle.client_model.specs.States.{KeepsLimits}
-use Rattle.client_model.proofs.GraphStepLaws.{graph_stands}
 use Rattle.client_model.proofs.HoldLaws.{OperandsStand}
 use Rattle.client_laws.specs.Run.{at_begin, IsTheRun, IsRunOf}
 use Rattle.client_laws.proofs.InTurnLaws.{an_order}
 use Rattle.client_laws.proofs.StandLaws.{cells_stand, firsts_are_images}
+use Rattle.client_laws.proofs.StayLaws.{graph_held}
 
 -- ---- what runs have to find
 
@@ -91,12 +91,9 @@ kind_of_operand (Some x) operand k e is = grind (arith, kind-operand x)
 
 -- the nodes of a graph of a context that keeps the limits find what they name
 pub graph_stood : (limits : Allowance) (c : Context) (name : ℕ) (graph : GraphValue) → KeepsLimits limits c → graph_named c.objects name ≡ Ok graph → All (OperandsStand c.objects name) (nodes_of graph)
-graph_stood limits c name graph h is = of_object (object_named c.objects name) is (graph_stands limits c name h)
-  where
-    of_object : (o : Option ObjectValue) → as_graph o ≡ Ok graph → IfSome o (λ x. All (OperandsStand c.objects name) (nodes_in x)) → All (OperandsStand c.objects name) (nodes_of graph)
-    of_object None e stood = absurd (cc)
-    of_object (Some (GraphObject other)) e stood = let same : other ≡ graph = cc in subst (λ (g : GraphValue). All (OperandsStand c.objects name) (nodes_of g)) same stood
-    of_object (Some other) e stood = absurd (cc)
+graph_stood limits c name graph h is =
+    subst (λ (o : Option ObjectValue). IfSome o (λ x. All (OperandsStand c.objects name) (nodes_in x))) (graph_held limits c name h graph is)
+    (named_has (λ of x. All (OperandsStand c.objects of) (nodes_in x)) c.objects name h.nodes)
 
 -- ---- what a run leaves
 

@@ -48,7 +48,7 @@ pub fn what_a_run_leaves()
         answer_to limits (Some c) (ProcessGraph name) ≡ (Empty, Some later) →
         graph_named c.objects name ≡ Ok graph → In n (nodes_of graph) →
         ((cell : Cell) → names_cell n cell ≡ true →
-            kind_in c.objects cell ≢ Some kind.VirtualImage) →
+        kind_in c.objects cell ≢ Some kind.VirtualImage) →
         All (λ w. held later.objects w.0 ≡ Some w.1) (written_by n (held later.objects)) }
     ensures others { (limits : Allowance) (c later : Context) (name : ℕ) (graph : GraphValue)
         (cell : Cell) → KeepsLimits limits c →
