@@ -75,7 +75,8 @@ impl Client {
         self.table.end(pool);
     }
 
-    /// Answers a request of a client that keeps its context, or says why not.
+    /// Answers a request of a client that keeps its context, or says why not. What is kept of a
+    /// graph is forgotten where its nodes change or its name ends.
     pub fn answer(
         &mut self,
         pool: &mut Pool,
@@ -104,7 +105,13 @@ impl Client {
                 alloc,
                 *graph,
             ),
-            _ => self.change(pool, limits, alloc, request),
+            _ => {
+                // The laws of requests speak of it.
+                request.is_request();
+                let reply = answer(&mut self.table, pool, limits, alloc, request)?;
+                forget(&mut self.kept, request);
+                Ok(reply)
+            }
         }
     }
 
@@ -136,32 +143,6 @@ impl Client {
         ensures image { IfOk result (λ image. IsImage image.now) }
     {
         find_image(&self.table, reference)
-    }
-
-    /// Answers a request that needs no more than the objects. What is kept of a graph is forgotten
-    /// where its nodes change or its name ends.
-    fn change(
-        &mut self,
-        pool: &mut Pool,
-        limits: Limits,
-        alloc: Global,
-        request: &Request,
-    ) -> Result<Reply, RequestFault>
-        requires other { request.now ≢ ReleaseContext }
-        requires no_graph { runs_graph request.now ≡ false }
-        requires keeps { KeepsLimits limits self.old }
-        requires owns { LendsAtLeast pool.old (blocks_in self.old.objects) }
-        ensures comes { MayComeTo (outcome_of limits self.old request.now)
-            self.old self.new result }
-        ensures kept { KeepsLimits limits self.new }
-        ensures balances { Balances pool.old pool.new self.old.objects self.new.objects }
-        ensures takes { IfErr result (λ fault. WantsMemory fault (TakesMemory request.now)) }
-    {
-        // The laws of requests speak of it.
-        request.is_request();
-        let reply = answer(&mut self.table, pool, limits, alloc, request)?;
-        forget(&mut self.kept, request);
-        Ok(reply)
     }
 }
 
