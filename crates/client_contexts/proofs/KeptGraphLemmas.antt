@@ -1,27 +1,33 @@
 -- How a graph runs is kept, and stays right through the requests that leave its nodes.
-use Rattle.std.proofs.Common.{◌≡◌, ◌≢◌, ℕ, ◌<◌, false, List, [], ◌∷◌, Option, Some, None, IfSome, get_or, refl, sym, ap, subst, ◌∙◌, arith}
+use Rattle.std.proofs.Common.{◌≡◌, ◌≢◌, ℕ, ◌<◌, false, List, [], ◌∷◌, Option, Some, None, IfSome, Result, Ok, Err, get_or, refl, sym, ap, subst, ◌∙◌, arith}
 use Rattle.std.specs.Prelude.{All, MatchOption, is_some}
 use Rattle.std.specs.Option.{option_map}
 use Rattle.std.proofs.lemmas.List.Elements.{All-nil, All-cons}
 use Rattle.vx_base.specs.declared.node.Node.{Node}
+use Rattle.vx_base.specs.Cell.{Cell, IsCell}
 use Rattle.vx_base.specs.Object.{ObjectValue}
+use Rattle.vx_base.specs.Picture.{PictureValue, IsPicture}
 use Rattle.object_table.specs.Context.{Context}
 use Rattle.object_table.specs.Named.{object_held}
 use Rattle.object_table.specs.Uses.{nodes_in}
 use Rattle.graph_verify.specs.Verdict.{verdict}
 use Rattle.graph_run.specs.Operands.{operand_held, IsReady}
 use Rattle.client_model.specs.declared.request.Request.{Request}
-use Rattle.client_model.specs.declared.request.Request.TheVariants.{ReleaseContext}
+use Rattle.client_model.specs.declared.request.Request.TheVariants.{ReleaseContext, WriteImage}
+use Rattle.client_model.specs.declared.refusal.Refusal.{Refusal}
+use Rattle.client_model.specs.declared.reply.Reply.{Reply}
 use Rattle.client_model.specs.Allowance.{Allowance}
 use Rattle.client_model.specs.Context.{State}
 use Rattle.client_model.specs.Request.{IsRequest}
-use Rattle.client_model.specs.Answer.{answer_to}
+use Rattle.client_model.specs.Answer.{answered, answer_to}
+use Rattle.client_model.specs.Images.{write_image}
 use Rattle.client_model.specs.States.{KeepsLimits, Stays, changes_nodes}
 use Rattle.client_model.proofs.StateLaws.{Leaves}
 use Rattle.client_laws.proofs.StayLaws.{after_one, nodes_stay, ready_after_one, verdict_stays_held}
 use Rattle.client_laws.proofs.StepLaws.{answer_leaves}
 use Rattle.client_contexts.specs.declared.kept.Kept.{Kept}
 use Rattle.client_contexts.specs.Kept.{IsKept, AreKept, forgotten_by}
+use Rattle.client_contexts.specs.Steps.{ComesTo}
 use Rattle.client_contexts.proofs.ForgetLemmas.{left_by}
 
 -- what follows of an object that is held from what is said of it
@@ -69,3 +75,10 @@ module _ (limits : Allowance) (c later : Context) (request : Request) (h : Keeps
   left_are_kept kept left are forgotten leave =
       let held : AreKept c left = subst (AreKept c) (sym forgotten) (left_by (λ k. IsKept c k.0 k.1) request kept are) in
       λ n d below. kept_after_one (get_or left n d).0 (get_or left n d).1 (leave n d below) (held n d below)
+
+-- so is all of it where a picture is written, which leaves the nodes of all graphs
+pub kept_written : (limits : Allowance) (c later : Context) (cell : Cell) (p : PictureValue) (result : Result Reply Refusal) (kept : List (ℕ × Kept)) → KeepsLimits limits c → IsCell cell → IsPicture p
+    → ComesTo (write_image c cell p) c later result → AreKept c kept → AreKept later kept
+kept_written limits c later cell p (Ok reply) kept h is_cell is comes are =
+    left_are_kept limits c later (WriteImage cell p) h (is_cell, is) (ap (λ o. (answered c o).1) comes.done) kept kept are refl (λ n d below. refl)
+kept_written limits c later cell p (Err refusal) kept h is_cell is comes are = subst (λ (k : Context). AreKept k kept) (sym comes.kept) are

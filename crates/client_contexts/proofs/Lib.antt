@@ -10,5 +10,6 @@ mod BlockLemmas
 mod RuntimeLemmas
 mod ImmediateLemmas
 mod OutcomeLemmas
+mod WriteLemmas
 mod TextLemmas
 mod DelayLemmas

@@ -8,7 +8,6 @@ use Rattle.vx_base.specs.declared.kind.Kind.TheVariants as kind
 use Rattle.vx_base.specs.Cell.{Cell}
 use Rattle.vx_base.specs.Rectangle.{Rectangle, IsRectangle}
 use Rattle.vx_base.specs.Image.{ImageValue, IsImage, new_image, description_of, with_valid}
-use Rattle.vx_base.specs.Picture.{PictureValue, IsPicture, pictured}
 use Rattle.vx_base.specs.Object.{ObjectValue, ImageObject, IsObject, object_kind}
 use Rattle.object_table.specs.Context.{Context, with_objects}
 use Rattle.object_table.specs.Delay.{in_slot}
@@ -18,10 +17,10 @@ use Rattle.object_table.proofs.HeldLemmas.{object_held_has}
 use Rattle.client_model.specs.declared.reply.Reply.TheVariants.{Empty}
 use Rattle.client_model.specs.Allowance.{Allowance}
 use Rattle.client_model.specs.Refusal.{unless}
-use Rattle.client_model.specs.Images.{picture_refusal, write_to, valid_refusal, set_valid_of}
+use Rattle.client_model.specs.Images.{valid_refusal, set_valid_of}
 use Rattle.client_model.specs.States.{KeepsLimits}
 use Rattle.client_model.proofs.OutcomeLaws.{Keeps}
-use Rattle.client_model.proofs.ImageStepLaws.{image_of_is, write_image_keeps, set_valid_keeps}
+use Rattle.client_model.proofs.ImageStepLaws.{image_of_is, set_valid_keeps}
 use Rattle.client_contexts.specs.Lookup.{IsImageOf}
 
 -- ---- what is found
@@ -40,12 +39,6 @@ pub holder_is : (limits : Allowance) (c : Context) (cell : Cell) → KeepsLimits
 holder_is limits c cell h there = under_is (object_held c.objects cell.name) cell.slot kind.Image there (object_held_has IsObject c.objects cell.name h.objects)
 
 -- ---- what is changed
-
--- a picture that isn't refused is written
-pub written_keeps : (limits : Allowance) (c : Context) (cell : Cell) (image : ImageValue) (p : PictureValue) → KeepsLimits limits c → IsImageOf c.objects cell image → IsPicture p → picture_refusal (description_of image) p.description ≡ None → KeepsLimits limits (with_objects c (with_object c.objects cell (ImageObject (pictured p))))
-written_keeps limits c cell image p h found is allowed =
-    (subst (λ refusal. Keeps limits c (unless refusal Empty (with_objects c (with_object c.objects cell (ImageObject (pictured p)))))) allowed
-    (subst (λ i. Keeps limits c (write_to i c cell p)) found.image (write_image_keeps limits c cell p h is))).keeps
 
 -- a rectangle that isn't refused becomes the valid one
 pub set_keeps : (limits : Allowance) (c : Context) (cell : Cell) (image : ImageValue) (valid : Rectangle) → KeepsLimits limits c → IsImageOf c.objects cell image → IsRectangle valid → valid_refusal (description_of image) valid ≡ None → KeepsLimits limits (with_objects c (with_object c.objects cell (ImageObject (with_valid valid image))))

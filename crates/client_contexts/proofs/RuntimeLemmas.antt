@@ -1,5 +1,5 @@
 -- What a runtime keeps, as the contexts of its clients come, change and go.
-use Rattle.std.proofs.Common.{◌≡◌, ◌∙◌, ℕ, List, Option, Some, None, sym, ap, arith}
+use Rattle.std.proofs.Common.{◌≡◌, ◌∙◌, ℕ, List, Option, Some, None, IfSome, sym, ap, subst, arith}
 use Rattle.std.specs.Prelude.{sum, sum_by, unwrap_or}
 use Rattle.std.specs.BTreeMap.{insert_entry, is_at}
 use Rattle.std.specs.List.Sorted.{IsStrictlySortedBy}
@@ -9,7 +9,7 @@ use Rattle.std.specs.Ordering.{nat_cmp}
 use Rattle.std.proofs.lemmas.Cmp.{nat_cmp_total}
 use Rattle.std.proofs.lemmas.List.Sums.{sum-map}
 use Rattle.std.proofs.lemmas.Map.Entries.{sum_by-set_value, sum_by-remove_entry, sum_by-insert_entry}
-use Rattle.std.proofs.lemmas.Map.Views.{All-map-remove_entry, All-values-insert_entry, All-values-set_value}
+use Rattle.std.proofs.lemmas.Map.Views.{All-map-remove_entry, All-values-insert_entry, All-values-set_value, IfSome-lookup_from_All}
 use Rattle.std.proofs.lemmas.Simd.{map-map}
 use Rattle.vx_base.specs.declared.format.Format.{Format}
 use Rattle.pixel_pool.specs.declared.pool.Pool.{Pool}
@@ -41,6 +41,10 @@ module _ (limits : Allowance) (contexts : List (ℕ × Context)) (pool : Pool) (
         sum_by-remove_entry (client_blocks format) (is_at (nat_cmp client)) contexts,
         ap (λ (o : Option Context). unwrap_or (option_map (client_blocks format) o) 0) found,
       )
+
+  -- its context keeps the limits
+  pub client_keeps : (c : Context) → lookup (is_at (nat_cmp client)) contexts ≡ Some c → KeepsLimits limits c
+  client_keeps c found = subst (λ (o : Option Context). IfSome o (KeepsLimits limits)) found (IfSome-lookup_from_All (KeepsLimits limits) (is_at (nat_cmp client)) contexts h.keeps)
 
   -- its context changes, and what is lent by as much
   pub changed_is : (c new : Context) (changed : Pool) → lookup (is_at (nat_cmp client)) contexts ≡ Some c → KeepsLimits limits new → Balances pool changed c.objects new.objects

@@ -15,3 +15,7 @@ pub record Applies (client : ℕ) (request : Request) (old new : World) (result 
   pub others : (other : ℕ) → other ≢ client → state_of other new ≡ state_of other old
   pub no_memory : OnErr result ((each : ℕ) → state_of each new ≡ state_of each old)
   pub takes : OnErr result (TakesMemory request)
+
+-- a request of a client is answered so, and changes nothing
+abbrev pub IsAnswered : ℕ → Request → World → Reply → Type 0
+IsAnswered client request world reply = answer_to world.limits (state_of client world) request ≡ (reply, state_of client world)

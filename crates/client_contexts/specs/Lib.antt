@@ -3,3 +3,4 @@ pub mod Lookup
 pub mod Steps
 pub mod Blocks
 pub mod Kept
+pub mod Spare

@@ -1,13 +1,18 @@
 //! A client's context: its objects, and its graphs that were found able to run.
-ghost use Rattle.std.specs.Prelude.{◌≡◌, ◌≢◌, false, IfErr};
+ghost use Rattle.std.specs.Prelude.{◌≡◌, ◌≢◌, false, Some, Ok, Err, IfOk, IfErr};
+ghost use Rattle.vx_base.specs.Image.{IsImage};
+ghost use Rattle.vx_base.specs.Picture.{picture_of};
 ghost use Rattle.client_model.specs.declared.request.Request.TheVariants.{ReleaseContext};
+ghost use Rattle.client_model.specs.declared.reply.Reply.TheVariants as replies;
 ghost use Rattle.client_model.specs.Request.{TakesMemory};
+ghost use Rattle.client_model.specs.Images.{write_image, read_image};
 ghost use Rattle.client_model.specs.Answer.{outcome_of};
 ghost use Rattle.client_model.specs.States.{KeepsLimits};
 ghost use Rattle.object_table.specs.Blocks.{blocks_in, LendsAtLeast, LendsLess, Balances};
+ghost use Rattle.object_table.specs.Blocks.{KeepsBlocks};
 ghost use Rattle.object_table.specs.Context.{new_context};
 ghost use Rattle.client_contexts.specs.Kept.{runs_graph};
-ghost use Rattle.client_contexts.specs.Steps.{MayComeTo, WantsMemory};
+ghost use Rattle.client_contexts.specs.Steps.{ComesTo, MayComeTo, WantsMemory, IsContext, Keeps};
 
 use crate::delays::{age_delay, create_delay};
 use crate::fault::RequestFault;
@@ -15,19 +20,22 @@ use crate::graphs::{
     add_node, create_graph, create_virtual_image, process_graph, remove_node, verify_graph,
 };
 use crate::images::{
-    create_image, query_image, read_image, read_text, set_valid, write_image, write_text,
+    create_image, give_picture, query_image, read_image, read_text, set_valid, write_image,
+    write_text,
 };
 use crate::immediate::run_at_once;
 use crate::kept::{Kept, forget};
+use crate::lookup::find_image;
 use crate::objects::release;
 use crate::statistics::{create_distribution, create_min_max, read_distribution, read_min_max};
 use crate::tables::{create_convolution, create_lut, create_threshold};
 use client_model::{Limits, Refusal, Reply, Request};
-use object_table::Table;
+use object_table::{Stored, Table};
 use pixel_pool::Pool;
 use std::alloc::Global;
 use std::collections::BTreeMap;
 use std::marker::Model;
+use vx_base::{ObjRef, Picture, Samples};
 
 /// The objects that a client holds, and what was found of its graphs that can run. What is kept of
 /// a graph holds until a node is added to it or removed from it; nothing else changes it.
@@ -67,7 +75,8 @@ impl Client {
         self.table.end(pool);
     }
 
-    /// Answers a request of a client that keeps its context, or says why not.
+    /// Answers a request of a client that keeps its context, or says why not. What is kept of a
+    /// graph is forgotten where its nodes change or its name ends.
     pub fn answer(
         &mut self,
         pool: &mut Pool,
@@ -96,34 +105,44 @@ impl Client {
                 alloc,
                 *graph,
             ),
-            _ => self.change(pool, limits, alloc, request),
+            _ => {
+                // The laws of requests speak of it.
+                request.is_request();
+                let reply = answer(&mut self.table, pool, limits, alloc, request)?;
+                forget(&mut self.kept, request);
+                Ok(reply)
+            }
         }
     }
 
-    /// Answers a request that needs no more than the objects. What is kept of a graph is forgotten
-    /// where its nodes change or its name ends.
-    fn change(
+    /// Writes a picture to an image, whose samples are the picture's own from then on. Those that no
+    /// image has then are left in `spare`. It takes no memory.
+    pub fn write(
         &mut self,
-        pool: &mut Pool,
-        limits: Limits,
-        alloc: Global,
-        request: &Request,
-    ) -> Result<Reply, RequestFault>
-        requires other { request.now ≢ ReleaseContext }
-        requires no_graph { runs_graph request.now ≡ false }
-        requires keeps { KeepsLimits limits self.old }
-        requires owns { LendsAtLeast pool.old (blocks_in self.old.objects) }
-        ensures comes { MayComeTo (outcome_of limits self.old request.now)
-            self.old self.new result }
-        ensures kept { KeepsLimits limits self.new }
-        ensures balances { Balances pool.old pool.new self.old.objects self.new.objects }
-        ensures takes { IfErr result (λ fault. WantsMemory fault (TakesMemory request.now)) }
+        reference: ObjRef,
+        picture: Picture,
+        spare: &mut Option<Samples>,
+    ) -> Result<Reply, Refusal>
+        requires { IsContext self.old }
+        ensures comes { ComesTo (write_image self.old reference picture) self.old self.new result }
+        ensures kept { Keeps self.old self.new }
+        ensures blocks { KeepsBlocks self.old.objects self.new.objects }
     {
-        // The laws of requests speak of it.
-        request.is_request();
-        let reply = answer(&mut self.table, pool, limits, alloc, request)?;
-        forget(&mut self.kept, request);
-        Ok(reply)
+        // The laws of requests speak of these.
+        reference.is_cell();
+        let _samples = picture.samples();
+        give_picture(&mut self.table, reference, picture, spare)
+    }
+
+    /// The image with samples that a reference names, or why it names none.
+    pub fn image(&self, reference: ObjRef) -> Result<&Stored, Refusal>
+        requires { IsContext self.now }
+        ensures ok { IfOk result (λ image. read_image self.now reference
+            ≡ Ok (replies.Picture (picture_of image.now), Some self.now)) }
+        ensures err { IfErr result (λ refusal. read_image self.now reference ≡ Err refusal) }
+        ensures image { IfOk result (λ image. IsImage image.now) }
+    {
+        find_image(&self.table, reference)
     }
 }
 

@@ -1,13 +1,13 @@
 //! Requests on images: creating and querying them, writing and reading their samples, also as PGM
 //! texts, and making a part of them valid.
-ghost use Rattle.std.specs.Prelude.{◌≡◌};
+ghost use Rattle.std.specs.Prelude.{◌≡◌, Some, IfErr, OnOk};
 ghost use Rattle.client_model.specs.Images.{create_image, described, described_virtual};
 ghost use Rattle.client_model.specs.Images.{query_image, write_image, write_text, read_image};
 ghost use Rattle.client_model.specs.Images.{read_text, set_valid, picture_refusal, valid_refusal};
+ghost use Rattle.client_model.specs.Operands.{image_of};
 ghost use Rattle.client_model.specs.States.{KeepsLimits};
-ghost use Rattle.vx_base.specs.Image.{ImageValue, description_of};
 ghost use Rattle.object_table.specs.Blocks.{Balances, KeepsBlocks};
-ghost use Rattle.client_contexts.specs.Lookup.{IsImageOf};
+ghost use Rattle.client_contexts.specs.Lookup.{IsImageFor, refusal_for};
 ghost use Rattle.client_contexts.specs.Steps.{ComesTo, MayComeTo, IsContext, Keeps};
 
 use crate::fault::RequestFault;
@@ -17,7 +17,7 @@ use client_model::{Described, Limits, Refusal, Reply, Text};
 use object_table::{Content, Object, Stored, Table};
 use pixel_pool::Pool;
 use std::alloc::Global;
-use vx_base::{Desc, Format, Kind, ObjRef, Outline, Picture, Rect};
+use vx_base::{Desc, Format, Kind, ObjRef, Outline, Picture, Rect, Samples};
 
 /// Creates an image that is 0 everywhere and wholly valid.
 pub fn create_image(
@@ -85,6 +85,20 @@ fn picture_refusal(image: Desc, picture: Desc) -> Option<Refusal>
     }
 }
 
+/// Whether a picture of this description can be written to the image that a reference names, which
+/// is then of the same format and size. Else the refusal.
+fn find_image_for(table: &Table, reference: ObjRef, picture: Desc) -> Result<(), Refusal>
+    ensures ok { OnOk result (IsImageFor table.now.objects reference picture) }
+    ensures err { IfErr result (λ refusal. refusal_for (image_of table.now.objects reference) picture
+        ≡ Some refusal) }
+{
+    let image = find_image(table, reference)?;
+    match picture_refusal(image.desc(), picture) {
+        None => Ok(()),
+        Some(refusal) => Err(refusal),
+    }
+}
+
 /// Writes a picture to an image.
 pub fn write_image(
     table: &mut Table,
@@ -97,31 +111,37 @@ pub fn write_image(
     ensures kept { Keeps table.old table.new }
     ensures blocks { KeepsBlocks table.old.objects table.new.objects }
 {
-    let desc = find_image(table, reference)?.desc();
-    write_found(table, reference, desc, picture)
+    find_image_for(table, reference, picture.desc())?;
+    // Its contract says that the picture is one.
+    let _samples = picture.samples();
+    table.write(reference, picture);
+    Ok(Reply::Empty)
 }
 
-/// Writes a picture to the image of this description that a reference names.
-fn write_found(
+/// Writes a picture to an image, whose samples are the picture's own from then on: none is copied.
+/// What no image has then is left in `spare`: the samples that the image had, or the picture's where
+/// it is refused. It takes no memory.
+pub fn give_picture(
     table: &mut Table,
     reference: ObjRef,
-    desc: Desc,
-    picture: &Picture,
+    picture: Picture,
+    spare: &mut Option<Samples>,
 ) -> Result<Reply, Refusal>
-    requires context { IsContext table.old }
-    requires found { (image : ImageValue) ×
-        (IsImageOf table.old.objects reference image × (desc ≡ description_of image)) }
-    ensures comes { ComesTo (write_image table.old reference picture.now)
+    requires { IsContext table.old }
+    ensures comes { ComesTo (write_image table.old reference picture)
         table.old table.new result }
     ensures kept { Keeps table.old table.new }
     ensures blocks { KeepsBlocks table.old.objects table.new.objects }
 {
-    if let Some(refusal) = picture_refusal(desc, picture.desc()) {
+    let desc = picture.desc();
+    let samples = picture.into_samples();
+    if let Err(refusal) = find_image_for(table, reference, desc) {
+        *spare = Some(samples);
         return Err(refusal);
     }
-    // Its contract says that the picture is one.
-    let _samples = picture.samples();
-    table.write(reference, picture);
+    let (_, left) = table.take(reference);
+    table.put(reference, samples, desc.whole());
+    *spare = Some(left);
     Ok(Reply::Empty)
 }
 
@@ -138,9 +158,9 @@ pub fn write_text(
     ensures kept { Keeps table.old table.new }
     ensures blocks { KeepsBlocks table.old.objects table.new.objects }
 {
-    let desc = find_image(table, reference)?.desc();
+    find_image(table, reference)?;
     let picture = pgm_images::read(alloc, text.bytes())?;
-    Ok(write_found(table, reference, desc, &picture)?)
+    Ok(write_image(table, reference, &picture)?)
 }
 
 /// The samples of an image, in memory of the allocator.

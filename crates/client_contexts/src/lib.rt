@@ -2,7 +2,9 @@
 //!
 //! `Runtime::apply` is the whole of it. Its reply and the client's new state are those of the
 //! model, the other clients' states are as they were, and where memory was wanted nothing is
-//! changed; so no client sees or moves what another holds. Each client names its objects by 1, 2,
+//! changed; so no client sees or moves what another holds. Beside it, samples go straight into their
+//! image and out of it: `room` has memory for those of a picture, `write` gives them to the image,
+//! and `image` lends an image to who reads it. What they answer is what `apply` would. Each client names its objects by 1, 2,
 //! .. in the order in which it made them, and holds at most 1,024, of which images are charged
 //! against its quota. Nodes read their inputs where they stand. What a node uses is held for it
 //! after its name has ended, and a run of a graph takes all its memory before it changes anything.
@@ -16,6 +18,7 @@
 //!   create them and their virtual images, to add and remove nodes, to verify and to run them),
 //!   `immediate` (nodes that run at once), `delays` (to create and age them)
 //! - `kept`: graphs that were found able to run, and are kept as they were verified
+//! - `spare`: memory that no image has, for the samples of a picture that comes
 //! - `client`: a client's context, which answers all requests but those that open or release it
 //! - `runtime`: all clients, and the pool of blocks in which the samples of their images are;
 //!   contexts are opened and released there
@@ -33,6 +36,7 @@ mod memory;
 mod objects;
 mod room;
 mod runtime;
+mod spare;
 mod statistics;
 mod tables;
 

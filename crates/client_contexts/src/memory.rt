@@ -1,5 +1,5 @@
 //! Want of memory.
-use std::alloc::AllocFailed;
+use std::alloc::{AllocError, AllocFailed};
 
 /// No memory was found; nothing is changed.
 #[derive(Clone, Copy, Debug, PartialEq, Eq)]
@@ -7,6 +7,12 @@ pub struct NoMemory;
 
 impl<T: Drop> From<AllocFailed<T>> for NoMemory {
     fn from(_failed: AllocFailed<T>) -> NoMemory {
+        NoMemory
+    }
+}
+
+impl From<AllocError> for NoMemory {
+    fn from(_error: AllocError) -> NoMemory {
         NoMemory
     }
 }

@@ -1,19 +1,26 @@
 //! All clients, and what their requests do.
-ghost use Rattle.std.specs.Prelude.{◌≡◌, ◌≤◌, [], None, Ok};
+ghost use Rattle.std.specs.Prelude.{◌≡◌, ◌≤◌, [], length, None, Ok, IfOk, IfErr};
+ghost use Rattle.vx_base.specs.Description.{sample_count};
+ghost use Rattle.vx_base.specs.Image.{IsImage};
+ghost use Rattle.vx_base.specs.Picture.{values, samples_format, picture_of};
 ghost use Rattle.client_model.specs.declared.request.Request.TheVariants.{ReleaseContext};
+ghost use Rattle.client_model.specs.declared.request.Request.TheVariants.{WriteImage, ReadImage};
+ghost use Rattle.client_model.specs.declared.reply.Reply.TheVariants as replies;
 ghost use Rattle.client_model.specs.Context.{state_of};
-ghost use Rattle.client_contexts.specs.Applies.{Applies};
+ghost use Rattle.client_contexts.specs.Applies.{Applies, IsAnswered};
 ghost use Rattle.client_contexts.specs.Blocks.{clients_blocks};
 
 use crate::client::Client;
 use crate::fault::RequestFault;
 use crate::memory::NoMemory;
+use crate::spare::reused;
 use client_model::{Limits, Reply, Request};
+use object_table::Stored;
 use pixel_pool::Pool;
 use std::alloc::Global;
 use std::collections::BTreeMap;
 use std::marker::Model;
-use vx_base::{Code, Format};
+use vx_base::{Code, Desc, Format, ObjRef, Picture, Samples};
 
 /// The contexts of the clients, each of which has at most one, and the pool in whose blocks the
 /// samples of their images are.
@@ -23,6 +30,9 @@ pub struct Runtime {
     limits: Limits,
     contexts: BTreeMap<u16, Client>,
     pool: Pool,
+
+    /// Memory that no image has, for the picture that comes next.
+    spare: Option<Samples>,
 }
 
 impl Model for Runtime {
@@ -47,6 +57,7 @@ impl Runtime {
             limits,
             contexts: BTreeMap::new(alloc),
             pool: Pool::new(alloc),
+            spare: None,
         }
     }
 
@@ -65,11 +76,13 @@ impl Runtime {
         self.pool.blocks(format)
     }
 
-    /// Drops the blocks that aren't lent: their memory goes back to the system. No client notices.
+    /// Drops the blocks that aren't lent, and what the last `write` was left with: their memory goes
+    /// back to the system. No client notices.
     pub fn drop_free(&mut self)
         ensures { self.new ≡ self.old }
     {
         self.pool.drop_free();
+        self.spare = None;
     }
 
     /// Answers a request of a client; a reply that holds samples is made with the allocator.
@@ -93,6 +106,56 @@ impl Runtime {
                 Err(RequestFault::NoMemory) => Err(NoMemory),
             },
             None => self.answer_without(client, request),
+        }
+    }
+
+    /// Memory for the samples of a picture that a client is about to write: what the last `write`
+    /// was left with, where that suits, else new memory. The samples may be anything: who takes
+    /// them writes each of them.
+    pub fn room(&mut self, desc: Desc) -> Result<Samples, NoMemory>
+        ensures format { IfOk result (λ samples. samples_format samples ≡ desc.format) }
+        ensures count { IfOk result (λ samples. length (values samples) ≡ sample_count desc) }
+        ensures same { self.new ≡ self.old }
+    {
+        let (format, count) = (desc.format(), desc.sample_count());
+        if let Some(spare) = self.spare.take() {
+            if let Some(samples) = reused(spare, format, count) {
+                return Ok(samples);
+            }
+        }
+        Ok(Samples::zeros(self.alloc, format, count)?)
+    }
+
+    /// Writes a picture to an image of a client, whose samples are the picture's own from then on:
+    /// none is copied. It takes no memory.
+    pub fn write(&mut self, client: u16, reference: ObjRef, picture: Picture) -> Reply
+        ensures { Applies client (WriteImage reference picture) self.old self.new (Ok result) }
+    {
+        let Some(held) = self.contexts.get_mut(&client) else {
+            self.spare = Some(picture.into_samples());
+            return Reply::Refused(Code::InvalidReference);
+        };
+        match held.write(reference, picture, &mut self.spare) {
+            Ok(reply) => reply,
+            Err(refusal) => Reply::Refused(refusal.code()),
+        }
+    }
+
+    /// The image with samples that a client's reference names, as ReadImage finds it, or the code
+    /// that ReadImage is answered.
+    pub fn image(&self, client: u16, reference: ObjRef) -> Result<&Stored, Code>
+        ensures ok { IfOk result (λ image. IsAnswered client (ReadImage reference) self.now
+            (replies.Picture (picture_of image.now))) }
+        ensures err { IfErr result (λ code. IsAnswered client (ReadImage reference) self.now
+            (replies.Refused code)) }
+        ensures image { IfOk result (λ image. IsImage image.now) }
+    {
+        match self.contexts.get(&client) {
+            Some(held) => match held.image(reference) {
+                Ok(image) => Ok(image),
+                Err(refusal) => Err(refusal.code()),
+            },
+            None => Err(Code::InvalidReference),
         }
     }
 

@@ -6,3 +6,6 @@ pub mod StepLaws
 pub mod StandLaws
 mod VerdictLaws
 pub mod StayLaws
+mod InTurnLaws
+mod RunLaws
+mod OrderLaws

@@ -1,0 +1,86 @@
+-- Pictures that are written to images: whether they may be, what becomes of the context, and what that keeps.
+use Rattle.std.proofs.Common.{◌≡◌, ◌∙◌, true, List, [], Option, Some, None, ℤ, Result, Ok, Err, refl, sym, ap, subst, arith}
+use Rattle.std.specs.List.Sorted.{IsStrictlyIncreasing}
+use Rattle.std.proofs.lemmas.Bool.{eq-eqb}
+use Rattle.vx_base.specs.declared.format.Format.{Format}
+use Rattle.vx_base.specs.declared.format.Format.TheVariants.{U8, S16, U32}
+use Rattle.vx_base.specs.Cell.{Cell}
+use Rattle.vx_base.specs.Description.{Description}
+use Rattle.vx_base.specs.Image.{ImageValue, image_over, description_of}
+use Rattle.vx_base.specs.Object.{ObjectValue, ImageObject}
+use Rattle.vx_base.specs.Picture.{PictureValue, IsPicture, pictured}
+use Rattle.vx_base.specs.Rectangle.{Rectangle, whole}
+use Rattle.vx_base.specs.Sample.{same_format}
+use Rattle.object_table.specs.Blocks.{KeepsBlocks}
+use Rattle.object_table.specs.Context.{Context, with_objects}
+use Rattle.object_table.specs.Named.{with_object}
+use Rattle.object_table.specs.Object.{image_value, with_samples}
+use Rattle.object_table.specs.Table.{HoldsImage, cell_object, image_held}
+use Rattle.object_table.proofs.HeldLemmas.{names_of}
+use Rattle.graph_run.proofs.CellLemmas.{object_after, image_after, with_object_twice}
+use Rattle.client_model.specs.declared.refusal.Refusal.{Refusal}
+use Rattle.client_model.specs.declared.reply.Reply.TheVariants.{Empty}
+use Rattle.client_model.specs.Allowance.{Allowance}
+use Rattle.client_model.specs.Images.{picture_refusal, write_to, write_image}
+use Rattle.client_model.specs.Refusal.{unless}
+use Rattle.client_model.specs.States.{KeepsLimits}
+use Rattle.client_model.proofs.ImageStepLaws.{write_image_keeps}
+use Rattle.client_model.proofs.OutcomeLaws.{Keeps}
+use Rattle.client_contexts.specs.Lookup.{IsImageOf, IsImageFor, refusal_for}
+use Rattle.client_contexts.proofs.BlockLemmas.{image_blocks_kept}
+
+-- ---- whether a picture may be written
+
+same_format_itself : (f : Format) → same_format f f ≡ true
+same_format_itself U8 = refl
+same_format_itself S16 = refl
+same_format_itself U32 = refl
+
+-- a picture of the image's description isn't refused
+same_allowed : (d : Description) → picture_refusal d d ≡ None
+same_allowed d = grind (arith, same_format_itself d.format, eq-eqb d.width d.width refl, eq-eqb d.height d.height refl)
+
+-- a refusal of what is looked for is one of the write
+pub write_refused : (image : Result ImageValue Refusal) (c : Context) (cell : Cell) (p : PictureValue) (refusal : Refusal) → refusal_for image p.description ≡ Some refusal → write_to image c cell p ≡ Err refusal
+write_refused (Err why) c cell p refusal e = cc
+write_refused (Ok image) c cell p refusal e = ap (λ (r : Option Refusal). unless r Empty (with_objects c (with_object c.objects cell (ImageObject (pictured p))))) e
+
+-- ---- a picture that is written
+
+module _ (c : Context) (cell : Cell) (p : PictureValue) (found : IsImageFor c.objects cell p.description) where
+  abbrev written : Context
+  written = with_objects c (with_object c.objects cell (ImageObject (pictured p)))
+
+  allowed : picture_refusal (description_of found.image) p.description ≡ None
+  allowed = ap (λ (d : Description). picture_refusal d p.description) found.same ∙ same_allowed p.description
+
+  pub write_done : write_image c cell p ≡ Ok (Empty, Some written)
+  write_done = ap (λ i. write_to i c cell p) found.named.image ∙ ap (λ (r : Option Refusal). unless r Empty written) allowed
+
+  pub written_keeps : (limits : Allowance) → KeepsLimits limits c → IsPicture p → KeepsLimits limits written
+  written_keeps limits h is = (subst (Keeps limits c) write_done (write_image_keeps limits c cell p h is)).keeps
+
+  pub written_blocks : IsStrictlyIncreasing (names_of c.objects) → KeepsBlocks c.objects written.objects
+  written_blocks names = image_blocks_kept c.objects names cell found.image (pictured p) found.named.there found.named.held (sym found.same)
+
+-- ---- samples that are taken out, and others that are put in their place
+
+module _ (c : Context) (cell : Cell) (image : ImageValue) (named : IsImageOf c.objects cell image) (after : Context)
+    (taken : after ≡ with_objects c (with_object c.objects cell (with_samples (cell_object c.objects cell) (image_held c.objects cell).valid []))) where
+  abbrev left : ImageValue
+  left = image_over (description_of (image_held c.objects cell)) (image_held c.objects cell).valid []
+
+  left_there : cell_object after.objects cell ≡ ImageObject left
+  left_there = ap (λ (t : Context). cell_object t.objects cell) taken ∙ object_after c.objects cell named.there left
+
+  pub takes_samples : HoldsImage after.objects cell
+  takes_samples = subst (λ (t : Context). HoldsImage t.objects cell) (sym taken) (image_after c.objects cell named.there left)
+
+  pub left_format : (image_held after.objects cell).format ≡ image.format
+  left_format = ap (λ (o : ObjectValue). (image_value o).format) left_there ∙ ap (λ (i : ImageValue). i.format) named.held
+
+  -- the image is the picture then
+  pub given_is : (p : PictureValue) (area : Rectangle) (samples : List ℤ) (back : Context) → description_of image ≡ p.description → area ≡ whole p.description.width p.description.height → samples ≡ p.samples
+      → back ≡ with_objects after (with_object after.objects cell (with_samples (cell_object after.objects cell) area samples))
+      → back ≡ with_objects c (with_object c.objects cell (ImageObject (pictured p)))
+  given_is p area samples back same all are put = grind (arith, left_there, named.held, with_object_twice)

@@ -1,0 +1,21 @@
+use Rattle.std.proofs.Common.{sym, subst}
+use Rattle.object_table.specs.Blocks.{KeepsBlocks}
+use Rattle.object_table.specs.Context.{Context}
+use Rattle.client_model.specs.States.{KeepsLimits}
+use Rattle.client_contexts.specs.Lookup.{IsImageFor}
+use Rattle.client_contexts.proofs.OutcomeLemmas.{holder_is}
+use Rattle.client_contexts.proofs.WriteLemmas.{written_keeps, written_blocks}
+use Rattle.client_contexts.proofs.images.write_image.Goals as goal
+
+pub write-requires-clause-object : goal.write-requires-clause-object
+write-requires-clause-object c = holder_is c.requires.0 c.args.table.now c.args.reference c.requires.1 c.in_ok-find_image_for.ensures.ok.named.there
+
+pub returns-clause-kept : goal.returns-clause-kept
+returns-clause-kept c = λ limits h.
+    let found = subst (IsImageFor c.args.table.now.objects c.args.reference) c.desc.ensures c.in_ok-find_image_for.ensures.ok in
+    subst (KeepsLimits limits) (sym c.write.ensures.value) (written_keeps c.args.table.now c.args.reference c.args.picture.now found limits h c.samples-samples.ensures.picture)
+
+pub returns-clause-blocks : goal.returns-clause-blocks
+returns-clause-blocks c =
+    let found = subst (IsImageFor c.args.table.now.objects c.args.reference) c.desc.ensures c.in_ok-find_image_for.ensures.ok in
+    subst (λ (k : Context). KeepsBlocks c.args.table.now.objects k.objects) (sym c.write.ensures.value) (written_blocks c.args.table.now c.args.reference c.args.picture.now found c.requires.1.names)

@@ -1,0 +1,149 @@
+-- The order in which the nodes of a graph were added makes no difference to whether it runs, nor to what it leaves.
+use Rattle.std.proofs.Common.{◌≡◌, ℕ, ◌+◌, ◌≤◌, Bool, false, List, [], ◌∷◌, length, Option, Some, None, Ok, inl, inr, refl, sym, ap, ◌∙◌, arith}
+use Rattle.std.specs.Prelude.{◌&&◌, not, sum_by}
+use Rattle.std.specs.List.{list_any, filter, flat_map}
+use Rattle.std.specs.List.Sorted.{IsPermutation}
+use Rattle.std.specs.Option.{option_map, option_or}
+use Rattle.std.proofs.Math.Path.{fun_ext}
+use Rattle.std.proofs.lemmas.Bool.{false_from_ne_true}
+use Rattle.std.proofs.lemmas.List.Elements.{filter-append}
+use Rattle.std.proofs.lemmas.List.Sorted.{length_permutation, list_any-IsPermutation, sum_by-IsPermutation}
+use Rattle.std.proofs.lemmas.List.Sums.{sum_by-append, sum_by-cons}
+use Rattle.vx_base.specs.declared.node.Node.{Node}
+use Rattle.vx_base.specs.Cell.{Cell}
+use Rattle.vx_base.specs.Graph.{GraphValue, nodes_of}
+use Rattle.vx_base.specs.Node.{inputs, outputs}
+use Rattle.object_table.specs.Context.{Context, with_objects}
+use Rattle.object_table.specs.Named.{Named}
+use Rattle.graph_verify.specs.declared.operand.Operand.{Operand}
+use Rattle.graph_verify.specs.declared.verdict.Verdict.{Verdict}
+use Rattle.graph_verify.specs.Cycle.{has_cycle}
+use Rattle.graph_verify.specs.Links.{writes, feeds}
+use Rattle.graph_verify.specs.Members.{In, AllIn}
+use Rattle.graph_verify.specs.Operand.{is_virtual, operands_of, virtual_bytes}
+use Rattle.graph_verify.specs.Outlines.{operand_outline, written_outline, as_known, resolved}
+use Rattle.graph_verify.specs.Rounds.{rounds}
+use Rattle.graph_verify.specs.Verdict.{node_fault, is_loose, reads_loose, first_fault, virtual_outputs, work_bytes, verdict}
+use Rattle.graph_verify.proofs.CycleLemmas.{has_cycle-from_cycle, cycle_from-has_cycle}
+use Rattle.graph_verify.proofs.LinkLemmas.{one_writer, two_writers-permutation}
+use Rattle.graph_verify.proofs.MemberLemmas.{AllIn-permutation, AllIn-permutation_back}
+use Rattle.graph_verify.proofs.VerdictLemmas.{CanRun, can_run, by_fault, there_is_room}
+use Rattle.graph_run.specs.Graph.{run_of_graph}
+use Rattle.graph_run.specs.Operands.{operand_held}
+use Rattle.graph_run.proofs.AddingLaws.{cell_rounds, same_graph}
+use Rattle.graph_run.proofs.OperandLaws.{no_delay, no_fault}
+use Rattle.graph_run.proofs.TurnLaws.{each_alone}
+use Rattle.client_model.specs.declared.refusal.Refusal.TheVariants.{Rejected}
+use Rattle.client_model.specs.declared.reply.Reply.TheVariants.{Empty}
+use Rattle.client_model.specs.declared.request.Request.TheVariants.{ProcessGraph}
+use Rattle.client_model.specs.Allowance.{Allowance}
+use Rattle.client_model.specs.Answer.{answered, answer_to}
+use Rattle.client_model.specs.Graphs.{graph_named, graph_verdict, process_found}
+use Rattle.client_model.specs.Refusal.{Outcome, unless}
+use Rattle.client_model.specs.States.{KeepsLimits}
+use Rattle.client_laws.proofs.RunLaws.{graph_stood, pairs_of, outcome_is}
+use Rattle.client_laws.proofs.StandLaws.{cells_stand}
+
+-- ---- what a verdict asks of the nodes, one by one
+
+-- where no node has a fault, there is no first one
+no_first_fault : (known : Cell → Operand) (nodes : List Node) → ((n : Node) → In n nodes → node_fault n.function (operands_of known n) ≡ None) → first_fault known nodes ≡ None
+no_first_fault known [] none = refl
+no_first_fault known (n ∷ nodes) none = ap (λ fault. option_or fault (first_fault known nodes)) (none n (inl refl)) ∙ no_first_fault known nodes (λ m i. none m (inr i))
+
+-- the sum over the virtual images that nodes write, node by node
+sum_of_outputs : (is : Cell → Operand) (f : Cell → ℕ) (nodes : List Node) → sum_by f (virtual_outputs is nodes) ≡ sum_by (λ n. sum_by f (filter (λ c. is_virtual (is c)) (outputs n))) nodes
+sum_of_outputs is f [] = refl
+sum_of_outputs is f (n ∷ nodes) =
+    let virtual : Cell → Bool = λ c. is_virtual (is c) in
+    ap (sum_by f) (filter-append virtual (outputs n) (flat_map outputs nodes))
+    ∙ sum_by-append f (filter virtual (outputs n)) (virtual_outputs is nodes)
+    ∙ ap (λ k. sum_by f (filter virtual (outputs n)) + k) (sum_of_outputs is f nodes)
+    ∙ sym (sum_by-cons (λ m. sum_by f (filter virtual (outputs m))) n nodes)
+
+-- ---- nodes in another order
+
+module _ (work : ℕ) (is : Cell → Operand) (nodes others : List Node) (same : IsPermutation nodes others) (runs : verdict work is nodes ≡ None) where
+  can : CanRun work is nodes
+  can = can_run work is nodes runs
+
+  from : AllIn others nodes
+  from = AllIn-permutation_back nodes others same
+
+  same_known : resolved is nodes ≡ resolved is others
+  same_known =
+      fun_ext (λ c.
+      ap (as_known (is c))
+      (ap (λ f. f c) (cell_rounds writes (written_outline is) nodes others (one_writer nodes can.one_writer) (AllIn-permutation nodes others same) from (length nodes) (λ d. operand_outline (is d)))
+      ∙ ap (λ k. rounds writes (written_outline is) others k (λ d. operand_outline (is d)) c) (sym (length_permutation nodes others same))))
+
+  no_cycle : has_cycle feeds others ≡ false
+  no_cycle =
+      false_from_ne_true (has_cycle feeds others)
+      (λ e.
+      let cycle = cycle_from-has_cycle feeds others e in
+      let there = has_cycle-from_cycle feeds nodes (cycle.0, cycle.1, λ n i. from n (cycle.2 n i)) in
+      let none = can.no_cycle in
+      cc)
+
+  no_loose_end : reads_loose is others ≡ false
+  no_loose_end =
+      ap (λ (written : Cell → Bool). list_any (λ n. list_any (λ c. is_virtual (is c) && not (written c)) (inputs n)) others)
+      (fun_ext (λ c. sym (list_any-IsPermutation (λ n. writes n c) nodes others same)))
+      ∙ sym (list_any-IsPermutation (λ n. list_any (is_loose is nodes) (inputs n)) nodes others same)
+      ∙ can.no_loose_end
+
+  none_at_fault : first_fault (resolved is others) others ≡ None
+  none_at_fault =
+      ap (λ known. first_fault known others) (sym same_known)
+      ∙ no_first_fault (resolved is nodes) others (λ n i. no_fault n (resolved is nodes) (each_alone work is nodes runs n (from n i)))
+
+  room : work_bytes is others ≤ work
+  room =
+      let bytes : Cell → ℕ = λ c. virtual_bytes (resolved is nodes c) in
+      let by_node : Node → ℕ = λ n. sum_by bytes (filter (λ c. is_virtual (is c)) (outputs n)) in
+      let as_many : work_bytes is others ≡ work_bytes is nodes =
+      ap (λ (known : Cell → Operand). sum_by (λ c. virtual_bytes (known c)) (virtual_outputs is others)) (sym same_known)
+      ∙ sum_of_outputs is bytes others
+      ∙ sum_by-IsPermutation by_node nodes others same
+      ∙ sym (sum_of_outputs is bytes nodes) in
+      omega (arith, as_many, can.room)
+
+  pub others_run : verdict work is others ≡ None
+  others_run =
+      by_fault work is others (two_writers-permutation nodes others same can.one_writer) no_cycle (sym no_loose_end) None (sym none_at_fault)
+      ∙ there_is_room work is others room
+
+-- ---- graphs
+
+-- a graph with the same nodes in another order leaves the same
+pub same_run : (limits : Allowance) (c later : Context) (name : ℕ) (graph other : GraphValue) → KeepsLimits limits c → graph_named c.objects name ≡ Ok graph → IsPermutation (nodes_of graph) (nodes_of other)
+    → process_found (Ok graph) limits c ≡ Ok (Empty, Some later) → process_found (Ok other) limits c ≡ Ok (Empty, Some later)
+same_run limits c later name graph other h is_graph same done = of_verdict (graph_verdict limits c.objects graph) refl done
+  where
+    nodes : List Node
+    nodes = nodes_of graph
+
+    others : List Node
+    others = nodes_of other
+
+    is : Cell → Operand
+    is = operand_held c.objects
+
+    of_verdict : (v : Option Verdict) → graph_verdict limits c.objects graph ≡ v → unless (option_map Rejected v) Empty (with_objects c (run_of_graph (resolved is nodes) nodes c.objects)) ≡ Ok (Empty, Some later)
+        → process_found (Ok other) limits c ≡ Ok (Empty, Some later)
+    of_verdict None allowed e =
+        let run : run_of_graph (resolved is nodes) nodes c.objects ≡ run_of_graph (resolved is others) others c.objects =
+        same_graph is nodes others c.objects same (can_run limits.work is nodes allowed).one_writer (pairs_of c.objects h.names)
+        (no_delay is nodes c.objects (cells_stand c.objects name nodes (graph_stood limits c name graph h is_graph))) in
+        ap (λ (o : Option Verdict). unless (option_map Rejected o) Empty (with_objects c (run_of_graph (resolved is others) others c.objects))) (others_run limits.work is nodes others same allowed)
+        ∙ ap (λ (objects : List Named). let r : Outcome = Ok (Empty, Some (with_objects c objects)) in r) (sym run)
+        ∙ e
+    of_verdict (Some v) refused e = absurd (cc)
+
+-- of requests on two graphs of one client
+pub same_answer : (limits : Allowance) (c later : Context) (one two : ℕ) (graph other : GraphValue) → KeepsLimits limits c → graph_named c.objects one ≡ Ok graph → graph_named c.objects two ≡ Ok other
+    → IsPermutation (nodes_of graph) (nodes_of other) → answer_to limits (Some c) (ProcessGraph one) ≡ (Empty, Some later) → answer_to limits (Some c) (ProcessGraph two) ≡ (Empty, Some later)
+same_answer limits c later one two graph other h is_graph is_other same done =
+    ap (λ found. answered c (process_found found limits c)) is_other
+    ∙ ap (answered c) (same_run limits c later one graph other h is_graph same (outcome_is c later (process_found (Ok graph) limits c) (ap (λ found. answered c (process_found found limits c)) (sym is_graph) ∙ done)))

@@ -1,0 +1,313 @@
+-- What a graph leaves that runs: its only solution.
+use Rattle.std.proofs.Common.{◌≡◌, ◌≢◌, ℕ, ◌<◌, Bool, true, false, eqb, List, [], ◌∷◌, length, map, Option, Some, None, Result, Ok, Err, IsTrue, IfSome, refl, sym, ap, subst, ◌∙◌, arith}
+use Rattle.std.specs.Prelude.{All, slice_get, unwrap_or}
+use Rattle.std.specs.List.{AllPairs}
+use Rattle.std.specs.List.Sorted.{IsStrictlyIncreasing}
+use Rattle.std.specs.Option.{option_map, option_and_then}
+use Rattle.std.proofs.Math.ListN.{get_or-map as get_or-map_default}
+use Rattle.std.proofs.lemmas.Bool.{cases_Bool, false_from_ne_true, or_left, or_right}
+use Rattle.std.proofs.lemmas.List.{length-map}
+use Rattle.std.proofs.lemmas.List.Kept.{AllPairs-from_increasing}
+use Rattle.vx_base.specs.declared.format.Format.{Format}
+use Rattle.vx_base.specs.declared.function.Function.{Function}
+use Rattle.vx_base.specs.declared.kind.Kind.{Kind}
+use Rattle.vx_base.specs.declared.kind.Kind.TheVariants as kind
+use Rattle.vx_base.specs.declared.node.Node.{Node}
+use Rattle.vx_base.specs.Cell.{Cell}
+use Rattle.vx_base.specs.Graph.{GraphValue, nodes_of}
+use Rattle.vx_base.specs.Image.{ImageValue}
+use Rattle.vx_base.specs.Object.{ObjectValue, ImageObject, DelayObject, VirtualObject, object_kind}
+use Rattle.vx_base.specs.Outline.{Outline}
+use Rattle.vx_base.specs.Outputs.{written_by}
+use Rattle.object_table.specs.Context.{Context, with_objects}
+use Rattle.object_table.specs.Delay.{in_slot}
+use Rattle.object_table.specs.Named.{Named, object_held, held}
+use Rattle.object_table.specs.Uses.{nodes_in}
+use Rattle.object_table.proofs.HeldLemmas.{names_of, named_has}
+use Rattle.graph_verify.specs.declared.operand.Operand.{Operand}
+use Rattle.graph_verify.specs.declared.operand.Operand.TheVariants.{Image, Virtual}
+use Rattle.graph_verify.specs.declared.operand.Operands.{Operands}
+use Rattle.graph_verify.specs.declared.verdict.Verdict.{Verdict}
+use Rattle.graph_verify.specs.Links.{reads, writes, is_written}
+use Rattle.graph_verify.specs.Members.{In}
+use Rattle.graph_verify.specs.Operand.{operand_of, operand_kind, operand_format, operands_of, is_image}
+use Rattle.graph_verify.specs.Outlines.{outlines, as_known, resolved}
+use Rattle.graph_verify.specs.Verdict.{node_fault}
+use Rattle.graph_verify.proofs.MemberLemmas.{In-left, In-right}
+use Rattle.graph_verify.proofs.VerdictLemmas.{CanRun, can_run}
+use Rattle.graph_run.specs.Graph.{rounds_of_nodes, is_virtual_object, forgotten, run_of_graph}
+use Rattle.graph_run.specs.Operands.{CellsStand, names_cell, operand_held}
+use Rattle.graph_run.specs.Solution.{WritesNo, ReadImages, kind_in, label_of}
+use Rattle.graph_run.proofs.BegunLaws.{begun_under, object_held-begun, labels-begun, begun_stays}
+use Rattle.graph_run.proofs.LinkLaws.{All-from_In, In-from_All, reads_first}
+use Rattle.graph_run.proofs.NameLaws.{Rising, rising}
+use Rattle.graph_run.proofs.OperandLaws.{begun_stands, kind-operand, no_delay, no_fault}
+use Rattle.graph_run.proofs.OrderLaws.{rounds_in_order}
+use Rattle.graph_run.proofs.SolutionLaws.{rounds_are_solution, only_rising}
+use Rattle.graph_run.proofs.TurnLaws.{each_alone}
+use Rattle.graph_run.proofs.NodeLaws.{written_held}
+use Rattle.graph_run.proofs.UnwrittenLemmas.{whole}
+use Rattle.graph_run.proofs.VerifiedLemmas.{named_by_input, named_by_output}
+use Rattle.client_model.specs.declared.refusal.Refusal.{Refusal}
+use Rattle.client_model.specs.declared.refusal.Refusal.TheVariants.{Rejected}
+use Rattle.client_model.specs.declared.reply.Reply.{Reply}
+use Rattle.client_model.specs.declared.reply.Reply.TheVariants.{Refused, Empty}
+use Rattle.client_model.specs.declared.request.Request.TheVariants.{ProcessGraph, VerifyGraph}
+use Rattle.client_model.specs.Allowance.{Allowance}
+use Rattle.client_model.specs.Answer.{answered, answer_to}
+use Rattle.client_model.specs.Context.{State}
+use Rattle.client_model.specs.Graphs.{graph_named, graph_verdict, verify_found, process_found}
+use Rattle.client_model.specs.Refusal.{Outcome, refusal_code, unless}
+use Rattle.client_model.specs.States.{KeepsLimits}
+use Rattle.client_model.proofs.HoldLaws.{OperandsStand}
+use Rattle.client_laws.specs.Run.{at_begin, IsTheRun, IsRunOf}
+use Rattle.client_laws.proofs.InTurnLaws.{an_order}
+use Rattle.client_laws.proofs.StandLaws.{cells_stand, firsts_are_images}
+use Rattle.client_laws.proofs.StayLaws.{graph_held}
+
+-- ---- what runs have to find
+
+-- names that increase, each below all later ones
+pub pairs_of : (objects : List Named) → IsStrictlyIncreasing (names_of objects) → AllPairs (λ a b. a.name < b.name) objects
+pairs_of objects h i j d less within =
+    let name_of : Named → ℕ = λ o. o.name in
+    let pair = AllPairs-from_increasing (names_of objects) h i j d.name less (omega (arith, within, length-map objects name_of)) in
+    omega (arith, pair, get_or-map_default name_of objects i d, get_or-map_default name_of objects j d)
+
+-- a node without a fault has a first input with a format
+first_format : (function : Function) (o : Operands) → node_fault function o ≡ None → (f : Format) × (operand_format o.in1 ≡ Some f)
+first_format function o h = grind arith
+
+-- an image with a format is one that is there
+image_there : (operand : Operand) (known : Outline) (f : Format) → is_image operand ≡ true → operand_format (as_known operand known) ≡ Some f → operand_kind (as_known operand known) ≡ kind.Image
+image_there (Image d) known f is e = refl
+image_there (Virtual declared) known f is e = grind arith
+image_there other known f is e = absurd (cc)
+
+-- what is held is of the kind of its operand
+kind_of_operand : (found : Option ObjectValue) (operand : Operand) (k : Kind) → option_map operand_of found ≡ Some operand → operand_kind operand ≡ k → option_map object_kind found ≡ Some k
+kind_of_operand None operand k e is = absurd (cc)
+kind_of_operand (Some x) operand k e is = grind (arith, kind-operand x)
+
+-- the nodes of a graph of a context that keeps the limits find what they name
+pub graph_stood : (limits : Allowance) (c : Context) (name : ℕ) (graph : GraphValue) → KeepsLimits limits c → graph_named c.objects name ≡ Ok graph → All (OperandsStand c.objects name) (nodes_of graph)
+graph_stood limits c name graph h is =
+    subst (λ (o : Option ObjectValue). IfSome o (λ x. All (OperandsStand c.objects name) (nodes_in x))) (graph_held limits c name h graph is)
+    (named_has (λ of x. All (OperandsStand c.objects of) (nodes_in x)) c.objects name h.nodes)
+
+-- ---- what a run leaves
+
+module _ (limits : Allowance) (c : Context) (name : ℕ) (graph : GraphValue) (h : KeepsLimits limits c) (is_graph : graph_named c.objects name ≡ Ok graph) (allowed : graph_verdict limits c.objects graph ≡ None) where
+  abbrev nodes : List Node
+  nodes = nodes_of graph
+
+  abbrev is : Cell → Operand
+  is = operand_held c.objects
+
+  abbrev known : Cell → Operand
+  known = resolved is nodes
+
+  abbrev begin : List Named
+  begin = at_begin nodes c.objects
+
+  can : CanRun limits.work is nodes
+  can = can_run limits.work is nodes allowed
+
+  stood : All (OperandsStand c.objects name) nodes
+  stood = graph_stood limits c name graph h is_graph
+
+  -- as the run begins each cell is what it was found to be
+  stand : CellsStand known nodes begin
+  stand = begun_stands limits.work is nodes can c.objects (cells_stand c.objects name nodes stood)
+
+  names : Rising (map label_of begin)
+  names = subst Rising (sym (labels-begun known nodes c.objects)) (rising c.objects (pairs_of c.objects h.names))
+
+  no_delays : WritesNo kind.Delay nodes begin
+  no_delays = no_delay known nodes begin stand
+
+  images : ReadImages nodes begin
+  images =
+      All-from_In (λ n. kind_in begin n.in1 ≡ Some kind.Image) nodes
+      (λ n i.
+      let format = first_format n.function (operands_of known n) (no_fault n known (each_alone limits.work is nodes allowed n i)) in
+      let image = In-from_All (λ m. IsTrue (is_image (is m.in1))) nodes (firsts_are_images c.objects name nodes stood) n i in
+      kind_of_operand (held begin n.in1) (known n.in1) kind.Image (stand.found n n.in1 i (or_left (reads n n.in1) (writes n n.in1) (reads_first n)))
+      (image_there (is n.in1) (outlines is nodes n.in1) format.0 image format.1))
+
+  the_run : IsTheRun nodes c.objects (run_of_graph known nodes c.objects)
+  the_run =
+      record {
+        at_end = rounds_of_nodes nodes (length nodes) begin;
+        solves = rounds_are_solution nodes begin can.one_writer can.no_cycle no_delays;
+        only = λ other. only_rising nodes begin other can.one_writer can.no_cycle names no_delays images;
+        order = an_order nodes can.no_cycle;
+        in_order = λ steps order. sym (rounds_in_order nodes steps begin order can.one_writer names no_delays);
+        left = refl;
+      }
+
+-- ---- what it leaves of each cell
+
+-- as virtual images are forgotten, what is no virtual image stays, and a virtual image is what it was
+real_stays : (before after : List Named) → map label_of before ≡ map label_of after → (name : ℕ) → option_map is_virtual_object (object_held before name) ≢ Some true → object_held (forgotten before after) name ≡ object_held after name
+real_stays [] after labels name real = refl
+real_stays (o ∷ before) [] labels name real = absurd (cc labels)
+real_stays (o ∷ before) (p ∷ after) labels name real =
+    let label : label_of o ≡ label_of p = cc in
+    let rest : map label_of before ≡ map label_of after = cc in
+    grind (arith, real_stays before after rest name, cases_Bool (is_virtual_object o.object), cases_Bool (eqb o.name name))
+
+virtual_again : (before after : List Named) → map label_of before ≡ map label_of after → (name : ℕ) → option_map is_virtual_object (object_held before name) ≡ Some true → object_held (forgotten before after) name ≡ object_held before name
+virtual_again [] after labels name virtual = absurd (cc virtual)
+virtual_again (o ∷ before) [] labels name virtual = absurd (cc labels)
+virtual_again (o ∷ before) (p ∷ after) labels name virtual =
+    let label : label_of o ≡ label_of p = cc in
+    let rest : map label_of before ≡ map label_of after = cc in
+    grind (arith, virtual_again before after rest name, cases_Bool (is_virtual_object o.object), cases_Bool (eqb o.name name))
+
+module _ (nodes : List Node) (before later : List Named) (run : IsTheRun nodes before later) (cell : Cell) where
+  abbrev found_to_be : Cell → Operand
+  found_to_be = resolved (operand_held before) nodes
+
+  labels : map label_of before ≡ map label_of run.at_end
+  labels = sym (run.solves.labels ∙ labels-begun found_to_be nodes before)
+
+  -- what stands in the cell of what is under its name
+  abbrev in_cell : Option ObjectValue → Option ObjectValue
+  in_cell = option_and_then (in_slot cell.slot)
+
+  virtual_stays : option_map is_virtual_object (object_held before cell.name) ≡ Some true → held later cell ≡ held before cell
+  virtual_stays virtual = ap (λ objects. held objects cell) run.left ∙ ap in_cell (virtual_again before run.at_end labels cell.name virtual)
+
+  as_at_end : option_map is_virtual_object (object_held before cell.name) ≢ Some true → held later cell ≡ held run.at_end cell
+  as_at_end real = ap (λ objects. held objects cell) run.left ∙ ap in_cell (real_stays before run.at_end labels cell.name real)
+
+  real_begins : option_map is_virtual_object (object_held before cell.name) ≢ Some true → held (at_begin nodes before) cell ≡ held before cell
+  real_begins real = ap in_cell (object_held-begun found_to_be nodes before cell.name ∙ unchanged (object_held before cell.name) real)
+    where
+      unchanged : (o : Option ObjectValue) → option_map is_virtual_object o ≢ Some true → option_map (begun_under found_to_be nodes cell.name) o ≡ o
+      unchanged None real = refl
+      unchanged (Some x) real =
+          ap Some (begun_stays x (is_written nodes (whole cell.name)) (found_to_be (whole cell.name)) (false_from_ne_true (is_virtual_object x) (λ e. real (ap Some e))))
+
+  -- what no node writes is as it was
+  unwritten_stays : is_written nodes cell ≡ false → kind_in before cell ≢ Some kind.Delay → held later cell ≡ held before cell
+  unwritten_stays free plain = by (option_map is_virtual_object (object_held before cell.name)) refl
+    where
+      other : option_map is_virtual_object (object_held before cell.name) ≢ Some true → held later cell ≡ held before cell
+      other real =
+          let begins = real_begins real in
+          as_at_end real ∙ run.solves.others cell free (λ delay. plain (ap (option_map object_kind) (sym begins) ∙ delay)) ∙ begins
+
+      by : (v : Option Bool) → option_map is_virtual_object (object_held before cell.name) ≡ v → held later cell ≡ held before cell
+      by (Some true) e = virtual_stays e
+      by (Some false) e = other (λ is. cc)
+      by None e = other (λ is. cc)
+
+-- what a node writes depends on the cells that it names
+written_alike : (n : Node) (one other : Cell → Option ObjectValue) → ((cell : Cell) → names_cell n cell ≡ true → one cell ≡ other cell) → written_by n one ≡ written_by n other
+written_alike n one other same = grind (arith, named_by_input, named_by_output, In-left, In-right)
+
+-- a cell that holds what is no virtual image is under a name of none
+no_virtual : (slot : Option ℕ) (o : Option ObjectValue) (operand : Operand) → option_map operand_of (option_and_then (in_slot slot) o) ≡ Some operand → option_map object_kind (option_and_then (in_slot slot) o) ≢ Some kind.VirtualImage
+    → option_map is_virtual_object o ≢ Some true
+no_virtual slot None operand there real e = cc
+no_virtual None (Some (VirtualObject image)) operand there real e = real refl
+no_virtual (Some k) (Some (VirtualObject image)) operand there real e = cc
+no_virtual slot (Some other) operand there real e = cc
+
+module _ (nodes : List Node) (before later : List Named) (run : IsTheRun nodes before later) (stand : CellsStand (operand_held before) nodes before) (n : Node) (i : In n nodes) where
+  -- a node that names no virtual image finds what it gives
+  found_again : ((cell : Cell) → names_cell n cell ≡ true → kind_in before cell ≢ Some kind.VirtualImage) → All (λ w. held later w.0 ≡ Some w.1) (written_by n (held later))
+  found_again real =
+      subst (All (λ (w : Cell × ObjectValue). held later w.0 ≡ Some w.1)) (sym (written_alike n (held later) (held at_end) as_then))
+      (All-from_In (λ (w : Cell × ObjectValue). held later w.0 ≡ Some w.1) (written_by n (held at_end))
+      (λ w j. as_then w.0 (or_right (reads n w.0) (writes n w.0) (written_held n (held at_end) w j).0) ∙ In-from_All (λ (v : Cell × ObjectValue). held at_end v.0 ≡ Some v.1) (written_by n (held at_end)) solved w j))
+    where
+      at_end : List Named
+      at_end = run.at_end
+
+      as_then : (cell : Cell) → names_cell n cell ≡ true → held later cell ≡ held at_end cell
+      as_then cell named_there =
+          as_at_end nodes before later run cell
+          (no_virtual cell.slot (object_held before cell.name) (operand_held before cell) (stand.found n cell i named_there) (real cell named_there))
+
+      solved : All (λ w. held at_end w.0 ≡ Some w.1) (written_by n (held at_end))
+      solved = In-from_All (λ m. All (λ w. held at_end w.0 ≡ Some w.1) (written_by m (held at_end))) nodes run.solves.written n i
+
+-- a cell of a virtual image has no slot
+virtual_held : (slot : Option ℕ) (o : Option ObjectValue) → option_map object_kind (option_and_then (in_slot slot) o) ≡ Some kind.VirtualImage → option_map is_virtual_object o ≡ Some true
+virtual_held slot None e = absurd (cc)
+virtual_held None (Some (VirtualObject image)) e = refl
+virtual_held None (Some other) e = absurd (cc)
+virtual_held (Some k) (Some (DelayObject images)) e = of_image (slice_get images k) e
+  where
+    of_image : (image : Option ImageValue) → option_map object_kind (option_map ImageObject image) ≡ Some kind.VirtualImage → option_map is_virtual_object (Some (DelayObject images)) ≡ Some true
+    of_image None f = absurd (cc)
+    of_image (Some image) f = absurd (cc)
+virtual_held (Some k) (Some other) e = absurd (cc)
+
+-- ---- requests
+
+-- a request that succeeds is done
+pub outcome_is : (c later : Context) (outcome : Outcome) → answered c outcome ≡ (Empty, Some later) → outcome ≡ Ok (Empty, Some later)
+outcome_is c later (Ok done) e = ap (λ (d : Reply × State). let o : Outcome = Ok d in o) e
+outcome_is c later (Err refusal) e = let reply : Refused (refusal_code refusal) ≡ Empty = ap (λ (d : Reply × State). d.0) e in absurd (cc)
+
+-- it was refused by no verdict
+done_is : (v : Option Verdict) (after later : Context) → unless (option_map Rejected v) Empty after ≡ Ok (Empty, Some later) → (v ≡ None) × (after ≡ later)
+done_is None after later e = let told : ◌≡◌ {A = Reply × State} (Empty, Some after) (Empty, Some later) = cc in (refl, ap (λ (d : Reply × State). unwrap_or d.1 after) told)
+done_is (Some v) after later e = absurd (cc)
+
+-- what ProcessGraph leaves is that run
+pub run_is : (limits : Allowance) (c later : Context) (name : ℕ) → KeepsLimits limits c → answer_to limits (Some c) (ProcessGraph name) ≡ (Empty, Some later) → IsRunOf name c later
+run_is limits c later name h done = of_graph (graph_named c.objects name) refl (outcome_is c later (process_found (graph_named c.objects name) limits c) done)
+  where
+    of_graph : (found : Result GraphValue Refusal) → graph_named c.objects name ≡ found → process_found found limits c ≡ Ok (Empty, Some later) → IsRunOf name c later
+    of_graph (Err refusal) is_graph e = absurd (cc)
+    of_graph (Ok graph) is_graph e =
+        let left : List Named = run_of_graph (resolved (operand_held c.objects) (nodes_of graph)) (nodes_of graph) c.objects in
+        let ran = done_is (graph_verdict limits c.objects graph) (with_objects c left) later e in
+        subst (IsRunOf name c) ran.1 (record { graph = graph; named = is_graph; run = the_run limits c name graph h is_graph ran.0; next = refl })
+
+-- a graph of a name is one
+one_graph : (objects : List Named) (name : ℕ) (graph other : GraphValue) → graph_named objects name ≡ Ok graph → graph_named objects name ≡ Ok other → graph ≡ other
+one_graph objects name graph other a b = let same : ◌≡◌ {A = Result GraphValue Refusal} (Ok graph) (Ok other) = sym a ∙ b in cc
+
+-- so each node that names no virtual image finds what it gives
+pub written_stay : (limits : Allowance) (c later : Context) (name : ℕ) (graph : GraphValue) (n : Node) → KeepsLimits limits c → answer_to limits (Some c) (ProcessGraph name) ≡ (Empty, Some later)
+    → graph_named c.objects name ≡ Ok graph → In n (nodes_of graph) → ((cell : Cell) → names_cell n cell ≡ true → kind_in c.objects cell ≢ Some kind.VirtualImage)
+    → All (λ w. held later.objects w.0 ≡ Some w.1) (written_by n (held later.objects))
+written_stay limits c later name graph n h done is_graph i real =
+    let ran = run_is limits c later name h done in
+    let same = one_graph c.objects name graph ran.graph is_graph ran.named in
+    let nodes = nodes_of ran.graph in
+    found_again nodes c.objects later.objects ran.run (cells_stand c.objects name nodes (graph_stood limits c name ran.graph h ran.named)) n (subst (λ (g : GraphValue). In n (nodes_of g)) same i) real
+
+-- each cell that no node writes holds what it held
+pub others_stay : (limits : Allowance) (c later : Context) (name : ℕ) (graph : GraphValue) (cell : Cell) → KeepsLimits limits c → answer_to limits (Some c) (ProcessGraph name) ≡ (Empty, Some later)
+    → graph_named c.objects name ≡ Ok graph → is_written (nodes_of graph) cell ≡ false → kind_in c.objects cell ≢ Some kind.Delay → held later.objects cell ≡ held c.objects cell
+others_stay limits c later name graph cell h done is_graph free plain =
+    let ran = run_is limits c later name h done in
+    let same = one_graph c.objects name graph ran.graph is_graph ran.named in
+    unwritten_stays (nodes_of ran.graph) c.objects later.objects ran.run cell (ap (λ (g : GraphValue). is_written (nodes_of g) cell) (sym same) ∙ free) plain
+
+-- and so does each that holds a virtual image
+pub virtual_images_stay : (limits : Allowance) (c later : Context) (name : ℕ) (cell : Cell) → KeepsLimits limits c → answer_to limits (Some c) (ProcessGraph name) ≡ (Empty, Some later)
+    → kind_in c.objects cell ≡ Some kind.VirtualImage → held later.objects cell ≡ held c.objects cell
+virtual_images_stay limits c later name cell h done virtual =
+    let ran = run_is limits c later name h done in
+    virtual_stays (nodes_of ran.graph) c.objects later.objects ran.run cell (virtual_held cell.slot (object_held c.objects cell.name) virtual)
+
+-- ProcessGraph is answered what VerifyGraph is
+pub same_reply : (limits : Allowance) (state : State) (name : ℕ) → (answer_to limits state (ProcessGraph name)).0 ≡ (answer_to limits state (VerifyGraph name)).0
+same_reply limits None name = refl
+same_reply limits (Some c) name = of_graph (graph_named c.objects name)
+  where
+    of_verdict : (v : Option Verdict) (after : Context) → (answered c (unless (option_map Rejected v) Empty after)).0 ≡ (answered c (unless (option_map Rejected v) Empty c)).0
+    of_verdict None after = refl
+    of_verdict (Some v) after = refl
+
+    of_graph : (found : Result GraphValue Refusal) → (answered c (process_found found limits c)).0 ≡ (answered c (verify_found found limits c)).0
+    of_graph (Err refusal) = refl
+    of_graph (Ok graph) = of_verdict (graph_verdict limits c.objects graph) _

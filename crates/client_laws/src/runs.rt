@@ -1,0 +1,80 @@
+//! Laws of the requests that verify and run graphs.
+ghost use Rattle.std.specs.Prelude.{◌≡◌, ◌≢◌, ℕ, true, false, All, Some, Ok};
+ghost use Rattle.std.specs.List.Sorted.{IsPermutation};
+ghost use Rattle.vx_base.specs.declared.kind.Kind.TheVariants as kind;
+ghost use Rattle.vx_base.specs.declared.node.Node.{Node};
+ghost use Rattle.vx_base.specs.Cell.{Cell};
+ghost use Rattle.vx_base.specs.Graph.{GraphValue, nodes_of};
+ghost use Rattle.vx_base.specs.Outputs.{written_by};
+ghost use Rattle.object_table.specs.Context.{Context};
+ghost use Rattle.object_table.specs.Named.{held};
+ghost use Rattle.graph_verify.specs.Links.{is_written};
+ghost use Rattle.graph_verify.specs.Members.{In};
+ghost use Rattle.graph_run.specs.Operands.{names_cell};
+ghost use Rattle.graph_run.specs.Solution.{kind_in};
+ghost use Rattle.client_model.specs.declared.request.Request.TheVariants.{VerifyGraph};
+ghost use Rattle.client_model.specs.declared.request.Request.TheVariants.{ProcessGraph};
+ghost use Rattle.client_model.specs.declared.reply.Reply.TheVariants.{Empty};
+ghost use Rattle.client_model.specs.Allowance.{Allowance};
+ghost use Rattle.client_model.specs.Answer.{answer_to};
+ghost use Rattle.client_model.specs.Context.{State};
+ghost use Rattle.client_model.specs.Graphs.{graph_named, process_found};
+ghost use Rattle.client_model.specs.States.{KeepsLimits};
+ghost use Rattle.client_laws.specs.Run.{IsRunOf};
+
+/// ProcessGraph is answered what VerifyGraph is.
+pub fn what_verifies_runs()
+    ensures { (limits : Allowance) (state : State) (name : ℕ) →
+        (answer_to limits state (ProcessGraph name)).0
+        ≡ (answer_to limits state (VerifyGraph name)).0 }
+{}
+
+/// Where ProcessGraph succeeds, what it leaves is the only solution of the graph: at the end of the
+/// run each image, distribution and extremes that a node writes, virtual images among them, is what
+/// the node's function gives of its inputs as they are then, and everything else is as it was.
+/// Virtual images are then virtual again.
+pub fn a_run_is_the_only_solution()
+    ensures { (limits : Allowance) (c later : Context) (name : ℕ) → KeepsLimits limits c →
+        answer_to limits (Some c) (ProcessGraph name) ≡ (Empty, Some later) →
+        IsRunOf name c later }
+{}
+
+/// What is then left of each cell. Each node that names no virtual image finds in its outputs what
+/// it gives of what its cells hold. A cell that no node writes holds what it held, and so does one
+/// that holds a virtual image; a delay's images are in its slots.
+pub fn what_a_run_leaves()
+    ensures written { (limits : Allowance) (c later : Context) (name : ℕ) (graph : GraphValue)
+        (n : Node) → KeepsLimits limits c →
+        answer_to limits (Some c) (ProcessGraph name) ≡ (Empty, Some later) →
+        graph_named c.objects name ≡ Ok graph → In n (nodes_of graph) →
+        ((cell : Cell) → names_cell n cell ≡ true →
+        kind_in c.objects cell ≢ Some kind.VirtualImage) →
+        All (λ w. held later.objects w.0 ≡ Some w.1) (written_by n (held later.objects)) }
+    ensures others { (limits : Allowance) (c later : Context) (name : ℕ) (graph : GraphValue)
+        (cell : Cell) → KeepsLimits limits c →
+        answer_to limits (Some c) (ProcessGraph name) ≡ (Empty, Some later) →
+        graph_named c.objects name ≡ Ok graph → is_written (nodes_of graph) cell ≡ false →
+        kind_in c.objects cell ≢ Some kind.Delay →
+        held later.objects cell ≡ held c.objects cell }
+    ensures virtual_images { (limits : Allowance) (c later : Context) (name : ℕ) (cell : Cell) →
+        KeepsLimits limits c →
+        answer_to limits (Some c) (ProcessGraph name) ≡ (Empty, Some later) →
+        kind_in c.objects cell ≡ Some kind.VirtualImage →
+        held later.objects cell ≡ held c.objects cell }
+{}
+
+/// Had the nodes of a graph been added in any other order, it would run too, and leave the same. So
+/// do two graphs that have the same nodes.
+pub fn nodes_in_any_order()
+    ensures had { (limits : Allowance) (c later : Context) (name : ℕ) (graph other : GraphValue) →
+        KeepsLimits limits c → graph_named c.objects name ≡ Ok graph →
+        IsPermutation (nodes_of graph) (nodes_of other) →
+        process_found (Ok graph) limits c ≡ Ok (Empty, Some later) →
+        process_found (Ok other) limits c ≡ Ok (Empty, Some later) }
+    ensures graphs { (limits : Allowance) (c later : Context) (one two : ℕ)
+        (graph other : GraphValue) → KeepsLimits limits c →
+        graph_named c.objects one ≡ Ok graph → graph_named c.objects two ≡ Ok other →
+        IsPermutation (nodes_of graph) (nodes_of other) →
+        answer_to limits (Some c) (ProcessGraph one) ≡ (Empty, Some later) →
+        answer_to limits (Some c) (ProcessGraph two) ≡ (Empty, Some later) }
+{}
