@@ -6,11 +6,14 @@ ghost use Rattle.vx_requests.specs.Frame.Reading.{CanRead, KeepsCount};
 ghost use Rattle.vx_requests.specs.Serving.Turn.{Turn};
 ghost use Rattle.vx_requests.specs.Serving.Session.{Session};
 
+mod answered;
 mod answering;
+mod images;
 mod summary;
 
-use crate::frame::{Reader, code_of, write_reply};
+use crate::frame::Reader;
 use crate::stream::{Sink, Source, StreamFault};
+use answered::write_answered;
 use answering::answer_payload;
 use client_contexts::Runtime;
 use std::alloc::Global;
@@ -85,6 +88,5 @@ fn serve_one<S: Source, K: Sink>(
         return Ok(None);
     };
     let answered = answer_payload(alloc, reader, runtime, length)?;
-    write_reply(sink, answered.client, answered.op, &answered.reply)?;
-    Ok(Some(code_of(&answered.reply)))
+    Ok(Some(write_answered(sink, runtime, &answered)?))
 }

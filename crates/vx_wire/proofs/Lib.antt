@@ -13,6 +13,7 @@ pub mod SpelledObjects
 pub mod SpelledBack
 pub mod ReadFields
 pub mod ReadSamples
+pub mod WrongSizes
 pub mod ReadNode
 pub mod ReadObjects
 pub mod OneSpelling

@@ -1,5 +1,7 @@
 -- The bodies of requests about images.
 use Rattle.std.specs.Prelude.{ℕ, List, Result, Ok}
+use Rattle.vx_base.specs.Cell.{Cell}
+use Rattle.vx_base.specs.Description.{Description, sample_count}
 use Rattle.client_model.specs.declared.request.Request.{Request}
 use Rattle.client_model.specs.declared.request.Request.TheVariants.{CreateImage, QueryImage, WriteImage, WriteImagePgm, ReadImage, ReadImagePgm, SetValid}
 use Rattle.vx_wire.specs.declared.body_fault.BodyFault.{BodyFault}
@@ -7,7 +9,7 @@ use Rattle.vx_wire.specs.Fields.{and_then, one_field, two_fields}
 use Rattle.vx_wire.specs.Description.{take_description}
 use Rattle.vx_wire.specs.Reference.{take_reference}
 use Rattle.vx_wire.specs.Rectangle.{take_rectangle}
-use Rattle.vx_wire.specs.Samples.{take_picture}
+use Rattle.vx_wire.specs.Samples.{decoded, take_picture}
 
 abbrev pub create_image_in : List ℕ → Result Request BodyFault
 create_image_in body = one_field take_description CreateImage body
@@ -17,6 +19,10 @@ query_image_in body = one_field take_reference QueryImage body
 
 abbrev pub write_image_in : List ℕ → Result Request BodyFault
 write_image_in body = two_fields take_reference take_picture WriteImage body
+
+-- the request to write to this image the picture of a description whose samples these bytes encode
+abbrev pub write_image_of : Cell → Description → List ℕ → Request
+write_image_of image d bytes = WriteImage image (record { description = d; samples = decoded d.format (sample_count d) bytes })
 
 -- all bytes after the reference are the text, also none
 abbrev pub write_image_pgm_in : List ℕ → Result Request BodyFault

@@ -14,7 +14,8 @@
 //! - `requests`: the bodies of requests, by families: `contexts`, `images`, `objects` (of any
 //!   kind), `tables` (and thresholds and convolutions), `statistics` (distributions and extremes),
 //!   `graphs`, `immediate`, `delays`
-//! - `parsing`: the body of any request
+//! - `parsing`: the body of any request; `write_image_head`: what stands before the samples of one
+//!   that writes an image
 //! - `laws`, `examples`: what the definitions mean
 #![tactic(auto)]
 
@@ -37,8 +38,9 @@ pub use fields::node::node_bytes;
 pub use fields::outline::outline_bytes;
 pub use fields::rectangle::rectangle_bytes;
 pub use fields::reference::reference_bytes;
-pub use fields::samples::{WideSample, encode};
+pub use fields::samples::{WideSample, decode_wide, encode};
 pub use fields::threshold::{binary_bytes, range_bytes};
 pub use op::Op;
 pub use parse_fault::ParseFault;
 pub use parsing::parse;
+pub use requests::images::write_image_head;

@@ -1,6 +1,8 @@
 //! The bodies of requests about images.
-ghost use Rattle.std.specs.Prelude.{◌≡◌, Ok, IfOk, IfErr};
+ghost use Rattle.std.specs.Prelude.{◌≡◌, ℕ, List, ◌++◌, length, Ok, Err, IfOk, IfErr};
+ghost use Rattle.vx_base.specs.Description.{byte_count};
 ghost use Rattle.vx_wire.specs.Faults.{MayFailWith};
+ghost use Rattle.vx_wire.specs.Images.{write_image_of};
 ghost use Rattle.vx_wire.specs.Images.{create_image_in, query_image_in, write_image_in};
 ghost use Rattle.vx_wire.specs.Images.{write_image_pgm_in, read_image_in, read_image_pgm_in};
 ghost use Rattle.vx_wire.specs.Images.{set_valid_in};
@@ -15,7 +17,7 @@ use crate::parse_fault::ParseFault;
 use crate::requests::reference_alone;
 use client_model::{Request, Text};
 use std::alloc::Global;
-use vx_base::Picture;
+use vx_base::{Desc, ObjRef, Picture};
 
 /// A description.
 pub fn create_image(body: &[u8]) -> Result<Request, BodyFault>
@@ -47,6 +49,26 @@ pub fn write_image(alloc: Global, body: &[u8]) -> Result<Request, ParseFault>
     fields.end()?;
     let samples = decode(alloc, format, count, bytes)?;
     Ok(Request::WriteImage(image, Picture::new(desc, samples)))
+}
+
+/// The image that a WriteImage request names and the description of its picture, from the first ten
+/// bytes of its body, after which so many follow. What these are makes no difference: whoever has
+/// as many of them as the description says has a request.
+pub fn write_image_head(head: &[u8; 10], rest: usize) -> Result<(ObjRef, Desc), BodyFault>
+    ensures ok { IfOk result (λ found. (samples : List ℕ) → length samples ≡ rest →
+        write_image_in (head.now ++ samples) ≡ Ok (write_image_of found.0 found.1 samples)) }
+    ensures size { IfOk result (λ found. rest ≡ byte_count found.1) }
+    ensures err { IfErr result (λ e. (samples : List ℕ) → length samples ≡ rest →
+        write_image_in (head.now ++ samples) ≡ Err e) }
+{
+    let mut fields = Fields::new(head);
+    let image = take_reference(&mut fields)?;
+    let desc = take_description(&mut fields)?;
+    if rest == desc.byte_count() {
+        Ok((image, desc))
+    } else {
+        Err(BodyFault::InvalidParameters)
+    }
 }
 
 /// A reference and a text: all bytes that are left, which nothing reads here.
