@@ -45,7 +45,7 @@ use Rattle.client_model.proofs.HoldLaws.{each_fails, is_taken, kinds_taken, Oper
 use Rattle.client_model.proofs.StateLaws.{alike_leaves}
 use Rattle.graph_verify.proofs.SuitLemmas.{Suits, no_fault_suits}
 use Rattle.client_model.proofs.NodeStepLaws.{CanGive, CanGiveTo, CanRunOn, neither, second_there, not_rejected}
-use Rattle.client_model.proofs.OperandLemmas.{of_operands}
+use Rattle.graph_run.proofs.FoundLemmas.{of_operands}
 use Rattle.client_model.proofs.OutcomeLaws.{Keeps, unless_keeps}
 use Rattle.client_model.proofs.GraphStepLaws.{graph_is, graph_stands}
 use Rattle.client_laws.proofs.RoundLaws.{rounds_last}

@@ -1,4 +1,3 @@
-pub mod OperandLemmas
 pub mod NamedLaws
 pub mod HoldLaws
 pub mod StateLaws

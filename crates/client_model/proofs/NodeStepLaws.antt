@@ -18,7 +18,7 @@ use Rattle.vx_base.specs.Formats.{takes_formats}
 use Rattle.vx_base.specs.Function.{parameters}
 use Rattle.vx_base.specs.Image.{description_of}
 use Rattle.vx_base.specs.Node.{IsNode, is_node, has_amount, has_operands, all_named, operands, second_kind}
-use Rattle.vx_base.specs.Object.{ObjectValue, ImageObject, DistributionObject, ExtremesObject, IsObject, object_kind}
+use Rattle.vx_base.specs.Object.{ObjectValue, ImageObject, DistributionObject, ExtremesObject, IsObject, object_kind, object_format}
 use Rattle.vx_base.specs.declared.output.Output.{Output}
 use Rattle.vx_base.specs.declared.output.Output.TheVariants.{First, Second}
 use Rattle.vx_base.specs.Outputs.{node_image, node_output, written_to, written_in, written_by}
@@ -45,7 +45,8 @@ use Rattle.client_model.proofs.HoldLaws.{each_fails}
 use Rattle.client_model.proofs.StateLaws.{alike_leaves}
 use Rattle.graph_verify.proofs.SuitLemmas.{Suits, BothSuit, verdict_suits, passed}
 use Rattle.graph_run.proofs.OperandLaws.{described_node, kind-operand}
-use Rattle.client_model.proofs.OperandLemmas.{of_operands, same_formats, same_description, length-histogram}
+use Rattle.graph_run.proofs.FoundLemmas.{of_operands}
+use Rattle.graph_run.proofs.OutputLemmas.{same_description, length-histogram}
 use Rattle.client_model.proofs.OutcomeLaws.{Keeps, unless_keeps}
 
 -- ---- what a node can give
@@ -82,6 +83,12 @@ suits_give function first out second suits right = tt
 operand_if_held : (objects : List Named) (cell : Option Cell) → operand_if objects cell ≡ option_map operand_of (option_and_then (held objects) cell)
 operand_if_held objects None = refl
 operand_if_held objects (Some cell) = refl
+
+-- an object has a format as an operand where it has one
+same_formats : (object : Option ObjectValue) → option_and_then operand_format (option_map operand_of object) ≡ option_and_then object_format object
+same_formats None = refl
+same_formats (Some (ImageObject image)) = refl
+same_formats (Some other) = refl
 
 -- ---- what a node writes
 

@@ -17,6 +17,7 @@ pub mod CellLemmas
 pub mod FoundLemmas
 pub mod OutputLemmas
 pub mod RunLemmas
+mod KernelLemmas
 pub mod PairLemmas
 pub mod ExchangeLemmas
 pub mod StandInLemmas

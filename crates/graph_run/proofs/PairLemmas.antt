@@ -19,20 +19,20 @@ use Rattle.vx_base.specs.Function.{parameters}
 use Rattle.vx_base.specs.Image.{ImageValue, IsImage, description_of, image_over}
 use Rattle.vx_base.specs.Node.{IsNode, has_operands}
 use Rattle.vx_base.specs.Object.{ObjectValue, ImageObject, DelayObject, object_kind, object_format}
-use Rattle.vx_base.specs.Outputs.{image_of_one, node_image}
+use Rattle.vx_base.specs.Outputs.{node_image}
 use Rattle.vx_base.specs.Rectangle.{Rectangle, empty}
 use Rattle.vx_base.specs.Window.{from_nine, formula_of_nine}
 use Rattle.image_core.specs.declared.image_mut.ImageMut.{ImageMut}
 use Rattle.image_core.specs.Bands.{all_rows}
 use Rattle.image_core.specs.Fits.{HaveSameSize}
 use Rattle.image_core.specs.Target.{written, Writes}
-use Rattle.image_core.proofs.BandLaws.{written_same}
 use Rattle.object_table.specs.Context.{Context, with_objects}
 use Rattle.object_table.specs.Delay.{with_slot}
 use Rattle.object_table.specs.Named.{Named, with_object}
 use Rattle.object_table.specs.Object.{image_value, with_samples}
 use Rattle.object_table.specs.Table.{cell_object, image_held, HoldsImage}
 use Rattle.graph_run.specs.Steps.{AreApart, TwoSlots, CanRunTo, RunsTo, output_of, with_output}
+use Rattle.graph_run.proofs.KernelLemmas.{gradient_written}
 use Rattle.graph_run.proofs.CellLemmas.{object_beside}
 use Rattle.graph_run.proofs.OutputLemmas.{all_written_is, first_there, reads_image, first_is_image, runs_there, put_back, takes_back, left_format}
 use Rattle.graph_run.proofs.RunLemmas.{apart_back, has_of_node, output_beside, runs_beside}
@@ -103,10 +103,8 @@ gradient_whole n which a d samples old new is can lent rows writes =
     let known : old.desc.format ≡ S16 =
     ap (λ (v : ImageValue). v.format) lent
     ∙ sixteen_bits a.format None d.format (subst (λ (f : Function). takes_formats f a.format None (Some d.format) ≡ true) is can.formats) in
-    let same : node_image n which old.desc.format a None ≡ from_nine S16 (formula_of_nine Sobel which) n.border a =
-    ap (λ (f : Function). image_of_one f n which old.desc.format a) is ∙ ap (λ (f : Format). from_nine f (formula_of_nine Sobel which) n.border a) known in
     all_written_is n which a None old new (rows ∙ ap (λ (v : ImageValue). all_rows v.height) (sym lent)) (subst (λ (v : ImageValue). HaveSameSize v a) (sym lent) can.size)
-    (written_same (node_image n which old.desc.format a None) (from_nine S16 (formula_of_nine Sobel which) n.border a) old new same writes)
+    (gradient_written n which which a old new is refl known writes)
     ∙ ap (λ (f : Format). node_image n which f a None) known
 
 -- ---- both outputs, of which the samples are taken out

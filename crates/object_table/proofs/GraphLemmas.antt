@@ -518,9 +518,9 @@ IsTable-same next more charge sum entries others n c e t = grind arith
 -- ---- a table that shows a context
 
 -- an entry that is as it was
-pub unchanged : (entries : List (ℕ × Entry)) (name : ℕ) (old : Entry) (object : ObjectValue) → lookup (is_at (nat_cmp name)) entries ≡ Some old → object ≡ old.object
-    → set_value (is_at (nat_cmp name)) entries (record old { object = object }) ≡ entries
-unchanged entries name old object found is = grind (arith, set_value_same (is_at (nat_cmp name)) entries old found)
+pub unchanged : (t : Context) (next : ℕ) (entries : List (ℕ × Entry)) → ◌≡◌ {A = Context} (record { next = next; objects = map named entries }) t → (name : ℕ) (old : Entry) → lookup (is_at (nat_cmp name)) entries ≡ Some old
+    → (object : ObjectValue) (after : List (ℕ × Entry)) → object ≡ old.object → after ≡ set_value (is_at (nat_cmp name)) entries (record old { object = object }) → ◌≡◌ {A = Context} (record { next = next; objects = map named after }) t
+unchanged t next entries view name old found object after is then = grind (arith, set_value_same (is_at (nat_cmp name)) entries old found)
 
 module _ (t : Context) (next charge : ℕ) (entries : List (ℕ × Entry)) (view : ◌≡◌ {A = Context} (record { next = next; objects = map named entries }) t) (h : IsTable next charge entries) where
   -- nothing has a name that isn't found

@@ -111,17 +111,24 @@ bits_counted v (z ∷ zs) v_fits fits =
     ∙ sym (sum_by-cons (λ s. cond (int_eq s v) 1 0) z (map (λ z. z) zs))
 
 -- one more sample is chosen from
-pub next_chosen : {T : Type 0} (value : T → ℤ) (choose : ℤ → ℤ → ℤ) (row : List T) (a w : ℤ) (i : ℕ) (r : T) → i < length row → r ≡ get_or row i r → w ≡ fold choose a (take i (map value row)) → choose w (value r) ≡ fold choose a (take (i + 1) (map value row))
-next_chosen value choose row a w i r below is so_far =
+pub next_chosen : {T : Type 0} (value : T → ℤ) (choose : ℤ → ℤ → ℤ) (row : List T) (a w next : ℤ) (i : ℕ) (r : T) → i < length row → r ≡ get_or row i r → w ≡ fold choose a (take i (map value row)) → next ≡ choose w (value r) → next ≡ fold choose a (take (i + 1) (map value row))
+next_chosen value choose row a w next i r below is so_far then =
     let zs = map value row in
-    ap (λ z. choose z (value r)) so_far
+    then ∙ ap (λ z. choose z (value r)) so_far
     ∙ ap (choose (fold choose a (take i zs))) (number_read value row i r below is)
     ∙ sym (ap (fold choose a) (take_more zs i (pos 0) (omega (arith, length-map row value))) ∙ fold_push choose a (take i zs) (get_or zs i (pos 0)))
 
 -- a choice that begins with the first sample, and comes to it once more
-pub chosen_from_first : (choose : ℤ → ℤ → ℤ) → ((z : ℤ) → choose z z ≡ z) → (zs : List ℤ) → 0 < length zs → fold choose (get_or zs 0 (pos 0)) zs ≡ chosen choose zs
+chosen_from_first : (choose : ℤ → ℤ → ℤ) → ((z : ℤ) → choose z z ≡ z) → (zs : List ℤ) → 0 < length zs → fold choose (get_or zs 0 (pos 0)) zs ≡ chosen choose zs
 chosen_from_first choose same [] some = absurd (omega arith)
 chosen_from_first choose same (z ∷ zs) some = ap (λ a. fold choose a zs) (same z)
+
+-- all are chosen from
+pub all_chosen : {T : Type 0} (value : T → ℤ) (choose : ℤ → ℤ → ℤ) → ((z : ℤ) → choose z z ≡ z) → (row : List T) (w : ℤ) (i : ℕ) → 0 < length row → length row ≤ i
+    → w ≡ fold choose (get_or (map value row) 0 (pos 0)) (take i (map value row)) → w ≡ chosen choose (map value row)
+all_chosen value choose same row w i some end is =
+    let zs = map value row in
+    is ∙ ap (fold choose (get_or zs 0 (pos 0))) (take_all i zs (omega (arith, length-map row value))) ∙ chosen_from_first choose same zs (omega (arith, length-map row value))
 
 -- a row that has a sample is not empty
 pub some_of_row : {T : Type 0} (value : T → ℤ) (v : ℤ) (row : List T) → 0 < count_of v (map value row) → 0 < length row

@@ -18,7 +18,7 @@ use Rattle.vx_wire.specs.declared.body_fault.BodyFault.{BodyFault}
 use Rattle.vx_requests.specs.Serving.Answer.{answer, answer_spelled}
 use Rattle.vx_requests.specs.Serving.Clients.{spelled, reply_to, state_then}
 use Rattle.vx_requests.specs.Frame.Frames.{frame_of}
-use Rattle.vx_requests.specs.Serving.Lost.{WantsMemory, SpellsTaking, MayBeLost}
+use Rattle.vx_requests.specs.Serving.Lost.{NeedsMemory, SpellsTaking, MayBeLost}
 use Rattle.vx_requests.specs.Serving.Turn.{IsReply, said_in}
 use Rattle.vx_requests.specs.declared.serving.answered.Content.TheVariants.{Samples}
 use Rattle.client_model.specs.Request.{TakesMemory}
@@ -56,11 +56,11 @@ kept_states limits old new client op body own others other =
     ]
 
 -- a request whose samples are parsed wants memory, and so does one that takes some when it is answered, but for ReadImage
-wants_to_parse : (request : Request) → HoldsSamples request → WantsMemory request
+wants_to_parse : (request : Request) → HoldsSamples request → NeedsMemory request
 wants_to_parse (ReadImage image) holds = holds
 wants_to_parse request holds = inl holds
 
-wants_to_answer : (request : Request) → ((image : Cell) → request ≢ ReadImage image) → TakesMemory request → WantsMemory request
+wants_to_answer : (request : Request) → ((image : Cell) → request ≢ ReadImage image) → TakesMemory request → NeedsMemory request
 wants_to_answer (ReadImage image) other takes = other image refl
 wants_to_answer request other takes = inr takes
 

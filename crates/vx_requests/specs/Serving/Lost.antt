@@ -8,13 +8,13 @@ use Rattle.client_model.specs.Request.{TakesMemory}
 use Rattle.vx_wire.specs.Requests.{request_of, HoldsSamples}
 
 -- a request for which memory is taken, when its samples are parsed or when it is answered; what ReadImage gives is written from where it stands
-abbrev pub WantsMemory : Request → Type 0
-WantsMemory (ReadImage image) = ⊥
-WantsMemory request = HoldsSamples request ⊎ TakesMemory request
+abbrev pub NeedsMemory : Request → Type 0
+NeedsMemory (ReadImage image) = ⊥
+NeedsMemory request = HoldsSamples request ⊎ TakesMemory request
 
 -- such a request was spelled
 abbrev pub SpellsTaking : Result Request BodyFault → Type 0
-SpellsTaking (Ok request) = WantsMemory request
+SpellsTaking (Ok request) = NeedsMemory request
 SpellsTaking (Err fault) = ⊥
 
 -- one with a body of more than 64 bytes, or a request for which memory is taken

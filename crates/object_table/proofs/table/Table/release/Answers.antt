@@ -10,13 +10,13 @@ use Rattle.object_table.specs.declared.table.Entry.{Entry}
 use Rattle.object_table.specs.Context.{Context, charge_of, object_named, with_objects}
 use Rattle.object_table.specs.Holds.{still_held, unnamed}
 use Rattle.object_table.specs.Named.{Named}
-use Rattle.object_table.specs.Table.{named, used_less}
+use Rattle.object_table.specs.Table.{named, used_less, ended, kept}
 use Rattle.object_table.specs.Uses.{used_names, nodes_in}
 use Rattle.object_table.proofs.EntryLemmas.{in_order, plain}
 use Rattle.object_table.proofs.KeptLemmas.{left_of, left-nil, left-ended, held-left}
-use Rattle.object_table.proofs.GraphLemmas.{names_in, named-unlive, none_there, named_there, released-left, IsTable-same}
+use Rattle.object_table.proofs.GraphLemmas.{AreLeft, names_in, named-unlive, none_there, named_there, released-left, IsTable-same}
 use Rattle.object_table.proofs.table.Table.release.Goals as goal
-use Rattle.object_table.proofs.table.Table.release.Goals.{in-Graph, in_default-kind}
+use Rattle.object_table.proofs.table.Table.release.Goals.{Joined-kind, in-Graph, in_default-kind}
 
 pub returns-in_default-clause-result : goal.returns-in_default-clause-result
 returns-in_default-clause-result c =
@@ -40,72 +40,62 @@ returns-clause-result c =
     named_there c.args.self.now s.next s.charge s.entries.entries c.self.view_is c.self.invariant c.args.name old (sym c.in-Some.ensures.value) ∙ ap (λ b. cond b (Some old.object) None) c.if-not-entry.false in
     rw there refl
 
-pub end_name-self-inside-requires-clause-held : goal.end_name-self-inside-requires-clause-held
-end_name-self-inside-requires-clause-held c =
-    let s = c.self.inside in
+-- the entries, once the graph's nodes have ended their uses
+less_is : (c : Joined-kind) → c.match-kind.self-inside.entries.entries ≡ left_of (names_in c.in-Some.entry.now.object) c.self.inside.entries.entries
+less_is c =
+    let entries = c.self.inside.entries.entries in
     let old = c.in-Some.entry.now in
-    let found = sym c.in-Some.ensures.value in
-    let less : c.match-kind.self-inside.entries.entries ≡ left_of (names_in old.object) s.entries.entries =
     elim c.match-kind.branch [
       | in-Graph w ↦
           ap (λ x. x.entries.entries) w.self-inside-is ∙ w.end_all_uses-self-inside.ensures.entries
-          ∙ ap (λ (o : Option Entry). left_of (flat_map used_names (unwrap_or (option_map (λ (e : Entry). nodes_in e.object) o) [])) s.entries.entries) found
+          ∙ ap (λ (o : Option Entry). left_of (flat_map used_names (unwrap_or (option_map (λ (e : Entry). nodes_in e.object) o) [])) entries) (sym c.in-Some.ensures.value)
       | in_default-kind w ↦
-          ap (λ x. x.entries.entries) w.self-inside-is ∙ left-nil s.entries.entries c.self.invariant.held
-          ∙ ap (λ (l : List Node). left_of (flat_map used_names l) s.entries.entries) (sym (plain old.object (λ graph. w.in_default-kind.not-Graph (c.kind.ensures ∙ graph))))
-    ] in
-    held-left (names_in old.object) s.entries.entries c.match-kind.self-inside.entries.entries less
+          ap (λ x. x.entries.entries) w.self-inside-is ∙ left-nil entries c.self.invariant.held
+          ∙ ap (λ (l : List Node). left_of (flat_map used_names l) entries) (sym (plain old.object (λ graph. w.in_default-kind.not-Graph (c.kind.ensures ∙ graph))))
+    ]
+
+next_is : (c : Joined-kind) → c.match-kind.self-inside.next ≡ c.self.inside.next
+next_is c = elim c.match-kind.branch [ in-Graph w ↦ ap (λ x. x.next) w.self-inside-is | in_default-kind w ↦ ap (λ x. x.next) w.self-inside-is ]
+
+-- once the name has ended
+abbrev changed : Joined-kind → List (ℕ × Entry)
+changed c = let old : Entry = c.in-Some.entry.now in set_value (is_at (nat_cmp c.args.name)) c.self.inside.entries.entries (record old { live = false })
+
+-- and once both have
+abbrev left : Joined-kind → List (ℕ × Entry)
+left c = left_of (names_in c.in-Some.entry.now.object) (changed c)
+
+left_is : (c : Joined-kind) (then : List (ℕ × Entry)) → then ≡ kept (ended c.args.name c.match-kind.self-inside.entries.entries) → then ≡ left c
+left_is c then is =
+    let entries = c.self.inside.entries.entries in
+    let old = c.in-Some.entry.now in
+    left-ended entries c.match-kind.self-inside.entries.entries then (names_in old.object) c.args.name old (in_order entries c.self.invariant.names) (sym c.in-Some.ensures.value) (less_is c) is
+
+are_left : (c : Joined-kind) → AreLeft c.self.inside.next (changed c) (used_less (names_in c.in-Some.entry.now.object) (changed c))
+are_left c =
+    let s = c.self.inside in
+    let old = c.in-Some.entry.now in
+    released-left s.next s.charge s.entries.entries c.self.invariant c.args.name old (sym c.in-Some.ensures.value) c.if-not-entry.false (used_less (names_in old.object) (changed c)) refl
+
+pub end_name-self-inside-requires-clause-held : goal.end_name-self-inside-requires-clause-held
+end_name-self-inside-requires-clause-held c =
+    held-left (names_in c.in-Some.entry.now.object) c.self.inside.entries.entries c.match-kind.self-inside.entries.entries
+    (less_is (goal.at.end_name-self-inside-requires-clause-held c).Joined-kind)
 
 pub invariant_of-self : goal.invariant_of-self
 invariant_of-self c =
-    let s = c.self.inside in
-    let old = c.in-Some.entry.now in
-    let found = sym c.in-Some.ensures.value in
-    let less : c.match-kind.self-inside.entries.entries ≡ left_of (names_in old.object) s.entries.entries =
-    elim c.match-kind.branch [
-      | in-Graph w ↦
-          ap (λ x. x.entries.entries) w.self-inside-is ∙ w.end_all_uses-self-inside.ensures.entries
-          ∙ ap (λ (o : Option Entry). left_of (flat_map used_names (unwrap_or (option_map (λ (e : Entry). nodes_in e.object) o) [])) s.entries.entries) found
-      | in_default-kind w ↦
-          ap (λ x. x.entries.entries) w.self-inside-is ∙ left-nil s.entries.entries c.self.invariant.held
-          ∙ ap (λ (l : List Node). left_of (flat_map used_names l) s.entries.entries) (sym (plain old.object (λ graph. w.in_default-kind.not-Graph (c.kind.ensures ∙ graph))))
-    ] in
-    let changed : List (ℕ × Entry) = set_value (is_at (nat_cmp c.args.name)) s.entries.entries (record old { live = false }) in
-    let names = names_in old.object in
-    let then : c.end_name-self-inside.new.entries.entries ≡ left_of names changed =
-    left-ended s.entries.entries c.match-kind.self-inside.entries.entries c.end_name-self-inside.new.entries.entries names c.args.name old (in_order s.entries.entries c.self.invariant.names) found less
-    c.end_name-self-inside.ensures.entries in
-    let left = released-left s.next s.charge s.entries.entries c.self.invariant c.args.name old found c.if-not-entry.false (used_less names changed) refl in
-    let next : c.match-kind.self-inside.next ≡ s.next =
-    elim c.match-kind.branch [ in-Graph w ↦ ap (λ x. x.next) w.self-inside-is | in_default-kind w ↦ ap (λ x. x.next) w.self-inside-is ] in
-    IsTable-same s.next c.match-kind.self-inside.next (charge_of (map named (left_of names changed))) c.end_name-self-inside.result (left_of names changed) c.end_name-self-inside.new.entries.entries
-    next (c.end_name-self-inside.ensures.charge ∙ ap (λ (l : List (ℕ × Entry)). charge_of (map named l)) then) then left.table
+    let at = (goal.at.invariant_of-self c).Joined-kind in
+    let then = left_is at c.end_name-self-inside.new.entries.entries c.end_name-self-inside.ensures.entries in
+    IsTable-same c.self.inside.next c.match-kind.self-inside.next (charge_of (map named (left at))) c.end_name-self-inside.result (left at) c.end_name-self-inside.new.entries.entries
+    (next_is at) (c.end_name-self-inside.ensures.charge ∙ ap (λ (l : List (ℕ × Entry)). charge_of (map named l)) then) then (are_left at).table
 
 pub returns-clause-ok : goal.returns-clause-ok
 returns-clause-ok c =
+    let at = (goal.at.returns-clause-ok c).Joined-kind in
     let s = c.self.inside in
-    let old = c.in-Some.entry.now in
-    let found = sym c.in-Some.ensures.value in
-    let less : c.match-kind.self-inside.entries.entries ≡ left_of (names_in old.object) s.entries.entries =
-    elim c.match-kind.branch [
-      | in-Graph w ↦
-          ap (λ x. x.entries.entries) w.self-inside-is ∙ w.end_all_uses-self-inside.ensures.entries
-          ∙ ap (λ (o : Option Entry). left_of (flat_map used_names (unwrap_or (option_map (λ (e : Entry). nodes_in e.object) o) [])) s.entries.entries) found
-      | in_default-kind w ↦
-          ap (λ x. x.entries.entries) w.self-inside-is ∙ left-nil s.entries.entries c.self.invariant.held
-          ∙ ap (λ (l : List Node). left_of (flat_map used_names l) s.entries.entries) (sym (plain old.object (λ graph. w.in_default-kind.not-Graph (c.kind.ensures ∙ graph))))
-    ] in
-    let changed : List (ℕ × Entry) = set_value (is_at (nat_cmp c.args.name)) s.entries.entries (record old { live = false }) in
-    let names = names_in old.object in
-    let then : c.end_name-self-inside.new.entries.entries ≡ left_of names changed =
-    left-ended s.entries.entries c.match-kind.self-inside.entries.entries c.end_name-self-inside.new.entries.entries names c.args.name old (in_order s.entries.entries c.self.invariant.names) found less
-    c.end_name-self-inside.ensures.entries in
-    let left = released-left s.next s.charge s.entries.entries c.self.invariant c.args.name old found c.if-not-entry.false (used_less names changed) refl in
-    let next : c.match-kind.self-inside.next ≡ s.next =
-    elim c.match-kind.branch [ in-Graph w ↦ ap (λ x. x.next) w.self-inside-is | in_default-kind w ↦ ap (λ x. x.next) w.self-inside-is ] in
-    ap (λ (n : ℕ). let t : Context = record { next = n; objects = map named c.end_name-self-inside.new.entries.entries } in t) next
-    ∙ ap (λ (l : List (ℕ × Entry)). let t : Context = record { next = s.next; objects = map named l } in t) then
-    ∙ ap (λ (l : List Named). let t : Context = record { next = s.next; objects = l } in t) left.shown
+    ap (λ (n : ℕ). let t : Context = record { next = n; objects = map named c.end_name-self-inside.new.entries.entries } in t) (next_is at)
+    ∙ ap (λ (l : List (ℕ × Entry)). let t : Context = record { next = s.next; objects = map named l } in t) (left_is at c.end_name-self-inside.new.entries.entries c.end_name-self-inside.ensures.entries)
+    ∙ ap (λ (l : List Named). let t : Context = record { next = s.next; objects = l } in t) (are_left at).shown
     ∙ ap (λ (t : Context). with_objects t (still_held t.objects))
-    (ap (λ (l : List Named). let t : Context = record { next = s.next; objects = l } in t) (named-unlive s.entries.entries c.args.name old (in_order s.entries.entries c.self.invariant.names) found)
+    (ap (λ (l : List Named). let t : Context = record { next = s.next; objects = l } in t) (named-unlive s.entries.entries c.args.name c.in-Some.entry.now (in_order s.entries.entries c.self.invariant.names) (sym c.in-Some.ensures.value))
     ∙ ap (λ (t : Context). with_objects t (unnamed t.objects c.args.name)) c.self.view_is)

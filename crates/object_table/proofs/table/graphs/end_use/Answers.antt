@@ -10,7 +10,7 @@ use Rattle.object_table.proofs.UseLemmas.{with_uses, less, less_is, used-one, us
 use Rattle.object_table.proofs.KeptLemmas.{all_kept, held-written, dropped, charge-written, left_of, left-nil}
 use Rattle.object_table.proofs.EntryBlockLemmas.{owns-written, Balances-written, Balances-written_then}
 use Rattle.object_table.proofs.table.graphs.end_use.Goals as goal
-use Rattle.object_table.proofs.table.graphs.end_use.Goals.{then-entry-via-then-entry, then-entry-via-else-entry+then-entry-gt0}
+use Rattle.object_table.proofs.table.graphs.end_use.Goals.{Joined-then-entry, then-entry-via-then-entry, then-entry-via-else-entry+then-entry-gt0}
 
 pub returns-in_default-clause-entries : goal.returns-in_default-clause-entries
 returns-in_default-clause-entries c =
@@ -25,6 +25,15 @@ returns-in_default-get_mut-clause-entries c =
     ∙ ap kept (used-none less less_is entries name (sym c.in_default-get_mut.ensures.value))
     ∙ operand_uses left_of c.args.operand c.in-Some.cell name entries c.in-Some.is c.name-name.ensures.value
 
+-- the entry that is left of it
+then_is : (c : Joined-then-entry) → c.then-entry.entries.entries ≡ set_value (is_at (nat_cmp c.name-name.result)) c.args.entries.now.entries (with_uses c.in-Some-get_mut.entry.now c.saturating_sub-entry.result)
+then_is c =
+    let written = (c.get_mut.follows.holds (with_uses c.in-Some-get_mut.entry.now c.saturating_sub-entry.result)).0 in
+    elim c.then-entry.branch [
+      | then-entry-via-then-entry w ↦ ap (λ m. m.entries) w.entries-is ∙ written
+      | then-entry-via-else-entry+then-entry-gt0 w ↦ ap (λ m. m.entries) w.entries-is ∙ written
+    ]
+
 pub returns-then-entry-clause-entries : goal.returns-then-entry-clause-entries
 returns-then-entry-clause-entries c =
     let entries = c.args.entries.now.entries in
@@ -38,12 +47,7 @@ returns-then-entry-clause-entries c =
       | then-entry-via-then-entry w ↦ or_left old.live (nat_lt 0 left) w.if-entry.true
       | then-entry-via-else-entry+then-entry-gt0 w ↦ ap (λ b. b || nat_lt 0 left) w.if-entry.false ∙ lt-ltb 0 left w.if-entry-gt0.true
     ] in
-    let then : c.then-entry.entries.entries ≡ set_value (is_at (nat_cmp c.name-name.result)) c.args.entries.now.entries new =
-    elim c.then-entry.branch [
-      | then-entry-via-then-entry w ↦ ap (λ m. m.entries) w.entries-is ∙ (c.get_mut.follows.holds new).0
-      | then-entry-via-else-entry+then-entry-gt0 w ↦ ap (λ m. m.entries) w.entries-is ∙ (c.get_mut.follows.holds new).0
-    ] in
-    then ∙ held-written entries name old new found c.requires.held is
+    then_is c ∙ held-written entries name old new found c.requires.held is
     ∙ ap (λ n. kept (set_value (is_at (nat_cmp name)) entries (with_uses old n))) c.saturating_sub-entry.ensures
     ∙ ap kept (used-one less less_is entries name old c.get_mut.ensures.ordered found)
     ∙ operand_uses left_of c.args.operand c.in-Some.cell name entries c.in-Some.is c.name-name.ensures.value
@@ -52,13 +56,8 @@ pub returns-then-entry-clause-charge : goal.returns-then-entry-clause-charge
 returns-then-entry-clause-charge c =
     let old = c.in-Some-get_mut.entry.now in
     let new = with_uses old c.saturating_sub-entry.result in
-    let then : c.then-entry.entries.entries ≡ set_value (is_at (nat_cmp c.name-name.result)) c.args.entries.now.entries new =
-    elim c.then-entry.branch [
-      | then-entry-via-then-entry w ↦ ap (λ m. m.entries) w.entries-is ∙ (c.get_mut.follows.holds new).0
-      | then-entry-via-else-entry+then-entry-gt0 w ↦ ap (λ m. m.entries) w.entries-is ∙ (c.get_mut.follows.holds new).0
-    ] in
     c.requires.charge ∙ charge-written c.args.entries.now.entries c.name-name.result old new (sym c.in-Some-get_mut.ensures.value) refl
-    ∙ ap (λ l. charge_of (map named l)) (sym then)
+    ∙ ap (λ l. charge_of (map named l)) (sym (then_is c))
 
 pub end_entry-requires-clause-charge : goal.end_entry-requires-clause-charge
 end_entry-requires-clause-charge c =
@@ -86,12 +85,7 @@ pub returns-then-entry-clause-balances : goal.returns-then-entry-clause-balances
 returns-then-entry-clause-balances c =
     let old = c.in-Some-get_mut.entry.now in
     let new = with_uses old c.saturating_sub-entry.result in
-    let then : c.then-entry.entries.entries ≡ set_value (is_at (nat_cmp c.name-name.result)) c.args.entries.now.entries new =
-    elim c.then-entry.branch [
-      | then-entry-via-then-entry w ↦ ap (λ m. m.entries) w.entries-is ∙ (c.get_mut.follows.holds new).0
-      | then-entry-via-else-entry+then-entry-gt0 w ↦ ap (λ m. m.entries) w.entries-is ∙ (c.get_mut.follows.holds new).0
-    ] in
-    Balances-written c.args.entries.now.entries c.name-name.result old new (sym c.in-Some-get_mut.ensures.value) (λ format. refl) c.then-entry.entries.entries then c.args.pool.now
+    Balances-written c.args.entries.now.entries c.name-name.result old new (sym c.in-Some-get_mut.ensures.value) (λ format. refl) c.then-entry.entries.entries (then_is c) c.args.pool.now
 
 pub end_entry-requires-clause-owns : goal.end_entry-requires-clause-owns
 end_entry-requires-clause-owns c =
