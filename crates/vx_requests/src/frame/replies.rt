@@ -5,7 +5,7 @@ ghost use Rattle.std.specs.Io.KnownBytes.{Keeps};
 ghost use Rattle.client_model.specs.declared.reply.Reply.TheVariants.{Picture as PictureReply};
 ghost use Rattle.vx_base.specs.Description.{byte_count};
 ghost use Rattle.vx_base.specs.Image.{IsImage};
-ghost use Rattle.vx_base.specs.Picture.{values, Describes, picture_of};
+ghost use Rattle.vx_base.specs.Picture.{PictureValue, values, Describes, picture_of};
 ghost use Rattle.vx_requests.specs.Stream.Calls.{failed_calls};
 ghost use Rattle.vx_requests.specs.Stream.Transfer.{Sends};
 ghost use Rattle.vx_requests.specs.Frame.Frames.{reply_bytes, reply_head};
@@ -92,12 +92,10 @@ fn write_picture<K: Sink>(
 ) -> Result<(), StreamFault>
     requires failures_fit { K.failures sink.old < 2 ^ 62 }
     requires described { Describes desc samples.now }
-    ensures { Sends K.taken K.failures sink.old sink.new
-        (reply_bytes (spelled client op (record {
-          code = 0;
-          body = picture_bytes
-              (record { description = desc; samples = values samples.now });
-        }))) result }
+    ensures { let picture : PictureValue =
+        record { description = desc; samples = values samples.now } in
+        Sends K.taken K.failures sink.old sink.new
+        (reply_bytes (spelled client op (record { code = 0; body = picture_bytes picture }))) result }
 {
     write_all(sink, &head_and_description(client, op, desc))?;
     write_samples(sink, samples)?;

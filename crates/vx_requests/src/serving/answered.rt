@@ -17,7 +17,8 @@ use vx_base::ObjRef;
 pub enum Content {
     /// What was made for it.
     Made(Reply),
-    /// What ReadImage of this image is answered. Nothing is made for it.
+    /// What ReadImage of this image is answered. Nothing is made for it: the samples are written
+    /// from where they stand.
     Samples(ObjRef),
 }
 
@@ -30,7 +31,7 @@ pub struct Answered {
 }
 
 /// Writes the frame of a reply, flushes the sink and returns the reply's code. The runtime is as
-/// the request has left it: samples are written from where they stand in it.
+/// the request has left it.
 pub fn write_answered<K: Sink>(
     sink: &mut K,
     runtime: &Runtime,

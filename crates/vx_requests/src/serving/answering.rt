@@ -214,7 +214,7 @@ fn content_for(alloc: Global, runtime: &mut Runtime, frame: &RequestFrame) -> Co
     }
 }
 
-/// The runtime's reply, or NO_MEMORY; of an image that is read which one.
+/// The runtime's reply, or NO_MEMORY. Where an image is read it is named, and nothing is copied.
 fn answer_request(alloc: Global, runtime: &mut Runtime, client: u16, request: &Request) -> Content
     ensures replies { (op : ℕ) (body : List ℕ) → request_of op body ≡ Ok request.now →
         IsReply runtime.old.limits (frame_of client op body)

@@ -57,7 +57,7 @@ pub fn answer_write_image<S: Source>(
     }
 }
 
-/// Reads past so many bytes of a frame that is answered this code.
+/// Reads past the rest of a frame, which is answered this code.
 fn refuse<S: Source>(
     reader: &mut Reader<S>,
     rest: usize,
