@@ -8,7 +8,10 @@ use std::test::Fail;
 use vx_base::{Desc, Format, ObjRef, Picture, Samples};
 use vx_requests::{StreamFault, write_request};
 
-const IMAGE: ObjRef = ObjRef::new(1, None);
+/// The first image of client 1.
+fn image() -> ObjRef {
+    ObjRef::new(1, None)
+}
 
 /// A format and sizes of each: the samples of the last two take more bytes than are decoded at once.
 const PICTURES: [(Format, u16, u16); 3] = [
@@ -66,7 +69,7 @@ fn writing(alloc: Global, desc: Desc, seed: u32) -> Result<Vec<u8>, Fail> {
     }
     frame(
         alloc,
-        &Request::WriteImage(IMAGE, Picture::new(desc, samples)),
+        &Request::WriteImage(image(), Picture::new(desc, samples)),
     )
 }
 
@@ -107,7 +110,7 @@ fn opened(alloc: Global, desc: Desc) -> Result<Runtime, Fail> {
 
 /// Whether the image is read as such a frame has written it.
 fn holds(alloc: Global, runtime: &mut Runtime, writing: &[u8]) -> Result<bool, Fail> {
-    let asked = frame(alloc, &Request::ReadImage(IMAGE))?;
+    let asked = frame(alloc, &Request::ReadImage(image()))?;
     let replies = ask(alloc, runtime, asked.as_slice())?;
     Ok(replies.len() > 8 && replies[7] == 0 && &replies[8..] == read(writing))
 }
@@ -126,11 +129,11 @@ fn pictures_in_pieces(rt: HostRuntime) -> Result<(), Fail> {
             let mut runtime = opened(alloc, desc)?;
             let mut stream = writing(alloc, desc, 1)?;
             let written = stream.len();
-            stream.extend_from_slice(frame(alloc, &Request::ReadImage(IMAGE))?.as_slice())?;
+            stream.extend_from_slice(frame(alloc, &Request::ReadImage(image()))?.as_slice())?;
             let served = serve_bytes(alloc, &mut runtime, stream.as_slice(), devices);
             assert!(rt; served.result.is_ok());
             assert!(rt; written < stream.len() && served.written.len() > 16);
-            assert_eq!(rt; &served.written[..8], b"\0\0\0\x04\0\x01\x05\0");
+            assert_eq!(rt; &served.written[..8], b"\0\0\0\x04\0\x01\x05\0".as_slice());
             assert_eq!(rt; &served.written[16..], read(&stream[..written]));
         }
     }
@@ -183,7 +186,7 @@ fn pictures_refused(rt: HostRuntime) -> Result<(), Fail> {
     ] {
         let other = Desc::new(width, height, format).ok_or("within the limits")?;
         let mut stream = writing(alloc, other, 3)?;
-        stream.extend_from_slice(frame(alloc, &Request::ReadImage(IMAGE))?.as_slice())?;
+        stream.extend_from_slice(frame(alloc, &Request::ReadImage(image()))?.as_slice())?;
         let replies = ask(alloc, &mut runtime, stream.as_slice())?;
         assert!(rt; replies.len() > 16);
         assert_eq!(rt; replies[7], code);
