@@ -1,25 +1,30 @@
 -- What a frame is answered: no request, the model's reply, or NO_MEMORY.
-use Rattle.std.proofs.Common.{◌≡◌, ◌≢◌, ℕ, Bool, true, false, cond, List, Result, Ok, Err, inl, inr, ◌⊎◌, refl, sym, ap, ◌∙◌, subst, eq-eqb}
+use Rattle.std.proofs.Common.{◌≡◌, ◌≢◌, ℕ, Bool, true, false, cond, List, Some, None, Result, Ok, Err, inl, inr, ◌⊎◌, refl, sym, ap, ◌∙◌, subst, eq-eqb}
 use Rattle.std.specs.Prelude.{◌&&◌, ◌==◌}
 use Rattle.std.proofs.lemmas.Bool.{eqb-true}
 use Rattle.client_model.specs.declared.request.Request.{Request}
+use Rattle.client_model.specs.declared.request.Request.TheVariants.{ReadImage}
 use Rattle.client_model.specs.declared.reply.Reply.{Reply}
 use Rattle.client_model.specs.declared.reply.Reply.TheVariants.{Refused}
 use Rattle.client_model.specs.Allowance.{Allowance}
 use Rattle.client_model.specs.Context.{State}
-use Rattle.client_model.specs.Answer.{answer_to}
+use Rattle.client_model.specs.Answer.{answer_to, answered}
+use Rattle.client_model.specs.Images.{read_from}
+use Rattle.client_model.specs.Operands.{image_of}
 use Rattle.vx_base.specs.declared.code.Code.TheVariants.{NoMemory as CodeNoMemory}
+use Rattle.vx_base.specs.Cell.{Cell}
 use Rattle.vx_wire.specs.declared.parse_fault.ParseFault.{ParseFault}
 use Rattle.vx_wire.specs.declared.body_fault.BodyFault.{BodyFault}
 use Rattle.vx_requests.specs.Serving.Answer.{answer, answer_spelled}
 use Rattle.vx_requests.specs.Serving.Clients.{spelled, reply_to, state_then}
 use Rattle.vx_requests.specs.Frame.Frames.{frame_of}
-use Rattle.vx_requests.specs.Serving.Lost.{SpellsTaking, MayBeLost}
-use Rattle.vx_requests.specs.Serving.Turn.{IsReply}
+use Rattle.vx_requests.specs.Serving.Lost.{WantsMemory, SpellsTaking, MayBeLost}
+use Rattle.vx_requests.specs.Serving.Turn.{IsReply, said_in}
+use Rattle.vx_requests.specs.declared.serving.answered.Content.TheVariants.{Samples}
 use Rattle.client_model.specs.Request.{TakesMemory}
 use Rattle.vx_wire.specs.Replies.{Said, said_of}
 use Rattle.vx_wire.specs.Faults.{parse_fault, MayFailWith, fault_code}
-use Rattle.vx_wire.specs.Requests.{request_of}
+use Rattle.vx_wire.specs.Requests.{request_of, HoldsSamples}
 
 -- the model's answer to a body, once it is known what the body spells
 answer_is : (limits : Allowance) (state : State) (op : ℕ) (body : List ℕ) (spelled : Result Request BodyFault) → request_of op body ≡ spelled
@@ -50,9 +55,24 @@ kept_states limits old new client op body own others other =
       | inr differ ↦ others other (λ e. let same : (client == other) ≡ true = eq-eqb client other (sym e) in cc) ∙ sym (ap then differ)
     ]
 
+-- a request whose samples are parsed wants memory, and so does one that takes some when it is answered, but for ReadImage
+wants_to_parse : (request : Request) → HoldsSamples request → WantsMemory request
+wants_to_parse (ReadImage image) holds = holds
+wants_to_parse request holds = inl holds
+
+wants_to_answer : (request : Request) → ((image : Cell) → request ≢ ReadImage image) → TakesMemory request → WantsMemory request
+wants_to_answer (ReadImage image) other takes = other image refl
+wants_to_answer request other takes = inr takes
+
+-- ReadImage leaves its client's state as it is
+reading_changes_nothing : (limits : Allowance) (state : State) (image : Cell) → (answer_to limits state (ReadImage image)).1 ≡ state
+reading_changes_nothing limits None image = refl
+reading_changes_nothing limits (Some c) image =
+    elim (image_of c.objects image) as (λ found. (answered c (read_from found c)).1 ≡ Some c) [ Ok is ↦ refl | Err refusal ↦ refl ]
+
 module _ (limits : Allowance) (old new : ℕ → State) (client op : ℕ) (body : List ℕ) where
   -- want of memory
-  lost_reply : MayBeLost (frame_of client op body) → ((each : ℕ) → new each ≡ old each) → IsReply limits (frame_of client op body) old new (spelled client op (said_of (Refused CodeNoMemory)))
+  pub lost_reply : MayBeLost (frame_of client op body) → ((each : ℕ) → new each ≡ old each) → IsReply limits (frame_of client op body) old new (spelled client op (said_of (Refused CodeNoMemory)))
   lost_reply may same = record {
     lost = true;
     may = λ e. may;
@@ -61,7 +81,7 @@ module _ (limits : Allowance) (old new : ℕ → State) (client op : ℕ) (body 
   }
 
   -- a body that spells no request
-  refused_reply : (fault : BodyFault) → request_of op body ≡ Err fault → ((each : ℕ) → new each ≡ old each)
+  pub refused_reply : (fault : BodyFault) → request_of op body ≡ Err fault → ((each : ℕ) → new each ≡ old each)
       → IsReply limits (frame_of client op body) old new (spelled client op (said_of (Refused (fault_code (parse_fault fault)))))
   refused_reply fault spelled same =
       let is = answer_is limits (old client) op body (Err fault) spelled in
@@ -85,10 +105,17 @@ module _ (limits : Allowance) (old new : ℕ → State) (client op : ℕ) (body 
         said = ap (λ r. reply_to (frame_of client op body) (said_of r)) replied ∙ sym (ap (λ (a : Said × State). reply_to (frame_of client op body) a.0) is);
       }
 
+  -- a request to read an image, which changes nothing
+  pub read_reply : (image : Cell) → request_of op body ≡ Ok (ReadImage image) → ((each : ℕ) → new each ≡ old each)
+      → IsReply limits (frame_of client op body) old new (spelled client op (said_in limits (new client) (Samples image)))
+  read_reply image spelled same =
+      kept_reply (ReadImage image) (answer_to limits (new client) (ReadImage image)).0 spelled (ap (λ (s : State). (answer_to limits s (ReadImage image)).0) (same client))
+      (same client ∙ sym (reading_changes_nothing limits (old client) image)) (λ other differs. same other)
+
   -- a request for which the runtime found no memory
-  pub wanting_reply : (request : Request) → request_of op body ≡ Ok request → TakesMemory request → ((each : ℕ) → new each ≡ old each)
-      → IsReply limits (frame_of client op body) old new (spelled client op (said_of (Refused CodeNoMemory)))
-  wanting_reply request spelled takes same = lost_reply (inr (subst SpellsTaking (sym spelled) (inr takes))) same
+  pub wanting_reply : (request : Request) → request_of op body ≡ Ok request → ((image : Cell) → request ≢ ReadImage image) → TakesMemory request
+      → ((each : ℕ) → new each ≡ old each) → IsReply limits (frame_of client op body) old new (spelled client op (said_of (Refused CodeNoMemory)))
+  wanting_reply request spelled other takes same = lost_reply (inr (subst SpellsTaking (sym spelled) (wants_to_answer request other takes))) same
 
   -- a body from which parse read no request
   pub fault_reply : (fault : ParseFault) → MayFailWith (request_of op body) fault → ((each : ℕ) → new each ≡ old each)
@@ -99,5 +126,5 @@ module _ (limits : Allowance) (old new : ℕ → State) (client op : ℕ) (body 
       Answered fault = IsReply limits (frame_of client op body) old new (spelled client op (said_of (Refused (fault_code fault))))
 
       known : (spelled : Result Request BodyFault) → request_of op body ≡ spelled → MayFailWith spelled fault → Answered fault
-      known (Ok request) is (wanted, holds) = subst Answered (sym wanted) (lost_reply (inr (subst SpellsTaking (sym is) (inl holds))) same)
+      known (Ok request) is (wanted, holds) = subst Answered (sym wanted) (lost_reply (inr (subst SpellsTaking (sym is) (wants_to_parse request holds))) same)
       known (Err refused) is e = subst Answered (sym e) (refused_reply refused is same)

@@ -6,6 +6,8 @@ pub mod PictureFrames
 pub mod TextFrames
 pub mod FrameReplies
 pub mod Turns
+pub mod WrittenImages
+pub mod SampleReads
 pub mod Alone
 pub mod Progress
 pub mod OneSplit

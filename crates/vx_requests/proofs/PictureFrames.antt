@@ -44,7 +44,13 @@ picture_frame client op p samples are fills =
     ap (λ k. (reply_head k client op 0 ++ description_bytes d) ++ samples_in samples) long
     ∙ ap (λ l. (reply_head n client op 0 ++ description_bytes d) ++ l) same
 
--- the same, with the description and the head as they were made
+-- a picture is its description and its samples
+pub picture_is : (p : PictureValue) (d : Description) (samples : List ℤ) → d ≡ p.description → samples ≡ p.samples → record { description = d; samples = samples } ≡ p
+picture_is p d samples described are =
+    let of : Description → List ℤ → PictureValue = λ d samples. record { description = d; samples = samples } in
+    ap (λ e. of e samples) described ∙ ap (of p.description) are
+
+-- the frame of a picture, with the description and the head as they were made
 pub picture_parts : (client op : ℕ) (p : PictureValue) (samples : Samples) (d : Description) (head : List ℕ) → values samples ≡ p.samples → Describes p.description samples
     → d ≡ p.description → head ≡ reply_head (byte_count d + 9) client op 0 ++ description_bytes d
     → head ++ samples_in samples ≡ reply_bytes (spelled client op (record { code = 0; body = picture_bytes p }))

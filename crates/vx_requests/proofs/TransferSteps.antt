@@ -9,7 +9,7 @@ use borrow.Rule.Slice.PartMut.{put_mid, post_of}
 use lib.Seq.{take-add, take-append-le}
 
 -- the first from + n items, after a write of ys at from
-pub take-put_mid : (from n : ℕ) (xs ys : List ℕ) → from ≤ length xs → n ≤ length ys
+pub take-put_mid : {A : Type 0} (from n : ℕ) (xs ys : List A) → from ≤ length xs → n ≤ length ys
     → take (from + n) (put_mid from (length xs - from) xs ys) ≡ take from xs ++ take n ys
 take-put_mid from n xs ys within fits =
     let room = length xs - from in

@@ -1,8 +1,9 @@
 -- From what stands after a length to a frame.
-use Rattle.std.proofs.Common.{◌≡◌, ℕ, ◌+◌, ◌-◌, ◌<◌, ◌^◌, true, List, [], ◌∷◌, ◌++◌, Option, Ok, Err, inl, arith, length, refl, sym, subst}
+use Rattle.std.proofs.Common.{◌≡◌, ℕ, ◌+◌, ◌-◌, ◌<◌, ◌^◌, List, [], ◌∷◌, ◌++◌, Option, Ok, Err, inl, arith, length, refl, sym, ap, subst}
+use Rattle.std.specs.Prelude.{All}
 use Rattle.std.specs.Int.{w16, w32, to_be_bytes}
 use Rattle.std.proofs.lemmas.Nat.{from_be_bytes-to_be_bytes_4}
-use Rattle.std.specs.Io.KnownBytes.{Consumes}
+use Rattle.std.specs.Io.KnownBytes.{Consumes, Appends}
 use Rattle.std.proofs.KnownBytes.{Consumes-trans, Appends-nil}
 use Rattle.client_model.specs.Allowance.{Allowance}
 use Rattle.client_model.specs.Context.{State}
@@ -10,12 +11,15 @@ use Rattle.client_model.specs.declared.reply.Reply.TheVariants.{Refused}
 use Rattle.vx_base.specs.declared.code.Code.TheVariants.{NoMemory}
 use Rattle.vx_requests.specs.declared.stream.fault.StreamFault.{StreamFault}
 use Rattle.vx_requests.specs.declared.stream.fault.StreamFault.TheVariants.{Truncated, BadLength, ReadFailed, WriteFailed, ReaderWouldNotEnd}
-use Rattle.vx_requests.specs.declared.serving.answering.Answered.{Answered}
+use Rattle.vx_requests.specs.declared.serving.answered.Answered.{Answered}
+use Rattle.vx_requests.specs.declared.serving.answered.Content.{Content}
+use Rattle.vx_requests.specs.declared.serving.answered.Content.TheVariants.{Made}
 use Rattle.vx_requests.specs.Frame.Frames.{IsLength, IsBegun, said_length, frame_of, payload, reply_bytes}
 use Rattle.vx_requests.specs.Stream.Transfer.{AppendsFront}
 use Rattle.vx_requests.specs.Frame.Reading.{BreaksIn, BreaksOff, ReadsSome}
-use Rattle.vx_requests.specs.Serving.Turn.{AnswersPayload, ServesFrame, Turn, reply_frame}
-use Rattle.vx_requests.proofs.FrameReplies.{lost_states}
+use Rattle.vx_requests.specs.Serving.Turn.{IsReply, AnswersBody, AnswersPayload, ServesFrame, Turn, reply_frame}
+use Rattle.vx_requests.proofs.FrameReplies.{lost_reply}
+use Rattle.vx_requests.proofs.Pieces.{part_after}
 
 -- less than a payload after its length is less than a frame
 begun : (len : ℕ) (part : List ℕ) → IsLength len → length part < len → IsBegun (to_be_bytes w32 len ++ part)
@@ -31,22 +35,43 @@ breaks_off ReadFailed len part left ok fewer breaks = begun len part ok fewer
 breaks_off WriteFailed len part left ok fewer breaks = absurd breaks
 breaks_off ReaderWouldNotEnd len part left ok fewer breaks = begun len part ok fewer
 
--- a payload was read past and lost
-pub lost_payload : (limits : Allowance) (a b c : Option (List ℕ)) (states : ℕ → State) (client op len : ℕ) → client < 2 ^ 16 → op < 2 ^ 8 → IsLength len → 67 < len
-    → Consumes a b (to_be_bytes w16 client ++ op ∷ []) → ReadsSome b c (len - 3)
-    → AnswersPayload limits a c states states len (Ok (record { client = client; op = op; reply = Refused NoMemory }))
-lost_payload limits a b c states client op len fits fits' ok long front (body, read, size, bytes) = (
+-- a body was read past and lost
+pub lost_body : (limits : Allowance) (a b : Option (List ℕ)) (states : ℕ → State) (client op len : ℕ) → 64 < len → ReadsSome a b len
+    → AnswersBody limits a b states states client op len (Ok (Made (Refused NoMemory)))
+lost_body limits a b states client op len long (body, read, size, bytes) =
+    (body, read, size, bytes, lost_reply limits states states client op body (inl (omega arith)) (λ each. refl))
+
+-- a whole payload was read and answered
+pub whole_payload : (limits : Allowance) (a b : Option (List ℕ)) (old new : ℕ → State) (client op : ℕ) (body bytes : List ℕ) (content : Content) → client < 2 ^ 16 → op < 2 ^ 8
+    → All (λ x. x < 2 ^ 8) body → IsLength (length bytes) → bytes ≡ payload (frame_of client op body) → Consumes a b bytes
+    → IsReply limits (frame_of client op body) old new (reply_frame limits new (record { client = client; op = op; content = content }))
+    → AnswersPayload limits a b old new (length bytes) (Ok (record { client = client; op = op; content = content }))
+whole_payload limits a b old new client op body bytes content fits fits' each ok are read reply =
+    let long : length bytes ≡ length body + 3 = omega (arith, ap length are) in (
+      frame_of client op body,
+      record { client = fits; op = fits'; bytes = each; len = omega (arith, long, ok.1) },
+      sym long,
+      subst (Consumes a b) are read,
+      reply,
+    )
+
+-- after its client and op, the body of a frame was read and answered
+pub answered_payload : (limits : Allowance) (a b c : Option (List ℕ)) (old new : ℕ → State) (client op len : ℕ) (content : Content) → client < 2 ^ 16 → op < 2 ^ 8 → IsLength len
+    → Consumes a b (to_be_bytes w16 client ++ op ∷ []) → AnswersBody limits b c old new client op (len - 3) (Ok content)
+    → AnswersPayload limits a c old new len (Ok (record { client = client; op = op; content = content }))
+answered_payload limits a b c old new client op len content fits fits' ok front (body, read, size, bytes, reply) = (
   frame_of client op body,
   record { client = fits; op = fits'; bytes = bytes; len = omega arith },
   omega arith,
   Consumes-trans a b c _ body front read,
-  record {
-    lost = true;
-    may = λ e. inl (omega arith);
-    states = lost_states limits states client op body;
-    said = refl;
-  },
+  reply,
 )
+
+-- or less than that was read
+pub failed_payload : (limits : Allowance) (a b c : Option (List ℕ)) (old new : ℕ → State) (client op len : ℕ) (e : StreamFault) → IsLength len
+    → Consumes a b (to_be_bytes w16 client ++ op ∷ []) → AnswersBody limits b c old new client op (len - 3) (Err e) → AnswersPayload limits a c old new len (Err e)
+failed_payload limits a b c old new client op len e ok front (read, same) =
+    (part_after a b c (to_be_bytes w16 client ++ op ∷ []) (len - 3) len e front (omega arith) read, same)
 
 -- after a length, less than its payload was read
 pub failed_turn : (limits : Allowance) (a b c to : Option (List ℕ)) (old new : ℕ → State) (len : ℕ) → Consumes a b (to_be_bytes w32 len)
@@ -54,9 +79,16 @@ pub failed_turn : (limits : Allowance) (a b c to : Option (List ℕ)) (old new :
 failed_turn limits a b c to old new len front e ok ((part, read, fewer, breaks), same) =
     inl (to_be_bytes w32 len ++ part, Consumes-trans a b c _ part front read, breaks_off e len part c ok fewer breaks, same, Appends-nil to)
 
--- after a length, its payload was read and answered, and the reply was not written whole
+-- after a length, its payload was read and answered, and the reply was written
+pub served_turn : (limits : Allowance) (a b c to tn : Option (List ℕ)) (old new : ℕ → State) (len code : ℕ) → Consumes a b (to_be_bytes w32 len)
+    → (answered : Answered) → AnswersPayload limits b c old new len (Ok answered) → Appends to tn (reply_bytes (reply_frame limits new answered))
+    → code ≡ (reply_frame limits new answered).code → ServesFrame limits a c to tn old new (Ok code)
+served_turn limits a b c to tn old new len code front answered (f, is, long, read, reply) wrote told =
+    (f, reply_frame limits new answered, is, subst (λ n. Consumes a c (to_be_bytes w32 n ++ payload f)) (sym long) (Consumes-trans a b c _ (payload f) front read), reply, (wrote, told))
+
+-- or the reply was not written whole
 pub cut_turn : (limits : Allowance) (a b c to tn : Option (List ℕ)) (old new : ℕ → State) (len : ℕ) (e : StreamFault) → Consumes a b (to_be_bytes w32 len)
-    → (answered : Answered) → AnswersPayload limits b c old new len (Ok answered) → e ≡ WriteFailed → AppendsFront to tn (reply_bytes (reply_frame answered))
+    → (answered : Answered) → AnswersPayload limits b c old new len (Ok answered) → e ≡ WriteFailed → AppendsFront to tn (reply_bytes (reply_frame limits new answered))
     → ServesFrame limits a c to tn old new (Err e)
 cut_turn limits a b c to tn old new len e front answered (f, is, long, read, reply) failed wrote =
-    (f, reply_frame answered, is, subst (λ n. Consumes a c (to_be_bytes w32 n ++ payload f)) (sym long) (Consumes-trans a b c _ (payload f) front read), reply, (failed, wrote))
+    (f, reply_frame limits new answered, is, subst (λ n. Consumes a c (to_be_bytes w32 n ++ payload f)) (sym long) (Consumes-trans a b c _ (payload f) front read), reply, (failed, wrote))

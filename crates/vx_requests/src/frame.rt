@@ -1,5 +1,5 @@
 //! Frames: the parts of a request's as they are read, and whole ones of requests and replies as
-//! they are written.
+//! they are written; samples as they are read and written.
 
 mod limits;
 mod reader;
@@ -8,5 +8,6 @@ mod requests;
 mod samples;
 
 pub use reader::{Reader, number_of_two};
-pub use replies::{code_of, write_reply};
+pub use replies::{code_of, write_image, write_reply};
 pub use requests::write_request;
+pub use samples::read_samples;

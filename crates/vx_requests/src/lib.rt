@@ -4,7 +4,8 @@
 //!   calls failed, and where they can, which bytes they gave and took; `FromRead` and `FromWrite`
 //!   make them of std's readers and writers; `fill` and `write_all` move whole buffers.
 //! - `frame`: the length, the client, the op and the body of a request as they are read, and frames
-//!   of requests (`write_request`) and of replies (`write_reply`) as they are written.
+//!   of requests (`write_request`) and of replies (`write_reply`) as they are written; samples as
+//!   they are read and written.
 //! - `serving`: a stream of requests answered frame by frame (`serve`), and its `Summary`.
 //! - `laws::frames`, `laws::streams`: what the definitions of `specs/Serving` mean.
 //!

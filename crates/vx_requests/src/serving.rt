@@ -6,11 +6,14 @@ ghost use Rattle.vx_requests.specs.Frame.Reading.{CanRead, KeepsCount};
 ghost use Rattle.vx_requests.specs.Serving.Turn.{Turn};
 ghost use Rattle.vx_requests.specs.Serving.Session.{Session};
 
+mod answered;
 mod answering;
+mod images;
 mod summary;
 
-use crate::frame::{Reader, code_of, write_reply};
+use crate::frame::Reader;
 use crate::stream::{Sink, Source, StreamFault};
+use answered::write_answered;
 use answering::answer_payload;
 use client_contexts::Runtime;
 use std::alloc::Global;
@@ -23,7 +26,9 @@ const MOST_READS: u64 = 1_099_511_627_776;
 ///
 /// Each frame gets one reply, which is written and flushed before a byte after the frame is asked
 /// for. A frame whose body has at most 64 bytes takes no memory to be read; a longer one for which
-/// there is none is read past and answered NO_MEMORY, and changes nothing.
+/// there is none is read past and answered NO_MEMORY, and changes nothing. The samples of a longer
+/// WriteImage are read to where the image has them from then on, and those that ReadImage gives are
+/// written from where they stand: none is copied in between.
 ///
 /// Ok is the end of the stream at a frame's start, and `Truncated` its end elsewhere. `BadLength`
 /// comes where a frame says a length below 3 or above 2^27, as soon as its four bytes are read;
@@ -85,6 +90,5 @@ fn serve_one<S: Source, K: Sink>(
         return Ok(None);
     };
     let answered = answer_payload(alloc, reader, runtime, length)?;
-    write_reply(sink, answered.client, answered.op, &answered.reply)?;
-    Ok(Some(code_of(&answered.reply)))
+    Ok(Some(write_answered(sink, runtime, &answered)?))
 }

@@ -1,7 +1,10 @@
 -- What reading the parts of a frame does.
-use Rattle.std.specs.Prelude.{◌≡◌, ℕ, ◌+◌, ◌<◌, ◌^◌, List, [], length, All, Option, Some, None, Result, Ok, Err}
+use Rattle.std.specs.Prelude.{◌≡◌, ℕ, ℤ, ◌+◌, ◌*◌, ◌<◌, ◌^◌, List, [], length, All, Option, Some, None, Result, Ok, Err}
 use Rattle.std.specs.Int.{w32, to_be_bytes}
 use Rattle.std.specs.Io.KnownBytes.{Consumes, IsAtEnd}
+use Rattle.vx_base.specs.declared.format.Format.{Format}
+use Rattle.vx_base.specs.Sample.{sample_bytes}
+use Rattle.vx_wire.specs.Samples.{decoded}
 use Rattle.vx_requests.specs.declared.stream.fault.StreamFault.{StreamFault}
 use Rattle.vx_requests.specs.declared.stream.fault.StreamFault.TheVariants.{Truncated, BadLength, ReadFailed, WriteFailed, ReaderWouldNotEnd}
 use Rattle.vx_requests.specs.declared.frame.reader.Reader.{Reader}
@@ -32,6 +35,11 @@ ReadsPart old new len e = (part : List ℕ) × Consumes old new part × (length 
 -- len bytes were read
 abbrev pub ReadsSome : Option (List ℕ) → Option (List ℕ) → ℕ → Type 0
 ReadsSome old new len = (bytes : List ℕ) × Consumes old new bytes × (length bytes ≡ len) × All (λ b. b < 2 ^ 8) bytes
+
+-- bytes were read that encode these samples
+abbrev pub ReadsSamples : Option (List ℕ) → Option (List ℕ) → Format → List ℤ → Type 0
+ReadsSamples old new format samples = (bytes : List ℕ) × Consumes old new bytes × (length bytes ≡ length samples * sample_bytes format) × All (λ b. b < 2 ^ 8) bytes
+    × (samples ≡ decoded format (length samples) bytes)
 
 -- the length of the next frame was read, or the end was there
 abbrev pub ReadsLength : Option (List ℕ) → Option (List ℕ) → Result (Option ℕ) StreamFault → Type 0

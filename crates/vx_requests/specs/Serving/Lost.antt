@@ -1,14 +1,20 @@
 -- Which frames may be lost for want of memory.
 use Rattle.std.specs.Prelude.{◌<◌, length, Result, Ok, Err, ◌⊎◌}
 use Rattle.client_model.specs.declared.request.Request.{Request}
+use Rattle.client_model.specs.declared.request.Request.TheVariants.{ReadImage}
 use Rattle.vx_requests.specs.Frame.Frames.{Frame}
 use Rattle.vx_wire.specs.declared.body_fault.BodyFault.{BodyFault}
 use Rattle.client_model.specs.Request.{TakesMemory}
 use Rattle.vx_wire.specs.Requests.{request_of, HoldsSamples}
 
--- a request was spelled for which memory is taken, when its samples are parsed or when it is answered
+-- a request for which memory is taken, when its samples are parsed or when it is answered; what ReadImage gives is written from where it stands
+abbrev pub WantsMemory : Request → Type 0
+WantsMemory (ReadImage image) = ⊥
+WantsMemory request = HoldsSamples request ⊎ TakesMemory request
+
+-- such a request was spelled
 abbrev pub SpellsTaking : Result Request BodyFault → Type 0
-SpellsTaking (Ok request) = HoldsSamples request ⊎ TakesMemory request
+SpellsTaking (Ok request) = WantsMemory request
 SpellsTaking (Err fault) = ⊥
 
 -- one with a body of more than 64 bytes, or a request for which memory is taken

@@ -1,18 +1,22 @@
 -- One turn of serve: a frame is read and answered, and its reply is written.
-use Rattle.std.specs.Prelude.{◌≡◌, ℕ, ◌+◌, Bool, true, List, [], length, Option, Some, None, Result, Ok, Err, ◌⊎◌}
+use Rattle.std.specs.Prelude.{◌≡◌, ℕ, ◌+◌, ◌<◌, ◌^◌, Bool, true, List, [], length, All, Option, Some, None, Result, Ok, Err, ◌⊎◌}
 use Rattle.std.specs.Io.KnownBytes.{Consumes, Appends, IsAtEnd}
 use Rattle.client_model.specs.Allowance.{Allowance}
 use Rattle.client_model.specs.Context.{State}
+use Rattle.client_model.specs.Answer.{answer_to}
+use Rattle.client_model.specs.declared.request.Request.TheVariants.{ReadImage}
 use Rattle.vx_requests.specs.declared.stream.fault.StreamFault.{StreamFault}
 use Rattle.vx_requests.specs.declared.stream.fault.StreamFault.TheVariants.{WriteFailed}
-use Rattle.vx_requests.specs.declared.serving.answering.Answered.{Answered}
+use Rattle.vx_requests.specs.declared.serving.answered.Answered.{Answered}
+use Rattle.vx_requests.specs.declared.serving.answered.Content.{Content}
+use Rattle.vx_requests.specs.declared.serving.answered.Content.TheVariants.{Made, Samples}
 use Rattle.vx_requests.specs.Stream.Transfer.{AppendsFront}
-use Rattle.vx_requests.specs.Frame.Frames.{Frame, ReplyFrame, IsFrame, payload, frame_bytes, reply_bytes}
+use Rattle.vx_requests.specs.Frame.Frames.{Frame, ReplyFrame, IsFrame, frame_of, payload, frame_bytes, reply_bytes}
 use Rattle.vx_requests.specs.Serving.Answer.{answer}
 use Rattle.vx_requests.specs.Serving.Clients.{spelled, reply_in, state_then}
 use Rattle.vx_requests.specs.Serving.Lost.{MayBeLost}
 use Rattle.vx_requests.specs.Frame.Reading.{BreaksOff, ReadsPart}
-use Rattle.vx_wire.specs.Replies.{said_of}
+use Rattle.vx_wire.specs.Replies.{Said, said_of}
 
 -- the reply that a frame gets, kept or lost, and the states that it leaves
 pub record IsReply (limits : Allowance) (f : Frame) (old new : ℕ → State) (reply : ReplyFrame) : Type 0 where
@@ -24,13 +28,25 @@ pub record IsReply (limits : Allowance) (f : Frame) (old new : ℕ → State) (r
 abbrev pub SameStates : (old new : ℕ → State) → Type 0
 SameStates old new = (client : ℕ) → new client ≡ old client
 
-abbrev pub reply_frame : Answered → ReplyFrame
-reply_frame a = spelled a.client a.op (said_of a.reply)
+-- what a reply says, where its client is in this state
+abbrev pub said_in : Allowance → State → Content → Said
+said_in limits state (Made reply) = said_of reply
+said_in limits state (Samples image) = said_of (answer_to limits state (ReadImage image)).0
 
--- after a length: a whole payload of that length was read and answered, or less than that was read
+-- the reply frame, where the clients are in these states
+abbrev pub reply_frame : Allowance → (ℕ → State) → Answered → ReplyFrame
+reply_frame limits states a = spelled a.client a.op (said_in limits (states a.client) a.content)
+
 module _ (limits : Allowance) (left_old left_new : Option (List ℕ)) (old new : ℕ → State) where
+  -- after a frame's client and op: a body of that length was read and answered, or less than that was read
+  abbrev pub AnswersBody : (client op len : ℕ) → Result Content StreamFault → Type 0
+  AnswersBody client op len (Ok content) = (body : List ℕ) × Consumes left_old left_new body × (length body ≡ len) × All (λ b. b < 2 ^ 8) body
+      × IsReply limits (frame_of client op body) old new (reply_frame limits new (record { client = client; op = op; content = content }))
+  AnswersBody client op len (Err e) = ReadsPart left_old left_new len e × SameStates old new
+
+  -- after a length: a whole payload of that length was read and answered, or less than that was read
   abbrev pub AnswersPayload : ℕ → Result Answered StreamFault → Type 0
-  AnswersPayload len (Ok a) = (f : Frame) × IsFrame f × (length f.body + 3 ≡ len) × Consumes left_old left_new (payload f) × IsReply limits f old new (reply_frame a)
+  AnswersPayload len (Ok a) = (f : Frame) × IsFrame f × (length f.body + 3 ≡ len) × Consumes left_old left_new (payload f) × IsReply limits f old new (reply_frame limits new a)
   AnswersPayload len (Err e) = ReadsPart left_old left_new len e × SameStates old new
 
 -- the reply was written, or a front of it

@@ -2,7 +2,10 @@
 ghost use Rattle.std.specs.Prelude.{◌≡◌, ◌+◌, ◌*◌, ◌<◌, ◌^◌, ◌++◌, IfErr};
 ghost use Rattle.std.specs.Int.{w16, w32, to_be_bytes};
 ghost use Rattle.std.specs.Io.KnownBytes.{Keeps};
+ghost use Rattle.client_model.specs.declared.reply.Reply.TheVariants.{Picture as PictureReply};
 ghost use Rattle.vx_base.specs.Description.{byte_count};
+ghost use Rattle.vx_base.specs.Image.{IsImage};
+ghost use Rattle.vx_base.specs.Picture.{PictureValue, values, Describes, picture_of};
 ghost use Rattle.vx_requests.specs.Stream.Calls.{failed_calls};
 ghost use Rattle.vx_requests.specs.Stream.Transfer.{Sends};
 ghost use Rattle.vx_requests.specs.Frame.Frames.{reply_bytes, reply_head};
@@ -17,7 +20,8 @@ ghost use Rattle.vx_wire.specs.Replies.{said_of};
 use crate::frame::samples::{write_samples, write_wide};
 use crate::stream::{Failed, Sink, StreamFault, write_all};
 use client_model::{Counts, Described, Reply, Text};
-use vx_base::{Desc, Extremes, Picture};
+use object_table::Stored;
+use vx_base::{Desc, Extremes, Samples};
 use vx_wire::{described_bytes, description_bytes, extremes_bytes};
 
 /// Writes the frame of a reply and flushes the sink.
@@ -43,7 +47,9 @@ pub fn write_reply<K: Sink>(
         Reply::Described(described) => {
             write_small(sink, &head_and_described(client, op, *described))
         }
-        Reply::Picture(picture) => write_picture(sink, client, op, picture),
+        Reply::Picture(picture) => {
+            write_picture(sink, client, op, picture.desc(), picture.samples())
+        }
         Reply::Text(text) => write_text(sink, client, op, text),
         Reply::Counts(counts) => write_counts(sink, client, op, counts),
         Reply::Extremes(extremes) => write_small(sink, &head_and_extremes(client, op, *extremes)),
@@ -60,20 +66,38 @@ pub fn code_of(reply: &Reply) -> u8
     }
 }
 
+/// Writes the frame of the reply that is the picture of an image, and flushes the sink, as
+/// `write_reply` does. The samples are written from where they stand: no memory is taken.
+pub fn write_image<K: Sink>(
+    sink: &mut K,
+    client: u16,
+    op: u8,
+    image: &Stored,
+) -> Result<(), StreamFault>
+    requires failures_fit { K.failures sink.old < 2 ^ 62 }
+    requires image { IsImage image.now }
+    ensures { Sends K.taken K.failures sink.old sink.new
+        (reply_bytes (spelled client op (said_of (PictureReply (picture_of image.now))))) result }
+{
+    write_picture(sink, client, op, image.desc(), image.samples())
+}
+
 /// Writes a picture's frame and flushes the sink.
 fn write_picture<K: Sink>(
     sink: &mut K,
     client: u16,
     op: u8,
-    picture: &Picture,
+    desc: Desc,
+    samples: &Samples,
 ) -> Result<(), StreamFault>
-    requires { K.failures sink.old < 2 ^ 62 }
-    ensures { Sends K.taken K.failures sink.old sink.new
-        (reply_bytes (spelled client op
-        (record { code = 0; body = picture_bytes picture.now }))) result }
+    requires failures_fit { K.failures sink.old < 2 ^ 62 }
+    requires described { Describes desc samples.now }
+    ensures { let picture : PictureValue =
+        record { description = desc; samples = values samples.now } in
+        Sends K.taken K.failures sink.old sink.new
+        (reply_bytes (spelled client op (record { code = 0; body = picture_bytes picture }))) result }
 {
-    let samples = picture.samples();
-    write_all(sink, &head_and_description(client, op, picture.desc()))?;
+    write_all(sink, &head_and_description(client, op, desc))?;
     write_samples(sink, samples)?;
     flush(sink)
 }

@@ -1,14 +1,19 @@
 //! The samples of pictures, the entries of tables, coefficients and counts as bytes.
-ghost use Rattle.std.specs.Prelude.{◌*◌, ◌<◌, ◌≤◌, ◌^◌, length};
+ghost use Rattle.std.specs.Prelude.{◌≡◌, ◌*◌, ◌<◌, ◌≤◌, ◌^◌, length, map, take, IfOk, IfErr, OnOk};
 ghost use Rattle.std.specs.List.{flat_map};
 ghost use Rattle.vx_base.specs.Sample.{sample_bytes};
 ghost use Rattle.vx_base.specs.Picture.{values, samples_format};
 ghost use Rattle.vx_requests.specs.Stream.Transfer.{WritesAll};
+ghost use Rattle.vx_requests.specs.Frame.Reading.{CanRead, KeepsCount, ReadsPart, ReadsSamples};
 ghost use Rattle.vx_wire.specs.Samples.{encoded_sample};
 
-use crate::stream::{Sink, StreamFault, write_all};
+use crate::frame::reader::Reader;
+use crate::stream::{Sink, Source, StreamFault, write_all};
 use vx_base::Samples;
-use vx_wire::{WideSample, encode};
+use vx_wire::{WideSample, decode_wide, encode};
+
+/// The most bytes of samples that are read at a time, where samples take several.
+const PIECE: usize = 16_384;
 
 /// Writes samples of any format, in their order.
 pub fn write_samples<K: Sink>(sink: &mut K, samples: &Samples) -> Result<(), StreamFault>
@@ -53,4 +58,76 @@ fn write_block<S: WideSample, K: Sink>(
     let bytes = &mut block[..S::size() * samples.len()];
     encode(samples, bytes);
     write_all(sink, bytes)
+}
+
+/// Reads samples of any format over those that are there, within a frame.
+pub fn read_samples<S: Source>(
+    reader: &mut Reader<S>,
+    samples: &mut Samples,
+) -> Result<(), StreamFault>
+    requires { CanRead S.reads S.failures reader.old }
+    ensures ok { OnOk result (ReadsSamples
+        (S.left reader.old.source.now) (S.left reader.new.source.now)
+        (samples_format samples.old) (values samples.new)) }
+    ensures err { IfErr result (ReadsPart
+        (S.left reader.old.source.now) (S.left reader.new.source.now)
+        (length (values samples.old) * sample_bytes (samples_format samples.old))) }
+    ensures format { samples_format samples.new ≡ samples_format samples.old }
+    ensures size { length (values samples.new) ≡ length (values samples.old) }
+    ensures counted { KeepsCount S.reads S.failures reader.old reader.new result }
+{
+    match samples {
+        Samples::U8(bytes) => reader.read_exactly(bytes.as_mut_slice()),
+        Samples::S16(shorts) => read_wide(reader, shorts.as_mut_slice()),
+        Samples::U32(words) => read_wide(reader, words.as_mut_slice()),
+    }
+}
+
+/// Reads samples that take several bytes each over those that are there, piece by piece.
+fn read_wide<S: WideSample, R: Source>(
+    reader: &mut Reader<R>,
+    samples: &mut [S],
+) -> Result<(), StreamFault>
+    requires { CanRead R.reads R.failures reader.old }
+    ensures ok { OnOk result (ReadsSamples
+        (R.left reader.old.source.now) (R.left reader.new.source.now)
+        S.format (map S.value samples.new)) }
+    ensures err { IfErr result (ReadsPart
+        (R.left reader.old.source.now) (R.left reader.new.source.now)
+        (length samples.old * sample_bytes S.format)) }
+    ensures counted { KeepsCount R.reads R.failures reader.old reader.new result }
+{
+    let mut piece = [0u8; PIECE];
+    let mut done = 0;
+    while done < samples.len() {
+        done += read_piece(reader, &mut piece, &mut samples[done..])?;
+    }
+    Ok(())
+}
+
+/// Reads samples over the first of those that are there, as many as have room in the piece, and
+/// returns how many.
+fn read_piece<S: WideSample, R: Source>(
+    reader: &mut Reader<R>,
+    piece: &mut [u8],
+    samples: &mut [S],
+) -> Result<usize, StreamFault>
+    requires can_read { CanRead R.reads R.failures reader.old }
+    requires room { sample_bytes S.format ≤ length piece.old }
+    ensures ok { IfOk result (λ count. ReadsSamples
+        (R.left reader.old.source.now) (R.left reader.new.source.now)
+        S.format (map S.value (take count samples.new))) }
+    ensures within { IfOk result (λ count. count ≤ length samples.new) }
+    ensures some { IfOk result (λ count. 0 < length samples.new → 0 < count) }
+    ensures err { IfErr result (ReadsPart
+        (R.left reader.old.source.now) (R.left reader.new.source.now)
+        (length samples.old * sample_bytes S.format)) }
+    ensures counted { KeepsCount R.reads R.failures reader.old reader.new result }
+{
+    let size = S::size();
+    let count = samples.len().min(piece.len() / size);
+    let bytes = &mut piece[..count * size];
+    reader.read_exactly(bytes)?;
+    decode_wide(bytes, &mut samples[..count]);
+    Ok(count)
 }

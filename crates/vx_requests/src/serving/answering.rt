@@ -1,32 +1,27 @@
 //! A frame, once its length is known: its payload is read, and answered by the runtime.
-ghost use Rattle.std.specs.Prelude.{◌≡◌, ℕ, ◌<◌, ◌≤◌, ◌^◌, All, IfOk, length};
+ghost use Rattle.std.specs.Prelude.{◌≡◌, ℕ, ◌<◌, ◌≤◌, ◌^◌, List, length, All, Ok, IfOk};
 ghost use Rattle.client_model.specs.Allowance.{Allowance};
 ghost use Rattle.client_model.specs.Context.{State};
 ghost use Rattle.vx_requests.specs.Frame.Frames.{IsLength, frame_of, payload};
-ghost use Rattle.vx_requests.specs.Serving.Clients.{states_of, spelled};
+ghost use Rattle.vx_requests.specs.Serving.Clients.{states_of};
 ghost use Rattle.vx_requests.specs.Frame.Reading.{CanRead, KeepsCount};
-ghost use Rattle.vx_requests.specs.Serving.Turn.{IsReply, AnswersPayload};
-ghost use Rattle.vx_wire.specs.Replies.{said_of};
+ghost use Rattle.vx_requests.specs.Serving.Turn.{IsReply, reply_frame, AnswersBody};
+ghost use Rattle.vx_requests.specs.Serving.Turn.{AnswersPayload};
+ghost use Rattle.vx_wire.specs.Requests.{request_of};
 
 use crate::frame::{Reader, number_of_two};
+use crate::serving::answered::{Answered, Content};
+use crate::serving::images::answer_write_image;
 use crate::stream::{Source, StreamFault};
 use client_contexts::{NoMemory, Runtime};
-use client_model::Reply;
+use client_model::{Reply, Request};
 use std::alloc::{AllocError, Global};
 use vx_base::Code;
-use vx_wire::parse;
+use vx_wire::{Op, parse};
 
 /// The bytes after the length of a frame whose body has 64 bytes. A frame of at most so many is
 /// read into a fixed buffer.
 const SMALL: usize = 67;
-
-/// A reply, with the client and the op of the frame that it answers.
-#[derive(Drop)]
-pub struct Answered {
-    pub client: u16,
-    pub op: u8,
-    pub reply: Reply,
-}
 
 /// A frame that was read whole.
 #[derive(Clone, Copy)]
@@ -36,8 +31,7 @@ struct RequestFrame<'a> {
     body: &'a [u8],
 }
 
-/// Reads so many bytes after a length, into a fixed buffer, into memory, or past them, and answers
-/// their frame.
+/// Reads so many bytes after a length and answers their frame.
 pub fn answer_payload<S: Source>(
     alloc: Global,
     reader: &mut Reader<S>,
@@ -55,11 +49,67 @@ pub fn answer_payload<S: Source>(
     let count = length as usize;
     if count <= SMALL {
         let mut small = [0u8; SMALL];
-        return answer_whole(alloc, reader, runtime, &mut small[..count]);
+        return answer_small(alloc, reader, runtime, &mut small[..count]);
     }
-    match room_for(alloc, runtime, count) {
-        Ok(mut large) => answer_whole(alloc, reader, runtime, large.as_mut_slice()),
-        Err(AllocError) => lose_payload(reader, count),
+    let (client, op) = reader.read_front()?;
+    let content = answer_large(alloc, reader, runtime, client, op, count - 3)?;
+    Ok(Answered {
+        client,
+        op,
+        content,
+    })
+}
+
+/// Reads what stands after a length into the buffer, which it fills, and answers the frame.
+fn answer_small<S: Source>(
+    alloc: Global,
+    reader: &mut Reader<S>,
+    runtime: &mut Runtime,
+    buffer: &mut [u8],
+) -> Result<Answered, StreamFault>
+    requires length_ok { IsLength (length buffer.old) }
+    requires can_read { CanRead S.reads S.failures reader.old }
+    ensures answered { AnswersPayload runtime.old.limits
+        (S.left reader.old.source.now) (S.left reader.new.source.now)
+        (states_of runtime.old) (states_of runtime.new) (length buffer.new) result }
+    ensures limits { runtime.new.limits ≡ runtime.old.limits }
+    ensures counted { KeepsCount S.reads S.failures reader.old reader.new result }
+{
+    reader.read_exactly(buffer)?;
+    let frame = frame_in(buffer);
+    let (client, op) = (frame.client, frame.op);
+    let content = answer_frame(alloc, runtime, &frame);
+    Ok(Answered {
+        client,
+        op,
+        content,
+    })
+}
+
+/// Answers a frame with a body of so many bytes, which are all still to be read: into memory, or
+/// past them where there is none. The samples of an image that is written go to where they stay.
+fn answer_large<S: Source>(
+    alloc: Global,
+    reader: &mut Reader<S>,
+    runtime: &mut Runtime,
+    client: u16,
+    op: u8,
+    count: usize,
+) -> Result<Content, StreamFault>
+    requires long { 64 < count }
+    requires can_read { CanRead S.reads S.failures reader.old }
+    ensures answered { AnswersBody runtime.old.limits
+        (S.left reader.old.source.now) (S.left reader.new.source.now)
+        (states_of runtime.old) (states_of runtime.new) client op count result }
+    ensures limits { runtime.new.limits ≡ runtime.old.limits }
+    ensures counted { KeepsCount S.reads S.failures reader.old reader.new result }
+{
+    match Op::from_number(op) {
+        Some(Op::WriteImage) => answer_write_image(reader, runtime, client, op, count),
+        _ => match room_for(alloc, runtime, count) {
+            Ok(mut body) => answer_in(alloc, reader, runtime, client, op, body.as_mut_slice()),
+            Err(AllocError) => lose_body(reader, client, op, count),
+        },
     }
 }
 
@@ -83,45 +133,42 @@ fn zeros(alloc: Global, count: usize) -> Result<Vec<u8>, AllocError>
     vec![in alloc; 0u8; count]
 }
 
-/// Reads what stands after a length into the buffer, which it fills, and answers the frame.
-fn answer_whole<S: Source>(
+/// Reads a frame's body into the buffer, which it fills, and answers the frame.
+fn answer_in<S: Source>(
     alloc: Global,
     reader: &mut Reader<S>,
     runtime: &mut Runtime,
-    buffer: &mut [u8],
-) -> Result<Answered, StreamFault>
-    requires length_ok { IsLength (length buffer.old) }
-    requires can_read { CanRead S.reads S.failures reader.old }
-    ensures answered { AnswersPayload runtime.old.limits
+    client: u16,
+    op: u8,
+    body: &mut [u8],
+) -> Result<Content, StreamFault>
+    requires { CanRead S.reads S.failures reader.old }
+    ensures answered { AnswersBody runtime.old.limits
         (S.left reader.old.source.now) (S.left reader.new.source.now)
-        (states_of runtime.old) (states_of runtime.new) (length buffer.new) result }
+        (states_of runtime.old) (states_of runtime.new) client op (length body.new) result }
     ensures limits { runtime.new.limits ≡ runtime.old.limits }
     ensures counted { KeepsCount S.reads S.failures reader.old reader.new result }
 {
-    reader.read_exactly(buffer)?;
-    let frame = frame_in(buffer);
-    let (client, op) = (frame.client, frame.op);
-    let reply = reply_for(alloc, runtime, &frame);
-    if let Reply::Refused(Code::NoMemory) = reply {
-        // Who asks again finds what was kept in blocks that no image has.
-        runtime.drop_free();
-    }
-    Ok(Answered { client, op, reply })
+    reader.read_exactly(body)?;
+    Ok(answer_frame(alloc, runtime, &RequestFrame { client, op, body }))
 }
 
-/// Reads past a frame for which there is no memory. No client's state matters, and none changes.
-fn lose_payload<S: Source>(reader: &mut Reader<S>, count: usize) -> Result<Answered, StreamFault>
-    requires length_ok { IsLength count }
-    requires long { 67 < count }
+/// Reads past a body for which there is no memory. No client's state matters, and none changes.
+fn lose_body<S: Source>(
+    reader: &mut Reader<S>,
+    client: u16,
+    op: u8,
+    count: usize,
+) -> Result<Content, StreamFault>
+    requires long { 64 < count }
     requires can_read { CanRead S.reads S.failures reader.old }
-    ensures answered { (limits : Allowance) (states : ℕ → State) → AnswersPayload limits
-        (S.left reader.old.source.now) (S.left reader.new.source.now) states states count result }
+    ensures answered { (limits : Allowance) (states : ℕ → State) → AnswersBody limits
+        (S.left reader.old.source.now) (S.left reader.new.source.now)
+        states states client op count result }
     ensures counted { KeepsCount S.reads S.failures reader.old reader.new result }
 {
-    let (client, op) = reader.read_front()?;
-    reader.skip(count - 3)?;
-    let reply = Reply::Refused(Code::NoMemory);
-    Ok(Answered { client, op, reply })
+    reader.skip(count)?;
+    Ok(Content::Made(Reply::Refused(Code::NoMemory)))
 }
 
 /// The frame that the bytes after its length spell.
@@ -137,18 +184,50 @@ fn frame_in(bytes: &[u8]) -> RequestFrame<'_>
     }
 }
 
-/// What the frame is answered: why its body is no request, the runtime's reply, or NO_MEMORY.
-fn reply_for(alloc: Global, runtime: &mut Runtime, frame: &RequestFrame) -> Reply
+/// What the frame is answered.
+fn answer_frame(alloc: Global, runtime: &mut Runtime, frame: &RequestFrame) -> Content
     ensures replies { let f = frame_of frame.now.client frame.now.op frame.now.body.now in
         IsReply runtime.old.limits f (states_of runtime.old) (states_of runtime.new)
-        (spelled f.client f.op (said_of result)) }
+        (reply_frame runtime.old.limits (states_of runtime.new)
+        (record { client = f.client; op = f.op; content = result })) }
+    ensures limits { runtime.new.limits ≡ runtime.old.limits }
+{
+    let content = content_for(alloc, runtime, frame);
+    if let Content::Made(Reply::Refused(Code::NoMemory)) = content {
+        // Who asks again finds what was kept in blocks that no image has.
+        runtime.drop_free();
+    }
+    content
+}
+
+/// Why the frame's body is no request, or what its request is answered.
+fn content_for(alloc: Global, runtime: &mut Runtime, frame: &RequestFrame) -> Content
+    ensures replies { let f = frame_of frame.now.client frame.now.op frame.now.body.now in
+        IsReply runtime.old.limits f (states_of runtime.old) (states_of runtime.new)
+        (reply_frame runtime.old.limits (states_of runtime.new)
+        (record { client = f.client; op = f.op; content = result })) }
     ensures limits { runtime.new.limits ≡ runtime.old.limits }
 {
     match parse(alloc, frame.op, frame.body) {
-        Err(fault) => Reply::Refused(fault.code()),
-        Ok(request) => match runtime.apply(alloc, frame.client, &request) {
-            Ok(reply) => reply,
-            Err(NoMemory) => Reply::Refused(Code::NoMemory),
+        Ok(request) => answer_request(alloc, runtime, frame.client, &request),
+        Err(fault) => Content::Made(Reply::Refused(fault.code())),
+    }
+}
+
+/// The runtime's reply, or NO_MEMORY. Where an image is read it is named, and nothing is copied.
+fn answer_request(alloc: Global, runtime: &mut Runtime, client: u16, request: &Request) -> Content
+    ensures replies { (op : ℕ) (body : List ℕ) → request_of op body ≡ Ok request.now →
+        IsReply runtime.old.limits (frame_of client op body)
+        (states_of runtime.old) (states_of runtime.new)
+        (reply_frame runtime.old.limits (states_of runtime.new)
+        (record { client = client; op = op; content = result })) }
+    ensures limits { runtime.new.limits ≡ runtime.old.limits }
+{
+    match request {
+        Request::ReadImage(image) => Content::Samples(*image),
+        _ => match runtime.apply(alloc, client, request) {
+            Ok(reply) => Content::Made(reply),
+            Err(NoMemory) => Content::Made(Reply::Refused(Code::NoMemory)),
         },
     }
 }

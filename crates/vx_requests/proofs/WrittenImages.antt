@@ -1,0 +1,93 @@
+-- What a WriteImage frame is answered, once the head of its body was read.
+use Rattle.std.proofs.Common.{◌≡◌, ◌≢◌, ℕ, ℤ, ◌*◌, ◌-◌, ◌<◌, ◌^◌, List, ◌++◌, Option, Some, Result, Ok, Err, inl, arith, length, sym, ap, subst, ◌∙◌, length-append}
+use Rattle.std.specs.Prelude.{All, OnOk, IfOk, IfErr}
+use Rattle.std.specs.Io.KnownBytes.{Consumes}
+use Rattle.std.proofs.KnownBytes.{Consumes-trans}
+use Rattle.std.proofs.lemmas.List.Elements.{All-append}
+use Rattle.vx_base.specs.Cell.{Cell}
+use Rattle.vx_base.specs.Description.{Description, sample_count, byte_count}
+use Rattle.vx_base.specs.Picture.{PictureValue}
+use Rattle.vx_base.specs.Sample.{sample_bytes}
+use Rattle.vx_base.specs.declared.code.Code.TheVariants.{NoMemory}
+use Rattle.client_model.specs.declared.request.Request.{Request}
+use Rattle.client_model.specs.declared.request.Request.TheVariants.{WriteImage}
+use Rattle.client_model.specs.declared.reply.Reply.{Reply}
+use Rattle.client_model.specs.declared.reply.Reply.TheVariants.{Refused}
+use Rattle.client_model.specs.Allowance.{Allowance}
+use Rattle.client_model.specs.Context.{State}
+use Rattle.client_model.specs.Answer.{answer_to}
+use Rattle.vx_wire.specs.declared.body_fault.BodyFault.{BodyFault}
+use Rattle.vx_wire.specs.declared.op.Op.{Op}
+use Rattle.vx_wire.specs.declared.op.Op.TheVariants as ops
+use Rattle.vx_wire.specs.Op.{op_numbered}
+use Rattle.vx_wire.specs.Faults.{parse_fault, fault_code}
+use Rattle.vx_wire.specs.Images.{write_image_in, write_image_of}
+use Rattle.vx_wire.specs.Replies.{said_of}
+use Rattle.vx_wire.specs.Requests.{request_of, request_with_known}
+use Rattle.vx_wire.specs.Samples.{decoded}
+use Rattle.vx_requests.specs.declared.stream.fault.StreamFault.{StreamFault}
+use Rattle.vx_requests.specs.declared.serving.answered.Content.{Content}
+use Rattle.vx_requests.specs.declared.serving.answered.Content.TheVariants.{Made}
+use Rattle.vx_requests.specs.Frame.Frames.{frame_of}
+use Rattle.vx_requests.specs.Frame.Reading.{ReadsPart, ReadsSome, ReadsSamples}
+use Rattle.vx_requests.specs.Serving.Clients.{spelled}
+use Rattle.vx_requests.specs.Serving.Turn.{IsReply, reply_frame, AnswersBody}
+use Rattle.vx_requests.proofs.Pieces.{part_after}
+use Rattle.vx_requests.proofs.FrameReplies.{lost_reply, refused_reply, kept_reply}
+
+-- what a body of the op spells is what the definition of WriteImage says
+spelled_by : (op : ℕ) (body : List ℕ) (spelled : Result Request BodyFault) → op_numbered op ≡ Some ops.WriteImage → write_image_in body ≡ spelled → request_of op body ≡ spelled
+spelled_by op body spelled is e = ap (λ (o : Option Op). request_with_known o body) is ∙ e
+
+module _ (limits : Allowance) (old new : ℕ → State) (client op len : ℕ) (head : List ℕ) where
+  -- a body for whose samples there is no memory is lost
+  pub lost_rest : 64 < len → length head ≡ 10 → ((each : ℕ) → new each ≡ old each) → (rest : List ℕ) → length rest ≡ len - 10
+      → IsReply limits (frame_of client op (head ++ rest)) old new (spelled client op (said_of (Refused NoMemory)))
+  lost_rest long ten same rest size = lost_reply limits old new client op (head ++ rest) (inl (omega (arith, length-append head rest))) same
+
+  -- one with a fault is refused
+  pub refused_rest : (fault : BodyFault) → op_numbered op ≡ Some ops.WriteImage → ((rest : List ℕ) → length rest ≡ len - 10 → write_image_in (head ++ rest) ≡ Err fault)
+      → ((each : ℕ) → new each ≡ old each) → (rest : List ℕ) → length rest ≡ len - 10
+      → IsReply limits (frame_of client op (head ++ rest)) old new (spelled client op (said_of (Refused (fault_code (parse_fault fault)))))
+  refused_rest fault is none same rest size =
+      refused_reply limits old new client op (head ++ rest) fault (spelled_by op (head ++ rest) (Err fault) is (none rest size)) same
+
+module _ (limits : Allowance) (a b c : Option (List ℕ)) (old new : ℕ → State) (client op len : ℕ) (head : List ℕ) where
+  -- the rest was read past, or less than that
+  pub past_rest : (result : Result Content StreamFault) (reply : Reply) → 64 < len → length head ≡ 10 → All (λ x. x < 2 ^ 8) head → Consumes a b head
+      → OnOk result (ReadsSome b c (len - 10)) → IfOk result (λ content. content ≡ Made reply) → IfErr result (ReadsPart b c (len - 10)) → ((each : ℕ) → new each ≡ old each)
+      → ((rest : List ℕ) → length rest ≡ len - 10 → IsReply limits (frame_of client op (head ++ rest)) old new (spelled client op (said_of reply)))
+      → AnswersBody limits a c old new client op len result
+  past_rest (Ok content) reply long ten bytes front (rest, read, size, others) made part same replies = (
+    head ++ rest,
+    Consumes-trans a b c head rest front read,
+    omega (arith, length-append head rest),
+    All-append (λ x. x < 2 ^ 8) head rest bytes others,
+    subst (λ (told : Content). IsReply limits (frame_of client op (head ++ rest)) old new (reply_frame limits new (record { client = client; op = op; content = told }))) (sym made) (replies rest size),
+  )
+  past_rest (Err e) reply long ten bytes front read made part same replies = (part_after a b c head (len - 10) len e front (omega arith) part, same)
+
+  -- less than the samples was read
+  pub cut_samples : (d : Description) (e : StreamFault) → 64 < len → length head ≡ 10 → Consumes a b head → len - 10 ≡ byte_count d → ReadsPart b c (byte_count d) e
+      → ((each : ℕ) → new each ≡ old each) → AnswersBody limits a c old new client op len (Err e)
+  cut_samples d e long ten front whole part same = (part_after a b c head (byte_count d) len e front (omega (arith, whole)) part, same)
+
+  -- the samples were read, and the runtime wrote the picture
+  pub wrote_picture : (image : Cell) (d : Description) (p : PictureValue) (reply : Reply) → op_numbered op ≡ Some ops.WriteImage → 64 < len → length head ≡ 10 → All (λ x. x < 2 ^ 8) head
+      → Consumes a b head → p.description ≡ d → ReadsSamples b c d.format p.samples → length p.samples ≡ sample_count d → len - 10 ≡ byte_count d
+      → ((rest : List ℕ) → length rest ≡ len - 10 → write_image_in (head ++ rest) ≡ Ok (write_image_of image d rest))
+      → reply ≡ (answer_to limits (old client) (WriteImage image p)).0 → new client ≡ (answer_to limits (old client) (WriteImage image p)).1
+      → ((other : ℕ) → other ≢ client → new other ≡ old other)
+      → AnswersBody limits a c old new client op len (Ok (Made reply))
+  wrote_picture image d p reply is long ten bytes front described (rest, read, size, others, are) count whole spells replied own same =
+      let fills : length rest ≡ len - 10 = size ∙ ap (λ n. n * sample_bytes d.format) count ∙ sym whole in
+      let known : decoded d.format (sample_count d) rest ≡ p.samples = sym (are ∙ ap (λ n. decoded d.format n rest) count) in
+      let written : List ℤ → Description → Result Request BodyFault = λ zs e. Ok (WriteImage image (record { description = e; samples = zs })) in
+      let made : write_image_in (head ++ rest) ≡ Ok (WriteImage image p) =
+      spells rest fills ∙ ap (λ zs. written zs d) known ∙ ap (written p.samples) (sym described) in (
+        head ++ rest,
+        Consumes-trans a b c head rest front read,
+        omega (arith, length-append head rest),
+        All-append (λ x. x < 2 ^ 8) head rest bytes others,
+        kept_reply limits old new client op (head ++ rest) (WriteImage image p) reply (spelled_by op (head ++ rest) (Ok (WriteImage image p)) is made) replied own same,
+      )

@@ -1,0 +1,69 @@
+//! What a frame is answered, and the frame of the reply.
+ghost use Rattle.std.specs.Prelude.{◌≡◌, ◌<◌, ◌^◌, IfOk};
+ghost use Rattle.vx_requests.specs.Stream.Transfer.{Sends};
+ghost use Rattle.vx_requests.specs.Frame.Frames.{reply_bytes};
+ghost use Rattle.vx_requests.specs.Serving.Clients.{states_of, spelled};
+ghost use Rattle.vx_requests.specs.Serving.Turn.{reply_frame};
+ghost use Rattle.vx_wire.specs.Replies.{said_of};
+
+use crate::frame::{code_of, write_image, write_reply};
+use crate::stream::{Sink, StreamFault};
+use client_contexts::Runtime;
+use client_model::Reply;
+use vx_base::ObjRef;
+
+/// What a reply tells.
+#[derive(Drop)]
+pub enum Content {
+    /// What was made for it.
+    Made(Reply),
+    /// What ReadImage of this image is answered. Nothing is made for it: the samples are written
+    /// from where they stand.
+    Samples(ObjRef),
+}
+
+/// What a reply tells, with the client and the op of the frame that it answers.
+#[derive(Drop)]
+pub struct Answered {
+    pub client: u16,
+    pub op: u8,
+    pub content: Content,
+}
+
+/// Writes the frame of a reply, flushes the sink and returns the reply's code. The runtime is as
+/// the request has left it.
+pub fn write_answered<K: Sink>(
+    sink: &mut K,
+    runtime: &Runtime,
+    answered: &Answered,
+) -> Result<u8, StreamFault>
+    requires { K.failures sink.old < 2 ^ 62 }
+    ensures sent { Sends K.taken K.failures sink.old sink.new
+        (reply_bytes (reply_frame runtime.now.limits (states_of runtime.now) answered.now))
+        result }
+    ensures code { IfOk result (λ code.
+        code ≡ (reply_frame runtime.now.limits (states_of runtime.now) answered.now).code) }
+{
+    let (client, op) = (answered.client, answered.op);
+    match &answered.content {
+        Content::Made(reply) => write_made(sink, client, op, reply),
+        Content::Samples(image) => match runtime.image(client, *image) {
+            Ok(image) => {
+                write_image(sink, client, op, image)?;
+                Ok(0)
+            }
+            Err(code) => write_made(sink, client, op, &Reply::Refused(code)),
+        },
+    }
+}
+
+/// Writes the frame of a reply that was made, and returns its code.
+fn write_made<K: Sink>(sink: &mut K, client: u16, op: u8, reply: &Reply) -> Result<u8, StreamFault>
+    requires { K.failures sink.old < 2 ^ 62 }
+    ensures sent { Sends K.taken K.failures sink.old sink.new
+        (reply_bytes (spelled client op (said_of reply.now))) result }
+    ensures code { IfOk result (λ code. code ≡ (said_of reply.now).code) }
+{
+    write_reply(sink, client, op, reply)?;
+    Ok(code_of(reply))
+}
