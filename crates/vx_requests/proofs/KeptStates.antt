@@ -6,11 +6,9 @@ use Rattle.vx_base.specs.Cell.{Cell}
 use Rattle.vx_base.specs.Image.{IsImage}
 use Rattle.client_model.specs.declared.request.Request.{Request}
 use Rattle.client_model.specs.Allowance.{Allowance}
-use Rattle.object_table.specs.Context.{Context}
 use Rattle.client_model.specs.Context.{State}
 use Rattle.client_model.specs.Operands.{image_of}
 use Rattle.client_model.specs.Request.{IsRequest}
-use Rattle.client_model.specs.States.{KeepsLimits}
 use Rattle.client_model.proofs.ImageStepLaws.{image_of_is}
 use Rattle.object_table.proofs.HeldLemmas.{All-from_map}
 use Rattle.client_model.proofs.OutcomeLaws.{StateKeeps}

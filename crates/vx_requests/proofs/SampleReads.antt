@@ -1,12 +1,12 @@
 -- Samples that are read piece by piece.
-use Rattle.std.proofs.Common.{◌≡◌, ℕ, ℤ, pos, zero, suc, ◌+◌, ◌*◌, ◌-◌, ◌/◌, ◌<◌, ◌≤◌, ◌^◌, List, [], ◌∷◌, ◌++◌, Option, arith, refl, length, take, drop, map, sym, ap, subst, ◌∙◌, zero-add, length-append, length-take-le, length-drop}
+use Rattle.std.proofs.Common.{◌≡◌, ℕ, ℤ, pos, zero, suc, ◌+◌, ◌*◌, ◌-◌, ◌<◌, ◌≤◌, ◌^◌, List, [], ◌∷◌, ◌++◌, Option, arith, length, take, drop, map, sym, ap, subst, ◌∙◌, zero-add, length-append, length-take-le, length-drop}
 use Rattle.std.specs.Prelude.{All}
 use Rattle.std.specs.Io.KnownBytes.{Consumes}
-use Rattle.std.proofs.KnownBytes.{Consumes-trans, Consumes-nil}
+use Rattle.std.proofs.KnownBytes.{Consumes-trans}
 use Rattle.std.proofs.lemmas.List.{map-append, length-map, take-append-le, drop-append-le}
-use Rattle.std.proofs.lemmas.List.Elements.{All-append, All-nil}
+use Rattle.std.proofs.lemmas.List.Elements.{All-append}
 use Rattle.vx_base.specs.declared.format.Format.{Format}
-use Rattle.vx_base.specs.declared.format.Format.TheVariants.{U8, S16, U32}
+use Rattle.vx_base.specs.declared.format.Format.TheVariants.{U8}
 use Rattle.vx_base.specs.Sample.{sample_bytes}
 use Rattle.vx_wire.specs.Samples.{decoded_sample, decoded}
 use Rattle.vx_wire.proofs.SampleBytes.{decoded-U8}
@@ -15,17 +15,6 @@ use Rattle.vx_requests.specs.Frame.Reading.{ReadsPart, ReadsSamples}
 use Rattle.vx_requests.proofs.Pieces.{part_after}
 use Rattle.vx_requests.proofs.TransferSteps.{take-put_mid}
 use borrow.Rule.Slice.PartMut.{put_mid}
-
--- a piece has room for some sample, and for the bytes of so many
-pub piece_holds : (format : Format) (room : ℕ) → sample_bytes format ≤ room → (0 < room / sample_bytes format) × ((room / sample_bytes format) * sample_bytes format ≤ room)
-piece_holds U8 room some = (omega arith, omega arith)
-piece_holds S16 room some = (omega arith, omega arith)
-piece_holds U32 room some = (omega arith, omega arith)
-
-pub fewer_bytes : (format : Format) (n m : ℕ) → n ≤ m → n * sample_bytes format ≤ m * sample_bytes format
-fewer_bytes U8 n m fewer = omega arith
-fewer_bytes S16 n m fewer = omega arith
-fewer_bytes U32 n m fewer = omega arith
 
 -- the bytes of some samples, and then those of others
 decoded-append : (format : Format) (n m : ℕ) (xs ys : List ℕ) → length xs ≡ n * sample_bytes format → decoded format (n + m) (xs ++ ys) ≡ decoded format n xs ++ decoded format m ys
@@ -45,10 +34,6 @@ decoded-append format (suc n) m xs ys long =
   where
     suc_times : (n w : ℕ) → suc n * w ≡ w + n * w
     suc_times n w = omega arith
-
--- no samples were read yet
-pub reads_none : (a : Option (List ℕ)) (format : Format) → ReadsSamples a a format []
-reads_none a format = ([], Consumes-nil a, omega arith, All-nil (λ b. b < 2 ^ 8), refl)
 
 -- more samples were read
 reads_both : (a b c : Option (List ℕ)) (format : Format) (xs ys : List ℤ) → ReadsSamples a b format xs → ReadsSamples b c format ys → ReadsSamples a c format (xs ++ ys)

@@ -9,7 +9,7 @@ use Rattle.vx_base.specs.declared.format.Format.TheVariants.{U8, U32}
 use Rattle.vx_requests.specs.declared.stream.fault.StreamFault.{StreamFault}
 use Rattle.vx_requests.specs.declared.stream.fault.StreamFault.TheVariants.{WriteFailed}
 use Rattle.vx_requests.specs.Stream.Calls.{failed_calls}
-use Rattle.vx_requests.specs.Stream.Transfer.{AppendsPart, AppendsFront, WritesAll, Sends}
+use Rattle.vx_requests.specs.Stream.Transfer.{AppendsPart, WritesAll, Sends}
 use Rattle.vx_requests.proofs.Pieces.{on_ok, on_err, part_front, whole_front}
 use Rattle.vx_wire.specs.Samples.{encoded_sample}
 
@@ -85,23 +85,6 @@ module _ {K : Type 0} (taken : K → Option (List ℕ)) (failures : K → ℕ) w
     err = on_err result (whole_front (taken a) (taken b) (taken c) bytes wrote.ok kept);
     fault = fault;
     failed = omega (arith, wrote.failed, failed);
-  }
-
-  -- what was sent by a call that answers another thing
-  pub Sends-told : {T U : Type 0} (a b : K) (x y : List ℕ) (u : T) (v : U) → x ≡ y → Sends {T = T} taken failures a b x (Ok u) → Sends {T = U} taken failures a b y (Ok v)
-  Sends-told a b x y u v same sent = record {
-    ok = subst (Appends (taken a) (taken b)) same sent.ok;
-    err = tt;
-    fault = tt;
-    failed = sent.failed;
-  }
-
-  pub Sends-cut : {T U : Type 0} (a b : K) (x y : List ℕ) (e : StreamFault) → x ≡ y → Sends {T = T} taken failures a b x (Err e) → Sends {T = U} taken failures a b y (Err e)
-  Sends-cut a b x y e same sent = record {
-    ok = tt;
-    err = subst (AppendsFront (taken a) (taken b)) same sent.err;
-    fault = sent.fault;
-    failed = sent.failed;
   }
 
   -- a block failed, after others that were written

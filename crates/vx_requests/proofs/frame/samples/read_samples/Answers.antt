@@ -1,8 +1,6 @@
-use Rattle.std.proofs.Common.{◌≡◌, ℤ, ℕ, List, ◌++◌, length, take, drop, map, pos, rules, arith, take_at, ap, sym, ◌∙◌, subst}
+use Rattle.std.proofs.Common.{◌≡◌, ◌++◌, length, take, drop, rules, take_at}
 use Rattle.std.proofs.lemmas.List.{map-id}
 use Rattle.std.proofs.lemmas.Result.{on_ok_weaker}
-use Rattle.vx_base.specs.declared.format.Format.TheVariants.{U8, S16}
-use Rattle.vx_requests.specs.Frame.Reading.{ReadsSamples}
 use Rattle.vx_requests.proofs.SampleReads.{reads_bytes}
 use Rattle.vx_requests.proofs.frame.samples.read_samples.Goals as goal
 
