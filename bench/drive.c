@@ -11,7 +11,9 @@
  *   drive bytes COUNT PROGRAM [WORD..]      COUNT times as many bytes in and out (for cat), also
  *                                           with =WxHxN
  *
- * A small request is WriteImage of one sample (18 bytes), its reply has 8 bytes. */
+ * A small request is WriteImage of one sample (18 bytes), its reply has 8 bytes. Pipes hold a
+ * mebibyte, as those of the Python package and the broker do. */
+#define _GNU_SOURCE
 #include <errno.h>
 #include <fcntl.h>
 #include <poll.h>
@@ -55,6 +57,8 @@ static pid_t start(char **words) {
   close(in[0]), close(out[1]);
   to_server = in[1];
   from_server = out[0];
+  fcntl(to_server, F_SETPIPE_SZ, 1 << 20);
+  fcntl(from_server, F_SETPIPE_SZ, 1 << 20);
   fcntl(to_server, F_SETFL, O_NONBLOCK);
   fcntl(from_server, F_SETFL, O_NONBLOCK);
   return pid;

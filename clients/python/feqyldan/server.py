@@ -14,7 +14,7 @@ from typing import Dict, List, Optional, Sequence, Set, Type, Union
 
 from .connection import Connection
 from .context import Context
-from .environment import environment
+from .environment import enlarge, environment
 from .errors import Closed, FeqyldanError, Refused, ServerEnded, TimedOut
 from .forks import FORKED, HELD, OPENING, Forked
 from .pictures import Path
@@ -78,6 +78,8 @@ class Server(Forked, Uncopied):
             raise
         assert self._process.stdin is not None and self._process.stdout is not None
         self._input, self._output = self._process.stdin, self._process.stdout
+        for pipe in (self._input, self._output):
+            enlarge(pipe.fileno())
 
     @property
     def closed(self) -> bool:

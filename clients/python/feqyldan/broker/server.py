@@ -2,7 +2,6 @@
 that it owes."""
 
 import contextlib
-import fcntl
 import heapq
 import itertools
 import os
@@ -12,7 +11,7 @@ import subprocess
 from collections import deque
 from typing import Deque, Iterator, List, NamedTuple, Optional, Set, Tuple
 
-from ..environment import environment
+from ..environment import enlarge, environment
 from .connection import TURN_SECONDS, Connection
 from .counts import Counts
 from .incoming import AHEAD, CHUNK, CLIENT, Frames
@@ -21,7 +20,6 @@ from .incoming import AHEAD, CHUNK, CLIENT, Frames
 # least length.
 REPLY = struct.Struct(">IHBB")
 REPLY_HEAD, LEAST_REPLY = 8, 4
-PIPE_BYTES = 1_048_576
 # How many buffers are written at once.
 PIECES_AT_ONCE = 64
 # What a request and a byte of it are expected to take by themselves, in seconds.
@@ -116,9 +114,7 @@ class Server:
         self.input, self.output = self.process.stdin.fileno(), self.process.stdout.fileno()
         for pipe in (self.input, self.output):
             os.set_blocking(pipe, False)
-            # Greater pipes are woken up for less often. The system may not allow it.
-            with contextlib.suppress(OSError):
-                fcntl.fcntl(pipe, getattr(fcntl, "F_SETPIPE_SZ", 1031), PIPE_BYTES)
+            enlarge(pipe)
         # What the broker itself asks isn't counted.
         self.counts, self.uncounted = counts, Counts()
         # The connections whose contexts it has, those that are being released among them.
