@@ -7,8 +7,7 @@
 //! What is computed place by place is a `Formula`, and one that needs scratch memory for that a
 //! `RowFormula`; `ImageMut::write` and `write_by_rows` write a whole image of one, or the band's
 //! rows of it: each sample, and 0 outside the rectangle. So whatever writes whole images by them
-//! writes any rows of them too. `Second` is what a kernel reads beside its first image, `Overflow`
-//! a policy as a type.
+//! writes any rows of them too. `Second` is what a kernel reads beside its first image.
 #![tactic(auto)]
 
 mod band;
@@ -16,7 +15,6 @@ mod formula;
 mod image;
 mod image_mut;
 mod number;
-mod overflow;
 mod row_formula;
 mod rows;
 mod sample;
@@ -29,9 +27,8 @@ pub use formula::Formula;
 pub use image::Image;
 pub use image_mut::ImageMut;
 pub use number::Number;
-pub use overflow::{Overflow, Saturated, Wrapped};
 pub use row_formula::RowFormula;
-pub use rows::clear_rows;
+pub use rows::{clear_rows, set_all};
 pub use sample::Sample;
 pub use second::Second;
 pub use slice::Slice;

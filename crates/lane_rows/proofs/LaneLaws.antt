@@ -1,7 +1,6 @@
 -- What is computed in lanes, lane by lane.
 use Rattle.std.proofs.Common.{◌≡◌, ℕ, ℤ, pos, zero, suc, ◌*◌, ◌/◌, ◌%◌, ◌^◌, ◌<◌, List, [], ◌∷◌, length, map, Bool, true, false, cond, min, ltb, w8, Fits, replicate, refl, ap, ◌∙◌, sym, subst, arith}
 use Rattle.std.specs.Prelude.{bit_and}
-use Rattle.std.specs.Int.{int_min, int_max}
 use Rattle.std.specs.Simd.Lanes.{zip2, Each1, sel_l, chunk, put_chunk}
 use Rattle.std.proofs.lemmas.Int.{ints, clamps}
 use Rattle.std.proofs.lemmas.Nat.{and_mask}
@@ -9,7 +8,7 @@ use Rattle.std.proofs.lemmas.List.{length-map, take_all}
 use Rattle.std.proofs.lemmas.Simd.{length-zip2, put_chunk_whole}
 use Rattle.vx_base.specs.declared.format.Format.TheVariants.{U8}
 use Rattle.vx_base.specs.declared.policy.Policy.TheVariants.{Wrap, Saturate}
-use Rattle.vx_base.specs.Pixelwise.{product}
+use Rattle.vx_base.specs.Sample.{narrow}
 use lib.Lanes.{top}
 
 -- ---- one operation after another
@@ -77,26 +76,29 @@ wrapped_fits x = let e : x % 256 < 256 = omega arith in subst (Fits w8) (sym (wr
 
 -- ---- blocks that are stored
 
-numbers : (g : ℕ → ℕ) (h : ℕ → ℕ → ℕ) (f : ℤ → ℤ → ℤ) → ((x y : ℕ) → pos (g (h x y)) ≡ f (pos x) (pos y)) → (xs ys : List ℕ) → map pos (map g (zip2 h xs ys)) ≡ zip2 f (map pos xs) (map pos ys)
+numbers : (g : ℤ → ℤ) (h : ℕ → ℕ → ℕ) (f : ℤ → ℤ → ℤ) → ((x y : ℕ) → g (pos (h x y)) ≡ f (pos x) (pos y)) → (xs ys : List ℕ) → map g (map pos (zip2 h xs ys)) ≡ zip2 f (map pos xs) (map pos ys)
 numbers g h f same [] ys = refl
 numbers g h f same (x ∷ xs) [] = refl
 numbers g h f same (x ∷ xs) (y ∷ ys) = cc (same x y, numbers g h f same xs ys)
 
-pub pair_stored : (g : ℕ → ℕ) (h : ℕ → ℕ → ℕ) (f : ℤ → ℤ → ℤ) → ((x y : ℕ) → pos (g (h x y)) ≡ f (pos x) (pos y)) → (xs ys ps ws out : List ℕ)
-    → length xs ≡ 32 → length ys ≡ 32 → length out ≡ 32 → ps ≡ zip2 h (chunk 0 32 xs) (chunk 0 32 ys) → ws ≡ map g ps → map pos (put_chunk 0 out ws) ≡ zip2 f (map pos xs) (map pos ys)
+pub pair_stored : (g : ℤ → ℤ) (h : ℕ → ℕ → ℕ) (f : ℤ → ℤ → ℤ) → ((x y : ℕ) → g (pos (h x y)) ≡ f (pos x) (pos y)) → (xs ys ps ws out : List ℕ)
+    → length xs ≡ 32 → length ys ≡ 32 → length out ≡ 32 → ps ≡ zip2 h (chunk 0 32 xs) (chunk 0 32 ys) → map pos ws ≡ map g (map pos ps) → map pos (put_chunk 0 out ws) ≡ zip2 f (map pos xs) (map pos ys)
 pair_stored g h f same xs ys ps ws out first second room pairs is =
-    let whole : ws ≡ map g (zip2 h xs ys) =
-    is ∙ ap (map g) (pairs ∙ ap (λ l. zip2 h l (chunk 0 32 ys)) (take_all 32 xs (omega (arith, first))) ∙ ap (zip2 h xs) (take_all 32 ys (omega (arith, second)))) in
-    let long : length out ≡ length ws = room ∙ sym (ap length whole ∙ length-map (zip2 h xs ys) g ∙ length-zip2 h xs ys (first ∙ sym second) ∙ first) in
-    ap (map pos) (put_chunk_whole out ws long ∙ whole) ∙ numbers g h f same xs ys
+    let whole : ps ≡ zip2 h xs ys =
+    pairs ∙ ap (λ l. zip2 h l (chunk 0 32 ys)) (take_all 32 xs (omega (arith, first))) ∙ ap (zip2 h xs) (take_all 32 ys (omega (arith, second))) in
+    let pairs_long : length ps ≡ 32 = ap length whole ∙ length-zip2 h xs ys (first ∙ sym second) ∙ first in
+    let long : length ws ≡ 32 = sym (length-map ws pos) ∙ ap length is ∙ length-map (map pos ps) g ∙ length-map ps pos ∙ pairs_long in
+    ap (map pos) (put_chunk_whole out ws (room ∙ sym long)) ∙ is ∙ ap (λ l. map g (map pos l)) whole ∙ numbers g h f same xs ys
 
--- ---- products
+-- ---- numbers that become bytes
 
-clamp_pos : (p : ℕ) → pos (min p 255) ≡ int_max (pos 0) (int_min (pos p) (pos 255))
-clamp_pos p = grind (arith, ints, clamps)
+clamp_pos : (n : ℕ) → pos (min n 255) ≡ narrow U8 Saturate (pos n)
+clamp_pos n = grind (arith, ints, clamps)
 
-pub clamped_product : (n x y : ℕ) → pos (min (x * y / 2 ^ n) 255) ≡ product U8 Saturate n (pos x) (pos y)
-clamped_product n x y = clamp_pos (x * y / 2 ^ n)
+pub clamped_bytes : (ns : List ℕ) → map pos (map (λ n. min n 255) ns) ≡ map (narrow U8 Saturate) (map pos ns)
+clamped_bytes [] = refl
+clamped_bytes (n ∷ ns) = cc (clamp_pos n, clamped_bytes ns)
 
-pub wrapped_product : (n x y : ℕ) → pos (x * y / 2 ^ n % 256) ≡ product U8 Wrap n (pos x) (pos y)
-wrapped_product n x y = refl
+pub wrapped_bytes : (ns : List ℕ) → map pos (map (λ n. n % 256) ns) ≡ map (narrow U8 Wrap) (map pos ns)
+wrapped_bytes [] = refl
+wrapped_bytes (n ∷ ns) = ap (λ l. pos (n % 256) ∷ l) (wrapped_bytes ns)

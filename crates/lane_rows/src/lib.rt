@@ -8,6 +8,7 @@
 //!
 //! - `item`: the numbers that rows hold
 //! - `rows`: rows that are written item by item
+//! - `overflow`: policies as types, so that a loop asks for none
 //! - `bits`, `sums`, `products`, `distances`, `extremes`, `thresholds`, `depths`: the kernels
 #![tactic(auto)]
 
@@ -17,6 +18,7 @@ mod distances;
 mod extremes;
 mod item;
 mod lanes;
+mod overflow;
 mod products;
 mod rows;
 mod sums;

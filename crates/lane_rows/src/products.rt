@@ -2,14 +2,14 @@
 ghost use Rattle.std.specs.Prelude.{◌≡◌, ◌≤◌, ◌^◌, ◌*ℤ◌, pos, unsigned_abs, int_div, map, length};
 ghost use Rattle.std.specs.Simd.Lanes.{zip2};
 ghost use Rattle.vx_base.specs.declared.format.Format.TheVariants.{U8, S16};
-ghost use Rattle.vx_base.specs.declared.policy.Policy.TheVariants.{Wrap, Saturate};
 ghost use Rattle.vx_base.specs.Sample.{IsSample};
 ghost use Rattle.vx_base.specs.Pixelwise.{product};
 
 use crate::item::Short;
 use crate::lanes::{LanesOfPair, zip_lanes};
+use crate::overflow::{Overflow, Saturated, Wrapped, with_overflow};
 use crate::rows::{OfPair, zip_rows};
-use crate::vectors::{clamped, scaled_products, wrapped};
+use crate::vectors::{narrowed, scaled_products};
 use std::simd::prelude::*;
 use vx_base::{Policy, narrow_s16, narrow_u8};
 
@@ -31,73 +31,37 @@ fn scaled_product(a: i16, b: i16, amount: u8) -> i32
     scaled(i32::from(a) * i32::from(b), amount)
 }
 
+/// The product over 2^amount, rounded to zero and narrowed.
 #[derive(Drop)]
-struct WrappedProduct {
+struct Product<P> {
+    overflow: P,
     amount: u8,
     ghost small: { amount ≤ 15 },
 }
 
-impl OfPair<u8, u8, u8> for WrappedProduct {
-    ghost formula = { λ s. product U8 Wrap s.amount };
+impl<P: Overflow> OfPair<u8, u8, u8> for Product<P> {
+    ghost formula = { λ s. product U8 (P.policy s.overflow) s.amount };
 
     fn item(&self, a: u8, b: u8) -> u8 {
-        narrow_u8(
-            scaled_product(i16::from(a), i16::from(b), self.amount),
-            Policy::Wrap,
-        )
+        let product = scaled_product(i16::from(a), i16::from(b), self.amount);
+        narrow_u8(product, self.overflow.policy())
     }
 }
 
-impl LanesOfPair<u8, u8, u8> for WrappedProduct {
+impl<P: Overflow> LanesOfPair<u8, u8, u8> for Product<P> {
     fn lanes(&self, first: &[u8], second: &[u8], out: &mut [u8]) {
         let (a, b) = (u8x32::from_slice(first), u8x32::from_slice(second));
-        wrapped(scaled_products(a, b, self.amount)).copy_to_slice(out);
+        let products = scaled_products(a, b, self.amount);
+        narrowed(products, self.overflow.policy()).copy_to_slice(out);
     }
 }
 
-impl<A: Short, B: Short> OfPair<A, B, i16> for WrappedProduct {
-    ghost formula = { λ s. product S16 Wrap s.amount };
+impl<A: Short, B: Short, P: Overflow> OfPair<A, B, i16> for Product<P> {
+    ghost formula = { λ s. product S16 (P.policy s.overflow) s.amount };
 
     fn item(&self, a: A, b: B) -> i16 {
-        narrow_s16(
-            scaled_product(a.short(), b.short(), self.amount),
-            Policy::Wrap,
-        )
-    }
-}
-
-#[derive(Drop)]
-struct ClampedProduct {
-    amount: u8,
-    ghost small: { amount ≤ 15 },
-}
-
-impl OfPair<u8, u8, u8> for ClampedProduct {
-    ghost formula = { λ s. product U8 Saturate s.amount };
-
-    fn item(&self, a: u8, b: u8) -> u8 {
-        narrow_u8(
-            scaled_product(i16::from(a), i16::from(b), self.amount),
-            Policy::Saturate,
-        )
-    }
-}
-
-impl LanesOfPair<u8, u8, u8> for ClampedProduct {
-    fn lanes(&self, first: &[u8], second: &[u8], out: &mut [u8]) {
-        let (a, b) = (u8x32::from_slice(first), u8x32::from_slice(second));
-        clamped(scaled_products(a, b, self.amount)).copy_to_slice(out);
-    }
-}
-
-impl<A: Short, B: Short> OfPair<A, B, i16> for ClampedProduct {
-    ghost formula = { λ s. product S16 Saturate s.amount };
-
-    fn item(&self, a: A, b: B) -> i16 {
-        narrow_s16(
-            scaled_product(a.short(), b.short(), self.amount),
-            Policy::Saturate,
-        )
+        let product = scaled_product(a.short(), b.short(), self.amount);
+        narrow_s16(product, self.overflow.policy())
     }
 }
 
@@ -109,10 +73,9 @@ pub fn mul_u8(first: &[u8], second: &[u8], amount: u8, policy: Policy, out: &mut
     ensures { map pos out.new ≡ zip2 (product U8 policy amount) (map pos first.now)
         (map pos second.now) }
 {
-    match policy {
-        Policy::Wrap => zip_lanes(&WrappedProduct { amount }, first, second, out),
-        Policy::Saturate => zip_lanes(&ClampedProduct { amount }, first, second, out),
-    }
+    with_overflow!(policy, overflow => {
+        zip_lanes(&Product { overflow, amount }, first, second, out)
+    })
 }
 
 /// Writes the products of the items, each U8 or S16, over 2^amount, rounded to zero and narrowed by
@@ -130,8 +93,7 @@ pub fn mul_s16<A: Short, B: Short>(
     ensures { out.new ≡ zip2 (product S16 policy amount) (map A.value first.now)
         (map B.value second.now) }
 {
-    match policy {
-        Policy::Wrap => zip_rows(&WrappedProduct { amount }, first, second, out),
-        Policy::Saturate => zip_rows(&ClampedProduct { amount }, first, second, out),
-    }
+    with_overflow!(policy, overflow => {
+        zip_rows(&Product { overflow, amount }, first, second, out)
+    })
 }

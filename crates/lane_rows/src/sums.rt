@@ -1,50 +1,85 @@
 //! Sums and differences.
-ghost use Rattle.std.specs.Prelude.{◌≡◌, pos, map, length};
+ghost use Rattle.std.specs.Prelude.{◌≡◌, ℤ, pos, map, length};
 ghost use Rattle.std.specs.Simd.Lanes.{zip2};
+ghost use Rattle.vx_base.specs.declared.format.Format.{Format};
 ghost use Rattle.vx_base.specs.declared.format.Format.TheVariants.{U8, S16};
-ghost use Rattle.vx_base.specs.declared.policy.Policy.TheVariants.{Wrap, Saturate};
+ghost use Rattle.vx_base.specs.declared.policy.Policy.{Policy as PolicyValue};
 ghost use Rattle.vx_base.specs.Pixelwise.{sum, difference};
 
 use crate::item::Short;
+use crate::overflow::{Overflow, Saturated, Wrapped, with_overflow};
 use crate::rows::{OfPair, zip_rows};
 use vx_base::{Policy, narrow_s16};
 
-struct WrappedSum;
+/// The sum of two samples, or their difference.
+trait Additive {
+    /// What it gives of two numbers, as a sample of a format under a policy.
+    ghost formula: { Self → Format → PolicyValue → ℤ → ℤ → ℤ };
 
-impl OfPair<u8, u8, u8> for WrappedSum {
-    ghost formula = { λ _. sum U8 Wrap };
+    fn of_bytes(&self, a: u8, b: u8, policy: Policy) -> u8
+        ensures { pos result ≡ formula self.now U8 policy (pos a) (pos b) };
+
+    fn of_shorts(&self, a: i16, b: i16, policy: Policy) -> i16
+        ensures { result ≡ formula self.now S16 policy a b };
+}
+
+#[derive(Drop)]
+struct Sum;
+
+impl Additive for Sum {
+    ghost formula = { λ _. sum };
+
+    fn of_bytes(&self, a: u8, b: u8, policy: Policy) -> u8 {
+        match policy {
+            Policy::Wrap => a.wrapping_add(b),
+            Policy::Saturate => a.saturating_add(b),
+        }
+    }
+
+    fn of_shorts(&self, a: i16, b: i16, policy: Policy) -> i16 {
+        narrow_s16(i32::from(a) + i32::from(b), policy)
+    }
+}
+
+#[derive(Drop)]
+struct Difference;
+
+impl Additive for Difference {
+    ghost formula = { λ _. difference };
+
+    fn of_bytes(&self, a: u8, b: u8, policy: Policy) -> u8 {
+        match policy {
+            Policy::Wrap => a.wrapping_sub(b),
+            Policy::Saturate => a.saturating_sub(b),
+        }
+    }
+
+    fn of_shorts(&self, a: i16, b: i16, policy: Policy) -> i16 {
+        narrow_s16(i32::from(a) - i32::from(b), policy)
+    }
+}
+
+/// A sum or a difference under a policy.
+#[derive(Drop)]
+struct Narrowed<K, P> {
+    kernel: K,
+    overflow: P,
+}
+
+impl<K: Additive, P: Overflow> OfPair<u8, u8, u8> for Narrowed<K, P> {
+    ghost formula = { λ s. K.formula s.kernel U8 (P.policy s.overflow) };
 
     fn item(&self, a: u8, b: u8) -> u8 {
-        a.wrapping_add(b)
+        self.kernel.of_bytes(a, b, self.overflow.policy())
     }
 }
 
-impl<A: Short, B: Short> OfPair<A, B, i16> for WrappedSum {
-    ghost formula = { λ _. sum S16 Wrap };
+impl<A: Short, B: Short, K: Additive, P: Overflow> OfPair<A, B, i16> for Narrowed<K, P> {
+    ghost formula = { λ s. K.formula s.kernel S16 (P.policy s.overflow) };
 
     fn item(&self, a: A, b: B) -> i16 {
-        a.short().wrapping_add(b.short())
-    }
-}
-
-struct ClampedSum;
-
-impl OfPair<u8, u8, u8> for ClampedSum {
-    ghost formula = { λ _. sum U8 Saturate };
-
-    fn item(&self, a: u8, b: u8) -> u8 {
-        a.saturating_add(b)
-    }
-}
-
-impl<A: Short, B: Short> OfPair<A, B, i16> for ClampedSum {
-    ghost formula = { λ _. sum S16 Saturate };
-
-    fn item(&self, a: A, b: B) -> i16 {
-        narrow_s16(
-            i32::from(a.short()) + i32::from(b.short()),
-            Policy::Saturate,
-        )
+        self.kernel
+            .of_shorts(a.short(), b.short(), self.overflow.policy())
     }
 }
 
@@ -54,10 +89,9 @@ pub fn add_u8(first: &[u8], second: &[u8], policy: Policy, out: &mut [u8])
     requires second_len { length second.now ≡ length out.old }
     ensures { map pos out.new ≡ zip2 (sum U8 policy) (map pos first.now) (map pos second.now) }
 {
-    match policy {
-        Policy::Wrap => zip_rows(&WrappedSum, first, second, out),
-        Policy::Saturate => zip_rows(&ClampedSum, first, second, out),
-    }
+    with_overflow!(policy, overflow => {
+        zip_rows(&Narrowed { kernel: Sum, overflow }, first, second, out)
+    })
 }
 
 /// Writes the sums of the items, each U8 or S16, narrowed by the policy.
@@ -66,49 +100,9 @@ pub fn add_s16<A: Short, B: Short>(first: &[A], second: &[B], policy: Policy, ou
     requires second_len { length second.now ≡ length out.old }
     ensures { out.new ≡ zip2 (sum S16 policy) (map A.value first.now) (map B.value second.now) }
 {
-    match policy {
-        Policy::Wrap => zip_rows(&WrappedSum, first, second, out),
-        Policy::Saturate => zip_rows(&ClampedSum, first, second, out),
-    }
-}
-
-struct WrappedDifference;
-
-impl OfPair<u8, u8, u8> for WrappedDifference {
-    ghost formula = { λ _. difference U8 Wrap };
-
-    fn item(&self, a: u8, b: u8) -> u8 {
-        a.wrapping_sub(b)
-    }
-}
-
-impl<A: Short, B: Short> OfPair<A, B, i16> for WrappedDifference {
-    ghost formula = { λ _. difference S16 Wrap };
-
-    fn item(&self, a: A, b: B) -> i16 {
-        a.short().wrapping_sub(b.short())
-    }
-}
-
-struct ClampedDifference;
-
-impl OfPair<u8, u8, u8> for ClampedDifference {
-    ghost formula = { λ _. difference U8 Saturate };
-
-    fn item(&self, a: u8, b: u8) -> u8 {
-        a.saturating_sub(b)
-    }
-}
-
-impl<A: Short, B: Short> OfPair<A, B, i16> for ClampedDifference {
-    ghost formula = { λ _. difference S16 Saturate };
-
-    fn item(&self, a: A, b: B) -> i16 {
-        narrow_s16(
-            i32::from(a.short()) - i32::from(b.short()),
-            Policy::Saturate,
-        )
-    }
+    with_overflow!(policy, overflow => {
+        zip_rows(&Narrowed { kernel: Sum, overflow }, first, second, out)
+    })
 }
 
 /// Writes the first's items less the second's, narrowed by the policy.
@@ -118,10 +112,9 @@ pub fn sub_u8(first: &[u8], second: &[u8], policy: Policy, out: &mut [u8])
     ensures { map pos out.new ≡ zip2 (difference U8 policy) (map pos first.now)
         (map pos second.now) }
 {
-    match policy {
-        Policy::Wrap => zip_rows(&WrappedDifference, first, second, out),
-        Policy::Saturate => zip_rows(&ClampedDifference, first, second, out),
-    }
+    with_overflow!(policy, overflow => {
+        zip_rows(&Narrowed { kernel: Difference, overflow }, first, second, out)
+    })
 }
 
 /// Writes the first's items less the second's, each U8 or S16, narrowed by the policy.
@@ -131,8 +124,7 @@ pub fn sub_s16<A: Short, B: Short>(first: &[A], second: &[B], policy: Policy, ou
     ensures { out.new ≡ zip2 (difference S16 policy) (map A.value first.now)
         (map B.value second.now) }
 {
-    match policy {
-        Policy::Wrap => zip_rows(&WrappedDifference, first, second, out),
-        Policy::Saturate => zip_rows(&ClampedDifference, first, second, out),
-    }
+    with_overflow!(policy, overflow => {
+        zip_rows(&Narrowed { kernel: Difference, overflow }, first, second, out)
+    })
 }

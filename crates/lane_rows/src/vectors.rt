@@ -1,8 +1,11 @@
 //! Numbers in 32 lanes.
-ghost use Rattle.std.specs.Prelude.{◌≡◌, ◌≤◌, ◌*◌, ◌/◌, ◌%◌, ◌^◌, min, map};
+ghost use Rattle.std.specs.Prelude.{◌≡◌, ◌≤◌, ◌*◌, ◌/◌, ◌%◌, ◌^◌, min, pos, map};
 ghost use Rattle.std.specs.Simd.Lanes.{zip2};
+ghost use Rattle.vx_base.specs.declared.format.Format.TheVariants.{U8};
+ghost use Rattle.vx_base.specs.Sample.{narrow};
 
 use std::simd::prelude::*;
+use vx_base::Policy;
 
 /// The products of bytes over 2^amount, rounded down.
 pub fn scaled_products(a: u8x32, b: u8x32, amount: u8) -> u16x32
@@ -13,15 +16,25 @@ pub fn scaled_products(a: u8x32, b: u8x32, amount: u8) -> u16x32
 }
 
 /// The nearest bytes.
-pub fn clamped(numbers: u16x32) -> u8x32
+fn clamped(numbers: u16x32) -> u8x32
     ensures { result ≡ map (λ n. min n 255) numbers }
 {
     numbers.simd_min(u16x32::splat(255)).cast::<u8>()
 }
 
 /// What is left in 8 bits.
-pub fn wrapped(numbers: u16x32) -> u8x32
+fn wrapped(numbers: u16x32) -> u8x32
     ensures { result ≡ map (λ n. n % 256) numbers }
 {
     (numbers & u16x32::splat(255)).cast::<u8>()
+}
+
+/// The U8 samples that they become.
+pub fn narrowed(numbers: u16x32, policy: Policy) -> u8x32
+    ensures { map pos result ≡ map (narrow U8 policy) (map pos numbers) }
+{
+    match policy {
+        Policy::Wrap => wrapped(numbers),
+        Policy::Saturate => clamped(numbers),
+    }
 }

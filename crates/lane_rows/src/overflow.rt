@@ -39,7 +39,6 @@ impl Overflow for Saturated {
 
 /// `with_overflow!(policy, overflow => call)` makes the call with `overflow` the type of the
 /// policy, so that its code is compiled once for each.
-#[macro_export]
 macro_rules! with_overflow {
     ($policy:expr, $overflow:ident => $call:expr) => {
         match $policy {
@@ -54,3 +53,5 @@ macro_rules! with_overflow {
         }
     };
 }
+
+pub(crate) use with_overflow;
