@@ -2,3 +2,4 @@ pub mod Nine
 pub mod Fits
 pub mod Products
 pub mod ByColumns
+pub mod Examples

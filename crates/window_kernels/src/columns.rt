@@ -8,7 +8,7 @@ ghost use Rattle.border_rows.specs.Seen.{value_beside};
 ghost use Rattle.window_kernels.specs.Nine.{column_in, column_beside, column_seen};
 
 use border_rows::{row_in_place, value_beside};
-use image_core::{Image, Number};
+use image_core::{Image, Number, set_all};
 use vx_base::{Border, Rect};
 
 /// What a function of a column of three samples gives.
@@ -18,15 +18,6 @@ pub trait OfColumn<S: Number> {
 
     fn of_column(&self, above: u8, here: u8, below: u8) -> S
         ensures { S.value result ≡ gives self.now (pos above) (pos here) (pos below) };
-}
-
-/// Writes one item to each place.
-fn set_all<S: Number>(out: &mut [S], item: S)
-    ensures { map S.value out.new ≡ replicate (length out.old) (S.value item) }
-{
-    for place in out.iter_mut() {
-        *place = item;
-    }
 }
 
 /// Writes what the columns of three rows give.

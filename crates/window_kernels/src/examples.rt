@@ -6,45 +6,15 @@ ghost use Rattle.vx_base.specs.Rectangle.{empty};
 ghost use Rattle.vx_base.specs.Window.{look, nine_around, box_mean, gaussian_mean, median};
 ghost use Rattle.vx_base.specs.Window.{least_of, greatest_of, gradient_x, gradient_y, window_valid};
 ghost use Rattle.vx_base.specs.Window.{from_nine, from_matrix};
+ghost use Rattle.window_kernels.specs.Examples.{row_of_four, two_by_two, three_by_three, single};
+ghost use Rattle.window_kernels.specs.Examples.{at_centre, upper_left, minus_three};
 
-/// What windows see of a row that holds 10 20 30 40 and is valid but for its ends.
+/// What windows see of a row that holds 0 20 30 0 and is valid but for its ends.
 pub fn places()
-    ensures valid { look (record {
-      width = 4;
-      height = 1;
-      format = U8;
-      valid =
-          record { x0 = 1; y0 = 0; x1 = 3; y1 = 1 };
-      samples = pos 0 ∷ pos 20 ∷ pos 30 ∷ pos 0 ∷ [];
-    })
-        Replicate (pos 1) (pos 0) ≡ pos 20 }
-    ensures left { look (record {
-      width = 4;
-      height = 1;
-      format = U8;
-      valid =
-          record { x0 = 1; y0 = 0; x1 = 3; y1 = 1 };
-      samples = pos 0 ∷ pos 20 ∷ pos 30 ∷ pos 0 ∷ [];
-    })
-        Replicate (pos 0) (negsuc 0) ≡ pos 20 }
-    ensures right { look (record {
-      width = 4;
-      height = 1;
-      format = U8;
-      valid =
-          record { x0 = 1; y0 = 0; x1 = 3; y1 = 1 };
-      samples = pos 0 ∷ pos 20 ∷ pos 30 ∷ pos 0 ∷ [];
-    })
-        Replicate (pos 9) (pos 1) ≡ pos 30 }
-    ensures constant { look (record {
-      width = 4;
-      height = 1;
-      format = U8;
-      valid =
-          record { x0 = 1; y0 = 0; x1 = 3; y1 = 1 };
-      samples = pos 0 ∷ pos 20 ∷ pos 30 ∷ pos 0 ∷ [];
-    })
-        (Constant 7) (pos 3) (pos 0) ≡ pos 7 }
+    ensures valid { look row_of_four Replicate (pos 1) (pos 0) ≡ pos 20 }
+    ensures left { look row_of_four Replicate (pos 0) (negsuc 0) ≡ pos 20 }
+    ensures right { look row_of_four Replicate (pos 9) (pos 1) ≡ pos 30 }
+    ensures constant { look row_of_four (Constant 7) (pos 3) (pos 0) ≡ pos 7 }
 {}
 
 /// The nine samples 1 2 9, 3 4 8 and 5 6 7.
@@ -69,16 +39,7 @@ pub fn formulas()
 
 /// The box filter of 10 20 over 30 40, under the three border modes.
 pub fn boxes()
-    ensures undefined { from_nine U8 box_mean Undefined
-        (record {
-          width = 2;
-          height = 2;
-          format = U8;
-          valid =
-              record { x0 = 0; y0 = 0; x1 = 2; y1 = 2 };
-          samples = pos 10 ∷ pos 20 ∷ pos 30
-              ∷ pos 40 ∷ [];
-        })
+    ensures undefined { from_nine U8 box_mean Undefined two_by_two
         ≡ record {
           width = 2;
           height = 2;
@@ -87,168 +48,37 @@ pub fn boxes()
           samples = pos 0 ∷ pos 0
               ∷ pos 0 ∷ pos 0 ∷ [];
         } }
-    ensures replicate { (from_nine U8 box_mean Replicate
-        (record {
-          width = 2;
-          height = 2;
-          format = U8;
-          valid =
-              record { x0 = 0; y0 = 0; x1 = 2; y1 = 2 };
-          samples = pos 10 ∷ pos 20 ∷ pos 30
-              ∷ pos 40 ∷ [];
-        })).samples
+    ensures replicate { (from_nine U8 box_mean Replicate two_by_two).samples
         ≡ pos 20 ∷ pos 23 ∷ pos 26 ∷ pos 30 ∷ [] }
-    ensures zero { (from_nine U8 box_mean (Constant 0)
-        (record {
-          width = 2;
-          height = 2;
-          format = U8;
-          valid =
-              record { x0 = 0; y0 = 0; x1 = 2; y1 = 2 };
-          samples = pos 10 ∷ pos 20 ∷ pos 30
-              ∷ pos 40 ∷ [];
-        })).samples
+    ensures zero { (from_nine U8 box_mean (Constant 0) two_by_two).samples
         ≡ pos 11 ∷ pos 11 ∷ pos 11 ∷ pos 11 ∷ [] }
-    ensures white { (from_nine U8 box_mean (Constant 255)
-        (record {
-          width = 2;
-          height = 2;
-          format = U8;
-          valid =
-              record { x0 = 0; y0 = 0; x1 = 2; y1 = 2 };
-          samples = pos 10 ∷ pos 20 ∷ pos 30
-              ∷ pos 40 ∷ [];
-        })).samples
+    ensures white { (from_nine U8 box_mean (Constant 255) two_by_two).samples
         ≡ pos 152 ∷ pos 152 ∷ pos 152 ∷ pos 152 ∷ [] }
 {}
 
 /// The least and the greatest of the nine in a row whose ends are not valid: these don't count,
 /// and stay 0.
 pub fn beside_the_valid()
-    ensures least { (from_nine U8 least_of Replicate
-        (record {
-          width = 4;
-          height = 1;
-          format = U8;
-          valid =
-              record { x0 = 1; y0 = 0; x1 = 3; y1 = 1 };
-          samples = pos 0 ∷ pos 20 ∷ pos 30
-              ∷ pos 0 ∷ [];
-        })).samples
+    ensures least { (from_nine U8 least_of Replicate row_of_four).samples
         ≡ pos 0 ∷ pos 20 ∷ pos 20 ∷ pos 0 ∷ [] }
-    ensures greatest { (from_nine U8 greatest_of Replicate
-        (record {
-          width = 4;
-          height = 1;
-          format = U8;
-          valid =
-              record { x0 = 1; y0 = 0; x1 = 3; y1 = 1 };
-          samples = pos 0 ∷ pos 20 ∷ pos 30
-              ∷ pos 0 ∷ [];
-        })).samples
+    ensures greatest { (from_nine U8 greatest_of Replicate row_of_four).samples
         ≡ pos 0 ∷ pos 30 ∷ pos 30 ∷ pos 0 ∷ [] }
 {}
 
 /// The change from left to right in the only place whose window is whole.
 pub fn gradients()
-    ensures { from_nine S16 gradient_x Undefined
-        (record {
-          width = 3;
-          height = 3;
-          format = U8;
-          valid =
-              record { x0 = 0; y0 = 0; x1 = 3; y1 = 3 };
-          samples = pos 1 ∷ pos 2 ∷ pos 3 ∷ pos 4 ∷ pos 5
-              ∷ pos 6 ∷ pos 7 ∷ pos 8 ∷ pos 9 ∷ [];
-        })
-        ≡ record {
-          width = 3;
-          height = 3;
-          format = S16;
-          valid =
-              record { x0 = 1; y0 = 1; x1 = 2; y1 = 2 };
-          samples = pos 0 ∷ pos 0 ∷ pos 0 ∷ pos 0 ∷ pos 8
-              ∷ pos 0 ∷ pos 0 ∷ pos 0 ∷ pos 0 ∷ [];
-        } }
+    ensures { from_nine S16 gradient_x Undefined three_by_three ≡ at_centre S16 (pos 8) }
 {}
 
 /// A matrix with 1 at its upper left corner alone gives the sample to the lower right.
 pub fn turned_matrix()
-    ensures { from_matrix U8 (record {
-      columns = 3;
-      rows = 3;
-      exponent = 0;
-      coefficients = pos 1
-          ∷ pos 0 ∷ pos 0 ∷ pos 0 ∷ pos 0 ∷ pos 0 ∷ pos 0 ∷ pos 0 ∷ pos 0 ∷ [];
-    }) Undefined
-        (record {
-          width = 3;
-          height = 3;
-          format = U8;
-          valid =
-              record { x0 = 0; y0 = 0; x1 = 3; y1 = 3 };
-          samples = pos 1 ∷ pos 2 ∷ pos 3 ∷ pos 4 ∷ pos 5
-              ∷ pos 6 ∷ pos 7 ∷ pos 8 ∷ pos 9 ∷ [];
-        })
-        ≡ record {
-          width = 3;
-          height = 3;
-          format = U8;
-          valid =
-              record { x0 = 1; y0 = 1; x1 = 2; y1 = 2 };
-          samples = pos 0 ∷ pos 0 ∷ pos 0 ∷ pos 0 ∷ pos 9
-              ∷ pos 0 ∷ pos 0 ∷ pos 0 ∷ pos 0 ∷ [];
-        } }
+    ensures { from_matrix U8 upper_left Undefined three_by_three ≡ at_centre U8 (pos 9) }
 {}
 
 /// What a matrix with -3 at its centre alone gives of an image that holds 1: -3 over 2 to zero,
 /// clamped to each format, and -3 over 2^31.
 pub fn scaled_sums()
-    ensures to_zero { (from_matrix S16 (record {
-      columns = 3;
-      rows = 3;
-      exponent = 1;
-      coefficients =
-          pos 0 ∷ pos 0 ∷ pos 0 ∷ pos 0 ∷ negsuc 2 ∷ pos 0 ∷ pos 0 ∷ pos 0 ∷ pos 0 ∷ [];
-    }) Replicate
-        (record {
-          width = 1;
-          height = 1;
-          format = U8;
-          valid =
-              record { x0 = 0; y0 = 0; x1 = 1; y1 = 1 };
-          samples = pos 1 ∷ [];
-        })).samples
-        ≡ negsuc 0 ∷ [] }
-    ensures clamped { (from_matrix U8 (record {
-      columns = 3;
-      rows = 3;
-      exponent = 1;
-      coefficients =
-          pos 0 ∷ pos 0 ∷ pos 0 ∷ pos 0 ∷ negsuc 2 ∷ pos 0 ∷ pos 0 ∷ pos 0 ∷ pos 0 ∷ [];
-    }) Replicate
-        (record {
-          width = 1;
-          height = 1;
-          format = U8;
-          valid =
-              record { x0 = 0; y0 = 0; x1 = 1; y1 = 1 };
-          samples = pos 1 ∷ [];
-        })).samples ≡ pos 0 ∷ [] }
-    ensures to_nothing { (from_matrix S16
-        (record {
-          columns = 3;
-          rows = 3;
-          exponent = 31;
-          coefficients = pos 0 ∷ pos 0 ∷ pos 0 ∷ pos 0
-              ∷ negsuc 2 ∷ pos 0 ∷ pos 0 ∷ pos 0 ∷ pos 0 ∷ [];
-        }) Replicate
-        (record {
-          width = 1;
-          height = 1;
-          format = U8;
-          valid =
-              record { x0 = 0; y0 = 0; x1 = 1; y1 = 1 };
-          samples = pos 1 ∷ [];
-        })).samples ≡ pos 0 ∷ [] }
+    ensures to_zero { (from_matrix S16 (minus_three 1) Replicate single).samples ≡ negsuc 0 ∷ [] }
+    ensures clamped { (from_matrix U8 (minus_three 1) Replicate single).samples ≡ pos 0 ∷ [] }
+    ensures to_nothing { (from_matrix S16 (minus_three 31) Replicate single).samples ≡ pos 0 ∷ [] }
 {}

@@ -6,12 +6,12 @@ ghost use Rattle.image_core.specs.Target.{Writes};
 ghost use Rattle.window_kernels.specs.Fits.{WindowFits};
 ghost use Rattle.window_kernels.specs.ByColumns.{x_is_x, y_is_y};
 
-use crate::columns::{OfColumn, Window};
+use crate::columns::OfColumn;
 use crate::nine::{
-    AcrossColumns, OfNine, with_scratch, write_by_columns, write_nine, write_two_nines,
+    AcrossColumns, ByColumns, with_scratch, write_by_columns, write_nine, write_two_nines,
 };
 use crate::sums::{Change, WeightedSum, change_of, weighted_sum_of};
-use image_core::{Image, ImageMut};
+use image_core::{Image, ImageMut, Number};
 use vx_base::Border;
 
 struct GradientX;
@@ -36,21 +36,6 @@ impl AcrossColumns<i16, WeightedSum> for GradientX {
     ghost is_of_nine = { λ _. x_is_x };
 }
 
-impl OfNine<i16, WeightedSum> for GradientX {
-    ghost formula = { λ _. gradient_x };
-
-    fn write_row(
-        &self,
-        window: &Window<'_, '_>,
-        x: u16,
-        y: u16,
-        scratch: &mut [WeightedSum],
-        out: &mut [i16],
-    ) {
-        write_by_columns(self, window, x, y, scratch, out);
-    }
-}
-
 struct GradientY;
 
 impl OfColumn<Change> for GradientY {
@@ -73,31 +58,12 @@ impl AcrossColumns<i16, Change> for GradientY {
     ghost is_of_nine = { λ _. y_is_y };
 }
 
-impl OfNine<i16, Change> for GradientY {
-    ghost formula = { λ _. gradient_y };
-
-    fn write_row(
-        &self,
-        window: &Window<'_, '_>,
-        x: u16,
-        y: u16,
-        scratch: &mut [Change],
-        out: &mut [i16],
-    ) {
-        write_by_columns(self, window, x, y, scratch, out);
-    }
-}
-
 /// Writes the change from left to right (OpenVX 1.3, "Sobel 3x3"): of U8 to S16.
 pub fn sobel_x3(image: &Image<'_>, output: &mut ImageMut<'_>, border: Border)
     requires { WindowFits S16 image.now output.old }
     ensures { Writes (from_nine S16 gradient_x border image.now) output.old output.new }
 {
-    let _limits = image.valid();
-    let none = weighted_sum_of(0, 0, 0);
-    with_scratch!(image.desc().width(), rows = none => {
-        write_nine::<i16, WeightedSum, _>(&GradientX, image, output, border, rows)
-    })
+    write_by_columns!(i16, WeightedSum, &GradientX, image, output, border);
 }
 
 /// Writes the change from above to below (OpenVX 1.3, "Sobel 3x3"): of U8 to S16.
@@ -105,11 +71,7 @@ pub fn sobel_y3(image: &Image<'_>, output: &mut ImageMut<'_>, border: Border)
     requires { WindowFits S16 image.now output.old }
     ensures { Writes (from_nine S16 gradient_y border image.now) output.old output.new }
 {
-    let _limits = image.valid();
-    let none = change_of(0, 0);
-    with_scratch!(image.desc().width(), rows = none => {
-        write_nine::<i16, Change, _>(&GradientY, image, output, border, rows)
-    })
+    write_by_columns!(i16, Change, &GradientY, image, output, border);
 }
 
 /// Writes both changes to the same rows, a row of each in turn.
@@ -126,10 +88,11 @@ fn write_gradients(
     ensures y { Writes (from_nine S16 gradient_y border image.now) output_y.old output_y.new }
 {
     let _limits = image.valid();
-    let (sum, change) = (weighted_sum_of(0, 0, 0), change_of(0, 0));
-    with_scratch!(image.desc().width(), sums = sum, changes = change => {
+    let x = ByColumns { kernel: &GradientX };
+    let y = ByColumns { kernel: &GradientY };
+    with_scratch!(image.desc().width(), sums = WeightedSum::zero(), changes = Change::zero() => {
         write_two_nines::<WeightedSum, Change, _, _>(
-            &GradientX, &GradientY, image, output_x, output_y, border, sums, changes,
+            &x, &y, image, output_x, output_y, border, sums, changes,
         )
     })
 }

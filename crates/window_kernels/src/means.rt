@@ -7,10 +7,10 @@ ghost use Rattle.image_core.specs.Target.{Writes};
 ghost use Rattle.window_kernels.specs.Fits.{WindowFits};
 ghost use Rattle.window_kernels.specs.ByColumns.{box_is_box, gaussian_is_gaussian};
 
-use crate::columns::{OfColumn, Window};
-use crate::nine::{AcrossColumns, OfNine, with_scratch, write_by_columns, write_nine};
+use crate::columns::OfColumn;
+use crate::nine::{AcrossColumns, ByColumns, with_scratch, write_by_columns, write_nine};
 use crate::sums::{Sum, WeightedSum, sum_of, weighted_sum_of};
-use image_core::{Image, ImageMut};
+use image_core::{Image, ImageMut, Number};
 use vx_base::Border;
 
 struct BoxMean;
@@ -35,21 +35,6 @@ impl AcrossColumns<u8, Sum> for BoxMean {
     ghost is_of_nine = { λ _. box_is_box };
 }
 
-impl OfNine<u8, Sum> for BoxMean {
-    ghost formula = { λ _. box_mean };
-
-    fn write_row(
-        &self,
-        window: &Window<'_, '_>,
-        x: u16,
-        y: u16,
-        scratch: &mut [Sum],
-        out: &mut [u8],
-    ) {
-        write_by_columns(self, window, x, y, scratch, out);
-    }
-}
-
 struct GaussianMean;
 
 impl OfColumn<WeightedSum> for GaussianMean {
@@ -72,32 +57,13 @@ impl AcrossColumns<u8, WeightedSum> for GaussianMean {
     ghost is_of_nine = { λ _. gaussian_is_gaussian };
 }
 
-impl OfNine<u8, WeightedSum> for GaussianMean {
-    ghost formula = { λ _. gaussian_mean };
-
-    fn write_row(
-        &self,
-        window: &Window<'_, '_>,
-        x: u16,
-        y: u16,
-        scratch: &mut [WeightedSum],
-        out: &mut [u8],
-    ) {
-        write_by_columns(self, window, x, y, scratch, out);
-    }
-}
-
 /// Writes the mean of the nine samples, rounded down (OpenVX 1.3, "Box Filter"); both images are
 /// U8.
 pub fn box3(image: &Image<'_>, output: &mut ImageMut<'_>, border: Border)
     requires { WindowFits U8 image.now output.old }
     ensures { Writes (from_nine U8 box_mean border image.now) output.old output.new }
 {
-    let _limits = image.valid();
-    let none = sum_of(0, 0, 0);
-    with_scratch!(image.desc().width(), rows = none => {
-        write_nine::<u8, Sum, _>(&BoxMean, image, output, border, rows)
-    })
+    write_by_columns!(u8, Sum, &BoxMean, image, output, border);
 }
 
 /// Writes the mean of the nine samples with the weights 1 2 1, 2 4 2 and 1 2 1, rounded down
@@ -106,9 +72,5 @@ pub fn gaussian3(image: &Image<'_>, output: &mut ImageMut<'_>, border: Border)
     requires { WindowFits U8 image.now output.old }
     ensures { Writes (from_nine U8 gaussian_mean border image.now) output.old output.new }
 {
-    let _limits = image.valid();
-    let none = weighted_sum_of(0, 0, 0);
-    with_scratch!(image.desc().width(), rows = none => {
-        write_nine::<u8, WeightedSum, _>(&GaussianMean, image, output, border, rows)
-    })
+    write_by_columns!(u8, WeightedSum, &GaussianMean, image, output, border);
 }

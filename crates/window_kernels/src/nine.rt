@@ -66,27 +66,20 @@ fn write_across<T: Sample, S: Number, K: AcrossColumns<T, S>>(
     }
 }
 
-/// Writes row y from column x on, down the columns and then across.
-pub fn write_by_columns<T: Sample, S: Number, K: AcrossColumns<T, S>>(
-    kernel: &K,
-    window: &Window<'_, '_>,
-    x: u16,
-    y: u16,
-    scratch: &mut [S],
-    out: &mut [T],
-)
-    requires rows { window.now.image.now.valid.y0 < window.now.image.now.valid.y1 }
-    requires columns { (window.now.image.now.valid.x0 ≤ x) ×
-        (x + length out.old ≤ window.now.image.now.valid.x1) }
-    requires some { 1 ≤ length out.old }
-    requires scratch { 3 * (length out.old + 2) ≤ length scratch.old }
-    ensures { map T.value out.new ≡ run x (length out.old)
-        (λ k. K.of_nine kernel.now (nine_around (look window.now.image.now window.now.border)
-        (pos k) (pos y))) }
-{
-    let columns = &mut scratch[..out.len() + 2];
-    window.write_columns(kernel, x, y, columns);
-    write_across(kernel, columns, out);
+/// A kernel of columns as one of nine samples, which goes down the columns and then across.
+#[derive(Drop)]
+pub struct ByColumns<'a, K> {
+    pub kernel: &'a K,
+}
+
+impl<T: Sample, S: Number, K: AcrossColumns<T, S>> OfNine<T, S> for ByColumns<'_, K> {
+    ghost formula = { λ s. K.of_nine s.kernel.now };
+
+    fn write_row(&self, window: &Window<'_, '_>, x: u16, y: u16, scratch: &mut [S], out: &mut [T]) {
+        let columns = &mut scratch[..out.len() + 2];
+        window.write_columns(self.kernel, x, y, columns);
+        write_across(self.kernel, columns, out);
+    }
 }
 
 /// What a kernel gives of a U8 image under a border.
@@ -288,3 +281,17 @@ macro_rules! with_scratch {
 }
 
 pub(crate) use with_scratch;
+
+/// `write_by_columns!(T, S, kernel, image, output, border)` writes what a kernel of columns gives of
+/// a U8 image to another of its size, of samples `T`. What each column gives is an `S`.
+macro_rules! write_by_columns {
+    ($sample:ty, $item:ty, $kernel:expr, $image:expr, $output:expr, $border:expr) => {{
+        let _limits = $image.valid();
+        let kernel = ByColumns { kernel: $kernel };
+        with_scratch!($image.desc().width(), rows = <$item>::zero() => {
+            write_nine::<$sample, $item, _>(&kernel, $image, $output, $border, rows)
+        })
+    }};
+}
+
+pub(crate) use write_by_columns;
