@@ -41,10 +41,7 @@ pub fn take_bins(fields: &mut Fields) -> Result<Bins, BodyFault>
     let bins = take_up_to_256(fields)?;
     let offset = take_offset(fields)?;
     let range = take_up_to_256(fields)?;
-    match Bins::new(bins, offset, range) {
-        Some(bins) => Ok(bins),
-        None => unreachable!(),
-    }
+    Ok(Bins::new(bins, offset, range).unwrap())
 }
 
 /// The bytes of bins.

@@ -48,8 +48,5 @@ pub fn take_convolution(fields: &mut Fields) -> Result<Convolution, BodyFault>
     let mut room = [0i16; GREATEST_COEFFICIENTS];
     let coefficients = &mut room[..count];
     decode_wide(bytes, coefficients);
-    match Convolution::new(columns, rows, exponent, coefficients) {
-        Some(convolution) => Ok(convolution),
-        None => unreachable!(),
-    }
+    Ok(Convolution::new(columns, rows, exponent, coefficients).unwrap())
 }

@@ -29,10 +29,7 @@ pub fn take_outline(fields: &mut Fields) -> Result<Outline, BodyFault>
     let format = take_open_format(fields)?;
     let width = take_open_side(fields)?;
     let height = take_open_side(fields)?;
-    match Outline::new(width, height, format) {
-        Some(outline) => Ok(outline),
-        None => unreachable!(),
-    }
+    Ok(Outline::new(width, height, format).unwrap())
 }
 
 /// The bytes of an outline.
