@@ -42,31 +42,13 @@ through : {A B : Type 0} (t : A → B) (lo hi : A → A → A) (low high : B →
 through t lo hi low high s a b c d e f g h i = simp (s.lesser, s.greater)
 
 at_least : (v : ℤ) → Splits (int_le v) int_min int_max ◌&&◌ ◌||◌
-at_least v = record { lesser = λ x y. lesser x y; greater = λ x y. greater x y }
-  where
-    lesser : (x y : ℤ) → int_le v (int_min x y) ≡ (int_le v x && int_le v y)
-    lesser x y = grind (arith, ints)
-
-    greater : (x y : ℤ) → int_le v (int_max x y) ≡ (int_le v x || int_le v y)
-    greater x y = grind (arith, ints)
+at_least v = record { lesser = λ x y. grind (arith, ints); greater = λ x y. grind (arith, ints) }
 
 above : (v : ℤ) → Splits (int_lt v) int_min int_max ◌&&◌ ◌||◌
-above v = record { lesser = λ x y. lesser x y; greater = λ x y. greater x y }
-  where
-    lesser : (x y : ℤ) → int_lt v (int_min x y) ≡ (int_lt v x && int_lt v y)
-    lesser x y = grind (arith, ints)
-
-    greater : (x y : ℤ) → int_lt v (int_max x y) ≡ (int_lt v x || int_lt v y)
-    greater x y = grind (arith, ints)
+above v = record { lesser = λ x y. grind (arith, ints); greater = λ x y. grind (arith, ints) }
 
 as_numbers : Splits pos min max int_min int_max
-as_numbers = record { lesser = λ x y. lesser x y; greater = λ x y. greater x y }
-  where
-    lesser : (x y : ℕ) → pos (min x y) ≡ int_min (pos x) (pos y)
-    lesser x y = grind arith
-
-    greater : (x y : ℕ) → pos (max x y) ≡ int_max (pos x) (pos y)
-    greater x y = grind arith
+as_numbers = record { lesser = λ x y. grind arith; greater = λ x y. grind arith }
 
 -- ---- five of nine
 
@@ -81,28 +63,28 @@ ones a b c d e f g h i = one a + one b + one c + one d + one e + one f + one g +
 abbrev agrees : Bool → Bool → Bool → Bool → Bool → Bool → Bool → Bool → Bool → Bool
 agrees a b c d e f g h i = cond (middle_of_nine ◌&&◌ ◌||◌ a b c d e f g h i) (nat_le 5 (ones a b c d e f g h i)) (nat_le (ones a b c d e f g h i) 4)
 
-abbrev both : (Bool → Bool) → Bool
-both q = q true && q false
+both_true : (p q : Bool) → (p && q) ≡ true → (p ≡ true) × (q ≡ true)
+both_true true q h = (refl, h)
+both_true false q h = (cc, cc)
 
-from_both : (q : Bool → Bool) → both q ≡ true → (b : Bool) → q b ≡ true
-from_both q h true = grind arith
-from_both q h false = grind arith
+-- a test of all lists that are so long
+abbrev of_all : ℕ → (List Bool → Bool) → Bool
+of_all zero q = q []
+of_all (suc n) q = of_all n (λ l. q (true ∷ l)) && of_all n (λ l. q (false ∷ l))
 
-abbrev six : Bool → Bool → Bool → Bool
-six a b c = both (λ d. both (λ e. both (λ f. both (λ g. both (λ h. both (λ i. agrees a b c d e f g h i))))))
+from_all : (n : ℕ) (q : List Bool → Bool) → of_all n q ≡ true → (l : List Bool) → length l ≡ n → q l ≡ true
+from_all zero q h [] long = h
+from_all zero q h (b ∷ l) long = absurd (omega (arith, long))
+from_all (suc n) q h [] long = absurd (omega (arith, long))
+from_all (suc n) q h (true ∷ l) long = from_all n (λ l. q (true ∷ l)) ((both_true (of_all n (λ l. q (true ∷ l))) (of_all n (λ l. q (false ∷ l))) h).0) l (omega (arith, long))
+from_all (suc n) q h (false ∷ l) long = from_all n (λ l. q (false ∷ l)) ((both_true (of_all n (λ l. q (true ∷ l))) (of_all n (λ l. q (false ∷ l))) h).1) l (omega (arith, long))
 
-checked : both (λ a. both (λ b. both (λ c. six a b c))) ≡ true
-checked = refl
+abbrev nine_agree : List Bool → Bool
+nine_agree (a ∷ b ∷ c ∷ d ∷ e ∷ f ∷ g ∷ h ∷ i ∷ []) = agrees a b c d e f g h i
+nine_agree l = true
 
 agree : (a b c d e f g h i : Bool) → agrees a b c d e f g h i ≡ true
-agree a b c d e f g h i =
-    let s = from_both (λ c. six a b c) (from_both (λ b. both (λ c. six a b c)) (from_both (λ a. both (λ b. both (λ c. six a b c))) checked a) b) c in
-    from_both (λ i. agrees a b c d e f g h i)
-    (from_both (λ h. both (λ i. agrees a b c d e f g h i))
-    (from_both (λ g. both (λ h. both (λ i. agrees a b c d e f g h i)))
-    (from_both (λ f. both (λ g. both (λ h. both (λ i. agrees a b c d e f g h i))))
-    (from_both (λ e. both (λ f. both (λ g. both (λ h. both (λ i. agrees a b c d e f g h i)))))
-    (from_both (λ d. both (λ e. both (λ f. both (λ g. both (λ h. both (λ i. agrees a b c d e f g h i)))))) s d) e) f) g) h) i
+agree a b c d e f g h i = from_all 9 nine_agree refl (a ∷ b ∷ c ∷ d ∷ e ∷ f ∷ g ∷ h ∷ i ∷ []) refl
 
 true_has_five : (m : Bool) (p q : Bool) → cond m p q ≡ true → m ≡ true → p ≡ true
 true_has_five true p q h e = h
@@ -127,6 +109,13 @@ not_above_itself v = grind (arith, ints)
 one_or_other : (x v : ℤ) → one (int_lt x v) + one (int_le v x) ≡ 1
 one_or_other x v = grind (arith, ints)
 
+counted : (p : ℤ → Bool) (z : ℤ) (zs : List ℤ) → count_by p (z ∷ zs) ≡ one (p z) + count_by p zs
+counted p z zs = sum_by-cons (λ x. cond (p x) 1 0) z zs
+
+below_or_not : (v : ℤ) (zs : List ℤ) → count_by (λ z. int_lt z v) zs + count_by (λ z. int_le v z) zs ≡ length zs
+below_or_not v [] = refl
+below_or_not v (z ∷ zs) = omega (arith, counted (λ z. int_lt z v) z zs, counted (λ z. int_le v z) z zs, one_or_other z v, below_or_not v zs)
+
 -- ---- a number in the middle
 
 -- at most four of the numbers are smaller, and at most four are greater
@@ -139,15 +128,8 @@ from_bits : (v a b c d e f g h i : ℤ)
     → ones (int_lt v a) (int_lt v b) (int_lt v c) (int_lt v d) (int_lt v e) (int_lt v f) (int_lt v g) (int_lt v h) (int_lt v i) ≤ 4
     → IsMiddle (a ∷ b ∷ c ∷ d ∷ e ∷ f ∷ g ∷ h ∷ i ∷ []) v
 from_bits v a b c d e f g h i low high =
-    let a1 : one (int_lt a v) + one (int_le v a) ≡ 1 = one_or_other a v in
-    let b1 : one (int_lt b v) + one (int_le v b) ≡ 1 = one_or_other b v in
-    let c1 : one (int_lt c v) + one (int_le v c) ≡ 1 = one_or_other c v in
-    let d1 : one (int_lt d v) + one (int_le v d) ≡ 1 = one_or_other d v in
-    let e1 : one (int_lt e v) + one (int_le v e) ≡ 1 = one_or_other e v in
-    let f1 : one (int_lt f v) + one (int_le v f) ≡ 1 = one_or_other f v in
-    let g1 : one (int_lt g v) + one (int_le v g) ≡ 1 = one_or_other g v in
-    let h1 : one (int_lt h v) + one (int_le v h) ≡ 1 = one_or_other h v in
-    let i1 : one (int_lt i v) + one (int_le v i) ≡ 1 = one_or_other i v in
+    let nine : count_by (λ z. int_lt z v) (a ∷ b ∷ c ∷ d ∷ e ∷ f ∷ g ∷ h ∷ i ∷ []) + count_by (λ z. int_le v z) (a ∷ b ∷ c ∷ d ∷ e ∷ f ∷ g ∷ h ∷ i ∷ []) ≡ 9
+    = below_or_not v (a ∷ b ∷ c ∷ d ∷ e ∷ f ∷ g ∷ h ∷ i ∷ []) in
     record { fewer = omega arith; more = omega arith }
 
 -- what the minima and maxima leave in the middle is in the middle
@@ -166,9 +148,6 @@ middle_is_middle a b c d e f g h i = known (middle_of_nine int_min int_max a b c
 
 -- ---- there is one
 
-counted : (p : ℤ → Bool) (z : ℤ) (zs : List ℤ) → count_by p (z ∷ zs) ≡ one (p z) + count_by p zs
-counted p z zs = sum_by-cons (λ x. cond (p x) 1 0) z zs
-
 -- of two numbers the smaller is below, or the greater above, each of the numbers
 apart : (v w z : ℤ) → v <ℤ w → 1 ≤ one (int_lt z w) + one (int_lt v z)
 apart v w z h = grind (arith, ints)
@@ -186,10 +165,6 @@ same_middle zs v w long a b =
 
 is_middle_test : (zs : List ℤ) (v : ℤ) → IsMiddle zs v → is_middle zs v ≡ true
 is_middle_test zs v h = let a = test_from_le (count_by (λ z. int_lt z v) zs) 4 h.fewer in let b = test_from_le (count_by (λ z. int_lt v z) zs) 4 h.more in cc
-
-both_true : (p q : Bool) → (p && q) ≡ true → (p ≡ true) × (q ≡ true)
-both_true true q h = (refl, h)
-both_true false q h = (cc, cc)
 
 from_middle_test : (zs : List ℤ) (v : ℤ) → is_middle zs v ≡ true → IsMiddle zs v
 from_middle_test zs v h =
@@ -227,11 +202,13 @@ found : (p : ℤ → Bool) (v : ℤ) (zs : List ℤ) → p v ≡ true → ((z : 
 found p v [] is unique room = absurd (omega arith)
 found p v (z ∷ zs) is unique room = found_here p v z zs (p z) refl is unique (λ h. found p v zs is unique h) room
 
+found_middle : (zs : List ℤ) (v : ℤ) → length zs ≡ 9 → IsMiddle zs v → find (is_middle zs) zs ≡ Some v
+found_middle zs v long h =
+    found (is_middle zs) v zs (is_middle_test zs v h) (λ z e. same_middle zs z v (omega arith) (from_middle_test zs z e) h) (omega (arith, h.fewer, h.more))
+
 -- of nine numbers the one in the middle is the median
 pub median_is : (zs : List ℤ) (v : ℤ) → length zs ≡ 9 → IsMiddle zs v → median zs ≡ v
-median_is zs v long h =
-    ap (λ o. unwrap_or o (pos 0))
-    (found (is_middle zs) v zs (is_middle_test zs v h) (λ z e. same_middle zs z v (omega arith) (from_middle_test zs z e) h) (omega (arith, h.fewer, h.more)))
+median_is zs v long h = ap (λ o. unwrap_or o (pos 0)) (found_middle zs v long h)
 
 -- a number that is found is among those that were looked through
 among_here : (v z : ℤ) (zs : List ℤ) (o : Option ℤ) (b : Bool) → (o ≡ Some v → Contains zs v) → cond b (Some z) o ≡ Some v → Contains (z ∷ zs) v
@@ -255,9 +232,7 @@ median_is_middle a b c d e f g h i =
 pub median_is_among : (a b c d e f g h i : ℤ) → Contains (a ∷ b ∷ c ∷ d ∷ e ∷ f ∷ g ∷ h ∷ i ∷ []) (median (a ∷ b ∷ c ∷ d ∷ e ∷ f ∷ g ∷ h ∷ i ∷ []))
 median_is_among a b c d e f g h i =
     let zs = a ∷ b ∷ c ∷ d ∷ e ∷ f ∷ g ∷ h ∷ i ∷ [] in
-    let v = median zs in
-    let h = median_is_middle a b c d e f g h i in
-    among (is_middle zs) v zs (found (is_middle zs) v zs (is_middle_test zs v h) (λ z e. same_middle zs z v (omega arith) (from_middle_test zs z e) h) (omega (arith, h.fewer, h.more)))
+    among (is_middle zs) (median zs) zs (found_middle zs (median zs) refl (median_is_middle a b c d e f g h i))
 
 -- of numbers from 0 on, each as one of a column
 through_sorted : {A B : Type 0} (t : A → B) (lo hi : A → A → A) (low high : B → B → B) → Splits t lo hi low high → (l m n p q r s u v : A)
@@ -285,36 +260,18 @@ pub median_seen : (f : ℤ → ℤ → ℤ) (x l m n i : ℕ) (y : ℤ) (low cen
     → i + 2 < l → i + 2 < m → i + 2 < n
     → pos (median_of_sorted (three_at low i) (three_at center i) (three_at high i)) ≡ median (nine_around f (pos (x + i)) y)
 median_seen f x l m n i y low center high is_low is_center is_high a b c =
+    let lowest : ℤ → ℤ → ℤ → ℤ = λ a b d. int_min (int_min a b) d in
+    let central : ℤ → ℤ → ℤ → ℤ = λ a b d. int_max (int_min a b) (int_min (int_max a b) d) in
+    let highest : ℤ → ℤ → ℤ → ℤ = λ a b d. int_max (int_max a b) d in
+    let u0 : ℤ = pos (x + i) -ℤ pos 1 in
+    let u1 : ℤ = pos (x + i) in
+    let u2 : ℤ = pos (x + i) +ℤ pos 1 in
+    let left : pos (x + i) -ℤ pos 1 ≡ u0 = refl in
+    let here : pos (x + (i + 1)) -ℤ pos 1 ≡ u1 = omega (arith, ints) in
+    let right : pos (x + (i + 2)) -ℤ pos 1 ≡ u2 = omega (arith, ints) in
     through_sorted pos min max int_min int_max as_numbers (get_or low i 0) (get_or low (i + 1) 0) (get_or low (i + 2) 0) (get_or center i 0) (get_or center (i + 1) 0) (get_or center (i + 2) 0) (get_or high i 0) (get_or high (i + 1) 0) (get_or high (i + 2) 0)
     ∙ same_nine (of_sorted int_min int_max) _ _ _ _ _ _ _ _ _ _ _ _ _ _ _ _ _ _
     (column_at lowest f x l i u0 y low is_low (omega arith) left) (column_at lowest f x l (i + 1) u1 y low is_low (omega arith) here) (column_at lowest f x l (i + 2) u2 y low is_low a right)
     (column_at central f x m i u0 y center is_center (omega arith) left) (column_at central f x m (i + 1) u1 y center is_center (omega arith) here) (column_at central f x m (i + 2) u2 y center is_center b right)
     (column_at highest f x n i u0 y high is_high (omega arith) left) (column_at highest f x n (i + 1) u1 y high is_high (omega arith) here) (column_at highest f x n (i + 2) u2 y high is_high c right)
     ∙ sym (median_of_nine (f u0 (y -ℤ pos 1)) (f u1 (y -ℤ pos 1)) (f u2 (y -ℤ pos 1)) (f u0 y) (f u1 y) (f u2 y) (f u0 (y +ℤ pos 1)) (f u1 (y +ℤ pos 1)) (f u2 (y +ℤ pos 1)))
-  where
-    lowest : ℤ → ℤ → ℤ → ℤ
-    lowest = λ a b d. int_min (int_min a b) d
-
-    central : ℤ → ℤ → ℤ → ℤ
-    central = λ a b d. int_max (int_min a b) (int_min (int_max a b) d)
-
-    highest : ℤ → ℤ → ℤ → ℤ
-    highest = λ a b d. int_max (int_max a b) d
-
-    u0 : ℤ
-    u0 = pos (x + i) -ℤ pos 1
-
-    u1 : ℤ
-    u1 = pos (x + i)
-
-    u2 : ℤ
-    u2 = pos (x + i) +ℤ pos 1
-
-    left : pos (x + i) -ℤ pos 1 ≡ u0
-    left = refl
-
-    here : pos (x + (i + 1)) -ℤ pos 1 ≡ u1
-    here = omega (arith, ints)
-
-    right : pos (x + (i + 2)) -ℤ pos 1 ≡ u2
-    right = omega (arith, ints)
