@@ -81,6 +81,36 @@ macro_rules! assert_pairs {
     };
 }
 
+/// Calls a kernel of two rows that narrows the formula, under each policy at each length: `wrapped`
+/// and `nearest` say what a number becomes.
+macro_rules! assert_narrowed {
+    ($rt:expr, $numbers:expr, $blank:expr, $wrapped:ident, $nearest:ident;
+        |$first:ident, $second:ident, $policy:ident, $out:ident| $call:expr;
+        |$x:ident, $y:ident| $formula:expr) => {{
+        let $policy = Policy::Wrap;
+        assert_pairs!($rt, $numbers, $blank;
+            |$first, $second, $out| $call;
+            |$x, $y| $wrapped($formula));
+        let $policy = Policy::Saturate;
+        assert_pairs!($rt, $numbers, $blank;
+            |$first, $second, $out| $call;
+            |$x, $y| $nearest($formula));
+    }};
+}
+
+/// `assert_narrowed!` of a kernel to U8, and of one to S16.
+macro_rules! assert_bytes {
+    ($rt:expr; $($kernel:tt)*) => {
+        assert_narrowed!($rt, &BYTES, 77u8, wrapped_byte, nearest_byte; $($kernel)*)
+    };
+}
+
+macro_rules! assert_shorts {
+    ($rt:expr; $($kernel:tt)*) => {
+        assert_narrowed!($rt, &SHORTS, 77i16, wrapped, nearest; $($kernel)*)
+    };
+}
+
 /// The number of 16 bits that agrees with this one modulo 65,536.
 fn wrapped(number: i32) -> i16 {
     let rest = number.rem_euclid(65_536);
@@ -116,66 +146,28 @@ fn bits(rt: HostRuntime) {
 
 #[test]
 fn sums_of_bytes(rt: HostRuntime) {
-    assert_pairs!(rt, &BYTES, 77u8;
-        |a, b, out| add_u8(a, b, Policy::Wrap, out);
-        |x, y| wrapped_byte(x + y));
-    assert_pairs!(rt, &BYTES, 77u8;
-        |a, b, out| add_u8(a, b, Policy::Saturate, out);
-        |x, y| nearest_byte(x + y));
-    assert_pairs!(rt, &BYTES, 77u8;
-        |a, b, out| sub_u8(a, b, Policy::Wrap, out);
-        |x, y| wrapped_byte(x - y));
-    assert_pairs!(rt, &BYTES, 77u8;
-        |a, b, out| sub_u8(a, b, Policy::Saturate, out);
-        |x, y| nearest_byte(x - y));
+    assert_bytes!(rt; |a, b, policy, out| add_u8(a, b, policy, out); |x, y| x + y);
+    assert_bytes!(rt; |a, b, policy, out| sub_u8(a, b, policy, out); |x, y| x - y);
 }
 
 #[test]
 fn sums_of_shorts(rt: HostRuntime) {
-    assert_pairs!(rt, &SHORTS, 77i16;
-        |a, b, out| add_s16(a, b, Policy::Wrap, out);
-        |x, y| wrapped(x + y));
-    assert_pairs!(rt, &SHORTS, 77i16;
-        |a, b, out| add_s16(a, b, Policy::Saturate, out);
-        |x, y| nearest(x + y));
-    assert_pairs!(rt, &SHORTS, 77i16;
-        |a, b, out| sub_s16(a, b, Policy::Wrap, out);
-        |x, y| wrapped(x - y));
-    assert_pairs!(rt, &SHORTS, 77i16;
-        |a, b, out| sub_s16(a, b, Policy::Saturate, out);
-        |x, y| nearest(x - y));
+    assert_shorts!(rt; |a, b, policy, out| add_s16(a, b, policy, out); |x, y| x + y);
+    assert_shorts!(rt; |a, b, policy, out| sub_s16(a, b, policy, out); |x, y| x - y);
 }
 
 #[test]
 fn products_of_bytes(rt: HostRuntime) {
-    assert_pairs!(rt, &BYTES, 77u8;
-        |a, b, out| mul_u8(a, b, 0, Policy::Wrap, out);
-        |x, y| wrapped_byte(x * y));
-    assert_pairs!(rt, &BYTES, 77u8;
-        |a, b, out| mul_u8(a, b, 7, Policy::Saturate, out);
-        |x, y| nearest_byte(x * y / 128));
-    assert_pairs!(rt, &BYTES, 77u8;
-        |a, b, out| mul_u8(a, b, 7, Policy::Wrap, out);
-        |x, y| wrapped_byte(x * y / 128));
-    assert_pairs!(rt, &BYTES, 77u8;
-        |a, b, out| mul_u8(a, b, 15, Policy::Saturate, out);
-        |x, y| nearest_byte(x * y / 32_768));
+    assert_bytes!(rt; |a, b, policy, out| mul_u8(a, b, 0, policy, out); |x, y| x * y);
+    assert_bytes!(rt; |a, b, policy, out| mul_u8(a, b, 7, policy, out); |x, y| x * y / 128);
+    assert_bytes!(rt; |a, b, policy, out| mul_u8(a, b, 15, policy, out); |x, y| x * y / 32_768);
 }
 
 #[test]
 fn products_of_shorts(rt: HostRuntime) {
-    assert_pairs!(rt, &SHORTS, 77i16;
-        |a, b, out| mul_s16(a, b, 0, Policy::Wrap, out);
-        |x, y| wrapped(x * y));
-    assert_pairs!(rt, &SHORTS, 77i16;
-        |a, b, out| mul_s16(a, b, 1, Policy::Saturate, out);
-        |x, y| nearest(x * y / 2));
-    assert_pairs!(rt, &SHORTS, 77i16;
-        |a, b, out| mul_s16(a, b, 1, Policy::Wrap, out);
-        |x, y| wrapped(x * y / 2));
-    assert_pairs!(rt, &SHORTS, 77i16;
-        |a, b, out| mul_s16(a, b, 15, Policy::Saturate, out);
-        |x, y| nearest(x * y / 32_768));
+    assert_shorts!(rt; |a, b, policy, out| mul_s16(a, b, 0, policy, out); |x, y| x * y);
+    assert_shorts!(rt; |a, b, policy, out| mul_s16(a, b, 1, policy, out); |x, y| x * y / 2);
+    assert_shorts!(rt; |a, b, policy, out| mul_s16(a, b, 15, policy, out); |x, y| x * y / 32_768);
 }
 
 #[test]
