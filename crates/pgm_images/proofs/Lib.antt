@@ -5,6 +5,7 @@ pub mod WritingLemmas
 pub mod DigitLemmas
 pub mod WrittenBack
 pub mod GapLemmas
+pub mod ShortLemmas
 pub mod SpacedLemmas
 pub mod StandsLemmas
 pub mod HeaderLemmas

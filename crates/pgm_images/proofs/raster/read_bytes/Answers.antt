@@ -1,6 +1,6 @@
-use Rattle.std.proofs.Common.{◌≡◌, nat_le, map, pos, true, false, Some, None, Ok, Err, refl, ap, sym, arith, ◌∙◌}
+use Rattle.std.proofs.Common.{◌≡◌, nat_le, map, pos, true, false, Ok, refl, ap, sym, arith, ◌∙◌}
 use Rattle.std.proofs.lemmas.Bool.{le-leb, lt-leb}
-use Rattle.pgm_images.specs.Raster.{so_many, take_short_sample, nothing_left, all_up_to, samples_up_to}
+use Rattle.pgm_images.specs.Raster.{all_up_to, samples_up_to}
 use Rattle.pgm_images.proofs.RasterLemmas.{bytes-many, bytes-other}
 use Rattle.pgm_images.proofs.raster.read_bytes.Goals as goal
 

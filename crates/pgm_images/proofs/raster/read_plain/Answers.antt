@@ -1,4 +1,4 @@
-use Rattle.std.proofs.Common.{◌≡◌, ◌∙◌, ap, pos, sym, arith}
+use Rattle.std.proofs.Common.{◌∙◌, ap, pos, sym, arith}
 use Rattle.pgm_images.specs.Marks.{take_next, ends}
 use Rattle.pgm_images.proofs.RasterLemmas.{filling_set, filling_done}
 use Rattle.pgm_images.proofs.raster.read_plain.Goals as goal
