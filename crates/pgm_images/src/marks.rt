@@ -1,6 +1,6 @@
 //! The marks of a text, from its front: whitespace, comments and numbers.
 ghost use Rattle.std.specs.Prelude.{◌≡◌, ◌∷◌, IfSome, IfNone, None, Some, false, true, min, length};
-ghost use Rattle.std.specs.Prelude.{◌<◌};
+ghost use Rattle.std.specs.Prelude.{◌<◌, ◌≤◌, ◌+◌, ◌*◌, ◌-◌, nat_lt, if◌then◌else◌};
 ghost use Rattle.std.specs.Char.{is_ascii_digit};
 ghost use Rattle.pgm_images.specs.Marks.{ends_line, is_space, begins_gap, past_blanks};
 ghost use Rattle.pgm_images.specs.Marks.{digits_after, take_number, take_next, ends, Kept};
@@ -78,8 +78,47 @@ fn begins_gap(text: &[u8]) -> bool
     }
 }
 
+/// What a byte is as a digit: below 10 where it is one.
+#[inline(always)]
+fn digit(byte: u8) -> u8
+    ensures below { nat_lt result 10 ≡ is_ascii_digit byte }
+    ensures value { is_ascii_digit byte ≡ true → result ≡ byte - 48 }
+{
+    byte.wrapping_sub(b'0')
+}
+
+/// The number with one digit more, where that is one.
+#[inline(always)]
+fn with_digit(number: u16, digit: u8, is_digit: bool) -> u16
+    requires { number ≤ 1000 }
+    ensures { result ≡ (if is_digit then number * 10 + digit else number) }
+{
+    number + u16::from(is_digit) * (number * 9 + u16::from(digit))
+}
+
+/// A number of at most three digits behind one whitespace byte, and the text after them. `None`
+/// where others stand there or fewer than five bytes are left. How many digits there are can't be
+/// foreseen, so nothing here branches on it.
+#[inline(always)]
+fn take_short(text: &[u8]) -> Option<(u16, &[u8])>
+    ensures { IfSome result (λ taken. Kept (take_next text.now) taken.0 taken.1.now) }
+{
+    if text.len() < 5 {
+        return None;
+    }
+    let (first, second) = (digit(text[1]), digit(text[2]));
+    let (third, fourth) = (digit(text[3]), digit(text[4]));
+    if !is_space(text[0]) || first > 9 || second.max(third).max(fourth) < 10 {
+        return None;
+    }
+    let two = second < 10;
+    let three = two & (third < 10);
+    let number = with_digit(with_digit(u16::from(first), second, two), third, three);
+    Some((number, &text[2 + usize::from(two) + usize::from(three)..]))
+}
+
 /// A gap and a number, and the text after them.
-pub fn take_next(text: &[u8]) -> Option<(u16, &[u8])>
+fn take_any(text: &[u8]) -> Option<(u16, &[u8])>
     ensures some { IfSome result (λ taken. Kept (take_next text.now) taken.0 taken.1.now) }
     ensures none { IfNone result (take_next text.now ≡ None) }
 {
@@ -87,6 +126,18 @@ pub fn take_next(text: &[u8]) -> Option<(u16, &[u8])>
         take_number(past_blanks(text)?)
     } else {
         None
+    }
+}
+
+/// A gap and a number, and the text after them.
+#[inline(always)]
+pub fn take_next(text: &[u8]) -> Option<(u16, &[u8])>
+    ensures some { IfSome result (λ taken. Kept (take_next text.now) taken.0 taken.1.now) }
+    ensures none { IfNone result (take_next text.now ≡ None) }
+{
+    match take_short(text) {
+        Some(taken) => Some(taken),
+        None => take_any(text),
     }
 }
 
