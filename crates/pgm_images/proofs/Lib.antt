@@ -1,5 +1,6 @@
 pub mod RasterLemmas
 pub mod ReadingLemmas
+pub mod DescriptionLemmas
 pub mod WritingLemmas
 pub mod DigitLemmas
 pub mod WrittenBack

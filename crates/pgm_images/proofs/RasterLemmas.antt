@@ -1,10 +1,16 @@
 -- One more number of a raster.
-use Rattle.std.proofs.Common.{◌≡◌, ℕ, zero, suc, ◌-◌, ◌<◌, Bool, List, [], ◌∷◌, ◌++◌, Option, Some, None, refl, ap, ◌∙◌, append_assoc, length, ◌≢◌, arith}
+use Rattle.std.proofs.Common.{◌≡◌, ℕ, ℤ, pos, zero, suc, ◌+◌, ◌-◌, ◌<◌, ◌≤◌, Bool, true, false, not, ◌==◌, ◌||◌, ◌&&◌, nat_le, nat_lt, List, [], ◌∷◌, ◌++◌, map, Option, Some, None, Result, Ok, Err, refl, ap, sym, subst, ◌∙◌, append_assoc, append-nil, length, take, ◌≢◌, arith}
 use Rattle.std.specs.Prelude.{min}
 use Rattle.std.specs.Option.{option_map}
-use Rattle.pgm_images.specs.declared.gathered.Gathered.{Gathered}
+use Rattle.std.proofs.lemmas.Bool.{eqb-true}
+use Rattle.std.proofs.lemmas.Bool.Decides.{nat_tests}
+use Rattle.std.proofs.Math.ListN.{set}
+use Rattle.std.proofs.lemmas.List.{map-append, length-set, take_all, take_more_set}
+use Rattle.std.proofs.lemmas.List.Folds.{list_all-append}
+use Rattle.pgm_images.specs.declared.fault.PgmFault.{PgmFault}
+use Rattle.pgm_images.specs.declared.fault.PgmFault.TheVariants.{InvalidValue}
 use Rattle.pgm_images.specs.Marks.{BeginsWith, Kept}
-use Rattle.pgm_images.specs.Raster.{Gathers, so_many, take_short_sample, nothing_left}
+use Rattle.pgm_images.specs.Raster.{Reads, samples_up_to, all_up_to, so_many, take_short_sample, nothing_left}
 
 -- these numbers, and then the others
 abbrev pub after : List ℕ → Option (List ℕ) → Option (List ℕ)
@@ -14,6 +20,14 @@ after_one : (done : List ℕ) (n : ℕ) (o : Option (List ℕ)) → after done (
 after_one done n None = refl
 after_one done n (Some others) = ap Some (simp append_assoc)
 
+pub after_none : (o : Option (List ℕ)) → after [] o ≡ o
+after_none None = refl
+after_none (Some others) = refl
+
+and_true : (b : Bool) → (b && true) ≡ b
+and_true true = refl
+and_true false = refl
+
 -- one more of them was taken
 so_many-more : (take : List ℕ → BeginsWith ℕ) (is_end : List ℕ → Bool) (left n : ℕ) (done rest others : List ℕ) (whole : Option (List ℕ)) → 0 < left
     → whole ≡ after done (so_many take is_end left rest) → take rest ≡ Some (n, others) → whole ≡ after (done ++ n ∷ []) (so_many take is_end (left - 1) others)
@@ -22,13 +36,93 @@ so_many-more take is_end (suc left) n done rest others whole some is next =
     let less : suc left - 1 ≡ left = omega arith in
     rw less (is ∙ rw next (after_one done n (so_many take is_end left others)))
 
--- it was added to those that are gathered
-pub gathered_more : (take : List ℕ → BeginsWith ℕ) (is_end : List ℕ → Bool) (left number kept : ℕ) (old new : Gathered) (rest others : List ℕ) (whole : Option (List ℕ)) → 0 < left
-    → (done : List ℕ) × Gathers old done × (whole ≡ after done (so_many take is_end left rest)) → number ≡ kept → Kept (take rest) kept others
-    → ((numbers : List ℕ) (n : ℕ) → Gathers old numbers → number ≡ min n 65535 → Gathers new (numbers ++ n ∷ []))
-    → (done : List ℕ) × Gathers new done × (whole ≡ after done (so_many take is_end (left - 1) others))
-gathered_more take is_end left number kept old new rest others whole some (done, gathers, is) as_kept took adds =
-    (done ++ took.number ∷ [], adds done took.number gathers (as_kept ∙ took.least), so_many-more take is_end left took.number done rest others whole some is took.is)
+so_many-none : (take : List ℕ → BeginsWith ℕ) (is_end : List ℕ → Bool) (left : ℕ) (done rest : List ℕ) (whole : Option (List ℕ)) → 0 < left
+    → whole ≡ after done (so_many take is_end left rest) → take rest ≡ None → whole ≡ None
+so_many-none take is_end zero done rest whole some is none = absurd (omega arith)
+so_many-none take is_end (suc left) done rest whole some is none = is ∙ rw none refl
+
+-- ---- numbers that were written over samples
+
+-- These numbers of a text are the samples, unless one is above the maxval. A number above 65535 was
+-- taken for 65535.
+pub record Filled (maxval : ℕ) (high : Bool) (written : List ℤ) (numbers : List ℕ) : Type 0 where
+  pub above : high ≡ not (all_up_to maxval numbers)
+  pub samples : high ≡ false → written ≡ map pos numbers
+
+-- as many of the whole text's numbers were written as index says, and rest is the text after them
+abbrev pub Filling : (take : List ℕ → BeginsWith ℕ) (is_end : List ℕ → Bool) (maxval : ℕ) (above : Bool) (samples : List ℤ) (left : ℕ) (rest : List ℕ) (whole : Option (List ℕ)) → Type 0
+Filling take is_end maxval above samples left rest whole = (numbers : List ℕ) × Filled maxval above samples numbers × (whole ≡ after numbers (so_many take is_end left rest))
+
+kept_above : (maxval n kept : ℕ) → maxval ≤ 32767 → kept ≡ min n 65535 → nat_lt maxval kept ≡ not (nat_le n maxval)
+kept_above maxval n kept low least = grind (arith, nat_tests)
+
+or_not : (a b c d : Bool) → a ≡ not b → c ≡ not d → (a || c) ≡ not (b && d)
+or_not a true c d e f = rw (e, f) refl
+or_not a false c d e f = rw e refl
+
+neither : (a b : Bool) → (a || b) ≡ false → (a ≡ false) × (b ≡ false)
+neither true b e = cc
+neither false b e = (refl, e)
+
+low_kept : (maxval n kept : ℕ) → maxval ≤ 32767 → kept ≡ min n 65535 → nat_lt maxval kept ≡ false → min kept maxval ≡ n
+low_kept maxval n kept low least e = grind (arith, nat_tests)
+
+filled_more : (maxval n kept : ℕ) (above : Bool) (samples : List ℤ) (sample : ℤ) (numbers : List ℕ) → maxval ≤ 32767 → kept ≡ min n 65535 → sample ≡ pos (min kept maxval)
+    → Filled maxval above samples numbers → Filled maxval (above || nat_lt maxval kept) (samples ++ sample ∷ []) (numbers ++ n ∷ [])
+filled_more maxval n kept above samples sample numbers low least is filled =
+    let each : all_up_to maxval (numbers ++ n ∷ []) ≡ (all_up_to maxval numbers && (nat_le n maxval && true)) = list_all-append (λ m. nat_le m maxval) numbers (n ∷ []) in
+    record {
+      above = or_not above (all_up_to maxval numbers) (nat_lt maxval kept) (nat_le n maxval && true) filled.above (kept_above maxval n kept low least ∙ ap not (sym (and_true (nat_le n maxval)))) ∙ ap not (sym each);
+      samples = λ none.
+          let (before, now) = neither above (nat_lt maxval kept) none in
+          ap (λ l. l ++ sample ∷ []) (filled.samples before)
+          ∙ ap (λ x. map pos numbers ++ x ∷ []) (is ∙ ap pos (low_kept maxval n kept low least now))
+          ∙ sym (map-append pos numbers (n ∷ []));
+    }
+
+-- none was written
+pub filling_none : (take : List ℕ → BeginsWith ℕ) (is_end : List ℕ → Bool) (maxval count : ℕ) (text : List ℕ) → Filling take is_end maxval false [] count text (so_many take is_end count text)
+filling_none take is_end maxval count text = ([], record { above = refl; samples = λ e. refl }, sym (after_none (so_many take is_end count text)))
+
+-- one more was written
+pub filling_more : (take : List ℕ → BeginsWith ℕ) (is_end : List ℕ → Bool) (maxval left kept : ℕ) (above : Bool) (samples : List ℤ) (sample : ℤ) (rest others : List ℕ) (whole : Option (List ℕ)) → 0 < left
+    → maxval ≤ 32767 → Kept (take rest) kept others → sample ≡ pos (min kept maxval) → Filling take is_end maxval above samples left rest whole
+    → Filling take is_end maxval (above || nat_lt maxval kept) (samples ++ sample ∷ []) (left - 1) others whole
+filling_more take is_end maxval left kept above samples sample rest others whole some low took is (numbers, filled, whole_is) =
+    (numbers ++ took.number ∷ [], filled_more maxval took.number kept above samples sample numbers low took.least is filled, so_many-more take is_end left took.number numbers rest others whole some whole_is took.is)
+
+-- a number was written over the sample at index
+pub filling_set : {T : Type 0} (value : T → ℤ) (take_one : List ℕ → BeginsWith ℕ) (is_end : List ℕ → Bool) (maxval kept index : ℕ) (high : Bool) (samples : List T) (sample : T) (rest others : List ℕ) (whole : Option (List ℕ))
+    → index < length samples → maxval ≤ 32767 → Kept (take_one rest) kept others → value sample ≡ pos (min kept maxval)
+    → Filling take_one is_end maxval high (map value (take index samples)) (length samples - index) rest whole
+    → Filling take_one is_end maxval (high || nat_lt maxval kept) (map value (take (index + 1) (set samples index sample))) (length (set samples index sample) - (index + 1)) others whole
+filling_set {T} value take_one is_end maxval kept index high samples sample rest others whole within low took is before =
+    let written : map value (take (index + 1) (set samples index sample)) ≡ map value (take index samples) ++ value sample ∷ [] =
+    ap (map value) (take_more_set samples index sample within) ∙ map-append value (take index samples) (sample ∷ []) in
+    let fewer : length (set samples index sample) - (index + 1) ≡ length samples - index - 1 = omega (arith, length-set {A = T}) in
+    let more = filling_more take_one is_end maxval (length samples - index) kept high (map value (take index samples)) (value sample) rest others whole (omega arith) low took is before in
+    subst (λ w. Filling take_one is_end maxval (high || nat_lt maxval kept) w (length (set samples index sample) - (index + 1)) others whole) (sym written)
+    (subst (λ left. Filling take_one is_end maxval (high || nat_lt maxval kept) (map value (take index samples) ++ value sample ∷ []) left others whole) (sym fewer) more)
+
+-- all were written, the text ends, and none is above the maxval
+not_false : (high below : Bool) → high ≡ not below → high ≡ false → below ≡ true
+not_false high true e f = refl
+not_false high false e f = cc
+
+pub filling_done : {A T : Type 0} (value : T → ℤ) (take_one : List ℕ → BeginsWith ℕ) (is_end : List ℕ → Bool) (maxval index : ℕ) (high : Bool) (samples : List T) (rest : List ℕ) (whole : Option (List ℕ)) (done : A)
+    → length samples ≤ index → high ≡ false → is_end rest ≡ true
+    → Filling take_one is_end maxval high (map value (take index samples)) (length samples - index) rest whole
+    → Reads {A = A} (samples_up_to maxval whole) (map value samples) (Ok done)
+filling_done value take_one is_end maxval index high samples rest whole done all low end (numbers, filled, is) =
+    let none : length samples - index ≡ 0 = omega arith in
+    let found : whole ≡ Some numbers = is ∙ ap (λ left. after numbers (so_many take_one is_end left rest)) none ∙ rw end (ap Some (append-nil numbers)) in
+    let below : all_up_to maxval numbers ≡ true = not_false high (all_up_to maxval numbers) filled.above low in
+    let written : map value samples ≡ map pos numbers = ap (map value) (sym (take_all index samples all)) ∙ filled.samples low in
+    record { ok = ap (samples_up_to maxval) found ∙ rw below (ap Ok (sym written)); err = tt }
+
+pub none_left : (rest : List ℕ) → (length rest == 0) ≡ true → nothing_left rest ≡ true
+none_left [] e = refl
+none_left (b ∷ rest) e = let zero : length (b ∷ rest) ≡ 0 = eqb-true (length (b ∷ rest)) 0 e in absurd (omega arith)
 
 -- bytes that are one number each: as many as there are
 pub bytes-many : (count : ℕ) (bytes : List ℕ) → length bytes ≡ count → so_many take_short_sample nothing_left count bytes ≡ Some bytes

@@ -1,16 +1,12 @@
 -- The samples of a PGM text, as numbers.
-use Rattle.std.specs.Prelude.{◌≡◌, ℕ, zero, suc, ◌+◌, ◌*◌, not, ◌⊎◌, Bool, true, false, if◌then◌else◌, nat_le, nat_lt, List, [], ◌∷◌, map, ℤ, pos, Option, Some, None, Result, Ok, Err, IfOk, IfErr, IsTrue}
+use Rattle.std.specs.Prelude.{◌≡◌, ℕ, zero, suc, ◌+◌, ◌*◌, Bool, true, false, if◌then◌else◌, nat_le, nat_lt, List, [], ◌∷◌, map, ℤ, pos, Option, Some, None, Result, Ok, Err, OnOk, IfErr}
 use Rattle.std.specs.List.{list_all}
 use Rattle.std.specs.Option.{option_map}
-use Rattle.vx_base.specs.declared.samples.Samples.{Samples}
-use Rattle.vx_base.specs.Picture.{values, samples_format}
 use Rattle.pgm_images.specs.declared.fault.PgmFault.{PgmFault}
-use Rattle.pgm_images.specs.declared.fault.PgmFault.TheVariants.{NoMemory, InvalidFormat, InvalidValue}
+use Rattle.pgm_images.specs.declared.fault.PgmFault.TheVariants.{InvalidFormat, InvalidValue}
 use Rattle.pgm_images.specs.declared.header.Encoding.{Encoding}
 use Rattle.pgm_images.specs.declared.header.Encoding.TheVariants.{Plain, Raw}
-use Rattle.pgm_images.specs.declared.gathered.Gathered.{Gathered}
 use Rattle.pgm_images.specs.Marks.{BeginsWith, then_take, take_next, ends}
-use Rattle.pgm_images.specs.Header.{format_up_to, is_maxval}
 
 -- a sample of a raw text: a byte where none is above 255, else two, the most significant first
 abbrev pub take_short_sample : List ℕ → BeginsWith ℕ
@@ -47,15 +43,7 @@ abbrev pub samples_up_to : ℕ → Option (List ℕ) → Result (List ℤ) PgmFa
 samples_up_to maxval None = Err InvalidFormat
 samples_up_to maxval (Some numbers) = if all_up_to maxval numbers then Ok (map pos numbers) else Err InvalidValue
 
--- The code read these samples, up to a maxval, or had no memory for them.
-pub record Reads (maxval : ℕ) (told : Result (List ℤ) PgmFault) (result : Result Samples PgmFault) : Type 0 where
-  pub ok : IfOk result (λ samples. told ≡ Ok (values samples))
-  pub format : IfOk result (λ samples. samples_format samples ≡ format_up_to maxval)
-  pub err : IfErr result (λ e. (e ≡ NoMemory) ⊎ (told ≡ Err e))
-
--- the code has gathered these numbers of a text
-pub record Gathers (gathered : Gathered) (numbers : List ℕ) : Type 0 where
-  pub limit : IsTrue (is_maxval gathered.maxval)
-  pub above : gathered.above ≡ not (all_up_to gathered.maxval numbers)
-  pub format : samples_format gathered.samples ≡ format_up_to gathered.maxval
-  pub samples : gathered.above ≡ false → values gathered.samples ≡ map pos numbers
+-- The code wrote these samples over others, or told the fault.
+pub record Reads {A : Type 0} (told : Result (List ℤ) PgmFault) (samples : List ℤ) (result : Result A PgmFault) : Type 0 where
+  pub ok : OnOk result (told ≡ Ok samples)
+  pub err : IfErr result (λ fault. told ≡ Err fault)

@@ -1,7 +1,8 @@
 -- What a PGM text stands for: a picture, or the first fault.
 use Rattle.std.specs.Prelude.{◌≡◌, ℕ, ℤ, ◌⊎◌, Bool, true, false, List, Option, Some, None, Result, Ok, Err}
 use Rattle.vx_base.specs.Description.{Description, sample_count}
-use Rattle.vx_base.specs.Picture.{PictureValue}
+use Rattle.vx_base.specs.declared.samples.Samples.{Samples}
+use Rattle.vx_base.specs.Picture.{PictureValue, Describes}
 use Rattle.pgm_images.specs.declared.fault.PgmFault.{PgmFault}
 use Rattle.pgm_images.specs.declared.fault.PgmFault.TheVariants.{NoMemory, InvalidFormat}
 use Rattle.pgm_images.specs.Marks.{BeginsWith}
@@ -33,6 +34,22 @@ fault_of (Err fault) = Some fault
 -- the first fault of a text, which is none where it stands for a picture
 abbrev pub fault : List ℕ → Option PgmFault
 fault text = fault_of (reading text)
+
+abbrev pub description_after : BeginsWith HeaderValue → Result Description PgmFault
+description_after None = Err InvalidFormat
+description_after (Some taken) = header_description taken.0.width taken.0.height taken.0.maxval
+
+-- the description of the picture that a text stands for if it stands for one, as its header tells
+-- it, or the header's fault
+abbrev pub description_in : List ℕ → Result Description PgmFault
+description_in text = description_after (take_header text)
+
+-- The text's header is allowed, and the samples are as it tells: of the format, and one for each
+-- place.
+pub record HasRoom (text : List ℕ) (samples : Samples) : Type 0 where
+  pub description : Description
+  pub told : description_in text ≡ Ok description
+  pub described : Describes description samples
 
 -- whether the text begins with a header that is allowed: only then memory is taken
 abbrev pub is_headed : List ℕ → Bool

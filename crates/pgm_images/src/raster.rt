@@ -1,37 +1,43 @@
 //! The samples of a text.
 ghost use Rattle.std.specs.Prelude.{◌≡◌, ℕ, ◌≤◌, nat_le, ◌<◌, Some, None, IfSome, IfNone, IsTrue};
-ghost use Rattle.pgm_images.specs.Header.{is_maxval};
+ghost use Rattle.std.specs.Prelude.{length, map, pos};
+ghost use Rattle.vx_base.specs.Picture.{values, samples_format};
+ghost use Rattle.pgm_images.specs.Header.{is_maxval, format_up_to};
 ghost use Rattle.pgm_images.specs.Marks.{Kept, take_next, ends};
 ghost use Rattle.pgm_images.specs.Raster.{Reads, all_up_to, numbers_in, so_many, take_short_sample};
 ghost use Rattle.pgm_images.specs.Raster.{take_long_sample, nothing_left, samples_up_to};
 
 use crate::fault::PgmFault;
-use crate::gathered::Gathered;
-use crate::header::Encoding;
+use crate::header::{Encoding, Header};
 use crate::marks::{ends, take_next};
-use std::alloc::Global;
+use crate::text_sample::TextSample;
 use vx_base::Samples;
 
-/// So many decimal numbers and nothing else but whitespace and comments.
-fn plain_samples(alloc: Global, maxval: u16, count: usize, text: &[u8]) -> Result<Samples, PgmFault>
-    requires { IsTrue (is_maxval maxval) }
-    ensures { Reads maxval (samples_up_to maxval (so_many take_next ends count text.now)) result }
+/// So many decimal numbers and nothing else but whitespace and comments. A number above the maxval
+/// is told only once all is read, and written as the maxval.
+fn read_plain<T: TextSample>(maxval: u16, text: &[u8], samples: &mut [T]) -> Result<(), PgmFault>
+    requires limit { maxval ≤ T.limit }
+    requires maxval { maxval ≤ 32767 }
+    ensures { Reads (samples_up_to maxval
+        (so_many take_next ends (length samples.old) text.now)) (map T.value samples.new) result }
 {
-    let mut gathered = Gathered::new(alloc, maxval);
     let mut rest = text;
-    let mut left = count;
-    while left > 0 {
+    let mut above = false;
+    for index in 0..samples.len() {
         let Some((number, others)) = take_next(rest) else {
             return Err(PgmFault::InvalidFormat);
         };
-        gathered.add(number)?;
+        above = above | (number > maxval);
+        samples[index] = T::of_number(number.min(maxval));
         rest = others;
-        left -= 1;
     }
     if !ends(rest) {
-        return Err(PgmFault::InvalidFormat);
+        Err(PgmFault::InvalidFormat)
+    } else if above {
+        Err(PgmFault::InvalidValue)
+    } else {
+        Ok(())
     }
-    gathered.finish()
 }
 
 /// The greatest of the bytes, or 0.
@@ -46,18 +52,19 @@ fn greatest(bytes: &[u8]) -> u8
 }
 
 /// So many samples of one byte each and nothing else.
-fn byte_samples(alloc: Global, maxval: u16, count: usize, bytes: &[u8]) -> Result<Samples, PgmFault>
-    requires { maxval < 256 }
-    ensures { Reads maxval (samples_up_to maxval
-        (so_many take_short_sample nothing_left count bytes.now)) result }
+fn read_bytes(maxval: u16, bytes: &[u8], samples: &mut [u8]) -> Result<(), PgmFault>
+    ensures { Reads (samples_up_to maxval
+        (so_many take_short_sample nothing_left (length samples.old) bytes.now))
+        (map pos samples.new) result }
 {
-    if bytes.len() != count {
+    if bytes.len() != samples.len() {
         return Err(PgmFault::InvalidFormat);
     }
+    samples.copy_from_slice(bytes);
     if u16::from(greatest(bytes)) > maxval {
         return Err(PgmFault::InvalidValue);
     }
-    Ok(Samples::U8(Vec::from_slice(alloc, bytes)?))
+    Ok(())
 }
 
 /// A number of two bytes, and the bytes after it.
@@ -71,43 +78,48 @@ fn take_pair(bytes: &[u8]) -> Option<(u16, &[u8])>
 }
 
 /// So many samples of two bytes each and nothing else.
-fn pair_samples(alloc: Global, maxval: u16, count: usize, bytes: &[u8]) -> Result<Samples, PgmFault>
-    requires { IsTrue (is_maxval maxval) }
-    ensures { Reads maxval (samples_up_to maxval
-        (so_many take_long_sample nothing_left count bytes.now)) result }
+fn read_pairs<T: TextSample>(maxval: u16, bytes: &[u8], samples: &mut [T]) -> Result<(), PgmFault>
+    requires limit { maxval ≤ T.limit }
+    requires maxval { maxval ≤ 32767 }
+    ensures { Reads (samples_up_to maxval
+        (so_many take_long_sample nothing_left (length samples.old) bytes.now))
+        (map T.value samples.new) result }
 {
-    let mut gathered = Gathered::new(alloc, maxval);
     let mut rest = bytes;
-    let mut left = count;
-    while left > 0 {
+    let mut above = false;
+    for index in 0..samples.len() {
         let Some((number, others)) = take_pair(rest) else {
             return Err(PgmFault::InvalidFormat);
         };
-        gathered.add(number)?;
+        above = above | (number > maxval);
+        samples[index] = T::of_number(number.min(maxval));
         rest = others;
-        left -= 1;
     }
     if !rest.is_empty() {
-        return Err(PgmFault::InvalidFormat);
+        Err(PgmFault::InvalidFormat)
+    } else if above {
+        Err(PgmFault::InvalidValue)
+    } else {
+        Ok(())
     }
-    gathered.finish()
 }
 
-/// The samples that the text after a header has, and which are all that it has.
-pub fn samples(
-    alloc: Global,
-    encoding: Encoding,
-    maxval: u16,
-    count: usize,
-    text: &[u8],
-) -> Result<Samples, PgmFault>
-    requires { IsTrue (is_maxval maxval) }
-    ensures { Reads maxval (samples_up_to maxval
-        (numbers_in encoding maxval count text.now)) result }
+/// Reads the samples that the text after a header has, and which are all that it has, over others
+/// of the header's format. They may be any where there is a fault.
+pub fn read_samples(header: Header, text: &[u8], samples: &mut Samples) -> Result<(), PgmFault>
+    requires maxval { IsTrue (is_maxval header.maxval) }
+    requires format { samples_format samples.old ≡ format_up_to header.maxval }
+    ensures format { samples_format samples.new ≡ samples_format samples.old }
+    ensures count { length (values samples.new) ≡ length (values samples.old) }
+    ensures value { Reads (samples_up_to header.maxval
+        (numbers_in header.encoding header.maxval (length (values samples.old)) text.now))
+        (values samples.new) result }
 {
-    match encoding {
-        Encoding::Plain => plain_samples(alloc, maxval, count, text),
-        Encoding::Raw if maxval < 256 => byte_samples(alloc, maxval, count, text),
-        Encoding::Raw => pair_samples(alloc, maxval, count, text),
+    match (header.encoding, samples) {
+        (Encoding::Plain, Samples::U8(samples)) => read_plain(header.maxval, text, samples),
+        (Encoding::Plain, Samples::S16(samples)) => read_plain(header.maxval, text, samples),
+        (Encoding::Raw, Samples::U8(samples)) => read_bytes(header.maxval, text, samples),
+        (Encoding::Raw, Samples::S16(samples)) => read_pairs(header.maxval, text, samples),
+        (_, Samples::U32(_)) => unreachable!(),
     }
 }

@@ -1,0 +1,26 @@
+use Rattle.std.proofs.Common.{◌≡◌, nat_le, map, pos, true, false, Some, None, Ok, Err, refl, ap, sym, arith, ◌∙◌}
+use Rattle.std.proofs.lemmas.Bool.{le-leb, lt-leb}
+use Rattle.pgm_images.specs.Raster.{so_many, take_short_sample, nothing_left, all_up_to, samples_up_to}
+use Rattle.pgm_images.proofs.RasterLemmas.{bytes-many, bytes-other}
+use Rattle.pgm_images.proofs.raster.read_bytes.Goals as goal
+
+pub returns-then-bytes-samples : goal.returns-then-bytes-samples
+returns-then-bytes-samples c = record {
+  ok = tt;
+  err = ap (samples_up_to c.args.maxval) (bytes-other _ c.args.bytes.now (omega arith));
+}
+
+pub returns-then-from-maxval : goal.returns-then-from-maxval
+returns-then-from-maxval c =
+    let above : nat_le c.greatest.result c.args.maxval ≡ false = lt-leb c.greatest.result c.args.maxval (omega arith) in
+    let told : all_up_to c.args.maxval c.args.bytes.now ≡ false = cc (c.greatest.ensures c.args.maxval) in
+    record { ok = tt; err = ap (samples_up_to c.args.maxval) (bytes-many _ c.args.bytes.now (omega arith)) ∙ rw told refl }
+
+pub returns : goal.returns
+returns c =
+    let below : nat_le c.greatest.result c.args.maxval ≡ true = le-leb c.greatest.result c.args.maxval (omega arith) in
+    let told : all_up_to c.args.maxval c.args.bytes.now ≡ true = cc (c.greatest.ensures c.args.maxval) in
+    record {
+      ok = ap (samples_up_to c.args.maxval) (bytes-many _ c.args.bytes.now (omega arith)) ∙ rw told (ap (λ bytes. Ok (map pos bytes)) (sym c.copy_from_slice.ensures.after));
+      err = tt;
+    }

@@ -1,0 +1,10 @@
+use Rattle.std.proofs.Common.{◌≡◌, arith}
+use Rattle.std.proofs.lemmas.Grind.{common_steps}
+use Rattle.pgm_images.specs.Reading.{description_in}
+use Rattle.pgm_images.proofs.DescriptionLemmas.{read_description}
+use Rattle.pgm_images.proofs.reading.described.Goals as goal
+
+pub returns-clause-ok : goal.returns-clause-ok
+returns-clause-ok c =
+    let told : c.described.result ≡ description_in c.args.text.now = grind (arith, common_steps) in
+    read_description c.args.text.now c.described.result told

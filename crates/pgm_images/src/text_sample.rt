@@ -1,0 +1,31 @@
+//! Number types of the samples that texts have.
+ghost use Rattle.std.specs.Prelude.{◌≡◌, ◌≤◌, ℕ, pos};
+
+use image_core::Number;
+
+/// A number type of the samples of pictures that texts stand for.
+pub trait TextSample: Number {
+    /// The greatest number that is such a sample.
+    ghost limit: { ℕ };
+
+    /// The number as a sample.
+    fn of_number(number: u16) -> Self
+        requires { number ≤ limit }
+        ensures { Self.value result ≡ pos number };
+}
+
+impl TextSample for u8 {
+    ghost limit = { 255 };
+
+    fn of_number(number: u16) -> u8 {
+        number as u8
+    }
+}
+
+impl TextSample for i16 {
+    ghost limit = { 32767 };
+
+    fn of_number(number: u16) -> i16 {
+        number as i16
+    }
+}
