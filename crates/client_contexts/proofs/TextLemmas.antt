@@ -1,21 +1,23 @@
--- A text that isn't written to an image.
-use Rattle.std.proofs.Common.{ℕ, inl, inr, List, Ok, ap, ◌∙◌}
-use Rattle.vx_base.specs.Cell.{Cell}
-use Rattle.vx_base.specs.Image.{ImageValue}
-use Rattle.pgm_images.specs.declared.fault.PgmFault.{PgmFault}
-use Rattle.pgm_images.specs.declared.fault.PgmFault.TheVariants.{NoMemory}
-use Rattle.pgm_images.specs.Reading.{reading, FailsFor}
-use Rattle.pgm_images.proofs.StandsLemmas.{fault_is}
+-- What is kept of graphs when a text is written to an image.
+use Rattle.std.proofs.Common.{◌<◌, ◌^◌, ℕ, List, Ok, Err, Result, refl, sym, subst, ap}
+use Rattle.std.specs.Prelude.{All}
+use Rattle.vx_base.specs.Cell.{Cell, IsCell}
 use Rattle.object_table.specs.Context.{Context}
-use Rattle.client_model.specs.Images.{write_text_to, write_text}
-use Rattle.client_contexts.specs.Lookup.{IsImageOf}
-use Rattle.client_contexts.specs.Steps.{SaysWhy, text_fault}
+use Rattle.client_model.specs.declared.reply.Reply.{Reply}
+use Rattle.client_model.specs.declared.request.Request.TheVariants.{WriteImagePgm}
+use Rattle.client_model.specs.Allowance.{Allowance}
+use Rattle.client_model.specs.Answer.{answered}
+use Rattle.client_model.specs.Images.{write_text}
+use Rattle.client_model.specs.States.{KeepsLimits}
+use Rattle.client_contexts.specs.declared.fault.RequestFault.{RequestFault}
+use Rattle.client_contexts.specs.declared.kept.Kept.{Kept}
+use Rattle.client_contexts.specs.Kept.{AreKept}
+use Rattle.client_contexts.specs.Steps.{MayComeTo}
+use Rattle.client_contexts.proofs.KeptGraphLemmas.{left_are_kept}
 
--- a text without a picture is refused, where there is an image
-pub text_refused : (c : Context) (cell : Cell) (text : List ℕ) (image : ImageValue) (why : PgmFault) → IsImageOf c.objects cell image → FailsFor text why → SaysWhy (write_text c cell text) (text_fault why)
-text_refused c cell text image NoMemory found fails = tt
-text_refused c cell text image why found fails =
-    elim fails.is [
-      | inl e ↦ ap (λ i. write_text_to i c cell (reading text)) found.image ∙ ap (write_text_to (Ok image) c cell) (fault_is (reading text) why e)
-      | inr e ↦ let no = e.0 in cc
-    ]
+-- it stays, since a text that is written leaves the nodes of all graphs
+pub kept_text_written : (limits : Allowance) (c later : Context) (cell : Cell) (text : List ℕ) (result : Result Reply RequestFault) (kept : List (ℕ × Kept)) → KeepsLimits limits c → IsCell cell → All (λ b. b < 2 ^ 8) text
+    → MayComeTo (write_text c cell text) c later result → AreKept c kept → AreKept later kept
+kept_text_written limits c later cell text (Ok reply) kept h is_cell bytes comes are =
+    left_are_kept limits c later (WriteImagePgm cell text) h (is_cell, bytes) (ap (λ o. (answered c o).1) comes.done) kept kept are refl (λ n d below. refl)
+kept_text_written limits c later cell text (Err fault) kept h is_cell bytes comes are = subst (λ (k : Context). AreKept k kept) (sym comes.kept) are

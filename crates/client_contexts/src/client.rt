@@ -1,17 +1,21 @@
 //! A client's context: its objects, and its graphs that were found able to run.
-ghost use Rattle.std.specs.Prelude.{◌≡◌, ◌≢◌, false, Some, Ok, Err, IfOk, IfErr};
+ghost use Rattle.std.specs.Prelude.{◌≡◌, ◌≢◌, false, Some, Ok, Err, IfOk, IfErr, OnOk};
+ghost use Rattle.vx_base.specs.declared.format.Format.TheVariants.{U8 as FormatU8};
 ghost use Rattle.vx_base.specs.Image.{IsImage};
 ghost use Rattle.vx_base.specs.Picture.{picture_of};
+ghost use Rattle.pgm_images.specs.Writing.{pgm_text};
 ghost use Rattle.client_model.specs.declared.request.Request.TheVariants.{ReleaseContext};
 ghost use Rattle.client_model.specs.declared.reply.Reply.TheVariants as replies;
 ghost use Rattle.client_model.specs.Request.{TakesMemory};
-ghost use Rattle.client_model.specs.Images.{write_image, read_image};
+ghost use Rattle.client_model.specs.Images.{write_image, write_text, read_image, read_text};
+ghost use Rattle.client_model.specs.Operands.{image_of};
 ghost use Rattle.client_model.specs.Answer.{outcome_of};
 ghost use Rattle.client_model.specs.States.{KeepsLimits};
 ghost use Rattle.object_table.specs.Blocks.{blocks_in, LendsAtLeast, LendsLess, Balances};
 ghost use Rattle.object_table.specs.Blocks.{KeepsBlocks};
 ghost use Rattle.object_table.specs.Context.{new_context};
 ghost use Rattle.client_contexts.specs.Kept.{runs_graph};
+ghost use Rattle.client_contexts.specs.Lookup.{IsImageFor, refusal_for};
 ghost use Rattle.client_contexts.specs.Steps.{ComesTo, MayComeTo, WantsMemory, IsContext, Keeps};
 
 use crate::delays::{age_delay, create_delay};
@@ -20,8 +24,8 @@ use crate::graphs::{
     add_node, create_graph, create_virtual_image, process_graph, remove_node, verify_graph,
 };
 use crate::images::{
-    create_image, give_picture, query_image, read_image, read_text, set_valid, write_image,
-    write_text,
+    create_image, find_image_for, find_text_image, give_picture, query_image, read_image,
+    read_text, set_valid, write_image, write_text,
 };
 use crate::immediate::run_at_once;
 use crate::kept::{Kept, forget};
@@ -35,7 +39,7 @@ use pixel_pool::Pool;
 use std::alloc::Global;
 use std::collections::BTreeMap;
 use std::marker::Model;
-use vx_base::{ObjRef, Picture, Samples};
+use vx_base::{Desc, ObjRef, Picture, Samples};
 
 /// The objects that a client holds, and what was found of its graphs that can run. What is kept of
 /// a graph holds until a node is added to it or removed from it; nothing else changes it.
@@ -134,6 +138,36 @@ impl Client {
         give_picture(&mut self.table, reference, picture, spare)
     }
 
+    /// Writes the picture for which a PGM text stands to an image, whose samples are then in memory
+    /// of `spare` or of the allocator. Those that no image has then are left in `spare`.
+    pub fn write_text(
+        &mut self,
+        alloc: Global,
+        reference: ObjRef,
+        text: &[u8],
+        spare: &mut Option<Samples>,
+    ) -> Result<Reply, RequestFault>
+        requires { IsContext self.old }
+        ensures comes { MayComeTo (write_text self.old reference text.now)
+            self.old self.new result }
+        ensures kept { Keeps self.old self.new }
+        ensures blocks { KeepsBlocks self.old.objects self.new.objects }
+    {
+        // The laws of requests speak of it.
+        reference.is_cell();
+        write_text(&mut self.table, alloc, reference, text, spare)
+    }
+
+    /// Whether a picture of this description can be written to the image that a reference names.
+    /// Else the refusal.
+    pub fn accepts(&self, reference: ObjRef, picture: Desc) -> Result<(), Refusal>
+        ensures ok { OnOk result (IsImageFor self.now.objects reference picture) }
+        ensures err { IfErr result (λ refusal.
+            refusal_for (image_of self.now.objects reference) picture ≡ Some refusal) }
+    {
+        find_image_for(&self.table, reference, picture)
+    }
+
     /// The image with samples that a reference names, or why it names none.
     pub fn image(&self, reference: ObjRef) -> Result<&Stored, Refusal>
         requires { IsContext self.now }
@@ -143,6 +177,18 @@ impl Client {
         ensures image { IfOk result (λ image. IsImage image.now) }
     {
         find_image(&self.table, reference)
+    }
+
+    /// The U8 image that a reference names, or why it names none.
+    pub fn text_image(&self, reference: ObjRef) -> Result<&Stored, Refusal>
+        requires { IsContext self.now }
+        ensures ok { IfOk result (λ image. read_text self.now reference
+            ≡ Ok (replies.Text (pgm_text (picture_of image.now)), Some self.now)) }
+        ensures err { IfErr result (λ refusal. read_text self.now reference ≡ Err refusal) }
+        ensures image { IfOk result (λ image. IsImage image.now) }
+        ensures format { IfOk result (λ image. image.now.format ≡ FormatU8) }
+    {
+        find_text_image(&self.table, reference)
     }
 }
 
@@ -169,7 +215,9 @@ fn answer(
         Request::CreateImage(desc) => create_image(table, pool, limits, *desc),
         Request::QueryImage(reference) => Ok(query_image(table, *reference)?),
         Request::WriteImage(reference, picture) => Ok(write_image(table, *reference, picture)?),
-        Request::WriteImagePgm(reference, text) => write_text(table, alloc, *reference, text),
+        Request::WriteImagePgm(reference, text) => {
+            write_text(table, alloc, *reference, text.bytes(), &mut None)
+        }
         Request::ReadImage(reference) => read_image(table, alloc, *reference),
         Request::ReadImagePgm(reference) => read_text(table, alloc, *reference),
         Request::SetValid(reference, valid) => Ok(set_valid(table, *reference, *valid)?),

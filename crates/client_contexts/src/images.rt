@@ -1,6 +1,11 @@
 //! Requests on images: creating and querying them, writing and reading their samples, also as PGM
 //! texts, and making a part of them valid.
-ghost use Rattle.std.specs.Prelude.{◌≡◌, Some, IfErr, OnOk};
+ghost use Rattle.std.specs.Prelude.{◌≡◌, Some, Ok, Err, IfOk, IfErr, OnOk};
+ghost use Rattle.vx_base.specs.declared.format.Format.TheVariants.{U8 as FormatU8};
+ghost use Rattle.vx_base.specs.Image.{IsImage};
+ghost use Rattle.vx_base.specs.Picture.{picture_of};
+ghost use Rattle.pgm_images.specs.Writing.{pgm_text};
+ghost use Rattle.client_model.specs.declared.reply.Reply.TheVariants as replies;
 ghost use Rattle.client_model.specs.Images.{create_image, described, described_virtual};
 ghost use Rattle.client_model.specs.Images.{query_image, write_image, write_text, read_image};
 ghost use Rattle.client_model.specs.Images.{read_text, set_valid, picture_refusal, valid_refusal};
@@ -13,6 +18,7 @@ ghost use Rattle.client_contexts.specs.Steps.{ComesTo, MayComeTo, IsContext, Kee
 use crate::fault::RequestFault;
 use crate::lookup::{find, find_image};
 use crate::room::{hold_images, look_for_room};
+use crate::spare::room_for;
 use client_model::{Described, Limits, Refusal, Reply, Text};
 use object_table::{Content, Object, Stored, Table};
 use pixel_pool::Pool;
@@ -87,7 +93,7 @@ fn picture_refusal(image: Desc, picture: Desc) -> Option<Refusal>
 
 /// Whether a picture of this description can be written to the image that a reference names, which
 /// is then of the same format and size. Else the refusal.
-fn find_image_for(table: &Table, reference: ObjRef, picture: Desc) -> Result<(), Refusal>
+pub fn find_image_for(table: &Table, reference: ObjRef, picture: Desc) -> Result<(), Refusal>
     ensures ok { OnOk result (IsImageFor table.now.objects reference picture) }
     ensures err { IfErr result (λ refusal. refusal_for (image_of table.now.objects reference) picture
         ≡ Some refusal) }
@@ -145,13 +151,15 @@ pub fn give_picture(
     Ok(Reply::Empty)
 }
 
-/// Writes the picture for which a PGM text stands to an image. The samples are read into memory of
-/// the allocator first.
+/// Writes the picture for which a PGM text stands to an image. Its samples are read from the text
+/// to where the image has them from then on: into memory of `spare`, where that suits, else of the
+/// allocator. What no image has then is left in `spare`, as `give_picture` does.
 pub fn write_text(
     table: &mut Table,
     alloc: Global,
     reference: ObjRef,
-    text: &Text,
+    text: &[u8],
+    spare: &mut Option<Samples>,
 ) -> Result<Reply, RequestFault>
     requires { IsContext table.old }
     ensures comes { MayComeTo (write_text table.old reference text.now) table.old table.new result }
@@ -159,8 +167,14 @@ pub fn write_text(
     ensures blocks { KeepsBlocks table.old.objects table.new.objects }
 {
     find_image(table, reference)?;
-    let picture = pgm_images::read(alloc, text.bytes())?;
-    Ok(write_image(table, reference, &picture)?)
+    let desc = pgm_images::described(text)?;
+    let mut samples = room_for(spare, alloc, desc)?;
+    if let Err(fault) = pgm_images::read_into(text, &mut samples) {
+        *spare = Some(samples);
+        return Err(RequestFault::from(fault));
+    }
+    let picture = Picture::new(desc, samples);
+    Ok(give_picture(table, reference, picture, spare)?)
 }
 
 /// The samples of an image, in memory of the allocator.
@@ -172,15 +186,29 @@ pub fn read_image(table: &Table, alloc: Global, reference: ObjRef) -> Result<Rep
     Ok(Reply::Picture(image.picture(alloc)?))
 }
 
+/// The U8 image that a reference names, whose samples a PGM text can tell; or why there is none.
+pub fn find_text_image(table: &Table, reference: ObjRef) -> Result<&Stored, Refusal>
+    requires { IsContext table.now }
+    ensures ok { IfOk result (λ image. read_text table.now reference
+        ≡ Ok (replies.Text (pgm_text (picture_of image.now)), Some table.now)) }
+    ensures err { IfErr result (λ refusal. read_text table.now reference ≡ Err refusal) }
+    ensures image { IfOk result (λ image. IsImage image.now) }
+    ensures format { IfOk result (λ image. image.now.format ≡ FormatU8) }
+{
+    let image = find_image(table, reference)?;
+    if image.desc().format() == Format::U8 {
+        Ok(image)
+    } else {
+        Err(Refusal::InvalidFormat)
+    }
+}
+
 /// The samples of a U8 image as a PGM text, in memory of the allocator.
 pub fn read_text(table: &Table, alloc: Global, reference: ObjRef) -> Result<Reply, RequestFault>
     requires { IsContext table.now }
     ensures { MayComeTo (read_text table.now reference) table.now table.now result }
 {
-    let image = find_image(table, reference)?;
-    if image.desc().format() != Format::U8 {
-        return Err(RequestFault::Refused(Refusal::InvalidFormat));
-    }
+    let image = find_text_image(table, reference)?;
     Ok(Reply::Text(Text::new(pgm_images::write(alloc, &image.image())?)))
 }
 

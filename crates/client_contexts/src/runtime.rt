@@ -1,11 +1,16 @@
 //! All clients, and what their requests do.
-ghost use Rattle.std.specs.Prelude.{◌≡◌, ◌≤◌, [], length, None, Ok, IfOk, IfErr};
+ghost use Rattle.std.specs.Prelude.{◌≡◌, ◌≤◌, [], length, None, Ok, IfOk, IfErr, OnOk};
+ghost use Rattle.vx_base.specs.declared.format.Format.TheVariants.{U8 as FormatU8};
 ghost use Rattle.vx_base.specs.Description.{sample_count};
 ghost use Rattle.vx_base.specs.Image.{IsImage};
-ghost use Rattle.vx_base.specs.Picture.{values, samples_format, picture_of};
+ghost use Rattle.vx_base.specs.Picture.{PictureValue, values, samples_format, picture_of};
+ghost use Rattle.pgm_images.specs.Writing.{pgm_text};
 ghost use Rattle.client_model.specs.declared.request.Request.TheVariants.{ReleaseContext};
 ghost use Rattle.client_model.specs.declared.request.Request.TheVariants.{WriteImage, ReadImage};
+ghost use Rattle.client_model.specs.declared.request.Request.TheVariants.{WriteImagePgm};
+ghost use Rattle.client_model.specs.declared.request.Request.TheVariants.{ReadImagePgm};
 ghost use Rattle.client_model.specs.declared.reply.Reply.TheVariants as replies;
+ghost use Rattle.client_model.specs.Answer.{answer_to};
 ghost use Rattle.client_model.specs.Context.{state_of};
 ghost use Rattle.client_contexts.specs.Applies.{Applies, IsAnswered};
 ghost use Rattle.client_contexts.specs.Blocks.{clients_blocks};
@@ -13,7 +18,7 @@ ghost use Rattle.client_contexts.specs.Blocks.{clients_blocks};
 use crate::client::Client;
 use crate::fault::RequestFault;
 use crate::memory::NoMemory;
-use crate::spare::reused;
+use crate::spare::room_for;
 use client_model::{Limits, Reply, Request};
 use object_table::Stored;
 use pixel_pool::Pool;
@@ -109,6 +114,24 @@ impl Runtime {
         }
     }
 
+    /// Whether a picture of this description can be written to the image that a client's reference
+    /// names, whatever its samples are. Else the code that WriteImage of it is answered.
+    pub fn accepts(&self, client: u16, reference: ObjRef, picture: Desc) -> Result<(), Code>
+        ensures ok { OnOk result ((p : PictureValue) → p.description ≡ picture →
+            (answer_to self.now.limits (state_of client self.now) (WriteImage reference p)).0
+            ≡ replies.Empty) }
+        ensures err { IfErr result (λ code. (p : PictureValue) → p.description ≡ picture →
+            IsAnswered client (WriteImage reference p) self.now (replies.Refused code)) }
+    {
+        match self.contexts.get(&client) {
+            Some(held) => match held.accepts(reference, picture) {
+                Ok(()) => Ok(()),
+                Err(refusal) => Err(refusal.code()),
+            },
+            None => Err(Code::InvalidReference),
+        }
+    }
+
     /// Memory for the samples of a picture that a client is about to write: what the last `write`
     /// was left with, where that suits, else new memory. The samples may be anything: who takes
     /// them writes each of them.
@@ -117,13 +140,7 @@ impl Runtime {
         ensures count { IfOk result (λ samples. length (values samples) ≡ sample_count desc) }
         ensures same { self.new ≡ self.old }
     {
-        let (format, count) = (desc.format(), desc.sample_count());
-        if let Some(spare) = self.spare.take() {
-            if let Some(samples) = reused(spare, format, count) {
-                return Ok(samples);
-            }
-        }
-        Ok(Samples::zeros(self.alloc, format, count)?)
+        Ok(room_for(&mut self.spare, self.alloc, desc)?)
     }
 
     /// Writes a picture to an image of a client, whose samples are the picture's own from then on:
@@ -141,6 +158,28 @@ impl Runtime {
         }
     }
 
+    /// Writes the picture for which a PGM text stands to an image of a client. Its samples are read
+    /// from the text to where the image has them from then on, into memory as `room` has it.
+    /// `NoMemory` is told only where memory was refused, and nothing is changed then.
+    pub fn write_text(
+        &mut self,
+        client: u16,
+        reference: ObjRef,
+        text: &[u8],
+    ) -> Result<Reply, NoMemory>
+        ensures { Applies client (WriteImagePgm reference text.now) self.old self.new result }
+    {
+        let alloc = self.alloc;
+        let Some(held) = self.contexts.get_mut(&client) else {
+            return Ok(Reply::Refused(Code::InvalidReference));
+        };
+        match held.write_text(alloc, reference, text, &mut self.spare) {
+            Ok(reply) => Ok(reply),
+            Err(RequestFault::Refused(refusal)) => Ok(Reply::Refused(refusal.code())),
+            Err(RequestFault::NoMemory) => Err(NoMemory),
+        }
+    }
+
     /// The image with samples that a client's reference names, as ReadImage finds it, or the code
     /// that ReadImage is answered.
     pub fn image(&self, client: u16, reference: ObjRef) -> Result<&Stored, Code>
@@ -152,6 +191,25 @@ impl Runtime {
     {
         match self.contexts.get(&client) {
             Some(held) => match held.image(reference) {
+                Ok(image) => Ok(image),
+                Err(refusal) => Err(refusal.code()),
+            },
+            None => Err(Code::InvalidReference),
+        }
+    }
+
+    /// The U8 image that a client's reference names, as ReadImagePgm finds it, or the code that
+    /// ReadImagePgm is answered.
+    pub fn text_image(&self, client: u16, reference: ObjRef) -> Result<&Stored, Code>
+        ensures ok { IfOk result (λ image. IsAnswered client (ReadImagePgm reference) self.now
+            (replies.Text (pgm_text (picture_of image.now)))) }
+        ensures err { IfErr result (λ code. IsAnswered client (ReadImagePgm reference) self.now
+            (replies.Refused code)) }
+        ensures image { IfOk result (λ image. IsImage image.now) }
+        ensures format { IfOk result (λ image. image.now.format ≡ FormatU8) }
+    {
+        match self.contexts.get(&client) {
+            Some(held) => match held.text_image(reference) {
                 Ok(image) => Ok(image),
                 Err(refusal) => Err(refusal.code()),
             },

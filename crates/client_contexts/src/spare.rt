@@ -1,17 +1,36 @@
 //! Memory that no image has, for the samples of a picture that comes.
-ghost use Rattle.std.specs.Prelude.{◌≡◌, ◌&&◌, length, is_some, vec_capacity, IfSome};
+ghost use Rattle.std.specs.Prelude.{◌≡◌, ◌&&◌, length, is_some, vec_capacity, IfSome, IfOk};
 ghost use Rattle.vx_base.specs.Sample.{same_format};
-ghost use Rattle.vx_base.specs.Picture.{values, samples_format};
+ghost use Rattle.vx_base.specs.Picture.{values, samples_format, Describes};
 ghost use Rattle.client_contexts.specs.Spare.{suits, room_of};
 
-use vx_base::{Format, Samples};
+use std::alloc::{AllocError, Global};
+use vx_base::{Desc, Format, Samples};
 
 /// Room for so many samples suits however few are asked for: 4,096 bytes in the widest format.
 pub(crate) const SMALL_ROOM: usize = 1024;
 
+/// Memory for the samples of a picture: that of `spare`, where it suits, else new memory. The
+/// samples may be anything: who takes them writes each of them.
+pub fn room_for(
+    spare: &mut Option<Samples>,
+    alloc: Global,
+    desc: Desc,
+) -> Result<Samples, AllocError>
+    ensures { IfOk result (Describes desc) }
+{
+    let (format, count) = (desc.format(), desc.sample_count());
+    if let Some(spare) = spare.take() {
+        if let Some(samples) = reused(spare, format, count) {
+            return Ok(samples);
+        }
+    }
+    Samples::zeros(alloc, format, count)
+}
+
 /// So many samples of a format in the memory of others, which may be anything. `None` unless that
 /// memory is of the format and suits them.
-pub fn reused(spare: Samples, format: Format, count: usize) -> Option<Samples>
+fn reused(spare: Samples, format: Format, count: usize) -> Option<Samples>
     ensures format { IfSome result (λ samples. samples_format samples ≡ format) }
     ensures count { IfSome result (λ samples. length (values samples) ≡ count) }
     ensures suits { is_some result

@@ -1,20 +1,71 @@
 //! Writing a text.
-ghost use Rattle.std.specs.Prelude.{◌≡◌, IfOk, decimal};
+ghost use Rattle.std.specs.Prelude.{◌≡◌, ◌+◌, ◌≤◌, ◌++◌, length, drop, IfOk};
 ghost use Rattle.vx_base.specs.declared.format.Format.TheVariants.{U8 as FormatU8};
 ghost use Rattle.vx_base.specs.Picture.{picture_of};
 ghost use Rattle.pgm_images.specs.Writing.{written_header, pgm_text};
 
 use image_core::Image;
+use itoa::write_digits;
 use std::alloc::{AllocError, Global};
+use std::marker::Model;
 use vx_base::Desc;
 
-/// `P5`, the sides and the maxval 255.
-fn header(alloc: Global, desc: Desc) -> Result<Vec<u8>, AllocError>
-    ensures { IfOk result (λ text. text.items ≡ written_header desc) }
+/// The bytes of a header whose sides have four digits each. None is longer.
+const LONGEST: usize = 17;
+
+/// What a text that is written begins with: `P5`, the sides and the maxval 255.
+#[derive(Debug, Drop)]
+pub struct WrittenHeader {
+    /// The header stands at the end, and what is before it means nothing.
+    bytes: [u8; LONGEST],
+    start: usize,
+}
+
+impl Model for WrittenHeader {
+    ghost use Rattle.std.specs.Prelude.{◌≤◌, ℕ, List, drop};
+
+    ghost Value = { List ℕ };
+
+    ghost view = { λ h. drop h.start h.bytes };
+
+    ghost invariant = { λ h. h.start ≤ 17 };
+}
+
+impl WrittenHeader {
+    /// The header of a picture of U8 with these sides. It takes no memory: it is put together from
+    /// its end.
+    pub fn new(desc: Desc) -> WrittenHeader
+        ensures { result ≡ written_header desc }
+    {
+        desc.has_sides();
+        let mut bytes = [0; LONGEST];
+        let maxval = put_before(&mut bytes, LONGEST, b"\n255\n");
+        let height = write_digits(u64::from(desc.height()), &mut bytes, maxval);
+        let blank = put_before(&mut bytes, height, b" ");
+        let width = write_digits(u64::from(desc.width()), &mut bytes, blank);
+        let start = put_before(&mut bytes, width, b"P5\n");
+        WrittenHeader { bytes, start }
+    }
+
+    /// The bytes, of which there are at most 17.
+    pub fn bytes(&self) -> &[u8]
+        ensures value { result.now ≡ self.now }
+        ensures short { length result.now ≤ 17 }
+    {
+        &self.bytes[self.start..]
+    }
+}
+
+/// Puts some bytes right before a place, and returns where they begin.
+fn put_before(bytes: &mut [u8], end: usize, part: &[u8]) -> usize
+    requires room { length part.now ≤ end }
+    requires within { end ≤ length bytes.old }
+    ensures start { result + length part.now ≡ end }
+    ensures written { drop result bytes.new ≡ part.now ++ drop end bytes.old }
 {
-    let (width, height) = (desc.width(), desc.height());
-    let text = format!(in alloc; "P5\n{width} {height}\n255\n")?;
-    Ok(text.into_bytes())
+    let start = end - part.len();
+    bytes[start..end].copy_from_slice(part);
+    start
 }
 
 /// The PGM text of an image of U8: a raw one (P5) of all samples, whether valid or not, with 255
@@ -26,8 +77,9 @@ pub fn write(alloc: Global, image: &Image<'_>) -> Result<Vec<u8>, AllocError>
     let desc = image.desc();
     // Its contract says that the samples are as many as the image has places.
     let _valid = image.valid();
-    let mut text = header(alloc, desc)?;
-    text.reserve(desc.sample_count())?;
+    let header = WrittenHeader::new(desc);
+    let mut text = Vec::with_capacity(alloc, LONGEST + desc.sample_count())?;
+    text.extend_from_slice(header.bytes())?;
     for y in 0..desc.height() {
         text.extend_from_slice(image.row::<u8>(y))?;
     }

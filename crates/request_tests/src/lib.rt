@@ -8,6 +8,7 @@
 //! - `adapters`: what std's readers and writers answer, through `FromRead` and `FromWrite`
 //! - `requests`: requests as bytes, and back; texts of faults
 //! - `pictures`: pictures of more bytes than a small frame has, in pieces, cut short and refused
+//! - `texts`: the same of PGM texts
 //! - `clients`: what a client with a small quota may hold
 //! - `pooled`: the blocks in which clients' images have their samples
 #![tactic(auto)]
@@ -26,5 +27,7 @@ mod pooled;
 mod requests;
 #[cfg(test)]
 mod streams;
+#[cfg(test)]
+mod texts;
 #[cfg(test)]
 mod turns;

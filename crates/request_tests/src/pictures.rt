@@ -9,7 +9,7 @@ use vx_base::{Desc, Format, ObjRef, Picture, Samples};
 use vx_requests::{StreamFault, write_request};
 
 /// The first image of client 1.
-fn image() -> ObjRef {
+pub fn image() -> ObjRef {
     ObjRef::new(1, None)
 }
 
@@ -21,7 +21,7 @@ const PICTURES: [(Format, u16, u16); 3] = [
 ];
 
 /// Fills samples with numbers that follow no pattern.
-fn scatter(samples: &mut Samples, seed: u32) {
+pub fn scatter(samples: &mut Samples, seed: u32) {
     let mut number = seed;
     match samples {
         Samples::U8(samples) => {
@@ -47,7 +47,7 @@ fn scatter(samples: &mut Samples, seed: u32) {
 }
 
 /// The frame in which client 1 sends a request.
-fn frame(alloc: Global, request: &Request) -> Result<Vec<u8>, Fail> {
+pub fn frame(alloc: Global, request: &Request) -> Result<Vec<u8>, Fail> {
     let mut sink = PiecewiseSink {
         bytes: Vec::new(alloc),
         piece: 1_000_000,
@@ -84,7 +84,7 @@ fn read(writing: &[u8]) -> &[u8] {
 }
 
 /// The replies to a stream that is served whole.
-fn ask(alloc: Global, runtime: &mut Runtime, stream: &[u8]) -> Result<Vec<u8>, Fail> {
+pub fn ask(alloc: Global, runtime: &mut Runtime, stream: &[u8]) -> Result<Vec<u8>, Fail> {
     let served = serve_bytes(alloc, runtime, stream, ALL_AT_ONCE);
     if served.result.is_err() {
         return Err("it ended badly".into());
@@ -93,7 +93,7 @@ fn ask(alloc: Global, runtime: &mut Runtime, stream: &[u8]) -> Result<Vec<u8>, F
 }
 
 /// Client 1's context, with an image of this description under 1.
-fn opened(alloc: Global, desc: Desc) -> Result<Runtime, Fail> {
+pub fn opened(alloc: Global, desc: Desc) -> Result<Runtime, Fail> {
     let mut runtime = Runtime::new(alloc, Limits::default());
     ask(
         alloc,

@@ -1,16 +1,23 @@
 -- What a frame is answered: no request, the model's reply, or NO_MEMORY.
 use Rattle.std.proofs.Common.{◌≡◌, ◌≢◌, ℕ, Bool, true, false, cond, List, Some, None, Result, Ok, Err, inl, inr, ◌⊎◌, refl, sym, ap, ◌∙◌, subst, eq-eqb}
-use Rattle.std.specs.Prelude.{◌&&◌, ◌==◌}
+use Rattle.std.specs.Prelude.{◌&&◌, ◌==◌, if◌then◌else◌}
 use Rattle.std.proofs.lemmas.Bool.{eqb-true}
 use Rattle.client_model.specs.declared.request.Request.{Request}
-use Rattle.client_model.specs.declared.request.Request.TheVariants.{ReadImage}
+use Rattle.client_model.specs.declared.request.Request.TheVariants.{ReadImage, ReadImagePgm}
 use Rattle.client_model.specs.declared.reply.Reply.{Reply}
 use Rattle.client_model.specs.declared.reply.Reply.TheVariants.{Refused}
 use Rattle.client_model.specs.Allowance.{Allowance}
 use Rattle.client_model.specs.Context.{State}
 use Rattle.client_model.specs.Answer.{answer_to, answered}
-use Rattle.client_model.specs.Images.{read_from}
+use Rattle.client_model.specs.Images.{read_from, read_text_from}
 use Rattle.client_model.specs.Operands.{image_of}
+use Rattle.client_model.specs.Refusal.{unless}
+use Rattle.client_model.specs.declared.refusal.Refusal.TheVariants.{InvalidFormat}
+use Rattle.client_model.specs.declared.reply.Reply.TheVariants.{Text as TextReply}
+use Rattle.pgm_images.specs.Writing.{pgm_text}
+use Rattle.vx_base.specs.declared.format.Format.TheVariants.{U8}
+use Rattle.vx_base.specs.Picture.{picture_of}
+use Rattle.vx_base.specs.Sample.{same_format}
 use Rattle.vx_base.specs.declared.code.Code.TheVariants.{NoMemory as CodeNoMemory}
 use Rattle.vx_base.specs.Cell.{Cell}
 use Rattle.vx_wire.specs.declared.parse_fault.ParseFault.{ParseFault}
@@ -20,7 +27,7 @@ use Rattle.vx_requests.specs.Serving.Clients.{spelled, reply_to, state_then}
 use Rattle.vx_requests.specs.Frame.Frames.{frame_of}
 use Rattle.vx_requests.specs.Serving.Lost.{NeedsMemory, SpellsTaking, MayBeLost}
 use Rattle.vx_requests.specs.Serving.Turn.{IsReply, said_in}
-use Rattle.vx_requests.specs.declared.serving.answered.Content.TheVariants.{Samples}
+use Rattle.vx_requests.specs.declared.serving.answered.Content.TheVariants.{Samples, Text}
 use Rattle.client_model.specs.Request.{TakesMemory}
 use Rattle.vx_wire.specs.Replies.{Said, said_of}
 use Rattle.vx_wire.specs.Faults.{parse_fault, MayFailWith, fault_code}
@@ -47,28 +54,38 @@ kept_states : (limits : Allowance) (old new : ℕ → State) (client op : ℕ) (
     → ((other : ℕ) → other ≢ client → new other ≡ old other)
     → (other : ℕ) → new other ≡ state_then (answer limits) old (record { frame = frame_of client op body; lost = false }) other
 kept_states limits old new client op body own others other =
-    let then = λ (b : Bool). cond (b && true) (answer limits (old other) op body).1 (old other) in
+    let state = λ (b : Bool). cond (b && true) (answer limits (old other) op body).1 (old other) in
     elim (tells (client == other)) [
       | inl same ↦
           let e : client ≡ other = eqb-true client other same in
-          subst (λ (c : ℕ). new c ≡ (answer limits (old c) op body).1) e own ∙ sym (ap then same)
-      | inr differ ↦ others other (λ e. let same : (client == other) ≡ true = eq-eqb client other (sym e) in cc) ∙ sym (ap then differ)
+          subst (λ (c : ℕ). new c ≡ (answer limits (old c) op body).1) e own ∙ sym (ap state same)
+      | inr differ ↦ others other (λ e. let same : (client == other) ≡ true = eq-eqb client other (sym e) in cc) ∙ sym (ap state differ)
     ]
 
--- a request whose samples are parsed wants memory, and so does one that takes some when it is answered, but for ReadImage
+-- a request whose samples are parsed wants memory, and so does one that takes some when it is answered, but for the two that read an image
 wants_to_parse : (request : Request) → HoldsSamples request → NeedsMemory request
 wants_to_parse (ReadImage image) holds = holds
+wants_to_parse (ReadImagePgm image) holds = holds
 wants_to_parse request holds = inl holds
 
-wants_to_answer : (request : Request) → ((image : Cell) → request ≢ ReadImage image) → TakesMemory request → NeedsMemory request
-wants_to_answer (ReadImage image) other takes = other image refl
-wants_to_answer request other takes = inr takes
+wants_to_answer : (request : Request) → ((image : Cell) → request ≢ ReadImage image) → ((image : Cell) → request ≢ ReadImagePgm image) → TakesMemory request → NeedsMemory request
+wants_to_answer (ReadImage image) other no_text takes = other image refl
+wants_to_answer (ReadImagePgm image) other no_text takes = no_text image refl
+wants_to_answer request other no_text takes = inr takes
 
--- ReadImage leaves its client's state as it is
+-- ReadImage and ReadImagePgm leave their client's state as it is
 reading_changes_nothing : (limits : Allowance) (state : State) (image : Cell) → (answer_to limits state (ReadImage image)).1 ≡ state
 reading_changes_nothing limits None image = refl
 reading_changes_nothing limits (Some c) image =
     elim (image_of c.objects image) as (λ found. (answered c (read_from found c)).1 ≡ Some c) [ Ok is ↦ refl | Err refusal ↦ refl ]
+
+reading_a_text_changes_nothing : (limits : Allowance) (state : State) (image : Cell) → (answer_to limits state (ReadImagePgm image)).1 ≡ state
+reading_a_text_changes_nothing limits None image = refl
+reading_a_text_changes_nothing limits (Some c) image =
+    elim (image_of c.objects image) as (λ found. (answered c (read_text_from found c)).1 ≡ Some c) [
+      | Ok is ↦ elim (same_format is.format U8) as (λ b. (answered c (unless (if b then None else Some InvalidFormat) (TextReply (pgm_text (picture_of is))) c)).1 ≡ Some c) [ true ↦ refl | false ↦ refl ]
+      | Err refusal ↦ refl
+    ]
 
 module _ (limits : Allowance) (old new : ℕ → State) (client op : ℕ) (body : List ℕ) where
   -- want of memory
@@ -112,10 +129,17 @@ module _ (limits : Allowance) (old new : ℕ → State) (client op : ℕ) (body 
       kept_reply (ReadImage image) (answer_to limits (new client) (ReadImage image)).0 spelled (ap (λ (s : State). (answer_to limits s (ReadImage image)).0) (same client))
       (same client ∙ sym (reading_changes_nothing limits (old client) image)) (λ other differs. same other)
 
+  -- and one to read it as a text
+  pub text_reply : (image : Cell) → request_of op body ≡ Ok (ReadImagePgm image) → ((each : ℕ) → new each ≡ old each)
+      → IsReply limits (frame_of client op body) old new (spelled client op (said_in limits (new client) (Text image)))
+  text_reply image spelled same =
+      kept_reply (ReadImagePgm image) (answer_to limits (new client) (ReadImagePgm image)).0 spelled (ap (λ (s : State). (answer_to limits s (ReadImagePgm image)).0) (same client))
+      (same client ∙ sym (reading_a_text_changes_nothing limits (old client) image)) (λ other differs. same other)
+
   -- a request for which the runtime found no memory
-  pub wanting_reply : (request : Request) → request_of op body ≡ Ok request → ((image : Cell) → request ≢ ReadImage image) → TakesMemory request
+  pub wanting_reply : (request : Request) → request_of op body ≡ Ok request → ((image : Cell) → request ≢ ReadImage image) → ((image : Cell) → request ≢ ReadImagePgm image) → TakesMemory request
       → ((each : ℕ) → new each ≡ old each) → IsReply limits (frame_of client op body) old new (spelled client op (said_of (Refused CodeNoMemory)))
-  wanting_reply request spelled other takes same = lost_reply (inr (subst SpellsTaking (sym spelled) (wants_to_answer request other takes))) same
+  wanting_reply request spelled other no_text takes same = lost_reply (inr (subst SpellsTaking (sym spelled) (wants_to_answer request other no_text takes))) same
 
   -- a body from which parse read no request
   pub fault_reply : (fault : ParseFault) → MayFailWith (request_of op body) fault → ((each : ℕ) → new each ≡ old each)

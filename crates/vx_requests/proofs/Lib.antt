@@ -5,8 +5,10 @@ pub mod WrittenPieces
 pub mod PictureFrames
 pub mod TextFrames
 pub mod FrameReplies
+pub mod ToldReplies
 pub mod Turns
 pub mod WrittenImages
+pub mod WrittenTexts
 pub mod SampleReads
 pub mod Alone
 pub mod Progress

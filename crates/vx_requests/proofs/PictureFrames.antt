@@ -1,12 +1,15 @@
--- The frame of a picture: its head and description, and then its samples.
-use Rattle.std.proofs.Common.{◌≡◌, ℕ, ◌+◌, ◌*◌, ℤ, List, [], ◌∷◌, ◌++◌, length, refl, sym, ap, ◌∙◌, arith, length-append}
+-- The frame of a picture: its head and description, and then its samples; and that of its PGM text.
+use Rattle.std.proofs.Common.{◌≡◌, ℕ, ◌+◌, ◌*◌, ℤ, List, [], ◌∷◌, ◌++◌, length, map, unsigned_abs, refl, sym, ap, ◌∙◌, arith, append_assoc, length-append}
+use Rattle.std.proofs.lemmas.List.{length-map}
+use Rattle.pgm_images.specs.Writing.{written_header, pgm_text}
+use Rattle.vx_base.specs.Image.{ImageValue, IsImage, description_of}
 use Rattle.std.specs.List.{flat_map}
 use Rattle.vx_base.specs.declared.format.Format.{Format}
 use Rattle.vx_base.specs.declared.format.Format.TheVariants.{U8, S16, U32}
 use Rattle.vx_base.specs.declared.samples.Samples.{Samples}
 use Rattle.vx_base.specs.Sample.{sample_bytes}
 use Rattle.vx_base.specs.Description.{Description, sample_count, byte_count}
-use Rattle.vx_base.specs.Picture.{PictureValue, Describes, values, samples_format}
+use Rattle.vx_base.specs.Picture.{PictureValue, Describes, values, samples_format, picture_of}
 use Rattle.vx_requests.specs.Frame.Frames.{reply_bytes, reply_head}
 use Rattle.vx_requests.specs.Serving.Clients.{spelled}
 use Rattle.vx_wire.specs.Samples.{encoded_sample, picture_bytes}
@@ -58,3 +61,31 @@ picture_parts client op p samples d head are fills is made =
     ap (λ l. l ++ samples_in samples) made
     ∙ ap (λ (e : Description). (reply_head (byte_count e + 9) client op 0 ++ description_bytes e) ++ samples_in samples) is
     ∙ picture_frame client op p samples are fills
+
+-- ---- texts
+
+-- the bytes of U8 samples are their numbers
+byte_samples : (samples : List ℤ) → flat_map (encoded_sample U8) samples ≡ map unsigned_abs samples
+byte_samples [] = refl
+byte_samples (z ∷ samples) = ap (λ l. unsigned_abs z ∷ l) (byte_samples samples)
+
+-- the frame of the text of a U8 image, with the head as it was made
+pub text_image_parts : (client op : ℕ) (image : ImageValue) (d : Description) (head : List ℕ) → IsImage image → d ≡ description_of image
+    → head ≡ reply_head (length (written_header d) + sample_count d + 4) client op 0 ++ written_header d
+    → head ++ map unsigned_abs image.samples ≡ reply_bytes (spelled client op (record { code = 0; body = pgm_text (picture_of image) }))
+text_image_parts client op image d head is described made =
+    let header : List ℕ = written_header (description_of image) in
+    let raster : List ℕ = map unsigned_abs image.samples in
+    let many : length raster ≡ length image.samples = length-map image.samples unsigned_abs in
+    let long : length header + sample_count (description_of image) + 4 ≡ length (header ++ raster) + 4 = omega (arith, length-append header raster, is.size) in
+    ap (λ l. l ++ raster) made
+    ∙ ap (λ (e : Description). (reply_head (length (written_header e) + sample_count e + 4) client op 0 ++ written_header e) ++ raster) described
+    ∙ ap (λ k. (reply_head k client op 0 ++ header) ++ raster) long
+    ∙ append_assoc (reply_head (length (header ++ raster) + 4) client op 0) header raster
+
+-- and with its samples as they are written
+pub text_image_written : (image : ImageValue) (samples : Samples) (head frame : List ℕ) → image.format ≡ U8 → values samples ≡ image.samples → samples_format samples ≡ image.format
+    → head ++ map unsigned_abs image.samples ≡ frame → head ++ samples_in samples ≡ frame
+text_image_written image samples head frame bytes are same joined =
+    ap (λ f. head ++ flat_map (encoded_sample f) (values samples)) (same ∙ bytes) ∙ ap (λ zs. head ++ flat_map (encoded_sample U8) zs) are ∙ ap (λ l. head ++ l) (byte_samples image.samples)
+    ∙ joined

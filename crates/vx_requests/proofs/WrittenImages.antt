@@ -1,5 +1,5 @@
 -- What a WriteImage frame is answered, once the head of its body was read.
-use Rattle.std.proofs.Common.{◌≡◌, ◌≢◌, ℕ, ℤ, ◌*◌, ◌-◌, ◌<◌, ◌^◌, List, ◌++◌, Option, Some, Result, Ok, Err, inl, arith, length, sym, ap, subst, ◌∙◌, length-append}
+use Rattle.std.proofs.Common.{◌≡◌, ◌≢◌, ℕ, ℤ, ◌*◌, ◌-◌, ◌<◌, ◌^◌, List, ◌++◌, Option, Some, Result, Ok, Err, inl, inr, ◌⊎◌, refl, arith, length, sym, ap, subst, ◌∙◌, length-append}
 use Rattle.std.specs.Prelude.{All, OnOk, IfOk, IfErr}
 use Rattle.std.specs.Io.KnownBytes.{Consumes}
 use Rattle.std.proofs.KnownBytes.{Consumes-trans}
@@ -8,6 +8,7 @@ use Rattle.vx_base.specs.Cell.{Cell}
 use Rattle.vx_base.specs.Description.{Description, sample_count, byte_count}
 use Rattle.vx_base.specs.Picture.{PictureValue}
 use Rattle.vx_base.specs.Sample.{sample_bytes}
+use Rattle.vx_base.specs.declared.code.Code.{Code}
 use Rattle.vx_base.specs.declared.code.Code.TheVariants.{NoMemory}
 use Rattle.client_model.specs.declared.request.Request.{Request}
 use Rattle.client_model.specs.declared.request.Request.TheVariants.{WriteImage}
@@ -41,7 +42,7 @@ spelled_by op body spelled is e = ap (λ (o : Option Op). request_with_known o b
 
 module _ (limits : Allowance) (old new : ℕ → State) (client op len : ℕ) (head : List ℕ) where
   -- a body for whose samples there is no memory is lost
-  pub lost_rest : 64 < len → length head ≡ 10 → ((each : ℕ) → new each ≡ old each) → (rest : List ℕ) → length rest ≡ len - 10
+  lost_rest : 64 < len → length head ≡ 10 → ((each : ℕ) → new each ≡ old each) → (rest : List ℕ) → length rest ≡ len - 10
       → IsReply limits (frame_of client op (head ++ rest)) old new (spelled client op (said_of (Refused NoMemory)))
   lost_rest long ten same rest size = lost_reply limits old new client op (head ++ rest) (inl (omega (arith, length-append head rest))) same
 
@@ -51,6 +52,20 @@ module _ (limits : Allowance) (old new : ℕ → State) (client op len : ℕ) (h
       → IsReply limits (frame_of client op (head ++ rest)) old new (spelled client op (said_of (Refused (fault_code (parse_fault fault)))))
   refused_rest fault is none same rest size =
       refused_reply limits old new client op (head ++ rest) fault (spelled_by op (head ++ rest) (Err fault) is (none rest size)) same
+
+  -- one whose picture the image doesn't take is refused, and one for whose samples there is no memory is lost
+  pub unwritten_rest : (image : Cell) (d : Description) (code : Code) → op_numbered op ≡ Some ops.WriteImage → 64 < len → length head ≡ 10
+      → ((rest : List ℕ) → length rest ≡ len - 10 → write_image_in (head ++ rest) ≡ Ok (write_image_of image d rest))
+      → (code ≡ NoMemory) ⊎ ((p : PictureValue) → p.description ≡ d → answer_to limits (old client) (WriteImage image p) ≡ (Refused code, old client))
+      → ((each : ℕ) → new each ≡ old each) → (rest : List ℕ) → length rest ≡ len - 10
+      → IsReply limits (frame_of client op (head ++ rest)) old new (spelled client op (said_of (Refused code)))
+  unwritten_rest image d code is long ten spells (inl none) same rest size =
+      subst (λ (k : Code). IsReply limits (frame_of client op (head ++ rest)) old new (spelled client op (said_of (Refused k)))) (sym none) (lost_rest long ten same rest size)
+  unwritten_rest image d code is long ten spells (inr refused) same rest size =
+      let request = write_image_of image d rest in
+      let told : answer_to limits (old client) request ≡ (Refused code, old client) = refused (record { description = d; samples = decoded d.format (sample_count d) rest }) refl in
+      kept_reply limits old new client op (head ++ rest) request (Refused code) (spelled_by op (head ++ rest) (Ok request) is (spells rest size))
+      (sym (ap (λ (t : Reply × State). t.0) told)) (same client ∙ sym (ap (λ (t : Reply × State). t.1) told)) (λ other differs. same other)
 
 module _ (limits : Allowance) (a b c : Option (List ℕ)) (old new : ℕ → State) (client op len : ℕ) (head : List ℕ) where
   -- the rest was read past, or less than that

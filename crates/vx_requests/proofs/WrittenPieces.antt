@@ -9,7 +9,7 @@ use Rattle.vx_base.specs.declared.format.Format.TheVariants.{U8, U32}
 use Rattle.vx_requests.specs.declared.stream.fault.StreamFault.{StreamFault}
 use Rattle.vx_requests.specs.declared.stream.fault.StreamFault.TheVariants.{WriteFailed}
 use Rattle.vx_requests.specs.Stream.Calls.{failed_calls}
-use Rattle.vx_requests.specs.Stream.Transfer.{AppendsPart, WritesAll, Sends}
+use Rattle.vx_requests.specs.Stream.Transfer.{AppendsPart, AppendsFront, WritesAll, Sends}
 use Rattle.vx_requests.proofs.Pieces.{on_ok, on_err, part_front, whole_front}
 use Rattle.vx_wire.specs.Samples.{encoded_sample}
 
@@ -96,6 +96,23 @@ module _ {K : Type 0} (taken : K → Option (List ℕ)) (failures : K → ℕ) w
     err = block_part f (taken a) (taken b) (taken c) all done rest front back whole split before wrote.err;
     fault = wrote.fault;
     failed = omega (arith, fewer, wrote.failed);
+  }
+
+  -- what was sent, of whatever the call returns
+  pub Sends-as : {T U : Type 0} (a b : K) (bytes sent : List ℕ) (u : T) (v : U) → bytes ≡ sent → Sends {T = T} taken failures a b bytes (Ok u) → Sends {T = U} taken failures a b sent (Ok v)
+  Sends-as a b bytes sent u v e wrote = record {
+    ok = subst (Appends (taken a) (taken b)) e wrote.ok;
+    err = tt;
+    fault = tt;
+    failed = wrote.failed;
+  }
+
+  pub Sends-failed-as : {T U : Type 0} (a b : K) (bytes sent : List ℕ) (e : StreamFault) → bytes ≡ sent → Sends {T = T} taken failures a b bytes (Err e) → Sends {T = U} taken failures a b sent (Err e)
+  Sends-failed-as a b bytes sent e same wrote = record {
+    ok = tt;
+    err = subst (AppendsFront (taken a) (taken b)) same wrote.err;
+    fault = wrote.fault;
+    failed = wrote.failed;
   }
 
 -- a byte's sample is the byte

@@ -10,6 +10,7 @@ mod answered;
 mod answering;
 mod images;
 mod summary;
+mod texts;
 
 use crate::frame::Reader;
 use crate::stream::{Sink, Source, StreamFault};

@@ -15,7 +15,7 @@
 //!   kind), `tables` (and thresholds and convolutions), `statistics` (distributions and extremes),
 //!   `graphs`, `immediate`, `delays`
 //! - `parsing`: the body of any request; `write_image_head`: what stands before the samples of one
-//!   that writes an image
+//!   that writes an image; `write_image_pgm_fields`: the image and the text of one that writes a text
 //! - `laws`, `examples`: what the definitions mean
 #![tactic(auto)]
 
@@ -43,4 +43,4 @@ pub use fields::threshold::{binary_bytes, range_bytes};
 pub use op::Op;
 pub use parse_fault::ParseFault;
 pub use parsing::parse;
-pub use requests::images::write_image_head;
+pub use requests::images::{write_image_head, write_image_pgm_fields};

@@ -36,8 +36,8 @@ def check(condition: object, what: str) -> None:
 NOT_STARTED, DONE_WITHOUT = -2, -1
 # Requests that take no memory.
 NEVER_LOST = {
-    wire.RELEASE_CONTEXT, wire.QUERY_IMAGE, wire.READ_IMAGE, wire.SET_VALID, wire.RELEASE,
-    wire.READ_MIN_MAX, wire.REMOVE_NODE, wire.IMMEDIATE, wire.AGE_DELAY}
+    wire.RELEASE_CONTEXT, wire.QUERY_IMAGE, wire.READ_IMAGE, wire.READ_IMAGE_PGM, wire.SET_VALID,
+    wire.RELEASE, wire.READ_MIN_MAX, wire.REMOVE_NODE, wire.IMMEDIATE, wire.AGE_DELAY}
 
 
 def refuse(command: List[str], shim: str, stream: List[bytes], number: int) -> int:

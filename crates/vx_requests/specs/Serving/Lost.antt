@@ -1,15 +1,16 @@
 -- Which frames may be lost for want of memory.
 use Rattle.std.specs.Prelude.{◌<◌, length, Result, Ok, Err, ◌⊎◌}
 use Rattle.client_model.specs.declared.request.Request.{Request}
-use Rattle.client_model.specs.declared.request.Request.TheVariants.{ReadImage}
+use Rattle.client_model.specs.declared.request.Request.TheVariants.{ReadImage, ReadImagePgm}
 use Rattle.vx_requests.specs.Frame.Frames.{Frame}
 use Rattle.vx_wire.specs.declared.body_fault.BodyFault.{BodyFault}
 use Rattle.client_model.specs.Request.{TakesMemory}
 use Rattle.vx_wire.specs.Requests.{request_of, HoldsSamples}
 
--- a request for which memory is taken, when its samples are parsed or when it is answered; what ReadImage gives is written from where it stands
+-- a request for which memory is taken, when its samples are parsed or when it is answered; what ReadImage and ReadImagePgm give is written from where it stands
 abbrev pub NeedsMemory : Request → Type 0
 NeedsMemory (ReadImage image) = ⊥
+NeedsMemory (ReadImagePgm image) = ⊥
 NeedsMemory request = HoldsSamples request ⊎ TakesMemory request
 
 -- such a request was spelled

@@ -4,12 +4,12 @@ use Rattle.std.specs.Io.KnownBytes.{Consumes, Appends, IsAtEnd}
 use Rattle.client_model.specs.Allowance.{Allowance}
 use Rattle.client_model.specs.Context.{State}
 use Rattle.client_model.specs.Answer.{answer_to}
-use Rattle.client_model.specs.declared.request.Request.TheVariants.{ReadImage}
+use Rattle.client_model.specs.declared.request.Request.TheVariants.{ReadImage, ReadImagePgm}
 use Rattle.vx_requests.specs.declared.stream.fault.StreamFault.{StreamFault}
 use Rattle.vx_requests.specs.declared.stream.fault.StreamFault.TheVariants.{WriteFailed}
 use Rattle.vx_requests.specs.declared.serving.answered.Answered.{Answered}
 use Rattle.vx_requests.specs.declared.serving.answered.Content.{Content}
-use Rattle.vx_requests.specs.declared.serving.answered.Content.TheVariants.{Made, Samples}
+use Rattle.vx_requests.specs.declared.serving.answered.Content.TheVariants.{Made, Samples, Text}
 use Rattle.vx_requests.specs.Stream.Transfer.{AppendsFront}
 use Rattle.vx_requests.specs.Frame.Frames.{Frame, ReplyFrame, IsFrame, frame_of, payload, frame_bytes, reply_bytes}
 use Rattle.vx_requests.specs.Serving.Answer.{answer}
@@ -32,6 +32,7 @@ SameStates old new = (client : ℕ) → new client ≡ old client
 abbrev pub said_in : Allowance → State → Content → Said
 said_in limits state (Made reply) = said_of reply
 said_in limits state (Samples image) = said_of (answer_to limits state (ReadImage image)).0
+said_in limits state (Text image) = said_of (answer_to limits state (ReadImagePgm image)).0
 
 -- the reply frame, where the clients are in these states
 abbrev pub reply_frame : Allowance → (ℕ → State) → Answered → ReplyFrame

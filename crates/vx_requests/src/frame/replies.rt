@@ -1,9 +1,12 @@
 //! Replies as bytes.
-ghost use Rattle.std.specs.Prelude.{◌≡◌, ◌+◌, ◌*◌, ◌<◌, ◌^◌, ◌++◌, IfErr};
+ghost use Rattle.std.specs.Prelude.{◌≡◌, ◌+◌, ◌*◌, ◌<◌, ◌≤◌, ◌^◌, ◌++◌, length, take, IfErr};
 ghost use Rattle.std.specs.Int.{w16, w32, to_be_bytes};
 ghost use Rattle.std.specs.Io.KnownBytes.{Keeps};
 ghost use Rattle.client_model.specs.declared.reply.Reply.TheVariants.{Picture as PictureReply};
-ghost use Rattle.vx_base.specs.Description.{byte_count};
+ghost use Rattle.client_model.specs.declared.reply.Reply.TheVariants.{Text as TextReply};
+ghost use Rattle.pgm_images.specs.Writing.{written_header, pgm_text};
+ghost use Rattle.vx_base.specs.declared.format.Format.TheVariants.{U8 as FormatU8};
+ghost use Rattle.vx_base.specs.Description.{sample_count, byte_count};
 ghost use Rattle.vx_base.specs.Image.{IsImage};
 ghost use Rattle.vx_base.specs.Picture.{PictureValue, values, Describes, picture_of};
 ghost use Rattle.vx_requests.specs.Stream.Calls.{failed_calls};
@@ -21,8 +24,12 @@ use crate::frame::samples::{write_samples, write_wide};
 use crate::stream::{Failed, Sink, StreamFault, write_all};
 use client_model::{Counts, Described, Reply, Text};
 use object_table::Stored;
+use pgm_images::WrittenHeader;
 use vx_base::{Desc, Extremes, Samples};
 use vx_wire::{described_bytes, description_bytes, extremes_bytes};
+
+/// The most bytes that stand before the samples of a text: 8 of the frame, and 17 of the text.
+const TEXT_HEAD: usize = 25;
 
 /// Writes the frame of a reply and flushes the sink.
 ///
@@ -80,6 +87,28 @@ pub fn write_image<K: Sink>(
         (reply_bytes (spelled client op (said_of (PictureReply (picture_of image.now))))) result }
 {
     write_picture(sink, client, op, image.desc(), image.samples())
+}
+
+/// Writes the frame of the reply that is the PGM text of a U8 image, and flushes the sink, as
+/// `write_reply` does. The samples are written from where they stand: no memory is taken.
+pub fn write_image_text<K: Sink>(
+    sink: &mut K,
+    client: u16,
+    op: u8,
+    image: &Stored,
+) -> Result<(), StreamFault>
+    requires failures_fit { K.failures sink.old < 2 ^ 62 }
+    requires image { IsImage image.now }
+    requires format { image.now.format ≡ FormatU8 }
+    ensures { Sends K.taken K.failures sink.old sink.new
+        (reply_bytes (spelled client op (said_of (TextReply (pgm_text (picture_of image.now))))))
+        result }
+{
+    let mut head = [0; TEXT_HEAD];
+    let end = put_text_head(&mut head, client, op, image.desc());
+    write_all(sink, &head[..end])?;
+    write_samples(sink, image.samples())?;
+    flush(sink)
 }
 
 /// Writes a picture's frame and flushes the sink.
@@ -189,6 +218,22 @@ fn head_and_description(client: u16, op: u8, desc: Desc) -> [u8; 13]
     let [a, b, c, d, e, f, g, h] = head(length, client, op, 0);
     let [i, j, k, l, m] = description_bytes(desc);
     [a, b, c, d, e, f, g, h, i, j, k, l, m]
+}
+
+/// Puts the frame of a reply that is the PGM text of a U8 image, up to its samples, at the front of
+/// the bytes, and returns how long it is.
+fn put_text_head(bytes: &mut [u8; TEXT_HEAD], client: u16, op: u8, desc: Desc) -> usize
+    ensures within { result ≤ 25 }
+    ensures head { take result bytes.new
+        ≡ reply_head (length (written_header desc) + sample_count desc + 4) client op 0
+        ++ written_header desc }
+{
+    let header = WrittenHeader::new(desc);
+    let header = header.bytes();
+    let end = 8 + header.len();
+    bytes[..8].copy_from_slice(&head_before(header.len() + desc.sample_count(), client, op));
+    bytes[8..end].copy_from_slice(header);
+    end
 }
 
 /// What stands before a body of so many bytes, where nothing is refused. Of a length that has no

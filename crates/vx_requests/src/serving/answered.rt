@@ -6,7 +6,7 @@ ghost use Rattle.vx_requests.specs.Serving.Clients.{states_of, spelled};
 ghost use Rattle.vx_requests.specs.Serving.Turn.{reply_frame};
 ghost use Rattle.vx_wire.specs.Replies.{said_of};
 
-use crate::frame::{code_of, write_image, write_reply};
+use crate::frame::{code_of, write_image, write_image_text, write_reply};
 use crate::stream::{Sink, StreamFault};
 use client_contexts::Runtime;
 use client_model::Reply;
@@ -20,6 +20,8 @@ pub enum Content {
     /// What ReadImage of this image is answered. Nothing is made for it: the samples are written
     /// from where they stand.
     Samples(ObjRef),
+    /// What ReadImagePgm of this image is answered, in the same way.
+    Text(ObjRef),
 }
 
 /// What a reply tells, with the client and the op of the frame that it answers.
@@ -50,6 +52,13 @@ pub fn write_answered<K: Sink>(
         Content::Samples(image) => match runtime.image(client, *image) {
             Ok(image) => {
                 write_image(sink, client, op, image)?;
+                Ok(0)
+            }
+            Err(code) => write_made(sink, client, op, &Reply::Refused(code)),
+        },
+        Content::Text(image) => match runtime.text_image(client, *image) {
+            Ok(image) => {
+                write_image_text(sink, client, op, image)?;
                 Ok(0)
             }
             Err(code) => write_made(sink, client, op, &Reply::Refused(code)),

@@ -12,6 +12,7 @@ ghost use Rattle.vx_wire.specs.Requests.{request_of};
 use crate::frame::{Reader, number_of_two};
 use crate::serving::answered::{Answered, Content};
 use crate::serving::images::answer_write_image;
+use crate::serving::texts::answer_write_image_pgm;
 use crate::stream::{Source, StreamFault};
 use client_contexts::{NoMemory, Runtime};
 use client_model::{Reply, Request};
@@ -200,7 +201,8 @@ fn answer_frame(alloc: Global, runtime: &mut Runtime, frame: &RequestFrame) -> C
     content
 }
 
-/// Why the frame's body is no request, or what its request is answered.
+/// Why the frame's body is no request, or what its request is answered. A text that is written to
+/// an image is read where it stands.
 fn content_for(alloc: Global, runtime: &mut Runtime, frame: &RequestFrame) -> Content
     ensures replies { let f = frame_of frame.now.client frame.now.op frame.now.body.now in
         IsReply runtime.old.limits f (states_of runtime.old) (states_of runtime.new)
@@ -208,13 +210,18 @@ fn content_for(alloc: Global, runtime: &mut Runtime, frame: &RequestFrame) -> Co
         (record { client = f.client; op = f.op; content = result })) }
     ensures limits { runtime.new.limits ≡ runtime.old.limits }
 {
+    if let Some(Op::WriteImagePgm) = Op::from_number(frame.op) {
+        let reply = answer_write_image_pgm(runtime, frame.client, frame.op, frame.body);
+        return Content::Made(reply);
+    }
     match parse(alloc, frame.op, frame.body) {
         Ok(request) => answer_request(alloc, runtime, frame.client, &request),
         Err(fault) => Content::Made(Reply::Refused(fault.code())),
     }
 }
 
-/// The runtime's reply, or NO_MEMORY. Where an image is read it is named, and nothing is copied.
+/// The runtime's reply, or NO_MEMORY. Where an image is read, also as a text, it is named, and
+/// nothing is copied.
 fn answer_request(alloc: Global, runtime: &mut Runtime, client: u16, request: &Request) -> Content
     ensures replies { (op : ℕ) (body : List ℕ) → request_of op body ≡ Ok request.now →
         IsReply runtime.old.limits (frame_of client op body)
@@ -225,6 +232,7 @@ fn answer_request(alloc: Global, runtime: &mut Runtime, client: u16, request: &R
 {
     match request {
         Request::ReadImage(image) => Content::Samples(*image),
+        Request::ReadImagePgm(image) => Content::Text(*image),
         _ => match runtime.apply(alloc, client, request) {
             Ok(reply) => Content::Made(reply),
             Err(NoMemory) => Content::Made(Reply::Refused(Code::NoMemory)),

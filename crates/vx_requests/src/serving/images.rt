@@ -1,8 +1,11 @@
 //! Pictures that are written to images: their samples are read to where they stay.
-ghost use Rattle.std.specs.Prelude.{◌≡◌, ◌<◌, length, Some, OnOk, IfOk, IfErr};
+ghost use Rattle.std.specs.Prelude.{◌≡◌, ◌<◌, ◌⊎◌, length, Some, OnOk, IfOk, IfErr};
+ghost use Rattle.vx_base.specs.declared.code.Code.TheVariants.{NoMemory as CodeNoMemory};
 ghost use Rattle.vx_base.specs.Description.{sample_count, byte_count};
-ghost use Rattle.vx_base.specs.Picture.{Describes};
+ghost use Rattle.vx_base.specs.Picture.{PictureValue, Describes};
+ghost use Rattle.client_model.specs.declared.request.Request.TheVariants.{WriteImage as WriteImageRequest};
 ghost use Rattle.client_model.specs.declared.reply.Reply.TheVariants.{Refused};
+ghost use Rattle.client_contexts.specs.Applies.{IsAnswered};
 ghost use Rattle.vx_requests.specs.declared.serving.answered.Content.TheVariants.{Made};
 ghost use Rattle.vx_wire.specs.declared.op.Op.TheVariants.{WriteImage};
 ghost use Rattle.vx_wire.specs.Op.{op_numbered};
@@ -16,7 +19,7 @@ use crate::serving::answered::Content;
 use crate::stream::{Source, StreamFault};
 use client_contexts::{NoMemory, Runtime};
 use client_model::Reply;
-use vx_base::{Code, Desc, Picture, Samples};
+use vx_base::{Code, Desc, ObjRef, Picture, Samples};
 use vx_wire::{ParseFault, write_image_head};
 
 /// The bytes of a WriteImage body before the samples.
@@ -25,7 +28,7 @@ const HEAD: usize = 10;
 /// Answers a WriteImage frame, whose body has so many bytes, which are all still to be read.
 ///
 /// Its samples are read to where the image has them from then on. A body with a fault is read past,
-/// as is one for whose samples there is no memory.
+/// as is one whose picture the image doesn't take, and one for whose samples there is no memory.
 pub fn answer_write_image<S: Source>(
     reader: &mut Reader<S>,
     runtime: &mut Runtime,
@@ -46,12 +49,12 @@ pub fn answer_write_image<S: Source>(
     reader.read_exactly(&mut head)?;
     let rest = count - HEAD;
     match write_image_head(&head, rest) {
-        Ok((image, desc)) => match room_for(runtime, desc) {
+        Ok((image, desc)) => match room_in(runtime, client, image, desc) {
             Ok(samples) => {
                 let picture = read_picture(reader, desc, samples)?;
                 Ok(Content::Made(runtime.write(client, image, picture)))
             }
-            Err(NoMemory) => refuse(reader, rest, Code::NoMemory),
+            Err(code) => refuse(reader, rest, code),
         },
         Err(fault) => refuse(reader, rest, ParseFault::from(fault).code()),
     }
@@ -73,6 +76,23 @@ fn refuse<S: Source>(
 {
     reader.skip(rest)?;
     Ok(Content::Made(Reply::Refused(code)))
+}
+
+/// Memory for the samples of a picture that is to be written to an image. Else what the request is
+/// answered: why no picture of this description can be written there, which is found out first, or
+/// that there is no memory.
+fn room_in(runtime: &mut Runtime, client: u16, image: ObjRef, desc: Desc) -> Result<Samples, Code>
+    ensures described { IfOk result (λ samples. Describes desc samples) }
+    ensures refused { IfErr result (λ code. (code ≡ CodeNoMemory) ⊎
+        ((p : PictureValue) → p.description ≡ desc →
+        IsAnswered client (WriteImageRequest image p) runtime.old (Refused code))) }
+    ensures same { runtime.new ≡ runtime.old }
+{
+    runtime.accepts(client, image, desc)?;
+    match room_for(runtime, desc) {
+        Ok(samples) => Ok(samples),
+        Err(NoMemory) => Err(Code::NoMemory),
+    }
 }
 
 /// Memory for a picture's samples. Where there is none, blocks that no image has are given up for

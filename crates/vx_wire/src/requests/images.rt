@@ -1,5 +1,6 @@
 //! The bodies of requests about images.
 ghost use Rattle.std.specs.Prelude.{◌≡◌, ℕ, List, ◌++◌, length, Ok, Err, IfOk, IfErr};
+ghost use Rattle.client_model.specs.declared.request.Request.TheVariants.{WriteImagePgm};
 ghost use Rattle.vx_base.specs.Description.{byte_count};
 ghost use Rattle.vx_wire.specs.Faults.{MayFailWith};
 ghost use Rattle.vx_wire.specs.Images.{write_image_of};
@@ -71,15 +72,27 @@ pub fn write_image_head(head: &[u8; 10], rest: usize) -> Result<(ObjRef, Desc), 
     }
 }
 
-/// A reference and a text: all bytes that are left, which nothing reads here.
+/// The image that a WriteImagePgm request names and its text, from its body: a reference, and all
+/// bytes that are left, which nothing reads here. It takes no memory.
+pub fn write_image_pgm_fields(body: &[u8]) -> Result<(ObjRef, &[u8]), BodyFault>
+    ensures ok { IfOk result (λ found.
+        write_image_pgm_in body.now ≡ Ok (WriteImagePgm found.0 found.1.now)) }
+    ensures err { IfErr result (λ e. write_image_pgm_in body.now ≡ Err e) }
+{
+    let mut fields = Fields::new(body);
+    let image = take_reference(&mut fields)?;
+    Ok((image, fields.rest()))
+}
+
+/// A reference and a text.
 pub fn write_image_pgm(alloc: Global, body: &[u8]) -> Result<Request, ParseFault>
     ensures ok { IfOk result (λ request. write_image_pgm_in body.now ≡ Ok request) }
     ensures err { IfErr result (MayFailWith (write_image_pgm_in body.now)) }
 {
-    let mut fields = Fields::new(body);
-    let image = take_reference(&mut fields)?;
-    let text = fields.rest().to_vec(alloc)?;
-    Ok(Request::WriteImagePgm(image, Text::new(text)))
+    match write_image_pgm_fields(body) {
+        Ok((image, text)) => Ok(Request::WriteImagePgm(image, Text::new(text.to_vec(alloc)?))),
+        Err(fault) => Err(ParseFault::from(fault)),
+    }
 }
 
 /// A reference.

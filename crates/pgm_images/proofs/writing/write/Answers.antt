@@ -9,8 +9,8 @@ pub loop-y-preserved : goal.loop-y-preserved
 loop-y-preserved c =
     let image = c.args.image.now in
     let high : c.desc-desc.result.height ≡ image.height = ap (λ (d : Description). d.height) c.desc-desc.ensures in
-    rows_more image c.loop-y.y (written_header (description_of image)) c.loop-y.text.items c.row.result.now c.extend_from_slice.new.self.items
-    c.valid-valid.ensures.image (omega arith) c.row.ensures.value c.in_ok-extend_from_slice.ensures.items c.loop-y.invariant
+    rows_more image c.loop-y.y (written_header (description_of image)) c.loop-y.text.items c.row.result.now c.extend_from_slice-in-loop-y.new.self.items
+    c.valid-valid.ensures.image (omega arith) c.row.ensures.value c.in_ok-extend_from_slice-2.ensures.items c.loop-y.invariant
 
 pub returns : goal.returns
 returns c =

@@ -1,0 +1,36 @@
+use Rattle.std.proofs.Common.{◌≡◌, ℕ, ◌≤◌, ◌<◌, ◌^◌, length, decimal, arith, rules, IsTrue}
+use Rattle.std.proofs.lemmas.Bool.Decides.{nat_tests}
+use Rattle.std.proofs.lemmas.Fmt.{length-decimal-le}
+use Rattle.vx_base.specs.Description.{is_side}
+use Rattle.pgm_images.proofs.writing.WrittenHeader.new.Goals as goal
+
+side_limit : (n : ℕ) → IsTrue (is_side n) → n < 10000
+side_limit n is = grind (arith, nat_tests)
+
+-- a side has at most four digits
+side_digits : (side n : ℕ) → IsTrue (is_side side) → n ≡ side → length (decimal n) ≤ 4
+side_digits side n is e =
+    let below = side_limit side is in
+    length-decimal-le 4 n (omega arith) (omega arith) (omega arith)
+
+pub write_digits-height-requires : goal.write_digits-height-requires
+write_digits-height-requires c =
+    let short = side_digits c.args.desc.height c.from.result c.has_sides.ensures.height (search rules) in
+    (omega arith, search rules)
+
+pub put_before-blank-requires-clause-room : goal.put_before-blank-requires-clause-room
+put_before-blank-requires-clause-room c =
+    let short = side_digits c.args.desc.height c.from.result c.has_sides.ensures.height (search rules) in
+    omega arith
+
+pub write_digits-width-requires : goal.write_digits-width-requires
+write_digits-width-requires c =
+    let high = side_digits c.args.desc.height c.from.result c.has_sides.ensures.height (search rules) in
+    let wide = side_digits c.args.desc.width c.from-2.result c.has_sides.ensures.width (search rules) in
+    (omega arith, search rules)
+
+pub put_before-start-requires-clause-room : goal.put_before-start-requires-clause-room
+put_before-start-requires-clause-room c =
+    let high = side_digits c.args.desc.height c.from.result c.has_sides.ensures.height (search rules) in
+    let wide = side_digits c.args.desc.width c.from-2.result c.has_sides.ensures.width (search rules) in
+    omega arith

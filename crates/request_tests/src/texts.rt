@@ -1,0 +1,152 @@
+//! PGM texts that are written to images and read from them: in pieces, cut short, and refused.
+use crate::pictures::{ask, frame, image, opened, scatter};
+use crate::streams::{ALL_AT_ONCE, Devices, serve_bytes};
+use client_contexts::Runtime;
+use client_model::{Request, Text};
+use std::alloc::Global;
+use std::test::Fail;
+use vx_base::{Desc, Format, Samples};
+use vx_requests::StreamFault;
+
+/// Sides of images: the text of the first has fewer bytes than a small frame.
+const SIDES: [(u16, u16); 3] = [(3, 2), (13, 11), (100, 7)];
+
+/// A raw text with this maxval, of U8 samples below 256.
+fn text(alloc: Global, width: u16, height: u16, maxval: u16, seed: u32) -> Result<Vec<u8>, Fail> {
+    let mut text = format!(in alloc; "P5\n{width} {height}\n{maxval}\n")?.into_bytes();
+    let count = usize::from(width) * usize::from(height);
+    let mut samples = Samples::zeros(alloc, Format::U8, count)?;
+    scatter(&mut samples, seed);
+    if let Samples::U8(samples) = &samples {
+        text.extend_from_slice(samples)?;
+    }
+    Ok(text)
+}
+
+/// The frame in which client 1 writes a text to its image.
+fn writing(alloc: Global, text: &[u8]) -> Result<Vec<u8>, Fail> {
+    let text = Text::new(text.to_vec(alloc)?);
+    frame(alloc, &Request::WriteImagePgm(image(), text))
+}
+
+/// The frame in which client 1 reads its image as a text.
+fn reading(alloc: Global) -> Result<Vec<u8>, Fail> {
+    frame(alloc, &Request::ReadImagePgm(image()))
+}
+
+/// Whether the image is read as this text.
+fn holds(alloc: Global, runtime: &mut Runtime, text: &[u8]) -> Result<bool, Fail> {
+    let replies = ask(alloc, runtime, reading(alloc)?.as_slice())?;
+    Ok(replies.len() > 8 && replies[7] == 0 && &replies[8..] == text)
+}
+
+/// What is written is read again, byte for byte.
+#[test]
+fn texts_in_pieces(rt: HostRuntime) -> Result<(), Fail> {
+    let alloc = rt.alloc();
+    for (width, height) in SIDES {
+        let desc = Desc::new(width, height, Format::U8).ok_or("within the limits")?;
+        let text = text(alloc, width, height, 255, 1)?;
+        for (source_piece, sink_piece) in [(1_000_000, 1_000_000), (100, 9), (7, 3)] {
+            let devices = Devices {
+                source_piece,
+                sink_piece,
+                ..ALL_AT_ONCE
+            };
+            let mut runtime = opened(alloc, desc)?;
+            let mut stream = writing(alloc, text.as_slice())?;
+            stream.extend_from_slice(reading(alloc)?.as_slice())?;
+            let served = serve_bytes(alloc, &mut runtime, stream.as_slice(), devices);
+            assert!(rt; served.result.is_ok());
+            assert!(rt; served.written.len() > 16);
+            assert_eq!(rt; &served.written[..8], b"\0\0\0\x04\0\x01\x06\0".as_slice());
+            let length = (text.len() as u32 + 4).to_be_bytes();
+            assert_eq!(rt; &served.written[8..12], length.as_slice());
+            assert_eq!(rt; &served.written[12..16], b"\0\x01\x08\0".as_slice());
+            assert_eq!(rt; &served.written[16..], text.as_slice());
+        }
+    }
+    Ok(())
+}
+
+/// An image is as it was where the stream ends within the frame that writes it.
+#[test]
+fn texts_cut_short(rt: HostRuntime) -> Result<(), Fail> {
+    let alloc = rt.alloc();
+    for (width, height) in SIDES {
+        let desc = Desc::new(width, height, Format::U8).ok_or("within the limits")?;
+        let first = text(alloc, width, height, 255, 1)?;
+        let next = text(alloc, width, height, 255, 2)?;
+        let mut runtime = opened(alloc, desc)?;
+        ask(
+            alloc,
+            &mut runtime,
+            writing(alloc, first.as_slice())?.as_slice(),
+        )?;
+        let stream = writing(alloc, next.as_slice())?;
+        for parts in 1..24 {
+            let count = stream.len() * parts / 24;
+            assert!(rt; 0 < count && count < stream.len());
+            let served = serve_bytes(alloc, &mut runtime, &stream.as_slice()[..count], ALL_AT_ONCE);
+            assert_eq!(rt; served.result, Err(StreamFault::Truncated));
+            assert!(rt; holds(alloc, &mut runtime, first.as_slice())?);
+        }
+        ask(alloc, &mut runtime, stream.as_slice())?;
+        assert!(rt; holds(alloc, &mut runtime, next.as_slice())?);
+    }
+    Ok(())
+}
+
+/// A text's own fault comes before what the image says, and leaves the image as it was.
+#[test]
+fn texts_refused(rt: HostRuntime) -> Result<(), Fail> {
+    let alloc = rt.alloc();
+    let desc = Desc::new(40, 3, Format::U8).ok_or("within the limits")?;
+    let first = text(alloc, 40, 3, 255, 1)?;
+    let mut runtime = opened(alloc, desc)?;
+    ask(
+        alloc,
+        &mut runtime,
+        writing(alloc, first.as_slice())?.as_slice(),
+    )?;
+    // The sides, the maxval, how many bytes are left out at the end, and the code.
+    for (width, height, maxval, short, code) in [
+        (40, 3, 255, 1, 5),
+        (40, 3, 100, 0, 7),
+        (3, 40, 255, 0, 6),
+        (3, 40, 255, 1, 5),
+        (3, 40, 100, 0, 7),
+        (0, 3, 255, 0, 6),
+        (40, 3, 0, 0, 5),
+    ] {
+        let other = text(alloc, width, height, maxval, 3)?;
+        assert!(rt; short < other.len());
+        let mut stream = writing(alloc, &other.as_slice()[..other.len() - short])?;
+        stream.extend_from_slice(reading(alloc)?.as_slice())?;
+        let replies = ask(alloc, &mut runtime, stream.as_slice())?;
+        assert!(rt; replies.len() > 16);
+        assert_eq!(rt; replies[7], code);
+        assert_eq!(rt; &replies[16..], first.as_slice());
+    }
+    for (text, code) in [
+        (b"P5 1 1 300\n\x01\x2c".as_slice(), 5),
+        (b"P5 1 1 300\n\x01\x2d".as_slice(), 7),
+        (b"P5 1 1 255\n\x01".as_slice(), 6),
+    ] {
+        let replies = ask(alloc, &mut runtime, writing(alloc, text)?.as_slice())?;
+        assert!(rt; replies.len() == 8 && replies[7] == code);
+        assert!(rt; holds(alloc, &mut runtime, first.as_slice())?);
+    }
+    Ok(())
+}
+
+/// An image of S16 is read as no text.
+#[test]
+fn no_texts_of_shorts(rt: HostRuntime) -> Result<(), Fail> {
+    let alloc = rt.alloc();
+    let desc = Desc::new(4, 3, Format::S16).ok_or("within the limits")?;
+    let mut runtime = opened(alloc, desc)?;
+    let replies = ask(alloc, &mut runtime, reading(alloc)?.as_slice())?;
+    assert_eq!(rt; replies.as_slice(), b"\0\0\0\x04\0\x01\x08\x05".as_slice());
+    Ok(())
+}
