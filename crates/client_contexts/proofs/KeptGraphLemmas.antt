@@ -60,6 +60,7 @@ module _ (limits : Allowance) (c later : Context) (request : Request) (h : Keeps
       let stayed = had_nodes name leaves kept.below in
       record {
         below = omega (arith, kept.below, next_stays.next);
+        plan = kept.plan;
         ready =
             of_held (object_held later.objects name) stayed
             (λ object there stays. ready_after_one limits c later request name (nodes_in object) k.verified h is e leaves kept.below stays (ap is_some there)

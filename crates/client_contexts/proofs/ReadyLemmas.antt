@@ -21,6 +21,8 @@ use Rattle.graph_verify.specs.declared.verdict.Verdict.{Verdict}
 use Rattle.graph_verify.specs.Outlines.{resolved}
 use Rattle.graph_verify.specs.Verdict.{verdict}
 use Rattle.graph_verify.specs.Verified.{IsVerified}
+use Rattle.buffer_plan.specs.Places.{told}
+use Rattle.buffer_plan.specs.Plan.{IsPlan}
 use Rattle.graph_run.specs.Graph.{run_of_graph}
 use Rattle.graph_run.specs.Operands.{IsReady, operand_held}
 use Rattle.client_model.specs.declared.refusal.Refusal.{Refusal}
@@ -65,6 +67,11 @@ kept_there c name k entries are is =
     All-contains (λ (entry : ℕ × Kept). IsKept c entry.0 entry.1) entries (name, k) are
     (Contains-from_lookup {eq = eq_by_cmp nat_cmp} (tells_apart exact_unsigned) name k entries is)
 
+-- its plan is one
+pub kept_plan : (c : Context) (name : ℕ) (k : Kept) (entries : List (ℕ × Kept)) → AreKept c entries → lookup (is_at (nat_cmp name)) entries ≡ Some k
+    → IsPlan k.verified.steps.items k.verified.virtual_outputs.items (told k.plan)
+kept_plan c name k entries are is = (kept_there c name k entries are is).plan
+
 -- so is what was found within so many work bytes
 pub found_kept : (c : Context) (name work : ℕ) (entries : List (ℕ × Kept)) → AreKept c entries → option_map (λ (k : Kept). k.work) (lookup (is_at (nat_cmp name)) entries) ≡ Some work
     → (k : Kept) × (k.work ≡ work) × IsKept c name k
@@ -91,9 +98,11 @@ module _ (limits : Allowance) (c : Context) (name : ℕ) (x : ObjectValue) (h : 
 
   -- once it is verified, so much is kept of it
   pub verified_is_kept : (k : Kept) → IsVerified (operand_held c.objects) (nodes_of (graph_value x)) k.verified
-      → verdict k.work (operand_held c.objects) (nodes_of (graph_value x)) ≡ None → IsKept c name k
-  verified_is_kept k verified allowed =
+      → verdict k.work (operand_held c.objects) (nodes_of (graph_value x)) ≡ None → IsPlan k.verified.steps.items k.verified.virtual_outputs.items (told k.plan)
+      → IsKept c name k
+  verified_is_kept k verified allowed planned =
       record {
+        plan = planned;
         below = subst (λ (o : Option ObjectValue). IfSome o (λ object. name < c.next)) held_graph (named_has (λ n object. n < c.next) c.objects name h.below);
         ready =
             subst (λ (o : Option ObjectValue). IfSome o (λ object. IsReady c.objects (nodes_in object) k.verified)) (sym held_graph)

@@ -19,6 +19,7 @@ use crate::fault::RequestFault;
 use crate::kept::Kept;
 use crate::lookup::{find_graph_for, find_named};
 use crate::room::{hold, look_for_room};
+use buffer_plan::Plan;
 use client_model::{Limits, Refusal, Reply};
 use graph_run::{run, verify_in};
 use graph_verify::Graph;
@@ -106,13 +107,19 @@ pub fn verify_graph(
     ensures found { OnOk result (option_map (λ k. k.work) (lookup (is_at (nat_cmp graph))
         kept.new.entries) ≡ Some limits.work) }
 {
-    let found = find_named(table, graph, Kind::Graph)?;
+    let object = find_named(table, graph, Kind::Graph)?;
     let work = limits.work();
     if is_kept(kept, graph, work) {
         return Ok(Reply::Empty);
     }
-    let verified = verify_in(alloc, table, found.graph(), work)?;
-    match kept.insert(graph, Kept { work, verified }) {
+    let verified = verify_in(alloc, table, object.graph(), work)?;
+    let plan = Plan::new(alloc, &verified)?;
+    let found = Kept {
+        work,
+        verified,
+        plan,
+    };
+    match kept.insert(graph, found) {
         Ok(_) => Ok(Reply::Empty),
         Err(_) => Err(RequestFault::NoMemory),
     }

@@ -3,15 +3,18 @@ ghost use Rattle.std.specs.Prelude.{◌≡◌, false, All};
 ghost use Rattle.client_model.specs.States.{changes_nodes};
 ghost use Rattle.client_contexts.specs.Kept.{forgotten_by};
 
+use buffer_plan::Plan;
 use client_model::Request;
 use graph_verify::Verified;
 use std::collections::BTreeMap;
 
-/// How a graph runs, found within so many work bytes. It holds until the graph's nodes change.
+/// How a graph runs, found within so many work bytes: its nodes in their order, and in which slots
+/// its virtual images stand. It holds until the graph's nodes change.
 #[derive(Drop)]
 pub struct Kept {
     pub work: u64,
     pub verified: Verified,
+    pub plan: Plan,
 }
 
 /// Forgets how a graph runs whose nodes a request has changed, or whose name it has ended.

@@ -18,7 +18,7 @@ returns-then-is_kept-clause-comes c =
     let found = found_kept t c.args.graph c.work-work.result c.args.kept.now.entries c.requires.kept (c.is_kept.ensures c.if-is_kept.true) in
     record {
       done =
-          kept_verifies c.requires.context.0 t c.args.graph c.in_ok-found.found.now c.requires.context.1 c.in_ok-found.ensures.ok c.args.limits found.0 found.2
+          kept_verifies c.requires.context.0 t c.args.graph c.in_ok-object.object.now c.requires.context.1 c.in_ok-object.ensures.ok c.args.limits found.0 found.2
           (found.1 ∙ c.work-work.ensures);
       refused = tt;
       kept = tt;
@@ -27,16 +27,17 @@ returns-then-is_kept-clause-comes c =
 pub verify_in-requires : goal.verify_in-requires
 verify_in-requires c =
     subst (λ (g : GraphValue). All (λ n. IsTrue (is_image (operand_held c.args.table.now.objects n.in1))) (nodes_of g)) (sym c.graph.ensures)
-    (graph_firsts c.requires.context.0 c.args.table.now c.args.graph c.in_ok-found.found.now c.requires.context.1 c.in_ok-found.ensures.ok)
+    (graph_firsts c.requires.context.0 c.args.table.now c.args.graph c.in_ok-object.object.now c.requires.context.1 c.in_ok-object.ensures.ok)
 
 -- how it runs comes to what is kept
 pub returns-in-Ok-clause-kept : goal.returns-in-Ok-clause-kept
 returns-in-Ok-clause-kept c =
     let t = c.args.table.now in
     let v = c.in_ok-verified.verified in
-    let k : Kept = record { work = c.work-work.result; verified = v } in
+    let k : Kept = record { work = c.work-work.result; verified = v; plan = c.in_ok-plan.plan } in
     let verified = subst (λ (g : GraphValue). IsVerified (operand_held t.objects) (nodes_of g) v) c.graph.ensures c.in_ok-verified.ensures.verified in
     let allowed = ap (λ (g : GraphValue). verdict c.work-work.result (operand_held t.objects) (nodes_of g)) (sym c.graph.ensures) ∙ c.in_ok-verified.ensures.ok in
     subst (λ (entries : List (ℕ × Kept)). AreKept t entries) (sym c.in-Ok.ensures.entries)
     (All-insert c.args.graph k (λ (e : ℕ × Kept). IsKept t e.0 e.1) c.args.kept.now.entries c.requires.kept
-    (verified_is_kept c.requires.context.0 t c.args.graph c.in_ok-found.found.now c.requires.context.1 c.in_ok-found.ensures.ok k verified allowed))
+    (verified_is_kept c.requires.context.0 t c.args.graph c.in_ok-object.object.now c.requires.context.1 c.in_ok-object.ensures.ok k verified allowed
+    (c.in_ok-plan.ensures.plan c.work-work.result (operand_held t.objects) _ allowed verified)))
