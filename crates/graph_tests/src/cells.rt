@@ -134,28 +134,3 @@ fn a_delay_ages_in_a_table(rt: HostRuntime) -> Result<(), Fail> {
     assert!(rt; are(&last, [0, 0]));
     Ok(())
 }
-
-/// What a new table is charged once it holds an image, and once another object has come in its
-/// place.
-fn exchanged(table: &mut Table, image: Stored, other: &mut Object) -> Result<[u64; 2], Fail>
-    requires table { table.old ≡ new_context }
-    requires other { nodes_in other.old ≡ [] }
-{
-    hold(table, Content::Image(image))?;
-    let before = table.charged_bytes();
-    table.exchange(1, other);
-    Ok([before, table.charged_bytes()])
-}
-
-#[test]
-fn the_charge_is_of_what_has_come(rt: HostRuntime) -> Result<(), Fail> {
-    let alloc = rt.alloc();
-    let wide = Desc::new(3, 2, Format::S16).ok_or("within the limits")?;
-    let mut pool = Pool::new(alloc);
-    let mut other = Object::new(Content::Image(Stored::new(&mut pool, wide)?));
-    let image = Stored::new(&mut pool, small()?)?;
-    let mut table = Table::new(alloc);
-    assert_eq!(rt; exchanged(&mut table, image, &mut other)?, [2, 12]);
-    assert_eq!(rt; (table.held(), other.bytes()), (1, 2));
-    Ok(())
-}

@@ -4,7 +4,7 @@
 //!
 //! - `holdings`: a table and its pool, for these tests
 //! - `tables`: names and the charge of a table, and objects that are set
-//! - `cells`: images and slots of delays in a table, which are read, written and exchanged
+//! - `cells`: images and slots of delays in a table, which are read and written
 //! - `graphs`: graphs, the numbers of their nodes, and what these use in a table
 //! - `plans`: the slots of virtual images, and the steps that need so many
 //! - `runs`: nodes and graphs that run in a table

@@ -1,7 +1,7 @@
 -- One client's context: OpenVX 1.3, "Object: Context".
-use Rattle.std.specs.Prelude.{ℕ, ◌+◌, ◌==◌, true, ◌&&◌, Bool, nat_lt, List, [], ◌∷◌, ◌++◌, length, sum_by, find, Option, None}
+use Rattle.std.specs.Prelude.{ℕ, ◌+◌, ◌==◌, true, ◌&&◌, Bool, nat_lt, List, [], ◌∷◌, ◌++◌, length, sum_by, find, Option}
 use Rattle.std.specs.Option.{option_map}
-use Rattle.vx_base.specs.Cell.{Cell, cell_of}
+use Rattle.vx_base.specs.Cell.{cell_of}
 use Rattle.vx_base.specs.Graph.{GraphValue}
 use Rattle.vx_base.specs.Object.{ObjectValue, GraphObject, object_bytes}
 use Rattle.object_table.specs.Named.{Named, with_object}

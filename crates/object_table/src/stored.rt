@@ -50,25 +50,6 @@ impl Stored {
         })
     }
 
-    /// A wholly valid image for who writes each of its samples: they are what their block happens
-    /// to hold.
-    pub fn unwritten(pool: &mut Pool, desc: Desc) -> Result<Stored, AllocError>
-        ensures desc { IfOk result (λ image. description_of image ≡ desc) }
-        ensures valid { IfOk result (λ image. image.valid ≡ whole desc.width desc.height) }
-        ensures image { IfOk result IsImage }
-        ensures lends { IfOk result (λ image. LendsMore pool.old pool.new (image_blocks image)) }
-        ensures err { OnErr result (pool.new ≡ pool.old) }
-    {
-        let samples = pool.take(desc.format(), desc.sample_count())?;
-        // A picture says of its numbers that they are samples.
-        let picture = Picture::new(desc, samples);
-        Ok(Stored {
-            desc,
-            valid: desc.whole(),
-            samples: picture.into_samples(),
-        })
-    }
-
     /// Gives the image's block back. It takes no memory.
     pub fn end(self, pool: &mut Pool)
         requires { LendsAtLeast pool.old (image_blocks self) }

@@ -31,7 +31,6 @@ use pixel_pool::Pool;
 use std::alloc::Global;
 use std::collections::BTreeMap;
 use std::marker::Model;
-use std::mem;
 use vx_base::{Desc, Extremes, ObjRef, Picture, Rect, Samples};
 
 /// Each name is below this: 2^32.
@@ -189,25 +188,6 @@ impl Table {
             Some(entry) => entry.object.image(cell.slot()),
             None => unreachable!(),
         }
-    }
-
-    /// The object under a name and the given one change places; neither is a graph with nodes. Name
-    /// and uses stay, and the charge is that of the new object. It takes no memory.
-    pub fn exchange(&mut self, name: u32, object: &mut Object)
-        requires held { IsSome (object_held self.old.objects name) }
-        requires gone { nodes_in (object_under self.old.objects name) ≡ [] }
-        requires come { nodes_in object.old ≡ [] }
-        ensures value { self.new ≡ with_objects self.old
-            (with_object self.old.objects (cell_of name) object.old) }
-        ensures handed_out { object.new ≡ object_under self.old.objects name }
-    {
-        let come = object.bytes() as u64;
-        let Some(entry) = self.entries.get_mut(&name) else {
-            unreachable!()
-        };
-        let gone = entry.object.bytes() as u64;
-        mem::swap(&mut entry.object, object);
-        self.charge = self.charge - gone + come;
     }
 
     /// Writes a picture to the image that a cell holds; both are of one description.
