@@ -1,5 +1,5 @@
 -- What is read has one spelling: the bytes that it was read from.
-use Rattle.std.proofs.Common.{◌≡◌, ℕ, ◌+◌, ◌*◌, ◌<◌, ◌≤◌, nat_le, nat_lt, ◌&&◌, length, take, drop, sym, take-append-drop, length-take-le, ◌^◌, ◌%◌, ◌/◌, ◌==◌, List, [], ◌∷◌, ◌++◌, Option, Some, None, Result, Ok, Err, Bool, true, false, ◌⊎◌, inl, inr, IsTrue, if◌then◌else◌, unwrap_or, arith, refl, ap, subst, ◌∙◌}
+use Rattle.std.proofs.Common.{◌≡◌, ℕ, ◌+◌, ◌*◌, ◌<◌, ◌≤◌, nat_le, nat_lt, ◌&&◌, length, take, drop, sym, take-append-drop, length-take-le, ◌^◌, ◌%◌, ◌/◌, ◌==◌, List, [], ◌∷◌, ◌++◌, Option, Some, None, Result, Ok, Err, Bool, true, false, ◌⊎◌, inl, inr, IsTrue, if◌then◌else◌, unwrap_or, arith, refl, ap, subst, ◌∙◌, append_assoc}
 use Rattle.std.specs.Prelude.{All, IfSome}
 use Rattle.std.specs.Int.{w16, w32, to_be_bytes}
 use Rattle.std.proofs.lemmas.Bool.{eqb-true, eq-eqb, leb-true}
@@ -56,124 +56,125 @@ pub if_none : {A : Type 0} (b : Bool) (o : Option A) (y : A) → (if b then None
 if_none true o y e = cc
 if_none false o y e = (refl, e)
 
-pub byte_of : (body : List ℕ) (n : ℕ) (rest : List ℕ) → AllBytes body → take_byte body ≡ Ok (n, rest) → (body ≡ n ∷ rest) × (n < 256) × AllBytes rest
+byte_of : (body : List ℕ) (n : ℕ) (rest : List ℕ) → AllBytes body → take_byte body ≡ Ok (n, rest) → (body ≡ n ∷ rest) × (n < 256) × AllBytes rest
 byte_of [] n rest is e = cc
 byte_of (a ∷ others) n rest is e =
     let (same, behind) = taken_same a n others rest e in
     let first : a < 256 = All-head (λ b. b < 256) a others is in
     (ap (λ b. b ∷ others) same ∙ ap (λ l. n ∷ l) behind, omega arith, subst AllBytes behind (All-tail (λ b. b < 256) a others is))
 
-pub short_of : (body : List ℕ) (n : ℕ) (rest : List ℕ) → AllBytes body → take_short body ≡ Ok (n, rest)
-    → (body ≡ to_be_bytes w16 n ++ rest) × (n < 2 ^ 16) × AllBytes rest
-short_of body n rest is e =
-    let (a, rest1, is_a, e1) = then_of (take_byte body) (λ a rest. and_then (take_byte rest) (λ b rest. ok (256 * a + b) rest)) (n, rest) e in
-    let (b, rest2, is_b, e2) = then_of (take_byte rest1) (λ b rest. ok (256 * a + b) rest) (n, rest) e1 in
-    let (same, behind) = taken_same (256 * a + b) n rest2 rest e2 in
-    let (body_is, a_below, is1) = byte_of body a rest1 is is_a in
-    let (rest_is, b_below, is2) = byte_of rest1 b rest2 is1 is_b in
-    let high : a ≡ n / 256 % 256 = omega arith in
-    let low : b ≡ n % 256 = omega arith in
-    (body_is ∙ ap (λ l. a ∷ l) rest_is ∙ ap (λ l. a ∷ b ∷ l) behind ∙ ap (λ x. x ∷ b ∷ rest) high ∙ ap (λ x. n / 256 % 256 ∷ x ∷ rest) low, omega arith, subst AllBytes behind is2)
+-- ---- fields after one another
 
-pub long_of : (body : List ℕ) (n : ℕ) (rest : List ℕ) → AllBytes body → take_long body ≡ Ok (n, rest)
-    → (body ≡ to_be_bytes w32 n ++ rest) × (n < 2 ^ 32) × AllBytes rest
-long_of body n rest is e =
-    let (a, rest1, is_a, e1) = then_of (take_short body) (λ a rest. and_then (take_short rest) (λ b rest. ok (65536 * a + b) rest)) (n, rest) e in
-    let (b, rest2, is_b, e2) = then_of (take_short rest1) (λ b rest. ok (65536 * a + b) rest) (n, rest) e1 in
-    let (same, behind) = taken_same (65536 * a + b) n rest2 rest e2 in
-    let (body_is, a_below, is1) = short_of body a rest1 is is_a in
-    let (rest_is, b_below, is2) = short_of rest1 b rest2 is1 is_b in
+-- what is read of bytes that stand after others: all of them spell it, and it is one of P
+pub record Reads {A : Type 0} (front : List ℕ) (take : List ℕ → Taken A) (bytes : A → List ℕ) (P : A → Type 0) : Type 0 where
+  pub of : (body : List ℕ) (x : A) (rest : List ℕ) → AllBytes body → take body ≡ Ok (x, rest) → (front ++ body ≡ bytes x ++ rest) × P x × AllBytes rest
+
+-- a field, and what is read after it
+pub then_reads : {A B : Type 0} {front : List ℕ} {take : List ℕ → Taken A} {field : A → List ℕ} {P : A → Type 0} {bytes : B → List ℕ} {Q : B → Type 0}
+    → Reads [] take field P → (next : A → List ℕ → Taken B) → ((x : A) → P x → Reads (front ++ field x) (next x) bytes Q) → Reads front (λ body. and_then (take body) next) bytes Q
+then_reads {A} {B} {front} {take} {field} {P} {bytes} {Q} first next later = record {
+  of = λ body y rest is e.
+      let (x, rest1, is_x, e1) = then_of (take body) next (y, rest) e in
+      let (body_is, x_is, is1) = first.of body x rest1 is is_x in
+      let (all, y_is, is2) = (later x x_is).of rest1 y rest is1 e1 in
+      (ap (λ l. front ++ l) body_is ∙ sym (append_assoc front (field x) rest1) ∙ all, y_is, is2);
+}
+
+-- nothing more: it is made of the fields, where that is allowed
+pub made_of : {A : Type 0} {front : List ℕ} {bytes : A → List ℕ} {P : A → Type 0} (fault : BodyFault) (made : Option A)
+    → ((x : A) → made ≡ Some x → (front ≡ bytes x) × P x) → Reads front (λ rest. allowed fault made rest) bytes P
+made_of {A} {front} {bytes} {P} fault made are = record {
+  of = λ body x rest is e.
+      let (same, behind) = allowed_of fault made x body rest e in
+      let (spelled, x_is) = are x same in
+      (ap (λ l. l ++ body) spelled ∙ ap (λ l. bytes x ++ l) behind, x_is, subst AllBytes behind is);
+}
+
+pub made : {A : Type 0} {front : List ℕ} {bytes : A → List ℕ} {P : A → Type 0} (x : A) → front ≡ bytes x → P x → Reads front (λ rest. ok x rest) bytes P
+made {A} {front} {bytes} {P} x spelled x_is = record {
+  of = λ body y rest is e.
+      let (same, behind) = taken_same x y body rest e in
+      (ap (λ l. l ++ body) spelled ∙ ap (λ x. bytes x ++ body) same ∙ ap (λ l. bytes y ++ l) behind, subst P same x_is, subst AllBytes behind is);
+}
+
+-- a field that is made of another one
+pub one_made : {A B : Type 0} {take : List ℕ → Taken A} {field : A → List ℕ} {P : A → Type 0} {bytes : B → List ℕ} {Q : B → Type 0}
+    → Reads [] take field P → (fault : BodyFault) (made : A → Option B) → ((x : A) (y : B) → P x → made x ≡ Some y → (field x ≡ bytes y) × Q y)
+    → Reads [] (λ body. and_then (take body) (λ x rest. allowed fault (made x) rest)) bytes Q
+one_made first fault made are = then_reads first (λ x rest. allowed fault (made x) rest) (λ x x_is. made_of fault (made x) (λ y same. are x y x_is same))
+
+pub passed : {A : Type 0} (test : A → Bool) (x y : A) → (if test x then Some x else None) ≡ Some y → (x ≡ y) × IsTrue (test y)
+passed test x y e = elim (if_some (test x) x None y e) [ inl h ↦ (h.1, subst (λ z. IsTrue (test z)) h.1 h.0) | inr h ↦ cc ]
+
+-- a field that passes a test
+pub tested : {A : Type 0} {take : List ℕ → Taken A} {bytes : A → List ℕ} {P : A → Type 0} → Reads [] take bytes P → (fault : BodyFault) (test : A → Bool)
+    → Reads [] (λ body. and_then (take body) (λ x rest. allowed fault (if test x then Some x else None) rest)) bytes (λ x. IsTrue (test x))
+tested {A} {take} {bytes} {P} first fault test =
+    one_made first fault (λ x. if test x then Some x else None) (λ x y x_is e. let (same, is) = passed test x y e in (ap bytes same, is))
+
+pub byte_reads : Reads [] take_byte (λ n. n ∷ []) (λ n. n < 256)
+byte_reads = record { of = byte_of }
+
+-- the bytes of a number are those of its halves
+bytes_joined : (a b n : ℕ) → 65536 * a + b ≡ n → b < 65536 → to_be_bytes w16 a ++ to_be_bytes w16 b ≡ to_be_bytes w32 n
+bytes_joined a b n is below =
     let e3 : a / 256 % 256 ≡ n / 16777216 % 256 = omega arith in
     let e2 : a % 256 ≡ n / 65536 % 256 = omega arith in
     let e1 : b / 256 % 256 ≡ n / 256 % 256 = omega arith in
     let e0 : b % 256 ≡ n % 256 = omega arith in
-    let spelled : List ℕ → List ℕ = λ l. to_be_bytes w16 a ++ l in (
-      body_is ∙ ap spelled rest_is ∙ ap (λ l. spelled (to_be_bytes w16 b ++ l)) behind
-          ∙ ap (λ x. x ∷ a % 256 ∷ b / 256 % 256 ∷ b % 256 ∷ rest) e3 ∙ ap (λ x. n / 16777216 % 256 ∷ x ∷ b / 256 % 256 ∷ b % 256 ∷ rest) e2
-          ∙ ap (λ x. n / 16777216 % 256 ∷ n / 65536 % 256 ∷ x ∷ b % 256 ∷ rest) e1 ∙ ap (λ x. n / 16777216 % 256 ∷ n / 65536 % 256 ∷ n / 256 % 256 ∷ x ∷ rest) e0,
-      omega arith,
-      subst AllBytes behind is2,
-    )
+    cc
 
--- numbers that pass a test
-pub tested_byte_of : (fault : BodyFault) (test : ℕ → Bool) (body : List ℕ) (n : ℕ) (rest : List ℕ) → AllBytes body
-    → and_then (take_byte body) (λ m rest. allowed fault (if test m then Some m else None) rest) ≡ Ok (n, rest) → (body ≡ n ∷ rest) × IsTrue (test n) × AllBytes rest
-tested_byte_of fault test body n rest is e =
-    let (m, rest1, is_m, e1) = then_of (take_byte body) (λ m rest. allowed fault (if test m then Some m else None) rest) (n, rest) e in
-    let (same, behind) = allowed_of fault (if test m then Some m else None) n rest1 rest e1 in
-    let (body_is, below, is1) = byte_of body m rest1 is is_m in
-    elim (if_some (test m) m None n same) [
-      | inl h ↦ (body_is ∙ ap (λ x. x ∷ rest1) h.1 ∙ ap (λ l. n ∷ l) behind, subst (λ x. IsTrue (test x)) h.1 h.0, subst AllBytes behind is1)
-      | inr h ↦ cc
-    ]
+short_reads : Reads [] take_short (λ n. to_be_bytes w16 n) (λ n. n < 2 ^ 16)
+short_reads =
+    let last : ℕ → ℕ → List ℕ → Taken ℕ = λ a b rest. ok (256 * a + b) rest in
+    then_reads byte_reads (λ a rest. and_then (take_byte rest) (last a)) (λ a a_below. then_reads byte_reads (last a) (λ b b_below.
+    let high : a ≡ (256 * a + b) / 256 % 256 = omega arith in
+    let low : b ≡ (256 * a + b) % 256 = omega arith in
+    made (256 * a + b) (ap (λ x. x ∷ b ∷ []) high ∙ ap (λ x. (256 * a + b) / 256 % 256 ∷ x ∷ []) low) (omega arith)))
 
-tested_short_of : (fault : BodyFault) (test : ℕ → Bool) (body : List ℕ) (n : ℕ) (rest : List ℕ) → AllBytes body
-    → and_then (take_short body) (λ m rest. allowed fault (if test m then Some m else None) rest) ≡ Ok (n, rest) → (body ≡ to_be_bytes w16 n ++ rest) × IsTrue (test n) × AllBytes rest
-tested_short_of fault test body n rest is e =
-    let (m, rest1, is_m, e1) = then_of (take_short body) (λ m rest. allowed fault (if test m then Some m else None) rest) (n, rest) e in
-    let (same, behind) = allowed_of fault (if test m then Some m else None) n rest1 rest e1 in
-    let (body_is, below, is1) = short_of body m rest1 is is_m in
-    elim (if_some (test m) m None n same) [
-      | inl h ↦ (body_is ∙ ap (λ x. to_be_bytes w16 x ++ rest1) h.1 ∙ ap (λ l. to_be_bytes w16 n ++ l) behind, subst (λ x. IsTrue (test x)) h.1 h.0, subst AllBytes behind is1)
-      | inr h ↦ cc
-    ]
+pub long_reads : Reads [] take_long (λ n. to_be_bytes w32 n) (λ n. n < 2 ^ 32)
+long_reads =
+    let last : ℕ → ℕ → List ℕ → Taken ℕ = λ a b rest. ok (65536 * a + b) rest in
+    then_reads short_reads (λ a rest. and_then (take_short rest) (last a)) (λ a a_below. then_reads short_reads (last a) (λ b b_below.
+    made (65536 * a + b) (bytes_joined a b (65536 * a + b) refl b_below) (omega arith)))
 
 enough_of : (b : Bool) (x y rest others : List ℕ) → (if b then ok x rest else Err InvalidParameters) ≡ ok y others → (b ≡ true) × (x ≡ y) × (rest ≡ others)
 enough_of true x y rest others e = let p = taken_same x y rest others e in (refl, p.0, p.1)
 enough_of false x y rest others e = cc
 
--- so many bytes, and those after them
-pub bytes_of : (n : ℕ) (body bytes rest : List ℕ) → AllBytes body → take_bytes n body ≡ Ok (bytes, rest)
-    → (body ≡ bytes ++ rest) × (length bytes ≡ n) × AllBytes bytes × AllBytes rest
-bytes_of n body bytes rest is e =
-    let (enough, same, behind) = enough_of (nat_le n (length body)) (take n body) bytes (drop n body) rest e in
-    let long : n ≤ length body = leb-true n (length body) enough in (
-      sym (take-append-drop n body) ∙ ap (λ l. l ++ drop n body) same ∙ ap (λ l. bytes ++ l) behind,
-      ap length (sym same) ∙ length-take-le n body long,
-      subst AllBytes same (All-take (λ b. b < 256) n body is),
-      subst AllBytes behind (All-drop (λ b. b < 256) n body is),
-    )
+-- so many bytes
+pub bytes_reads : (n : ℕ) → Reads [] (take_bytes n) (λ bytes. bytes) (λ bytes. (length bytes ≡ n) × AllBytes bytes)
+bytes_reads n = record {
+  of = λ body bytes rest is e.
+      let (enough, same, behind) = enough_of (nat_le n (length body)) (take n body) bytes (drop n body) rest e in
+      let long : n ≤ length body = leb-true n (length body) enough in (
+        sym (take-append-drop n body) ∙ ap (λ l. l ++ drop n body) same ∙ ap (λ l. bytes ++ l) behind,
+        (ap length (sym same) ∙ length-take-le n body long, subst AllBytes same (All-take (λ b. b < 256) n body is)),
+        subst AllBytes behind (All-drop (λ b. b < 256) n body is),
+      );
+}
 
 -- ---- formats, sides, descriptions, outlines, references, rectangles, numbers of slots, bins
 
-format_of : (body : List ℕ) (format : Format) (rest : List ℕ) → AllBytes body → take_format body ≡ Ok (format, rest)
-    → (body ≡ format_number format ∷ rest) × AllBytes rest
-format_of body format rest is e =
-    let (n, rest1, is_n, e1) = then_of (take_byte body) (λ n rest. allowed InvalidFormat (format_numbered n) rest) (format, rest) e in
-    let (same, behind) = allowed_of InvalidFormat (format_numbered n) format rest1 rest e1 in
-    let (body_is, below, is1) = byte_of body n rest1 is is_n in
-    (body_is ∙ ap (λ x. x ∷ rest1) (number_is format_number (U8 ∷ S16 ∷ U32 ∷ []) n format same) ∙ ap (λ l. format_number format ∷ l) behind, subst AllBytes behind is1)
+format_reads : Reads [] take_format (λ format. format_number format ∷ []) (λ format. Unit {0})
+format_reads = one_made byte_reads InvalidFormat format_numbered (λ n format below e. (ap (λ x. x ∷ []) (number_is format_number (U8 ∷ S16 ∷ U32 ∷ []) n format e), tt))
 
-side_of : (body : List ℕ) (n : ℕ) (rest : List ℕ) → AllBytes body → take_side body ≡ Ok (n, rest)
-    → (body ≡ to_be_bytes w16 n ++ rest) × IsTrue (is_side n) × AllBytes rest
-side_of body n rest is e = tested_short_of InvalidDimension is_side body n rest is e
+side_reads : Reads [] take_side (λ n. to_be_bytes w16 n) (λ n. IsTrue (is_side n))
+side_reads = tested short_reads InvalidDimension is_side
 
-pub description_of : (body : List ℕ) (d : Description) (rest : List ℕ) → AllBytes body → take_description body ≡ Ok (d, rest)
-    → (body ≡ description_bytes d ++ rest) × IsDescription d × AllBytes rest
-description_of body d rest is e =
-    let made : Format → ℕ → ℕ → Description = λ format width height. record { width = width; height = height; format = format } in
-    let last : Format → ℕ → List ℕ → Taken Description = λ format width rest. and_then (take_side rest) (λ height rest. ok (made format width height) rest) in
-    let (format, rest1, is_format, e1) = then_of (take_format body) (λ format rest. and_then (take_side rest) (last format)) (d, rest) e in
-    let (width, rest2, is_width, e2) = then_of (take_side rest1) (last format) (d, rest) e1 in
-    let (height, rest3, is_height, e3) = then_of (take_side rest2) (λ height rest. ok (made format width height) rest) (d, rest) e2 in
-    let (same, behind) = taken_same (made format width height) d rest3 rest e3 in
-    let (body_is, is1) = format_of body format rest1 is is_format in
-    let (rest1_is, width_is, is2) = side_of rest1 width rest2 is1 is_width in
-    let (rest2_is, height_is, is3) = side_of rest2 height rest3 is2 is_height in (
-      body_is ∙ ap (λ l. format_number format ∷ l) rest1_is ∙ ap (λ l. format_number format ∷ (to_be_bytes w16 width ++ l)) rest2_is
-          ∙ ap (λ d. description_bytes d ++ rest3) same ∙ ap (λ l. description_bytes d ++ l) behind,
-      subst IsDescription same (record { width = width_is; height = height_is }),
-      subst AllBytes behind is3,
-    )
+pub description_reads : Reads [] take_description description_bytes IsDescription
+description_reads =
+    let of : Format → ℕ → ℕ → Description = λ format width height. record { width = width; height = height; format = format } in
+    let third : Format → ℕ → ℕ → List ℕ → Taken Description = λ format width height rest. ok (of format width height) rest in
+    let second : Format → ℕ → List ℕ → Taken Description = λ format width rest. and_then (take_side rest) (third format width) in
+    then_reads format_reads (λ format rest. and_then (take_side rest) (second format)) (λ format f.
+    then_reads side_reads (second format) (λ width w. then_reads side_reads (third format width) (λ height h.
+    made (of format width height) refl (record { width = w; height = h }))))
 
-open_format_of : (body : List ℕ) (format : Option Format) (rest : List ℕ) → AllBytes body → take_open_format body ≡ Ok (format, rest)
-    → (body ≡ open_format_number format ∷ rest) × AllBytes rest
-open_format_of body format rest is e =
-    let (n, rest1, is_n, e1) = then_of (take_byte body) (λ n rest. allowed InvalidFormat (open_format_numbered n) rest) (format, rest) e in
-    let (same, behind) = allowed_of InvalidFormat (open_format_numbered n) format rest1 rest e1 in
-    let (body_is, below, is1) = byte_of body n rest1 is is_n in
-    let number = number_is open_format_number (None ∷ Some U8 ∷ Some S16 ∷ Some U32 ∷ []) n format same in
-    (body_is ∙ ap (λ x. x ∷ rest1) number ∙ ap (λ l. open_format_number format ∷ l) behind, subst AllBytes behind is1)
+open_format_reads : Reads [] take_open_format (λ format. open_format_number format ∷ []) (λ format. Unit {0})
+open_format_reads =
+    one_made byte_reads InvalidFormat open_format_numbered (λ n format below e.
+    (ap (λ x. x ∷ []) (number_is open_format_number (None ∷ Some U8 ∷ Some S16 ∷ Some U32 ∷ []) n format e), tt))
 
 number_of_side : (n : ℕ) (side : Option ℕ) → open_side_numbered n ≡ Some side → (n ≡ open_side_number side) × IsTrue (may_be_side side)
 number_of_side n side e =
@@ -186,33 +187,18 @@ number_of_side n side e =
       ]
     ]
 
-open_side_of : (body : List ℕ) (side : Option ℕ) (rest : List ℕ) → AllBytes body → take_open_side body ≡ Ok (side, rest)
-    → (body ≡ to_be_bytes w16 (open_side_number side) ++ rest) × IsTrue (may_be_side side) × AllBytes rest
-open_side_of body side rest is e =
-    let (n, rest1, is_n, e1) = then_of (take_short body) (λ n rest. allowed InvalidDimension (open_side_numbered n) rest) (side, rest) e in
-    let (same, behind) = allowed_of InvalidDimension (open_side_numbered n) side rest1 rest e1 in
-    let (body_is, below, is1) = short_of body n rest1 is is_n in
-    let (number, side_is) = number_of_side n side same in
-    (body_is ∙ ap (λ x. to_be_bytes w16 x ++ rest1) number ∙ ap (λ l. to_be_bytes w16 (open_side_number side) ++ l) behind, side_is, subst AllBytes behind is1)
+open_side_reads : Reads [] take_open_side (λ side. to_be_bytes w16 (open_side_number side)) (λ side. IsTrue (may_be_side side))
+open_side_reads =
+    one_made short_reads InvalidDimension open_side_numbered (λ n side below e. let (number, is) = number_of_side n side e in (ap (λ x. to_be_bytes w16 x) number, is))
 
-pub outline_of_body : (body : List ℕ) (o : Outline) (rest : List ℕ) → AllBytes body → take_outline body ≡ Ok (o, rest)
-    → (body ≡ outline_bytes o ++ rest) × IsOutline o × AllBytes rest
-outline_of_body body o rest is e =
-    let made : Option Format → Option ℕ → Option ℕ → Outline = λ format width height. record { width = width; height = height; format = format } in
-    let last : Option Format → Option ℕ → List ℕ → Taken Outline = λ format width rest. and_then (take_open_side rest) (λ height rest. ok (made format width height) rest) in
-    let (format, rest1, is_format, e1) = then_of (take_open_format body) (λ format rest. and_then (take_open_side rest) (last format)) (o, rest) e in
-    let (width, rest2, is_width, e2) = then_of (take_open_side rest1) (last format) (o, rest) e1 in
-    let (height, rest3, is_height, e3) = then_of (take_open_side rest2) (λ height rest. ok (made format width height) rest) (o, rest) e2 in
-    let (same, behind) = taken_same (made format width height) o rest3 rest e3 in
-    let (body_is, is1) = open_format_of body format rest1 is is_format in
-    let (rest1_is, width_is, is2) = open_side_of rest1 width rest2 is1 is_width in
-    let (rest2_is, height_is, is3) = open_side_of rest2 height rest3 is2 is_height in
-    let front : List ℕ → List ℕ = λ l. open_format_number format ∷ (to_be_bytes w16 (open_side_number width) ++ l) in (
-      body_is ∙ ap (λ l. open_format_number format ∷ l) rest1_is ∙ ap front rest2_is
-          ∙ ap (λ o. outline_bytes o ++ rest3) same ∙ ap (λ l. outline_bytes o ++ l) behind,
-      subst IsOutline same (both (may_be_side width) (may_be_side height) width_is height_is),
-      subst AllBytes behind is3,
-    )
+pub outline_reads : Reads [] take_outline outline_bytes IsOutline
+outline_reads =
+    let of : Option Format → Option ℕ → Option ℕ → Outline = λ format width height. record { width = width; height = height; format = format } in
+    let third : Option Format → Option ℕ → Option ℕ → List ℕ → Taken Outline = λ format width height rest. ok (of format width height) rest in
+    let second : Option Format → Option ℕ → List ℕ → Taken Outline = λ format width rest. and_then (take_open_side rest) (third format width) in
+    then_reads open_format_reads (λ format rest. and_then (take_open_side rest) (second format)) (λ format f.
+    then_reads open_side_reads (second format) (λ width w. then_reads open_side_reads (third format width) (λ height h.
+    made (of format width height) refl (both (may_be_side width) (may_be_side height) w h))))
 
 number_of_slot : (n : ℕ) → n < 256 → (n ≡ unwrap_or (slot_numbered n) 255) × IfSome (slot_numbered n) (λ k. k < 255)
 number_of_slot n below = slot (n == 255) refl
@@ -221,72 +207,36 @@ number_of_slot n below = slot (n == 255) refl
     slot true e = (eqb-true n 255 e, tt)
     slot false e = (refl, let other : n ≡ 255 → ⊥ = λ same. let is : (n == 255) ≡ true = eq-eqb n 255 same in cc in omega arith)
 
-pub cell_of : (body : List ℕ) (cell : Cell) (rest : List ℕ) → AllBytes body → take_reference body ≡ Ok (cell, rest)
-    → (body ≡ reference_bytes cell ++ rest) × IsCell cell × AllBytes rest
-cell_of body cell rest is e =
-    let made : ℕ → ℕ → Cell = λ name slot. record { name = name; slot = slot_numbered slot } in
-    let next : ℕ → List ℕ → Taken Cell = λ name rest. and_then (take_byte rest) (λ slot rest. ok (made name slot) rest) in
-    let (name, rest1, is_name, e1) = then_of (take_long body) next (cell, rest) e in
-    let (slot, rest2, is_slot, e2) = then_of (take_byte rest1) (λ slot rest. ok (made name slot) rest) (cell, rest) e1 in
-    let (same, behind) = taken_same (made name slot) cell rest2 rest e2 in
-    let (body_is, name_below, is1) = long_of body name rest1 is is_name in
-    let (rest1_is, slot_below, is2) = byte_of rest1 slot rest2 is1 is_slot in
-    let (slot_is, slot_within) = number_of_slot slot slot_below in (
-      body_is ∙ ap (λ l. to_be_bytes w32 name ++ l) rest1_is ∙ ap (λ k. to_be_bytes w32 name ++ k ∷ rest2) slot_is
-          ∙ ap (λ c. reference_bytes c ++ rest2) same ∙ ap (λ l. reference_bytes cell ++ l) behind,
-      subst IsCell same (record { name = name_below; slot = slot_within }),
-      subst AllBytes behind is2,
-    )
+pub cell_reads : Reads [] take_reference reference_bytes IsCell
+cell_reads =
+    let of : ℕ → ℕ → Cell = λ name slot. record { name = name; slot = slot_numbered slot } in
+    let second : ℕ → ℕ → List ℕ → Taken Cell = λ name slot rest. ok (of name slot) rest in
+    then_reads long_reads (λ name rest. and_then (take_byte rest) (second name)) (λ name n. then_reads byte_reads (second name) (λ slot s.
+    let (slot_is, within) = number_of_slot slot s in
+    made (of name slot) (ap (λ k. to_be_bytes w32 name ++ k ∷ []) slot_is) (record { name = n; slot = within })))
 
-pub rectangle_of : (body : List ℕ) (r : Rectangle) (rest : List ℕ) → AllBytes body → take_rectangle body ≡ Ok (r, rest)
-    → (body ≡ rectangle_bytes r ++ rest) × IsRectangle r × AllBytes rest
-rectangle_of body r rest is e =
-    let made : ℕ → ℕ → ℕ → ℕ → Rectangle = λ x0 y0 x1 y1. record { x0 = x0; y0 = y0; x1 = x1; y1 = y1 } in
-    let last : ℕ → ℕ → ℕ → ℕ → List ℕ → Taken Rectangle = λ x0 y0 x1 y1 rest. allowed InvalidValue (rectangle x0 y0 x1 y1) rest in
-    let fourth : ℕ → ℕ → ℕ → List ℕ → Taken Rectangle = λ x0 y0 x1 rest. and_then (take_short rest) (last x0 y0 x1) in
-    let third : ℕ → ℕ → List ℕ → Taken Rectangle = λ x0 y0 rest. and_then (take_short rest) (fourth x0 y0) in
-    let second : ℕ → List ℕ → Taken Rectangle = λ x0 rest. and_then (take_short rest) (third x0) in
-    let (x0, rest1, is_x0, e1) = then_of (take_short body) second (r, rest) e in
-    let (y0, rest2, is_y0, e2) = then_of (take_short rest1) (third x0) (r, rest) e1 in
-    let (x1, rest3, is_x1, e3) = then_of (take_short rest2) (fourth x0 y0) (r, rest) e2 in
-    let (y1, rest4, is_y1, e4) = then_of (take_short rest3) (last x0 y0 x1) (r, rest) e3 in
-    let (same, behind) = allowed_of InvalidValue (rectangle x0 y0 x1 y1) r rest4 rest e4 in
-    let (body_is, x0_below, is1) = short_of body x0 rest1 is is_x0 in
-    let (rest1_is, y0_below, is2) = short_of rest1 y0 rest2 is1 is_y0 in
-    let (rest2_is, x1_below, is3) = short_of rest2 x1 rest3 is2 is_x1 in
-    let (rest3_is, y1_below, is4) = short_of rest3 y1 rest4 is3 is_y1 in
-    let front : List ℕ → List ℕ = λ l. to_be_bytes w16 x0 ++ (to_be_bytes w16 y0 ++ l) in
-    elim (if_some (is_rectangle x0 y0 x1 y1) (made x0 y0 x1 y1) None r same) [
-      | inl h ↦ (
-        body_is ∙ ap (λ l. to_be_bytes w16 x0 ++ l) rest1_is ∙ ap front rest2_is ∙ ap (λ l. front (to_be_bytes w16 x1 ++ l)) rest3_is
-            ∙ ap (λ r. rectangle_bytes r ++ rest4) h.1 ∙ ap (λ l. rectangle_bytes r ++ l) behind,
-        subst IsRectangle h.1 (record { bounds = h.0; columns = x1_below; rows = y1_below }),
-        subst AllBytes behind is4,
-      )
+pub rectangle_reads : Reads [] take_rectangle rectangle_bytes IsRectangle
+rectangle_reads =
+    let of : ℕ → ℕ → ℕ → ℕ → Rectangle = λ x0 y0 x1 y1. record { x0 = x0; y0 = y0; x1 = x1; y1 = y1 } in
+    let fourth : ℕ → ℕ → ℕ → ℕ → List ℕ → Taken Rectangle = λ x0 y0 x1 y1 rest. allowed InvalidValue (rectangle x0 y0 x1 y1) rest in
+    let third : ℕ → ℕ → ℕ → List ℕ → Taken Rectangle = λ x0 y0 x1 rest. and_then (take_short rest) (fourth x0 y0 x1) in
+    let second : ℕ → ℕ → List ℕ → Taken Rectangle = λ x0 y0 rest. and_then (take_short rest) (third x0 y0) in
+    then_reads short_reads (λ x0 rest. and_then (take_short rest) (second x0)) (λ x0 a. then_reads short_reads (second x0) (λ y0 b.
+    then_reads short_reads (third x0 y0) (λ x1 c. then_reads short_reads (fourth x0 y0 x1) (λ y1 d.
+    made_of InvalidValue (rectangle x0 y0 x1 y1) (λ r e. elim (if_some (is_rectangle x0 y0 x1 y1) (of x0 y0 x1 y1) None r e) [
+      | inl h ↦ (ap rectangle_bytes h.1, subst IsRectangle h.1 (record { bounds = h.0; columns = c; rows = d }))
       | inr h ↦ cc
-    ]
+    ])))))
 
-pub slots_of : (body : List ℕ) (n : ℕ) (rest : List ℕ) → AllBytes body → take_slots body ≡ Ok (n, rest)
-    → (body ≡ n ∷ rest) × IsTrue (is_slot_count n) × AllBytes rest
-slots_of body n rest is e = tested_byte_of InvalidValue is_slot_count body n rest is e
+pub slots_reads : Reads [] take_slots (λ n. n ∷ []) (λ n. IsTrue (is_slot_count n))
+slots_reads = tested byte_reads InvalidValue is_slot_count
 
-pub bins_of_body : (body : List ℕ) (b : BinsValue) (rest : List ℕ) → AllBytes body → take_bins body ≡ Ok (b, rest)
-    → (body ≡ bins_bytes b ++ rest) × IsTrue (are_bins b.bins b.offset b.range) × AllBytes rest
-bins_of_body body b rest is e =
-    let made : ℕ → ℕ → ℕ → BinsValue = λ bins offset range. record { bins = bins; offset = offset; range = range } in
-    let last : ℕ → ℕ → ℕ → List ℕ → Taken BinsValue = λ bins offset range rest. ok (made bins offset range) rest in
-    let third : ℕ → ℕ → List ℕ → Taken BinsValue = λ bins offset rest. and_then (take_up_to_256 rest) (last bins offset) in
-    let second : ℕ → List ℕ → Taken BinsValue = λ bins rest. and_then (take_offset rest) (third bins) in
-    let (bins, rest1, is_bins, e1) = then_of (take_up_to_256 body) second (b, rest) e in
-    let (offset, rest2, is_offset, e2) = then_of (take_offset rest1) (third bins) (b, rest) e1 in
-    let (range, rest3, is_range, e3) = then_of (take_up_to_256 rest2) (last bins offset) (b, rest) e2 in
-    let (same, behind) = taken_same (made bins offset range) b rest3 rest e3 in
-    let (body_is, bins_are, is1) = tested_short_of InvalidValue is_up_to_256 body bins rest1 is is_bins in
-    let (rest1_is, offset_is, is2) = tested_short_of InvalidValue (λ n. nat_lt n 256) rest1 offset rest2 is1 is_offset in
-    let (rest2_is, range_is, is3) = tested_short_of InvalidValue is_up_to_256 rest2 range rest3 is2 is_range in
-    let front = both (is_up_to_256 bins) (nat_lt offset 256) bins_are offset_is in (
-      body_is ∙ ap (λ l. to_be_bytes w16 bins ++ l) rest1_is ∙ ap (λ l. to_be_bytes w16 bins ++ (to_be_bytes w16 offset ++ l)) rest2_is
-          ∙ ap (λ b. bins_bytes b ++ rest3) same ∙ ap (λ l. bins_bytes b ++ l) behind,
-      subst (λ b. IsTrue (are_bins b.bins b.offset b.range)) same (both (is_up_to_256 bins && nat_lt offset 256) (is_up_to_256 range) front range_is),
-      subst AllBytes behind is3,
-    )
+pub bins_reads : Reads [] take_bins bins_bytes (λ b. IsTrue (are_bins b.bins b.offset b.range))
+bins_reads =
+    let of : ℕ → ℕ → ℕ → BinsValue = λ bins offset range. record { bins = bins; offset = offset; range = range } in
+    let third : ℕ → ℕ → ℕ → List ℕ → Taken BinsValue = λ bins offset range rest. ok (of bins offset range) rest in
+    let second : ℕ → ℕ → List ℕ → Taken BinsValue = λ bins offset rest. and_then (take_up_to_256 rest) (third bins offset) in
+    let up_to_256 = tested short_reads InvalidValue is_up_to_256 in
+    then_reads up_to_256 (λ bins rest. and_then (take_offset rest) (second bins)) (λ bins b.
+    then_reads (tested short_reads InvalidValue (λ n. nat_lt n 256)) (second bins) (λ offset o. then_reads up_to_256 (third bins offset) (λ range r.
+    made (of bins offset range) refl (both (is_up_to_256 bins && nat_lt offset 256) (is_up_to_256 range) (both (is_up_to_256 bins) (nat_lt offset 256) b o) r))))

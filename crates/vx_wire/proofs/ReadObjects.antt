@@ -1,5 +1,5 @@
 -- A table, a threshold or a convolution that is read has one spelling.
-use Rattle.std.proofs.Common.{◌≡◌, ◌≢◌, ℕ, ℤ, ◌*◌, ◌==◌, nat_le, length, List, [], ◌∷◌, ◌++◌, Some, None, Ok, Bool, true, false, inl, inr, IsTrue, int_le, if◌then◌else◌, sym, ap, subst, ◌∙◌, append_assoc}
+use Rattle.std.proofs.Common.{◌≡◌, ◌≢◌, ℕ, ℤ, ◌*◌, ◌==◌, nat_le, length, List, [], ◌∷◌, ◌++◌, Some, None, Bool, true, false, IsTrue, int_le, if◌then◌else◌, sym, ap, refl, subst, ◌∙◌, append_assoc}
 use Rattle.std.specs.Prelude.{All}
 use Rattle.std.proofs.lemmas.List.Elements.{All-nil, All-cons}
 use Rattle.vx_base.specs.declared.format.Format.{Format}
@@ -11,14 +11,14 @@ use Rattle.vx_base.specs.Lut.{LutValue, is_full, IsLut}
 use Rattle.vx_base.specs.Threshold.{ThresholdValue, is_sample, has_limits, IsThreshold}
 use Rattle.vx_base.specs.Convolution.{ConvolutionValue, is_odd_side, IsConvolution}
 use Rattle.vx_wire.specs.declared.body_fault.BodyFault.TheVariants.{InvalidParameters, InvalidFormat, InvalidDimension, InvalidValue}
-use Rattle.vx_wire.specs.Fields.{Taken, and_then, allowed, take_byte, take_bytes}
+use Rattle.vx_wire.specs.Fields.{Taken, and_then, take_byte}
 use Rattle.vx_wire.specs.Format.{input_format_numbered, take_input_format, format_number}
 use Rattle.vx_wire.specs.Samples.{decoded_sample, encoded_sample, take_samples}
 use Rattle.vx_wire.specs.Lut.{take_lut, lut_bytes}
 use Rattle.vx_wire.specs.Threshold.{is_range, range_number, range_numbered, take_is_range, take_signed, take_limit, take_upper, take_limits, take_threshold, limit_bytes, threshold_bytes}
 use Rattle.vx_wire.specs.Convolution.{take_odd_side, take_exponent, take_convolution, convolution_bytes}
-use Rattle.vx_wire.proofs.ReadFields.{AllBytes, ok, taken_same, then_of, allowed_of, if_some, byte_of, tested_byte_of, bytes_of}
-use Rattle.vx_wire.proofs.ReadSamples.{taken_of}
+use Rattle.vx_wire.proofs.ReadFields.{ok, Reads, then_reads, made, one_made, passed, tested, byte_reads, bytes_reads}
+use Rattle.vx_wire.proofs.ReadSamples.{samples_reads}
 use Rattle.vx_wire.proofs.Numbers.{number_is, found_each}
 use Rattle.vx_wire.proofs.SampleBytes.{sample_of_bytes}
 use Rattle.vx_wire.proofs.TableSizes.{full_of, has_binary, has_range, convolution_from_parts}
@@ -30,167 +30,72 @@ number_of_format n format e =
     let each : All Input inputs = All-cons Input U8 (S16 ∷ []) (λ e. cc) (All-cons Input S16 [] (λ e. cc) (All-nil Input)) in
     (number_is format_number inputs n format e, found_each (λ f. n == format_number f) Input inputs format each e)
 
-format_of : (body : List ℕ) (format : Format) (rest : List ℕ) → AllBytes body → take_input_format body ≡ Ok (format, rest)
-    → (body ≡ format_number format ∷ rest) × (format ≢ U32) × AllBytes rest
-format_of body format rest is e =
-    let (n, rest1, is_n, e1) = then_of (take_byte body) (λ n rest. allowed InvalidFormat (input_format_numbered n) rest) (format, rest) e in
-    let (same, behind) = allowed_of InvalidFormat (input_format_numbered n) format rest1 rest e1 in
-    let (body_is, below, is1) = byte_of body n rest1 is is_n in
-    let (number, input) = number_of_format n format same in
-    (body_is ∙ ap (λ x. x ∷ rest1) number ∙ ap (λ l. format_number format ∷ l) behind, input, subst AllBytes behind is1)
+format_reads : Reads [] take_input_format (λ format. format_number format ∷ []) (λ format. format ≢ U32)
+format_reads = one_made byte_reads InvalidFormat input_format_numbered (λ n format below e. let (number, input) = number_of_format n format e in (ap (λ x. x ∷ []) number, input))
 
-pub lut_of : (body : List ℕ) (lut : LutValue) (rest : List ℕ) → AllBytes body → take_lut body ≡ Ok (lut, rest)
-    → (body ≡ lut_bytes lut ++ rest) × IsLut lut × AllBytes rest
-lut_of body lut rest is e =
-    let made : Format → List ℤ → LutValue = λ format entries. record { format = format; entries = entries } in
-    let next : Format → List ℕ → Taken LutValue = λ format rest. and_then (take_samples format (range_size format) rest) (λ entries rest. ok (made format entries) rest) in
-    let (format, rest1, is_format, e1) = then_of (take_input_format body) next (lut, rest) e in
-    let (entries, rest2, is_entries, e2) = then_of (take_samples format (range_size format) rest1) (λ entries rest. ok (made format entries) rest) (lut, rest) e1 in
-    let (same, behind) = taken_same (made format entries) lut rest2 rest e2 in
-    let (body_is, input, is1) = format_of body format rest1 is is_format in
-    let (rest1_is, size, each, is2) = taken_of format (range_size format) rest1 entries rest2 is1 is_entries in (
-      body_is ∙ ap (λ l. format_number format ∷ l) rest1_is ∙ ap (λ t. lut_bytes t ++ rest2) same ∙ ap (λ l. lut_bytes lut ++ l) behind,
-      subst IsLut same (record { full = subst (λ n. IsTrue (is_full format n)) (sym size) (full_of format input); sampled = each }),
-      subst AllBytes behind is2,
-    )
+pub lut_reads : Reads [] take_lut lut_bytes IsLut
+lut_reads =
+    let last : Format → List ℤ → List ℕ → Taken LutValue = λ format entries rest. ok (record { format = format; entries = entries }) rest in
+    let next : Format → List ℕ → Taken LutValue = λ format rest. and_then (take_samples format (range_size format) rest) (last format) in
+    then_reads format_reads next (λ format input. then_reads (samples_reads format (range_size format)) (last format) (λ entries are.
+    made (record { format = format; entries = entries }) refl
+    (record { full = subst (λ n. IsTrue (is_full format n)) (sym are.0) (full_of format input); sampled = are.1 })))
 
 -- ---- thresholds
 
-is_range_of : (body : List ℕ) (two : Bool) (rest : List ℕ) → AllBytes body → take_is_range body ≡ Ok (two, rest)
-    → (body ≡ range_number two ∷ rest) × AllBytes rest
-is_range_of body two rest is e =
-    let (n, rest1, is_n, e1) = then_of (take_byte body) (λ n rest. allowed InvalidParameters (range_numbered n) rest) (two, rest) e in
-    let (same, behind) = allowed_of InvalidParameters (range_numbered n) two rest1 rest e1 in
-    let (body_is, below, is1) = byte_of body n rest1 is is_n in
-    (body_is ∙ ap (λ x. x ∷ rest1) (number_is range_number (false ∷ true ∷ []) n two same) ∙ ap (λ l. range_number two ∷ l) behind, subst AllBytes behind is1)
+is_range_reads : Reads [] take_is_range (λ two. range_number two ∷ []) (λ two. Unit {0})
+is_range_reads = one_made byte_reads InvalidParameters range_numbered (λ n two below e. (ap (λ x. x ∷ []) (number_is range_number (false ∷ true ∷ []) n two e), tt))
 
-signed_of_bytes : (body : List ℕ) (z : ℤ) (rest : List ℕ) → AllBytes body → take_signed body ≡ Ok (z, rest)
-    → (body ≡ encoded_sample S16 z ++ rest) × AllBytes rest
-signed_of_bytes body z rest is e =
-    let (bytes, rest1, is_bytes, e1) = then_of (take_bytes 2 body) (λ bytes rest. ok (decoded_sample S16 bytes) rest) (z, rest) e in
-    let (same, behind) = taken_same (decoded_sample S16 bytes) z rest1 rest e1 in
-    let (body_is, long, are, is1) = bytes_of 2 body bytes rest1 is is_bytes in
-    let (back, sample) = sample_of_bytes S16 bytes are long in (
-      body_is ∙ ap (λ l. l ++ rest1) (sym back) ∙ ap (λ z. encoded_sample S16 z ++ rest1) same ∙ ap (λ l. encoded_sample S16 z ++ l) behind,
-      subst AllBytes behind is1,
-    )
+signed_reads : Reads [] take_signed (λ z. encoded_sample S16 z) (λ z. Unit {0})
+signed_reads =
+    then_reads (bytes_reads 2) (λ bytes rest. ok (decoded_sample S16 bytes) rest) (λ bytes are.
+    made (decoded_sample S16 bytes) (sym (sample_of_bytes S16 bytes are.1 are.0).0) tt)
 
-limit_of : (format : Format) (body : List ℕ) (z : ℤ) (rest : List ℕ) → AllBytes body → take_limit format body ≡ Ok (z, rest)
-    → (body ≡ encoded_sample S16 z ++ rest) × IsTrue (is_sample format z) × AllBytes rest
-limit_of format body z rest is e =
-    let (y, rest1, is_y, e1) = then_of (take_signed body) (λ z rest. allowed InvalidValue (if is_sample format z then Some z else None) rest) (z, rest) e in
-    let (same, behind) = allowed_of InvalidValue (if is_sample format y then Some y else None) z rest1 rest e1 in
-    let (body_is, is1) = signed_of_bytes body y rest1 is is_y in
-    elim (if_some (is_sample format y) y None z same) [
-      | inl h ↦ (body_is ∙ ap (λ x. encoded_sample S16 x ++ rest1) h.1 ∙ ap (λ l. encoded_sample S16 z ++ l) behind, subst (λ x. IsTrue (is_sample format x)) h.1 h.0, subst AllBytes behind is1)
-      | inr h ↦ cc
-    ]
+limit_reads : (format : Format) → Reads [] (take_limit format) (λ z. encoded_sample S16 z) (λ z. IsTrue (is_sample format z))
+limit_reads format = tested signed_reads InvalidValue (is_sample format)
 
-upper_of : (format : Format) (lower : ℤ) (body : List ℕ) (z : ℤ) (rest : List ℕ) → AllBytes body → take_upper format lower body ≡ Ok (z, rest)
-    → (body ≡ encoded_sample S16 z ++ rest) × IsTrue (is_sample format z) × IsTrue (int_le lower z) × AllBytes rest
-upper_of format lower body z rest is e =
-    let (y, rest1, is_y, e1) = then_of (take_limit format body) (λ z rest. allowed InvalidValue (if int_le lower z then Some z else None) rest) (z, rest) e in
-    let (same, behind) = allowed_of InvalidValue (if int_le lower y then Some y else None) z rest1 rest e1 in
-    let (body_is, sample, is1) = limit_of format body y rest1 is is_y in
-    elim (if_some (int_le lower y) y None z same) [
-      | inl h ↦ (
-        body_is ∙ ap (λ x. encoded_sample S16 x ++ rest1) h.1 ∙ ap (λ l. encoded_sample S16 z ++ l) behind,
-        subst (λ x. IsTrue (is_sample format x)) h.1 sample,
-        subst (λ x. IsTrue (int_le lower x)) h.1 h.0,
-        subst AllBytes behind is1,
-      )
-      | inr h ↦ cc
-    ]
+upper_reads : (format : Format) (lower : ℤ) → Reads [] (take_upper format lower) (λ z. encoded_sample S16 z) (λ z. IsTrue (is_sample format z) × IsTrue (int_le lower z))
+upper_reads format lower =
+    one_made (limit_reads format) InvalidValue (λ z. if int_le lower z then Some z else None) (λ y z sample e.
+    let (same, ordered) = passed (int_le lower) y z e in
+    (ap (λ x. encoded_sample S16 x) same, (subst (λ x. IsTrue (is_sample format x)) same sample, ordered)))
 
-limits_of : (two : Bool) (format : Format) (body : List ℕ) (kind : ThresholdKind) (rest : List ℕ) → format ≢ U32 → AllBytes body → take_limits two format body ≡ Ok (kind, rest)
-    → (range_number two ≡ range_number (is_range kind)) × (body ≡ limit_bytes kind ++ rest) × IsTrue (has_limits format kind) × AllBytes rest
-limits_of false format body kind rest input is e =
-    let (t, rest1, is_t, e1) = then_of (take_limit format body) (λ t rest. ok (Binary t) rest) (kind, rest) e in
-    let (same, behind) = taken_same (Binary t) kind rest1 rest e1 in
-    let (body_is, sample, is1) = limit_of format body t rest1 is is_t in (
-      ap (λ k. range_number (is_range k)) same,
-      body_is ∙ ap (λ k. limit_bytes k ++ rest1) same ∙ ap (λ l. limit_bytes kind ++ l) behind,
-      subst (λ k. IsTrue (has_limits format k)) same (has_binary format input t sample),
-      subst AllBytes behind is1,
-    )
-limits_of true format body kind rest input is e =
-    let next : ℤ → List ℕ → Taken ThresholdKind = λ lower rest. and_then (take_upper format lower rest) (λ upper rest. ok (Range lower upper) rest) in
-    let (lower, rest1, is_lower, e1) = then_of (take_limit format body) next (kind, rest) e in
-    let (upper, rest2, is_upper, e2) = then_of (take_upper format lower rest1) (λ upper rest. ok (Range lower upper) rest) (kind, rest) e1 in
-    let (same, behind) = taken_same (Range lower upper) kind rest2 rest e2 in
-    let (body_is, low, is1) = limit_of format body lower rest1 is is_lower in
-    let (rest1_is, up, ordered, is2) = upper_of format lower rest1 upper rest2 is1 is_upper in (
-      ap (λ k. range_number (is_range k)) same,
-      body_is ∙ ap (λ l. encoded_sample S16 lower ++ l) rest1_is ∙ ap (λ k. limit_bytes k ++ rest2) same ∙ ap (λ l. limit_bytes kind ++ l) behind,
-      subst (λ k. IsTrue (has_limits format k)) same (has_range format input lower upper low up ordered),
-      subst AllBytes behind is2,
-    )
+limits_reads : (two : Bool) (format : Format) → format ≢ U32
+    → Reads [] (take_limits two format) limit_bytes (λ kind. (range_number two ≡ range_number (is_range kind)) × IsTrue (has_limits format kind))
+limits_reads false format input =
+    then_reads (limit_reads format) (λ t rest. ok (Binary t) rest) (λ t sample. made (Binary t) refl (refl, has_binary format input t sample))
+limits_reads true format input =
+    let last : ℤ → ℤ → List ℕ → Taken ThresholdKind = λ lower upper rest. ok (Range lower upper) rest in
+    then_reads (limit_reads format) (λ lower rest. and_then (take_upper format lower rest) (last lower)) (λ lower low.
+    then_reads (upper_reads format lower) (last lower) (λ upper up.
+    made (Range lower upper) refl (refl, has_range format input lower upper low up.0 up.1)))
 
-abbrev made : Format → ThresholdKind → ℕ → ℕ → ThresholdValue
-made format kind a b = record { format = format; kind = kind; true_value = a; false_value = b }
-
-abbrev take_values : Format → ThresholdKind → List ℕ → Taken ThresholdValue
-take_values format kind rest = and_then (take_byte rest) (λ a rest. and_then (take_byte rest) (λ b rest. ok (made format kind a b) rest))
-
--- the two values that end a threshold
-values_of : (format : Format) (kind : ThresholdKind) (body : List ℕ) (t : ThresholdValue) (rest : List ℕ) → IsTrue (has_limits format kind) → AllBytes body
-    → take_values format kind body ≡ Ok (t, rest)
-    → (kind ≡ t.kind) × (format ≡ t.format) × (body ≡ t.true_value ∷ t.false_value ∷ rest) × IsThreshold t × AllBytes rest
-values_of format kind body t rest limits is e =
-    let (a, rest1, is_a, e1) = then_of (take_byte body) (λ a rest. and_then (take_byte rest) (λ b rest. ok (made format kind a b) rest)) (t, rest) e in
-    let (b, rest2, is_b, e2) = then_of (take_byte rest1) (λ b rest. ok (made format kind a b) rest) (t, rest) e1 in
-    let (same, behind) = taken_same (made format kind a b) t rest2 rest e2 in
-    let (body_is, a_below, is1) = byte_of body a rest1 is is_a in
-    let (rest1_is, b_below, is2) = byte_of rest1 b rest2 is1 is_b in (
-      ap (λ t. t.kind) same,
-      ap (λ t. t.format) same,
-      body_is ∙ ap (λ l. a ∷ l) rest1_is ∙ ap (λ t. t.true_value ∷ t.false_value ∷ rest2) same ∙ ap (λ l. t.true_value ∷ t.false_value ∷ l) behind,
-      subst IsThreshold same (record { limits = limits; true_value = a_below; false_value = b_below }),
-      subst AllBytes behind is2,
-    )
-
-pub threshold_of : (body : List ℕ) (t : ThresholdValue) (rest : List ℕ) → AllBytes body → take_threshold body ≡ Ok (t, rest)
-    → (body ≡ threshold_bytes t ++ rest) × IsThreshold t × AllBytes rest
-threshold_of body t rest is e =
-    let third : Bool → Format → List ℕ → Taken ThresholdValue = λ two format rest. and_then (take_limits two format rest) (take_values format) in
-    let second : Bool → List ℕ → Taken ThresholdValue = λ two rest. and_then (take_input_format rest) (third two) in
-    let (two, rest1, is_two, e1) = then_of (take_is_range body) second (t, rest) e in
-    let (format, rest2, is_format, e2) = then_of (take_input_format rest1) (third two) (t, rest) e1 in
-    let (kind, rest3, is_kind, e3) = then_of (take_limits two format rest2) (take_values format) (t, rest) e2 in
-    let (body_is, is1) = is_range_of body two rest1 is is_two in
-    let (rest1_is, input, is2) = format_of rest1 format rest2 is1 is_format in
-    let (number, rest2_is, limits, is3) = limits_of two format rest2 kind rest3 input is2 is_kind in
-    let (same_kind, same_format, rest3_is, t_is, is4) = values_of format kind rest3 t rest limits is3 e3 in
-    let bytes : ThresholdKind → Format → List ℕ → List ℕ = λ kind format l. range_number (is_range kind) ∷ format_number format ∷ (limit_bytes kind ++ l) in (
-      body_is ∙ ap (λ n. n ∷ rest1) number ∙ ap (λ l. range_number (is_range kind) ∷ l) rest1_is ∙ ap (λ l. range_number (is_range kind) ∷ format_number format ∷ l) rest2_is
-          ∙ ap (bytes kind format) rest3_is ∙ ap (λ k. bytes k format (t.true_value ∷ t.false_value ∷ rest)) same_kind
-          ∙ ap (λ f. bytes t.kind f (t.true_value ∷ t.false_value ∷ rest)) same_format
-          ∙ ap (λ l. range_number (is_range t.kind) ∷ format_number t.format ∷ l) (sym (append_assoc (limit_bytes t.kind) (t.true_value ∷ t.false_value ∷ []) rest)),
-      t_is,
-      is4,
-    )
+pub threshold_reads : Reads [] take_threshold threshold_bytes IsThreshold
+threshold_reads =
+    let of : Format → ThresholdKind → ℕ → ℕ → ThresholdValue = λ format kind a b. record { format = format; kind = kind; true_value = a; false_value = b } in
+    let fifth : Format → ThresholdKind → ℕ → ℕ → List ℕ → Taken ThresholdValue = λ format kind a b rest. ok (of format kind a b) rest in
+    let fourth : Format → ThresholdKind → ℕ → List ℕ → Taken ThresholdValue = λ format kind a rest. and_then (take_byte rest) (fifth format kind a) in
+    let third : Format → ThresholdKind → List ℕ → Taken ThresholdValue = λ format kind rest. and_then (take_byte rest) (fourth format kind) in
+    let second : Bool → Format → List ℕ → Taken ThresholdValue = λ two format rest. and_then (take_limits two format rest) (third format) in
+    then_reads is_range_reads (λ two rest. and_then (take_input_format rest) (second two)) (λ two t.
+    then_reads format_reads (second two) (λ format input. then_reads (limits_reads two format input) (third format) (λ kind limits.
+    then_reads byte_reads (fourth format kind) (λ a a_below. then_reads byte_reads (fifth format kind a) (λ b b_below.
+    made (of format kind a b)
+    (ap (λ n. n ∷ format_number format ∷ ((limit_bytes kind ++ a ∷ []) ++ b ∷ [])) limits.0
+    ∙ ap (λ l. range_number (is_range kind) ∷ format_number format ∷ l) (append_assoc (limit_bytes kind) (a ∷ []) (b ∷ [])))
+    (record { limits = limits.1; true_value = a_below; false_value = b_below }))))))
 
 -- ---- convolutions
 
-pub convolution_of : (body : List ℕ) (c : ConvolutionValue) (rest : List ℕ) → AllBytes body → take_convolution body ≡ Ok (c, rest)
-    → (body ≡ convolution_bytes c ++ rest) × IsConvolution c × AllBytes rest
-convolution_of body c rest is e =
-    let whole : ℕ → ℕ → ℕ → List ℤ → ConvolutionValue = λ columns rows exponent coefficients. record { columns = columns; rows = rows; exponent = exponent; coefficients = coefficients } in
-    let last : ℕ → ℕ → ℕ → List ℤ → List ℕ → Taken ConvolutionValue = λ columns rows exponent coefficients rest. ok (whole columns rows exponent coefficients) rest in
+pub convolution_reads : Reads [] take_convolution convolution_bytes IsConvolution
+convolution_reads =
+    let of : ℕ → ℕ → ℕ → List ℤ → ConvolutionValue = λ columns rows exponent coefficients. record { columns = columns; rows = rows; exponent = exponent; coefficients = coefficients } in
+    let last : ℕ → ℕ → ℕ → List ℤ → List ℕ → Taken ConvolutionValue = λ columns rows exponent coefficients rest. ok (of columns rows exponent coefficients) rest in
     let fourth : ℕ → ℕ → ℕ → List ℕ → Taken ConvolutionValue = λ columns rows exponent rest. and_then (take_samples S16 (rows * columns) rest) (last columns rows exponent) in
     let third : ℕ → ℕ → List ℕ → Taken ConvolutionValue = λ columns rows rest. and_then (take_exponent rest) (fourth columns rows) in
-    let second : ℕ → List ℕ → Taken ConvolutionValue = λ columns rest. and_then (take_odd_side rest) (third columns) in
-    let (columns, rest1, is_columns, e1) = then_of (take_odd_side body) second (c, rest) e in
-    let (rows, rest2, is_rows, e2) = then_of (take_odd_side rest1) (third columns) (c, rest) e1 in
-    let (exponent, rest3, is_exponent, e3) = then_of (take_exponent rest2) (fourth columns rows) (c, rest) e2 in
-    let (coefficients, rest4, are, e4) = then_of (take_samples S16 (rows * columns) rest3) (last columns rows exponent) (c, rest) e3 in
-    let (same, behind) = taken_same (whole columns rows exponent coefficients) c rest4 rest e4 in
-    let (body_is, across, is1) = tested_byte_of InvalidDimension is_odd_side body columns rest1 is is_columns in
-    let (rest1_is, down, is2) = tested_byte_of InvalidDimension is_odd_side rest1 rows rest2 is1 is_rows in
-    let (rest2_is, power, is3) = tested_byte_of InvalidValue (λ n. nat_le n 31) rest2 exponent rest3 is2 is_exponent in
-    let (rest3_is, size, each, is4) = taken_of S16 (rows * columns) rest3 coefficients rest4 is3 are in (
-      body_is ∙ ap (λ l. columns ∷ l) rest1_is ∙ ap (λ l. columns ∷ rows ∷ l) rest2_is ∙ ap (λ l. columns ∷ rows ∷ exponent ∷ l) rest3_is
-          ∙ ap (λ c. convolution_bytes c ++ rest4) same ∙ ap (λ l. convolution_bytes c ++ l) behind,
-      subst IsConvolution same (record { shape = convolution_from_parts columns rows exponent (length coefficients) across down power size; each = each }),
-      subst AllBytes behind is4,
-    )
+    let odd_side = tested byte_reads InvalidDimension is_odd_side in
+    then_reads odd_side (λ columns rest. and_then (take_odd_side rest) (third columns)) (λ columns across.
+    then_reads odd_side (third columns) (λ rows down. then_reads (tested byte_reads InvalidValue (λ n. nat_le n 31)) (fourth columns rows) (λ exponent power.
+    then_reads (samples_reads S16 (rows * columns)) (last columns rows exponent) (λ coefficients are.
+    made (of columns rows exponent coefficients) refl
+    (record { shape = convolution_from_parts columns rows exponent (length coefficients) across down power are.0; each = are.1 })))))

@@ -45,7 +45,7 @@ use Rattle.vx_wire.specs.Bins.{bins_bytes}
 use Rattle.vx_wire.specs.Outline.{outline_bytes, open_side_number}
 use Rattle.vx_wire.specs.Node.{border_bytes, policy_number, node_bytes}
 use Rattle.vx_wire.specs.Requests.{body_of}
-use Rattle.vx_wire.proofs.TableSizes.{ConvolutionParts, convolution_parts}
+use Rattle.vx_wire.proofs.TableSizes.{convolution_parts}
 
 -- as a record, so that which bytes are meant is found from their proof
 record AreBytes (bytes : List ℕ) : Type 0 where
