@@ -157,6 +157,6 @@ pub fn process_graph(
     let Some(kept) = kept.get(&graph) else {
         unreachable!()
     };
-    run(alloc, &kept.verified, table, pool)?;
+    run(alloc, &kept.verified, &kept.plan, table, pool)?;
     Ok(Reply::Empty)
 }

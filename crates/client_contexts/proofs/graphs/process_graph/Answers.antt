@@ -3,7 +3,7 @@ use Rattle.vx_base.specs.Graph.{nodes_of}
 use Rattle.client_model.proofs.OutcomeLaws.{Keeps}
 use Rattle.client_laws.proofs.RunStepLaws.{process_graph_keeps}
 use Rattle.client_contexts.proofs.BlockLemmas.{lasting_blocks}
-use Rattle.client_contexts.proofs.ReadyLemmas.{fails_to_run, runs_to, kept_runs, kept_after_run}
+use Rattle.client_contexts.proofs.ReadyLemmas.{fails_to_run, runs_to, kept_runs, kept_plan, kept_after_run}
 use Rattle.client_contexts.proofs.graphs.process_graph.Goals as goal
 
 pub returns-in_err-verify_graph-clause-comes : goal.returns-in_err-verify_graph-clause-comes
@@ -18,6 +18,10 @@ run-requires-clause-ready c =
     let graph =
     kept_runs c.args.limits t c.args.graph c.requires.context (c.in_ok-verify_graph.field-0, Some t) c.in_ok-verify_graph.ensures.comes.done c.in-Some.kept.now
     c.verify_graph.new.kept.entries c.verify_graph.ensures.kept (sym c.in-Some.ensures.value) in (nodes_of graph.0, graph.3)
+
+pub run-requires-clause-plan : goal.run-requires-clause-plan
+run-requires-clause-plan c =
+    kept_plan c.args.table.now c.args.graph c.in-Some.kept.now c.verify_graph.new.kept.entries c.verify_graph.ensures.kept (sym c.in-Some.ensures.value)
 
 pub returns-clause-comes : goal.returns-clause-comes
 returns-clause-comes c =
