@@ -141,6 +141,20 @@ pub fn take_next(text: &[u8]) -> Option<(u16, &[u8])>
     }
 }
 
+/// A gap and a number, and the text after them, as `take_next`: fast where numbers up to the
+/// maxval have as many digits.
+#[inline(always)]
+pub fn take_next_up_to(maxval: u16, text: &[u8]) -> Option<(u16, &[u8])>
+    ensures some { IfSome result (λ taken. Kept (take_next text.now) taken.0 taken.1.now) }
+    ensures none { IfNone result (take_next text.now ≡ None) }
+{
+    if maxval < 1000 {
+        take_next(text)
+    } else {
+        take_any(text)
+    }
+}
+
 /// Whether nothing but whitespace and comments is left.
 pub fn ends(text: &[u8]) -> bool
     ensures { result ≡ ends text.now }

@@ -9,7 +9,7 @@ ghost use Rattle.pgm_images.specs.Raster.{take_long_sample, nothing_left, sample
 
 use crate::fault::PgmFault;
 use crate::header::{Encoding, Header};
-use crate::marks::{ends, take_next};
+use crate::marks::{ends, take_next_up_to};
 use crate::text_sample::TextSample;
 use vx_base::Samples;
 
@@ -24,7 +24,7 @@ fn read_plain<T: TextSample>(maxval: u16, text: &[u8], samples: &mut [T]) -> Res
     let mut rest = text;
     let mut above = false;
     for index in 0..samples.len() {
-        let Some((number, others)) = take_next(rest) else {
+        let Some((number, others)) = take_next_up_to(maxval, rest) else {
             return Err(PgmFault::InvalidFormat);
         };
         above = above | (number > maxval);
