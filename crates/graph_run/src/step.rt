@@ -27,8 +27,10 @@ ghost use Rattle.graph_run.specs.Lasting.{Lasts};
 ghost use Rattle.graph_run.specs.Steps.{AreApart, Holds, CanRunTo, RunsTo, IsRead};
 ghost use Rattle.graph_run.specs.Steps.{counted_in, with_output};
 ghost use Rattle.graph_run.specs.Turns.{CanRunNow};
+ghost use Rattle.graph_run.specs.Stage.{scene, IsStage, Stays};
 
 use crate::kernel::run_whole;
+use crate::stage::Stage;
 use image_core::{Image, ImageMut, Second};
 use object_table::{Content, Object, Table};
 use stat_kernels::{histogram, min_max};
@@ -50,6 +52,20 @@ pub fn run_once(table: &mut Table, node: &Node)
         run_to(table, node, Output::First, node.out1);
         run_to(table, node, Output::Second, node.out2);
     }
+}
+
+/// Runs a node that nothing refuses on what its cells hold on a stage. It takes no memory.
+pub fn run_step(stage: &mut Stage, node: &Node)
+    requires stage { IsStage stage.old }
+    requires runs { CanRunNow (scene stage.old).objects node.now }
+    ensures value { scene stage.new ≡ with_objects (scene stage.old)
+        (with_written (scene stage.old).objects
+        (written_by node.now (held (scene stage.old).objects))) }
+    ensures stage { IsStage stage.new }
+    ensures lasts { Lasts (scene stage.old).objects (scene stage.new).objects }
+    ensures stays { Stays stage.old stage.new }
+{
+    run_once(&mut stage.table, node);
 }
 
 /// Runs a node to one of its outputs, if it has that. The inputs are none of the outputs, and are
