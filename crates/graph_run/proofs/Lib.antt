@@ -21,6 +21,7 @@ mod KernelLemmas
 pub mod PairLemmas
 pub mod StageLemmas
 pub mod ClaimLemmas
+pub mod StandingLemmas
 pub mod ExchangeLemmas
 pub mod StandInLemmas
 pub mod UnwrittenLemmas

@@ -135,7 +135,7 @@ IsAlone (t ∷ slots) name (suc k) s = (is_named name t.holder ≡ false) × IsA
 abbrev Elsewhere : List Slot → ℕ → ℕ → Type 0
 Elsewhere slots name k = (j : ℕ) (a : VirtualOutput) → holder_at slots j ≡ Some a → a.cell.name ≡ name → j ≡ k
 
-named_holder : (name : ℕ) (o : Option VirtualOutput) → is_named name o ≡ true → (a : VirtualOutput) × (o ≡ Some a) × (a.cell.name ≡ name)
+pub named_holder : (name : ℕ) (o : Option VirtualOutput) → is_named name o ≡ true → (a : VirtualOutput) × (o ≡ Some a) × (a.cell.name ≡ name)
 named_holder name None e = cc
 named_holder name (Some a) e = (a, refl, eqb-true a.cell.name name e)
 
