@@ -4,7 +4,7 @@ use Rattle.std.specs.Prelude.{All, ◌==◌, IsSome, slice_get, position, take, 
 use Rattle.std.specs.List.Sorted.{IsStrictlyIncreasing}
 use Rattle.std.specs.Option.{option_map, option_and_then}
 use Rattle.std.proofs.lemmas.Bool.{eq-eqb}
-use Rattle.std.proofs.lemmas.List.Elements.{All-set, All-get_or}
+use Rattle.std.proofs.lemmas.List.Elements.{All-set, All-weaker}
 use Rattle.std.proofs.lemmas.List.{length-take}
 use Rattle.std.proofs.lemmas.Option.{slice_get_read, slice_get_within, get_or_from_slice_get}
 use Rattle.vx_base.specs.declared.format.Format.{Format}
@@ -20,19 +20,19 @@ use Rattle.vx_base.specs.Object.{ObjectValue, ImageObject, DelayObject, VirtualO
 use Rattle.vx_base.specs.Picture.{values, samples_format}
 use Rattle.vx_base.specs.Rectangle.{Rectangle}
 use Rattle.object_table.specs.Context.{Context, with_objects}
-use Rattle.object_table.specs.Delay.{in_slot}
+use Rattle.object_table.specs.Delay.{in_slot, with_slot}
 use Rattle.object_table.specs.Named.{Named, object_held, held, with_object}
 use Rattle.object_table.specs.Object.{image_value, with_samples}
 use Rattle.object_table.specs.Table.{cell_object, image_held, HoldsImage}
-use Rattle.object_table.proofs.HeldLemmas.{names_of, HasObject, names-with_object}
+use Rattle.object_table.proofs.HeldLemmas.{names_of, HasObject, names-with_object, map-with_object}
 use Rattle.graph_verify.specs.declared.known.VirtualOutput.{VirtualOutput}
 use Rattle.graph_run.specs.declared.stage.Slot.{Slot}
 use Rattle.graph_run.specs.declared.stage.Stage.{Stage}
-use Rattle.graph_run.specs.Graph.{is_virtual_object, forgotten}
-use Rattle.graph_run.specs.Stage.{is_named, standing_image, image_in, standing, shown_as, shown, scene, slot_of, holder_at, HoldsVirtual, IsArranged, AreFor, HasCount, Resized, Stays, fixed, resized}
+use Rattle.graph_run.specs.Graph.{is_virtual_object}
+use Rattle.graph_run.specs.Stage.{is_named, standing_image, image_in, standing, shown_as, shown, scene, slot_of, holder_at, HoldsVirtual, IsArranged, AreFor, HasCount, Resized, Keeps, virtual_named, fixed, resized}
 use Rattle.graph_run.proofs.CellLemmas.{held_once}
 use Rattle.graph_run.proofs.ClaimLemmas.{virtual_there, holder_of}
-use Rattle.graph_run.proofs.StageLemmas.{held-shown, cell_as_it_is, shown-with_object, virtual-with_object, held_beside, shown-set, IsAlone, alone_at, alone_found, alone_there, alone_named, named_holder, alone_count, none_resized, set_fixed, set_holders, placed, placed_passes, not_placed}
+use Rattle.graph_run.proofs.StageLemmas.{held-shown, cell_as_it_is, shown-with_object, held_beside, shown-set, IsAlone, alone_at, alone_found, alone_there, alone_named, named_holder, alone_count, none_resized, set_fixed, set_holders, placed, placed_passes, not_placed}
 
 -- ---- objects that aren't virtual
 
@@ -51,10 +51,24 @@ module _ (s : Stage) (is : IsArranged s) (cell : Cell) (old new : ObjectValue) (
       ∙ ap (λ (ts : List Slot). with_objects s.table (shown ts (with_object l cell new))) slots_are
       ∙ ap (with_objects s.table) (shown-with_object slots l cell new fresh)
 
-  pub real_forgotten : forgotten l after.table.objects ≡ after.table.objects
-  real_forgotten =
-      subst (λ (t : Context). forgotten l t.objects ≡ t.objects) (sym table)
-      (virtual-with_object l cell old new (held_once l cell.name old is.names found) real)
+  pub real_virtual : map virtual_named after.table.objects ≡ map virtual_named l
+  real_virtual =
+      ap (λ (t : Context). map virtual_named t.objects) table
+      ∙ map-with_object virtual_named l cell new
+      (All-weaker (HasObject cell.name old) (λ o. o.name ≡ cell.name → virtual_named (record o { object = with_slot cell.slot new o.object }) ≡ virtual_named o)
+      (λ o at named. no_more o (with_slot cell.slot new o.object) (stays_real cell.slot o.object (ap is_virtual_object (at named) ∙ real)) (ap is_virtual_object (at named) ∙ real))
+      l (held_once l cell.name old is.names found))
+    where
+      stays_real : (slot : Option ℕ) (x : ObjectValue) → is_virtual_object x ≡ false → is_virtual_object (with_slot slot new x) ≡ false
+      stays_real None x e = fresh
+      stays_real (Some k) x e = in_slots new x e
+        where
+          in_slots : (n y : ObjectValue) → is_virtual_object y ≡ false → is_virtual_object (with_slot (Some k) n y) ≡ false
+          in_slots (ImageObject a) (DelayObject images) f = refl
+          in_slots n y f = f
+
+      no_more : (o : Named) (x : ObjectValue) → is_virtual_object x ≡ false → is_virtual_object o.object ≡ false → virtual_named (record o { object = x }) ≡ virtual_named o
+      no_more o x e f = grind arith
 
   -- virtual images have other names
   virtual_apart : (name : ℕ) → HoldsVirtual l name → name ≢ cell.name
@@ -77,13 +91,8 @@ module _ (s : Stage) (is : IsArranged s) (cell : Cell) (old new : ObjectValue) (
         apart = λ j k a b h i same. is.apart j k a b (ap (λ (ts : List Slot). holder_at ts j) (sym slots_are) ∙ h) (ap (λ (ts : List Slot). holder_at ts k) (sym slots_are) ∙ i) same;
       }
 
-  pub real_stays : Stays s after
-  real_stays = record { virtual = real_forgotten; slots = ap (map fixed) slots_are }
-
--- objects that stay leave the virtual ones as they are
-pub forgotten_same : (objects : List Named) → forgotten objects objects ≡ objects
-forgotten_same [] = refl
-forgotten_same (o ∷ objects) = grind (arith, forgotten_same objects)
+  pub real_keeps : Keeps s after
+  real_keeps = record { virtual = real_virtual; slots = ap (map fixed) slots_are }
 
 -- ---- the image that a cell holds
 
@@ -150,7 +159,7 @@ module _ (s : Stage) (is : IsArranged s) (cell : Cell) where
         pub held_resized : (count : ℕ) → Resized cell.name count s after
         held_resized count =
             record {
-              virtual = real_forgotten s is cell real_there.0 (ImageObject image) real_there.1 real_there.2 refl after table slots_are;
+              virtual = real_virtual s is cell real_there.0 (ImageObject image) real_there.1 real_there.2 refl after table slots_are;
               slots = ap (map fixed) slots_are ∙ sym (none_resized held_slots cell.name count nowhere);
             }
 
@@ -277,6 +286,6 @@ module _ (s : Stage) (is : IsArranged s) (cell : Cell) where
         pub set_resized : Resized cell.name (length (values new.samples)) s after
         set_resized =
             record {
-              virtual = subst (λ (c : Context). forgotten objects c.objects ≡ c.objects) (sym table) (forgotten_same objects);
+              virtual = ap (λ (c : Context). map virtual_named c.objects) table;
               slots = ap (map fixed) slots_are ∙ set_fixed cell.name t new same format held_slots k alone;
             }
