@@ -22,6 +22,8 @@ pub mod PairLemmas
 pub mod StageLemmas
 pub mod ClaimLemmas
 pub mod StandingLemmas
+pub mod StepLemmas
+pub mod PartLemmas
 pub mod ExchangeLemmas
 pub mod StandInLemmas
 pub mod UnwrittenLemmas
