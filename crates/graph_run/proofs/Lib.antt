@@ -19,6 +19,11 @@ pub mod OutputLemmas
 pub mod RunLemmas
 mod KernelLemmas
 pub mod PairLemmas
+pub mod StageLemmas
+pub mod ClaimLemmas
+pub mod StandingLemmas
+pub mod StepLemmas
+pub mod PartLemmas
 pub mod ExchangeLemmas
 pub mod StandInLemmas
 pub mod UnwrittenLemmas

@@ -6,3 +6,4 @@ pub mod Lasting
 pub mod Steps
 pub mod Turns
 pub mod Examples
+pub mod Stage

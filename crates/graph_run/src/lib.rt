@@ -19,6 +19,7 @@ mod kernel;
 pub mod laws;
 mod operand;
 mod runs;
+mod stage;
 mod step;
 mod verify;
 

@@ -1,90 +1,37 @@
-use Rattle.std.proofs.Common.{◌∙◌, Option, Some, ap, sym, subst}
-use Rattle.std.specs.Prelude.{IfSome}
-use Rattle.vx_base.specs.declared.output.Output.TheVariants.{First, Second}
-use Rattle.vx_base.specs.Cell.{Cell}
+use Rattle.std.proofs.Common.{◌≡◌, ◌∙◌, map, ap, sym, subst}
+use Rattle.std.specs.Prelude.{All}
+use Rattle.std.specs.List.Sorted.{IsStrictlyIncreasing}
+use Rattle.vx_base.specs.Object.{IsObject}
+use Rattle.vx_base.specs.Outputs.{written_by}
 use Rattle.object_table.specs.Context.{Context, with_objects}
+use Rattle.object_table.specs.Named.{Named, held, with_written}
+use Rattle.graph_run.specs.declared.stage.Stage.{Stage}
 use Rattle.graph_run.specs.Lasting.{Lasts}
-use Rattle.graph_run.specs.Steps.{AreApart, RunsTo, with_output}
-use Rattle.graph_run.specs.Turns.{HoldsKind}
-use Rattle.graph_run.proofs.FoundLemmas.{of_operands}
-use Rattle.graph_run.proofs.RunLemmas.{runs_first, runs_second, runs_then, two_outputs, written_is, Lasts-outputs}
-use Rattle.graph_run.proofs.PairLemmas.{has_two}
+use Rattle.graph_run.specs.Stage.{scene}
+use Rattle.graph_run.specs.Turns.{CanRunNow}
+use Rattle.graph_run.proofs.StepLemmas.{bare_scene, bare_stage, still_bare}
 use Rattle.graph_run.proofs.step.run_once.Goals as goal
 
-pub run_to-requires : goal.run_to-requires
-run_to-requires c =
-    let n = c.args.node.now in
-    let objects = c.args.table.now.objects in
-    runs_first n c.requires.runs.node objects c.requires.objects (of_operands (HoldsKind objects) n c.requires.runs.kinds) c.requires.runs.verdict
+pub run_step-requires-clause-stage : goal.run_step-requires-clause-stage
+run_step-requires-clause-stage c =
+    bare_stage _ c.new-2.ensures.items
+    (subst (λ (t : Context). IsStrictlyIncreasing (map (λ (o : Named). o.name) t.objects)) (sym c.replace.ensures.value) c.requires.names)
+    (subst (λ (t : Context). All (λ (o : Named). IsObject o.object) t.objects) (sym c.replace.ensures.value) c.requires.objects)
 
-pub run_to-requires-in_default : goal.run_to-requires-in_default
-run_to-requires-in_default c =
-    let n = c.args.node.now in
-    let objects = c.args.table.now.objects in
-    subst (λ (t : Context). IfSome n.out2 (RunsTo t.objects n)) (sym c.run_to.ensures)
-    (runs_then n c.requires.runs.node objects c.requires.objects (of_operands (HoldsKind objects) n c.requires.runs.kinds) c.requires.runs.verdict)
+pub run_step-requires-clause-runs : goal.run_step-requires-clause-runs
+run_step-requires-clause-runs c =
+    let s : Stage = record { table = c.replace.result; slots = c.new-2.result } in
+    subst (λ (t : Context). CanRunNow t.objects c.args.node.now) (sym (bare_scene s c.new-2.ensures.items ∙ c.replace.ensures.value)) c.requires.runs
 
-pub returns-in_default-clause-value : goal.returns-in_default-clause-value
-returns-in_default-clause-value c =
-    let n = c.args.node.now in
-    let t = c.args.table.now in
-    c.run_to-in_default.ensures
-    ∙ ap (λ (k : Context). with_objects k (with_output k.objects n Second n.out2)) c.run_to.ensures
-    ∙ ap (with_objects t)
-    (sym (written_is n c.requires.runs.node t.objects c.requires.objects (of_operands (HoldsKind t.objects) n c.requires.runs.kinds) c.requires.runs.verdict))
+pub returns-clause-value : goal.returns-clause-value
+returns-clause-value c =
+    let s : Stage = record { table = c.replace.result; slots = c.new-2.result } in
+    sym (bare_scene c.run_step.new.stage (still_bare s c.new-2.ensures.items c.run_step.new.stage c.run_step.ensures.stays))
+    ∙ c.run_step.ensures.value
+    ∙ ap (λ (t : Context). with_objects t (with_written t.objects (written_by c.args.node.now (held t.objects)))) (bare_scene s c.new-2.ensures.items ∙ c.replace.ensures.value)
 
-pub returns-in_default-clause-lasts : goal.returns-in_default-clause-lasts
-returns-in_default-clause-lasts c =
-    let n = c.args.node.now in
-    let l = c.args.table.now.objects in
-    subst (λ (k : Context). Lasts l k.objects)
-    (sym (c.run_to-in_default.ensures ∙ ap (λ (k : Context). with_objects k (with_output k.objects n Second n.out2)) c.run_to.ensures))
-    (Lasts-outputs n c.requires.runs.node l c.requires.objects (of_operands (HoldsKind l) n c.requires.runs.kinds) c.requires.runs.verdict c.requires.names)
-
--- ---- where both outputs are there
-
-pub write_both-requires-clause-function : goal.write_both-requires-clause-function
-write_both-requires-clause-function c = has_two c.args.node.now _ _ c.requires.runs.node c.in-Some-Some.is-0 c.in-Some-Some.is-1
-
-pub write_both-requires-clause-first : goal.write_both-requires-clause-first
-write_both-requires-clause-first c =
-    let n = c.args.node.now in
-    let l = c.args.table.now.objects in
-    subst (λ (o : Option Cell). IfSome o (RunsTo l n)) c.in-Some-Some.is-0
-    (runs_first n c.requires.runs.node l c.requires.objects (of_operands (HoldsKind l) n c.requires.runs.kinds) c.requires.runs.verdict)
-
-pub write_both-requires-clause-second : goal.write_both-requires-clause-second
-write_both-requires-clause-second c =
-    let n = c.args.node.now in
-    let l = c.args.table.now.objects in
-    subst (λ (o : Option Cell). IfSome o (RunsTo l n)) c.in-Some-Some.is-1
-    (runs_second n c.requires.runs.node l c.requires.objects (of_operands (HoldsKind l) n c.requires.runs.kinds) c.requires.runs.verdict)
-
-pub write_both-requires-clause-apart : goal.write_both-requires-clause-apart
-write_both-requires-clause-apart c =
-    let n = c.args.node.now in
-    let l = c.args.table.now.objects in
-    subst (λ (o : Option Cell). IfSome o (λ b. AreApart b c.in-Some-Some.out1)) c.in-Some-Some.is-1
-    (subst (λ (o : Option Cell). IfSome o (λ a. IfSome n.out2 (λ b. AreApart b a))) c.in-Some-Some.is-0
-    (two_outputs n c.requires.runs.node l c.requires.objects (of_operands (HoldsKind l) n c.requires.runs.kinds) c.requires.runs.verdict))
-
-pub returns-in-Some-Some-clause-value : goal.returns-in-Some-Some-clause-value
-returns-in-Some-Some-clause-value c =
-    let n = c.args.node.now in
-    let t = c.args.table.now in
-    c.write_both.ensures
-    ∙ ap (λ (o : Option Cell). with_objects t (with_output (with_output t.objects n First o) n Second (Some c.in-Some-Some.out2))) (sym c.in-Some-Some.is-0)
-    ∙ ap (λ (o : Option Cell). with_objects t (with_output (with_output t.objects n First n.out1) n Second o)) (sym c.in-Some-Some.is-1)
-    ∙ ap (with_objects t)
-    (sym (written_is n c.requires.runs.node t.objects c.requires.objects (of_operands (HoldsKind t.objects) n c.requires.runs.kinds) c.requires.runs.verdict))
-
-pub returns-in-Some-Some-clause-lasts : goal.returns-in-Some-Some-clause-lasts
-returns-in-Some-Some-clause-lasts c =
-    let n = c.args.node.now in
-    let t = c.args.table.now in
-    subst (λ (k : Context). Lasts t.objects k.objects)
-    (sym
-    (c.write_both.ensures
-    ∙ ap (λ (o : Option Cell). with_objects t (with_output (with_output t.objects n First o) n Second (Some c.in-Some-Some.out2))) (sym c.in-Some-Some.is-0)
-    ∙ ap (λ (o : Option Cell). with_objects t (with_output (with_output t.objects n First n.out1) n Second o)) (sym c.in-Some-Some.is-1)))
-    (Lasts-outputs n c.requires.runs.node t.objects c.requires.objects (of_operands (HoldsKind t.objects) n c.requires.runs.kinds) c.requires.runs.verdict c.requires.names)
+pub returns-clause-lasts : goal.returns-clause-lasts
+returns-clause-lasts c =
+    let s : Stage = record { table = c.replace.result; slots = c.new-2.result } in
+    subst (λ (t : Context). Lasts c.args.table.now.objects t.objects) (bare_scene c.run_step.new.stage (still_bare s c.new-2.ensures.items c.run_step.new.stage c.run_step.ensures.stays))
+    (subst (λ (t : Context). Lasts t.objects (scene c.run_step.new.stage).objects) (bare_scene s c.new-2.ensures.items ∙ c.replace.ensures.value) c.run_step.ensures.lasts)
