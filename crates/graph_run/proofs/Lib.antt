@@ -19,7 +19,6 @@ pub mod OutputLemmas
 pub mod RunLemmas
 mod KernelLemmas
 pub mod PairLemmas
-pub mod ExchangeLemmas
-pub mod StandInLemmas
-pub mod UnwrittenLemmas
+pub mod SlotLemmas
 pub mod VerifiedLemmas
+pub mod SharingLemmas

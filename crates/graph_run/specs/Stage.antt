@@ -59,6 +59,7 @@ HoldsVirtual objects name = option_map object_kind (object_held objects name) �
 -- is held, and stands in no other slot
 pub record IsStage (s : Stage) : Type 0 where
   pub names : IsStrictlyIncreasing (map (λ o. o.name) s.table.objects)
+  pub held : All (λ o. IsObject o.object) s.table.objects
   pub objects : All (λ o. IsObject o.object) (scene s).objects
   pub room : All (λ t. IfSome t.holder (λ o. HasRoomFor t o.desc)) s.slots.items
   pub there : (k : ℕ) (a : VirtualOutput) → holder_at s.slots.items k ≡ Some a → HoldsVirtual s.table.objects a.cell.name
