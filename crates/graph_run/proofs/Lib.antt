@@ -19,6 +19,8 @@ pub mod OutputLemmas
 pub mod RunLemmas
 mod KernelLemmas
 pub mod PairLemmas
+pub mod StageLemmas
+pub mod ClaimLemmas
 pub mod SlotLemmas
 pub mod VerifiedLemmas
 pub mod SharingLemmas

@@ -1,14 +1,26 @@
 //! What the nodes of a graph run on: a client's table, and slots in which virtual images are images
 //! for a while.
 ghost use Rattle.std.specs.Prelude.{◌≡◌, ◌<◌, ◌==◌, if◌then◌else◌, length, slice_get, ℕ, IfSome};
-ghost use Rattle.std.specs.Prelude.{Some};
+ghost use Rattle.std.specs.Prelude.{Some, All, map, pos, take, position, IsSome, []};
 ghost use Rattle.std.specs.Option.{option_map};
+ghost use Rattle.vx_base.specs.declared.format.Format.TheVariants.{U8, S16, U32};
+ghost use Rattle.vx_base.specs.Description.{sample_count};
+ghost use Rattle.vx_base.specs.Image.{IsImage, description_of};
+ghost use Rattle.vx_base.specs.Picture.{values, samples_format};
+ghost use Rattle.vx_base.specs.Sample.{IsSample};
+ghost use Rattle.object_table.specs.Context.{with_objects};
+ghost use Rattle.object_table.specs.Named.{with_object};
+ghost use Rattle.object_table.specs.Object.{with_samples};
+ghost use Rattle.object_table.specs.Table.{cell_object, image_held, HoldsImage};
 ghost use Rattle.graph_verify.specs.declared.known.VirtualOutput.{VirtualOutput};
 ghost use Rattle.graph_run.specs.Stage.{HasRoomFor, IsStage, HoldsVirtual, holder_at, claimed};
+ghost use Rattle.graph_run.specs.Stage.{is_named, standing_image, scene, IsArranged, AreFor};
+ghost use Rattle.graph_run.specs.Stage.{HasCount, Resized};
 
 use graph_verify::VirtualOutput;
+use image_core::Image;
 use object_table::Table;
-use vx_base::{Rect, Samples};
+use vx_base::{Desc, ObjRef, Rect, Samples};
 
 /// A block of a pool in which virtual images stand while nodes run, one after another.
 #[derive(Drop)]
@@ -26,6 +38,46 @@ pub struct Slot {
 pub struct Stage {
     pub table: Table,
     pub slots: Vec<Slot>,
+}
+
+impl Slot {
+    /// Whether the virtual image of this name stands here.
+    fn is_of(&self, name: u32) -> bool
+        ensures { result ≡ is_named name self.now.holder }
+    {
+        match self.holder {
+            Some(image) => image.cell.name() == name,
+            None => false,
+        }
+    }
+
+    /// The description of the image that stands here.
+    fn desc(&self) -> Desc
+        requires { IsSome self.now.holder }
+        ensures { IfSome self.now.holder (λ o. result ≡ o.desc) }
+    {
+        match self.holder {
+            Some(image) => image.desc,
+            None => unreachable!(),
+        }
+    }
+
+    /// The image that stands here, lent to who reads it.
+    fn image(&self) -> Image<'_>
+        requires there { IsSome self.now.holder }
+        requires format { IfSome self.now.holder
+            (λ o. samples_format self.now.samples ≡ o.desc.format) }
+        requires image { IfSome self.now.holder (λ o. IsImage (standing_image o self.now)) }
+        ensures { IfSome self.now.holder (λ o. result ≡ standing_image o self.now) }
+    {
+        let desc = self.desc();
+        let count = desc.sample_count();
+        match &self.samples {
+            Samples::U8(samples) => Image::new(desc, self.valid, &samples[..count]),
+            Samples::S16(samples) => Image::new(desc, self.valid, &samples[..count]),
+            Samples::U32(samples) => Image::new(desc, self.valid, &samples[..count]),
+        }
+    }
 }
 
 impl Stage {
@@ -46,8 +98,109 @@ impl Stage {
             then option_map (claimed image) (slice_get self.old.slots.items k)
             else slice_get self.old.slots.items k) }
     {
+        image.desc.has_sides();
         let slot = &mut self.slots[at];
+        are_samples(&slot.samples);
         slot.valid = image.desc.whole();
         slot.holder = Some(image);
+    }
+
+    /// The place of the slot in which the virtual image of this name stands.
+    fn place_of(&self, name: u32) -> Option<usize>
+        ensures { result ≡ position (λ s. is_named name s.holder) self.now.slots.items }
+    {
+        self.slots.iter().position(|slot| slot.is_of(name))
+    }
+
+    /// The image that a cell holds, lent to who reads it.
+    pub fn image(&self, cell: ObjRef) -> Image<'_>
+        requires stage { IsArranged self.now }
+        requires there { HoldsImage (scene self.now).objects cell }
+        requires image { IsImage (image_held (scene self.now).objects cell) }
+        ensures { result ≡ image_held (scene self.now).objects cell }
+    {
+        match self.place_of(cell.name()) {
+            Some(at) => self.slots[at].image(),
+            None => self.table.image(cell).image(),
+        }
+    }
+
+    /// Takes out the samples of the image that a cell holds, and says its size and format; `put`
+    /// brings them back. Where they are more than the image has places, it stands in the first of
+    /// them.
+    pub fn take(&mut self, cell: ObjRef) -> (Desc, Samples)
+        requires stage { IsArranged self.old }
+        requires there { HoldsImage (scene self.old).objects cell }
+        requires image { IsImage (image_held (scene self.old).objects cell) }
+        ensures desc { result.0 ≡ description_of (image_held (scene self.old).objects cell) }
+        ensures samples { AreFor self.old.slots.items cell.name result.0 result.1 }
+        ensures count { HasCount self.old.slots.items cell.name (length (values result.1)) }
+        ensures stage { IsArranged self.new }
+        ensures left { scene self.new ≡ with_objects (scene self.old)
+            (with_object (scene self.old).objects cell
+            (with_samples (cell_object (scene self.old).objects cell)
+            (image_held (scene self.old).objects cell).valid [])) }
+        ensures none { Resized cell.name 0 self.old self.new }
+    {
+        match self.place_of(cell.name()) {
+            Some(at) => {
+                let slot = &mut self.slots[at];
+                (slot.desc(), slot.samples.take())
+            }
+            None => self.table.take(cell),
+        }
+    }
+
+    /// Gives the image that a cell holds these samples, which are as many as were taken out, and
+    /// this valid rectangle.
+    pub fn put(&mut self, cell: ObjRef, samples: Samples, valid: Rect)
+        requires stage { IsArranged self.old }
+        requires there { HoldsImage (scene self.old).objects cell }
+        requires samples { AreFor self.old.slots.items cell.name
+            (description_of (image_held (scene self.old).objects cell)) samples }
+        ensures stage { IsArranged self.new }
+        ensures value { scene self.new ≡ with_objects (scene self.old)
+            (with_object (scene self.old).objects cell
+            (with_samples (cell_object (scene self.old).objects cell) valid
+            (take (sample_count (description_of (image_held (scene self.old).objects cell)))
+            (values samples)))) }
+        ensures count { Resized cell.name (length (values samples)) self.old self.new }
+    {
+        match self.place_of(cell.name()) {
+            Some(at) => {
+                let slot = &mut self.slots[at];
+                slot.samples = samples;
+                slot.valid = valid;
+            }
+            None => self.table.put(cell, samples, valid),
+        }
+    }
+}
+
+/// Each of them is a sample of their format. Only the prover learns something: it knows of a signed
+/// number that it has 16 bits once that is read. Nothing is done when this runs.
+fn are_samples(samples: &Samples)
+    ensures { All (IsSample (samples_format samples.now)) (values samples.now) }
+{
+    match samples {
+        Samples::U8(samples) => are_bytes(samples),
+        Samples::S16(samples) => are_shorts(samples),
+        Samples::U32(samples) => are_words(samples),
+    }
+}
+
+fn are_bytes(samples: &[u8])
+    ensures { All (IsSample U8) (map pos samples.now) }
+{}
+
+fn are_words(samples: &[u32])
+    ensures { All (IsSample U32) (map pos samples.now) }
+{}
+
+fn are_shorts(samples: &[i16])
+    ensures { All (IsSample S16) samples.now }
+{
+    for sample in samples {
+        let _number = *sample;
     }
 }

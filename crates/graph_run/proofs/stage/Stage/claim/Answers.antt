@@ -1,0 +1,24 @@
+use Rattle.std.proofs.Common.{◌≡◌, IfSome, Some, refl, subst, sym, ap, ◌∙◌}
+use Rattle.std.proofs.lemmas.Option.{slice_get_read}
+use Rattle.vx_base.specs.Rectangle.{Rectangle, whole}
+use Rattle.graph_verify.specs.declared.known.VirtualOutput.{VirtualOutput}
+use Rattle.graph_run.specs.declared.stage.Slot.{Slot}
+use Rattle.graph_run.specs.Stage.{HasRoomFor, claimed}
+use Rattle.graph_run.proofs.ClaimLemmas.{slice_get-set, claim_keeps}
+use Rattle.graph_run.proofs.stage.Stage.claim.Goals as goal
+
+claimed_is : (o : VirtualOutput) (t : Slot) (valid : Rectangle) → valid ≡ whole o.desc.width o.desc.height → record { samples = t.samples; valid = valid; holder = Some o } ≡ claimed o t
+claimed_is o t valid is = ap (λ (r : Rectangle). let s : Slot = record { samples = t.samples; valid = r; holder = Some o } in s) is
+
+pub returns-clause-stage : goal.returns-clause-stage
+returns-clause-stage c =
+    let s = c.args.self.now in
+    let old = slice_get_read s.slots.items _ c.args.at c.index_mut-slot.result.now refl c.requires.slot c.index_mut-slot.ensures.value in
+    claim_keeps s c.requires.stage c.args.at c.args.image c.index_mut-slot.result.now _ old
+    (subst (λ o. IfSome o (λ t. HasRoomFor t c.args.image.desc)) old c.requires.room) c.requires.there c.requires.elsewhere c.has_sides.ensures c.are_samples.ensures (claimed_is c.args.image c.index_mut-slot.result.now _ c.whole-slot.ensures)
+
+pub returns-clause-slots : goal.returns-clause-slots
+returns-clause-slots c k =
+    let s = c.args.self.now in
+    let old = slice_get_read s.slots.items _ c.args.at c.index_mut-slot.result.now refl c.requires.slot c.index_mut-slot.ensures.value in
+    slice_get-set s.slots.items c.args.at k c.index_mut-slot.result.now _ (claimed c.args.image) old (claimed_is c.args.image c.index_mut-slot.result.now _ c.whole-slot.ensures)
