@@ -1,6 +1,6 @@
 -- Virtual images that claim their slots: what stands in slots before and after.
 use Rattle.std.proofs.Common.{◌≡◌, ◌≢◌, ℕ, ◌+◌, ◌<◌, Bool, true, false, cond, List, [], ◌∷◌, ◌++◌, map, length, zero, suc, Option, Some, None, ◌⊎◌, inl, inr, refl, sym, ap, subst, ◌∙◌, arith}
-use Rattle.std.specs.Prelude.{◌==◌, ◌||◌, find, slice_get, if◌then◌else◌}
+use Rattle.std.specs.Prelude.{◌==◌, ◌||◌, find, slice_get, if◌then◌else◌, is_some, unwrap_or}
 use Rattle.std.specs.List.{AllPairs, list_any}
 use Rattle.std.specs.Option.{option_map, option_and_then}
 use Rattle.std.proofs.lemmas.Bool.{cases_Bool, eqb-true, eq-eqb, ne_eqb, or_left, or_right}
@@ -8,7 +8,11 @@ use Rattle.std.proofs.lemmas.List.Folds.{list_any-append}
 use Rattle.std.proofs.lemmas.Option.{slice_get-map}
 use Rattle.vx_base.specs.declared.node.Node.{Node}
 use Rattle.vx_base.specs.Cell.{Cell, same_cell}
+use Rattle.vx_base.specs.Description.{Description}
 use Rattle.graph_verify.specs.declared.known.VirtualOutput.{VirtualOutput}
+use Rattle.graph_verify.specs.declared.operand.Operand.{Operand}
+use Rattle.graph_verify.specs.declared.verified.Verified.{Verified}
+use Rattle.graph_verify.specs.Verified.{IsVerified, written_description}
 use Rattle.graph_verify.specs.Links.{reads, writes, is_written}
 use Rattle.graph_verify.specs.Members.{In}
 use Rattle.graph_verify.proofs.LinkLemmas.{same_cell-refl, same_cell-true}
@@ -18,10 +22,10 @@ use Rattle.buffer_plan.specs.Lives.{is_used}
 use Rattle.buffer_plan.specs.Plan.{IsPlan, PlanValue}
 use Rattle.buffer_plan.proofs.TakenLemmas.{one_when_taken}
 use Rattle.graph_run.specs.declared.stage.Slot.{Slot}
-use Rattle.graph_run.specs.Slots.{place_of, room_of, planned_rooms, AreShared, claimed_if, claimed_at}
+use Rattle.graph_run.specs.Slots.{slot_place, place_of, room_of, planned_rooms, AreShared, claimed_if, claimed_at}
 use Rattle.graph_run.specs.Stage.{is_named, holder_at, claimed}
-use Rattle.graph_run.proofs.SlotLemmas.{same_at_each, Fails, find_agree, room_at_home, one_home}
-use Rattle.graph_run.proofs.VerifiedLemmas.{whole, is_output}
+use Rattle.graph_run.proofs.SlotLemmas.{same_at_each, Fails, find_agree, HasRoomAt, room_at_home, one_home}
+use Rattle.graph_run.proofs.VerifiedLemmas.{whole, is_output, described_output, output_described}
 
 -- ---- outputs by name
 
@@ -231,3 +235,70 @@ module _ (outs : List VirtualOutput) (p : PlanValue) (before after : List Node) 
         cc)
         (same_at_each slots next (λ k. sym (claims k ∙ ap (λ f. claimed_if p f k (slice_get slots k)) none.0)))
   ]
+
+-- ---- which slot an output claims
+
+module _ (is : Cell → Operand) (nodes : List Node) (v : Verified) (how : IsVerified is nodes v) (p : PlanValue)
+    (plan : IsPlan v.steps.items v.virtual_outputs.items p) (apart : AllPairs (λ a b. a.cell.name ≢ b.cell.name) v.virtual_outputs.items) where
+  abbrev written : List VirtualOutput
+  written = v.virtual_outputs.items
+
+  -- a cell that is described and has a slot is an output, with its description
+  described_home : (cell : Cell) (d : Description) (k : ℕ) → Some d ≡ written_description is nodes cell → Some k ≡ p.slot_of cell
+      → In (record { cell = cell; desc = d }) written × (place_of p (record { cell = cell; desc = d }) ≡ slot_place p d.format k)
+  described_home cell d k described placed =
+      let output = described_output is nodes v how cell d (sym described) in (
+        subst (λ (o : VirtualOutput). In o written) output.2 output.1,
+        ap (λ s. slot_place p d.format (unwrap_or s 0)) (sym placed),
+      )
+
+  -- it can claim its slot
+  pub record CanClaim (cell : Cell) (d : Description) (at : ℕ) (slots : List Slot) : Type 0 where
+    pub member : In (record { cell = cell; desc = d }) written
+    pub place : at ≡ place_of p (record { cell = cell; desc = d })
+    pub room : HasRoomAt at (record { cell = cell; desc = d }) slots
+
+  pub can_claim : (slots : List Slot) → map room_of slots ≡ planned_rooms p → (cell : Cell) (d : Description) (k : ℕ) → Some d ≡ written_description is nodes cell → Some k ≡ p.slot_of cell
+      → (at : ℕ) → at ≡ slot_place p d.format k → CanClaim cell d at slots
+  can_claim slots rooms cell d k described placed at is_at =
+      let o : VirtualOutput = record { cell = cell; desc = d } in
+      let home = described_home cell d k described placed in
+      let place : at ≡ place_of p o = is_at ∙ sym home.1 in
+      record {
+        member = home.0;
+        place = place;
+        room = subst (λ n. HasRoomAt n o slots) (sym place) (room_at_home v.steps.items written p plan slots rooms o home.0);
+      }
+
+  -- the output of its cell is found
+  pub output_found : (o : VirtualOutput) → In o written → find (λ q. same_cell q.cell o.cell) written ≡ Some o
+  output_found o i = elim (find_cases (λ (q : VirtualOutput). same_cell q.cell o.cell) written) [
+    | inl found ↦ found.1 ∙ ap (λ q. Some q) (one_of_name written apart found.0 o found.2 i (ap (λ (c : Cell). c.name) (same_cell-true found.0.cell o.cell found.3)))
+    | inr none ↦ (let miss = none.1 o i in let hit = same_cell-refl o.cell in absurd (cc))
+  ]
+
+  -- none is found where a cell isn't described, or has no slot
+  pub undescribed_none : (cell : Cell) → None ≡ written_description is nodes cell → find (λ q. same_cell q.cell cell) written ≡ None
+  undescribed_none cell none = elim (find_cases (λ (q : VirtualOutput). same_cell q.cell cell) written) [
+    | inl found ↦
+        (let described = ap (written_description is nodes) (sym (same_cell-true found.0.cell cell found.3)) ∙ output_described is nodes v how found.0 found.2 in
+        let no : ◌≡◌ {A = Option Description} None (Some found.0.desc) = none ∙ described in
+        absurd (cc))
+    | inr none ↦ none.0
+  ]
+
+  pub unplaced_none : (cell : Cell) → None ≡ p.slot_of cell → find (λ q. same_cell q.cell cell) written ≡ None
+  unplaced_none cell none = elim (find_cases (λ (q : VirtualOutput). same_cell q.cell cell) written) [
+    | inl found ↦
+        (let some = plan.given cell ∙ any-from_In (λ (q : VirtualOutput). same_cell q.cell cell) found.0 written found.2 found.3 in
+        let no = subst (λ (s : Option ℕ). is_some s ≡ true) (sym none) some in
+        absurd (cc))
+    | inr none ↦ none.0
+  ]
+
+  -- who claims stands in no other slot
+  pub stands_nowhere_else : (slots : List Slot) → AreShared p written slots → (o : VirtualOutput) → In o written → (k : ℕ) (a : VirtualOutput) → holder_at slots k ≡ Some a
+      → a.cell.name ≡ o.cell.name → k ≡ place_of p o
+  stands_nowhere_else slots shared o i k a at same =
+      let home = shared.homes k a at in
+      sym home.1 ∙ ap (place_of p) (one_of_name written apart a o home.0 i same)

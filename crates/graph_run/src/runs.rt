@@ -118,10 +118,14 @@ fn claim_for(stage: &mut Stage, verified: &Verified, plan: &Plan, output: Option
     let Some(cell) = output else {
         return;
     };
-    if let (Some(desc), Some(slot)) = (verified.desc_of(cell), plan.slot_of(cell)) {
-        let at = place_of(plan, desc.format(), slot);
-        stage.claim(at, VirtualOutput { cell, desc });
-    }
+    let Some(desc) = verified.desc_of(cell) else {
+        return;
+    };
+    let Some(slot) = plan.slot_of(cell) else {
+        return;
+    };
+    let at = place_of(plan, desc.format(), slot);
+    stage.claim(at, VirtualOutput { cell, desc });
 }
 
 /// The place of a slot of a format among all slots.
