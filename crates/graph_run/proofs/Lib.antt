@@ -24,3 +24,5 @@ pub mod ClaimLemmas
 pub mod SlotLemmas
 pub mod VerifiedLemmas
 pub mod SharingLemmas
+pub mod AgreeLemmas
+pub mod SceneLemmas
