@@ -26,3 +26,4 @@ pub mod VerifiedLemmas
 pub mod SharingLemmas
 pub mod AgreeLemmas
 pub mod SceneLemmas
+pub mod SlotPoolLemmas
