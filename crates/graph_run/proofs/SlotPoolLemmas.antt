@@ -1,12 +1,12 @@
 -- Blocks of a pool that slots take and give back.
 use Rattle.std.proofs.Common.{◌≡◌, ◌≢◌, ℕ, ◌+◌, ◌<◌, ◌≤◌, ◌⊎◌, Bool, true, false, List, [], ◌∷◌, ◌++◌, length, map, max, None, inl, inr, refl, sym, ap, ◌∙◌, arith}
-use Rattle.std.specs.Prelude.{if◌then◌else◌}
+use Rattle.std.specs.Prelude.{if◌then◌else◌, sum_by}
 use Rattle.std.specs.List.{range_with_len}
 use Rattle.std.proofs.lemmas.Bool.{cases_Bool}
 use Rattle.std.proofs.lemmas.List.{length-append, map-append, append_assoc}
 use Rattle.std.proofs.lemmas.List.Elements.{All-push}
 use Rattle.std.proofs.lemmas.List.FromFn.{map-range_with_len_more}
-use Rattle.std.proofs.lemmas.List.Sums.{sum_by_push}
+use Rattle.std.proofs.lemmas.List.Sums.{sum_by_push, sum_by-cons}
 use Rattle.vx_base.specs.declared.format.Format.{Format}
 use Rattle.vx_base.specs.declared.format.Format.TheVariants.{U8, S16, U32}
 use Rattle.vx_base.specs.Picture.{values, samples_format}
@@ -90,3 +90,16 @@ adds_more format f k old now new more before = either (same_format format f) mor
     either : (b : Bool) → new ≤ now + (if b then 1 else 0) → now ≤ old + (if b then k else 0) → new ≤ old + (if b then k + 1 else 0)
     either true more before = omega (arith, more, before)
     either false more before = omega (arith, more, before)
+
+-- ---- slots of the same rooms
+
+blocks_by_room : (slots : List Slot) (f : Format) → slot_blocks slots f ≡ sum_by (λ (r : Format × ℕ). one_of r.0 f) (map room_of slots)
+blocks_by_room [] f = refl
+blocks_by_room (s ∷ slots) f =
+    sum_by-cons (λ (t : Slot). one_of (samples_format t.samples) f) s slots
+    ∙ ap (λ n. one_of (samples_format s.samples) f + n) (blocks_by_room slots f)
+    ∙ sym (sum_by-cons (λ (r : Format × ℕ). one_of r.0 f) (room_of s) (map room_of slots))
+
+-- are as many blocks
+pub blocks_stay : (old new : List Slot) → map room_of new ≡ map room_of old → (f : Format) → slot_blocks new f ≡ slot_blocks old f
+blocks_stay old new same f = blocks_by_room new f ∙ ap (sum_by (λ (r : Format × ℕ). one_of r.0 f)) same ∙ sym (blocks_by_room old f)
