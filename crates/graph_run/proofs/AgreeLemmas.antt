@@ -107,15 +107,15 @@ output_given : (n : Node) (now : Cell → Option ObjectValue) (c : Cell) (first 
     → (x : ObjectValue) × In (c, x) (written_by n now)
 output_given n now c first out w read there = elim (output_cases n c w) [
   | inl e ↦ (
-      node_output n First first (option_and_then now n.in2) out,
-      In-left (c, node_output n First first (option_and_then now n.in2) out) (written_in n First n.out1 now) (written_in n Second n.out2 now)
-          (subst (λ l. In (c, node_output n First first (option_and_then now n.in2) out) l) (sym (gives First n.out1 e)) (inl refl)),
-    )
+    node_output n First first (option_and_then now n.in2) out,
+    In-left (c, node_output n First first (option_and_then now n.in2) out) (written_in n First n.out1 now) (written_in n Second n.out2 now)
+        (subst (λ l. In (c, node_output n First first (option_and_then now n.in2) out) l) (sym (gives First n.out1 e)) (inl refl)),
+  )
   | inr e ↦ (
-      node_output n Second first (option_and_then now n.in2) out,
-      In-right (c, node_output n Second first (option_and_then now n.in2) out) (written_in n First n.out1 now) (written_in n Second n.out2 now)
-          (subst (λ l. In (c, node_output n Second first (option_and_then now n.in2) out) l) (sym (gives Second n.out2 e)) (inl refl)),
-    )
+    node_output n Second first (option_and_then now n.in2) out,
+    In-right (c, node_output n Second first (option_and_then now n.in2) out) (written_in n First n.out1 now) (written_in n Second n.out2 now)
+        (subst (λ l. In (c, node_output n Second first (option_and_then now n.in2) out) l) (sym (gives Second n.out2 e)) (inl refl)),
+  )
 ]
   where
     gives : (output : Output) (o : Option Cell) → o ≡ Some c → written_in n output o now ≡ (c, node_output n output first (option_and_then now n.in2) out) ∷ []
@@ -331,13 +331,13 @@ module _ (objects : List Named) (nodes : List Node) (v : Verified) (h : IsReady 
       here_found cell named = elim (or_cases (reads n cell) (writes n cell) named) [
         | inl r ↦ ap (option_map operand_of) (read_same cell r) ∙ ideal_found cell named
         | inr w ↦ elim (cases_Bool (is_virtual (is cell))) [
-            | inl virtual ↦
-                (let output = output_of_cell cell named virtual in
-                let one = standing cell output.0 output.1 output.2 w in
-                ap (option_map operand_of) one.1 ∙ ap (λ d. Some (Image d)) one.2
-                ∙ sym (ap (λ c. Some (known c)) output.2 ∙ ap (λ x. Some x) (output_known is nodes v h.verified output.0 output.1)))
-            | inr real ↦ ap (option_map operand_of) (real_same cell named real) ∙ ideal_found cell named
-          ]
+          | inl virtual ↦
+              (let output = output_of_cell cell named virtual in
+              let one = standing cell output.0 output.1 output.2 w in
+              ap (option_map operand_of) one.1 ∙ ap (λ d. Some (Image d)) one.2
+              ∙ sym (ap (λ c. Some (known c)) output.2 ∙ ap (λ x. Some x) (output_known is nodes v h.verified output.0 output.1)))
+          | inr real ↦ ap (option_map operand_of) (real_same cell named real) ∙ ideal_found cell named
+        ]
       ]
 
       -- so it can run, and writes what it would write

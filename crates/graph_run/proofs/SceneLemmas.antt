@@ -366,62 +366,62 @@ module _ (objects : List Named) (v : Verified) (p : PlanValue) (plan : IsPlan v.
     parts = sym (take-append-drop k v.steps.items) ∙ ap (λ rest. before ++ rest) here_on
 
     module _ (nodes : List Node) (h : IsReady objects nodes v) (one : List Slot) (first : (j : ℕ) → slice_get one j ≡ claimed_at p images n.out1 j (slice_get slots j)) where
-     -- once its first output has claimed its slot
-     pub first_shared : AreShared p images one
-     first_shared = (first_claims objects nodes v h p plan before after n parts l (course_outputs nodes h) slots one course.shared course.written first).shared
+      -- once its first output has claimed its slot
+      pub first_shared : AreShared p images one
+      first_shared = (first_claims objects nodes v h p plan before after n parts l (course_outputs nodes h) slots one course.shared course.written first).shared
 
-     -- once both outputs have
-     module _ (both : List Slot) (second : (j : ℕ) → slice_get both j ≡ claimed_at p images n.out2 j (slice_get one j)) where
-      claimed_agree : (ms : List Node) (g : IsReady objects ms v) → Agrees images before (n ∷ after) (shown both l) (one_by_one before (begin objects ms v g))
-      claimed_agree ms g =
-          claims_agree objects ms v g p plan before after n parts l (course_outputs ms g) slots one course.shared course.written first both second
-          (one_by_one before (begin objects ms v g))
-          (subst (λ rest. Agrees images before rest (shown slots l) (one_by_one before (begin objects ms v g))) here_on (course.agrees ms g))
+      -- once both outputs have
+      module _ (both : List Slot) (second : (j : ℕ) → slice_get both j ≡ claimed_at p images n.out2 j (slice_get one j)) where
+        claimed_agree : (ms : List Node) (g : IsReady objects ms v) → Agrees images before (n ∷ after) (shown both l) (one_by_one before (begin objects ms v g))
+        claimed_agree ms g =
+            claims_agree objects ms v g p plan before after n parts l (course_outputs ms g) slots one course.shared course.written first both second
+            (one_by_one before (begin objects ms v g))
+            (subst (λ rest. Agrees images before rest (shown slots l) (one_by_one before (begin objects ms v g))) here_on (course.agrees ms g))
 
-      claimed_stand : (ms : List Node) (g : IsReady objects ms v) (o : VirtualOutput) → In o images → writes n o.cell ≡ true → StandsAs (shown both l) o
-      claimed_stand ms g = claims_stand objects ms v g p plan before after n parts l (course_outputs ms g) slots one course.shared course.written first both second
+        claimed_stand : (ms : List Node) (g : IsReady objects ms v) (o : VirtualOutput) → In o images → writes n o.cell ≡ true → StandsAs (shown both l) o
+        claimed_stand ms g = claims_stand objects ms v g p plan before after n parts l (course_outputs ms g) slots one course.shared course.written first both second
 
-      -- its node can run
-      pub course_runs : CanRunNow (shown both l) n
-      course_runs = can_run_here objects nodes v h before after n parts (shown both l) (claimed_agree nodes h) (claimed_stand nodes h)
+        -- its node can run
+        pub course_runs : CanRunNow (shown both l) n
+        course_runs = can_run_here objects nodes v h before after n parts (shown both l) (claimed_agree nodes h) (claimed_stand nodes h)
 
-      -- and leaves a stage as it is one step later
-      pub course_next : (m : List Named) (next : List Slot) → IsStrictlyIncreasing (names_of l) → map fixed next ≡ map fixed both → forgotten l m ≡ m
-          → shown next m ≡ with_written (shown both l) (written_by n (held (shown both l))) → map lasting_named (shown next m) ≡ map lasting_named (shown both l)
-          → IsOnCourse objects v p (k + 1) m next
-      course_next m next names fixed kept value lasts =
-          let claims = second_claims objects nodes v h p plan before after n parts l (course_outputs nodes h) slots one course.shared course.written first both second in
-          let shared = shared_stay p images both next fixed claims.shared in
-          let more : take (k + 1) v.steps.items ≡ before ++ n ∷ [] = take_more v.steps.items k n below ∙ ap (λ x. before ++ x ∷ []) (sym read) in
-          let free : (o : Named) → In o l → is_virtual_object o.object ≡ false → slot_of next o.name ≡ None =
-          λ o i real. find_nowhere (λ s. is_named o.name s.holder) next (λ j s at. unnamed names shared o i real j s at s.holder refl) in
-          record {
-            shared = shared;
-            written = subst (λ done. WereWritten done next) (sym more) (written_stay (before ++ n ∷ []) both next fixed claims.written);
-            virtual = forgotten-twice objects l m labels course.virtual kept;
-            lasting = lasting_step l m both next kept lasts free ∙ course.lasting;
-            agrees = λ ms g.
-                let agree = next_agrees objects ms v g before after n parts (shown both l) (claimed_agree ms g) (claimed_stand ms g) in
-                subst (λ done. Agrees images done after (shown next m) (one_by_one done (begin objects ms v g))) (sym more)
-                (subst (λ here. Agrees images (before ++ n ∷ []) after here (one_by_one (before ++ n ∷ []) (begin objects ms v g))) (sym value)
-                (subst (λ ideal. Agrees images (before ++ n ∷ []) after (with_written (shown both l) (written_by n (held (shown both l)))) ideal)
-                (sym (one_by_one-more before n (begin objects ms v g))) agree));
-          }
-        where
-          unnamed : IsStrictlyIncreasing (names_of l) → AreShared p images next → (o : Named) → In o l → is_virtual_object o.object ≡ false → (j : ℕ) (s : Slot) → slice_get next j ≡ Some s
-              → (holder : Option VirtualOutput) → s.holder ≡ holder → is_named o.name s.holder ≡ false
-          unnamed names shared o i real j s at None e = ap (is_named o.name) e
-          unnamed names shared o i real j s at (Some a) e =
-              ap (is_named o.name) e
-              ∙ false_from_ne_true (a.cell.name == o.name) (λ same.
-              let home = shared.homes j a (ap (option_and_then (λ (t : Slot). t.holder)) at ∙ e) in
-              let virtual = In-from_All (λ (q : VirtualOutput). HoldsVirtual l q.cell.name) images (course_outputs nodes h).held a home.0 in
-              let at_name : object_held l a.cell.name ≡ Some o.object =
-              ap (object_held l) (eqb-true a.cell.name o.name same) ∙ In-from_All (λ (q : Named). object_held l q.name ≡ Some q.object) l (held_by_name l names) o i in
-              let of_kind : Some (object_kind o.object) ≡ Some kind.VirtualImage = sym (ap (option_map object_kind) at_name) ∙ virtual in
-              let kind_so : object_kind o.object ≡ kind.VirtualImage = cc in
-              let virtual_so = kind_is_virtual o.object kind_so in
-              cc)
+        -- and leaves a stage as it is one step later
+        pub course_next : (m : List Named) (next : List Slot) → IsStrictlyIncreasing (names_of l) → map fixed next ≡ map fixed both → forgotten l m ≡ m
+            → shown next m ≡ with_written (shown both l) (written_by n (held (shown both l))) → map lasting_named (shown next m) ≡ map lasting_named (shown both l)
+            → IsOnCourse objects v p (k + 1) m next
+        course_next m next names fixed kept value lasts =
+            let claims = second_claims objects nodes v h p plan before after n parts l (course_outputs nodes h) slots one course.shared course.written first both second in
+            let shared = shared_stay p images both next fixed claims.shared in
+            let more : take (k + 1) v.steps.items ≡ before ++ n ∷ [] = take_more v.steps.items k n below ∙ ap (λ x. before ++ x ∷ []) (sym read) in
+            let free : (o : Named) → In o l → is_virtual_object o.object ≡ false → slot_of next o.name ≡ None =
+            λ o i real. find_nowhere (λ s. is_named o.name s.holder) next (λ j s at. unnamed names shared o i real j s at s.holder refl) in
+            record {
+              shared = shared;
+              written = subst (λ done. WereWritten done next) (sym more) (written_stay (before ++ n ∷ []) both next fixed claims.written);
+              virtual = forgotten-twice objects l m labels course.virtual kept;
+              lasting = lasting_step l m both next kept lasts free ∙ course.lasting;
+              agrees = λ ms g.
+                  let agree = next_agrees objects ms v g before after n parts (shown both l) (claimed_agree ms g) (claimed_stand ms g) in
+                  subst (λ done. Agrees images done after (shown next m) (one_by_one done (begin objects ms v g))) (sym more)
+                  (subst (λ here. Agrees images (before ++ n ∷ []) after here (one_by_one (before ++ n ∷ []) (begin objects ms v g))) (sym value)
+                  (subst (λ ideal. Agrees images (before ++ n ∷ []) after (with_written (shown both l) (written_by n (held (shown both l)))) ideal)
+                  (sym (one_by_one-more before n (begin objects ms v g))) agree));
+            }
+          where
+            unnamed : IsStrictlyIncreasing (names_of l) → AreShared p images next → (o : Named) → In o l → is_virtual_object o.object ≡ false → (j : ℕ) (s : Slot) → slice_get next j ≡ Some s
+                → (holder : Option VirtualOutput) → s.holder ≡ holder → is_named o.name s.holder ≡ false
+            unnamed names shared o i real j s at None e = ap (is_named o.name) e
+            unnamed names shared o i real j s at (Some a) e =
+                ap (is_named o.name) e
+                ∙ false_from_ne_true (a.cell.name == o.name) (λ same.
+                let home = shared.homes j a (ap (option_and_then (λ (t : Slot). t.holder)) at ∙ e) in
+                let virtual = In-from_All (λ (q : VirtualOutput). HoldsVirtual l q.cell.name) images (course_outputs nodes h).held a home.0 in
+                let at_name : object_held l a.cell.name ≡ Some o.object =
+                ap (object_held l) (eqb-true a.cell.name o.name same) ∙ In-from_All (λ (q : Named). object_held l q.name ≡ Some q.object) l (held_by_name l names) o i in
+                let of_kind : Some (object_kind o.object) ≡ Some kind.VirtualImage = sym (ap (option_map object_kind) at_name) ∙ virtual in
+                let kind_so : object_kind o.object ≡ kind.VirtualImage = cc in
+                let virtual_so = kind_is_virtual o.object kind_so in
+                cc)
 
   -- ---- the end
 

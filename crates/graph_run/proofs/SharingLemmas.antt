@@ -175,7 +175,7 @@ module _ (outs : List VirtualOutput) (p : PlanValue) (before after : List Node) 
               inr (
                 subst (Fails (λ s. is_named name s.holder)) (sym is) (ne_eqb o.cell.name name other),
                 subst (Fails (λ s. is_named name s.holder)) (sym was)
-                (former room.slot.holder (ap (option_and_then (λ (s : Slot). s.holder)) room.there)),
+                    (former room.slot.holder (ap (option_and_then (λ (s : Slot). s.holder)) room.there)),
               ))
           | inr elsewhere ↦ inl (claims k ∙ ap (λ b. cond b (option_map (claimed o) (slice_get slots k)) (slice_get slots k)) elsewhere)
         ]

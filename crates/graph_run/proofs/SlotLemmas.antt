@@ -21,6 +21,7 @@ use Rattle.graph_verify.proofs.LinkLemmas.{same_cell-refl}
 use Rattle.graph_verify.proofs.MemberLemmas.{any-from_In, In-filter, In-map}
 use Rattle.buffer_plan.specs.Plan.{IsPlan, PlanValue}
 use Rattle.buffer_plan.specs.Slots.{of_format, is_slot, greatest}
+use Rattle.buffer_plan.proofs.PlanLemmas.{same_format-refl}
 use Rattle.graph_run.specs.declared.stage.Slot.{Slot}
 use Rattle.graph_run.specs.Slots.{slot_place, place_of, room_of, rooms_for, planned_rooms}
 use Rattle.graph_run.specs.Stage.{HasRoomFor}
@@ -75,19 +76,7 @@ module _ {X : Type 0} where
         | inr e ↦ ap (λ b. cond b (Some x) (find p xs)) e.0 ∙ rest ∙ sym (ap (λ b. cond b (Some y) (find p ys)) e.1)
       ]
 
-  -- what passes alone
-  pub find_there : (p : X → Bool) (xs : List X) (k : ℕ) (x : X) → slice_get xs k ≡ Some x → p x ≡ true
-      → ((j : ℕ) (y : X) → slice_get xs j ≡ Some y → p y ≡ true → j ≡ k) → find p xs ≡ Some x
-  find_there p [] k x at passes alone = absurd (cc)
-  find_there p (y ∷ ys) zero x at passes alone =
-      let same : y ≡ x = cc in
-      ap (λ z. cond (p z) (Some z) (find p ys)) same ∙ ap (λ b. cond b (Some x) (find p ys)) passes
-  find_there p (y ∷ ys) (suc k) x at passes alone = elim (cases_Bool (p y)) [
-    | inl too ↦ absurd (omega (arith, alone 0 y refl too))
-    | inr fails ↦ ap (λ b. cond b (Some y) (find p ys)) fails
-        ∙ find_there p ys k x at passes (λ j z there also. let e = alone (suc j) z there also in omega (arith, e))
-  ]
-
+  -- nothing passes
   pub find_nowhere : (p : X → Bool) (xs : List X) → ((k : ℕ) (x : X) → slice_get xs k ≡ Some x → p x ≡ false) → find p xs ≡ None
   find_nowhere p [] h = refl
   find_nowhere p (x ∷ xs) h = ap (λ b. cond b (Some x) (find p xs)) (h 0 x refl) ∙ find_nowhere p xs (λ k y at. h (suc k) y at)
@@ -140,11 +129,6 @@ below_greatest : (n : ℕ) (ns : List ℕ) → In n ns → n ≤ greatest ns
 below_greatest n [] i = absurd i
 below_greatest n (m ∷ ns) (inl same) = grind (arith, nat_tests)
 below_greatest n (m ∷ ns) (inr i) = grind (arith, nat_tests, below_greatest n ns i)
-
-same_format-refl : (format : Format) → same_format format format ≡ true
-same_format-refl U8 = refl
-same_format-refl S16 = refl
-same_format-refl U32 = refl
 
 -- a slot of the image's format, with room for it
 pub record HasSlot (p : PlanValue) (o : VirtualOutput) : Type 0 where

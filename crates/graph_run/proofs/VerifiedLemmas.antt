@@ -149,9 +149,12 @@ module _ (is : Cell → Operand) (nodes : List Node) (v : Verified) (how : IsVer
         let found : operand_description (resolved is nodes cell) ≡ Some d = sym (ap (λ b. if b then operand_description (resolved is nodes cell) else None) both) ∙ e in
         let known : resolved is nodes cell ≡ Image output.0.desc = ap (resolved is nodes) output.2 ∙ output_known output.0 output.1 in
         let described : ◌≡◌ {A = Option Description} (Some output.0.desc) (Some d) = ap operand_description (sym known) ∙ found in
-        let desc : output.0.desc ≡ d = cc in
-        (output.0, output.1, (ap (λ c. let o : VirtualOutput = record { cell = c; desc = output.0.desc } in o) (sym output.2)
-        ∙ ap (λ x. let o : VirtualOutput = record { cell = cell; desc = x } in o) desc)))
+        let desc : output.0.desc ≡ d = cc in (
+          output.0,
+          output.1,
+          (ap (λ c. let o : VirtualOutput = record { cell = c; desc = output.0.desc } in o) (sym output.2)
+              ∙ ap (λ x. let o : VirtualOutput = record { cell = cell; desc = x } in o) desc),
+        ))
     | inr none ↦
         (let nothing = sym (ap (λ b. if b then operand_description (resolved is nodes cell) else None) none) ∙ e in
         absurd (cc))
