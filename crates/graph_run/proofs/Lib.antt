@@ -21,6 +21,9 @@ mod KernelLemmas
 pub mod PairLemmas
 pub mod StageLemmas
 pub mod ClaimLemmas
+pub mod StandingLemmas
+pub mod StepLemmas
+pub mod PartLemmas
 pub mod SlotLemmas
 pub mod VerifiedLemmas
 pub mod SharingLemmas

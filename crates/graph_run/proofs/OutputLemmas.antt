@@ -126,6 +126,9 @@ module _ (objects : List Named) (n : Node) (which : Output) (output : Cell) (h :
   pub writes_image : HoldsImage objects output
   writes_image = holds_image objects output h.out out_kind
 
+  pub out_is_image : IsImage out
+  out_is_image = image_of_object (cell_object objects output) out_kind h.runs.out_is
+
   can : CanRunTo n first second out
   can = can_run n (cell_object objects n.in1) second (cell_object objects output) h.runs out_kind
 
@@ -183,3 +186,6 @@ module _ (objects : List Named) (n : Node) (which : Output) (output : Cell) (h :
 
   pub left_format : (after before : Context) → after ≡ with_objects before (with_object objects output (with_samples (cell_object objects output) out.valid [])) → (image_held after.objects output).format ≡ out.format
   left_format after before taken = grind (arith, object_after objects output writes_image (image_over (description_of out) out.valid []))
+
+  pub left_described : (after before : Context) → after ≡ with_objects before (with_object objects output (with_samples (cell_object objects output) out.valid [])) → description_of (image_held after.objects output) ≡ description_of out
+  left_described after before taken = grind (arith, object_after objects output writes_image (image_over (description_of out) out.valid []))

@@ -21,7 +21,7 @@ use Rattle.object_table.specs.Named.{Named, object_held, held, with_object}
 use Rattle.object_table.proofs.HeldLemmas.{names_of, HasObject, held_alone, object_held-map}
 use Rattle.graph_verify.specs.declared.known.VirtualOutput.{VirtualOutput}
 use Rattle.graph_run.specs.declared.stage.Slot.{Slot}
-use Rattle.graph_run.specs.Graph.{is_virtual_object, forgotten}
+use Rattle.graph_run.specs.Graph.{is_virtual_object}
 use Rattle.graph_run.proofs.HeldLaws.{object_held-with_object}
 use Rattle.graph_run.specs.Stage.{is_named, standing_image, image_in, standing, shown_as, shown, slot_of, holder_at, HoldsVirtual, fixed, resized}
 
@@ -101,13 +101,6 @@ pub shown-with_object : (slots : List Slot) (l : List Named) (cell : Cell) (new 
 shown-with_object slots [] cell new real = refl
 shown-with_object slots (o ∷ l) cell new real = grind (arith, shown-with_object slots l cell new real, slot_written slots o.name cell.slot new o.object real)
 
--- the virtual objects stay
-pub virtual-with_object : (l : List Named) (cell : Cell) (old new : ObjectValue) → All (HasObject cell.name old) l → is_virtual_object old ≡ false
-    → forgotten l (with_object l cell new) ≡ with_object l cell new
-virtual-with_object [] cell old new are real = refl
-virtual-with_object (o ∷ l) cell old new are real =
-    grind (arith, virtual-with_object l cell old new (All-tail (HasObject cell.name old) o l are) real, All-head (HasObject cell.name old) o l are, All-tail (HasObject cell.name old) o l are, eqb-true o.name cell.name)
-
 -- what was held under another name stays
 pub held_beside : (l : List Named) (cell : Cell) (name : ℕ) (new : ObjectValue) → name ≢ cell.name → object_held (with_object l cell new) name ≡ object_held l name
 held_beside l cell name new apart = object_held-with_object l cell new name ∙ ap (λ b. option_map (λ x. if b then with_slot cell.slot new x else x) (object_held l name)) (ne_eqb name cell.name apart) ∙ same (object_held l name)
@@ -135,7 +128,7 @@ IsAlone (t ∷ slots) name (suc k) s = (is_named name t.holder ≡ false) × IsA
 abbrev Elsewhere : List Slot → ℕ → ℕ → Type 0
 Elsewhere slots name k = (j : ℕ) (a : VirtualOutput) → holder_at slots j ≡ Some a → a.cell.name ≡ name → j ≡ k
 
-named_holder : (name : ℕ) (o : Option VirtualOutput) → is_named name o ≡ true → (a : VirtualOutput) × (o ≡ Some a) × (a.cell.name ≡ name)
+pub named_holder : (name : ℕ) (o : Option VirtualOutput) → is_named name o ≡ true → (a : VirtualOutput) × (o ≡ Some a) × (a.cell.name ≡ name)
 named_holder name None e = cc
 named_holder name (Some a) e = (a, refl, eqb-true a.cell.name name e)
 

@@ -3,9 +3,10 @@ use Rattle.std.specs.Prelude.{ℕ, ◌≡◌, ◌≤◌, ◌==◌, Bool, false, 
 use Rattle.std.specs.List.Sorted.{IsStrictlyIncreasing}
 use Rattle.std.specs.Option.{option_map, option_and_then}
 use Rattle.vx_base.specs.declared.format.Format.{Format}
+use Rattle.vx_base.specs.declared.format.Format.TheVariants.{U8}
 use Rattle.vx_base.specs.declared.samples.Samples.{Samples}
 use Rattle.vx_base.specs.Description.{Description, sample_count}
-use Rattle.vx_base.specs.Image.{ImageValue, image_over}
+use Rattle.vx_base.specs.Image.{ImageValue, image_over, new_image}
 use Rattle.vx_base.specs.declared.kind.Kind.TheVariants as kind
 use Rattle.vx_base.specs.Object.{ObjectValue, ImageObject, VirtualObject, IsObject, object_kind}
 use Rattle.vx_base.specs.Picture.{values, samples_format}
@@ -15,7 +16,7 @@ use Rattle.object_table.specs.Named.{Named, object_held}
 use Rattle.graph_verify.specs.declared.known.VirtualOutput.{VirtualOutput}
 use Rattle.graph_run.specs.declared.stage.Slot.{Slot}
 use Rattle.graph_run.specs.declared.stage.Stage.{Stage}
-use Rattle.graph_run.specs.Graph.{forgotten}
+use Rattle.graph_run.specs.Graph.{is_virtual_object, forgotten}
 
 -- whether a virtual image is the one under this name
 abbrev pub is_named : ℕ → Option VirtualOutput → Bool
@@ -110,7 +111,16 @@ resized name count f = if is_named name f.2 then (f.0, count, f.2) else f
 abbrev pub HasCount : List Slot → ℕ → ℕ → Type 0
 HasCount slots name count = map (resized name count) (map fixed slots) ≡ map fixed slots
 
+-- an object under its name, as far as it is virtual
+abbrev pub virtual_named : Named → Named
+virtual_named o = record o { object = if is_virtual_object o.object then o.object else ImageObject (new_image 0 0 U8) }
+
 -- a stage once the image of a name has so many samples, if it stands in a slot: all else that nodes leave as it is is as it was
 pub record Resized (name count : ℕ) (old new : Stage) : Type 0 where
-  pub virtual : forgotten old.table.objects new.table.objects ≡ new.table.objects
+  pub virtual : map virtual_named new.table.objects ≡ map virtual_named old.table.objects
   pub slots : map fixed new.slots.items ≡ map (resized name count) (map fixed old.slots.items)
+
+-- the same where samples are put back: names and virtual objects, and what stands where
+pub record Keeps (old new : Stage) : Type 0 where
+  pub virtual : map virtual_named new.table.objects ≡ map virtual_named old.table.objects
+  pub slots : map fixed new.slots.items ≡ map fixed old.slots.items

@@ -1,6 +1,6 @@
-//! Nodes that run on what their cells hold in a table.
+//! Nodes that run on what their cells hold, in a table or on a stage.
 ghost use Rattle.std.specs.Prelude.{◌≡◌, ◌≢◌, [], length, map, pos, is_some, IsTrue, All};
-ghost use Rattle.std.specs.Prelude.{IfSome, None, Some};
+ghost use Rattle.std.specs.Prelude.{◌≤◌, IfSome, None, Some, take};
 ghost use Rattle.std.specs.List.Sorted.{IsStrictlyIncreasing};
 ghost use Rattle.std.specs.Option.{option_map};
 ghost use Rattle.vx_base.specs.declared.format.Format.TheVariants.{U8, S16, U32};
@@ -27,13 +27,14 @@ ghost use Rattle.graph_run.specs.Lasting.{Lasts};
 ghost use Rattle.graph_run.specs.Steps.{AreApart, Holds, CanRunTo, RunsTo, IsRead};
 ghost use Rattle.graph_run.specs.Steps.{counted_in, with_output};
 ghost use Rattle.graph_run.specs.Turns.{CanRunNow};
-ghost use Rattle.graph_run.specs.Stage.{scene, IsStage, Stays};
+ghost use Rattle.graph_run.specs.Stage.{scene, IsStage, IsArranged, Keeps, Stays};
 
 use crate::kernel::run_whole;
 use crate::stage::Stage;
 use image_core::{Image, ImageMut, Second};
 use object_table::{Content, Object, Table};
 use stat_kernels::{histogram, min_max};
+use std::mem;
 use vx_base::{Bins, Desc, GREATEST_BINS, Kind, Node, ObjRef, Output, Rect, Samples};
 use window_kernels::sobel3;
 
@@ -46,12 +47,13 @@ pub fn run_once(table: &mut Table, node: &Node)
         (written_by node.now (held table.old.objects))) }
     ensures lasts { Lasts table.old.objects table.new.objects }
 {
-    if let (Some(out1), Some(out2)) = (node.out1, node.out2) {
-        write_both(table, node, out1, out2);
-    } else {
-        run_to(table, node, Output::First, node.out1);
-        run_to(table, node, Output::Second, node.out2);
-    }
+    let alloc = table.allocator();
+    let mut stage = Stage {
+        table: mem::replace(table, Table::new(alloc)),
+        slots: Vec::new(alloc),
+    };
+    run_step(&mut stage, node);
+    *table = stage.table;
 }
 
 /// Runs a node that nothing refuses on what its cells hold on a stage. It takes no memory.
@@ -65,71 +67,74 @@ pub fn run_step(stage: &mut Stage, node: &Node)
     ensures lasts { Lasts (scene stage.old).objects (scene stage.new).objects }
     ensures stays { Stays stage.old stage.new }
 {
-    run_once(&mut stage.table, node);
+    if let (Some(out1), Some(out2)) = (node.out1, node.out2) {
+        write_both(stage, node, out1, out2);
+    } else {
+        run_to(stage, node, Output::First, node.out1);
+        run_to(stage, node, Output::Second, node.out2);
+    }
 }
 
 /// Runs a node to one of its outputs, if it has that. The inputs are none of the outputs, and are
 /// read where they stand. It takes no memory.
-fn run_to(table: &mut Table, node: &Node, which: Output, output: Option<ObjRef>)
-    requires { IfSome output (RunsTo table.old.objects node.now) }
-    ensures { table.new ≡ with_objects table.old
-        (with_output table.old.objects node.now which output) }
+fn run_to(stage: &mut Stage, node: &Node, which: Output, output: Option<ObjRef>)
+    requires stage { IsArranged stage.old }
+    requires runs { IfSome output (RunsTo (scene stage.old).objects node.now) }
+    ensures value { scene stage.new ≡ with_objects (scene stage.old)
+        (with_output (scene stage.old).objects node.now which output) }
+    ensures stage { IsArranged stage.new }
+    ensures keeps { Keeps stage.old stage.new }
 {
     if let Some(output) = output {
         match node.function.parameters().output {
-            Kind::Image => write_to(table, node, which, output),
-            Kind::Distribution => count_to(table, node.in1, output.name()),
-            Kind::Extremes => locate_to(table, node.in1, output.name()),
+            Kind::Image => write_to(stage, node, which, output),
+            Kind::Distribution => count_to(stage, node.in1, output.name()),
+            Kind::Extremes => locate_to(stage, node.in1, output.name()),
             _ => unreachable!(),
         }
     }
 }
 
 /// Writes what a node gives to an output that is an image.
-fn write_to(table: &mut Table, node: &Node, which: Output, output: ObjRef)
-    requires runs { RunsTo table.old.objects node.now output }
+fn write_to(stage: &mut Stage, node: &Node, which: Output, output: ObjRef)
+    requires stage { IsArranged stage.old }
+    requires runs { RunsTo (scene stage.old).objects node.now output }
     requires kind { (parameters node.now.function).output ≡ kind.Image }
-    ensures { table.new ≡ with_objects table.old
-        (with_output table.old.objects node.now which (Some output)) }
+    ensures value { scene stage.new ≡ with_objects (scene stage.old)
+        (with_output (scene stage.old).objects node.now which (Some output)) }
+    ensures stage { IsArranged stage.new }
+    ensures keeps { Keeps stage.old stage.new }
 {
-    let (desc, samples) = table.take(output);
-    let first = table.image(node.in1).image();
-    let second = second_held(table, node.in2);
-    let (samples, valid) = match samples {
-        Samples::U8(mut samples) => {
-            let valid = run_u8(desc, &mut samples, node, which, &first, &second);
-            (Samples::U8(samples), valid)
-        }
-        Samples::S16(mut samples) => {
-            let valid = run_s16(desc, &mut samples, node, which, &first, &second);
-            (Samples::S16(samples), valid)
-        }
-        Samples::U32(mut samples) => {
-            let valid = run_u32(desc, &mut samples, node, which, &first, &second);
-            (Samples::U32(samples), valid)
-        }
-    };
-    table.put(output, samples, valid);
+    let (desc, mut samples) = stage.take(output);
+    let first = stage.image(node.in1);
+    let second = second_held(stage, node.in2);
+    let valid = write_samples(desc, &mut samples, node, which, &first, &second);
+    stage.put(output, samples, valid);
 }
 
 /// Writes both gradients that a node gives, each to its output: the input is read once for both.
-fn write_both(table: &mut Table, node: &Node, out1: ObjRef, out2: ObjRef)
+fn write_both(stage: &mut Stage, node: &Node, out1: ObjRef, out2: ObjRef)
+    requires stage { IsArranged stage.old }
     requires function { node.now.function ≡ Sobel }
-    requires first { RunsTo table.old.objects node.now out1 }
-    requires second { RunsTo table.old.objects node.now out2 }
+    requires first { RunsTo (scene stage.old).objects node.now out1 }
+    requires second { RunsTo (scene stage.old).objects node.now out2 }
     requires apart { AreApart out2 out1 }
-    ensures { table.new ≡ with_objects table.old
-        (with_output (with_output table.old.objects node.now outputs.First (Some out1))
+    ensures value { scene stage.new ≡ with_objects (scene stage.old)
+        (with_output (with_output (scene stage.old).objects node.now outputs.First (Some out1))
         node.now outputs.Second (Some out2)) }
+    ensures stage { IsArranged stage.new }
+    ensures keeps { Keeps stage.old stage.new }
 {
-    let (desc_x, samples) = table.take(out1);
+    let (desc_x, samples) = stage.take(out1);
     let mut samples_x = shorts_of(samples);
-    let (desc_y, samples) = table.take(out2);
+    let (desc_y, samples) = stage.take(out2);
     let mut samples_y = shorts_of(samples);
-    let image = table.image(node.in1).image();
-    let (x, y) = run_both(node, &image, desc_x, &mut samples_x, desc_y, &mut samples_y);
-    table.put(out2, Samples::S16(samples_y), y);
-    table.put(out1, Samples::S16(samples_x), x);
+    let image = stage.image(node.in1);
+    let (part_x, _) = samples_x.split_at_mut(desc_x.sample_count());
+    let (part_y, _) = samples_y.split_at_mut(desc_y.sample_count());
+    let (x, y) = run_both(node, &image, desc_x, part_x, desc_y, part_y);
+    stage.put(out2, Samples::S16(samples_y), y);
+    stage.put(out1, Samples::S16(samples_x), x);
 }
 
 /// The samples of an S16 image.
@@ -144,23 +149,27 @@ fn shorts_of(samples: Samples) -> Vec<i16>
 }
 
 /// Counts the valid samples of a U8 image in the bins of the distribution under a name.
-fn count_to(table: &mut Table, input: ObjRef, output: u32)
-    requires input { HoldsImage table.old.objects input }
-    requires image { IsImage (image_held table.old.objects input) }
-    requires format { (image_held table.old.objects input).format ≡ U8 }
-    requires kind { IsUnder table.old.objects kind.Distribution output }
-    ensures { table.new ≡ with_objects table.old
-        (with_object table.old.objects (cell_of output)
-        (counted_in (image_held table.old.objects input) (object_under table.old.objects output))) }
+fn count_to(stage: &mut Stage, input: ObjRef, output: u32)
+    requires stage { IsArranged stage.old }
+    requires input { HoldsImage (scene stage.old).objects input }
+    requires image { IsImage (image_held (scene stage.old).objects input) }
+    requires format { (image_held (scene stage.old).objects input).format ≡ U8 }
+    requires kind { IsUnder (scene stage.old).objects kind.Distribution output }
+    ensures value { scene stage.new ≡ with_objects (scene stage.old)
+        (with_object (scene stage.old).objects (cell_of output)
+        (counted_in (image_held (scene stage.old).objects input)
+        (object_under (scene stage.old).objects output))) }
+    ensures stage { IsArranged stage.new }
+    ensures keeps { Keeps stage.old stage.new }
 {
-    let bins = match table.get_held(output) {
+    let bins = match stage.table.get_held(output) {
         Some(object) => bins_of(object),
         None => unreachable!(),
     };
     let mut room = [0; GREATEST_BINS];
     let counts = &mut room[..usize::from(bins.bins())];
-    histogram(&table.image(input).image(), bins, counts);
-    table.set_counts(output, counts);
+    histogram(&stage.image(input), bins, counts);
+    stage.table.set_counts(output, counts);
 }
 
 /// The bins of the distribution that an object is.
@@ -175,32 +184,40 @@ fn bins_of(object: &Object) -> Bins
 }
 
 /// Finds the extremes of an image, for the object under a name.
-fn locate_to(table: &mut Table, input: ObjRef, output: u32)
-    requires input { HoldsImage table.old.objects input }
-    requires image { IsImage (image_held table.old.objects input) }
-    requires format { (image_held table.old.objects input).format ≢ U32 }
-    requires kind { IsUnder table.old.objects kind.Extremes output }
-    ensures { table.new ≡ with_objects table.old
-        (with_object table.old.objects (cell_of output)
-        (ExtremesObject (extremes (image_held table.old.objects input)))) }
+fn locate_to(stage: &mut Stage, input: ObjRef, output: u32)
+    requires stage { IsArranged stage.old }
+    requires input { HoldsImage (scene stage.old).objects input }
+    requires image { IsImage (image_held (scene stage.old).objects input) }
+    requires format { (image_held (scene stage.old).objects input).format ≢ U32 }
+    requires kind { IsUnder (scene stage.old).objects kind.Extremes output }
+    ensures value { scene stage.new ≡ with_objects (scene stage.old)
+        (with_object (scene stage.old).objects (cell_of output)
+        (ExtremesObject (extremes (image_held (scene stage.old).objects input)))) }
+    ensures stage { IsArranged stage.new }
+    ensures keeps { Keeps stage.old stage.new }
 {
-    let extremes = min_max(&table.image(input).image());
-    table.set_extremes(output, extremes);
+    let extremes = min_max(&stage.image(input));
+    stage.table.set_extremes(output, extremes);
 }
 
 /// What a node reads beside its first input, lent to its kernel.
-fn second_held(table: &Table, cell: Option<ObjRef>) -> Second<'_>
-    requires there { IfSome cell (Holds table.now.objects) }
-    requires object { IfSome (option_map (cell_object table.now.objects) cell) IsObject }
-    requires kind { IfSome (option_map (cell_object table.now.objects) cell)
+fn second_held(stage: &Stage, cell: Option<ObjRef>) -> Second<'_>
+    requires stage { IsArranged stage.now }
+    requires there { IfSome cell (Holds (scene stage.now).objects) }
+    requires object { IfSome (option_map (cell_object (scene stage.now).objects) cell) IsObject }
+    requires kind { IfSome (option_map (cell_object (scene stage.now).objects) cell)
         (λ object. IsRead (object_kind object)) }
-    ensures { second_object result ≡ option_map (cell_object table.now.objects) cell }
+    ensures { second_object result
+        ≡ option_map (cell_object (scene stage.now).objects) cell }
 {
     let Some(cell) = cell else {
         return Second::Nothing;
     };
-    match table.get_held(cell.name()) {
-        Some(object) => second_in(object, cell.slot()),
+    match stage.table.get_held(cell.name()) {
+        Some(object) => match object.content() {
+            Content::Virtual(_) => Second::Image(stage.image(cell)),
+            _ => second_in(object, cell.slot()),
+        },
         None => unreachable!(),
     }
 }
@@ -230,6 +247,43 @@ fn second_of(object: &Object) -> Second<'_>
         Content::Threshold(threshold) => Second::Threshold(*threshold),
         Content::Convolution(convolution) => Second::Convolution(convolution),
         _ => unreachable!(),
+    }
+}
+
+/// Writes the first samples, one for each place of an output, and gives its valid rectangle.
+fn write_samples(
+    desc: Desc,
+    samples: &mut Samples,
+    node: &Node,
+    which: Output,
+    first: &Image<'_>,
+    second: &Second<'_>,
+) -> Rect
+    requires format { samples_format samples.old ≡ desc.format }
+    requires room { sample_count desc ≤ length (values samples.old) }
+    requires can_run { CanRunTo node.now first.now (second_object second.now)
+        (image_over desc empty []) }
+    ensures valid { result ≡ (node_image node.now which desc.format first.now
+        (second_object second.now)).valid }
+    ensures samples { take (sample_count desc) (values samples.new)
+        ≡ (node_image node.now which desc.format first.now (second_object second.now)).samples }
+    ensures format { samples_format samples.new ≡ desc.format }
+    ensures count { length (values samples.new) ≡ length (values samples.old) }
+{
+    let count = desc.sample_count();
+    match samples {
+        Samples::U8(samples) => {
+            let (part, _) = samples.split_at_mut(count);
+            run_u8(desc, part, node, which, first, second)
+        }
+        Samples::S16(samples) => {
+            let (part, _) = samples.split_at_mut(count);
+            run_s16(desc, part, node, which, first, second)
+        }
+        Samples::U32(samples) => {
+            let (part, _) = samples.split_at_mut(count);
+            run_u32(desc, part, node, which, first, second)
+        }
     }
 }
 
