@@ -184,8 +184,5 @@ module _ (objects : List Named) (n : Node) (which : Output) (output : Cell) (h :
   pub takes_back : (after before : Context) → after ≡ with_objects before (with_object objects output (with_samples (cell_object objects output) out.valid [])) → HoldsImage after.objects output
   takes_back after before taken = subst (λ (t : Context). HoldsImage t.objects output) (sym taken) (image_after objects output writes_image (image_over (description_of out) out.valid []))
 
-  pub left_format : (after before : Context) → after ≡ with_objects before (with_object objects output (with_samples (cell_object objects output) out.valid [])) → (image_held after.objects output).format ≡ out.format
-  left_format after before taken = grind (arith, object_after objects output writes_image (image_over (description_of out) out.valid []))
-
   pub left_described : (after before : Context) → after ≡ with_objects before (with_object objects output (with_samples (cell_object objects output) out.valid [])) → description_of (image_held after.objects output) ≡ description_of out
   left_described after before taken = grind (arith, object_after objects output writes_image (image_over (description_of out) out.valid []))

@@ -34,7 +34,7 @@ use Rattle.object_table.specs.Table.{cell_object, image_held, HoldsImage}
 use Rattle.graph_run.specs.Steps.{AreApart, TwoSlots, CanRunTo, RunsTo, output_of, with_output}
 use Rattle.graph_run.proofs.KernelLemmas.{gradient_written}
 use Rattle.graph_run.proofs.CellLemmas.{object_beside}
-use Rattle.graph_run.proofs.OutputLemmas.{all_written_is, first_there, reads_image, first_is_image, runs_there, put_back, takes_back, left_format}
+use Rattle.graph_run.proofs.OutputLemmas.{all_written_is, first_there, reads_image, first_is_image, runs_there, put_back, takes_back, left_described}
 use Rattle.graph_run.proofs.RunLemmas.{apart_back, has_of_node, output_beside, runs_beside}
 
 -- ---- two cells that are written
@@ -196,8 +196,10 @@ module _ (before : Context) (n : Node) (one other : Cell) (h : RunsTo before.obj
           pub takes_one : HoldsImage other_back.objects one
           takes_one = takes_back late n First one late_runs images other_back (with_objects before late) back
 
-          pub format_one : S16 ≡ (image_held other_back.objects one).format
-          format_one = sym (left_format late n First one late_runs images other_back (with_objects before late) back ∙ writes_shorts late n one late_runs is)
+          pub described_one : description_of (image_held other_back.objects one) ≡ description_of (image_held l one)
+          described_one =
+              left_described late n First one late_runs images other_back (with_objects before late) back
+              ∙ ap (λ (x : ObjectValue). description_of (image_value x)) late_one
 
           image_late : a ≡ image_held other_back.objects n.in1
           image_late =
@@ -220,5 +222,5 @@ module _ (before : Context) (n : Node) (one other : Cell) (h : RunsTo before.obj
       pub takes_other : HoldsImage both_out.objects other
       takes_other = takes_back one_out.objects n Second other runs_other images both_out one_out is_both_out
 
-      pub format_other : S16 ≡ (image_held both_out.objects other).format
-      format_other = sym (left_format one_out.objects n Second other runs_other images both_out one_out is_both_out ∙ writes_shorts one_out.objects n other runs_other is)
+      pub described_other : description_of (image_held both_out.objects other) ≡ description_of (image_held one_out.objects other)
+      described_other = left_described one_out.objects n Second other runs_other images both_out one_out is_both_out
