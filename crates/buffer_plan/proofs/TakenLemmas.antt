@@ -38,21 +38,29 @@ live_now before after n c written used =
     ap (λ k. is_used (drop k (before ++ n ∷ after)) c) here ∙ ap (λ ns. is_used ns c) (drop-append_seam before (n ∷ after)) ∙ used in
     and_from (is_written (take (length before + 1) (before ++ n ∷ after)) c) (is_used (drop (length before + 1 - 1) (before ++ n ∷ after)) c) begun later
 
+-- of two images in one slot, of which a step writes one, the other is that one if it has been written and is used again
+pub one_when_taken : (before after : List Node) (n : Node) (images : List VirtualOutput) (p : PlanValue) → IsPlan (before ++ n ∷ after) images p → (taken held : VirtualOutput)
+    → In taken images → In held images → held.desc.format ≡ taken.desc.format → writes n taken.cell ≡ true → (is_written before held.cell || writes n held.cell) ≡ true
+    → is_used (n ∷ after) held.cell ≡ true → p.slot_of held.cell ≡ p.slot_of taken.cell → held ≡ taken
+one_when_taken before after n images p plan taken held i j format writer written used same =
+    let uses : is_used (n ∷ after) taken.cell ≡ true =
+    or_left (reads n taken.cell || writes n taken.cell) (is_used after taken.cell) (or_right (reads n taken.cell) (writes n taken.cell) writer) in
+    let a = live_now before after n taken.cell (or_right (is_written before taken.cell) (writes n taken.cell) writer) uses in
+    let b = live_now before after n held.cell written used in
+    let taken_live = In-filter (λ (o : VirtualOutput). is_live (before ++ n ∷ after) o.cell (length before + 1)) taken (of_format taken.desc.format images)
+    (In-filter (λ (o : VirtualOutput). same_format o.desc.format taken.desc.format) taken images i (same_format-refl taken.desc.format)) a in
+    let held_live = In-filter (λ (o : VirtualOutput). is_live (before ++ n ∷ after) o.cell (length before + 1)) held (of_format taken.desc.format images)
+    (In-filter (λ (o : VirtualOutput). same_format o.desc.format taken.desc.format) held images j
+    (ap (λ g. same_format g taken.desc.format) format ∙ same_format-refl taken.desc.format)) b in
+    plan.valid taken.desc.format (length before + 1) held taken held_live taken_live same
+
 pub free_when_taken : (before after : List Node) (n : Node) (images : List VirtualOutput) (p : PlanValue) → IsPlan (before ++ n ∷ after) images p → (taken held : VirtualOutput)
     → In taken images → In held images → held.desc.format ≡ taken.desc.format → writes n taken.cell ≡ true → is_written before held.cell ≡ true
     → p.slot_of held.cell ≡ p.slot_of taken.cell → held.cell ≢ taken.cell → is_used (n ∷ after) held.cell ≡ false
 free_when_taken before after n images p plan taken held i j format writer written same other = elim (cases_Bool (is_used (n ∷ after) held.cell)) [
-  | inl used ↦ (
-      let uses : is_used (n ∷ after) taken.cell ≡ true =
-      or_left (reads n taken.cell || writes n taken.cell) (is_used after taken.cell) (or_right (reads n taken.cell) (writes n taken.cell) writer) in
-      let a = live_now before after n taken.cell (or_right (is_written before taken.cell) (writes n taken.cell) writer) uses in
-      let b = live_now before after n held.cell (or_left (is_written before held.cell) (writes n held.cell) written) used in
-      let taken_live = In-filter (λ (o : VirtualOutput). is_live (before ++ n ∷ after) o.cell (length before + 1)) taken (of_format taken.desc.format images)
-      (In-filter (λ (o : VirtualOutput). same_format o.desc.format taken.desc.format) taken images i (same_format-refl taken.desc.format)) a in
-      let held_live = In-filter (λ (o : VirtualOutput). is_live (before ++ n ∷ after) o.cell (length before + 1)) held (of_format taken.desc.format images)
-      (In-filter (λ (o : VirtualOutput). same_format o.desc.format taken.desc.format) held images j
-      (ap (λ g. same_format g taken.desc.format) format ∙ same_format-refl taken.desc.format)) b in
-      let one = plan.valid taken.desc.format (length before + 1) held taken held_live taken_live same in
+  | inl used ↦
+      (let one =
+      one_when_taken before after n images p plan taken held i j format writer (or_left (is_written before held.cell) (writes n held.cell) written) used same in
       absurd (other (ap (λ (o : VirtualOutput). o.cell) one)))
   | inr none ↦ none
 ]

@@ -46,8 +46,7 @@ use Rattle.graph_run.proofs.OrderLaws.{rounds_in_order}
 use Rattle.graph_run.proofs.SolutionLaws.{rounds_are_solution, only_rising}
 use Rattle.graph_run.proofs.TurnLaws.{each_alone}
 use Rattle.graph_run.proofs.NodeLaws.{written_held}
-use Rattle.graph_run.proofs.UnwrittenLemmas.{whole}
-use Rattle.graph_run.proofs.VerifiedLemmas.{named_by_input, named_by_output}
+use Rattle.graph_run.proofs.VerifiedLemmas.{whole, named_by_input, named_by_output}
 use Rattle.client_model.specs.declared.refusal.Refusal.{Refusal}
 use Rattle.client_model.specs.declared.refusal.Refusal.TheVariants.{Rejected}
 use Rattle.client_model.specs.declared.reply.Reply.{Reply}

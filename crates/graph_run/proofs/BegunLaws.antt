@@ -74,11 +74,11 @@ pub object_held-unwritten : (ws : List (Cell × ObjectValue)) (objects : List Na
 object_held-unwritten [] objects name h = refl
 object_held-unwritten (w ∷ ws) objects name h = grind (arith, object_held-unwritten ws (with_object objects w.0 w.1) name (λ v i. h v (inr i)), object_held-with_object objects w.0 w.1 name)
 
-abbrev kept_virtual : Option ObjectValue → Option ObjectValue → Option ObjectValue
+abbrev pub kept_virtual : Option ObjectValue → Option ObjectValue → Option ObjectValue
 kept_virtual (Some x) (Some y) = Some (if is_virtual_object x then x else y)
 kept_virtual o p = p
 
-object_held-forgotten : (before after : List Named) → map label_of before ≡ map label_of after → (name : ℕ)
+pub object_held-forgotten : (before after : List Named) → map label_of before ≡ map label_of after → (name : ℕ)
     → object_held (forgotten before after) name ≡ kept_virtual (object_held before name) (object_held after name)
 object_held-forgotten [] [] labels name = refl
 object_held-forgotten [] (p ∷ after) labels name = absurd (cc labels)
@@ -96,7 +96,7 @@ object_held-forgotten (o ∷ before) (p ∷ after) labels name =
     either same h (inr v) (inl e) = let f : eqb p.name name ≡ true = ap (λ z. eqb z name) (sym same) ∙ e in rw (v, e, f, v) refl
     either same h (inr v) (inr e) = let f : eqb p.name name ≡ false = ap (λ z. eqb z name) (sym same) ∙ e in rw (v, e, f) h
 
-labels-forgotten : (before after : List Named) → map label_of before ≡ map label_of after → map label_of (forgotten before after) ≡ map label_of after
+pub labels-forgotten : (before after : List Named) → map label_of before ≡ map label_of after → map label_of (forgotten before after) ≡ map label_of after
 labels-forgotten [] [] labels = refl
 labels-forgotten [] (p ∷ after) labels = refl
 labels-forgotten (o ∷ before) [] labels = refl

@@ -24,7 +24,9 @@ pub mod ClaimLemmas
 pub mod StandingLemmas
 pub mod StepLemmas
 pub mod PartLemmas
-pub mod ExchangeLemmas
-pub mod StandInLemmas
-pub mod UnwrittenLemmas
+pub mod SlotLemmas
 pub mod VerifiedLemmas
+pub mod SharingLemmas
+pub mod AgreeLemmas
+pub mod SceneLemmas
+pub mod SlotPoolLemmas

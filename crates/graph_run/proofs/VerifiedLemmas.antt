@@ -1,10 +1,10 @@
 -- A graph that is found able to run: how it runs.
 use Rattle.std.proofs.Common.{◌≡◌, ◌≢◌, ℕ, ◌<◌, Bool, true, false, cond, List, [], ◌∷◌, map, drop, get_or, zero, suc, Option, Some, None, inl, inr, refl, sym, ap, subst, ◌∙◌, arith}
-use Rattle.std.specs.Prelude.{All, ◌==◌, ◌||◌, unwrap_or}
+use Rattle.std.specs.Prelude.{All, ◌==◌, ◌||◌, ◌&&◌, if◌then◌else◌, unwrap_or}
 use Rattle.std.specs.List.{AllPairs, list_any, filter, flat_map}
 use Rattle.std.specs.List.Sorted.{IsStrictlyIncreasing}
 use Rattle.std.specs.Option.{option_map, option_and_then}
-use Rattle.std.proofs.lemmas.Bool.{false_from_ne_true, cases_Bool, cond_both, eqb-true, eq-eqb, or_parts, or_left, or_right, or_from}
+use Rattle.std.proofs.lemmas.Bool.{false_from_ne_true, cases_Bool, cond_both, eqb-true, eq-eqb, or_parts, or_left, or_right, or_from, and_parts, and_from}
 use Rattle.std.proofs.lemmas.List.{length-map, get_or-map}
 use Rattle.std.proofs.lemmas.List.Kept.{AllPairs-from_increasing}
 use Rattle.std.proofs.Math.ListN.{get_or-map as get_or-map_default}
@@ -31,26 +31,24 @@ use Rattle.graph_verify.specs.declared.operand.Operands.{Operands}
 use Rattle.graph_verify.specs.declared.verified.Verified.{Verified}
 use Rattle.graph_verify.specs.Links.{reads, writes, has_twice, is_written}
 use Rattle.graph_verify.specs.Members.{In, AllIn}
-use Rattle.graph_verify.specs.Operand.{operand_of, operand_kind, operands_of, is_virtual as is_virtual_operand}
+use Rattle.graph_verify.specs.Operand.{operand_of, operand_kind, operand_description, operands_of, is_virtual as is_virtual_operand}
 use Rattle.graph_verify.specs.Outlines.{resolved, outlines}
 use Rattle.graph_verify.specs.Verdict.{verdict, verdict_on}
-use Rattle.graph_verify.specs.Verified.{IsVerified}
+use Rattle.graph_verify.specs.Verified.{IsVerified, written_description}
 use Rattle.graph_verify.proofs.LinkLemmas.{same_cell-is, same-from_In, In-outputs, two_writers-permutation}
 use Rattle.graph_verify.proofs.MemberLemmas.{In-left, In-right, In-append, In-from_any, any-from_In, In-filter, In-from_filter, In-map, In-from_map, In-from_flat_map, In-at, AllIn-permutation, AllIn-permutation_back}
 use Rattle.graph_verify.proofs.VerdictLemmas.{CanRun, can_run}
 use Rattle.graph_run.specs.Graph.{begun, begun_as, forgotten, one_by_one, run_of_graph}
-use Rattle.graph_run.specs.Operands.{IsReady, names_cell, StandsFor, CellsStand, operand_held}
+use Rattle.graph_run.specs.Operands.{HoldsOperand, names_cell, StandsFor, CellsStand, operand_held}
 use Rattle.graph_run.proofs.LinkLaws.{All-from_In, In-from_All}
 use Rattle.graph_run.proofs.OperandLaws.{kind-operand, no_fault, outline_of_virtual, known_kept, virtual_written, begun_stands, no_delay, stands_after}
 use Rattle.graph_run.proofs.FoundLemmas.{of_operands}
 use Rattle.graph_run.proofs.NameLaws.{Rising, rising}
 use Rattle.graph_run.proofs.TurnLaws.{each_alone}
-use Rattle.graph_run.proofs.UnwrittenLemmas.{whole, AreOfOne, AreAlike, HaveAlike, AllAlike, stand_alike, runs_alike}
 use Rattle.graph_run.specs.Solution.{ReadImages, kind_in}
-use Rattle.graph_run.specs.Turns.{HoldsKind, CanRunNow, CanRunInTurn, AreVirtual, AreStandIns, exchanged, exchanged_in}
+use Rattle.graph_run.specs.Turns.{HoldsKind, CanRunNow, AreVirtual}
 use Rattle.graph_run.proofs.BegunLaws.{begun_under, object_held-begun, labels-begun, begun_if, begun_stays, virtual_as_operand}
 use Rattle.object_table.proofs.HeldLemmas.{names_of}
-use Rattle.graph_run.proofs.StandInLemmas.{is_output, exchanged_beside, labels-exchanged, object_held-exchanged}
 
 -- ---- cells that stand in a list once
 
@@ -100,84 +98,97 @@ module _ (n : Node) where
 
 -- ---- the virtual images that nodes write
 
+-- the cell of an object by itself
+abbrev pub whole : ℕ → Cell
+whole name = record { name = name; slot = None }
+
+-- whether a name is that of an output
+abbrev pub is_output : List VirtualOutput → ℕ → Bool
+is_output outputs name = list_any (λ o. name == o.cell.name) outputs
+
 -- what is virtual is there
 virtual_found : (found : Option Operand) (declared : Outline) → unwrap_or found Delay ≡ Virtual declared → found ≡ Some (Virtual declared)
 virtual_found None declared e = absurd (cc)
 virtual_found (Some operand) declared e = ap Some e
 
--- an image that stands in for an output of a name is one of the description that this was found to have
-stand_in : (d : Description) (outputs : List VirtualOutput) (images : List ObjectValue) (name : ℕ) (object : ObjectValue)
-    → ((o : VirtualOutput) → In o outputs → name ≡ o.cell.name → o.desc ≡ d) → AreStandIns outputs images → is_output outputs name ≡ true
-    → skeleton (exchanged outputs images name object) ≡ ImageObject (image_over d empty [])
-stand_in d [] images name object known are there = absurd (cc)
-stand_in d (o ∷ outputs) [] name object known are there = absurd (cc)
-stand_in d (o ∷ outputs) (x ∷ images) name object known are there = elim (cases_Bool (is_output outputs name)) [
-  | inl later ↦ stand_in d outputs images name (cond (name == o.cell.name) x object) (λ p i. known p (inr i)) (ap (drop 1) are) later
-  | inr last ↦
-      (let here : (name == o.cell.name) ≡ true = only (name == o.cell.name) (is_output outputs name) there last in
-      let first : skeleton x ≡ ImageObject (image_over o.desc empty []) = ap (λ l. get_or l 0 object) are in
-      ap skeleton (exchanged_beside outputs images name (cond (name == o.cell.name) x object) last ∙ ap (λ b. cond b x object) here)
-      ∙ first
-      ∙ ap (λ e. ImageObject (image_over e empty [])) (known o (inl refl) (eqb-true name o.cell.name here)))
-]
-  where
-    only : (b c : Bool) → (b || c) ≡ true → c ≡ false → b ≡ true
-    only true c there last = refl
-    only false c there last = absurd (cc)
+-- the virtual images that the nodes of a verified graph write
+module _ (is : Cell → Operand) (nodes : List Node) (v : Verified) (how : IsVerified is nodes v) where
+  abbrev written : List VirtualOutput
+  written = v.virtual_outputs.items
 
--- an image, by its skeleton
-image_of_skeleton : (x : ObjectValue) (d : Description) → skeleton x ≡ ImageObject (image_over d empty [])
-    → (image : ImageValue) × (x ≡ ImageObject image) × (description_of image ≡ d)
-image_of_skeleton (ImageObject image) d e = (image, refl, ap (λ y. description_of (image_value y)) e)
-image_of_skeleton other d e = absurd (cc)
+  -- an output is a virtual image that the nodes write, of which all is known
+  output_in : (o : VirtualOutput) → In o written → In o.cell (flat_map outputs v.steps.items) × (is_virtual_operand (is o.cell) ≡ true)
+  output_in o i =
+      In-from_filter (λ cell. is_virtual_operand (is cell)) o.cell (flat_map outputs v.steps.items)
+      (subst (λ l. In o.cell l) how.cells (In-map (λ (p : VirtualOutput). p.cell) o written i))
+
+  pub output_written : (o : VirtualOutput) → In o written → is_written nodes o.cell ≡ true
+  output_written o i =
+      let writer = In-from_flat_map outputs o.cell v.steps.items (output_in o i).0 in
+      any-from_In (λ m. writes m o.cell) writer.0 nodes (AllIn-permutation_back nodes v.steps.items how.order.same_nodes writer.0 writer.1)
+      (same-from_In o.cell (outputs writer.0) writer.2)
+
+  pub output_known : (o : VirtualOutput) → In o written → resolved is nodes o.cell ≡ Image o.desc
+  output_known o i = In-from_All (λ (p : VirtualOutput). resolved is nodes p.cell ≡ Image p.desc) written how.descriptions o i
+
+  -- each virtual image that the nodes write is an output
+  pub in_outputs : (cell : Cell) → is_written nodes cell ≡ true → is_virtual_operand (is cell) ≡ true
+      → (o : VirtualOutput) × In o written × (cell ≡ o.cell)
+  in_outputs cell by_node virtual =
+      let writer = In-from_any (λ m. writes m cell) nodes by_node in
+      let out = In-outputs writer.0 cell v.steps.items (AllIn-permutation nodes v.steps.items how.order.same_nodes writer.0 writer.1) writer.2 in
+      In-from_map (λ (p : VirtualOutput). p.cell) cell written
+      (subst (λ l. In cell l) (sym how.cells) (In-filter (λ c. is_virtual_operand (is c)) cell (flat_map outputs v.steps.items) out virtual))
+
+  -- what is described is an output
+  pub described_output : (cell : Cell) (d : Description) → written_description is nodes cell ≡ Some d → (o : VirtualOutput) × In o written × (o ≡ record { cell = cell; desc = d })
+  described_output cell d e = elim (cases_Bool (is_virtual_operand (is cell) && is_written nodes cell)) [
+    | inl both ↦
+        (let parts = and_parts (is_virtual_operand (is cell)) (is_written nodes cell) both in
+        let output = in_outputs cell parts.1 parts.0 in
+        let found : operand_description (resolved is nodes cell) ≡ Some d = sym (ap (λ b. if b then operand_description (resolved is nodes cell) else None) both) ∙ e in
+        let known : resolved is nodes cell ≡ Image output.0.desc = ap (resolved is nodes) output.2 ∙ output_known output.0 output.1 in
+        let described : ◌≡◌ {A = Option Description} (Some output.0.desc) (Some d) = ap operand_description (sym known) ∙ found in
+        let desc : output.0.desc ≡ d = cc in (
+          output.0,
+          output.1,
+          (ap (λ c. let o : VirtualOutput = record { cell = c; desc = output.0.desc } in o) (sym output.2)
+              ∙ ap (λ x. let o : VirtualOutput = record { cell = cell; desc = x } in o) desc),
+        ))
+    | inr none ↦
+        (let nothing = sym (ap (λ b. if b then operand_description (resolved is nodes cell) else None) none) ∙ e in
+        absurd (cc))
+  ]
+
+  pub output_described : (o : VirtualOutput) → In o written → written_description is nodes o.cell ≡ Some o.desc
+  output_described o i =
+      ap (λ b. if b then operand_description (resolved is nodes o.cell) else None)
+      (and_from (is_virtual_operand (is o.cell)) (is_written nodes o.cell) (output_in o i).1 (output_written o i))
+      ∙ ap operand_description (output_known o i)
 
 module _ (objects : List Named) (nodes : List Node) (v : Verified) (work : ℕ) (how : IsVerified (operand_held objects) nodes v)
     (runs : verdict work (operand_held objects) nodes ≡ None) where
-  abbrev is : Cell → Operand
+  abbrev pub is : Cell → Operand
   is = operand_held objects
 
-  abbrev known : Cell → Operand
+  abbrev pub known : Cell → Operand
   known = resolved is nodes
 
-  abbrev outs : List VirtualOutput
+  abbrev pub outs : List VirtualOutput
   outs = v.virtual_outputs.items
 
-  abbrev steps : List Node
+  abbrev pub steps : List Node
   steps = v.steps.items
 
-  can : CanRun work is nodes
+  pub can : CanRun work is nodes
   can = can_run work is nodes runs
 
-  -- an output is a virtual image that the nodes write, of which all is known
-  output_in : (o : VirtualOutput) → In o outs → In o.cell (flat_map outputs steps) × (is_virtual_operand (is o.cell) ≡ true)
-  output_in o i =
-      In-from_filter (λ cell. is_virtual_operand (is cell)) o.cell (flat_map outputs steps)
-      (subst (λ l. In o.cell l) how.cells (In-map (λ (p : VirtualOutput). p.cell) o outs i))
-
-  output_written : (o : VirtualOutput) → In o outs → is_written nodes o.cell ≡ true
-  output_written o i =
-      let writer = In-from_flat_map outputs o.cell steps (output_in o i).0 in
-      any-from_In (λ m. writes m o.cell) writer.0 nodes (AllIn-permutation_back nodes steps how.order.same_nodes writer.0 writer.1)
-      (same-from_In o.cell (outputs writer.0) writer.2)
-
-  output_known : (o : VirtualOutput) → In o outs → known o.cell ≡ Image o.desc
-  output_known o i = In-from_All (λ (p : VirtualOutput). known p.cell ≡ Image p.desc) outs how.descriptions o i
-
-  -- each virtual image that the nodes write is an output
-  in_outputs : (cell : Cell) → is_written nodes cell ≡ true → is_virtual_operand (is cell) ≡ true
-      → (o : VirtualOutput) × In o outs × (cell ≡ o.cell)
-  in_outputs cell written virtual =
-      let writer = In-from_any (λ m. writes m cell) nodes written in
-      let out = In-outputs writer.0 cell steps (AllIn-permutation nodes steps how.order.same_nodes writer.0 writer.1) writer.2 in
-      In-from_map (λ (p : VirtualOutput). p.cell) cell outs
-      (subst (λ l. In cell l) (sym how.cells) (In-filter (λ c. is_virtual_operand (is c)) cell (flat_map outputs steps) out virtual))
-
   -- it is held under a name without a slot
-  output_object : (o : VirtualOutput) → In o outs
+  pub output_object : (o : VirtualOutput) → In o outs
       → (◌≡◌ {A = Option ℕ} o.cell.slot None) × ((image : VirtualImage) × (object_held objects o.cell.name ≡ Some (VirtualObject image)))
-  output_object o i = grind (arith, outline_of_virtual (is o.cell) (output_in o i).1, output_in o i)
+  output_object o i = grind (arith, outline_of_virtual (is o.cell) (output_in is nodes v how o i).1, output_in is nodes v how o i)
 
-  output_whole : (o : VirtualOutput) → In o outs → o.cell ≡ whole o.cell.name
+  pub output_whole : (o : VirtualOutput) → In o outs → o.cell ≡ whole o.cell.name
   output_whole o i = ap (λ (s : Option ℕ). let c : Cell = record { name = o.cell.name; slot = s } in c) (output_object o i).0
 
   once_each : has_twice (map (λ (o : VirtualOutput). o.cell) outs) ≡ false
@@ -210,61 +221,10 @@ module _ (objects : List Named) (nodes : List Node) (v : Verified) (work : ℕ) 
   own_operand o there = ap (λ found. unwrap_or (option_map operand_of (option_and_then (in_slot None) found)) Delay) there
 
   -- what isn't an output begins as it was
-  begun_kept : (name : ℕ) (x : ObjectValue) → object_held objects name ≡ Some x → is_output outs name ≡ false → x ≡ begun_under known nodes name x
-  begun_kept name x there none = grind (arith, cases_Bool, in_outputs, own_operand, virtual_as_operand, any-from_In, eq-eqb, begun_stays)
+  pub begun_kept : (name : ℕ) (x : ObjectValue) → object_held objects name ≡ Some x → is_output outs name ≡ false → x ≡ begun_under known nodes name x
+  begun_kept name x there none = grind (arith, cases_Bool, in_outputs is nodes v how, own_operand, virtual_as_operand, any-from_In, eq-eqb, begun_stays)
 
-  module _ (images : List ObjectValue) (are : AreStandIns outs images) where
-    -- an output begins as an image of the description that stands in for it
-    stands_in : (name : ℕ) (x : ObjectValue) → object_held objects name ≡ Some x → is_output outs name ≡ true
-        → (is_written nodes (whole name) ≡ true) × AreOfOne (exchanged outs images name x) (begun_under known nodes name x)
-    stands_in name x there some =
-        let output = In-from_any (λ (p : VirtualOutput). name == p.cell.name) outs some in
-        let d = output.0.desc in
-        let at : (p : VirtualOutput) → In p outs → name ≡ p.cell.name → p.cell ≡ whole name = λ p i same. output_whole p i ∙ ap whole (sym same) in
-        let named_so : name ≡ output.0.cell.name = eqb-true name output.0.cell.name output.2 in
-        let here = at output.0 output.1 named_so in
-        let found : known (whole name) ≡ Image d = ap known (sym here) ∙ output_known output.0 output.1 in
-        let written : is_written nodes (whole name) ≡ true = ap (is_written nodes) (sym here) ∙ output_written output.0 output.1 in
-        let virtual = (output_object output.0 output.1).1 in
-        let was : x ≡ VirtualObject virtual.0 = let e = sym there ∙ ap (object_held objects) named_so ∙ virtual.1 in cc in
-        let one_of : (p : VirtualOutput) → In p outs → name ≡ p.cell.name → p.desc ≡ d =
-        λ p i same. let e : Image p.desc ≡ Image d = sym (output_known p i) ∙ ap known (at p i same) ∙ found in cc in
-        let image = image_of_skeleton (exchanged outs images name x) d (stand_in d outs images name x one_of are some) in (
-          written,
-          record {
-            one = image.0;
-            other = new_image d.width d.height d.format;
-            is_one = image.1;
-            is_other = ap (λ b. begun_if b x (known (whole name))) written ∙ ap (λ y. begun_as y (known (whole name))) was
-                ∙ ap (begun_as (VirtualObject virtual.0)) found;
-            same = image.2;
-          },
-        )
-
-    alike : (name : ℕ) (x : ObjectValue) → object_held objects name ≡ Some x
-        → AreAlike nodes name (exchanged outs images name x) (begun_under known nodes name x)
-    alike name x there = elim (cases_Bool (is_output outs name)) [
-      | inl some ↦ inr (stands_in name x there some)
-      | inr none ↦ inl (exchanged_beside outs images name x none ∙ begun_kept name x there none)
-    ]
-
-    -- the graph begins with objects that are alike to those that a run is said to begin with
-    begun_alike : AllAlike nodes (exchanged_in outs images objects) (map (begun known nodes) objects)
-    begun_alike =
-        record {
-          labels = labels-exchanged outs images objects ∙ sym (labels-begun known nodes objects);
-          objects = λ name.
-              subst (λ o. HaveAlike nodes name o (object_held (map (begun known nodes) objects) name)) (sym (object_held-exchanged outs images objects name))
-              (subst (HaveAlike nodes name (option_map (exchanged outs images name) (object_held objects name)))
-              (sym (object_held-begun known nodes objects name)) (each name (object_held objects name) refl));
-        }
-      where
-        each : (name : ℕ) (found : Option ObjectValue) → object_held objects name ≡ found
-            → HaveAlike nodes name (option_map (exchanged outs images name) found) (option_map (begun_under known nodes name) found)
-        each name None there = tt
-        each name (Some x) there = alike name x there
-
-  -- ---- each node can run at its turn
+  -- ---- each node can run where its cells hold what they were found to be
 
   module _ (stand : CellsStand is nodes objects) where
     -- a cell that a node names is then of the kind that stands there
@@ -272,9 +232,9 @@ module _ (objects : List Named) (nodes : List Node) (v : Verified) (work : ℕ) 
         → operand_kind (known cell) ≡ wanted
     known_kind n cell wanted i named_there stands = elim (cases_Bool (is_virtual_operand (is cell))) [
       | inl virtual ↦
-          (let output = in_outputs cell (virtual_written work is nodes can n cell i named_there virtual) virtual in
+          (let output = in_outputs is nodes v how cell (virtual_written work is nodes can n cell i named_there virtual) virtual in
           let outline = outline_of_virtual (is cell) virtual in
-          ap operand_kind (ap known output.2 ∙ output_known output.0 output.1) ∙ sym (subst (λ o. StandsFor o wanted) outline.1 stands))
+          ap operand_kind (ap known output.2 ∙ output_known is nodes v how output.0 output.1) ∙ sym (subst (λ o. StandsFor o wanted) outline.1 stands))
       | inr real ↦ ap operand_kind (known_kept (is cell) (outlines is nodes cell) real) ∙ real_kind (is cell) wanted real stands
     ]
       where
@@ -288,11 +248,9 @@ module _ (objects : List Named) (nodes : List Node) (v : Verified) (work : ℕ) 
     kind_found None operand wanted e is_kind = absurd (cc)
     kind_found (Some x) operand wanted e is_kind = grind (arith, kind-operand x)
 
-    can_run_now : (n : Node) (now : List Named) → In n nodes → IsNode n → All (λ operand. StandsFor (is operand.0) operand.1) (operands n)
-        → CellsStand known nodes now → CanRunNow now n
-    can_run_now n now i node stands stand_now =
-        let found : (cell : Cell) → names_cell n cell ≡ true → option_map operand_of (held now cell) ≡ Some (known cell) =
-        λ cell named_there. stand_now.found n cell i named_there in
+    pub can_run_now : (n : Node) (now : List Named) → In n nodes → IsNode n → All (λ operand. StandsFor (is operand.0) operand.1) (operands n)
+        → ((cell : Cell) → names_cell n cell ≡ true → HoldsOperand now cell (known cell)) → CanRunNow now n
+    can_run_now n now i node stands found =
         record {
           node = node;
           kinds =
@@ -308,69 +266,9 @@ module _ (objects : List Named) (nodes : List Node) (v : Verified) (work : ℕ) 
               ∙ each_alone work is nodes runs n i;
         }
 
-    in_turn : ((n : Node) → In n nodes → IsNode n)
-        → ((n : Node) → In n nodes → All (λ operand. StandsFor (is operand.0) operand.1) (operands n))
-        → (rest : List Node) (now : List Named) → AllIn rest nodes → CellsStand known nodes now
-        → CanRunInTurn rest now
-    in_turn are_nodes stands [] now within stand_now = tt
-    in_turn are_nodes stands (n ∷ rest) now within stand_now =
-        let i = within n (inl refl) in (
-          can_run_now n now i (are_nodes n i) (stands n i) stand_now,
-          in_turn are_nodes stands rest (with_written now (written_by n (held now))) (λ m j. within m (inr j))
-              (stands_after known nodes now stand_now n i (no_fault n known (each_alone work is nodes runs n i))),
-        )
-
-    module _ (are_nodes : (n : Node) → In n nodes → IsNode n)
-        (stands : (n : Node) → In n nodes → All (λ operand. StandsFor (is operand.0) operand.1) (operands n))
-        (images : List ObjectValue) (are : AreStandIns outs images) where
-      abbrev begin : List Named
-      begin = map (begun known nodes) objects
-
-      stand_begun : CellsStand known nodes begin
-      stand_begun = begun_stands work is nodes can objects stand
-
-      pub steps_run : CanRunInTurn steps (exchanged_in outs images objects)
-      steps_run =
-          in_turn are_nodes stands steps (exchanged_in outs images objects) (AllIn-permutation_back nodes steps how.order.same_nodes)
-          (stand_alike nodes (exchanged_in outs images objects) begin (begun_alike images are) known stand_begun)
-
-      read_images : ReadImages nodes begin
-      read_images =
-          All-from_In (λ n. kind_in begin n.in1 ≡ Some kind.Image) nodes
-          (λ n i. (of_operands (HoldsKind begin) n (can_run_now n begin i (are_nodes n i) (stands n i) stand_begun).kinds).in1)
-
-      -- the run is the nodes in turn
-      pub run_is : AllPairs (λ a b. a.name < b.name) objects
-          → forgotten objects (one_by_one steps (exchanged_in outs images objects)) ≡ run_of_graph known nodes objects
-      run_is pairs =
-          ap (forgotten objects)
-          (runs_alike nodes (exchanged_in outs images objects) begin (begun_alike images are) steps how.order can.one_writer can.no_cycle
-          (subst Rising (sym (labels-begun known nodes objects)) (rising objects pairs)) (no_delay known nodes begin stand_begun) read_images)
-
 -- ---- a graph that is ready to run on what a table holds
 
 -- names that increase, each below all later ones
-pairs_of : (objects : List Named) → IsStrictlyIncreasing (names_of objects) → AllPairs (λ a b. a.name < b.name) objects
+pub pairs_of : (objects : List Named) → IsStrictlyIncreasing (names_of objects) → AllPairs (λ a b. a.name < b.name) objects
 pairs_of objects h i j d less within =
     grind (arith, AllPairs-from_increasing (names_of objects) h i j 0 less (omega (arith, within, length-map objects (λ (o : Named). o.name))), names_of objects, length-map objects (λ (o : Named). o.name), get_or-map (λ (o : Named). o.name) objects i d 0 (omega (arith, less, within)), get_or-map (λ (o : Named). o.name) objects j d 0 within)
-
-module _ (objects : List Named) (names : IsStrictlyIncreasing (names_of objects)) (nodes : List Node) (v : Verified)
-    (h : IsReady objects nodes v) where
-  pub ready_outputs : AreVirtual objects v.virtual_outputs.items
-  ready_outputs = are_virtual objects nodes v h.runs.0 h.verified h.runs.1
-
-  module _ (images : List ObjectValue) (are : AreStandIns v.virtual_outputs.items images) where
-    abbrev began : List Named
-    began = exchanged_in v.virtual_outputs.items images objects
-
-    are_nodes : (n : Node) → In n nodes → IsNode n
-    are_nodes = In-from_All IsNode nodes h.are_nodes
-
-    stands : (n : Node) → In n nodes → All (λ operand. StandsFor (operand_held objects operand.0) operand.1) (operands n)
-    stands = In-from_All (λ n. All (λ operand. StandsFor (operand_held objects operand.0) operand.1) (operands n)) nodes h.kinds
-
-    pub ready_steps : CanRunInTurn v.steps.items began
-    ready_steps = steps_run objects nodes v h.runs.0 h.verified h.runs.1 h.cells are_nodes stands images are
-
-    pub ready_run : forgotten objects (one_by_one v.steps.items began) ≡ run_of_graph (resolved (operand_held objects) nodes) nodes objects
-    ready_run = run_is objects nodes v h.runs.0 h.verified h.runs.1 h.cells are_nodes stands images are (pairs_of objects names)

@@ -7,3 +7,4 @@ pub mod Steps
 pub mod Turns
 pub mod Examples
 pub mod Stage
+pub mod Slots

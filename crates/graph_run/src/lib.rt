@@ -7,6 +7,7 @@
 //!
 //! - `kernel`: the kernel of each function
 //! - `operand`: objects as operands
+//! - `stage`: what nodes run on: a table, and slots in which virtual images are images for a while
 //! - `step`: a node that runs on what its cells hold
 //! - `verify`: the verdict on a graph, and the order in which its nodes run
 //! - `runs`: a graph that runs

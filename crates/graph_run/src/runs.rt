@@ -1,35 +1,48 @@
-//! Graphs that run: the virtual images that their nodes write are images as they do, and themselves
-//! again afterwards.
-ghost use Rattle.std.specs.Prelude.{◌≡◌, [], List, length, map, All, IfOk, OnOk, OnErr};
+//! Graphs that run: the virtual images that their nodes write stand in slots as they do, and are
+//! themselves again afterwards.
+ghost use Rattle.std.specs.Prelude.{◌≡◌, ◌≤◌, ◌<◌, ◌+◌, ◌++◌, ◌^◌, [], List, length, map, All};
+ghost use Rattle.std.specs.Prelude.{IfOk, OnOk, OnErr, slice_get, ℕ, if◌then◌else◌};
 ghost use Rattle.std.specs.List.Sorted.{IsStrictlyIncreasing};
-ghost use Rattle.vx_base.specs.declared.format.Format.{Format};
+ghost use Rattle.vx_base.specs.declared.format.Format.{Format as SampleFormat};
 ghost use Rattle.vx_base.specs.declared.node.Node.{Node as NodeFields};
+ghost use Rattle.vx_base.specs.Cell.{Cell};
 ghost use Rattle.vx_base.specs.Object.{IsObject};
-ghost use Rattle.pixel_pool.specs.Pool.{KeepsLent};
-ghost use Rattle.object_table.specs.Blocks.{blocks_of_all, LendsAtLeast, LendsMore, LendsLess};
+ghost use Rattle.vx_base.specs.Sample.{same_format};
+ghost use Rattle.pixel_pool.specs.Pool.{KeepsLent, blocks_of, lent_of};
+ghost use Rattle.object_table.specs.Blocks.{LendsAtLeast, LendsMore, LendsLess};
 ghost use Rattle.object_table.specs.Context.{with_objects};
-ghost use Rattle.object_table.specs.Uses.{nodes_in};
+ghost use Rattle.graph_verify.specs.declared.operand.Operand.{Operand};
 ghost use Rattle.graph_verify.specs.Outlines.{resolved};
-ghost use Rattle.graph_run.specs.Graph.{forgotten, one_by_one, run_of_graph};
+ghost use Rattle.graph_verify.specs.Verified.{IsVerified};
+ghost use Rattle.buffer_plan.specs.Places.{told};
+ghost use Rattle.buffer_plan.specs.Plan.{IsPlan};
+ghost use Rattle.graph_run.specs.Graph.{run_of_graph};
 ghost use Rattle.graph_run.specs.Lasting.{Lasts};
 ghost use Rattle.graph_run.specs.Operands.{operand_held, IsReady};
-ghost use Rattle.graph_run.specs.Turns.{CanRunInTurn, AreVirtual, AreExchanged, exchanged_in};
-ghost use Rattle.graph_run.specs.Turns.{handed_out, AreStandIns};
+ghost use Rattle.graph_run.specs.Stage.{IsStage};
+ghost use Rattle.graph_run.specs.Slots.{room_of, rooms_for, planned_rooms, slot_place};
+ghost use Rattle.graph_run.specs.Slots.{AreEmpty, AreShared, claimed_at, slot_blocks};
+ghost use Rattle.graph_run.specs.Turns.{AreVirtual};
 
-use crate::step::run_once;
+use crate::stage::{Slot, Stage};
+use crate::step::run_step;
+use buffer_plan::Plan;
 use graph_verify::{Verified, VirtualOutput};
-use object_table::{Content, Object, Stored, Table};
+use object_table::Table;
 use pixel_pool::Pool;
 use std::alloc::{AllocError, Global};
-use vx_base::Node;
+use std::mem;
+use vx_base::{Format, ObjRef, Rect};
 
 /// Runs a verified graph on what the cells of its nodes hold in a table: its nodes in an order in
-/// which they can run, each once. Images in blocks of the pool stand in for the virtual images that
-/// the nodes write; these are themselves again at the end, and the blocks are given back. All
-/// memory is taken first: an error has changed nothing but what is free in the pool.
+/// which they can run, each once. The virtual images that the nodes write stand in blocks of the
+/// pool, which those share that the plan says; they are themselves again at the end, and the blocks
+/// are given back. All memory is taken first: an error has changed nothing but what is free in the
+/// pool.
 pub fn run(
     alloc: Global,
     verified: &Verified,
+    plan: &Plan,
     table: &mut Table,
     pool: &mut Pool,
 ) -> Result<(), AllocError>
@@ -37,6 +50,8 @@ pub fn run(
     requires names { IsStrictlyIncreasing (map (λ o. o.name) table.old.objects) }
     requires ready { (nodes : List NodeFields) ×
         IsReady table.old.objects nodes verified.now }
+    requires plan { IsPlan verified.now.steps.items verified.now.virtual_outputs.items
+        (told plan.now) }
     ensures value { OnOk result ((nodes : List NodeFields) →
         IsReady table.old.objects nodes verified.now →
         table.new ≡ with_objects table.old
@@ -44,100 +59,158 @@ pub fn run(
     ensures lasts { Lasts table.old.objects table.new.objects }
     ensures lent { KeepsLent pool.old pool.new }
     ensures err { OnErr result (table.new ≡ table.old) }
+    ensures adds { (format : SampleFormat) → blocks_of pool.new format
+        ≤ blocks_of pool.old format + (told plan.now).slot_count format }
 {
-    let mut images = stand_ins(alloc, pool, &verified.virtual_outputs)?;
-    run_over(
-        table,
-        &verified.steps,
-        &verified.virtual_outputs,
-        &mut images,
-    );
-    end_all(images, pool);
+    let slots = slots_for(alloc, pool, plan)?;
+    let empty = Table::new(table.allocator());
+    let mut stage = Stage {
+        table: mem::replace(table, empty),
+        slots,
+    };
+    run_steps(&mut stage, verified, plan);
+    let Stage { table: own, slots } = stage;
+    *table = own;
+    give_back(slots, pool);
     Ok(())
 }
 
-/// Runs nodes one after the other, while these images stand in for the virtual images that they
-/// write. It takes no memory.
-fn run_over(table: &mut Table, steps: &[Node], outputs: &[VirtualOutput], images: &mut [Object])
-    requires objects { All (λ o. IsObject o.object) table.old.objects }
-    requires names { IsStrictlyIncreasing (map (λ o. o.name) table.old.objects) }
-    requires outputs { AreVirtual table.old.objects outputs.now }
-    requires stand_ins { AreStandIns outputs.now images.old }
-    requires steps { CanRunInTurn steps.now
-        (exchanged_in outputs.now images.old table.old.objects) }
-    requires images { All IsObject images.old }
-    ensures value { table.new ≡ with_objects table.old
-        (forgotten table.old.objects (one_by_one steps.now
-        (exchanged_in outputs.now images.old table.old.objects))) }
-    ensures lasts { Lasts table.old.objects table.new.objects }
-    ensures blocks { (format : Format) →
-        blocks_of_all images.new format ≡ blocks_of_all images.old format }
+/// Runs the nodes of a verified graph one after the other. Before a node runs, the virtual images
+/// that it writes claim their slots. It takes no memory.
+fn run_steps(stage: &mut Stage, verified: &Verified, plan: &Plan)
+    requires stage { IsStage stage.old }
+    requires empty { AreEmpty stage.old.slots.items }
+    requires rooms { map room_of stage.old.slots.items ≡ planned_rooms (told plan.now) }
+    requires ready { (nodes : List NodeFields) ×
+        IsReady stage.old.table.objects nodes verified.now }
+    requires plan { IsPlan verified.now.steps.items verified.now.virtual_outputs.items
+        (told plan.now) }
+    ensures value { (nodes : List NodeFields) →
+        IsReady stage.old.table.objects nodes verified.now →
+        stage.new.table ≡ with_objects stage.old.table (run_of_graph
+        (resolved (operand_held stage.old.table.objects) nodes) nodes stage.old.table.objects) }
+    ensures lasts { Lasts stage.old.table.objects stage.new.table.objects }
+    ensures rooms { map room_of stage.new.slots.items ≡ map room_of stage.old.slots.items }
 {
-    exchange_all(table, outputs, images);
-    run_steps(table, steps);
-    exchange_all(table, outputs, images);
+    for node in &verified.steps {
+        claim_for(stage, verified, plan, node.out1);
+        claim_for(stage, verified, plan, node.out2);
+        run_step(stage, node);
+    }
 }
 
-/// An image for each virtual image that nodes write, which holds anything yet. An error has given
-/// back what was taken.
-fn stand_ins(
-    alloc: Global,
-    pool: &mut Pool,
-    outputs: &[VirtualOutput],
-) -> Result<Vec<Object>, AllocError>
-    ensures value { IfOk result (λ images. AreStandIns outputs.now images.items) }
-    ensures objects { IfOk result (λ images. All IsObject images.items) }
-    ensures lends { IfOk result (λ images.
-        LendsMore pool.old pool.new (blocks_of_all images.items)) }
-    ensures err { OnErr result (KeepsLent pool.old pool.new) }
+/// An output of a node claims its slot, if it is a virtual image.
+fn claim_for(stage: &mut Stage, verified: &Verified, plan: &Plan, output: Option<ObjRef>)
+    requires stage { IsStage stage.old }
+    requires verified { (is : Cell → Operand) × (nodes : List NodeFields) ×
+        IsVerified is nodes verified.now }
+    requires plan { IsPlan verified.now.steps.items verified.now.virtual_outputs.items
+        (told plan.now) }
+    requires outputs { AreVirtual stage.old.table.objects verified.now.virtual_outputs.items }
+    requires shared { AreShared (told plan.now) verified.now.virtual_outputs.items
+        stage.old.slots.items }
+    ensures stage { IsStage stage.new }
+    ensures table { stage.new.table ≡ stage.old.table }
+    ensures slots { (k : ℕ) → slice_get stage.new.slots.items k
+        ≡ claimed_at (told plan.now) verified.now.virtual_outputs.items output k
+        (slice_get stage.old.slots.items k) }
 {
-    let mut images = Vec::with_capacity(alloc, outputs.len())?;
-    for output in outputs {
-        match Stored::unwritten(pool, output.desc) {
-            Ok(image) => images.push_reserved(Object::new(Content::Image(image))),
-            Err(fault) => {
-                end_all(images, pool);
-                return Err(fault);
-            }
+    let Some(cell) = output else {
+        return;
+    };
+    let Some(desc) = verified.desc_of(cell) else {
+        return;
+    };
+    let Some(slot) = plan.slot_of(cell) else {
+        return;
+    };
+    let at = place_of(plan, desc.format(), slot);
+    stage.claim(at, VirtualOutput { cell, desc });
+}
+
+/// The place of a slot of a format among all slots.
+fn place_of(plan: &Plan, format: Format, slot: usize) -> usize
+    requires { slot_place (told plan.now) format slot < 2 ^ 64 }
+    ensures { result ≡ slot_place (told plan.now) format slot }
+{
+    match format {
+        Format::U8 => slot,
+        Format::S16 => plan.slot_count(Format::U8) + slot,
+        Format::U32 => plan.slot_count(Format::U8) + plan.slot_count(Format::S16) + slot,
+    }
+}
+
+/// The slots of a plan, in which nothing stands. An error has given back what was taken.
+fn slots_for(alloc: Global, pool: &mut Pool, plan: &Plan) -> Result<Vec<Slot>, AllocError>
+    ensures rooms { IfOk result (λ slots.
+        map room_of slots.items ≡ planned_rooms (told plan.now)) }
+    ensures empty { IfOk result (λ slots. AreEmpty slots.items) }
+    ensures lends { IfOk result (λ slots.
+        LendsMore pool.old pool.new (slot_blocks slots.items)) }
+    ensures err { OnErr result (KeepsLent pool.old pool.new) }
+    ensures adds { (format : SampleFormat) → blocks_of pool.new format
+        ≤ blocks_of pool.old format + (told plan.now).slot_count format }
+{
+    let mut slots = Vec::new(alloc);
+    match add_all(&mut slots, pool, plan) {
+        Ok(()) => Ok(slots),
+        Err(fault) => {
+            give_back(slots, pool);
+            Err(fault)
         }
     }
-    Ok(images)
 }
 
-/// Gives the blocks of objects back.
-fn end_all(objects: Vec<Object>, pool: &mut Pool)
-    requires { LendsAtLeast pool.old (blocks_of_all objects.items) }
-    ensures { LendsLess pool.old pool.new (blocks_of_all objects.items) }
+/// Adds the slots of a plan to none.
+fn add_all(slots: &mut Vec<Slot>, pool: &mut Pool, plan: &Plan) -> Result<(), AllocError>
+    requires { slots.old.items ≡ [] }
+    ensures rooms { OnOk result (map room_of slots.new.items ≡ planned_rooms (told plan.now)) }
+    ensures empty { AreEmpty slots.new.items }
+    ensures lends { LendsMore pool.old pool.new (slot_blocks slots.new.items) }
+    ensures adds { (format : SampleFormat) → blocks_of pool.new format
+        ≤ blocks_of pool.old format + (told plan.now).slot_count format }
 {
-    for object in objects {
-        object.end(pool);
+    add_slots(slots, pool, plan, Format::U8)?;
+    add_slots(slots, pool, plan, Format::S16)?;
+    add_slots(slots, pool, plan, Format::U32)
+}
+
+/// Adds the slots of a format.
+fn add_slots(
+    slots: &mut Vec<Slot>,
+    pool: &mut Pool,
+    plan: &Plan,
+    format: Format,
+) -> Result<(), AllocError>
+    requires { AreEmpty slots.old.items }
+    ensures rooms { OnOk result (map room_of slots.new.items
+        ≡ map room_of slots.old.items ++ rooms_for (told plan.now) format) }
+    ensures empty { AreEmpty slots.new.items }
+    ensures lends { (f : SampleFormat) → lent_of pool.new f + slot_blocks slots.old.items f
+        ≡ lent_of pool.old f + slot_blocks slots.new.items f }
+    ensures adds { (f : SampleFormat) → blocks_of pool.new f ≤ blocks_of pool.old f
+        + (if same_format format f then (told plan.now).slot_count format else 0) }
+{
+    let count = plan.slot_count(format);
+    slots.reserve(count)?;
+    for k in 0..count {
+        let samples = pool.take(format, plan.slot_samples(format, k))?;
+        slots.push_reserved(Slot {
+            samples,
+            valid: Rect::empty(),
+            holder: None,
+        });
     }
+    Ok(())
 }
 
-/// Each object changes places with the one that is held under its output's name. It takes no
-/// memory.
-fn exchange_all(table: &mut Table, outputs: &[VirtualOutput], objects: &mut [Object])
-    requires count { length objects.old ≡ length outputs.now }
-    requires come { All (λ object. nodes_in object ≡ []) objects.old }
-    requires gone { AreExchanged table.old.objects outputs.now }
-    ensures value { table.new ≡ with_objects table.old
-        (exchanged_in outputs.now objects.old table.old.objects) }
-    ensures handed_out { objects.new ≡ handed_out outputs.now objects.old table.old.objects }
+/// Gives the blocks of slots back.
+fn give_back(slots: Vec<Slot>, pool: &mut Pool)
+    requires { LendsAtLeast pool.old (slot_blocks slots.items) }
+    ensures lent { LendsLess pool.old pool.new (slot_blocks slots.items) }
+    ensures blocks { (format : SampleFormat) → blocks_of pool.new format ≤ blocks_of pool.old format }
 {
-    for (k, output) in outputs.iter().enumerate() {
-        table.exchange(output.cell.name(), &mut objects[k]);
-    }
-}
-
-/// Runs nodes one after the other. It takes no memory.
-fn run_steps(table: &mut Table, steps: &[Node])
-    requires objects { All (λ o. IsObject o.object) table.old.objects }
-    requires names { IsStrictlyIncreasing (map (λ o. o.name) table.old.objects) }
-    requires steps { CanRunInTurn steps.now table.old.objects }
-    ensures value { table.new ≡ with_objects table.old (one_by_one steps.now table.old.objects) }
-    ensures lasts { Lasts table.old.objects table.new.objects }
-{
-    for node in steps {
-        run_once(table, node);
+    for slot in slots {
+        pool.give_back(slot.samples);
     }
 }

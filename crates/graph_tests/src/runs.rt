@@ -7,6 +7,7 @@ ghost use Rattle.object_table.specs.Context.{new_context};
 use crate::cells::holds;
 use crate::graphs::not;
 use crate::tables::hold;
+use buffer_plan::Plan;
 use graph_run::{operand_in, operand_of, run, run_node, run_once, verify_in};
 use graph_verify::{Graph, Operand};
 use image_core::{ImageMut, Second};
@@ -119,7 +120,8 @@ fn run_two(
     table.add_node(3, not(4, 2)?)?;
     table.add_node(3, not(1, 4)?)?;
     let verified = verify_in(alloc, table, table.graph(3), 2)?;
-    run(alloc, &verified, table, pool)?;
+    let plan = Plan::new(alloc, &verified)?;
+    run(alloc, &verified, &plan, table, pool)?;
     Ok(())
 }
 
@@ -134,5 +136,8 @@ fn a_graph_runs_through_a_virtual_image(rt: HostRuntime) -> Result<(), Fail> {
     assert!(rt; holds(&mut table, 1, [10, 255]));
     assert!(rt; holds(&mut table, 2, [10, 255]));
     assert_eq!(rt; (table.held(), table.charged_bytes()), (4, 4));
+
+    // The block in which the virtual image stood is free again.
+    assert_eq!(rt; (pool.blocks(Format::U8), pool.free(Format::U8)), (3, 1));
     Ok(())
 }

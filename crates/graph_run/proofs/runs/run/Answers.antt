@@ -1,26 +1,48 @@
-use Rattle.std.proofs.Common.{◌∙◌, ap, sym, subst}
-use Rattle.object_table.specs.Context.{with_objects}
-use Rattle.graph_run.specs.Turns.{AreVirtual}
-use Rattle.graph_run.proofs.VerifiedLemmas.{ready_outputs, ready_steps, ready_run}
+use Rattle.std.proofs.Common.{◌≡◌, ◌∙◌, List, None, get_or, ap, sym, subst, arith}
+use Rattle.std.specs.Prelude.{All, Option, IfSome}
+use Rattle.std.specs.List.Sorted.{IsStrictlyIncreasing}
+use Rattle.vx_base.specs.declared.node.Node.{Node}
+use Rattle.vx_base.specs.Object.{IsObject}
+use Rattle.object_table.specs.Context.{Context, with_objects}
+use Rattle.object_table.specs.Named.{Named}
+use Rattle.object_table.proofs.HeldLemmas.{names_of}
+use Rattle.graph_verify.specs.declared.known.VirtualOutput.{VirtualOutput}
+use Rattle.graph_verify.specs.Outlines.{resolved}
+use Rattle.graph_run.specs.Graph.{run_of_graph}
+use Rattle.graph_run.specs.Operands.{operand_held, IsReady}
+use Rattle.graph_run.specs.Stage.{HasRoomFor}
+use Rattle.graph_run.proofs.SceneLemmas.{none_standing, nothing_stands}
+use Rattle.graph_run.proofs.SlotPoolLemmas.{blocks_stay}
 use Rattle.graph_run.proofs.runs.run.Goals as goal
 
-pub run_over-requires-clause-outputs : goal.run_over-requires-clause-outputs
-run_over-requires-clause-outputs c =
-    let objects = c.args.table.now.objects in
-    subst (AreVirtual objects) (sym c.deref-3.ensures.value)
-    (ready_outputs objects c.requires.names c.requires.ready.0 c.args.verified.now c.requires.ready.1)
+pub run_steps-requires-clause-stage : goal.run_steps-requires-clause-stage
+run_steps-requires-clause-stage c =
+    let slots = c.in_ok-slots.slots.items in
+    let empty = c.in_ok-slots.ensures.empty in
+    let held = subst (λ (t : Context). All (λ o. IsObject o.object) t.objects) (sym c.replace.ensures.value) c.requires.objects in
+    record {
+      names = subst (λ (t : Context). IsStrictlyIncreasing (names_of t.objects)) (sym c.replace.ensures.value) c.requires.names;
+      held = held;
+      objects = subst (λ (l : List Named). All (λ o. IsObject o.object) l) (sym (nothing_stands slots empty c.replace.result.objects)) held;
+      room = λ k s below. subst (λ (h : Option VirtualOutput). IfSome h (λ o. HasRoomFor (get_or slots k s) o.desc)) (sym (empty k s below)) tt;
+      there = λ k a at. absurd (none_standing slots empty k a at);
+      apart = λ j k a b at also same. absurd (none_standing slots empty j a at);
+    }
 
-pub run_over-requires-clause-steps : goal.run_over-requires-clause-steps
-run_over-requires-clause-steps c =
-    rw (c.deref-2.ensures.value, c.deref-3.ensures.value, c.deref_mut.ensures.value)
-    (ready_steps c.args.table.now.objects c.requires.names c.requires.ready.0 c.args.verified.now c.requires.ready.1
-    c.in_ok-images.images.items (rw c.deref.ensures.value at c.in_ok-images.ensures.value))
+pub give_back-requires : goal.give_back-requires
+give_back-requires c = λ f.
+    omega (arith, blocks_stay c.in_ok-slots.slots.items c.run_steps.new.stage.slots.items c.run_steps.ensures.rooms f, c.in_ok-slots.ensures.lends f)
 
 pub returns-clause-value : goal.returns-clause-value
-returns-clause-value c = λ nodes. λ ready.
-    let objects = c.args.table.now.objects in
-    c.run_over.ensures.value
-    ∙ ap (with_objects c.args.table.now)
-    (rw (c.deref-2.ensures.value, c.deref-3.ensures.value, c.deref_mut.ensures.value)
-    (ready_run objects c.requires.names nodes c.args.verified.now ready
-    c.in_ok-images.images.items (rw c.deref.ensures.value at c.in_ok-images.ensures.value)))
+returns-clause-value c =
+    let v = c.args.verified.now in
+    let left = c.run_steps.new.stage.table in
+    subst
+    (λ (t : Context). (nodes : List Node) → IsReady t.objects nodes v
+    → left ≡ with_objects t (run_of_graph (resolved (operand_held t.objects) nodes) nodes t.objects))
+    c.replace.ensures.value c.run_steps.ensures.value
+
+pub returns-clause-lent : goal.returns-clause-lent
+returns-clause-lent c = λ f.
+    omega
+    (arith, blocks_stay c.in_ok-slots.slots.items c.run_steps.new.stage.slots.items c.run_steps.ensures.rooms f, c.in_ok-slots.ensures.lends f, c.give_back.ensures.lent f)

@@ -1,15 +1,14 @@
-use Rattle.std.proofs.Common.{◌≡◌, drop}
-use Rattle.graph_run.specs.Graph.{one_by_one}
-use Rattle.graph_run.specs.Lasting.{Lasts}
-use Rattle.graph_run.specs.Turns.{CanRunInTurn}
+use Rattle.std.proofs.Common.{◌≡◌}
+use Rattle.buffer_plan.specs.Places.{told}
+use Rattle.graph_run.specs.Stage.{IsStage}
+use Rattle.graph_run.proofs.SceneLemmas.{IsOnCourse}
 use Rattle.graph_run.proofs.runs.run_steps.Given as goal
 
--- the nodes that are left can run in turn, and leave what all would leave at first
+-- the stage is as it is after so many steps
 abbrev pub invariant-loop-node : goal.invariant-loop-node
 invariant-loop-node l =
     record {
-      runs : CanRunInTurn (drop l.node-index l.steps) l.table.objects;
-      value : one_by_one (drop l.node-index l.steps) l.table.objects ≡ one_by_one l.steps l.initial.table.objects;
-      next : l.table.next ≡ l.initial.table.next;
-      lasts : Lasts l.initial.table.objects l.table.objects;
+      stage : IsStage l.stage;
+      next : l.stage.table.next ≡ l.initial.stage.table.next;
+      course : IsOnCourse l.initial.stage.table.objects l.verified (told l.plan) l.node-index l.stage.table.objects l.stage.slots.items;
     }

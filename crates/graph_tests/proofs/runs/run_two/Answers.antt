@@ -34,4 +34,5 @@ run-requires c =
       objects = subst (λ (o : List Named). All (λ n. IsObject n.object) o) (sym is) (linked_objects a b d c.requires.input c.requires.output c.has_sides.ensures);
       names = subst (λ (o : List Named). IsStrictlyIncreasing (map {A = Named} {B = ℕ} (λ n. n.name) o)) (sym is) (linked_names a b d);
       ready = (nodes, subst (λ (o : List Named). IsReady o nodes v) (sym is) (ready a b d v 2 verified allowed));
+      plan = c.in_ok-plan.ensures.plan 2 (operand_held (linked a b d)) nodes allowed verified;
     }

@@ -1,0 +1,400 @@
+-- What nodes find on a stage, beside what they would find if each virtual image were an image of its own from the beginning.
+use Rattle.std.proofs.Common.{◌≡◌, ◌<◌, ℕ, Bool, true, false, eqb, List, [], ◌∷◌, ◌++◌, map, Option, Some, None, ◌⊎◌, inl, inr, refl, sym, ap, subst, ◌∙◌, arith}
+use Rattle.std.specs.Prelude.{◌==◌, ◌||◌, All, if◌then◌else◌}
+use Rattle.std.specs.List.{AllPairs, list_any}
+use Rattle.std.specs.List.Sorted.{IsStrictlyIncreasing}
+use Rattle.std.specs.Option.{option_map, option_and_then}
+use Rattle.std.proofs.lemmas.Bool.{cases_Bool, eqb-true, eq-eqb, or_left, or_right, or_cases, false_from_ne_true}
+use Rattle.std.proofs.lemmas.List.Folds.{list_any-append}
+use Rattle.vx_base.specs.declared.format.Format.{Format}
+use Rattle.vx_base.specs.declared.node.Node.{Node}
+use Rattle.vx_base.specs.declared.output.Output.{Output}
+use Rattle.vx_base.specs.declared.output.Output.TheVariants.{First, Second}
+use Rattle.vx_base.specs.declared.kind.Kind.TheVariants as kind
+use Rattle.vx_base.specs.declared.virtual_image.VirtualImage.{VirtualImage}
+use Rattle.vx_base.specs.Cell.{Cell}
+use Rattle.vx_base.specs.Description.{Description}
+use Rattle.vx_base.specs.Image.{ImageValue, description_of}
+use Rattle.vx_base.specs.Node.{IsNode, given, operands, outputs}
+use Rattle.vx_base.specs.Object.{ObjectValue, ImageObject, VirtualObject, object_kind}
+use Rattle.vx_base.specs.Outputs.{node_image, node_output, written_to, written_in, written_by}
+use Rattle.object_table.specs.Delay.{in_slot, with_slot}
+use Rattle.object_table.specs.Named.{Named, object_held, held, with_object, with_written}
+use Rattle.graph_verify.specs.declared.known.VirtualOutput.{VirtualOutput}
+use Rattle.graph_verify.specs.declared.operand.Operand.{Operand}
+use Rattle.graph_verify.specs.declared.operand.Operand.TheVariants.{Image}
+use Rattle.graph_verify.specs.declared.verified.Verified.{Verified}
+use Rattle.graph_verify.specs.Links.{reads, writes, feeds, is_written}
+use Rattle.graph_verify.specs.Members.{In, AllIn}
+use Rattle.graph_verify.specs.Operand.{operand_of, is_virtual}
+use Rattle.graph_verify.specs.Order.{InTurn}
+use Rattle.graph_verify.specs.Outlines.{resolved}
+use Rattle.graph_verify.proofs.LinkLemmas.{same_cell-refl, same_cell-true, feeds_is}
+use Rattle.graph_verify.proofs.MemberLemmas.{In-left, In-right, In-append, In-from_any, any-from_In, AllIn-permutation, AllIn-permutation_back}
+use Rattle.buffer_plan.specs.Lives.{is_used}
+use Rattle.graph_run.specs.declared.stage.Slot.{Slot}
+use Rattle.graph_run.specs.Graph.{begun, forgotten, is_virtual_object, one_by_one}
+use Rattle.graph_run.specs.Operands.{HoldsOperand, IsReady, names_cell, StandsFor, CellsStand, operand_held}
+use Rattle.graph_run.specs.Solution.{label_of}
+use Rattle.graph_run.specs.Stage.{shown, slot_of}
+use Rattle.graph_run.specs.Turns.{HoldsKind, CanRunNow, AreVirtual}
+use Rattle.graph_run.proofs.BegunLaws.{begun_under, object_held-begun, labels-begun, kept_virtual, object_held-forgotten, labels-forgotten}
+use Rattle.graph_run.proofs.FoundLemmas.{of_operands}
+use Rattle.graph_run.proofs.HeldLaws.{object_held-with_object, labels-with_written}
+use Rattle.graph_run.proofs.LinkLaws.{All-from_In, In-from_All, reads_first, reads_second}
+use Rattle.graph_run.proofs.NameLaws.{Rising, by_names}
+use Rattle.graph_run.proofs.NodeLaws.{is_cell, writes-outputs}
+use Rattle.graph_run.proofs.OperandLaws.{outline_of_virtual, virtual_written}
+use Rattle.graph_run.proofs.StageLemmas.{found_as_it_is}
+use Rattle.graph_run.proofs.TurnLaws.{at_its_turn}
+use Rattle.graph_run.proofs.VerifiedLemmas.{whole, is_output, output_known, in_outputs, output_object, output_whole, begun_kept, can, can_run_now}
+
+-- ---- objects that are written
+
+-- what is held alike is held alike once the same is written
+written_alike : (ws : List (Cell × ObjectValue)) (one other : List Named) (name : ℕ) → object_held one name ≡ object_held other name
+    → object_held (with_written one ws) name ≡ object_held (with_written other ws) name
+written_alike [] one other name same = same
+written_alike (w ∷ ws) one other name same =
+    written_alike ws (with_object one w.0 w.1) (with_object other w.0 w.1) name
+    (object_held-with_object one w.0 w.1 name
+    ∙ ap (option_map (λ x. if eqb name w.0.name then with_slot w.0.slot w.1 x else x)) same
+    ∙ sym (object_held-with_object other w.0 w.1 name))
+
+-- so is what is written as a whole, whatever stood there
+written_whole : (ws : List (Cell × ObjectValue)) (one other : List Named) (w : Cell × ObjectValue) → In w ws → (name : ℕ) → w.0 ≡ whole name → (a b : ObjectValue)
+    → object_held one name ≡ Some a → object_held other name ≡ Some b → object_held (with_written one ws) name ≡ object_held (with_written other ws) name
+written_whole [] one other w i name at a b here there = absurd i
+written_whole (v ∷ ws) one other w (inl same) name at a b here there =
+    written_alike ws (with_object one v.0 v.1) (with_object other v.0 v.1) name (after one a here ∙ sym (after other b there))
+  where
+    cell : v.0 ≡ whole name
+    cell = ap (λ (x : Cell × ObjectValue). x.0) (sym same) ∙ at
+
+    after : (l : List Named) (x : ObjectValue) → object_held l name ≡ Some x → object_held (with_object l v.0 v.1) name ≡ Some v.1
+    after l x held_there =
+        object_held-with_object l v.0 v.1 name
+        ∙ ap (λ (c : Cell). option_map (λ y. if eqb name c.name then with_slot c.slot v.1 y else y) (object_held l name)) cell
+        ∙ ap (λ b. option_map (λ y. if b then v.1 else y) (object_held l name)) (eq-eqb name name refl)
+        ∙ ap (option_map (λ (y : ObjectValue). v.1)) held_there
+written_whole (v ∷ ws) one other w (inr i) name at a b here there =
+    written_whole ws (with_object one v.0 v.1) (with_object other v.0 v.1) w i name at (change a) (change b)
+    (object_held-with_object one v.0 v.1 name ∙ ap (option_map change) here) (object_held-with_object other v.0 v.1 name ∙ ap (option_map change) there)
+  where
+    change : ObjectValue → ObjectValue
+    change x = if eqb name v.0.name then with_slot v.0.slot v.1 x else x
+
+-- ---- what a node writes
+
+pub first_output : (n : Node) (c : Cell) → n.out1 ≡ Some c → writes n c ≡ true
+first_output n c e = writes-outputs n c ∙ or_left (is_cell n.out1 c) (is_cell n.out2 c) (ap (λ o. is_cell o c) e ∙ same_cell-refl c)
+
+pub second_output : (n : Node) (c : Cell) → n.out2 ≡ Some c → writes n c ≡ true
+second_output n c e = writes-outputs n c ∙ or_right (is_cell n.out1 c) (is_cell n.out2 c) (ap (λ o. is_cell o c) e ∙ same_cell-refl c)
+
+pub output_cases : (n : Node) (c : Cell) → writes n c ≡ true → (n.out1 ≡ Some c) ⊎ (n.out2 ≡ Some c)
+output_cases n c w = elim (or_cases (is_cell n.out1 c) (is_cell n.out2 c) (sym (writes-outputs n c) ∙ w)) [
+  | inl first ↦ inl (this n.out1 first)
+  | inr second ↦ inr (this n.out2 second)
+]
+  where
+    this : (o : Option Cell) → is_cell o c ≡ true → o ≡ Some c
+    this None e = absurd (cc)
+    this (Some d) e = ap Some (sym (same_cell-true c d e))
+
+-- what it writes where its cells hold something
+output_given : (n : Node) (now : Cell → Option ObjectValue) (c : Cell) (first out : ObjectValue) → writes n c ≡ true → now n.in1 ≡ Some first → now c ≡ Some out
+    → (x : ObjectValue) × In (c, x) (written_by n now)
+output_given n now c first out w read there = elim (output_cases n c w) [
+  | inl e ↦ (
+    node_output n First first (option_and_then now n.in2) out,
+    In-left (c, node_output n First first (option_and_then now n.in2) out) (written_in n First n.out1 now) (written_in n Second n.out2 now)
+        (subst (λ l. In (c, node_output n First first (option_and_then now n.in2) out) l) (sym (gives First n.out1 e)) (inl refl)),
+  )
+  | inr e ↦ (
+    node_output n Second first (option_and_then now n.in2) out,
+    In-right (c, node_output n Second first (option_and_then now n.in2) out) (written_in n First n.out1 now) (written_in n Second n.out2 now)
+        (subst (λ l. In (c, node_output n Second first (option_and_then now n.in2) out) l) (sym (gives Second n.out2 e)) (inl refl)),
+  )
+]
+  where
+    gives : (output : Output) (o : Option Cell) → o ≡ Some c → written_in n output o now ≡ (c, node_output n output first (option_and_then now n.in2) out) ∷ []
+    gives output o e =
+        ap (λ d. written_in n output d now) e
+        ∙ ap (λ f. written_to n output c f (option_and_then now n.in2) (now c)) read
+        ∙ ap (written_to n output c (Some first) (option_and_then now n.in2)) there
+
+-- the same, or two images of one format
+record AreImages (a b : Option ObjectValue) : Type 0 where
+  one : ImageValue
+  other : ImageValue
+  is_one : a ≡ Some (ImageObject one)
+  is_other : b ≡ Some (ImageObject other)
+  same : one.format ≡ other.format
+
+abbrev AsOutput : Option ObjectValue → Option ObjectValue → Type 0
+AsOutput a b = (a ≡ b) ⊎ AreImages a b
+
+written_to_alike : (n : Node) (output : Output) (c : Cell) (a : ImageValue) (second one other : Option ObjectValue) → AsOutput one other
+    → written_to n output c (Some (ImageObject a)) second one ≡ written_to n output c (Some (ImageObject a)) second other
+written_to_alike n output c a second one other (inl same) = ap (written_to n output c (Some (ImageObject a)) second) same
+written_to_alike n output c a second one other (inr h) =
+    ap (written_to n output c (Some (ImageObject a)) second) h.is_one
+    ∙ ap (λ (f : Format). let w : Cell × ObjectValue = (c, ImageObject (node_image n output f a second)) in w ∷ []) h.same
+    ∙ sym (ap (written_to n output c (Some (ImageObject a)) second) h.is_other)
+
+module _ (n : Node) (one other : Cell → Option ObjectValue) (a : ImageValue) (first : one n.in1 ≡ Some (ImageObject a)) (reads_one : one n.in1 ≡ other n.in1)
+    (reads_other : option_and_then one n.in2 ≡ option_and_then other n.in2) where
+  written_in_alike : (output : Output) (cell : Option Cell) → ((c : Cell) → cell ≡ Some c → AsOutput (one c) (other c)) → written_in n output cell one ≡ written_in n output cell other
+  written_in_alike output None alike = refl
+  written_in_alike output (Some c) alike =
+      ap (λ f. written_to n output c f (option_and_then one n.in2) (one c)) first
+      ∙ ap (λ s. written_to n output c (Some (ImageObject a)) s (one c)) reads_other
+      ∙ written_to_alike n output c a (option_and_then other n.in2) (one c) (other c) (alike c refl)
+      ∙ ap (λ f. written_to n output c f (option_and_then other n.in2) (other c)) (sym first ∙ reads_one)
+
+  same_written : ((c : Cell) → writes n c ≡ true → AsOutput (one c) (other c)) → written_by n one ≡ written_by n other
+  same_written alike =
+      ap (λ l. l ++ written_in n Second n.out2 one) (written_in_alike First n.out1 (λ c e. alike c (first_output n c e)))
+      ∙ ap (λ l. written_in n First n.out1 other ++ l) (written_in_alike Second n.out2 (λ c e. alike c (second_output n c e)))
+
+-- ---- agreement
+
+-- what is as it would be: what isn't an output's, and what has been written and is used again
+abbrev pub Keeps : List VirtualOutput → List Node → List Node → ℕ → Type 0
+Keeps outs before after name = (is_output outs name ≡ false) ⊎ ((is_written before (whole name) ≡ true) × (is_used after (whole name) ≡ true))
+
+-- what is found after some nodes have run, beside what would be found
+pub record Agrees (outs : List VirtualOutput) (before after : List Node) (here ideal : List Named) : Type 0 where
+  pub labels : map label_of here ≡ map label_of ideal
+  pub same : (name : ℕ) → Keeps outs before after name → object_held here name ≡ object_held ideal name
+
+-- an output is an image of its description
+pub record StandsAs (here : List Named) (o : VirtualOutput) : Type 0 where
+  pub image : ImageValue
+  pub there : object_held here o.cell.name ≡ Some (ImageObject image)
+  pub desc : description_of image ≡ o.desc
+
+-- what holds a virtual image is virtual as an operand, or nothing
+virtual_operand : (slot : Option ℕ) (image : VirtualImage) (operand : Operand) → option_map operand_of (in_slot slot (VirtualObject image)) ≡ Some operand → is_virtual operand ≡ true
+virtual_operand None image operand e = let same : operand_of (VirtualObject image) ≡ operand = cc in ap is_virtual (sym same)
+virtual_operand (Some k) image operand e = absurd (cc)
+
+-- what is an image as an operand is an image
+image_of_operand : (found : Option ObjectValue) (d : Description) → option_map operand_of found ≡ Some (Image d)
+    → (image : ImageValue) × (found ≡ Some (ImageObject image)) × (description_of image ≡ d)
+image_of_operand None d e = absurd (cc)
+image_of_operand (Some (ImageObject image)) d e = (image, refl, (cc))
+image_of_operand (Some other) d e = absurd (cc)
+
+-- what is some operand is something
+found_some : (found : Option ObjectValue) (operand : Operand) → option_map operand_of found ≡ Some operand → (x : ObjectValue) × (found ≡ Some x)
+found_some None operand e = absurd (cc)
+found_some (Some x) operand e = (x, refl)
+
+turns_left : (before rest : List Node) → InTurn feeds (before ++ rest) → InTurn feeds rest
+turns_left [] rest turns = turns
+turns_left (m ∷ before) rest turns = turns_left before rest turns.1
+
+module _ (objects : List Named) (nodes : List Node) (v : Verified) (h : IsReady objects nodes v) where
+  abbrev pub is : Cell → Operand
+  is = operand_held objects
+
+  abbrev pub known : Cell → Operand
+  known = resolved is nodes
+
+  abbrev pub outs : List VirtualOutput
+  outs = v.virtual_outputs.items
+
+  -- each virtual image is an image of its own
+  abbrev pub begin : List Named
+  begin = map (begun known nodes) objects
+
+  work : ℕ
+  work = h.runs.0
+
+  -- as the run begins
+  pub begins : Agrees outs [] v.steps.items objects begin
+  begins =
+      record {
+        labels = sym (labels-begun known nodes objects);
+        same = λ name keeps. each name keeps (object_held objects name) refl ∙ sym (object_held-begun known nodes objects name);
+      }
+    where
+      each : (name : ℕ) → Keeps outs [] v.steps.items name → (found : Option ObjectValue) → object_held objects name ≡ found
+          → object_held objects name ≡ option_map (begun_under known nodes name) (object_held objects name)
+      each name (inr used) found at = let no = used.0 in absurd (cc)
+      each name (inl none) None at = at ∙ sym (ap (option_map (begun_under known nodes name)) at)
+      each name (inl none) (Some x) at =
+          at ∙ ap (λ y. Some y) (begun_kept objects nodes v h.runs.0 h.verified h.runs.1 name x at none) ∙ sym (ap (option_map (begun_under known nodes name)) at)
+
+  module _ (before after : List Node) (n : Node) (parts : v.steps.items ≡ before ++ n ∷ after) where
+    in_steps : In n v.steps.items
+    in_steps = subst (λ l. In n l) (sym parts) (In-right n before (n ∷ after) (inl refl))
+
+    in_nodes : In n nodes
+    in_nodes = AllIn-permutation_back nodes v.steps.items h.verified.order.same_nodes n in_steps
+
+    before_in : AllIn before nodes
+    before_in m i = AllIn-permutation_back nodes v.steps.items h.verified.order.same_nodes m (subst (λ l. In m l) (sym parts) (In-left m before (n ∷ after) i))
+
+    abbrev ideal : List Named
+    ideal = one_by_one before begin
+
+    ideal_stands : CellsStand known nodes ideal
+    ideal_stands = at_its_turn h.runs.0 is nodes h.runs.1 objects h.cells before before_in
+
+    -- what it reads, if a node writes it, has been written
+    written_before : (cell : Cell) → reads n cell ≡ true → is_written nodes cell ≡ true → is_written before cell ≡ true
+    written_before cell r w =
+        let writer = In-from_any (λ m. writes m cell) nodes w in
+        let m = writer.0 in
+        let at = subst (λ l. In m l) parts (AllIn-permutation nodes v.steps.items h.verified.order.same_nodes m writer.1) in
+        elim (In-append m before (n ∷ after) at) [
+          | inl early ↦ any-from_In (λ k. writes k cell) m before early writer.2
+          | inr late ↦
+              (let turns = turns_left before (n ∷ after) (subst (InTurn feeds) parts h.verified.order.in_turn) in
+              let not = turns.0 m late in
+              let yes = feeds_is m n cell writer.2 r in
+              absurd (cc))
+        ]
+
+    module _ (here : List Named) (agrees : Agrees outs before (n ∷ after) here ideal) (images : (o : VirtualOutput) → In o outs → writes n o.cell ≡ true → StandsAs here o) where
+      -- what isn't virtual has no output's name
+      real_name : (cell : Cell) → names_cell n cell ≡ true → is_virtual (is cell) ≡ false → is_output outs cell.name ≡ false
+      real_name cell named real = false_from_ne_true (is_output outs cell.name) (λ some.
+          let output = In-from_any (λ (o : VirtualOutput). cell.name == o.cell.name) outs some in
+          let virtual = (output_object objects nodes v h.runs.0 h.verified h.runs.1 output.0 output.1).1 in
+          let at : object_held objects cell.name ≡ Some (VirtualObject virtual.0) = ap (object_held objects) (eqb-true cell.name output.0.cell.name output.2) ∙ virtual.1 in
+          let found : option_map operand_of (in_slot cell.slot (VirtualObject virtual.0)) ≡ Some (is cell) =
+          sym (ap (λ o. option_map operand_of (option_and_then (in_slot cell.slot) o)) at) ∙ h.cells.found n cell in_nodes named in
+          let yes = virtual_operand cell.slot virtual.0 (is cell) found in
+          cc)
+
+      real_same : (cell : Cell) → names_cell n cell ≡ true → is_virtual (is cell) ≡ false → held here cell ≡ held ideal cell
+      real_same cell named real = ap (option_and_then (in_slot cell.slot)) (agrees.same cell.name (inl (real_name cell named real)))
+
+      -- the output that a virtual cell is
+      output_of_cell : (cell : Cell) → names_cell n cell ≡ true → is_virtual (is cell) ≡ true → (o : VirtualOutput) × In o outs × (cell ≡ o.cell)
+      output_of_cell cell named virtual =
+          in_outputs is nodes v h.verified cell
+          (virtual_written h.runs.0 is nodes (can objects nodes v h.runs.0 h.verified h.runs.1) n cell in_nodes named virtual) virtual
+
+      cell_is_whole : (o : VirtualOutput) → In o outs → o.cell ≡ whole o.cell.name
+      cell_is_whole o i = output_whole objects nodes v h.runs.0 h.verified h.runs.1 o i
+
+      read_same : (cell : Cell) → reads n cell ≡ true → held here cell ≡ held ideal cell
+      read_same cell r =
+          let named = or_left (reads n cell) (writes n cell) r in
+          elim (cases_Bool (is_virtual (is cell))) [
+            | inl virtual ↦
+                (let output = output_of_cell cell named virtual in
+                let itself : cell ≡ whole cell.name = output.2 ∙ cell_is_whole output.0 output.1 ∙ ap (λ (c : Cell). whole c.name) (sym output.2) in
+                let w = virtual_written h.runs.0 is nodes (can objects nodes v h.runs.0 h.verified h.runs.1) n cell in_nodes named virtual in
+                let used : is_used (n ∷ after) cell ≡ true = or_left (reads n cell || writes n cell) (is_used after cell) named in
+                ap (option_and_then (in_slot cell.slot))
+                (agrees.same cell.name (inr (ap (is_written before) (sym itself) ∙ written_before cell r w, ap (is_used (n ∷ after)) (sym itself) ∙ used))))
+            | inr real ↦ real_same cell named real
+          ]
+
+      -- what it writes that is virtual is an image of its description in both
+      standing : (cell : Cell) (o : VirtualOutput) → In o outs → cell ≡ o.cell → writes n cell ≡ true → (image : ImageValue) × (held here cell ≡ Some (ImageObject image)) × (description_of image ≡ o.desc)
+      standing cell o i same w =
+          let stands = images o i (ap (writes n) (sym same) ∙ w) in
+          let itself : cell ≡ whole o.cell.name = same ∙ cell_is_whole o i in
+          (stands.image, ap (held here) itself ∙ ap (option_and_then (in_slot None)) stands.there, stands.desc)
+
+      ideal_found : (cell : Cell) → names_cell n cell ≡ true → HoldsOperand ideal cell (known cell)
+      ideal_found cell named = ideal_stands.found n cell in_nodes named
+
+      output_alike : (cell : Cell) → writes n cell ≡ true → AsOutput (held here cell) (held ideal cell)
+      output_alike cell w =
+          let named = or_right (reads n cell) (writes n cell) w in
+          elim (cases_Bool (is_virtual (is cell))) [
+            | inl virtual ↦
+                (let output = output_of_cell cell named virtual in
+                let one = standing cell output.0 output.1 output.2 w in
+                let other = image_of_operand (held ideal cell) output.0.desc
+                (ideal_found cell named ∙ ap (λ c. Some (known c)) output.2 ∙ ap (λ x. Some x) (output_known is nodes v h.verified output.0 output.1)) in
+                inr (record {
+                  one = one.0;
+                  other = other.0;
+                  is_one = one.1;
+                  is_other = other.1;
+                  same = ap (λ (d : Description). d.format) (one.2 ∙ sym other.2);
+                }))
+            | inr real ↦ inl (real_same cell named real)
+          ]
+
+      -- each of its cells holds what it was found to be
+      pub here_found : (cell : Cell) → names_cell n cell ≡ true → HoldsOperand here cell (known cell)
+      here_found cell named = elim (or_cases (reads n cell) (writes n cell) named) [
+        | inl r ↦ ap (option_map operand_of) (read_same cell r) ∙ ideal_found cell named
+        | inr w ↦ elim (cases_Bool (is_virtual (is cell))) [
+          | inl virtual ↦
+              (let output = output_of_cell cell named virtual in
+              let one = standing cell output.0 output.1 output.2 w in
+              ap (option_map operand_of) one.1 ∙ ap (λ d. Some (Image d)) one.2
+              ∙ sym (ap (λ c. Some (known c)) output.2 ∙ ap (λ x. Some x) (output_known is nodes v h.verified output.0 output.1)))
+          | inr real ↦ ap (option_map operand_of) (real_same cell named real) ∙ ideal_found cell named
+        ]
+      ]
+
+      -- so it can run, and writes what it would write
+      pub can_run_here : CanRunNow here n
+      can_run_here =
+          can_run_now objects nodes v h.runs.0 h.verified h.runs.1 h.cells n here in_nodes (In-from_All IsNode nodes h.are_nodes n in_nodes)
+          (In-from_All (λ m. All (λ operand. StandsFor (is operand.0) operand.1) (operands m)) nodes h.kinds n in_nodes) here_found
+
+      first_image : (a : ImageValue) × (held here n.in1 ≡ Some (ImageObject a))
+      first_image = of_kind (held here n.in1) (of_operands (HoldsKind here) n can_run_here.kinds).in1
+        where
+          of_kind : (found : Option ObjectValue) → option_map object_kind found ≡ Some kind.Image → (a : ImageValue) × (found ≡ Some (ImageObject a))
+          of_kind None e = absurd (cc)
+          of_kind (Some (ImageObject a)) e = (a, refl)
+          of_kind (Some other) e = absurd (cc)
+
+      pub written_same : written_by n (held here) ≡ written_by n (held ideal)
+      written_same =
+          same_written n (held here) (held ideal) first_image.0 first_image.1 (read_same n.in1 (reads_first n)) (second n.in2 refl) output_alike
+        where
+          second : (o : Option Cell) → n.in2 ≡ o → option_and_then (held here) o ≡ option_and_then (held ideal) o
+          second None e = refl
+          second (Some c) e = read_same c (reads_second n c e)
+
+      -- and what is found afterwards is as it would be
+      pub next_agrees : Agrees outs (before ++ n ∷ []) after (with_written here (written_by n (held here))) (with_written ideal (written_by n (held ideal)))
+      next_agrees =
+          record {
+            labels = labels-with_written (written_by n (held here)) here ∙ agrees.labels ∙ sym (labels-with_written (written_by n (held ideal)) ideal);
+            same = λ name keeps. ap (λ ws. object_held (with_written here ws) name) written_same ∙ each name keeps;
+          }
+        where
+          each : (name : ℕ) → Keeps outs (before ++ n ∷ []) after name
+              → object_held (with_written here (written_by n (held ideal))) name ≡ object_held (with_written ideal (written_by n (held ideal))) name
+          each name (inl none) = written_alike (written_by n (held ideal)) here ideal name (agrees.same name (inl none))
+          each name (inr both) = elim (cases_Bool (is_written before (whole name))) [
+            | inl early ↦
+                written_alike (written_by n (held ideal)) here ideal name
+                (agrees.same name (inr (early, or_right (reads n (whole name) || writes n (whole name)) (is_used after (whole name)) both.1)))
+            | inr late ↦
+                (let now : writes n (whole name) ≡ true = last (writes n (whole name)) (is_written before (whole name)) late (sym (list_any-append (λ m. writes m (whole name)) before (n ∷ [])) ∙ both.0) in
+                let named = or_right (reads n (whole name)) (writes n (whole name)) now in
+                let a = found_some (object_held here name) (known (whole name)) (whole_found here name (here_found (whole name) named)) in
+                let b = found_some (object_held ideal name) (known (whole name)) (whole_found ideal name (ideal_found (whole name) named)) in
+                let first = sym (read_same n.in1 (reads_first n)) ∙ first_image.1 in
+                let given = output_given n (held ideal) (whole name) (ImageObject first_image.0) b.0 now first (ap (option_and_then (in_slot None)) b.1) in
+                written_whole (written_by n (held ideal)) here ideal (whole name, given.0) given.1 name refl a.0 b.0 a.1 b.1)
+          ]
+            where
+              last : (w b : Bool) → b ≡ false → (b || (w || false)) ≡ true → w ≡ true
+              last true b e f = refl
+              last false true e f = absurd (cc)
+              last false false e f = absurd (cc)
+
+              whole_found : (l : List Named) (m : ℕ) → HoldsOperand l (whole m) (known (whole m)) → option_map operand_of (object_held l m) ≡ Some (known (whole m))
+              whole_found l m e = itself (object_held l m) e
+                where
+                  itself : (o : Option ObjectValue) → option_map operand_of (option_and_then (in_slot None) o) ≡ Some (known (whole m)) → option_map operand_of o ≡ Some (known (whole m))
+                  itself None f = f
+                  itself (Some x) f = f

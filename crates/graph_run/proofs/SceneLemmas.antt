@@ -1,0 +1,473 @@
+-- What nodes find on a stage: as outputs claim their slots, as nodes run, and at the end.
+use Rattle.std.proofs.Common.{◌≡◌, ◌≢◌, ◌<◌, ℕ, Bool, true, false, List, [], ◌∷◌, ◌++◌, map, length, get_or, Option, Some, None, ◌⊎◌, inl, inr, refl, sym, ap, subst, ◌∙◌, arith, ◌+◌, ◌≤◌, take, drop}
+use Rattle.std.specs.Prelude.{◌==◌, All, find, slice_get, if◌then◌else◌}
+use Rattle.std.specs.List.{AllPairs, flat_map}
+use Rattle.std.specs.List.Sorted.{IsStrictlyIncreasing}
+use Rattle.std.specs.Option.{option_map, option_and_then}
+use Rattle.std.proofs.lemmas.Bool.{cases_Bool, eqb-true, eq-eqb, or_left, false_from_ne_true}
+use Rattle.std.proofs.lemmas.List.Folds.{list_any-append}
+use Rattle.std.proofs.lemmas.Grind.{flat_map-append}
+use Rattle.std.proofs.lemmas.List.{take-append-drop, take_more, take_all, drop_more, drop_all}
+use Rattle.std.proofs.lemmas.Option.{slice_get-map, slice_get_within, get_or_from_slice_get}
+use Rattle.vx_base.specs.declared.format.Format.{Format}
+use Rattle.vx_base.specs.declared.kind.Kind.TheVariants as kind
+use Rattle.vx_base.specs.declared.node.Node.{Node}
+use Rattle.vx_base.specs.declared.virtual_image.VirtualImage.{VirtualImage}
+use Rattle.vx_base.specs.Cell.{Cell}
+use Rattle.vx_base.specs.Node.{outputs}
+use Rattle.vx_base.specs.Outputs.{written_by}
+use Rattle.vx_base.specs.Object.{ObjectValue, VirtualObject, object_kind}
+use Rattle.object_table.specs.Named.{Named, object_held, held, with_written}
+use Rattle.object_table.proofs.HeldLemmas.{names_of, held_by_name}
+use Rattle.object_table.proofs.SkeletonLaws.{map-told}
+use Rattle.graph_verify.specs.declared.known.VirtualOutput.{VirtualOutput}
+use Rattle.graph_verify.specs.declared.verified.Verified.{Verified}
+use Rattle.graph_verify.specs.Links.{writes, has_twice, is_written}
+use Rattle.graph_verify.specs.Members.{In}
+use Rattle.graph_verify.specs.Outlines.{resolved}
+use Rattle.graph_verify.specs.Verdict.{two_writers}
+use Rattle.graph_verify.proofs.LinkLemmas.{once_across, In-outputs, two_writers-permutation}
+use Rattle.graph_verify.proofs.MemberLemmas.{In-from_any}
+use Rattle.buffer_plan.specs.Lives.{is_used}
+use Rattle.buffer_plan.specs.Plan.{IsPlan, PlanValue}
+use Rattle.graph_run.specs.declared.stage.Slot.{Slot}
+use Rattle.graph_run.specs.Graph.{forgotten, is_virtual_object, one_by_one, run_of_graph}
+use Rattle.graph_run.specs.Lasting.{lasting_named}
+use Rattle.graph_run.specs.Operands.{IsReady, operand_held}
+use Rattle.graph_run.specs.Slots.{place_of, room_of, AreEmpty, AreShared, claimed_at, planned_rooms}
+use Rattle.graph_run.specs.Solution.{label_of}
+use Rattle.graph_run.specs.Stage.{is_named, standing_image, image_in, standing, shown_as, shown, holder_at, HoldsVirtual, slot_of, fixed}
+use Rattle.graph_run.specs.Turns.{AreVirtual, CanRunNow}
+use Rattle.graph_run.proofs.AgreeLemmas.{Keeps, Agrees, StandsAs, first_output, second_output, output_cases, begin, begins, can_run_here, next_agrees}
+use Rattle.graph_run.proofs.BegunLaws.{kept_virtual, object_held-forgotten, labels-forgotten}
+use Rattle.graph_run.proofs.ClaimLemmas.{virtual_there}
+use Rattle.graph_run.proofs.LinkLaws.{In-from_All}
+use Rattle.graph_run.proofs.NameLaws.{Rising, by_names, rising}
+use Rattle.graph_run.proofs.SharingLemmas.{one_of_name, name_of_output, WereWritten, used_now, written_now, AreClaimed, output_claims}
+use Rattle.graph_run.proofs.SlotLemmas.{find_nowhere}
+use Rattle.graph_run.proofs.StageLemmas.{held-shown, found_as_it_is, real_as_it_is, alone_at, alone_found}
+use Rattle.graph_run.proofs.TurnLaws.{run_in_order}
+use Rattle.graph_run.proofs.VerifiedLemmas.{whole, is_output, output_whole, are_virtual, can, output_object, pairs_of}
+
+-- ---- what is shown
+
+pub labels-shown : (slots : List Slot) (l : List Named) → map label_of (shown slots l) ≡ map label_of l
+labels-shown slots [] = refl
+labels-shown slots (o ∷ l) = ap (λ (labels : List (ℕ × Bool)). label_of o ∷ labels) (labels-shown slots l)
+
+-- where the same slot has a name, the same is shown of it
+shown_as-same : (one other : List Slot) (name : ℕ) → slot_of one name ≡ slot_of other name → (object : ObjectValue) → shown_as one name object ≡ shown_as other name object
+shown_as-same one other name same (VirtualObject image) = ap (λ s. standing s (VirtualObject image)) same
+shown_as-same one other name same object = refl
+
+found_same : (one other : List Slot) (l : List Named) (name : ℕ) → slot_of one name ≡ slot_of other name → object_held (shown one l) name ≡ object_held (shown other l) name
+found_same one other l name same = held-shown one l name ∙ each (object_held l name) ∙ sym (held-shown other l name)
+  where
+    each : (o : Option ObjectValue) → option_map (shown_as one name) o ≡ option_map (shown_as other name) o
+    each None = refl
+    each (Some x) = ap (λ y. Some y) (shown_as-same one other name same x)
+
+-- what no slot has is shown as it is
+shown_itself : (slots : List Slot) (name : ℕ) (object : ObjectValue) → slot_of slots name ≡ None → shown_as slots name object ≡ object
+shown_itself slots name (VirtualObject image) none = ap (λ s. standing s (VirtualObject image)) none
+shown_itself slots name object none = refl
+
+-- where nothing stands in slots
+empty_at : (slots : List Slot) → AreEmpty slots → (k : ℕ) (s : Slot) → slice_get slots k ≡ Some s → s.holder ≡ None
+empty_at slots empty k s at =
+    subst (λ (t : Slot). t.holder ≡ None) (get_or_from_slice_get slots k s s at) (empty k s (slice_get_within slots k s at))
+
+pub none_standing : (slots : List Slot) → AreEmpty slots → (k : ℕ) (a : VirtualOutput) → holder_at slots k ≡ Some a → ⊥
+none_standing slots empty k a h = of_slot (slice_get slots k) refl h
+  where
+    of_slot : (s : Option Slot) → slice_get slots k ≡ s → option_and_then (λ (t : Slot). t.holder) s ≡ Some a → ⊥
+    of_slot None at e = cc
+    of_slot (Some s) at e = let none = empty_at slots empty k s at in cc
+
+pub nothing_stands : (slots : List Slot) → AreEmpty slots → (l : List Named) → shown slots l ≡ l
+nothing_stands slots empty [] = refl
+nothing_stands slots empty (o ∷ l) =
+    ap (λ (x : ObjectValue). let p : Named = record o { object = x } in p ∷ shown slots l)
+    (shown_itself slots o.name o.object
+    (find_nowhere (λ s. is_named o.name s.holder) slots (λ k s at. ap (is_named o.name) (empty_at slots empty k s at))))
+    ∙ ap (λ (m : List Named). o ∷ m) (nothing_stands slots empty l)
+
+-- ---- slots that keep their formats, their sizes, and what stands in them
+
+pub rooms_stay : (old new : List Slot) → map fixed new ≡ map fixed old → map room_of new ≡ map room_of old
+rooms_stay old new same = map-told fixed room_of (λ f. (f.0, f.1)) (λ _. refl) new old same
+
+holders_stay : (old new : List Slot) → map fixed new ≡ map fixed old → (k : ℕ) → holder_at new k ≡ holder_at old k
+holders_stay old new same k =
+    through (slice_get new k)
+    ∙ ap (option_and_then third) (sym (slice_get-map fixed new k) ∙ ap (λ l. slice_get l k) same ∙ slice_get-map fixed old k)
+    ∙ sym (through (slice_get old k))
+  where
+    third : Format × ℕ × Option VirtualOutput → Option VirtualOutput
+    third f = f.2
+
+    through : (s : Option Slot) → option_and_then (λ (t : Slot). t.holder) s ≡ option_and_then third (option_map fixed s)
+    through None = refl
+    through (Some s) = refl
+
+pub shared_stay : (p : PlanValue) (outs : List VirtualOutput) (old new : List Slot) → map fixed new ≡ map fixed old → AreShared p outs old → AreShared p outs new
+shared_stay p outs old new same shared =
+    record {
+      rooms = rooms_stay old new same ∙ shared.rooms;
+      homes = λ k a h. shared.homes k a (sym (holders_stay old new same k) ∙ h);
+    }
+
+pub written_stay : (done : List Node) (old new : List Slot) → map fixed new ≡ map fixed old → WereWritten done old → WereWritten done new
+written_stay done old new same written k a h = written k a (sym (holders_stay old new same k) ∙ h)
+
+-- ---- virtual images of the table
+
+kind_is_virtual : (object : ObjectValue) → object_kind object ≡ kind.VirtualImage → is_virtual_object object ≡ true
+kind_is_virtual (VirtualObject image) e = refl
+kind_is_virtual other e = cc
+
+-- what stays virtual twice stays so
+pub forgotten-twice : (old now new : List Named) → map label_of now ≡ map label_of old → forgotten old now ≡ now → forgotten now new ≡ new → forgotten old new ≡ new
+forgotten-twice [] now new labels one other = refl
+forgotten-twice (o ∷ old) [] new labels one other = absurd (cc)
+forgotten-twice (o ∷ old) (p ∷ now) [] labels one other = refl
+forgotten-twice (o ∷ old) (p ∷ now) (q ∷ new) labels one other =
+    let first : (if is_virtual_object o.object then o else p) ≡ p = cc in
+    let second : (if is_virtual_object p.object then p else q) ≡ q = cc in
+    let rest_labels : map label_of now ≡ map label_of old = cc in
+    let rest_one : forgotten old now ≡ now = cc in
+    let rest_other : forgotten now new ≡ new = cc in
+    ap (λ (x : Named). x ∷ forgotten old new) (either (cases_Bool (is_virtual_object o.object)) first second)
+    ∙ ap (λ (l : List Named). q ∷ l) (forgotten-twice old now new rest_labels rest_one rest_other)
+  where
+    either : (is_virtual_object o.object ≡ true) ⊎ (is_virtual_object o.object ≡ false) → (if is_virtual_object o.object then o else p) ≡ p → (if is_virtual_object p.object then p else q) ≡ q
+        → (if is_virtual_object o.object then o else q) ≡ q
+    either (inl virtual) first second =
+        let same : o ≡ p = sym (ap (λ b. if b then o else p) virtual) ∙ first in
+        let still : is_virtual_object p.object ≡ true = ap (λ (x : Named). is_virtual_object x.object) (sym same) ∙ virtual in
+        ap (λ b. if b then o else q) virtual ∙ same ∙ sym (ap (λ b. if b then p else q) still) ∙ second
+    either (inr real) first second = ap (λ b. if b then o else q) real
+
+-- lists of the same names hold something under the same names
+both_held : (one other : List Named) → map label_of one ≡ map label_of other → (name : ℕ) (x : ObjectValue) → object_held one name ≡ Some x
+    → (y : ObjectValue) × (object_held other name ≡ Some y)
+both_held [] other labels name x at = absurd (cc)
+both_held (o ∷ one) [] labels name x at = absurd (cc)
+both_held (o ∷ one) (p ∷ other) labels name x at =
+    let label : label_of o ≡ label_of p = cc in
+    let rest : map label_of one ≡ map label_of other = cc in
+    either (ap (λ m. m.0) label) (both_held one other rest name x) (cases_Bool (o.name == name))
+  where
+    either : o.name ≡ p.name → (object_held one name ≡ Some x → (y : ObjectValue) × (object_held other name ≡ Some y)) → ((o.name == name) ≡ true) ⊎ ((o.name == name) ≡ false)
+        → (y : ObjectValue) × (object_held (p ∷ other) name ≡ Some y)
+    either same rest (inl here) = (p.object, ap (λ b. option_map (λ (q : Named). q.object) (if b then Some p else find (λ q. q.name == name) other)) (ap (λ n. n == name) (sym same) ∙ here))
+    either same rest (inr later) =
+        let at_rest : object_held one name ≡ Some x =
+        sym (ap (λ b. option_map (λ (q : Named). q.object) (if b then Some o else find (λ q. q.name == name) one)) later) ∙ at in
+        let found = rest at_rest in
+        (found.0, ap (λ b. option_map (λ (q : Named). q.object) (if b then Some p else find (λ q. q.name == name) other)) (ap (λ n. n == name) (sym same) ∙ later) ∙ found.1)
+
+-- a virtual image stays where it was
+stays_virtual : (old now : List Named) → map label_of now ≡ map label_of old → forgotten old now ≡ now → (name : ℕ) (image : VirtualImage)
+    → object_held old name ≡ Some (VirtualObject image) → object_held now name ≡ Some (VirtualObject image)
+stays_virtual old now labels kept name image at =
+    let found = both_held old now (sym labels) name (VirtualObject image) at in
+    ap (λ l. object_held l name) (sym kept) ∙ object_held-forgotten old now (sym labels) name
+    ∙ ap (λ o. kept_virtual o (object_held now name)) at ∙ ap (kept_virtual (Some (VirtualObject image))) found.1
+
+pub outputs_stay : (old now : List Named) (outs : List VirtualOutput) → map label_of now ≡ map label_of old → forgotten old now ≡ now → AreVirtual old outs → AreVirtual now outs
+outputs_stay old now outs labels kept virtual =
+    record {
+      apart = virtual.apart;
+      held = λ k d below.
+          let name = (get_or outs k d).cell.name in
+          let image = virtual_there old name (virtual.held k d below) in
+          ap (option_map object_kind) (stays_virtual old now labels kept name image.0 image.1);
+    }
+
+-- ---- outputs of a node that have claimed their slots
+
+module _ (objects : List Named) (nodes : List Node) (v : Verified) (h : IsReady objects nodes v) (p : PlanValue) (plan : IsPlan v.steps.items v.virtual_outputs.items p)
+    (before after : List Node) (n : Node) (parts : v.steps.items ≡ before ++ n ∷ after) where
+  abbrev outs : List VirtualOutput
+  outs = v.virtual_outputs.items
+
+  virtual_at_first : AreVirtual objects outs
+  virtual_at_first = are_virtual objects nodes v h.runs.0 h.verified h.runs.1
+
+  pub plan_here : IsPlan (before ++ n ∷ after) outs p
+  plan_here = subst (λ steps. IsPlan steps outs p) parts plan
+
+  pub itself : (o : VirtualOutput) → In o outs → o.cell ≡ whole o.cell.name
+  itself o i = output_whole objects nodes v h.runs.0 h.verified h.runs.1 o i
+
+  -- no node before writes what it writes
+  written_once : (c : Cell) → writes n c ≡ true → is_written before c ≡ true → ⊥
+  written_once c w earlier =
+      let writer = In-from_any (λ m. writes m c) before earlier in
+      let one : two_writers (before ++ n ∷ after) ≡ false =
+      ap two_writers (sym parts) ∙ two_writers-permutation nodes v.steps.items h.verified.order.same_nodes (can objects nodes v h.runs.0 h.verified h.runs.1).one_writer in
+      once_across c (flat_map outputs before) (flat_map outputs (n ∷ after))
+      (ap has_twice (sym (flat_map-append outputs before (n ∷ after))) ∙ one)
+      (In-outputs writer.0 c before writer.1 writer.2) (In-outputs n c (n ∷ after) (inl refl) w)
+
+  module _ (l : List Named) (virtual : AreVirtual l outs) (slots one : List Slot) (shared : AreShared p outs slots) (written : WereWritten before slots)
+      (first : (k : ℕ) → slice_get one k ≡ claimed_at p outs n.out1 k (slice_get slots k)) where
+    abbrev done : List Node
+    done = before ++ n ∷ []
+
+    written_more : WereWritten done slots
+    written_more k a at = list_any-append (λ m. writes m a.cell) before (n ∷ []) ∙ or_left (is_written before a.cell) (is_written (n ∷ []) a.cell) (written k a at)
+
+    pub first_claims : AreClaimed outs p before after n plan_here virtual.apart itself n.out1 slots one
+    first_claims = output_claims outs p before after n plan_here virtual.apart itself n.out1 slots one shared written_more (λ c e. first_output n c e) first
+
+    module _ (both : List Slot) (second : (k : ℕ) → slice_get both k ≡ claimed_at p outs n.out2 k (slice_get one k)) where
+      pub second_claims : AreClaimed outs p before after n plan_here virtual.apart itself n.out2 one both
+      second_claims =
+          output_claims outs p before after n plan_here virtual.apart itself n.out2 one both first_claims.shared first_claims.written (λ c e. second_output n c e) second
+
+      -- what is as it would be stays so
+      kept_name : (name : ℕ) → Keeps outs before (n ∷ after) name → (o : VirtualOutput) → In o outs → writes n o.cell ≡ true → o.cell.name ≢ name
+      kept_name name (inl none) o i w same = let some = name_of_output outs o i name (sym same) in cc
+      kept_name name (inr used) o i w same = written_once o.cell w (ap (is_written before) (itself o i ∙ ap whole same) ∙ used.0)
+
+      kept_for : (name : ℕ) → Keeps outs before (n ∷ after) name → (is_output outs name ≡ false) ⊎ (is_used (n ∷ after) (whole name) ≡ true)
+      kept_for name (inl none) = inl none
+      kept_for name (inr used) = inr used.1
+
+      pub claims_agree : (ideal : List Named) → Agrees outs before (n ∷ after) (shown slots l) ideal → Agrees outs before (n ∷ after) (shown both l) ideal
+      claims_agree ideal agrees =
+          record {
+            labels = labels-shown both l ∙ sym (labels-shown slots l) ∙ agrees.labels;
+            same = λ name keeps.
+                found_same both slots l name
+                (second_claims.finds name (λ o i e. kept_name name keeps o i (second_output n o.cell e)) (kept_for name keeps)
+                ∙ first_claims.finds name (λ o i e. kept_name name keeps o i (first_output n o.cell e)) (kept_for name keeps))
+                ∙ agrees.same name keeps;
+          }
+
+      -- what it writes that is virtual stands in its slot
+      stands_there : (o : VirtualOutput) → In o outs → writes n o.cell ≡ true → holder_at both (place_of p o) ≡ Some o
+      stands_there o i w = elim (output_cases n o.cell w) [
+        | inl e ↦ second_claims.keeps o i (used_now outs p before after n plan_here virtual.apart itself o.cell w) (first_claims.stands o i e)
+        | inr e ↦ second_claims.stands o i e
+      ]
+
+      pub claims_stand : (o : VirtualOutput) → In o outs → writes n o.cell ≡ true → StandsAs (shown both l) o
+      claims_stand o i w = of_slot (slice_get both (place_of p o)) refl (stands_there o i w)
+        where
+          name : ℕ
+          name = o.cell.name
+
+          of_slot : (s : Option Slot) → slice_get both (place_of p o) ≡ s → option_and_then (λ (t : Slot). t.holder) s ≡ Some o → StandsAs (shown both l) o
+          of_slot None at e = absurd (cc)
+          of_slot (Some s) at e =
+              let image = virtual_there l name (In-from_All (λ (q : VirtualOutput). HoldsVirtual l q.cell.name) outs virtual.held o i) in
+              let named : is_named name s.holder ≡ true = ap (is_named name) e ∙ eq-eqb name name refl in
+              let alone = alone_at both name (place_of p o) s at named (λ j a here same.
+              let home = second_claims.shared.homes j a here in
+              sym home.1 ∙ ap (place_of p) (one_of_name outs virtual.apart a o home.0 i same)) in
+              record {
+                image = standing_image o s;
+                there =
+                    held-shown both l name
+                    ∙ ap (option_map (shown_as both name)) image.1
+                    ∙ ap (λ (f : Option Slot). Some (standing f (VirtualObject image.0))) (alone_found name s both (place_of p o) alone)
+                    ∙ ap (λ (holder : Option VirtualOutput). Some (image_in s holder (VirtualObject image.0))) e;
+                desc = refl;
+              }
+
+-- ---- what lasts of the table
+
+-- as much lasts of what is held as of what is shown
+lasting_step : (before after : List Named) (slots next : List Slot) → forgotten before after ≡ after → map lasting_named (shown next after) ≡ map lasting_named (shown slots before)
+    → ((o : Named) → In o before → is_virtual_object o.object ≡ false → slot_of next o.name ≡ None) → map lasting_named after ≡ map lasting_named before
+lasting_step [] [] slots next kept lasts free = refl
+lasting_step [] (q ∷ after) slots next kept lasts free = absurd (cc)
+lasting_step (o ∷ before) [] slots next kept lasts free = absurd (cc)
+lasting_step (o ∷ before) (q ∷ after) slots next kept lasts free =
+    let first : (if is_virtual_object o.object then o else q) ≡ q = cc in
+    let rest : forgotten before after ≡ after = cc in
+    let shows : lasting_named (record q { object = shown_as next q.name q.object }) ≡ lasting_named (record o { object = shown_as slots o.name o.object }) = cc in
+    let shows_rest : map lasting_named (shown next after) ≡ map lasting_named (shown slots before) = cc in
+    ap (λ x. x ∷ map lasting_named after) (either (cases_Bool (is_virtual_object o.object)) first shows)
+    ∙ ap (λ xs. lasting_named o ∷ xs) (lasting_step before after slots next rest shows_rest (λ r i. free r (inr i)))
+  where
+    either : (is_virtual_object o.object ≡ true) ⊎ (is_virtual_object o.object ≡ false) → (if is_virtual_object o.object then o else q) ≡ q
+        → lasting_named (record q { object = shown_as next q.name q.object }) ≡ lasting_named (record o { object = shown_as slots o.name o.object }) → lasting_named q ≡ lasting_named o
+    either (inl virtual) first shows = sym (ap lasting_named (sym (ap (λ b. if b then o else q) virtual) ∙ first))
+    either (inr real) first shows =
+        let name : q.name ≡ o.name = ap (λ (x : Named × List Node). x.0.name) shows in
+        let none = ap (slot_of next) name ∙ free o (inl refl) real in
+        sym (ap (λ x. lasting_named (record q { object = x })) (shown_itself next q.name q.object none))
+        ∙ shows
+        ∙ ap (λ x. lasting_named (record o { object = x })) (real_as_it_is slots o.name o.object real)
+
+-- ---- a graph that runs on a stage
+
+one_by_one-more : (before : List Node) (n : Node) (l : List Named) → one_by_one (before ++ n ∷ []) l ≡ with_written (one_by_one before l) (written_by n (held (one_by_one before l)))
+one_by_one-more [] n l = refl
+one_by_one-more (m ∷ before) n l = one_by_one-more before n (with_written l (written_by m (held l)))
+
+-- how a stage is after so many steps of a run that began with these objects
+pub record IsOnCourse (objects : List Named) (v : Verified) (p : PlanValue) (k : ℕ) (l : List Named) (slots : List Slot) : Type 0 where
+  pub shared : AreShared p v.virtual_outputs.items slots
+  pub written : WereWritten (take k v.steps.items) slots
+  pub virtual : forgotten objects l ≡ l
+  pub lasting : map lasting_named l ≡ map lasting_named objects
+  pub agrees : (nodes : List Node) (h : IsReady objects nodes v)
+      → Agrees v.virtual_outputs.items (take k v.steps.items) (drop k v.steps.items) (shown slots l) (one_by_one (take k v.steps.items) (begin objects nodes v h))
+
+-- as it begins, nothing stands in the slots
+pub course_begins : (objects : List Named) (v : Verified) (p : PlanValue) (slots : List Slot) → AreEmpty slots → map room_of slots ≡ planned_rooms p → IsOnCourse objects v p 0 objects slots
+course_begins objects v p slots empty rooms =
+    record {
+      shared = record { rooms = rooms; homes = λ k a at. absurd (none_standing slots empty k a at) };
+      written = λ k a at. absurd (none_standing slots empty k a at);
+      virtual = itself_forgotten objects;
+      lasting = refl;
+      agrees = λ nodes h.
+          subst (λ l. Agrees v.virtual_outputs.items [] v.steps.items l (begin objects nodes v h)) (sym (nothing_stands slots empty objects)) (begins objects nodes v h);
+    }
+  where
+    itself_forgotten : (l : List Named) → forgotten l l ≡ l
+    itself_forgotten [] = refl
+    itself_forgotten (o ∷ l) = ap (λ x. x ∷ forgotten l l) (same (is_virtual_object o.object)) ∙ ap (λ m. o ∷ m) (itself_forgotten l)
+      where
+        same : (b : Bool) → (if b then o else o) ≡ o
+        same true = refl
+        same false = refl
+
+module _ (objects : List Named) (v : Verified) (p : PlanValue) (plan : IsPlan v.steps.items v.virtual_outputs.items p) (k : ℕ) (l : List Named) (slots : List Slot)
+    (course : IsOnCourse objects v p k l slots) where
+  abbrev images : List VirtualOutput
+  images = v.virtual_outputs.items
+
+  labels : map label_of l ≡ map label_of objects
+  labels = map-told lasting_named label_of (λ left. (left.0.name, left.0.live)) (λ _. refl) l objects course.lasting
+
+  pub course_outputs : (nodes : List Node) → IsReady objects nodes v → AreVirtual l images
+  course_outputs nodes h = outputs_stay objects l images labels course.virtual (are_virtual objects nodes v h.runs.0 h.verified h.runs.1)
+
+  -- ---- one step
+
+  module _ (n : Node) (below : k < length v.steps.items) (read : n ≡ get_or v.steps.items k n) where
+    abbrev before : List Node
+    before = take k v.steps.items
+
+    abbrev after : List Node
+    after = drop (k + 1) v.steps.items
+
+    here_on : drop k v.steps.items ≡ n ∷ after
+    here_on = drop_more v.steps.items k n below ∙ ap (λ m. m ∷ after) (sym read)
+
+    parts : v.steps.items ≡ before ++ n ∷ after
+    parts = sym (take-append-drop k v.steps.items) ∙ ap (λ rest. before ++ rest) here_on
+
+    module _ (nodes : List Node) (h : IsReady objects nodes v) (one : List Slot) (first : (j : ℕ) → slice_get one j ≡ claimed_at p images n.out1 j (slice_get slots j)) where
+      -- once its first output has claimed its slot
+      pub first_shared : AreShared p images one
+      first_shared = (first_claims objects nodes v h p plan before after n parts l (course_outputs nodes h) slots one course.shared course.written first).shared
+
+      -- once both outputs have
+      module _ (both : List Slot) (second : (j : ℕ) → slice_get both j ≡ claimed_at p images n.out2 j (slice_get one j)) where
+        claimed_agree : (ms : List Node) (g : IsReady objects ms v) → Agrees images before (n ∷ after) (shown both l) (one_by_one before (begin objects ms v g))
+        claimed_agree ms g =
+            claims_agree objects ms v g p plan before after n parts l (course_outputs ms g) slots one course.shared course.written first both second
+            (one_by_one before (begin objects ms v g))
+            (subst (λ rest. Agrees images before rest (shown slots l) (one_by_one before (begin objects ms v g))) here_on (course.agrees ms g))
+
+        claimed_stand : (ms : List Node) (g : IsReady objects ms v) (o : VirtualOutput) → In o images → writes n o.cell ≡ true → StandsAs (shown both l) o
+        claimed_stand ms g = claims_stand objects ms v g p plan before after n parts l (course_outputs ms g) slots one course.shared course.written first both second
+
+        -- its node can run
+        pub course_runs : CanRunNow (shown both l) n
+        course_runs = can_run_here objects nodes v h before after n parts (shown both l) (claimed_agree nodes h) (claimed_stand nodes h)
+
+        -- and leaves a stage as it is one step later
+        pub course_next : (m : List Named) (next : List Slot) → IsStrictlyIncreasing (names_of l) → map fixed next ≡ map fixed both → forgotten l m ≡ m
+            → shown next m ≡ with_written (shown both l) (written_by n (held (shown both l))) → map lasting_named (shown next m) ≡ map lasting_named (shown both l)
+            → IsOnCourse objects v p (k + 1) m next
+        course_next m next names fixed kept value lasts =
+            let claims = second_claims objects nodes v h p plan before after n parts l (course_outputs nodes h) slots one course.shared course.written first both second in
+            let shared = shared_stay p images both next fixed claims.shared in
+            let more : take (k + 1) v.steps.items ≡ before ++ n ∷ [] = take_more v.steps.items k n below ∙ ap (λ x. before ++ x ∷ []) (sym read) in
+            let free : (o : Named) → In o l → is_virtual_object o.object ≡ false → slot_of next o.name ≡ None =
+            λ o i real. find_nowhere (λ s. is_named o.name s.holder) next (λ j s at. unnamed names shared o i real j s at s.holder refl) in
+            record {
+              shared = shared;
+              written = subst (λ done. WereWritten done next) (sym more) (written_stay (before ++ n ∷ []) both next fixed claims.written);
+              virtual = forgotten-twice objects l m labels course.virtual kept;
+              lasting = lasting_step l m both next kept lasts free ∙ course.lasting;
+              agrees = λ ms g.
+                  let agree = next_agrees objects ms v g before after n parts (shown both l) (claimed_agree ms g) (claimed_stand ms g) in
+                  subst (λ done. Agrees images done after (shown next m) (one_by_one done (begin objects ms v g))) (sym more)
+                  (subst (λ here. Agrees images (before ++ n ∷ []) after here (one_by_one (before ++ n ∷ []) (begin objects ms v g))) (sym value)
+                  (subst (λ ideal. Agrees images (before ++ n ∷ []) after (with_written (shown both l) (written_by n (held (shown both l)))) ideal)
+                  (sym (one_by_one-more before n (begin objects ms v g))) agree));
+            }
+          where
+            unnamed : IsStrictlyIncreasing (names_of l) → AreShared p images next → (o : Named) → In o l → is_virtual_object o.object ≡ false → (j : ℕ) (s : Slot) → slice_get next j ≡ Some s
+                → (holder : Option VirtualOutput) → s.holder ≡ holder → is_named o.name s.holder ≡ false
+            unnamed names shared o i real j s at None e = ap (is_named o.name) e
+            unnamed names shared o i real j s at (Some a) e =
+                ap (is_named o.name) e
+                ∙ false_from_ne_true (a.cell.name == o.name) (λ same.
+                let home = shared.homes j a (ap (option_and_then (λ (t : Slot). t.holder)) at ∙ e) in
+                let virtual = In-from_All (λ (q : VirtualOutput). HoldsVirtual l q.cell.name) images (course_outputs nodes h).held a home.0 in
+                let at_name : object_held l a.cell.name ≡ Some o.object =
+                ap (object_held l) (eqb-true a.cell.name o.name same) ∙ In-from_All (λ (q : Named). object_held l q.name ≡ Some q.object) l (held_by_name l names) o i in
+                let of_kind : Some (object_kind o.object) ≡ Some kind.VirtualImage = sym (ap (option_map object_kind) at_name) ∙ virtual in
+                let kind_so : object_kind o.object ≡ kind.VirtualImage = cc in
+                let virtual_so = kind_is_virtual o.object kind_so in
+                cc)
+
+  -- ---- the end
+
+  pub course_ends : IsStrictlyIncreasing (names_of objects) → length v.steps.items ≤ k → (nodes : List Node) → IsReady objects nodes v
+      → l ≡ run_of_graph (resolved (operand_held objects) nodes) nodes objects
+  course_ends names past nodes h =
+      let done : take k v.steps.items ≡ v.steps.items = take_all k v.steps.items past in
+      let agree : Agrees images v.steps.items [] (shown slots l) (one_by_one v.steps.items (begin objects nodes v h)) =
+      subst (λ rest. Agrees images v.steps.items rest (shown slots l) (one_by_one v.steps.items (begin objects nodes v h))) (drop_all k v.steps.items past)
+      (subst (λ steps. Agrees images steps (drop k v.steps.items) (shown slots l) (one_by_one steps (begin objects nodes v h))) done (course.agrees nodes h)) in
+      let ideal = one_by_one v.steps.items (begin objects nodes v h) in
+      let ideal_labels : map label_of objects ≡ map label_of ideal = sym labels ∙ sym (labels-shown slots l) ∙ agree.labels in
+      let pairs = pairs_of objects names in
+      by_names l (forgotten objects ideal) (subst Rising (sym labels) (rising objects pairs))
+      (labels ∙ ideal_labels ∙ sym (labels-forgotten objects ideal ideal_labels))
+      (λ name. each ideal ideal_labels agree name (object_held objects name) refl)
+      ∙ sym (run_in_order h.runs.0 (operand_held objects) nodes h.runs.1 objects h.cells pairs v.steps.items h.verified.order)
+    where
+      each : (ideal : List Named) → map label_of objects ≡ map label_of ideal → Agrees images v.steps.items [] (shown slots l) ideal → (name : ℕ) (found : Option ObjectValue)
+          → object_held objects name ≡ found → object_held l name ≡ object_held (forgotten objects ideal) name
+      each ideal ideal_labels agree name found at =
+          ap (λ m. object_held m name) (sym course.virtual)
+          ∙ object_held-forgotten objects l (sym labels) name
+          ∙ of_name (cases_Bool (is_output images name))
+          ∙ sym (object_held-forgotten objects ideal ideal_labels name)
+        where
+          real_slot : is_output images name ≡ false → slot_of slots name ≡ None
+          real_slot none = find_nowhere (λ s. is_named name s.holder) slots (λ j s at_j. of_holder j s at_j s.holder refl)
+            where
+              of_holder : (j : ℕ) (s : Slot) → slice_get slots j ≡ Some s → (holder : Option VirtualOutput) → s.holder ≡ holder → is_named name s.holder ≡ false
+              of_holder j s at_j None e = ap (is_named name) e
+              of_holder j s at_j (Some a) e =
+                  ap (is_named name) e
+                  ∙ false_from_ne_true (a.cell.name == name) (λ same.
+                  let home = course.shared.homes j a (ap (option_and_then (λ (t : Slot). t.holder)) at_j ∙ e) in
+                  let some = name_of_output images a home.0 name (sym (eqb-true a.cell.name name same)) in
+                  cc)
+
+          of_name : (is_output images name ≡ true) ⊎ (is_output images name ≡ false)
+              → kept_virtual (object_held objects name) (object_held l name) ≡ kept_virtual (object_held objects name) (object_held ideal name)
+          of_name (inr none) = ap (kept_virtual (object_held objects name)) (sym (found_as_it_is slots l name (real_slot none)) ∙ agree.same name (inl none))
+          of_name (inl some) =
+              let output = In-from_any (λ (o : VirtualOutput). name == o.cell.name) images some in
+              let virtual = (output_object objects nodes v h.runs.0 h.verified h.runs.1 output.0 output.1).1 in
+              let at_name : object_held objects name ≡ Some (VirtualObject virtual.0) = ap (object_held objects) (eqb-true name output.0.cell.name output.2) ∙ virtual.1 in
+              let one = both_held objects l (sym labels) name (VirtualObject virtual.0) at_name in
+              let other = both_held objects ideal ideal_labels name (VirtualObject virtual.0) at_name in
+              ap (λ o. kept_virtual o (object_held l name)) at_name ∙ ap (kept_virtual (Some (VirtualObject virtual.0))) one.1
+              ∙ sym (ap (λ o. kept_virtual o (object_held ideal name)) at_name ∙ ap (kept_virtual (Some (VirtualObject virtual.0))) other.1)

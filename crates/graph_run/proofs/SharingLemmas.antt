@@ -1,0 +1,304 @@
+-- Virtual images that claim their slots: what stands in slots before and after.
+use Rattle.std.proofs.Common.{◌≡◌, ◌≢◌, ℕ, ◌+◌, ◌<◌, Bool, true, false, cond, List, [], ◌∷◌, ◌++◌, map, length, zero, suc, Option, Some, None, ◌⊎◌, inl, inr, refl, sym, ap, subst, ◌∙◌, arith}
+use Rattle.std.specs.Prelude.{◌==◌, ◌||◌, find, slice_get, if◌then◌else◌, is_some, unwrap_or}
+use Rattle.std.specs.List.{AllPairs, list_any}
+use Rattle.std.specs.Option.{option_map, option_and_then}
+use Rattle.std.proofs.lemmas.Bool.{cases_Bool, eqb-true, eq-eqb, ne_eqb, or_left, or_right}
+use Rattle.std.proofs.lemmas.List.Folds.{list_any-append}
+use Rattle.std.proofs.lemmas.Option.{slice_get-map}
+use Rattle.vx_base.specs.declared.node.Node.{Node}
+use Rattle.vx_base.specs.Cell.{Cell, same_cell}
+use Rattle.vx_base.specs.Description.{Description}
+use Rattle.graph_verify.specs.declared.known.VirtualOutput.{VirtualOutput}
+use Rattle.graph_verify.specs.declared.operand.Operand.{Operand}
+use Rattle.graph_verify.specs.declared.verified.Verified.{Verified}
+use Rattle.graph_verify.specs.Verified.{IsVerified, written_description}
+use Rattle.graph_verify.specs.Links.{reads, writes, is_written}
+use Rattle.graph_verify.specs.Members.{In}
+use Rattle.graph_verify.proofs.LinkLemmas.{same_cell-refl, same_cell-true}
+use Rattle.graph_verify.proofs.MemberLemmas.{any-from_In, Contains-from_In}
+use Rattle.graph_verify.proofs.KnownLemmas.{find_cases}
+use Rattle.buffer_plan.specs.Lives.{is_used}
+use Rattle.buffer_plan.specs.Plan.{IsPlan, PlanValue}
+use Rattle.buffer_plan.proofs.TakenLemmas.{one_when_taken}
+use Rattle.graph_run.specs.declared.stage.Slot.{Slot}
+use Rattle.graph_run.specs.Slots.{slot_place, place_of, room_of, planned_rooms, AreShared, claimed_if, claimed_at}
+use Rattle.graph_run.specs.Stage.{is_named, holder_at, claimed}
+use Rattle.graph_run.proofs.SlotLemmas.{same_at_each, Fails, find_agree, HasRoomAt, room_at_home, one_home}
+use Rattle.graph_run.proofs.VerifiedLemmas.{whole, is_output, described_output, output_described}
+
+-- ---- outputs by name
+
+first_apart : (o : VirtualOutput) (outs : List VirtualOutput) → AllPairs (λ a b. a.cell.name ≢ b.cell.name) (o ∷ outs) → (b : VirtualOutput) → In b outs
+    → o.cell.name ≢ b.cell.name
+first_apart o outs apart b i same =
+    let at = Contains-from_In b outs i in
+    let below = at.1 in
+    apart 0 (suc at.0) b (omega arith) (omega (arith, below)) (same ∙ ap (λ (q : VirtualOutput). q.cell.name) (sym at.2))
+
+-- one output has a name
+pub one_of_name : (outs : List VirtualOutput) → AllPairs (λ a b. a.cell.name ≢ b.cell.name) outs → (a b : VirtualOutput) → In a outs → In b outs
+    → a.cell.name ≡ b.cell.name → a ≡ b
+one_of_name [] apart a b i j same = absurd i
+one_of_name (o ∷ outs) apart a b (inl x) (inl y) same = x ∙ sym y
+one_of_name (o ∷ outs) apart a b (inl x) (inr j) same =
+    absurd (first_apart o outs apart b j (ap (λ (q : VirtualOutput). q.cell.name) (sym x) ∙ same))
+one_of_name (o ∷ outs) apart a b (inr i) (inl y) same =
+    absurd (first_apart o outs apart a i (ap (λ (q : VirtualOutput). q.cell.name) (sym y) ∙ sym same))
+one_of_name (o ∷ outs) apart a b (inr i) (inr j) same =
+    one_of_name outs (λ x y d less within. apart (suc x) (suc y) d (omega (arith, less)) (omega (arith, within))) a b i j same
+
+-- its name is an output's
+pub name_of_output : (outs : List VirtualOutput) (o : VirtualOutput) → In o outs → (name : ℕ) → name ≡ o.cell.name → is_output outs name ≡ true
+name_of_output outs o i name same = any-from_In (λ (q : VirtualOutput). name == q.cell.name) o outs i (eq-eqb name o.cell.name same)
+
+-- ---- slots as a node runs
+
+-- what stands in slots was written by these nodes
+abbrev pub WereWritten : List Node → List Slot → Type 0
+WereWritten done slots = (k : ℕ) (a : VirtualOutput) → holder_at slots k ≡ Some a → is_written done a.cell ≡ true
+
+module _ (outs : List VirtualOutput) (p : PlanValue) (before after : List Node) (n : Node) (plan : IsPlan (before ++ n ∷ after) outs p)
+    (apart : AllPairs (λ a b. a.cell.name ≢ b.cell.name) outs) (wholes : (o : VirtualOutput) → In o outs → o.cell ≡ whole o.cell.name) where
+  abbrev done : List Node
+  done = before ++ n ∷ []
+
+  written_either : (c : Cell) → is_written done c ≡ true → (is_written before c || writes n c) ≡ true
+  written_either c w = ap (λ b. is_written before c || b) (sym (or_nothing (writes n c))) ∙ sym (list_any-append (λ m. writes m c) before (n ∷ [])) ∙ w
+    where
+      or_nothing : (b : Bool) → (b || false) ≡ b
+      or_nothing true = refl
+      or_nothing false = refl
+
+  pub written_now : (c : Cell) → writes n c ≡ true → is_written done c ≡ true
+  written_now c w = list_any-append (λ m. writes m c) before (n ∷ []) ∙ or_right (is_written before c) (is_written (n ∷ []) c) (or_left (writes n c) false w)
+
+  pub used_now : (c : Cell) → writes n c ≡ true → is_used (n ∷ after) c ≡ true
+  used_now c w = or_left (reads n c || writes n c) (is_used after c) (or_right (reads n c) (writes n c) w)
+
+  -- what is used still has its place for itself
+  one_claims : (o a : VirtualOutput) → In o outs → In a outs → writes n o.cell ≡ true → is_written done a.cell ≡ true → is_used (n ∷ after) a.cell ≡ true
+      → place_of p a ≡ place_of p o → a ≡ o
+  one_claims o a i j writer written used same =
+      let home = one_home (before ++ n ∷ after) outs p plan a o j i same in
+      one_when_taken before after n outs p plan o a i j home.0 writer (written_either a.cell written) used home.1
+
+  -- ---- one output claims its slot
+
+  module _ (slots next : List Slot) (shared : AreShared p outs slots) (written : WereWritten done slots) (o : VirtualOutput) (i : In o outs) (w : writes n o.cell ≡ true)
+      (claims : (k : ℕ) → slice_get next k ≡ claimed_if p (Some o) k (slice_get slots k)) where
+    at_other : (k : ℕ) → k ≢ place_of p o → slice_get next k ≡ slice_get slots k
+    at_other k other = claims k ∙ ap (λ b. cond b (option_map (claimed o) (slice_get slots k)) (slice_get slots k)) (ne_eqb k (place_of p o) other)
+
+    at_home : slice_get next (place_of p o) ≡ option_map (claimed o) (slice_get slots (place_of p o))
+    at_home =
+        let k = place_of p o in
+        claims k ∙ ap (λ b. cond b (option_map (claimed o) (slice_get slots k)) (slice_get slots k)) (eq-eqb k k refl)
+
+    -- it stands in its place
+    stands : holder_at next (place_of p o) ≡ Some o
+    stands =
+        let room = room_at_home (before ++ n ∷ after) outs p plan slots shared.rooms o i in
+        ap (option_and_then (λ (s : Slot). s.holder)) (at_home ∙ ap (option_map (claimed o)) room.there)
+
+    -- in each other place stands what stood there
+    holders : (k : ℕ) (a : VirtualOutput) → holder_at next k ≡ Some a → ((k ≡ place_of p o) × (a ≡ o)) ⊎ (holder_at slots k ≡ Some a)
+    holders k a h = elim (cases_Bool (k == place_of p o)) [
+      | inl here ↦
+          let same = eqb-true k (place_of p o) here in
+          let now : Some a ≡ Some o = sym h ∙ ap (holder_at next) same ∙ stands in
+          inl (same, (cc))
+      | inr other ↦ inr (sym (ap (option_and_then (λ (s : Slot). s.holder)) (claims k ∙ ap (λ b. cond b (option_map (claimed o) (slice_get slots k)) (slice_get slots k)) other)) ∙ h)
+    ]
+
+    claim_shared : AreShared p outs next
+    claim_shared =
+        record {
+          rooms = same_at_each (map room_of next) (map room_of slots)
+              (λ k. slice_get-map room_of next k ∙ ap (option_map room_of) (claims k) ∙ as_much (k == place_of p o) (slice_get slots k) ∙ sym (slice_get-map room_of slots k))
+              ∙ shared.rooms;
+          homes = λ k a h. elim (holders k a h) [
+            | inl e ↦ (subst (λ (q : VirtualOutput). In q outs) (sym e.1) i, ap (place_of p) e.1 ∙ sym e.0)
+            | inr e ↦ shared.homes k a e
+          ];
+        }
+      where
+        as_much : (b : Bool) (s : Option Slot) → option_map room_of (if b then option_map (claimed o) s else s) ≡ option_map room_of s
+        as_much true None = refl
+        as_much true (Some s) = refl
+        as_much false s = refl
+
+    claim_written : WereWritten done next
+    claim_written k a h = elim (holders k a h) [
+      | inl e ↦ ap (λ (q : VirtualOutput). is_written done q.cell) e.1 ∙ written_now o.cell w
+      | inr e ↦ written k a e
+    ]
+
+    -- another image that is used still, and stands in its place, stays there
+    claim_keeps : (a : VirtualOutput) → In a outs → is_used (n ∷ after) a.cell ≡ true → holder_at slots (place_of p a) ≡ Some a → holder_at next (place_of p a) ≡ Some a
+    claim_keeps a j used there = elim (cases_Bool (place_of p a == place_of p o)) [
+      | inl here ↦
+          let same = eqb-true (place_of p a) (place_of p o) here in
+          let one = one_claims o a i j w (written (place_of p a) a there) used same in
+          ap (holder_at next) same ∙ stands ∙ ap (λ q. Some q) (sym one)
+      | inr other ↦ ap (option_and_then (λ (s : Slot). s.holder)) (claims (place_of p a) ∙ ap (λ b. cond b (option_map (claimed o) (slice_get slots (place_of p a))) (slice_get slots (place_of p a))) other) ∙ there
+    ]
+
+    -- the same is found under another name, if that is no output's or is used still
+    claim_finds : (name : ℕ) → o.cell.name ≢ name → (is_output outs name ≡ false) ⊎ (is_used (n ∷ after) (whole name) ≡ true)
+        → find (λ s. is_named name s.holder) next ≡ find (λ s. is_named name s.holder) slots
+    claim_finds name other for = find_agree (λ s. is_named name s.holder) next slots each
+      where
+        former : (holder : Option VirtualOutput) → holder_at slots (place_of p o) ≡ holder → is_named name holder ≡ false
+        former None at = refl
+        former (Some a) at = elim (cases_Bool (a.cell.name == name)) [
+          | inl same ↦ (
+              let home = shared.homes (place_of p o) a at in
+              let named_so = eqb-true a.cell.name name same in
+              absurd (other (ap (λ (q : VirtualOutput). q.cell.name) (sym (this a home.0 home.1 at named_so for)) ∙ named_so)))
+          | inr fails ↦ fails
+        ]
+          where
+            this : (b : VirtualOutput) → In b outs → place_of p b ≡ place_of p o → holder_at slots (place_of p o) ≡ Some b → b.cell.name ≡ name
+                → (is_output outs name ≡ false) ⊎ (is_used (n ∷ after) (whole name) ≡ true) → b ≡ o
+            this b j home there named_so (inl none) = let some = name_of_output outs b j name (sym named_so) in absurd (cc)
+            this b j home there named_so (inr used) =
+                one_claims o b i j w (written (place_of p o) b there) (ap (is_used (n ∷ after)) (wholes b j ∙ ap whole named_so) ∙ used) home
+
+        each : (k : ℕ) → (slice_get next k ≡ slice_get slots k) ⊎ (Fails (λ s. is_named name s.holder) (slice_get next k) × Fails (λ s. is_named name s.holder) (slice_get slots k))
+        each k = elim (cases_Bool (k == place_of p o)) [
+          | inl here ↦
+              (let same = eqb-true k (place_of p o) here in
+              let room = room_at_home (before ++ n ∷ after) outs p plan slots shared.rooms o i in
+              let was : slice_get slots k ≡ Some room.slot = ap (slice_get slots) same ∙ room.there in
+              let is : slice_get next k ≡ Some (claimed o room.slot) = ap (slice_get next) same ∙ at_home ∙ ap (option_map (claimed o)) room.there in
+              inr (
+                subst (Fails (λ s. is_named name s.holder)) (sym is) (ne_eqb o.cell.name name other),
+                subst (Fails (λ s. is_named name s.holder)) (sym was)
+                    (former room.slot.holder (ap (option_and_then (λ (s : Slot). s.holder)) room.there)),
+              ))
+          | inr elsewhere ↦ inl (claims k ∙ ap (λ b. cond b (option_map (claimed o) (slice_get slots k)) (slice_get slots k)) elsewhere)
+        ]
+
+  -- ---- a node's output claims its slot, if it is a virtual image
+
+  -- what slots are then
+  pub record AreClaimed (output : Option Cell) (slots next : List Slot) : Type 0 where
+    pub shared : AreShared p outs next
+    pub written : WereWritten done next
+    pub stands : (o : VirtualOutput) → In o outs → output ≡ Some o.cell → holder_at next (place_of p o) ≡ Some o
+    pub keeps : (a : VirtualOutput) → In a outs → is_used (n ∷ after) a.cell ≡ true → holder_at slots (place_of p a) ≡ Some a → holder_at next (place_of p a) ≡ Some a
+    pub finds : (name : ℕ) → ((o : VirtualOutput) → In o outs → output ≡ Some o.cell → o.cell.name ≢ name) → (is_output outs name ≡ false) ⊎ (is_used (n ∷ after) (whole name) ≡ true)
+        → find (λ s. is_named name s.holder) next ≡ find (λ s. is_named name s.holder) slots
+
+  -- nothing changes where none claims a slot
+  unclaimed : (output : Option Cell) (slots next : List Slot) → AreShared p outs slots → WereWritten done slots → ((o : VirtualOutput) → In o outs → output ≢ Some o.cell)
+      → slots ≡ next → AreClaimed output slots next
+  unclaimed output slots next shared written none same =
+      subst (AreClaimed output slots) same
+      (record {
+        shared = shared;
+        written = written;
+        stands = λ o i e. absurd (none o i e);
+        keeps = λ a i used there. there;
+        finds = λ name other for. refl;
+      })
+
+  pub output_claims : (output : Option Cell) (slots next : List Slot) → AreShared p outs slots → WereWritten done slots → ((cell : Cell) → output ≡ Some cell → writes n cell ≡ true)
+      → ((k : ℕ) → slice_get next k ≡ claimed_at p outs output k (slice_get slots k)) → AreClaimed output slots next
+  output_claims None slots next shared written given claims =
+      unclaimed None slots next shared written (λ o i e. cc) (same_at_each slots next (λ k. sym (claims k)))
+  output_claims (Some cell) slots next shared written given claims = elim (find_cases (λ (o : VirtualOutput). same_cell o.cell cell) outs) [
+    | inl found ↦
+        (let o = found.0 in
+        let same : o.cell ≡ cell = same_cell-true o.cell cell found.3 in
+        let w : writes n o.cell ≡ true = ap (writes n) same ∙ given cell refl in
+        let i = found.2 in
+        let by_o : (k : ℕ) → slice_get next k ≡ claimed_if p (Some o) k (slice_get slots k) =
+        λ k. claims k ∙ ap (λ f. claimed_if p f k (slice_get slots k)) found.1 in
+        record {
+          shared = claim_shared slots next shared written o i w by_o;
+          written = claim_written slots next shared written o i w by_o;
+          stands = λ a j e.
+              let here : a.cell ≡ o.cell = let there : cell ≡ a.cell = cc in sym there ∙ sym same in
+              let one : a ≡ o = one_of_name outs apart a o j i (ap (λ (c : Cell). c.name) here) in
+              ap (λ (q : VirtualOutput). holder_at next (place_of p q)) one ∙ stands slots next shared written o i w by_o ∙ ap (λ q. Some q) (sym one);
+          keeps = claim_keeps slots next shared written o i w by_o;
+          finds = λ name other for. claim_finds slots next shared written o i w by_o name (other o i (ap (λ c. Some c) (sym same))) for;
+        })
+    | inr none ↦
+        unclaimed (Some cell) slots next shared written
+        (λ o i e.
+        let there : cell ≡ o.cell = cc in
+        let hit : same_cell o.cell cell ≡ true = ap (same_cell o.cell) there ∙ same_cell-refl o.cell in
+        let miss = none.1 o i in
+        cc)
+        (same_at_each slots next (λ k. sym (claims k ∙ ap (λ f. claimed_if p f k (slice_get slots k)) none.0)))
+  ]
+
+-- ---- which slot an output claims
+
+module _ (is : Cell → Operand) (nodes : List Node) (v : Verified) (how : IsVerified is nodes v) (p : PlanValue)
+    (plan : IsPlan v.steps.items v.virtual_outputs.items p) (apart : AllPairs (λ a b. a.cell.name ≢ b.cell.name) v.virtual_outputs.items) where
+  abbrev written : List VirtualOutput
+  written = v.virtual_outputs.items
+
+  -- a cell that is described and has a slot is an output, with its description
+  described_home : (cell : Cell) (d : Description) (k : ℕ) → Some d ≡ written_description is nodes cell → Some k ≡ p.slot_of cell
+      → In (record { cell = cell; desc = d }) written × (place_of p (record { cell = cell; desc = d }) ≡ slot_place p d.format k)
+  described_home cell d k described placed =
+      let output = described_output is nodes v how cell d (sym described) in (
+        subst (λ (o : VirtualOutput). In o written) output.2 output.1,
+        ap (λ s. slot_place p d.format (unwrap_or s 0)) (sym placed),
+      )
+
+  -- it can claim its slot
+  pub record CanClaim (cell : Cell) (d : Description) (at : ℕ) (slots : List Slot) : Type 0 where
+    pub member : In (record { cell = cell; desc = d }) written
+    pub place : at ≡ place_of p (record { cell = cell; desc = d })
+    pub room : HasRoomAt at (record { cell = cell; desc = d }) slots
+
+  pub can_claim : (slots : List Slot) → map room_of slots ≡ planned_rooms p → (cell : Cell) (d : Description) (k : ℕ) → Some d ≡ written_description is nodes cell → Some k ≡ p.slot_of cell
+      → (at : ℕ) → at ≡ slot_place p d.format k → CanClaim cell d at slots
+  can_claim slots rooms cell d k described placed at is_at =
+      let o : VirtualOutput = record { cell = cell; desc = d } in
+      let home = described_home cell d k described placed in
+      let place : at ≡ place_of p o = is_at ∙ sym home.1 in
+      record {
+        member = home.0;
+        place = place;
+        room = subst (λ n. HasRoomAt n o slots) (sym place) (room_at_home v.steps.items written p plan slots rooms o home.0);
+      }
+
+  -- the output of its cell is found
+  pub output_found : (o : VirtualOutput) → In o written → find (λ q. same_cell q.cell o.cell) written ≡ Some o
+  output_found o i = elim (find_cases (λ (q : VirtualOutput). same_cell q.cell o.cell) written) [
+    | inl found ↦ found.1 ∙ ap (λ q. Some q) (one_of_name written apart found.0 o found.2 i (ap (λ (c : Cell). c.name) (same_cell-true found.0.cell o.cell found.3)))
+    | inr none ↦ (let miss = none.1 o i in let hit = same_cell-refl o.cell in absurd (cc))
+  ]
+
+  -- none is found where a cell isn't described, or has no slot
+  pub undescribed_none : (cell : Cell) → None ≡ written_description is nodes cell → find (λ q. same_cell q.cell cell) written ≡ None
+  undescribed_none cell none = elim (find_cases (λ (q : VirtualOutput). same_cell q.cell cell) written) [
+    | inl found ↦
+        (let described = ap (written_description is nodes) (sym (same_cell-true found.0.cell cell found.3)) ∙ output_described is nodes v how found.0 found.2 in
+        let no : ◌≡◌ {A = Option Description} None (Some found.0.desc) = none ∙ described in
+        absurd (cc))
+    | inr none ↦ none.0
+  ]
+
+  pub unplaced_none : (cell : Cell) → None ≡ p.slot_of cell → find (λ q. same_cell q.cell cell) written ≡ None
+  unplaced_none cell none = elim (find_cases (λ (q : VirtualOutput). same_cell q.cell cell) written) [
+    | inl found ↦
+        (let some = plan.given cell ∙ any-from_In (λ (q : VirtualOutput). same_cell q.cell cell) found.0 written found.2 found.3 in
+        let no = subst (λ (s : Option ℕ). is_some s ≡ true) (sym none) some in
+        absurd (cc))
+    | inr none ↦ none.0
+  ]
+
+  -- who claims stands in no other slot
+  pub stands_nowhere_else : (slots : List Slot) → AreShared p written slots → (o : VirtualOutput) → In o written → (k : ℕ) (a : VirtualOutput) → holder_at slots k ≡ Some a
+      → a.cell.name ≡ o.cell.name → k ≡ place_of p o
+  stands_nowhere_else slots shared o i k a at same =
+      let home = shared.homes k a at in
+      sym home.1 ∙ ap (place_of p) (one_of_name written apart a o home.0 i same)

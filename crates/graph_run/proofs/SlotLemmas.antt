@@ -1,0 +1,204 @@
+-- Slots of a plan: where they stand, what they have room for, and what is found in them.
+use Rattle.std.proofs.Common.{◌≡◌, ℕ, ◌+◌, ◌<◌, ◌≤◌, Bool, true, false, cond, List, [], ◌∷◌, ◌++◌, map, length, zero, suc, Option, Some, None, ◌⊎◌, inl, inr, refl, sym, ap, subst, ◌∙◌, arith}
+use Rattle.std.specs.Prelude.{◌==◌, nat_le, IfSome, find, slice_get, is_some, unwrap_or, if◌then◌else◌}
+use Rattle.std.specs.List.{range_with_len, list_any, filter}
+use Rattle.std.specs.Option.{option_map}
+use Rattle.std.proofs.lemmas.Bool.{cases_Bool, eq-eqb}
+use Rattle.std.proofs.lemmas.Bool.Decides.{nat_tests}
+use Rattle.std.proofs.lemmas.List.FromFn.{length-map-range_with_len, get_or-map-range_with_len}
+use Rattle.std.proofs.lemmas.List.{length-append}
+use Rattle.std.proofs.lemmas.Option.{slice_get-map, slice_get-get_or}
+use Rattle.vx_base.specs.declared.format.Format.{Format}
+use Rattle.vx_base.specs.declared.format.Format.TheVariants.{U8, S16, U32}
+use Rattle.vx_base.specs.Cell.{Cell, same_cell}
+use Rattle.vx_base.specs.Description.{sample_count}
+use Rattle.vx_base.specs.Picture.{values, samples_format}
+use Rattle.vx_base.specs.Sample.{same_format}
+use Rattle.graph_verify.specs.declared.known.VirtualOutput.{VirtualOutput}
+use Rattle.vx_base.specs.declared.node.Node.{Node}
+use Rattle.graph_verify.specs.Members.{In}
+use Rattle.graph_verify.proofs.LinkLemmas.{same_cell-refl}
+use Rattle.graph_verify.proofs.MemberLemmas.{any-from_In, In-filter, In-map}
+use Rattle.buffer_plan.specs.Plan.{IsPlan, PlanValue}
+use Rattle.buffer_plan.specs.Slots.{of_format, is_slot, greatest}
+use Rattle.buffer_plan.proofs.PlanLemmas.{same_format-refl}
+use Rattle.graph_run.specs.declared.stage.Slot.{Slot}
+use Rattle.graph_run.specs.Slots.{slot_place, place_of, room_of, rooms_for, planned_rooms}
+use Rattle.graph_run.specs.Stage.{HasRoomFor}
+
+-- ---- elements by place
+
+module _ {X : Type 0} where
+  get_left : (xs ys : List X) (k : ℕ) → k < length xs → slice_get (xs ++ ys) k ≡ slice_get xs k
+  get_left [] ys k below = absurd (omega (arith, below))
+  get_left (x ∷ xs) ys zero below = refl
+  get_left (x ∷ xs) ys (suc k) below = get_left xs ys k (omega (arith, below))
+
+  get_right : (xs ys : List X) (n k : ℕ) → length xs ≡ n → slice_get (xs ++ ys) (n + k) ≡ slice_get ys k
+  get_right [] ys n k long = let same : n + k ≡ k = omega (arith, long) in ap (slice_get ys) same
+  get_right (x ∷ xs) ys n k long =
+      let less : n + k ≡ suc (length xs + k) = omega (arith, long) in
+      ap (slice_get (x ∷ xs ++ ys)) less ∙ get_right xs ys (length xs) k refl
+
+  get_made : (f : ℕ → X) (n k : ℕ) → k < n → slice_get (map f (range_with_len 0 n)) k ≡ Some (f k)
+  get_made f n k below =
+      let long : length (map f (range_with_len 0 n)) ≡ n = length-map-range_with_len f 0 n in
+      slice_get-get_or (map f (range_with_len 0 n)) k (f k) (omega (arith, long, below))
+      ∙ ap (λ x. Some x) (get_or-map-range_with_len f 0 n k k (f k) below (omega arith))
+
+  -- lists of the same element at each place
+  pub same_at_each : (xs ys : List X) → ((k : ℕ) → slice_get xs k ≡ slice_get ys k) → xs ≡ ys
+  same_at_each [] [] h = refl
+  same_at_each [] (y ∷ ys) h = let first = h 0 in absurd (cc first)
+  same_at_each (x ∷ xs) [] h = let first = h 0 in absurd (cc first)
+  same_at_each (x ∷ xs) (y ∷ ys) h =
+      let first : ◌≡◌ {A = Option X} (Some x) (Some y) = h 0 in
+      let head : x ≡ y = cc in
+      ap (λ z. z ∷ xs) head ∙ ap (λ zs. y ∷ zs) (same_at_each xs ys (λ k. h (suc k)))
+
+  -- ---- what is found
+
+  -- something stands there, which doesn't pass
+  abbrev pub Fails : (X → Bool) → Option X → Type 0
+  Fails p None = ⊥
+  Fails p (Some x) = p x ≡ false
+
+  -- two lists that differ at most where neither passes
+  pub find_agree : (p : X → Bool) (xs ys : List X) → ((k : ℕ) → (slice_get xs k ≡ slice_get ys k) ⊎ (Fails p (slice_get xs k) × Fails p (slice_get ys k)))
+      → find p xs ≡ find p ys
+  find_agree p [] [] h = refl
+  find_agree p [] (y ∷ ys) h = elim (h 0) [ inl e ↦ absurd (cc e) | inr e ↦ absurd e.0 ]
+  find_agree p (x ∷ xs) [] h = elim (h 0) [ inl e ↦ absurd (cc e) | inr e ↦ absurd e.1 ]
+  find_agree p (x ∷ xs) (y ∷ ys) h =
+      let rest : find p xs ≡ find p ys = find_agree p xs ys (λ k. h (suc k)) in
+      elim (h 0) [
+        | inl e ↦ let same : x ≡ y = cc in ap (λ z. cond (p z) (Some z) (find p xs)) same ∙ ap (cond (p y) (Some y)) rest
+        | inr e ↦ ap (λ b. cond b (Some x) (find p xs)) e.0 ∙ rest ∙ sym (ap (λ b. cond b (Some y) (find p ys)) e.1)
+      ]
+
+  -- nothing passes
+  pub find_nowhere : (p : X → Bool) (xs : List X) → ((k : ℕ) (x : X) → slice_get xs k ≡ Some x → p x ≡ false) → find p xs ≡ None
+  find_nowhere p [] h = refl
+  find_nowhere p (x ∷ xs) h = ap (λ b. cond b (Some x) (find p xs)) (h 0 x refl) ∙ find_nowhere p xs (λ k y at. h (suc k) y at)
+
+-- ---- where slots stand
+
+module _ (p : PlanValue) where
+  long : (format : Format) → length (rooms_for p format) ≡ p.slot_count format
+  long format = length-map-range_with_len (λ k. let room : Format × ℕ = (format, p.slot_samples format k) in room) 0 (p.slot_count format)
+
+  made_at : (format : Format) (k : ℕ) → k < p.slot_count format → slice_get (rooms_for p format) k ≡ Some (format, p.slot_samples format k)
+  made_at format k below = get_made (λ j. let room : Format × ℕ = (format, p.slot_samples format j) in room) (p.slot_count format) k below
+
+  -- what a slot has room for
+  planned_at : (format : Format) (k : ℕ) → k < p.slot_count format
+      → slice_get (planned_rooms p) (slot_place p format k) ≡ Some (format, p.slot_samples format k)
+  planned_at U8 k below =
+      let u8 = long U8 in
+      let both = length-append (rooms_for p U8) (rooms_for p S16) in
+      get_left (rooms_for p U8 ++ rooms_for p S16) (rooms_for p U32) k (omega (arith, u8, both, below))
+      ∙ get_left (rooms_for p U8) (rooms_for p S16) k (omega (arith, u8, below)) ∙ made_at U8 k below
+  planned_at S16 k below =
+      let u8 = long U8 in
+      let s16 = long S16 in
+      let both = length-append (rooms_for p U8) (rooms_for p S16) in
+      get_left (rooms_for p U8 ++ rooms_for p S16) (rooms_for p U32) (p.slot_count U8 + k) (omega (arith, u8, s16, both, below))
+      ∙ get_right (rooms_for p U8) (rooms_for p S16) (p.slot_count U8) k u8 ∙ made_at S16 k below
+  planned_at U32 k below =
+      let u8 = long U8 in
+      let s16 = long S16 in
+      let both = length-append (rooms_for p U8) (rooms_for p S16) in
+      get_right (rooms_for p U8 ++ rooms_for p S16) (rooms_for p U32) (p.slot_count U8 + p.slot_count S16) k (omega (arith, u8, s16, both))
+      ∙ made_at U32 k below
+
+  -- one slot stands at a place
+  one_slot : (f g : Format) (j k : ℕ) → j < p.slot_count f → k < p.slot_count g → slot_place p f j ≡ slot_place p g k → (f ≡ g) × (j ≡ k)
+  one_slot U8 U8 j k a b same = (refl, same)
+  one_slot U8 S16 j k a b same = absurd (omega (arith, a, b, same))
+  one_slot U8 U32 j k a b same = absurd (omega (arith, a, b, same))
+  one_slot S16 U8 j k a b same = absurd (omega (arith, a, b, same))
+  one_slot S16 S16 j k a b same = (refl, (omega (arith, same)))
+  one_slot S16 U32 j k a b same = absurd (omega (arith, a, b, same))
+  one_slot U32 U8 j k a b same = absurd (omega (arith, a, b, same))
+  one_slot U32 S16 j k a b same = absurd (omega (arith, a, b, same))
+  one_slot U32 U32 j k a b same = (refl, (omega (arith, same)))
+
+-- ---- the slots of virtual images
+
+below_greatest : (n : ℕ) (ns : List ℕ) → In n ns → n ≤ greatest ns
+below_greatest n [] i = absurd i
+below_greatest n (m ∷ ns) (inl same) = grind (arith, nat_tests)
+below_greatest n (m ∷ ns) (inr i) = grind (arith, nat_tests, below_greatest n ns i)
+
+-- a slot of the image's format, with room for it
+pub record HasSlot (p : PlanValue) (o : VirtualOutput) : Type 0 where
+  pub slot : ℕ
+  pub is : p.slot_of o.cell ≡ Some slot
+  pub below : slot < p.slot_count o.desc.format
+  pub room : sample_count o.desc ≤ p.slot_samples o.desc.format slot
+
+-- what has room for the image stands at its place
+pub record HasRoomAt (k : ℕ) (o : VirtualOutput) (slots : List Slot) : Type 0 where
+  pub slot : Slot
+  pub there : slice_get slots k ≡ Some slot
+  pub room : HasRoomFor slot o.desc
+
+module _ (steps : List Node) (outs : List VirtualOutput) (p : PlanValue) (plan : IsPlan steps outs p) where
+  pub has_slot : (o : VirtualOutput) → In o outs → HasSlot p o
+  has_slot o i = of_slot (p.slot_of o.cell) refl
+    where
+      given : is_some (p.slot_of o.cell) ≡ true
+      given = plan.given o.cell ∙ any-from_In (λ (q : VirtualOutput). same_cell q.cell o.cell) o outs i (same_cell-refl o.cell)
+
+      of_slot : (slot : Option ℕ) → p.slot_of o.cell ≡ slot → HasSlot p o
+      of_slot None e = let no = subst (λ (s : Option ℕ). is_some s ≡ true) e given in absurd (cc)
+      of_slot (Some k) e =
+          let format = o.desc.format in
+          let sharers = filter (λ (q : VirtualOutput). is_slot k (p.slot_of q.cell)) (of_format format outs) in
+          let shares : In o sharers =
+          In-filter (λ (q : VirtualOutput). is_slot k (p.slot_of q.cell)) o (of_format format outs)
+          (In-filter (λ (q : VirtualOutput). same_format q.desc.format format) o outs i (same_format-refl format))
+          (ap (is_slot k) e ∙ eq-eqb k k refl) in
+          record {
+            slot = k;
+            is = e;
+            below = subst (λ (s : Option ℕ). IfSome s (λ j. j < p.slot_count format)) e (plan.below o i);
+            room =
+                subst (λ n. sample_count o.desc ≤ n) (sym (plan.samples format k))
+                (below_greatest (sample_count o.desc) (map (λ (q : VirtualOutput). sample_count q.desc) sharers)
+                (In-map (λ (q : VirtualOutput). sample_count q.desc) o sharers shares));
+          }
+
+  home_at : (o : VirtualOutput) (h : HasSlot p o) → place_of p o ≡ slot_place p o.desc.format h.slot
+  home_at o h = ap (λ s. slot_place p o.desc.format (unwrap_or s 0)) h.is
+
+  -- what has room for an image stands in its place
+  pub room_at_home : (slots : List Slot) → map room_of slots ≡ planned_rooms p → (o : VirtualOutput) → In o outs → HasRoomAt (place_of p o) o slots
+  room_at_home slots rooms o i =
+      let h = has_slot o i in
+      let format = o.desc.format in
+      found (slice_get slots (place_of p o)) refl h
+      (sym (slice_get-map room_of slots (place_of p o)) ∙ ap (λ l. slice_get l (place_of p o)) rooms
+      ∙ ap (slice_get (planned_rooms p)) (home_at o h) ∙ planned_at p format h.slot h.below)
+    where
+      found : (s : Option Slot) → slice_get slots (place_of p o) ≡ s → (h : HasSlot p o)
+          → option_map room_of s ≡ Some (o.desc.format, p.slot_samples o.desc.format h.slot) → HasRoomAt (place_of p o) o slots
+      found None at h e = absurd (cc)
+      found (Some s) at h e =
+          let room : room_of s ≡ (o.desc.format, p.slot_samples o.desc.format h.slot) = cc in
+          record {
+            slot = s;
+            there = at;
+            room = record {
+              format = ap (λ r. r.0) room;
+              count = subst (λ n. sample_count o.desc ≤ n) (sym (ap (λ r. r.1) room)) h.room;
+            };
+          }
+
+  -- images in one place have one slot
+  pub one_home : (a b : VirtualOutput) → In a outs → In b outs → place_of p a ≡ place_of p b → (a.desc.format ≡ b.desc.format) × (p.slot_of a.cell ≡ p.slot_of b.cell)
+  one_home a b i j same =
+      let g = has_slot a i in
+      let h = has_slot b j in
+      let one = one_slot p a.desc.format b.desc.format g.slot h.slot g.below h.below (sym (home_at a g) ∙ same ∙ home_at b h) in
+      (one.0, g.is ∙ ap (λ k. Some k) one.1 ∙ sym h.is)
