@@ -1,11 +1,11 @@
 //! PGM texts as pictures, and images as PGM texts (Netpbm, pgm(5)).
 //!
 //! `read` gives the picture that a text stands for, plain (P2) or raw (P5), or the first fault, and
-//! `read_into` writes its samples over others, which `described` tells the size of. `write` gives
-//! the raw text of an image of U8, which is read back as the same picture, and `WrittenHeader` what
-//! that begins with, for whoever has the samples at hand. Of the
-//! definitions `Grammar` says which text stands for which picture, and `Reading` takes a text
-//! apart from its front and computes the picture or the fault; `laws` states that they agree.
+//! `read_into` writes its samples over others, of which `described` tells the format and how many.
+//! `write` gives the raw text of an image of U8, which is read back as the same picture, and
+//! `WrittenHeader` what that begins with, for whoever has the samples at hand. Of the definitions
+//! `Grammar` says which text stands for which picture, and `Reading` takes a text apart from its
+//! front and computes the picture or the fault; `laws` states that they agree.
 //!
 //! - `fault`: why no picture was read
 //! - `marks`: whitespace, comments and numbers
