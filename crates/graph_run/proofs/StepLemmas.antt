@@ -2,6 +2,7 @@
 use Rattle.std.proofs.Common.{◌≡◌, ◌≢◌, ◌⊎◌, inl, inr, ℕ, ◌≤◌, Bool, true, false, cond, List, [], ◌∷◌, map, length, get_or, drop, Option, Some, None, IfSome, IsTrue, refl, sym, ap, subst, ◌∙◌, arith}
 use Rattle.std.specs.Prelude.{All, ◌||◌, is_some, unwrap_or, find}
 use Rattle.std.specs.List.{list_any}
+use Rattle.std.specs.List.Sorted.{IsStrictlyIncreasing}
 use Rattle.std.specs.Option.{option_map, option_and_then}
 use Rattle.std.proofs.lemmas.Bool.{cases_Bool}
 use Rattle.std.proofs.lemmas.List.Elements.{All-nil, All-cons, All-head, All-tail}
@@ -19,7 +20,7 @@ use Rattle.vx_base.specs.Picture.{values, samples_format}
 use Rattle.object_table.specs.declared.object.Content.{Content}
 use Rattle.object_table.specs.declared.object.Content.TheVariants.{Virtual}
 use Rattle.object_table.specs.Delay.{in_slot, object_in}
-use Rattle.object_table.specs.Context.{with_objects}
+use Rattle.object_table.specs.Context.{Context, with_objects}
 use Rattle.object_table.specs.Named.{Named, object_held, held, with_object}
 use Rattle.object_table.specs.Object.{value_of}
 use Rattle.object_table.specs.Table.{cell_object, object_under, HoldsImage, IsUnder}
@@ -28,9 +29,9 @@ use Rattle.graph_run.specs.declared.stage.Slot.{Slot}
 use Rattle.graph_run.specs.declared.stage.Stage.{Stage}
 use Rattle.graph_run.specs.Graph.{is_virtual_object, forgotten}
 use Rattle.graph_run.specs.Lasting.{Lasts}
-use Rattle.graph_run.specs.Stage.{is_named, standing_image, image_in, standing, shown_as, shown, scene, slot_of, HasRoomFor, IsArranged, IsStage, AreFor, HasCount, Resized, Keeps, Stays, fixed, resized, virtual_named}
+use Rattle.graph_run.specs.Stage.{is_named, standing_image, image_in, standing, shown_as, shown, scene, slot_of, holder_at, HasRoomFor, IsArranged, IsStage, AreFor, HasCount, Resized, Keeps, Stays, fixed, resized, virtual_named}
 use Rattle.graph_run.specs.Steps.{Holds, IsRead}
-use Rattle.graph_run.proofs.StageLemmas.{held-shown, real_as_it_is}
+use Rattle.graph_run.proofs.StageLemmas.{held-shown, real_as_it_is, shown-nil}
 use Rattle.graph_run.proofs.StandingLemmas.{real_written, real_arranged, real_keeps}
 
 -- ---- what a cell holds
@@ -343,3 +344,31 @@ no_extremes_image e = cc
 
 pub no_extremes_virtual : kind.Extremes ≢ kind.VirtualImage
 no_extremes_virtual e = cc
+
+-- ---- a stage without slots
+
+module _ (s : Stage) (bare : s.slots.items ≡ []) where
+  -- what is found is what is held
+  pub bare_scene : scene s ≡ s.table
+  bare_scene = ap (λ (slots : List Slot). with_objects s.table (shown slots s.table.objects)) bare ∙ ap (with_objects s.table) (shown-nil s.table.objects)
+
+  no_holder : (k : ℕ) (a : VirtualOutput) → holder_at s.slots.items k ≡ Some a → ⊥
+  no_holder k a h = let none : ◌≡◌ {A = Option VirtualOutput} None (Some a) = sym (ap (λ (slots : List Slot). holder_at slots k) bare) ∙ h in cc
+
+  pub bare_stage : IsStrictlyIncreasing (map (λ o. o.name) s.table.objects) → All (λ o. IsObject o.object) s.table.objects → IsStage s
+  bare_stage names are =
+      record {
+        names = names;
+        held = are;
+        objects = subst (λ (c : Context). All (λ (o : Named). IsObject o.object) c.objects) (sym bare_scene) are;
+        room = subst (λ (slots : List Slot). All (λ (t : Slot). IfSome t.holder (λ o. HasRoomFor t o.desc)) slots) (sym bare) (All-nil (λ (t : Slot). IfSome t.holder (λ o. HasRoomFor t o.desc)));
+        there = λ k a h. absurd (no_holder k a h);
+        apart = λ j k a b h i same. absurd (no_holder j a h);
+      }
+
+  pub still_bare : (after : Stage) → Stays s after → after.slots.items ≡ []
+  still_bare after stays = none after.slots.items (stays.slots ∙ ap (map fixed) bare)
+    where
+      none : (slots : List Slot) → map fixed slots ≡ [] → slots ≡ []
+      none [] same = refl
+      none (t ∷ slots) same = cc
