@@ -60,8 +60,8 @@ fn texts_in_pieces(rt: HostRuntime) -> Result<(), Fail> {
             assert!(rt; served.result.is_ok());
             assert!(rt; served.written.len() > 16);
             assert_eq!(rt; &served.written[..8], b"\0\0\0\x04\0\x01\x06\0".as_slice());
-            let length = (text.len() as u32 + 4).to_be_bytes();
-            assert_eq!(rt; &served.written[8..12], length.as_slice());
+            let length = (text.len() as u64 + 4).to_be_bytes();
+            assert_eq!(rt; &served.written[8..12], &length[4..]);
             assert_eq!(rt; &served.written[12..16], b"\0\x01\x08\0".as_slice());
             assert_eq!(rt; &served.written[16..], text.as_slice());
         }
@@ -85,9 +85,14 @@ fn texts_cut_short(rt: HostRuntime) -> Result<(), Fail> {
         )?;
         let stream = writing(alloc, next.as_slice())?;
         for parts in 1..24 {
-            let count = stream.len() * parts / 24;
+            let count = stream.len() / 24 * parts;
             assert!(rt; 0 < count && count < stream.len());
-            let served = serve_bytes(alloc, &mut runtime, &stream.as_slice()[..count], ALL_AT_ONCE);
+            let served = serve_bytes(
+                alloc,
+                &mut runtime,
+                &stream.as_slice()[..count],
+                ALL_AT_ONCE,
+            );
             assert_eq!(rt; served.result, Err(StreamFault::Truncated));
             assert!(rt; holds(alloc, &mut runtime, first.as_slice())?);
         }

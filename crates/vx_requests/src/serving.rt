@@ -28,8 +28,9 @@ const MOST_READS: u64 = 1_099_511_627_776;
 /// Each frame gets one reply, which is written and flushed before a byte after the frame is asked
 /// for. A frame whose body has at most 64 bytes takes no memory to be read; a longer one for which
 /// there is none is read past and answered NO_MEMORY, and changes nothing. The samples of a longer
-/// WriteImage are read to where the image has them from then on, and those that ReadImage gives are
-/// written from where they stand: none is copied in between.
+/// WriteImage are read to where the image has them from then on, unless it is refused, and those of
+/// a WriteImagePgm go there from its frame. Those that ReadImage and ReadImagePgm give are written
+/// from where they stand.
 ///
 /// Ok is the end of the stream at a frame's start, and `Truncated` its end elsewhere. `BadLength`
 /// comes where a frame says a length below 3 or above 2^27, as soon as its four bytes are read;
