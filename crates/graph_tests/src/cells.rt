@@ -1,5 +1,5 @@
 //! What cells of a table hold: images, and slots of delays.
-ghost use Rattle.std.specs.Prelude.{◌≡◌, [], true, IfOk};
+ghost use Rattle.std.specs.Prelude.{◌≡◌, true, IfOk};
 ghost use Rattle.vx_base.specs.declared.format.Format.TheVariants.{U8};
 ghost use Rattle.vx_base.specs.Cell.{cell_of};
 ghost use Rattle.vx_base.specs.Image.{IsImage, description_of};
@@ -8,10 +8,9 @@ ghost use Rattle.vx_base.specs.Rectangle.{IsWithin};
 ghost use Rattle.object_table.specs.Context.{new_context};
 ghost use Rattle.object_table.specs.Delay.{new_delay};
 ghost use Rattle.object_table.specs.Table.{HoldsImage};
-ghost use Rattle.object_table.specs.Uses.{nodes_in};
 
 use crate::tables::hold;
-use object_table::{Content, Delay, Object, Stored, Table};
+use object_table::{Content, Delay, Stored, Table};
 use pixel_pool::Pool;
 use std::alloc::Global;
 use std::test::Fail;
