@@ -162,13 +162,13 @@ module _ (s : Stage) (is : IsStage s) (at : ℕ) (image : VirtualOutput) (t new 
   apart : (j k : ℕ) (a b : VirtualOutput) → holder_at (set slots at new) j ≡ Some a → holder_at (set slots at new) k ≡ Some b → a.cell.name ≡ b.cell.name → j ≡ k
   apart j k a b h i same = elim (who j a h) [
     | inl x ↦ elim (who k b i) [
-        | inl y ↦ x.0 ∙ sym y.0
-        | inr y ↦ x.0 ∙ sym (elsewhere k b y.1 (sym same ∙ ap (λ (o : VirtualOutput). o.cell.name) x.1))
-      ]
+      | inl y ↦ x.0 ∙ sym y.0
+      | inr y ↦ x.0 ∙ sym (elsewhere k b y.1 (sym same ∙ ap (λ (o : VirtualOutput). o.cell.name) x.1))
+    ]
     | inr x ↦ elim (who k b i) [
-        | inl y ↦ elsewhere j a x.1 (same ∙ ap (λ (o : VirtualOutput). o.cell.name) y.1) ∙ sym y.0
-        | inr y ↦ is.apart j k a b x.1 y.1 same
-      ]
+      | inl y ↦ elsewhere j a x.1 (same ∙ ap (λ (o : VirtualOutput). o.cell.name) y.1) ∙ sym y.0
+      | inr y ↦ is.apart j k a b x.1 y.1 same
+    ]
   ]
 
   there_all : (k : ℕ) (a : VirtualOutput) → holder_at (set slots at new) k ≡ Some a → HoldsVirtual s.table.objects a.cell.name
