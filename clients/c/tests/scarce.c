@@ -14,16 +14,34 @@ static void on_entry(vx_context of, vx_reference ref, vx_status status, const vx
     entries++;
 }
 
-/* A graph from a to b through so many virtual images. */
-static vx_graph chain(int links) {
+static vx_image through(vx_graph graph) {
+    return vxCreateVirtualImage(graph, SIDE, SIDE, VX_DF_IMAGE_U8);
+}
+
+/* A graph from a to b through one virtual image. */
+static vx_graph little(void) {
     vx_graph graph = vxCreateGraph(context);
-    vx_image last = a;
-    for (int i = 0; i < links; i++) {
-        vx_image next = vxCreateVirtualImage(graph, SIDE, SIDE, VX_DF_IMAGE_U8);
-        EXPECT(VX_SUCCESS, STATUS(vxNotNode(graph, last, next)));
+    vx_image image = through(graph);
+    EXPECT(VX_SUCCESS, STATUS(vxNotNode(graph, a, image)));
+    EXPECT(VX_SUCCESS, STATUS(vxNotNode(graph, image, b)));
+    return graph;
+}
+
+/* A graph from a to b through many virtual images that are all needed at one time: the first MANY
+   come one from the other, and what joins them begins with the last. */
+static vx_graph much(void) {
+    vx_graph graph = vxCreateGraph(context);
+    vx_image images[MANY];
+    for (int i = 0; i < MANY; i++) {
+        images[i] = through(graph);
+        EXPECT(VX_SUCCESS, STATUS(vxNotNode(graph, i ? images[i - 1] : a, images[i])));
+    }
+    vx_image last = images[MANY - 1];
+    for (int i = MANY - 2; i >= 0; i--) {
+        vx_image next = i ? through(graph) : b;
+        EXPECT(VX_SUCCESS, STATUS(vxAndNode(graph, last, images[i], next)));
         last = next;
     }
-    EXPECT(VX_SUCCESS, STATUS(vxNotNode(graph, last, b)));
     return graph;
 }
 
@@ -38,7 +56,7 @@ int main(void) {
     b = vxCreateImage(context, SIDE, SIDE, VX_DF_IMAGE_U8);
     memset(samples, 3, COUNT);
     EXPECT(VX_SUCCESS, copy_whole(a, SIDE, SIDE, 1, samples, VX_WRITE_ONLY));
-    vx_graph large = chain(MANY), small = chain(1);
+    vx_graph large = much(), small = little();
     EXPECT(VX_ERROR_NO_MEMORY, vxProcessGraph(large));
     EXPECT(VX_SUCCESS, vxProcessGraph(small));
     EXPECT(VX_SUCCESS, vxScheduleGraph(large));
