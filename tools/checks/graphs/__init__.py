@@ -12,7 +12,8 @@ from checks.graphs.runs import runs, squares, through_virtual_images, valid_in_g
 from checks.graphs.verdicts import verdicts
 from checks.graphs.virtual import declarations, open_outputs
 from checks.graphs.worked import (
-    details, graphs_on_delays, long_graphs, removed_nodes, reused_buffers, sums_that_wrap)
+    details, graphs_on_delays, image_read_twice, long_graphs, removed_nodes, reused_buffers,
+    sums_that_wrap)
 from checks.sessions.rows import added, graph, made, no_room, opened, processed, virtual
 
 
@@ -48,6 +49,7 @@ def sessions():
     yield "details", details()
     yield "graphs on delays", graphs_on_delays()
     yield "graphs in reused buffers", reused_buffers()
+    yield "an image that is read twice", image_read_twice()
     yield "nodes that are removed", removed_nodes()
     yield "sums that wrap", sums_that_wrap()
     yield "graphs of 256 nodes in a row", long_graphs()

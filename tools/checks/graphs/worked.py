@@ -7,7 +7,7 @@ from feqyldan.wire import (
     ABSOLUTE_DIFFERENCE, ADD, BOX, CONVERT_DEPTH, GAUSSIAN, INVALID_FORMAT, INVALID_GRAPH,
     INVALID_LINK, INVALID_REFERENCE, INVALID_TYPE, INVALID_VALUE, MAX_PIXEL, MULTIPLE_WRITERS,
     OPTIMIZED_AWAY, SATURATE, THRESHOLD, U8, WRAP, node, reference)
-from checks.graphs.cast import in_graph, inverse
+from checks.graphs.cast import both, in_graph, inverse
 from checks.sessions.rows import (
     CLIENT, NOWHERE, REPLICATE, added, aged, closed, confined, delayed, graph, holds, in_slots,
     made, name, opened, processed, released, removed, shows, told, verified, virtual, wrote)
@@ -91,6 +91,16 @@ def reused_buffers():
         *(wrote(number, U8, [255] * 56, *size) for number in (2, 3)), added(4, 1, inverse(5, 3)),
         added(4, 2, inverse(2, 5)), processed(4), holds(3, U8, [255] * 56, *size), closed(),
         *second(),
+    ]
+
+
+def image_read_twice():
+    """Two nodes read what a third writes, and a fourth what both of them write, in two runs."""
+    nodes = (inverse(1, 4), inverse(4, 5), inverse(4, 6), both(5, 6, 2))
+    return [
+        opened(), made(1, U8), made(2, U8), graph(3), *(virtual(number, 3) for number in (4, 5, 6)),
+        *in_graph(nodes, 3), wrote(1, U8, [10]), processed(3), holds(2, U8, [10]),
+        wrote(1, U8, [20]), processed(3), holds(2, U8, [20]),
     ]
 
 

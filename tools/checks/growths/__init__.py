@@ -8,10 +8,14 @@ from typing import Iterator, List, Set, Tuple
 
 from feqyldan import wire
 from checks.graphs.limits import under_quotas
-from checks.graphs.worked import graph_before_and_after_ageing, reused_buffers
+from checks.graphs.worked import (
+    graph_before_and_after_ageing, image_read_twice, reused_buffers)
 from checks.growths.graphs import graphs
 from checks.growths.refusing import check, op_of, refuse_each, refuse_in_apply
 from checks.growths.session import session
+from checks.sessions.nodes import nodes_that_run
+from checks.sessions.statistics import histograms, places_of_extremes
+from checks.sessions.texts import pgm_texts
 from checks.tables.endings import TURNS
 
 DEFAULT = 268_435_456
@@ -26,7 +30,11 @@ def streams() -> Iterator[Tuple[str, int, List[bytes]]]:
     quota, rows = next(under_quotas())
     for words, limit, of in (
         ("with a graph on a delay", DEFAULT, graph_before_and_after_ageing()),
+        ("with an image that is read twice", DEFAULT, image_read_twice()),
         ("with reused buffers", DEFAULT, reused_buffers()), ("under a small quota", quota, rows),
+        ("of nodes by themselves", DEFAULT, nodes_that_run()),
+        ("of histograms", DEFAULT, histograms()), ("of extremes", DEFAULT, places_of_extremes()),
+        ("of PGM texts", DEFAULT, pgm_texts()),
     ):
         yield words, limit, [request for request, _ in of]
 
