@@ -35,16 +35,16 @@ pub fn not(input: u32, output: u32) -> Result<NodeSpec, Fail>
 fn numbers_are_not_used_again(rt: HostRuntime) -> Result<(), Fail> {
     let mut graph = Graph::new(rt.alloc());
     let (first, second) = (not(1, 2)?, not(2, 3)?);
-    assert_eq!(rt; graph.add_node(first), Ok(1));
-    assert_eq!(rt; graph.add_node(second), Ok(2));
-    assert_eq!(rt; graph.remove_node(3), Err(GraphFault::InvalidReference));
-    assert_eq!(rt; graph.remove_node(1), Ok(first));
-    assert_eq!(rt; graph.remove_node(1), Err(GraphFault::InvalidReference));
-    assert_eq!(rt; graph.add_node(first), Ok(3));
+    assert!(rt; graph.add_node(first) == Ok(1));
+    assert!(rt; graph.add_node(second) == Ok(2));
+    assert!(rt; graph.remove_node(3) == Err(GraphFault::InvalidReference));
+    assert!(rt; graph.remove_node(1) == Ok(first));
+    assert!(rt; graph.remove_node(1) == Err(GraphFault::InvalidReference));
+    assert!(rt; graph.add_node(first) == Ok(3));
     let nodes = graph.nodes();
-    assert_eq!(rt; nodes.len(), 2);
-    assert_eq!(rt; (nodes[0].number, nodes[0].node), (2, second));
-    assert_eq!(rt; (nodes[1].number, nodes[1].node), (3, first));
+    assert!(rt; nodes.len() == 2);
+    assert!(rt; (nodes[0].number, nodes[0].node) == (2, second));
+    assert!(rt; (nodes[1].number, nodes[1].node) == (3, first));
     Ok(())
 }
 
@@ -54,12 +54,12 @@ fn a_graph_has_at_most_256_nodes(rt: HostRuntime) -> Result<(), Fail> {
     let node = not(1, 2)?;
     for number in 1..257 {
         assert!(rt; graph.can_add());
-        assert_eq!(rt; graph.add_node(node), Ok(number));
+        assert!(rt; graph.add_node(node) == Ok(number));
     }
     assert!(rt; !graph.can_add());
-    assert_eq!(rt; graph.add_node(node), Err(GraphFault::NoResources));
-    assert_eq!(rt; graph.remove_node(7), Ok(node));
-    assert_eq!(rt; graph.add_node(node), Ok(257));
+    assert!(rt; graph.add_node(node) == Err(GraphFault::NoResources));
+    assert!(rt; graph.remove_node(7) == Ok(node));
+    assert!(rt; graph.add_node(node) == Ok(257));
     Ok(())
 }
 
@@ -69,14 +69,14 @@ fn open_parts_are_filled(rt: HostRuntime) -> Result<(), Fail> {
     let open = Outline::new(Some(5), None, None).ok_or("within the limits")?;
     assert!(rt; Outline::new(Some(0), None, None).is_none());
     assert!(rt; Outline::new(None, Some(4097), None).is_none());
-    assert_eq!(rt; open.closed(), None);
+    assert!(rt; open.closed() == None);
     let filled = open.filled(Outline::of(desc));
-    assert_eq!(rt; (filled.width(), filled.height()), (Some(5), Some(2)));
-    assert_eq!(rt; filled.format(), Some(Format::S16));
-    assert_eq!(rt; filled.closed(), Desc::new(5, 2, Format::S16));
-    assert_eq!(rt; Outline::of(desc).closed(), Some(desc));
-    assert_eq!(rt; Function::ConvertDepth.open_format(Format::S16), Format::U8);
-    assert_eq!(rt; Function::Sobel.open_format(Format::U8), Format::S16);
+    assert!(rt; (filled.width(), filled.height()) == (Some(5), Some(2)));
+    assert!(rt; filled.format() == Some(Format::S16));
+    assert!(rt; filled.closed() == Desc::new(5, 2, Format::S16));
+    assert!(rt; Outline::of(desc).closed() == Some(desc));
+    assert!(rt; Function::ConvertDepth.open_format(Format::S16) == Format::U8);
+    assert!(rt; Function::Sobel.open_format(Format::U8) == Format::S16);
     Ok(())
 }
 
@@ -104,15 +104,12 @@ fn a_verified_graph_has_an_order_and_descriptions(rt: HostRuntime) -> Result<(),
     let (last, first) = (not(2, 3)?, not(1, 2)?);
     let nodes = [linked(last, between, image), linked(first, image, between)];
     let verified = verify(rt.alloc(), &nodes, 6).or(Err("it can run"))?;
-    assert_eq!(rt; verified.steps.len(), 2);
-    assert_eq!(rt;
-        (verified.steps[0], verified.steps[1]),
-        (first.node(), last.node())
-    );
-    assert_eq!(rt; verified.desc_of(ObjRef::new(2, None)), Some(desc));
-    assert_eq!(rt; verified.desc_of(ObjRef::new(3, None)), None);
+    assert!(rt; verified.steps.len() == 2);
+    assert!(rt; (verified.steps[0], verified.steps[1]) == (first.node(), last.node()));
+    assert!(rt; verified.desc_of(ObjRef::new(2, None)) == Some(desc));
+    assert!(rt; verified.desc_of(ObjRef::new(3, None)) == None);
     let refused = verify(rt.alloc(), &nodes, 5).err();
-    assert_eq!(rt; refused, Some(VerifyFault::Refused(Verdict::NoResources)));
+    assert!(rt; refused == Some(VerifyFault::Refused(Verdict::NoResources)));
     Ok(())
 }
 
@@ -184,32 +181,32 @@ fn figures(holdings: &Holdings) -> (usize, u64, usize) {
 #[test]
 fn what_a_node_uses_is_held(rt: HostRuntime) -> Result<(), Fail> {
     let mut holdings = images_and_a_graph(rt.alloc())?;
-    assert_eq!(rt; add_not(&mut holdings, 3, 1, 2)?, 1);
-    assert_eq!(rt; add_not(&mut holdings, 3, 1, 1)?, 2);
-    assert_eq!(rt; count_of_nodes(&holdings.table, 3), 2);
-    assert_eq!(rt; holdings.release(1), Ok(()));
-    assert_eq!(rt; holdings.release(1), Err(TableFault::InvalidReference));
+    assert!(rt; add_not(&mut holdings, 3, 1, 2)? == 1);
+    assert!(rt; add_not(&mut holdings, 3, 1, 1)? == 2);
+    assert!(rt; count_of_nodes(&holdings.table, 3) == 2);
+    assert!(rt; holdings.release(1) == Ok(()));
+    assert!(rt; holdings.release(1) == Err(TableFault::InvalidReference));
     assert!(rt; holdings.table.get(1).is_err() && holdings.table.get_held(1).is_some());
-    assert_eq!(rt; figures(&holdings), (3, 8, 2));
+    assert!(rt; figures(&holdings) == (3, 8, 2));
     remove_node(&mut holdings, 3, 1)?;
-    assert_eq!(rt; figures(&holdings), (3, 8, 2));
+    assert!(rt; figures(&holdings) == (3, 8, 2));
     remove_node(&mut holdings, 3, 2)?;
     assert!(rt; holdings.table.get_held(1).is_none());
-    assert_eq!(rt; figures(&holdings), (2, 4, 1));
-    assert_eq!(rt; count_of_nodes(&holdings.table, 3), 0);
+    assert!(rt; figures(&holdings) == (2, 4, 1));
+    assert!(rt; count_of_nodes(&holdings.table, 3) == 0);
     Ok(())
 }
 
 #[test]
 fn a_released_graph_uses_nothing(rt: HostRuntime) -> Result<(), Fail> {
     let mut holdings = images_and_a_graph(rt.alloc())?;
-    assert_eq!(rt; add_not(&mut holdings, 3, 1, 2)?, 1);
-    assert_eq!(rt; holdings.release(2), Ok(()));
-    assert_eq!(rt; figures(&holdings), (3, 8, 2));
-    assert_eq!(rt; holdings.release(3), Ok(()));
+    assert!(rt; add_not(&mut holdings, 3, 1, 2)? == 1);
+    assert!(rt; holdings.release(2) == Ok(()));
+    assert!(rt; figures(&holdings) == (3, 8, 2));
+    assert!(rt; holdings.release(3) == Ok(()));
     let table = &holdings.table;
     assert!(rt; table.get_held(2).is_none() && table.get(1).is_ok());
-    assert_eq!(rt; figures(&holdings), (1, 4, 1));
+    assert!(rt; figures(&holdings) == (1, 4, 1));
     Ok(())
 }
 
@@ -219,8 +216,8 @@ fn virtual_images_are_charged_nothing(rt: HostRuntime) -> Result<(), Fail> {
     let image = VirtualImage { graph: 1, declared };
     let mut table = Table::new(rt.alloc());
     let object = Object::new(Content::Virtual(image));
-    assert_eq!(rt; object.kind(), Kind::VirtualImage);
-    assert_eq!(rt; table.insert(object).ok(), Some(1));
-    assert_eq!(rt; (table.held(), table.charged_bytes()), (1, 0));
+    assert!(rt; object.kind() == Kind::VirtualImage);
+    assert!(rt; table.insert(object).ok() == Some(1));
+    assert!(rt; (table.held(), table.charged_bytes()) == (1, 0));
     Ok(())
 }

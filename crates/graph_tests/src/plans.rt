@@ -86,13 +86,13 @@ fn five_images_of_a_chain_have_two_slots(rt: HostRuntime) -> Result<(), Fail> {
     ];
     let verified = verify(rt.alloc(), &chain, 100).or(Err("it can run"))?;
     let plan = Plan::new(rt.alloc(), &verified)?;
-    assert_eq!(rt; slots(&plan, Format::U8), (2, Some(2)));
-    assert_eq!(rt; slots(&plan, Format::S16), (0, None));
-    assert_eq!(rt; slots(&plan, Format::U32), (0, None));
-    assert_eq!(rt; plan.slot_of(cell(1)), None);
+    assert!(rt; slots(&plan, Format::U8) == (2, Some(2)));
+    assert!(rt; slots(&plan, Format::S16) == (0, None));
+    assert!(rt; slots(&plan, Format::U32) == (0, None));
+    assert!(rt; plan.slot_of(cell(1)) == None);
     assert!(rt; plan.slot_of(cell(20)).is_some());
     assert!(rt; plan.slot_of(cell(20)) != plan.slot_of(cell(21)));
-    assert_eq!(rt; plan.slot_of(cell(20)), plan.slot_of(cell(22)));
+    assert!(rt; plan.slot_of(cell(20)) == plan.slot_of(cell(22)));
     Ok(())
 }
 
@@ -106,7 +106,7 @@ fn an_image_lives_to_the_last_step_that_reads_it(rt: HostRuntime) -> Result<(), 
     ];
     let verified = verify(rt.alloc(), &nodes, 100).or(Err("it can run"))?;
     let plan = Plan::new(rt.alloc(), &verified)?;
-    assert_eq!(rt; slots(&plan, Format::U8), (3, Some(3)));
+    assert!(rt; slots(&plan, Format::U8) == (3, Some(3)));
     Ok(())
 }
 
@@ -115,8 +115,8 @@ fn images_that_nobody_reads_live_at_their_own_step(rt: HostRuntime) -> Result<()
     let nodes = [node(Function::Sobel, 1, None, 20, Some(21))];
     let verified = verify(rt.alloc(), &nodes, 100).or(Err("it can run"))?;
     let plan = Plan::new(rt.alloc(), &verified)?;
-    assert_eq!(rt; slots(&plan, Format::S16), (2, Some(1)));
-    assert_eq!(rt; slots(&plan, Format::U8), (0, None));
+    assert!(rt; slots(&plan, Format::S16) == (2, Some(1)));
+    assert!(rt; slots(&plan, Format::U8) == (0, None));
     Ok(())
 }
 
@@ -125,10 +125,10 @@ fn a_slot_has_room_for_the_greatest_of_its_images(rt: HostRuntime) -> Result<(),
     let nodes = [not(10, 20), not(20, 11), not(1, 21), not(21, 2)];
     let verified = verify(rt.alloc(), &nodes, 100).or(Err("it can run"))?;
     let plan = Plan::new(rt.alloc(), &verified)?;
-    assert_eq!(rt; slots(&plan, Format::U8), (1, Some(1)));
-    assert_eq!(rt; plan.slot_of(cell(20)), plan.slot_of(cell(21)));
-    assert_eq!(rt; plan.slot_samples(Format::U8, 0), 9);
-    assert_eq!(rt; plan.slot_samples(Format::U8, 1), 0);
+    assert!(rt; slots(&plan, Format::U8) == (1, Some(1)));
+    assert!(rt; plan.slot_of(cell(20)) == plan.slot_of(cell(21)));
+    assert!(rt; plan.slot_samples(Format::U8, 0) == 9);
+    assert!(rt; plan.slot_samples(Format::U8, 1) == 0);
     Ok(())
 }
 
@@ -137,7 +137,7 @@ fn a_graph_without_virtual_images_has_no_slots(rt: HostRuntime) -> Result<(), Fa
     let nodes = [not(1, 2)];
     let verified = verify(rt.alloc(), &nodes, 100).or(Err("it can run"))?;
     let plan = Plan::new(rt.alloc(), &verified)?;
-    assert_eq!(rt; slots(&plan, Format::U8), (0, None));
-    assert_eq!(rt; plan.slot_of(cell(2)), None);
+    assert!(rt; slots(&plan, Format::U8) == (0, None));
+    assert!(rt; plan.slot_of(cell(2)) == None);
     Ok(())
 }

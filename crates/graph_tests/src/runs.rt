@@ -37,13 +37,13 @@ fn objects_are_operands(rt: HostRuntime) -> Result<(), Fail> {
     let mut pool = Pool::new(rt.alloc());
     let delay = Delay::new(rt.alloc(), &mut pool, desc, slots)?;
     let delay = Object::new(Content::Delay(delay));
-    assert_eq!(rt; operand_of(&delay), Operand::Delay);
-    assert_eq!(rt; operand_in(&delay, None), Some(Operand::Delay));
-    assert_eq!(rt; operand_in(&delay, Some(1)), Some(Operand::Image(desc)));
-    assert_eq!(rt; operand_in(&delay, Some(2)), None);
+    assert!(rt; operand_of(&delay) == Operand::Delay);
+    assert!(rt; operand_in(&delay, None) == Some(Operand::Delay));
+    assert!(rt; operand_in(&delay, Some(1)) == Some(Operand::Image(desc)));
+    assert!(rt; operand_in(&delay, Some(2)) == None);
     let image = Object::new(Content::Image(Stored::new(&mut pool, desc)?));
-    assert_eq!(rt; operand_in(&image, None), Some(Operand::Image(desc)));
-    assert_eq!(rt; operand_in(&image, Some(0)), None);
+    assert!(rt; operand_in(&image, None) == Some(Operand::Image(desc)));
+    assert!(rt; operand_in(&image, Some(0)) == None);
     Ok(())
 }
 
@@ -66,7 +66,7 @@ fn not_of(alloc: Global, samples: [u8; 2]) -> Result<[u8; 2], Fail> {
 
 #[test]
 fn a_node_writes_its_output(rt: HostRuntime) -> Result<(), Fail> {
-    assert_eq!(rt; not_of(rt.alloc(), [10, 255])?, [245, 0]);
+    assert!(rt; not_of(rt.alloc(), [10, 255])? == [245, 0]);
     Ok(())
 }
 
@@ -135,9 +135,9 @@ fn a_graph_runs_through_a_virtual_image(rt: HostRuntime) -> Result<(), Fail> {
     run_two(alloc, &mut table, &mut pool, input, output, open)?;
     assert!(rt; holds(&mut table, 1, [10, 255]));
     assert!(rt; holds(&mut table, 2, [10, 255]));
-    assert_eq!(rt; (table.held(), table.charged_bytes()), (4, 4));
+    assert!(rt; (table.held(), table.charged_bytes()) == (4, 4));
 
     // The block in which the virtual image stood is free again.
-    assert_eq!(rt; (pool.blocks(Format::U8), pool.free(Format::U8)), (3, 1));
+    assert!(rt; (pool.blocks(Format::U8), pool.free(Format::U8)) == (3, 1));
     Ok(())
 }

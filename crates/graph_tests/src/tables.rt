@@ -20,20 +20,20 @@ fn names_follow_each_other(rt: HostRuntime) -> Result<(), Fail> {
     let desc = small()?;
     let mut holdings = Holdings::new(rt.alloc());
     for name in 1..5 {
-        assert_eq!(rt; holdings.insert(desc)?, name);
+        assert!(rt; holdings.insert(desc)? == name);
     }
-    assert_eq!(rt; holdings.release(4), Ok(()));
-    assert_eq!(rt; holdings.release(4), Err(TableFault::InvalidReference));
-    assert_eq!(rt; holdings.insert(desc)?, 5);
+    assert!(rt; holdings.release(4) == Ok(()));
+    assert!(rt; holdings.release(4) == Err(TableFault::InvalidReference));
+    assert!(rt; holdings.insert(desc)? == 5);
     let table = &holdings.table;
-    assert_eq!(rt; table.held(), 4);
-    assert_eq!(rt; table.charged_bytes(), 16);
+    assert!(rt; table.held() == 4);
+    assert!(rt; table.charged_bytes() == 16);
     assert!(rt; table.get_held(5).is_some());
     assert!(rt; table.get_held(4).is_none());
     let found = table.get(3).map(|object| object.kind());
-    assert_eq!(rt; found, Ok(Kind::Image));
+    assert!(rt; found == Ok(Kind::Image));
     let lost = table.get(4).map(|object| object.kind());
-    assert_eq!(rt; lost, Err(TableFault::InvalidReference));
+    assert!(rt; lost == Err(TableFault::InvalidReference));
     Ok(())
 }
 
@@ -46,10 +46,10 @@ fn at_most_1024_are_held(rt: HostRuntime) -> Result<(), Fail> {
     }
     assert!(rt; !holdings.table.can_insert());
     let refused = holdings.offer(desc)?.err().ok_or("one too many")?;
-    assert_eq!(rt; refused.fault, TableFault::NoResources);
-    assert_eq!(rt; refused.object.bytes(), 4);
-    assert_eq!(rt; holdings.release(1), Ok(()));
-    assert_eq!(rt; holdings.insert(desc)?, 1025);
+    assert!(rt; refused.fault == TableFault::NoResources);
+    assert!(rt; refused.object.bytes() == 4);
+    assert!(rt; holdings.release(1) == Ok(()));
+    assert!(rt; holdings.insert(desc)? == 1025);
     Ok(())
 }
 
@@ -60,17 +60,17 @@ fn a_delay_has_its_slots(rt: HostRuntime) -> Result<(), Fail> {
     assert!(rt; SlotCount::new(17).is_none());
     let mut pool = Pool::new(rt.alloc());
     let mut delay = Delay::new(rt.alloc(), &mut pool, desc, slots)?;
-    assert_eq!(rt; pool.lent(Format::S16), 3);
+    assert!(rt; pool.lent(Format::S16) == 3);
     delay.age();
     for k in 0..3 {
         let found = delay.slot(k).map(|image| image.desc());
-        assert_eq!(rt; found, Ok(desc));
+        assert!(rt; found == Ok(desc));
     }
     let lost = delay.slot(3).map(|image| image.desc());
-    assert_eq!(rt; lost, Err(TableFault::InvalidValue));
+    assert!(rt; lost == Err(TableFault::InvalidValue));
     let object = Object::new(Content::Delay(delay));
-    assert_eq!(rt; object.kind(), Kind::Delay);
-    assert_eq!(rt; object.bytes(), 36);
+    assert!(rt; object.kind() == Kind::Delay);
+    assert!(rt; object.bytes() == 36);
     Ok(())
 }
 
@@ -95,14 +95,14 @@ fn a_convolution_is_held(rt: HostRuntime) -> Result<(), Fail> {
     let convolution = Convolution::new(3, 5, 31, &coefficients).ok_or("allowed")?;
     let mut table = Table::new(rt.alloc());
     let name = hold(&mut table, Content::Convolution(convolution))?;
-    assert_eq!(rt; kind_of(&table, name), Some((Kind::Convolution, 0)));
+    assert!(rt; kind_of(&table, name) == Some((Kind::Convolution, 0)));
     let Ok(object) = table.get(name) else {
         return Err("its name is live".into());
     };
     let Content::Convolution(held) = object.content() else {
         return Err("a convolution".into());
     };
-    assert_eq!(rt; (held.columns(), held.rows(), held.exponent()), (3, 5, 31));
+    assert!(rt; (held.columns(), held.rows(), held.exponent()) == (3, 5, 31));
     assert!(rt; held.coefficients() == &coefficients[..]);
     Ok(())
 }
@@ -136,7 +136,7 @@ fn a_distribution_has_the_last_counts(rt: HostRuntime) -> Result<(), Fail> {
         &mut table,
         Content::Distribution(Distribution::new(alloc, bins)?),
     )?;
-    assert_eq!(rt; kind_of(&table, name), Some((Kind::Distribution, 0)));
+    assert!(rt; kind_of(&table, name) == Some((Kind::Distribution, 0)));
     assert!(rt; counts_of(&table, name) == Some(&[0, 0, 0, 0]));
     for counts in [[1, 2, 3, 4], [4294967295, 0, 0, 7], [0, 1, 0, 0]] {
         assert!(rt; set_counts(&mut table, name, &counts));
@@ -144,7 +144,7 @@ fn a_distribution_has_the_last_counts(rt: HostRuntime) -> Result<(), Fail> {
     }
     assert!(rt; !set_counts(&mut table, name, &[1, 2, 3]));
     assert!(rt; !set_counts(&mut table, 1, &[1, 2, 3, 4]));
-    assert_eq!(rt; table.charged_bytes(), 4);
+    assert!(rt; table.charged_bytes() == 4);
     Ok(())
 }
 
@@ -189,13 +189,13 @@ fn extremes_are_the_last(rt: HostRuntime) -> Result<(), Fail> {
     let image = Stored::new(&mut Pool::new(alloc), small()?)?;
     hold(&mut table, Content::Image(image))?;
     let name = hold(&mut table, Content::Extremes(nowhere))?;
-    assert_eq!(rt; kind_of(&table, name), Some((Kind::Extremes, 0)));
-    assert_eq!(rt; extremes_of(&table, name), Some(nowhere));
+    assert!(rt; kind_of(&table, name) == Some((Kind::Extremes, 0)));
+    assert!(rt; extremes_of(&table, name) == Some(nowhere));
     for extremes in [found, nowhere] {
         assert!(rt; set_extremes(&mut table, name, extremes));
-        assert_eq!(rt; extremes_of(&table, name), Some(extremes));
+        assert!(rt; extremes_of(&table, name) == Some(extremes));
     }
     assert!(rt; !set_extremes(&mut table, 1, found));
-    assert_eq!(rt; kind_of(&table, 1), Some((Kind::Image, 4)));
+    assert!(rt; kind_of(&table, 1) == Some((Kind::Image, 4)));
     Ok(())
 }

@@ -34,7 +34,7 @@ fn each_has_its_quota(rt: HostRuntime) -> Result<(), Fail> {
     for (client, format, count) in [(1, Format::U8, 2), (2, Format::U8, 2), (3, Format::S16, 1)] {
         let desc = Desc::new(2, 2, format).ok_or("within the limits")?;
         let made = images_made(rt.alloc(), &mut runtime, client, desc);
-        assert_eq!(rt; made, Some(count), "client {client}");
+        assert!(rt; made == Some(count), "client {client}");
     }
     Ok(())
 }
@@ -50,14 +50,14 @@ fn what_is_released_leaves_room(rt: HostRuntime) -> Result<(), Fail> {
     let limits = Limits::new(8, 1).ok_or("within the limits")?;
     let desc = Desc::new(2, 2, Format::U8).ok_or("within the limits")?;
     let mut runtime = Runtime::new(alloc, limits);
-    assert_eq!(rt; images_made(alloc, &mut runtime, 1, desc), Some(2));
+    assert!(rt; images_made(alloc, &mut runtime, 1, desc) == Some(2));
     let released = reply(alloc, &mut runtime, &Request::Release(1))?;
     assert!(rt; matches!(released, Reply::Empty));
     let made = reply(alloc, &mut runtime, &Request::CreateImage(desc))?;
     assert!(rt; matches!(made, Reply::Name(3)));
     let closed = reply(alloc, &mut runtime, &Request::ReleaseContext)?;
     assert!(rt; matches!(closed, Reply::Empty));
-    assert_eq!(rt; images_made(alloc, &mut runtime, 1, desc), Some(2));
+    assert!(rt; images_made(alloc, &mut runtime, 1, desc) == Some(2));
     Ok(())
 }
 

@@ -133,8 +133,8 @@ fn pictures_in_pieces(rt: HostRuntime) -> Result<(), Fail> {
             let served = serve_bytes(alloc, &mut runtime, stream.as_slice(), devices);
             assert!(rt; served.result.is_ok());
             assert!(rt; written < stream.len() && served.written.len() > 16);
-            assert_eq!(rt; &served.written[..8], b"\0\0\0\x04\0\x01\x05\0".as_slice());
-            assert_eq!(rt; &served.written[16..], read(&stream[..written]));
+            assert!(rt; &served.written[..8] == b"\0\0\0\x04\0\x01\x05\0".as_slice());
+            assert!(rt; &served.written[16..] == read(&stream[..written]));
         }
     }
     Ok(())
@@ -153,7 +153,7 @@ fn pictures_cut_short(rt: HostRuntime) -> Result<(), Fail> {
             let count = next.len() / 24 * parts;
             assert!(rt; count < next.len());
             let served = serve_bytes(alloc, &mut runtime, &next.as_slice()[..count], ALL_AT_ONCE);
-            assert_eq!(rt; served.result, Err(StreamFault::Truncated));
+            assert!(rt; served.result == Err(StreamFault::Truncated));
             assert!(rt; holds(alloc, &mut runtime, first.as_slice())?);
             let fails = Devices {
                 source_piece: next.len() / 32,
@@ -161,7 +161,7 @@ fn pictures_cut_short(rt: HostRuntime) -> Result<(), Fail> {
                 ..ALL_AT_ONCE
             };
             let served = serve_bytes(alloc, &mut runtime, next.as_slice(), fails);
-            assert_eq!(rt; served.result, Err(StreamFault::ReadFailed));
+            assert!(rt; served.result == Err(StreamFault::ReadFailed));
             assert!(rt; holds(alloc, &mut runtime, first.as_slice())?);
         }
         ask(alloc, &mut runtime, next.as_slice())?;
@@ -189,8 +189,8 @@ fn pictures_refused(rt: HostRuntime) -> Result<(), Fail> {
         stream.extend_from_slice(frame(alloc, &Request::ReadImage(image()))?.as_slice())?;
         let replies = ask(alloc, &mut runtime, stream.as_slice())?;
         assert!(rt; replies.len() > 16);
-        assert_eq!(rt; replies[7], code);
-        assert_eq!(rt; &replies[16..], read(first.as_slice()));
+        assert!(rt; replies[7] == code);
+        assert!(rt; &replies[16..] == read(first.as_slice()));
     }
     ask(alloc, &mut runtime, next.as_slice())?;
     assert!(rt; holds(alloc, &mut runtime, next.as_slice())?);

@@ -5,7 +5,7 @@ use client_contexts::Runtime;
 use client_model::{Limits, Reply, Request};
 use std::alloc::Global;
 use std::test::Fail;
-use vx_base::{Desc, Format, ObjRef, Picture, Samples, SlotCount};
+use vx_base::{Desc, Format, ObjRef, Outline, Picture, Samples, SlotCount};
 
 /// How many blocks of U8, of S16 and of U32 are lent.
 fn lent(runtime: &Runtime) -> [usize; 3] {
@@ -96,14 +96,14 @@ fn a_new_image_is_cleared_and_uses_the_block_of_a_released_one(
         let mut runtime = opened(alloc)?;
         for name in 1..4 {
             let created = create(alloc, &mut runtime, &Request::CreateImage(desc))?;
-            assert_eq!(rt; created, name);
+            assert!(rt; created == name);
             let cell = ObjRef::new(name, None);
             assert!(rt; is_cleared(alloc, &mut runtime, cell)?, "{name}");
             fill(alloc, &mut runtime, cell, desc)?;
             assert!(rt; !is_cleared(alloc, &mut runtime, cell)?, "{name}");
-            assert_eq!(rt; (lent(&runtime), blocks(&runtime)), (one, one));
+            assert!(rt; (lent(&runtime), blocks(&runtime)) == (one, one));
             ask(alloc, &mut runtime, &Request::Release(name))?;
-            assert_eq!(rt; (lent(&runtime), blocks(&runtime)), ([0; 3], one));
+            assert!(rt; (lent(&runtime), blocks(&runtime)) == ([0; 3], one));
         }
     }
     Ok(())
@@ -121,16 +121,16 @@ fn a_new_delay_is_cleared_and_uses_the_blocks_of_a_released_one(
     let exemplar = ObjRef::new(1, None);
     for name in 2..5 {
         let created = create(alloc, &mut runtime, &Request::CreateDelay(exemplar, slots))?;
-        assert_eq!(rt; created, name);
+        assert!(rt; created == name);
         for slot in 0..3 {
             let cell = ObjRef::new(name, Some(slot));
             assert!(rt; is_cleared(alloc, &mut runtime, cell)?, "{name} {slot}");
             fill(alloc, &mut runtime, cell, desc)?;
         }
         ask(alloc, &mut runtime, &Request::AgeDelay(name))?;
-        assert_eq!(rt; (lent(&runtime), blocks(&runtime)), ([0, 4, 0], [0, 4, 0]));
+        assert!(rt; (lent(&runtime), blocks(&runtime)) == ([0, 4, 0], [0, 4, 0]));
         ask(alloc, &mut runtime, &Request::Release(name))?;
-        assert_eq!(rt; (lent(&runtime), blocks(&runtime)), ([0, 1, 0], [0, 4, 0]));
+        assert!(rt; (lent(&runtime), blocks(&runtime)) == ([0, 1, 0], [0, 4, 0]));
     }
     Ok(())
 }
@@ -147,26 +147,31 @@ fn a_released_context_has_given_all_blocks_back(rt: HostRuntime) -> Result<(), F
         create(alloc, &mut runtime, &Request::CreateDelay(exemplar, slots))?;
     }
     create(alloc, &mut runtime, &Request::CreateMinMax)?;
-    assert_eq!(rt; lent(&runtime), [17; 3]);
+    assert!(rt; lent(&runtime) == [17; 3]);
     ask(alloc, &mut runtime, &Request::ReleaseContext)?;
-    assert_eq!(rt; (lent(&runtime), blocks(&runtime)), ([0; 3], [17; 3]));
+    assert!(rt; (lent(&runtime), blocks(&runtime)) == ([0; 3], [17; 3]));
     Ok(())
 }
 
 #[test]
-fn a_run_gives_back_the_blocks_of_virtual_images(rt: HostRuntime) -> Result<(), Fail> {
+fn a_chain_runs_through_two_blocks_and_gives_them_back(rt: HostRuntime) -> Result<(), Fail> {
     let alloc = rt.alloc();
     let mut runtime = Runtime::new(alloc, Limits::default());
     assert!(rt; makes_a_graph(alloc, &mut runtime)?);
-    for (input, output) in [(1, 4), (4, 2)] {
+    let open = Outline::new(None, None, None).ok_or("nothing is declared")?;
+    for name in 5..9 {
+        let created = create(alloc, &mut runtime, &Request::CreateVirtualImage(3, open))?;
+        assert!(rt; created == name);
+    }
+    for (input, output) in [(1, 4), (4, 5), (5, 6), (6, 7), (7, 8), (8, 2)] {
         add_not(alloc, &mut runtime, input, output)?;
     }
-    assert_eq!(rt; (lent(&runtime), blocks(&runtime)), ([2, 0, 0], [2, 0, 0]));
+    assert!(rt; (lent(&runtime), blocks(&runtime)) == ([2, 0, 0], [2, 0, 0]));
     for sample in [10, 20] {
         write_sample(alloc, &mut runtime, sample)?;
         ask(alloc, &mut runtime, &Request::ProcessGraph(3))?;
         assert!(rt; holds(alloc, &mut runtime, sample)?);
-        assert_eq!(rt; (lent(&runtime), blocks(&runtime)), ([2, 0, 0], [3, 0, 0]));
+        assert!(rt; (lent(&runtime), blocks(&runtime)) == ([2, 0, 0], [4, 0, 0]));
     }
     Ok(())
 }
@@ -178,11 +183,11 @@ fn images_in_turn_use_one_block(rt: HostRuntime) -> Result<(), Fail> {
     for side in 1..65 {
         let desc = Desc::new(side, 65 - side, Format::U32).ok_or("within the limits")?;
         let name = create(alloc, &mut runtime, &Request::CreateImage(desc))?;
-        assert_eq!(rt; (lent(&runtime), blocks(&runtime)), ([0, 0, 1], [0, 0, 1]));
+        assert!(rt; (lent(&runtime), blocks(&runtime)) == ([0, 0, 1], [0, 0, 1]));
         ask(alloc, &mut runtime, &Request::Release(name))?;
     }
-    assert_eq!(rt; (lent(&runtime), blocks(&runtime)), ([0; 3], [0, 0, 1]));
+    assert!(rt; (lent(&runtime), blocks(&runtime)) == ([0; 3], [0, 0, 1]));
     runtime.drop_free();
-    assert_eq!(rt; (lent(&runtime), blocks(&runtime)), ([0; 3], [0; 3]));
+    assert!(rt; (lent(&runtime), blocks(&runtime)) == ([0; 3], [0; 3]));
     Ok(())
 }

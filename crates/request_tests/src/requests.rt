@@ -227,7 +227,7 @@ fn stops_at_a_write_that_fails(rt: HostRuntime) -> Result<(), Fail> {
     let (_, whole) = write(rt.alloc(), &request, NEVER);
     for good_writes in [0, 1, 2, 3, 100, 400] {
         let (result, taken) = write(rt.alloc(), &request, good_writes);
-        assert_eq!(rt; result, Err(StreamFault::WriteFailed));
+        assert!(rt; result == Err(StreamFault::WriteFailed));
         assert!(rt; whole.as_slice().starts_with(taken.as_slice()));
         assert!(rt; taken.len() < whole.len());
     }

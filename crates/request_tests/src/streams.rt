@@ -97,13 +97,13 @@ fn in_pieces(rt: HostRuntime) {
             ..ALL_AT_ONCE
         };
         let served = serve_turns(rt.alloc(), devices);
-        assert_eq!(rt; served.written.as_slice(), REPLIES);
-        assert_eq!(rt;
-            served.result,
-            Ok(Summary {
-                requests: 8,
-                refused: 0
-            })
+        assert!(rt; served.written.as_slice() == REPLIES);
+        assert!(rt;
+            served.result
+                == Ok(Summary {
+                    requests: 8,
+                    refused: 0
+                })
         );
     }
 }
@@ -131,9 +131,8 @@ fn each_read_and_each_write_failing(rt: HostRuntime) {
             ..ALL_AT_ONCE
         };
         let fault = StreamFault::ReadFailed;
-        assert_eq!(rt;
-            ends_well(&rt, rt.alloc(), reads, fault),
-            good > 98,
+        assert!(rt;
+            ends_well(&rt, rt.alloc(), reads, fault) == (good > 98),
             "{good} reads"
         );
         let writes = Devices {
@@ -142,9 +141,8 @@ fn each_read_and_each_write_failing(rt: HostRuntime) {
             ..ALL_AT_ONCE
         };
         let fault = StreamFault::WriteFailed;
-        assert_eq!(rt;
-            ends_well(&rt, rt.alloc(), writes, fault),
-            good > 91,
+        assert!(rt;
+            ends_well(&rt, rt.alloc(), writes, fault) == (good > 91),
             "{good} writes"
         );
     }
@@ -157,7 +155,7 @@ fn a_write_that_takes_nothing(rt: HostRuntime) {
         ..ALL_AT_ONCE
     };
     let served = serve_turns(rt.alloc(), devices);
-    assert_eq!(rt; served.result, Err(StreamFault::WriteFailed));
+    assert!(rt; served.result == Err(StreamFault::WriteFailed));
     assert!(rt; served.written.is_empty());
 }
 
@@ -208,9 +206,9 @@ fn how_far_it_reads(rt: HostRuntime) {
         ),
     ] {
         let served = serve_bytes(rt.alloc(), &mut runtime, stream, ALL_AT_ONCE);
-        assert_eq!(rt; served.result, Err(fault), "{stream:?}");
-        assert_eq!(rt; served.written.as_slice(), written, "{stream:?}");
-        assert_eq!(rt; served.left, left, "{stream:?}");
+        assert!(rt; served.result == Err(fault), "{stream:?}");
+        assert!(rt; served.written.as_slice() == written, "{stream:?}");
+        assert!(rt; served.left == left, "{stream:?}");
     }
 }
 
@@ -226,11 +224,10 @@ fn goes_on_after_a_good_end(rt: HostRuntime) {
         (open, b"\x00\x00\x00\x04\x00\x07\x01\x07", 1, 1),
     ] {
         let served = serve_bytes(rt.alloc(), &mut runtime, stream, ALL_AT_ONCE);
-        assert_eq!(rt;
-            served.result,
-            Ok(Summary { requests, refused }),
+        assert!(rt;
+            served.result == Ok(Summary { requests, refused }),
             "{stream:?}"
         );
-        assert_eq!(rt; served.written.as_slice(), written, "{stream:?}");
+        assert!(rt; served.written.as_slice() == written, "{stream:?}");
     }
 }

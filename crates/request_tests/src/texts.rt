@@ -59,11 +59,11 @@ fn texts_in_pieces(rt: HostRuntime) -> Result<(), Fail> {
             let served = serve_bytes(alloc, &mut runtime, stream.as_slice(), devices);
             assert!(rt; served.result.is_ok());
             assert!(rt; served.written.len() > 16);
-            assert_eq!(rt; &served.written[..8], b"\0\0\0\x04\0\x01\x06\0".as_slice());
+            assert!(rt; &served.written[..8] == b"\0\0\0\x04\0\x01\x06\0".as_slice());
             let length = (text.len() as u64 + 4).to_be_bytes();
-            assert_eq!(rt; &served.written[8..12], &length[4..]);
-            assert_eq!(rt; &served.written[12..16], b"\0\x01\x08\0".as_slice());
-            assert_eq!(rt; &served.written[16..], text.as_slice());
+            assert!(rt; &served.written[8..12] == &length[4..]);
+            assert!(rt; &served.written[12..16] == b"\0\x01\x08\0".as_slice());
+            assert!(rt; &served.written[16..] == text.as_slice());
         }
     }
     Ok(())
@@ -93,7 +93,7 @@ fn texts_cut_short(rt: HostRuntime) -> Result<(), Fail> {
                 &stream.as_slice()[..count],
                 ALL_AT_ONCE,
             );
-            assert_eq!(rt; served.result, Err(StreamFault::Truncated));
+            assert!(rt; served.result == Err(StreamFault::Truncated));
             assert!(rt; holds(alloc, &mut runtime, first.as_slice())?);
         }
         ask(alloc, &mut runtime, stream.as_slice())?;
@@ -130,8 +130,8 @@ fn texts_refused(rt: HostRuntime) -> Result<(), Fail> {
         stream.extend_from_slice(reading(alloc)?.as_slice())?;
         let replies = ask(alloc, &mut runtime, stream.as_slice())?;
         assert!(rt; replies.len() > 16);
-        assert_eq!(rt; replies[7], code);
-        assert_eq!(rt; &replies[16..], first.as_slice());
+        assert!(rt; replies[7] == code);
+        assert!(rt; &replies[16..] == first.as_slice());
     }
     for (text, code) in [
         (b"P5 1 1 300\n\x01\x2c".as_slice(), 5),
@@ -152,6 +152,6 @@ fn no_texts_of_shorts(rt: HostRuntime) -> Result<(), Fail> {
     let desc = Desc::new(4, 3, Format::S16).ok_or("within the limits")?;
     let mut runtime = opened(alloc, desc)?;
     let replies = ask(alloc, &mut runtime, reading(alloc)?.as_slice())?;
-    assert_eq!(rt; replies.as_slice(), b"\0\0\0\x04\0\x01\x08\x05".as_slice());
+    assert!(rt; replies.as_slice() == b"\0\0\0\x04\0\x01\x08\x05".as_slice());
     Ok(())
 }

@@ -38,7 +38,7 @@ fn serves_streams(rt: HostRuntime) {
         let mut written = Vec::new(rt.alloc());
         let ended = run(rt.alloc(), &["serve"], input, &mut written);
         assert!(rt; ended.is_ok());
-        assert_eq!(rt; written.as_slice(), output);
+        assert!(rt; written.as_slice() == output);
     }
 }
 
@@ -58,11 +58,11 @@ fn ends_with_a_status_and_a_line(rt: HostRuntime) {
         match run(rt.alloc(), &["serve"], input, &mut written) {
             Ok(()) => assert!(rt; false, "ended well"),
             Err(ended) => {
-                assert_eq!(rt; ended.status(), status);
-                assert_eq!(rt; ended.line(), line);
+                assert!(rt; ended.status() == status);
+                assert!(rt; ended.line() == line);
             }
         }
-        assert_eq!(rt; written.as_slice(), output);
+        assert!(rt; written.as_slice() == output);
     }
 }
 
@@ -81,13 +81,13 @@ fn tells_why_it_ended(rt: HostRuntime) -> Result<(), Fail> {
         (Ended::Refused(Code::NoMemory), 5, "NO_MEMORY"),
         (Ended::Refused(Code::NoResources), 5, "NO_RESOURCES"),
     ] {
-        assert_eq!(rt; ended.status(), status);
-        assert_eq!(rt; ended.line(), line);
+        assert!(rt; ended.status() == status);
+        assert!(rt; ended.line() == line);
     }
     let text = "error: unknown word".to_string(rt.alloc())?;
     let ended = Ended::CommandLine(text);
-    assert_eq!(rt; ended.status(), 2);
-    assert_eq!(rt; ended.line(), "error: unknown word");
+    assert!(rt; ended.status() == 2);
+    assert!(rt; ended.line() == "error: unknown word");
     Ok(())
 }
 
@@ -145,7 +145,7 @@ fn allows_each_client_its_quota(rt: HostRuntime) {
         let mut written = Vec::new(rt.alloc());
         let ended = run(rt.alloc(), words, CREATES, &mut written);
         assert!(rt; ended.is_ok(), "{words:?}");
-        assert_eq!(rt; written.as_slice(), output, "{words:?}");
+        assert!(rt; written.as_slice() == output, "{words:?}");
     }
 }
 
@@ -157,12 +157,12 @@ fn refuses(rt: &impl Abort, alloc: Global, words: &[&str], text: &str) {
     match run(alloc, words, &mut input, &mut written) {
         Ok(()) => assert!(rt; false, "{words:?}"),
         Err(ended) => {
-            assert_eq!(rt; ended.status(), 2, "{words:?}");
+            assert!(rt; ended.status() == 2, "{words:?}");
             assert!(rt; ended.line().contains(text), "{words:?}: {}", ended.line());
         }
     }
     assert!(rt; written.is_empty());
-    assert_eq!(rt; input.len(), REQUESTS.len());
+    assert!(rt; input.len() == REQUESTS.len());
 }
 
 #[test]
@@ -329,7 +329,7 @@ fn applies_functions(rt: HostRuntime) {
         let mut written = Vec::new(rt.alloc());
         let ended = run(rt.alloc(), words, input, &mut written);
         assert!(rt; ended.is_ok(), "{words:?}");
-        assert_eq!(rt; written.as_slice(), output, "{words:?}");
+        assert!(rt; written.as_slice() == output, "{words:?}");
     }
 }
 
@@ -339,8 +339,8 @@ fn ends<R: Read + Drop>(rt: &impl Abort, alloc: Global, reader: R, status: u8, l
     match run(alloc, &["apply", "erode"], reader, &mut written) {
         Ok(()) => assert!(rt; false, "ended well, not {line}"),
         Err(ended) => {
-            assert_eq!(rt; ended.status(), status);
-            assert_eq!(rt; ended.line(), line);
+            assert!(rt; ended.status() == status);
+            assert!(rt; ended.line() == line);
         }
     }
     assert!(rt; written.is_empty());
@@ -427,8 +427,8 @@ fn tells_a_writer_that_fails(rt: HostRuntime) {
         match run(rt.alloc(), &["apply", "not"], text, FailingWriter { room }) {
             Ok(()) => assert!(rt; false, "ended well, not {line}"),
             Err(ended) => {
-                assert_eq!(rt; ended.status(), status);
-                assert_eq!(rt; ended.line(), line);
+                assert!(rt; ended.status() == status);
+                assert!(rt; ended.line() == line);
             }
         }
     }
