@@ -30,8 +30,7 @@ use Rattle.graph_run.proofs.LastingLemmas.{skeletons-last, lasting-with_slot, ce
 -- two slots of one object
 other_slot : (j k : Option ℕ) (new object : ObjectValue) → TwoSlots j k → in_slot j (with_slot k new object) ≡ in_slot j object
 other_slot (Some j) (Some k) new object apart = with_slot_beside j k new object apart
-other_slot None k new object apart = absurd apart
-other_slot (Some j) None new object apart = absurd apart
+other_slot j k new object apart = absurd apart
 
 module _ (objects : List Named) (q : Cell) where
   -- what stands apart stays

@@ -1,6 +1,5 @@
 -- What cells hold after objects are written to some of them.
-use Rattle.std.proofs.Common.{◌≡◌, ℕ, Bool, true, false, ◌&&◌, if◌then◌else◌, eqb, List, [], ◌∷◌, ◌++◌, map, refl, sym, ap, subst, ◌∙◌, inl, inr, Option, Some, None, IsTrue, arith, rules}
-use Rattle.std.specs.Prelude.{is_some}
+use Rattle.std.proofs.Common.{◌≡◌, ℕ, Bool, true, false, ◌&&◌, if◌then◌else◌, eqb, List, [], ◌∷◌, ◌++◌, map, refl, sym, ap, subst, ◌∙◌, inl, inr, Option, Some, None, arith, rules}
 use Rattle.std.specs.Option.{option_map, option_and_then, option_or}
 use Rattle.std.proofs.lemmas.Bool.{cases_Bool, eqb-true, eqb-false}
 use Rattle.vx_base.specs.declared.kind.Kind.TheVariants as kind
@@ -47,10 +46,6 @@ pub record IsWrite (objects : List Named) (cell : Cell) (object : ObjectValue) :
 kind_of_form : (o : Option ObjectValue) (new : ObjectValue) → option_map form_of o ≡ Some (form_of new) → option_map object_kind o ≡ Some (object_kind new)
 kind_of_form o new f = sym (kind-form_seen o) ∙ ap (option_map object_kind) f ∙ ap Some (kind-form new)
 
-there : (o : Option ObjectValue) (new : ObjectValue) → option_map form_of o ≡ Some (form_of new) → IsTrue (is_some o)
-there None new f = absurd (cc f)
-there (Some x) new f = refl
-
 whole_stays : (j : ℕ) (new x : ObjectValue) → shown (with_slot (Some j) new x) ≡ shown x
 whole_stays j (ImageObject image) (DelayObject images) = refl
 whole_stays j new x = refl
@@ -62,7 +57,7 @@ slot_written (Some k) None new x f d = grind (arith, is_delay x, is_delay-form x
 slot_written None (Some j) new x f d = ap {B = Option ObjectValue} Some (whole_stays j new x)
 slot_written (Some k) (Some j) new x f d = elim (cases_Bool (eqb k j)) [
   | inl e ↦
-      (let image = slot_has_image j x (there (in_slot (Some j) x) new f) in
+      (let image = slot_has_image j x (grind arith) in
       let is : object_kind new ≡ kind.Image = let g = kind_of_form (in_slot (Some j) x) new f in cc in
       let same : new ≡ ImageObject (image_value new) = image_of_kind new is in
       let stands = with_slot_there (Some j) (image_value new) x image in

@@ -76,10 +76,6 @@ form-output_of n output first second None = refl
 
 -- ---- the list of what a node writes
 
-or_false : (b : Bool) → (b || false) ≡ b
-or_false true = refl
-or_false false = refl
-
 pub writes-outputs : (n : Node) (c : Cell) → writes n c ≡ (is_cell n.out1 c || is_cell n.out2 c)
 writes-outputs n c = grind arith
 
@@ -124,10 +120,6 @@ pub record IsGiven (n : Node) (output : Output) (o : Option Cell) (held : Cell �
   pub old : held c ≡ Some out
   pub gives : object ≡ node_output n output first (option_and_then held n.in2) out
 
-IsGiven-from_In : (n : Node) (output : Output) (o : Option Cell) (held : Cell → Option ObjectValue) (w : Cell × ObjectValue) → In w (written_in n output o held) → IsGiven n output o held w.0 w.1
-IsGiven-from_In n output None held w i = absurd i
-IsGiven-from_In n output (Some d) held w i = grind (arith, same_cell-refl d)
-
 given_cases : (n : Node) (held : Cell → Option ObjectValue) (w : Cell × ObjectValue) → In w (written_by n held) → IsGiven n First n.out1 held w.0 w.1 ⊎ IsGiven n Second n.out2 held w.0 w.1
 given_cases n held w i = grind (arith, In-append w (written_in n First n.out1 held) (written_in n Second n.out2 held) i)
 
@@ -139,10 +131,7 @@ second_written n c e = writes-outputs n c ∙ or_right (is_cell n.out1 c) (is_ce
 
 -- what is written is held
 pub written_held : (n : Node) (held : Cell → Option ObjectValue) (w : Cell × ObjectValue) → In w (written_by n held) → (writes n w.0 ≡ true) × ((out : ObjectValue) × (held w.0 ≡ Some out))
-written_held n held w i = elim (given_cases n held w i) [
-  | inl g ↦ (first_written n w.0 g.there, (g.out, g.old))
-  | inr g ↦ (second_written n w.0 g.there, (g.out, g.old))
-]
+written_held n held w i = elim (given_cases n held w i) [ inl g ↦ (first_written n w.0 g.there, (g.out, g.old)) | inr g ↦ (second_written n w.0 g.there, (g.out, g.old)) ]
 
 -- it has the form of what was held
 write_is : (objects : List Named) (n : Node) (output : Output) (o : Option Cell) (c : Cell) (object : ObjectValue) → kind_in objects c ≢ Some kind.Delay → IsGiven n output o (held objects) c object → IsWrite objects c object
@@ -153,12 +142,6 @@ AreWrites-written objects n whole w i = grind (arith, given_cases n (held object
 
 -- ---- cells that hold what a node gives them
 
-other_cell : (n : Node) (c : Cell) → has_twice (outputs n) ≡ false → is_cell n.out1 c ≡ true → is_cell n.out2 c ≡ false
-other_cell n c h e = grind arith
-
-given_as : (n : Node) (output : Output) (o : Option Cell) (held : Cell → Option ObjectValue) (c : Cell) (object : ObjectValue) → output_at n c ≡ output → IsGiven n output o held c object → given_in n held c ≡ Some object
-given_as n output o held c object at g = grind arith
-
 -- where each output holds what the node gives it, all that the node writes is held
 pub given_holds : (n : Node) (held : Cell → Option ObjectValue) → has_twice (outputs n) ≡ false → ((c : Cell) → writes n c ≡ true → held c ≡ given_in n held c)
     → (w : Cell × ObjectValue) → In w (written_by n held) → held w.0 ≡ Some w.1
@@ -167,13 +150,7 @@ given_holds n held once h w i = grind (arith, given_cases n held w i)
 held_last : (held : Cell → Option ObjectValue) (c : Cell) (ws : List (Cell × ObjectValue)) → ((w : Cell × ObjectValue) → In w ws → held w.0 ≡ Some w.1) → option_or (last_to c ws) (held c) ≡ held c
 held_last held c [] h = refl
 held_last held c (w ∷ ws) h =
-    or_assoc (last_to c ws) (if same_cell c w.0 then Some w.1 else None) (held c)
-    ∙ ap (option_or (last_to c ws)) (this (cases_Bool (same_cell c w.0)))
-    ∙ held_last held c ws (λ v i. h v (inr i))
-  where
-    this : (same_cell c w.0 ≡ true) ⊎ (same_cell c w.0 ≡ false) → option_or (if same_cell c w.0 then Some w.1 else None) (held c) ≡ held c
-    this (inl e) = rw e (sym (h w (inl refl)) ∙ ap held (sym (same_cell-true c w.0 e)))
-    this (inr e) = rw e refl
+    grind (arith, or_assoc (last_to c ws) (if same_cell c w.0 then Some w.1 else None) (held c), held_last held c ws (λ v i. h v (inr i)), cases_Bool (same_cell c w.0), same_cell-true c w.0, h w (inl refl))
 
 -- where all that a node writes is held, each output holds what the node gives it
 pub holds_given : (n : Node) (held : Cell → Option ObjectValue) → ((w : Cell × ObjectValue) → In w (written_by n held) → held w.0 ≡ Some w.1) → (c : Cell) → writes n c ≡ true → held c ≡ given_in n held c

@@ -1,6 +1,6 @@
 -- What cells hold, as operands: as a graph begins to run, and as its nodes write.
 use Rattle.std.proofs.Common.{◌≡◌, ◌≢◌, ℕ, Bool, true, false, List, map, refl, sym, ap, subst, ◌∙◌, inl, inr, Option, Some, None, arith}
-use Rattle.std.specs.Prelude.{◌&&◌, ◌==◌, not, if◌then◌else◌, option_to_list, slice_get}
+use Rattle.std.specs.Prelude.{◌==◌, not, if◌then◌else◌, option_to_list, slice_get}
 use Rattle.std.specs.Option.{option_map, option_and_then}
 use Rattle.std.specs.List.{list_all, list_any}
 use Rattle.std.proofs.lemmas.List.Sums.{AllPass-from_list_all}
@@ -26,8 +26,7 @@ use Rattle.object_table.specs.Skeleton.{skeleton}
 use Rattle.graph_verify.specs.declared.operand.Operand.{Operand}
 use Rattle.graph_verify.specs.declared.operand.Operand.TheVariants.{Image, Virtual}
 use Rattle.graph_verify.specs.declared.operand.Operands.{Operands}
-use Rattle.graph_verify.specs.declared.verdict.Verdict.{Verdict}
-use Rattle.graph_verify.specs.declared.verdict.Verdict.TheVariants.{MultipleWriters, InvalidGraph, InvalidFormat, InvalidDimension}
+use Rattle.graph_verify.specs.declared.verdict.Verdict.TheVariants.{InvalidFormat, InvalidDimension}
 use Rattle.graph_verify.specs.Links.{reads, writes, is_written}
 use Rattle.graph_verify.specs.Members.{In}
 use Rattle.graph_verify.specs.Operand.{operand_of, operand_kind, operand_format, are_of_one_size, is_virtual, operands_of, written_operands, other_operands}
@@ -82,12 +81,7 @@ pub written_operand : (is : Cell → Operand) (n : Node) (c : Cell) → writes n
 written_operand is n c w = grind (arith, In-map is c (outputs n) (In-from_same c (outputs n) w), In-from_same c (outputs n) w)
 
 pub no_fault : (n : Node) (is : Cell → Operand) → verdict_on n (operands_of is n) ≡ None → node_fault n.function (operands_of is n) ≡ None
-no_fault n is h = last (writes_twice n) (reads_own_output n) (node_fault n.function (operands_of is n)) h
-  where
-    last : (twice own : Bool) (fault : Option Verdict) → (if twice then Some MultipleWriters else (if own then Some InvalidGraph else fault)) ≡ None → fault ≡ None
-    last true own fault e = absurd (cc e)
-    last false true fault e = absurd (cc e)
-    last false false fault e = e
+no_fault n is h = grind (arith, cases_Bool (writes_twice n), cases_Bool (reads_own_output n))
 
 -- ---- as a graph begins to run
 
@@ -110,13 +104,11 @@ module _ (work : ℕ) (is : Cell → Operand) (nodes : List Node) (can : CanRun 
   -- a virtual image that is read is written
   pub virtual_written : (n : Node) (c : Cell) → In n nodes → names_cell n c ≡ true → is_virtual (is c) ≡ true → is_written nodes c ≡ true
   virtual_written n c i named v = elim (or_cases (reads n c) (writes n c) named) [
-    | inl r ↦ tight (is_written nodes c) (ap (λ b. b && not (is_written nodes c)) (sym v) ∙ fails-from_In (is_loose is nodes) c (inputs n) (fails-from_In (λ m. list_any (is_loose is nodes) (inputs m)) n nodes can.no_loose_end i) (In-from_same c (inputs n) r))
+    | inl r ↦
+        (let fails = fails-from_In (is_loose is nodes) c (inputs n) (fails-from_In (λ m. list_any (is_loose is nodes) (inputs m)) n nodes can.no_loose_end i) (In-from_same c (inputs n) r) in
+        grind (arith, fails, v))
     | inr w ↦ any-from_In (λ m. writes m c) n nodes i w
   ]
-    where
-      tight : (b : Bool) → (true && not b) ≡ false → b ≡ true
-      tight true e = refl
-      tight false e = absurd (cc e)
 
   -- an image stands for a virtual one that is written
   virtual_begins : (c : Cell) (x : ObjectValue) (v : VirtualImage) (d : Description) → ◌≡◌ {A = Option ℕ} c.slot None → x ≡ VirtualObject v → is_written nodes c ≡ true → known c ≡ Image d

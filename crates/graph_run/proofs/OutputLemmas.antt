@@ -9,7 +9,7 @@ use Rattle.std.proofs.lemmas.Bool.{and_parts}
 use Rattle.vx_base.specs.declared.node.Node.{Node}
 use Rattle.vx_base.specs.declared.format.Format.{Format}
 use Rattle.vx_base.specs.Rectangle.{Rectangle, empty}
-use Rattle.vx_base.specs.Description.{Description, same_size, sample_count}
+use Rattle.vx_base.specs.Description.{Description, same_size}
 use Rattle.vx_base.specs.Object.{ObjectValue, ImageObject, IsObject, object_kind}
 use Rattle.vx_base.specs.declared.output.Output.{Output}
 use Rattle.vx_base.specs.Outputs.{image_of_one, node_image, node_output}
@@ -156,22 +156,13 @@ module _ (objects : List Named) (n : Node) (which : Output) (output : Cell) (h :
     second_is_read = grind (arith, second_there, is_read)
 
   module _ (d : Description) (described : d ≡ description_of out) where
-    -- as many samples are taken out as the image has
-    pub taken_count : (samples : List ℤ) → samples ≡ out.samples → length samples ≡ sample_count d
-    taken_count samples is = ap length is ∙ (image_of_object (cell_object objects output) out_kind h.runs.out_is).size ∙ ap sample_count (sym described)
-
-    pub taken_format : (format : Format) → format ≡ out.format → d.format ≡ format
-    taken_format format is = ap (λ (e : Description). e.format) described ∙ sym is
-
     module _ (after : Context) (left : ObjectValue) (before : Context) (taken : after ≡ with_objects before (with_object objects output left)) (a : ImageValue) (b : Option ObjectValue)
         (is_first : a ≡ image_held after.objects n.in1) (is_second : b ≡ option_map (cell_object after.objects) n.in2) where
       -- a kernel can run on what is lent to it
       pub runs_there : CanRunTo n a b (image_over d empty [])
       runs_there =
-          subst (λ (e : Description). CanRunTo n a b (image_over e empty [])) (sym described)
-          (subst (λ (v : ImageValue). CanRunTo n v b (image_over (description_of out) empty [])) (sym (is_first ∙ first_there after left before taken))
-          (subst (λ (s : Option ObjectValue). CanRunTo n first s (image_over (description_of out) empty [])) (sym (is_second ∙ second_there after left before taken))
-          (record { node = can.node; kind = can.kind; formats = can.formats; size = can.size; second_size = can.second_size })))
+          rw (described, is_first ∙ first_there after left before taken, is_second ∙ second_there after left before taken)
+          (record { node = can.node; kind = can.kind; formats = can.formats; size = can.size; second_size = can.second_size })
 
       -- the output is what the node gives
       pub put_back : left ≡ with_samples (cell_object objects output) out.valid [] → (back : Context) (area : Rectangle) (samples : List ℤ) (format : Format)

@@ -44,8 +44,7 @@ slots_in_any_order : (j k : Option ℕ) (x y object : ObjectValue) → TwoSlots 
 slots_in_any_order (Some j) (Some k) (ImageObject a) (ImageObject b) (DelayObject images) apart = ap DelayObject (set_comm images k j b a (λ e. apart (sym e)))
 slots_in_any_order (Some j) (Some k) (ImageObject a) y (DelayObject images) apart = refl
 slots_in_any_order (Some j) (Some k) x y object apart = refl
-slots_in_any_order None k x y object apart = absurd apart
-slots_in_any_order (Some j) None x y object apart = absurd apart
+slots_in_any_order j k x y object apart = absurd apart
 
 one_of_two : (o : Named) (a b : Cell) (x y : ObjectValue) → AreApart a b → with_object (with_object (o ∷ []) b y) a x ≡ with_object (with_object (o ∷ []) a x) b y
 one_of_two o a b x y apart = grind (arith, cases_Bool (o.name == a.name), cases_Bool (o.name == b.name), eqb-true, slots_in_any_order)
@@ -64,11 +63,8 @@ writes_images n is = ap (λ (f : Function). (parameters f).output) is
 pub reads_one : (n : Node) → IsNode n → n.function ≡ Sobel → n.in2 ≡ None
 reads_one n node is =
     let has = subst (λ (f : Function). has_operands (parameters f) n ≡ true) is (has_of_node n node.shape) in
-    none n.in2 (and_parts (is_none n.in2) (is_some n.out1 || is_some n.out2) has).0
-  where
-    none : (o : Option Cell) → is_none o ≡ true → o ≡ None
-    none None e = refl
-    none (Some c) e = cc
+    let none = (and_parts (is_none n.in2) (is_some n.out1 || is_some n.out2) has).0 in
+    grind arith
 
 -- a node that has two outputs is of that function
 pub has_two : (n : Node) (a b : Cell) → IsNode n → n.out1 ≡ Some a → n.out2 ≡ Some b → n.function ≡ Sobel

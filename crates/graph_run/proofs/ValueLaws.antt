@@ -60,17 +60,12 @@ module _ (nodes : List Node) (start : Cell → Option ObjectValue) where
   Follows-round one now f = grind (arith, Follows-next, cases_Bool, In-from_any, round_written, round_other)
 
   Follows-step : OneWriter writes nodes → (now : Cell → Option ObjectValue) → Follows nodes start now → (n : Node) → In n nodes → Follows nodes start (step writes (given_from start) n now)
-  Follows-step one now f n i = Follows-next one now (step writes (given_from start) n now) f (λ c. elim (cases_Bool (writes n c)) [
-    | inl w ↦ inr (n, i, w, (rw w refl))
-    | inr w ↦ inl (rw w refl)
-  ])
+  Follows-step one now f n i =
+      Follows-next one now (step writes (given_from start) n now) f (λ c. elim (cases_Bool (writes n c)) [ inl w ↦ inr (n, i, w, (rw w refl)) | inr w ↦ inl (rw w refl) ])
 
   same_round : (now : Cell → Option ObjectValue) → Follows nodes start now → (ns : List Node) → AllIn ns nodes → (c : Cell) → round writes given_in ns now c ≡ round writes (given_from start) ns now c
   same_round now f [] within c = refl
-  same_round now f (n ∷ ns) within c = elim (cases_Bool (writes n c)) [
-    | inl w ↦ rw w (given_same now f n c (within n (inl refl)) w)
-    | inr w ↦ rw w (same_round now f ns (λ x i. within x (inr i)) c)
-  ]
+  same_round now f (n ∷ ns) within c = grind (arith, cases_Bool (writes n c), given_same now f n c (within n (inl refl)), same_round now f ns (λ x i. within x (inr i)) c)
 
   pub Follows-rounds : OneWriter writes nodes → (k : ℕ) → Follows nodes start (rounds writes (given_from start) nodes k start)
   Follows-rounds one zero = Follows-first

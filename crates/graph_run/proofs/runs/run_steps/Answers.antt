@@ -1,5 +1,4 @@
 use Rattle.std.proofs.Common.{◌≡◌, ◌<◌, ◌≤◌, ◌∙◌, List, length, map, get_or, refl, ap, sym, subst}
-use Rattle.std.specs.List.Sorted.{IsStrictlyIncreasing}
 use Rattle.vx_base.specs.declared.node.Node.{Node}
 use Rattle.vx_base.specs.Outputs.{written_by}
 use Rattle.object_table.specs.Context.{Context, with_objects}
@@ -69,21 +68,17 @@ loop-node-preserved c =
     let claimed = c.claim_for-in-loop-node.new.stage in
     let both = claimed.slots.items in
     let tables : claimed.table ≡ stage.table = c.claim_for-in-loop-node.ensures.table ∙ c.claim_for.ensures.table in
-    let same : claimed.table.objects ≡ stage.table.objects = ap objects_of tables in
     let left = c.run_step.new.stage.table.objects in
     let slots = c.run_step.new.stage.slots.items in
-    let kept : forgotten stage.table.objects left ≡ left = subst (λ (l : List Named). forgotten l left ≡ left) same c.run_step.ensures.stays.virtual in
-    let value : shown slots left ≡ with_written (shown both stage.table.objects) (written_by n (held (shown both stage.table.objects))) =
-    subst (λ (l : List Named). shown slots left ≡ with_written (shown both l) (written_by n (held (shown both l)))) same (ap objects_of c.run_step.ensures.value) in
-    let lasts : map lasting_named (shown slots left) ≡ map lasting_named (shown both stage.table.objects) =
-    subst (λ (l : List Named). map lasting_named (shown slots left) ≡ map lasting_named (shown both l)) same c.run_step.ensures.lasts.lasting in
+    let does = subst (λ (l : List Named). (forgotten l left ≡ left) × (shown slots left ≡ with_written (shown both l) (written_by n (held (shown both l)))) × (map lasting_named (shown slots left) ≡ map lasting_named (shown both l)))
+    (ap objects_of tables) (c.run_step.ensures.stays.virtual, ap objects_of c.run_step.ensures.value, c.run_step.ensures.lasts.lasting) in
     record {
       stage = c.run_step.ensures.stage;
       next = ap (λ (t : Context). t.next) c.run_step.ensures.value ∙ ap (λ (t : Context). t.next) tables ∙ c.loop-node.invariant.next;
       course =
           course_next c.args.stage.now.table.objects v (told c.args.plan.now) c.requires.plan k stage.table.objects stage.slots.items c.loop-node.invariant.course
           n below read c.requires.ready.0 c.requires.ready.1 c.claim_for.new.stage.slots.items c.claim_for.ensures.slots both c.claim_for-in-loop-node.ensures.slots
-          left slots c.loop-node.invariant.stage.names c.run_step.ensures.stays.slots kept value lasts;
+          left slots c.loop-node.invariant.stage.names c.run_step.ensures.stays.slots does.0 does.1 does.2;
     }
 
 pub returns-clause-value : goal.returns-clause-value

@@ -1,12 +1,10 @@
-use Rattle.std.proofs.Common.{◌≡◌, ℕ, Option, Some, None, IsTrue, ap, sym, subst, ◌∙◌}
+use Rattle.std.proofs.Common.{◌≡◌, Option, Some, IsTrue, ap, sym, subst, ◌∙◌}
 use Rattle.std.specs.Prelude.{is_some, unwrap_or, IfSome}
-use Rattle.std.specs.Option.{option_map, option_and_then}
+use Rattle.std.specs.Option.{option_map}
 use Rattle.vx_base.specs.declared.format.Format.TheVariants.{U8}
-use Rattle.vx_base.specs.Cell.{Cell}
 use Rattle.vx_base.specs.Image.{new_image}
 use Rattle.vx_base.specs.Object.{ObjectValue, ImageObject, IsObject, object_kind}
-use Rattle.object_table.specs.Delay.{in_slot, object_in}
-use Rattle.object_table.specs.Named.{object_held, held}
+use Rattle.object_table.specs.Named.{object_held}
 use Rattle.object_table.specs.Object.{value_of}
 use Rattle.object_table.specs.Table.{cell_object}
 use Rattle.graph_run.specs.Stage.{scene}

@@ -1,4 +1,4 @@
-use Rattle.std.proofs.Common.{◌≡◌, IfSome, Some, refl, subst, sym, ap, ◌∙◌}
+use Rattle.std.proofs.Common.{◌≡◌, IfSome, Some, refl, subst, ap}
 use Rattle.std.proofs.lemmas.Option.{slice_get_read}
 use Rattle.vx_base.specs.Rectangle.{Rectangle, whole}
 use Rattle.graph_verify.specs.declared.known.VirtualOutput.{VirtualOutput}
