@@ -212,8 +212,7 @@ module _ (objects : List Named) (nodes : List Node) (v : Verified) (h : IsReady 
         elim (In-append m before (n ∷ after) at) [
           | inl early ↦ any-from_In (λ k. writes k cell) m before early writer.2
           | inr late ↦
-              (let turns = turns_left before (n ∷ after) (subst (InTurn feeds) parts h.verified.order.in_turn) in
-              let not = turns.0 m late in
+              (let not = (turns_left before (n ∷ after) (subst (InTurn feeds) parts h.verified.order.in_turn)).0 m late in
               let yes = feeds_is m n cell writer.2 r in
               absurd (cc))
         ]
@@ -293,8 +292,7 @@ module _ (objects : List Named) (nodes : List Node) (v : Verified) (h : IsReady 
           | inl virtual ↦
               (let output = output_of_cell cell named virtual in
               let one = standing cell output.0 output.1 output.2 w in
-              ap (option_map operand_of) one.1 ∙ ap (λ d. Some (Image d)) one.2
-              ∙ sym (ap (λ c. Some (known c)) output.2 ∙ ap (λ x. Some x) (output_known is nodes v h.verified output.0 output.1)))
+              grind (arith, one.1, one.2, output.2, output_known is nodes v h.verified output.0 output.1))
           | inr real ↦ ap (option_map operand_of) (real_same cell named real) ∙ ideal_found cell named
         ]
       ]
@@ -342,7 +340,7 @@ module _ (objects : List Named) (nodes : List Node) (v : Verified) (h : IsReady 
                 let a = found_some (object_held here name) (known (whole name)) (whole_found here name (here_found (whole name) named)) in
                 let b = found_some (object_held ideal name) (known (whole name)) (whole_found ideal name (ideal_found (whole name) named)) in
                 let first = sym (read_same n.in1 (reads_first n)) ∙ first_image.1 in
-                let given = output_given n (held ideal) (whole name) (ImageObject first_image.0) b.0 now first (ap (option_and_then (in_slot None)) b.1) in
+                let given = output_given n (held ideal) (whole name) (ImageObject first_image.0) b.0 now first (ap (option_and_then (in_slot None)) {y = Some b.0} b.1) in
                 written_whole (written_by n (held ideal)) here ideal (whole name, given.0) given.1 name refl a.0 b.0 a.1 b.1)
           ]
             where

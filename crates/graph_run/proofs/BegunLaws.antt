@@ -93,8 +93,7 @@ nothing_forgotten before after up labels stays =
   where
     kept : (o p : Option ObjectValue) → ((x : ObjectValue) → o ≡ Some x → is_virtual_object x ≡ true → p ≡ Some x) → kept_virtual o p ≡ p
     kept (Some x) (Some y) h = grind (arith, cases_Bool (is_virtual_object x))
-    kept (Some x) None h = refl
-    kept None p h = refl
+    kept o p h = grind arith
 
 -- what an object becomes that is found to be this, if a node writes it
 abbrev pub begun_if : Bool → ObjectValue → Operand → ObjectValue

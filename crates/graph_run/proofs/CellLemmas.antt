@@ -116,9 +116,7 @@ module _ (objects : List Named) (w : Cell × ObjectValue) (may : IsReplacement o
       fits x e o at = ap (λ y. option_map lasting (in_slot slot y)) at ∙ ap (λ y. option_map lasting (option_and_then (in_slot slot) y)) (sym e) ∙ may.lasts
 
       found : (object : Option ObjectValue) → object_held objects w.0.name ≡ object → Lasts objects (with_object objects w.0 w.1)
-      found None e =
-          let no : ◌≡◌ {A = Option (ObjectValue × List Node)} None (Some (lasting w.1)) = ap (λ y. option_map lasting (option_and_then (in_slot slot) y)) (sym e) ∙ may.lasts in
-          absurd (cc)
+      found None e = absurd (grind (arith, e, may.lasts))
       found (Some x) e =
           let only = held_once objects w.0.name x names e in
           record {

@@ -67,13 +67,10 @@ shown_are slots (o ∷ l) standing are =
 pub virtual_there : (l : List Named) (name : ℕ) → HoldsVirtual l name → (image : VirtualImage) × (object_held l name ≡ Some (VirtualObject image))
 virtual_there l name h = of (object_held l name) h
   where
-    is_one : (object : ObjectValue) → object_kind object ≡ kind.VirtualImage → (image : VirtualImage) × (Some object ≡ Some (VirtualObject image))
-    is_one (VirtualObject image) e = (image, refl)
-    is_one other e = cc
-
     of : (o : Option ObjectValue) → option_map object_kind o ≡ Some kind.VirtualImage → (image : VirtualImage) × (o ≡ Some (VirtualObject image))
-    of None e = cc
-    of (Some x) e = let k : object_kind x ≡ kind.VirtualImage = cc in is_one x k
+    of None e = absurd (cc)
+    of (Some (VirtualObject image)) e = (image, refl)
+    of (Some other) e = absurd (cc)
 
 -- the holder of a slot is the one at its place
 pub holder_of : (slots : List Slot) (k : ℕ) (s : Slot) (o : VirtualOutput) → slice_get slots k ≡ Some s → s.holder ≡ Some o → holder_at slots k ≡ Some o
@@ -88,7 +85,7 @@ module _ (s : Stage) (is : IsStage s) where
   there_objects = s.table.objects
 
   one_standing : (k : ℕ) (t : Slot) → slice_get there_slots k ≡ Some t → (o : Option VirtualOutput) → t.holder ≡ o → IsStanding t
-  one_standing k t at None e = subst (λ (h : Option VirtualOutput). IfSome h (λ a. IsImage (standing_image a t))) (sym e) tt
+  one_standing k t at None e = rw e tt
   one_standing k t at (Some o) e =
       let here = holder_of there_slots k t o at e in
       let held = virtual_there there_objects o.cell.name (is.there k o here) in
@@ -96,8 +93,7 @@ module _ (s : Stage) (is : IsStage s) where
       let alone = alone_at there_slots o.cell.name k t at named (λ j a h same. is.apart j k a o h here same) in
       let found : object_held (shown there_slots there_objects) o.cell.name ≡ Some (ImageObject (standing_image o t)) =
       grind (arith, held-shown there_slots there_objects o.cell.name, held.1, alone_found o.cell.name t there_slots k alone, e) in
-      subst (λ (h : Option VirtualOutput). IfSome h (λ a. IsImage (standing_image a t))) (sym e)
-      (subst (λ (x : Option ObjectValue). IfSome x IsObject) found (object_held_has IsObject (shown there_slots there_objects) o.cell.name is.objects))
+      rw e (subst (λ (x : Option ObjectValue). IfSome x IsObject) found (object_held_has IsObject (shown there_slots there_objects) o.cell.name is.objects))
 
   pub are_standing : All IsStanding there_slots
   are_standing k d below = one_standing k (get_or there_slots k d) (slice_get-get_or there_slots k d below) (get_or there_slots k d).holder refl

@@ -189,15 +189,13 @@ module _ (outs : List VirtualOutput) (p : PlanValue) (before after : List Node) 
         let same : o.cell ≡ cell = same_cell-true o.cell cell found.3 in
         let w : writes n o.cell ≡ true = ap (writes n) same ∙ given cell refl in
         let i = found.2 in
-        let by_o : (k : ℕ) → slice_get next k ≡ claimed_if p (Some o) k (slice_get slots k) =
-        λ k. claims k ∙ ap (λ f. claimed_if p f k (slice_get slots k)) found.1 in
+        let by_o = λ (k : ℕ). claims k ∙ ap (λ f. claimed_if p f k (slice_get slots k)) found.1 in
         record {
           shared = claim_shared slots next shared written o i w by_o;
           written = claim_written slots next shared written o i w by_o;
           stands = λ a j e.
-              let here : a.cell ≡ o.cell = let there : cell ≡ a.cell = cc in sym there ∙ sym same in
-              let one : a ≡ o = one_of_name outs apart a o j i (ap (λ (c : Cell). c.name) here) in
-              ap (λ (q : VirtualOutput). holder_at next (place_of p q)) one ∙ stands slots next shared written o i w by_o ∙ ap (λ q. Some q) (sym one);
+              let there : cell ≡ a.cell = cc in
+              subst (λ (q : VirtualOutput). holder_at next (place_of p q) ≡ Some q) (one_of_name outs apart o a i j (ap (λ (c : Cell). c.name) (same ∙ there))) (stands slots next shared written o i w by_o);
           keeps = claim_keeps slots next shared written o i w by_o;
           finds = λ name other for. claim_finds slots next shared written o i w by_o name (other o i (ap (λ c. Some c) (sym same))) for;
         })

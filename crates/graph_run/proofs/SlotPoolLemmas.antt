@@ -26,13 +26,9 @@ pub taken_adds : (old new : Pool) (format : Format) → Lends old new format →
     → (f : Format) → blocks_of new f ≤ blocks_of old f + one_of format f
 taken_adds old new format lends blocks others f = elim (formats f format) [
   | inl one ↦
-      (let lent = lends f in
-      let all : blocks_of new f ≡ max (blocks_of old f) (lent_of new f) = ap (blocks_of new) one.0 ∙ blocks ∙ ap (λ g. max (blocks_of old g) (lent_of new g)) (sym one.0) in
-      omega (arith, lent, all, one.1))
-  | inr two ↦
-      (let lent = lends f in
-      let rooms = ap length (others f two.0) in
-      omega (arith, lent, rooms, two.1))
+      (let all : blocks_of new f ≡ max (blocks_of old f) (lent_of new f) = ap (blocks_of new) one.0 ∙ blocks ∙ ap (λ g. max (blocks_of old g) (lent_of new g)) (sym one.0) in
+      omega (arith, lends f, all, one.1))
+  | inr two ↦ omega (arith, lends f, ap length (others f two.0), two.1)
 ]
 
 -- ---- one slot more

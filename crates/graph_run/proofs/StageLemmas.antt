@@ -171,11 +171,7 @@ module _ (name : ℕ) (s : Slot) where
 -- ---- the first slot that has an image of a name
 
 pub placed : {X : Type 0} (p : X → Bool) (xs : List X) (k : ℕ) → position p xs ≡ Some k → k < length xs
-placed p xs k at = within (cases_lt (position_or_len p xs) (length xs))
-  where
-    within : (position_or_len p xs < length xs) ⊎ (length xs ≤ position_or_len p xs) → k < length xs
-    within (inl less) = let same : position_or_len p xs ≡ k = grind (arith, nat_tests) in omega arith
-    within (inr past) = grind (arith, nat_tests)
+placed p xs k at = grind (arith, nat_tests, cases_lt (position_or_len p xs) (length xs))
 
 pub placed_passes : {X : Type 0} (p : X → Bool) (xs : List X) (k : ℕ) (x : X) → position p xs ≡ Some k → x ≡ get_or xs k x → p x ≡ true
 placed_passes p xs k x at read =

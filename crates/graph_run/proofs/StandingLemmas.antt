@@ -70,9 +70,7 @@ module _ (s : Stage) (is : IsArranged s) (cell : Cell) (old new : ObjectValue) (
   virtual_apart : (name : ℕ) → HoldsVirtual l name → name ≢ cell.name
   virtual_apart name held same =
       let there = virtual_there l name held in
-      let is_old : Some (VirtualObject there.0) ≡ Some old = sym there.1 ∙ ap (object_held l) same ∙ found in
-      let virtual : true ≡ is_virtual_object old = ap (λ (o : Option ObjectValue). is_virtual_object (unwrap_or o (VirtualObject there.0))) is_old in
-      cc
+      grind (arith, there.1, same, found, real)
 
   arranged : IsArranged (over s table)
   arranged =

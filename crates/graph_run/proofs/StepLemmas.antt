@@ -57,31 +57,16 @@ IsPlain other = ⊤
 module _ (slots : List Slot) (l : List Named) where
   -- where nothing is held, nothing is found
   pub none_found : (cell : Cell) → object_held l cell.name ≡ None → Holds (shown slots l) cell → ⊥
-  none_found cell none there =
-      let no : held (shown slots l) cell ≡ None = ap (option_and_then (in_slot cell.slot)) (held-shown slots l cell.name ∙ ap (option_map (shown_as slots cell.name)) none) in
-      let here : IsTrue (is_some {T = ObjectValue} None) = subst (λ (o : Option ObjectValue). IsTrue (is_some o)) no there in
-      cc
+  none_found cell none there = grind (arith, held-shown slots l cell.name, none, there)
 
   -- a virtual image that can be read is found as an image
   pub virtual_read : (cell : Cell) (image : VirtualImage) → object_held l cell.name ≡ Some (VirtualObject image) → Holds (shown slots l) cell → IsRead (object_kind (cell_object (shown slots l) cell)) → HoldsImage (shown slots l) cell
   virtual_read cell image found there read =
       let is : held (shown slots l) cell ≡ in_slot cell.slot (standing (slot_of slots cell.name) (VirtualObject image)) = ap (option_and_then (in_slot cell.slot)) (held-shown slots l cell.name ∙ ap (option_map (shown_as slots cell.name)) found) in
       elim (stands_as (slot_of slots cell.name) image) [
-        | inl a ↦
-            (let shows : held (shown slots l) cell ≡ in_slot cell.slot (ImageObject a.0) = is ∙ ap (in_slot cell.slot) a.1 in
-            ap (option_map object_kind) shows ∙ of_image cell.slot a.0 (subst (λ (o : Option ObjectValue). IsTrue (is_some o)) shows there))
-        | inr e ↦
-            (let shows : held (shown slots l) cell ≡ in_slot cell.slot (VirtualObject image) = is ∙ ap (in_slot cell.slot) e in
-            absurd (no_virtual cell.slot (subst (λ (o : Option ObjectValue). IsTrue (is_some o)) shows there) (subst (λ (o : Option ObjectValue). IsRead (object_kind (unwrap_or o (ImageObject (new_image 0 0 U8))))) shows read)))
+        | inl a ↦ grind (arith, is, a.1, there)
+        | inr e ↦ absurd (grind (arith, is, e, there, read))
       ]
-    where
-      of_image : (slot : Option ℕ) (a : ImageValue) → IsTrue (is_some (in_slot slot (ImageObject a))) → option_map object_kind (in_slot slot (ImageObject a)) ≡ Some kind.Image
-      of_image None a h = refl
-      of_image (Some k) a h = cc
-
-      no_virtual : (slot : Option ℕ) → IsTrue (is_some (in_slot slot (VirtualObject image))) → IsRead (object_kind (unwrap_or (in_slot slot (VirtualObject image)) (ImageObject (new_image 0 0 U8)))) → ⊥
-      no_virtual None h r = r
-      no_virtual (Some k) h r = cc
 
   -- what isn't virtual is found as it is
   pub real_found : (name : ℕ) (object : ObjectValue) → object_held l name ≡ Some object → is_virtual_object object ≡ false → object_held (shown slots l) name ≡ Some object
