@@ -114,9 +114,7 @@ module _ (n : Node) (one other : Cell → Option ObjectValue) (a : ImageValue) (
   ]
 
   same_written : ((c : Cell) → writes n c ≡ true → AsOutput (one c) (other c)) → written_by n one ≡ written_by n other
-  same_written alike =
-      ap (λ l. l ++ written_in n Second n.out2 one) (written_in_alike First n.out1 (λ c e. alike c (first_output n c e)))
-      ∙ ap (λ l. written_in n First n.out1 other ++ l) (written_in_alike Second n.out2 (λ c e. alike c (second_output n c e)))
+  same_written alike = grind (arith, written_in_alike, first_output, second_output)
 
 -- ---- agreement
 
@@ -257,10 +255,7 @@ module _ (objects : List Named) (nodes : List Node) (v : Verified) (h : IsReady 
 
       -- what it writes that is virtual is an image of its description in both
       standing : (cell : Cell) (o : VirtualOutput) → In o outs → cell ≡ o.cell → writes n cell ≡ true → (image : ImageValue) × (held here cell ≡ Some (ImageObject image)) × (description_of image ≡ o.desc)
-      standing cell o i same w =
-          let stands = images o i (ap (writes n) (sym same) ∙ w) in
-          let itself : cell ≡ whole o.cell.name = same ∙ cell_is_whole o i in
-          (stands.image, ap (held here) itself ∙ ap (option_and_then (in_slot None)) stands.there, stands.desc)
+      standing cell o i same w = grind (arith, cell_is_whole)
 
       ideal_found : (cell : Cell) → names_cell n cell ≡ true → HoldsOperand ideal cell (known cell)
       ideal_found cell named = ideal_stands.found n cell in_nodes named

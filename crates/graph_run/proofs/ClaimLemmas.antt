@@ -45,11 +45,7 @@ found_has P (s ∷ slots) name h = grind (arith, All-head P s slots h, found_has
 
 shown_is : (name : ℕ) (found : Option Slot) (image : VirtualImage) → IfSome found IsStanding → IsObject (VirtualObject image) → IsObject (standing found (VirtualObject image))
 shown_is name None image standing is = is
-shown_is name (Some s) image standing is = of_holder s.holder standing
-  where
-    of_holder : (o : Option VirtualOutput) → IfSome o (λ a. IsImage (standing_image a s)) → IsObject (image_in s o (VirtualObject image))
-    of_holder None h = is
-    of_holder (Some a) h = h
+shown_is name (Some s) image standing is = grind arith
 
 shown_one : (slots : List Slot) (name : ℕ) (object : ObjectValue) → All IsStanding slots → IsObject object → IsObject (shown_as slots name object)
 shown_one slots name (VirtualObject image) standing is = shown_is name (slot_of slots name) image (found_has IsStanding slots name standing) is
@@ -65,12 +61,7 @@ shown_are slots (o ∷ l) standing are =
 
 -- a virtual object that is held
 pub virtual_there : (l : List Named) (name : ℕ) → HoldsVirtual l name → (image : VirtualImage) × (object_held l name ≡ Some (VirtualObject image))
-virtual_there l name h = of (object_held l name) h
-  where
-    of : (o : Option ObjectValue) → option_map object_kind o ≡ Some kind.VirtualImage → (image : VirtualImage) × (o ≡ Some (VirtualObject image))
-    of None e = absurd (cc)
-    of (Some (VirtualObject image)) e = (image, refl)
-    of (Some other) e = absurd (cc)
+virtual_there l name h = grind arith
 
 -- the holder of a slot is the one at its place
 pub holder_of : (slots : List Slot) (k : ℕ) (s : Slot) (o : VirtualOutput) → slice_get slots k ≡ Some s → s.holder ≡ Some o → holder_at slots k ≡ Some o
@@ -130,10 +121,7 @@ module _ (s : Stage) (is : IsStage s) (at : ℕ) (image : VirtualOutput) (t new 
 
   -- who stands at a place
   who : (k : ℕ) (a : VirtualOutput) → holder_at (set slots at new) k ≡ Some a → ((k ≡ at) × (a ≡ image)) ⊎ ((k ≢ at) × (holder_at slots k ≡ Some a))
-  who k a e = elim (cases_Bool (k == at)) [
-    | inl same ↦ inl (eqb-true k at same, (let both : Some image ≡ Some a = sym (ap (λ b. if b then Some image else holder_at slots k) same) ∙ sym (holders k) ∙ e in cc))
-    | inr other ↦ inr (eqb-false k at other, sym (ap (λ b. if b then Some image else holder_at slots k) other) ∙ sym (holders k) ∙ e)
-  ]
+  who k a e = grind (arith, cases_Bool, eqb-true, holders, eqb-false)
 
   apart : (j k : ℕ) (a b : VirtualOutput) → holder_at (set slots at new) j ≡ Some a → holder_at (set slots at new) k ≡ Some b → a.cell.name ≡ b.cell.name → j ≡ k
   apart j k a b h i same = grind (arith, who j a h, who k b i, elsewhere j a, elsewhere k b, is.apart j k a b)

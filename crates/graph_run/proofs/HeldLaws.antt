@@ -108,10 +108,7 @@ last_to-append c [] ys = grind arith
 last_to-append c (w ∷ xs) ys = grind (arith, last_to-append c xs ys, or_assoc (last_to c ys) (last_to c xs) (if same_cell c w.0 then Some w.1 else None))
 
 AreWrites-after : (objects : List Named) (w : Cell × ObjectValue) (ws : List (Cell × ObjectValue)) → AreWrites objects (w ∷ ws) → AreWrites (with_object objects w.0 w.1) ws
-AreWrites-after objects w ws are = λ v i. let is = are v (inr i) in record {
-  form = form-with_object objects w.0 w.1 (are w (inl refl)) v.0 ∙ is.form;
-  whole = is.whole;
-}
+AreWrites-after objects w ws are = grind (arith, form-with_object)
 
 one_more : (last old : Option ObjectValue) (new : ObjectValue) (same : Bool)
     → option_or (option_map shown last) (if same then Some (shown new) else old) ≡ option_or (option_map shown (option_or last (if same then Some new else None))) old

@@ -56,13 +56,7 @@ images-last a b e = ap (λ (d : Description). let left : ObjectValue × List Nod
 -- an object in the place of one of which as much lasts
 pub lasting-with_slot : (slot : Option ℕ) (new object : ObjectValue) → option_map lasting (in_slot slot object) ≡ Some (lasting new) → lasting (with_slot slot new object) ≡ lasting object
 lasting-with_slot slot new object same =
-    ap (λ x. let left : ObjectValue × List Node = (x, nodes_in (with_slot slot new object)) in left) (skeleton-with_slot slot new object (skeletons-last (in_slot slot object) (Some new) same))
-    ∙ ap (λ nodes. let left : ObjectValue × List Node = (skeleton object, nodes) in left) (nodes slot new object (nodes-last (in_slot slot object) (Some new) same))
-  where
-    nodes : (s : Option ℕ) (x y : ObjectValue) → option_map nodes_in (in_slot s y) ≡ Some (nodes_in x) → nodes_in (with_slot s x y) ≡ nodes_in y
-    nodes None x y e = let is : nodes_in y ≡ nodes_in x = cc in sym is
-    nodes (Some k) (ImageObject image) (DelayObject images) e = refl
-    nodes (Some k) x y e = refl
+    grind (arith, skeleton-with_slot, skeletons-last, nodes-last)
 
 -- ---- of what is held
 

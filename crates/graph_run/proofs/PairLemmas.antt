@@ -61,18 +61,11 @@ pub writes_images : (n : Node) → n.function ≡ Sobel → (parameters n.functi
 writes_images n is = ap (λ (f : Function). (parameters f).output) is
 
 pub reads_one : (n : Node) → IsNode n → n.function ≡ Sobel → n.in2 ≡ None
-reads_one n node is =
-    let has = subst (λ (f : Function). has_operands (parameters f) n ≡ true) is (has_of_node n node.shape) in
-    let none = (and_parts (is_none n.in2) (is_some n.out1 || is_some n.out2) has).0 in
-    grind arith
+reads_one n node is = grind (arith, has_of_node, and_parts)
 
 -- a node that has two outputs is of that function
 pub has_two : (n : Node) (a b : Cell) → IsNode n → n.out1 ≡ Some a → n.out2 ≡ Some b → n.function ≡ Sobel
-has_two n a b node first second = of n.function (has_of_node n node.shape)
-  where
-    of : (f : Function) → has_operands (parameters f) n ≡ true → f ≡ Sobel
-    of Sobel h = refl
-    of f h = grind (arith, and_parts)
+has_two n a b node first second = grind (arith, has_of_node, and_parts)
 
 sixteen_bits : (a : Format) (second : Option Format) (format : Format) → takes_formats Sobel a second (Some format) ≡ true → format ≡ S16
 sixteen_bits U8 None S16 h = refl
@@ -86,11 +79,7 @@ image_of_sixteen a second out e h = cc
 
 -- what it writes is of 16 bits
 pub writes_shorts : (objects : List Named) (n : Node) (output : Cell) → RunsTo objects n output → n.function ≡ Sobel → (image_held objects output).format ≡ S16
-writes_shorts objects n output h is =
-    let a = (image_held objects n.in1).format in
-    let second = option_and_then object_format (option_map (cell_object objects) n.in2) in
-    let out = cell_object objects output in
-    image_of_sixteen a second out (h.runs.out_kind ∙ writes_images n is) (subst (λ (f : Function). takes_formats f a second (object_format out) ≡ true) is h.runs.formats)
+writes_shorts objects n output h is = grind (arith, image_of_sixteen, writes_images)
 
 -- a gradient that is written to all rows of an output is what the node gives
 pub gradient_whole : (n : Node) (which : Output) (a : ImageValue) (d : Description) (samples : List ℤ) (old new : ImageMut) → n.function ≡ Sobel → CanRunTo n a None (image_over d empty [])
@@ -140,10 +129,7 @@ module _ (before : Context) (n : Node) (one other : Cell) (h : RunsTo before.obj
 
   -- both outputs, in the other order
   both : with_object late one (output_of late n First one) ≡ with_output (with_output l n First (Some one)) n Second (Some other)
-  both =
-      ap (with_object late one) (output_beside l n other one new_other h k.in1_apart k.in2_apart apart_too First)
-      ∙ in_any_order l one other new_one new_other apart_too
-      ∙ ap (with_object (with_object l one new_one) other) (sym (output_beside l n one other new_one k h.in1_apart h.in2_apart apart Second))
+  both = grind (arith, output_beside, apart_too, in_any_order)
 
   module _ (one_out : Context) (is_one_out : one_out ≡ with_objects before (with_object l one left_one)) where
     pub runs_other : RunsTo one_out.objects n other

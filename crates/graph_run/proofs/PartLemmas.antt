@@ -6,11 +6,7 @@ use Rattle.std.proofs.lemmas.List.{take-map, take-take, take-append-le, take_all
 -- they stand there
 pub first_written : {X : Type 0} (n len : ℕ) (first others items : List X) → length first ≡ n → n ≤ len → take n (take len ((first ++ others) ++ drop (length (first ++ others)) items)) ≡ first
 first_written n len first others items long room =
-    let left = drop (length (first ++ others)) items in
-    take-take n len ((first ++ others) ++ left) room
-    ∙ ap (take n) (append_assoc first others left)
-    ∙ take-append-le n first (others ++ left) (omega arith)
-    ∙ take_all n first (omega arith)
+    grind (arith, take-take, append_assoc, take-append-le, take_all)
 
 -- so do numbers among samples
 pub numbers_written : (n len : ℕ) (first others items : List ℕ) → length first ≡ n → n ≤ len → take n (map pos (take len ((first ++ others) ++ drop (length (first ++ others)) items))) ≡ map pos first

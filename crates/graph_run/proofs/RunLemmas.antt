@@ -158,10 +158,7 @@ module _ (n : Node) where
     parts = grind (arith, passed, there, can.verdict)
 
     second_sizes : list_all (are_of_one_size (operand_of (cell_object objects n.in1))) (option_to_list (option_map operand_of (option_map (cell_object objects) n.in2))) ≡ true
-    second_sizes =
-        let o = operands_there objects n in
-        let sizes = met (list_all (are_of_one_size o.in1) (other_operands o)) InvalidDimension (passed (not (takes_operands n.function o)) InvalidFormat _ parts.2).1 in
-        (and_parts (list_all (are_of_one_size o.in1) (option_to_list o.in2)) (list_all (are_of_one_size o.in1) (written_operands o)) (sym (list_all-append (are_of_one_size o.in1) (option_to_list o.in2) (written_operands o)) ∙ sizes)).0
+    second_sizes = grind (arith, met, passed, parts, and_parts, list_all-append)
 
     -- the second input is apart from an output
     second_apart : (second : Option Cell) (beside : Kind) (cell : Cell) → beside ≢ kind.Delay → IfSome second (λ c. HoldsKind objects (c, beside)) → HoldsKind objects (cell, wanted)
@@ -306,10 +303,8 @@ module _ (l : List Named) (n : Node) (which : Output) (output : Cell) (runs : Ru
 -- an output becomes an object, of which as much lasts
 output_lasts : (n : Node) (which : Output) (first : ObjectValue) (second : Option ObjectValue) (out : ObjectValue) → RunsOn n first second out
     → IsObject (node_output n which first second out) × (lasting (node_output n which first second out) ≡ lasting out)
-output_lasts n which (ImageObject a) second (ImageObject out) runs = (
-  node_image_is n out.format a runs.node runs.first_is which second runs.second_is runs.second_kind runs.formats,
-  images-last (node_image n which out.format a second) out (description_kept n which a second out runs.out_size),
-)
+output_lasts n which (ImageObject a) second (ImageObject out) runs =
+    grind (arith, node_image_is, images-last, description_kept)
 output_lasts n which (ImageObject a) second (DistributionObject d) runs = (record { bins = runs.out_is.bins; size = length-histogram d.bins a }, refl)
 output_lasts n which (ImageObject a) second (ExtremesObject x) runs = (tt, refl)
 output_lasts n which (ImageObject a) second out runs = (runs.out_is, refl)

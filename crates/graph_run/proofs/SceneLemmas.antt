@@ -108,8 +108,7 @@ both_held (o ∷ one) (p ∷ other) labels name x at =
 stays_virtual : (old now : List Named) → map label_of now ≡ map label_of old → forgotten old now ≡ now → (name : ℕ) (image : VirtualImage)
     → object_held old name ≡ Some (VirtualObject image) → object_held now name ≡ Some (VirtualObject image)
 stays_virtual old now labels kept name image at =
-    let found = both_held old now (sym labels) name (VirtualObject image) at in
-    grind (arith, kept, object_held-forgotten old now (sym labels) name, at, found.1)
+    grind (arith, both_held, labels, object_held-forgotten)
 
 pub outputs_stay : (old now : List Named) (outs : List VirtualOutput) → map label_of now ≡ map label_of old → forgotten old now ≡ now → AreVirtual old outs → AreVirtual now outs
 outputs_stay old now outs labels kept virtual =
@@ -268,7 +267,13 @@ module _ (objects : List Named) (v : Verified) (p : PlanValue) (plan : IsPlan v.
 
   -- ---- one step
 
-  module _ (n : Node) (below : k < length v.steps.items) (read : n ≡ get_or v.steps.items k n) where
+  module _ (items : List Node) (are : items ≡ v.steps.items) (n : Node) (within : k < length items) (item : n ≡ get_or items k n) where
+    below : k < length v.steps.items
+    below = subst (λ (l : List Node). k < length l) are within
+
+    read : n ≡ get_or v.steps.items k n
+    read = item ∙ ap (λ (l : List Node). get_or l k n) are
+
     abbrev before : List Node
     before = take k v.steps.items
 

@@ -95,13 +95,7 @@ module _ (outs : List VirtualOutput) (p : PlanValue) (before after : List Node) 
 
     -- in each other place stands what stood there
     holders : (k : ℕ) (a : VirtualOutput) → holder_at next k ≡ Some a → ((k ≡ place_of p o) × (a ≡ o)) ⊎ (holder_at slots k ≡ Some a)
-    holders k a h = elim (cases_Bool (k == place_of p o)) [
-      | inl here ↦
-          let same = eqb-true k (place_of p o) here in
-          let now : Some a ≡ Some o = sym h ∙ ap (holder_at next) same ∙ stands in
-          inl (same, (cc))
-      | inr other ↦ inr (grind (arith, claims k, other, h))
-    ]
+    holders k a h = grind (arith, cases_Bool, eqb-true, stands)
 
     claim_shared : AreShared p outs next
     claim_shared =
@@ -169,15 +163,7 @@ module _ (outs : List VirtualOutput) (p : PlanValue) (before after : List Node) 
   -- nothing changes where none claims a slot
   unclaimed : (output : Option Cell) (slots next : List Slot) → AreShared p outs slots → WereWritten done slots → ((o : VirtualOutput) → In o outs → output ≢ Some o.cell)
       → slots ≡ next → AreClaimed output slots next
-  unclaimed output slots next shared written none same =
-      subst (AreClaimed output slots) same
-      (record {
-        shared = shared;
-        written = written;
-        stands = λ o i e. absurd (none o i e);
-        keeps = λ a i used there. there;
-        finds = λ name other for. refl;
-      })
+  unclaimed output slots next shared written none same = grind arith
 
   pub output_claims : (output : Option Cell) (slots next : List Slot) → AreShared p outs slots → WereWritten done slots → ((cell : Cell) → output ≡ Some cell → writes n cell ≡ true)
       → ((k : ℕ) → slice_get next k ≡ claimed_at p outs output k (slice_get slots k)) → AreClaimed output slots next
@@ -256,10 +242,7 @@ module _ (is : Cell → Operand) (nodes : List Node) (v : Verified) (how : IsVer
       cc)
 
   pub unplaced : (cell : Cell) → None ≡ p.slot_of cell → (output : Option Cell) → output ≡ Some cell → (k : ℕ) (slot : Option Slot) → slot ≡ claimed_at p written output k slot
-  unplaced cell none = none_claims cell (λ o i same.
-      let some = plan.given cell ∙ any-from_In (λ (q : VirtualOutput). same_cell q.cell cell) o written i (ap (same_cell o.cell) (sym same) ∙ same_cell-refl o.cell) in
-      let no = subst (λ (s : Option ℕ). is_some s ≡ true) (sym none) some in
-      cc)
+  unplaced cell none = grind (arith, none_claims, any-from_In, same_cell-refl)
 
   -- who claims stands in no other slot
   pub stands_nowhere_else : (slots : List Slot) → AreShared p written slots → (o : VirtualOutput) → In o written → (k : ℕ) (a : VirtualOutput) → holder_at slots k ≡ Some a

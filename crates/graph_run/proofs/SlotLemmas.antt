@@ -77,15 +77,9 @@ module _ (p : PlanValue) where
   -- what a slot has room for
   planned_at : (format : Format) (k : ℕ) → k < p.slot_count format
       → slice_get (planned_rooms p) (slot_place p format k) ≡ Some (format, p.slot_samples format k)
-  planned_at U8 k below =
-      get_left (rooms_for p U8 ++ rooms_for p S16) (rooms_for p U32) k (omega (arith, long U8, length-append (rooms_for p U8) (rooms_for p S16), below))
-      ∙ get_left (rooms_for p U8) (rooms_for p S16) k (omega (arith, long U8, below)) ∙ made_at U8 k below
-  planned_at S16 k below =
-      get_left (rooms_for p U8 ++ rooms_for p S16) (rooms_for p U32) (p.slot_count U8 + k) (omega (arith, long U8, long S16, length-append (rooms_for p U8) (rooms_for p S16), below))
-      ∙ get_right (rooms_for p U8) (rooms_for p S16) (p.slot_count U8) k (long U8) ∙ made_at S16 k below
-  planned_at U32 k below =
-      get_right (rooms_for p U8 ++ rooms_for p S16) (rooms_for p U32) (p.slot_count U8 + p.slot_count S16) k (omega (arith, long U8, long S16, length-append (rooms_for p U8) (rooms_for p S16)))
-      ∙ made_at U32 k below
+  planned_at U8 k below = grind (arith, get_left, long, length-append, made_at)
+  planned_at S16 k below = grind (arith, get_left, long, length-append, get_right, made_at)
+  planned_at U32 k below = grind (arith, get_right, long, length-append, made_at)
 
   -- one slot stands at a place
   one_slot : (f g : Format) (j k : ℕ) → j < p.slot_count f → k < p.slot_count g → slot_place p f j ≡ slot_place p g k → (f ≡ g) × (j ≡ k)
@@ -161,8 +155,4 @@ module _ (steps : List Node) (outs : List VirtualOutput) (p : PlanValue) (plan :
 
   -- images in one place have one slot
   pub one_home : (a b : VirtualOutput) → In a outs → In b outs → place_of p a ≡ place_of p b → (a.desc.format ≡ b.desc.format) × (p.slot_of a.cell ≡ p.slot_of b.cell)
-  one_home a b i j same =
-      let g = has_slot a i in
-      let h = has_slot b j in
-      let one = one_slot p a.desc.format b.desc.format g.slot h.slot g.below h.below (sym (home_at a g) ∙ same ∙ home_at b h) in
-      (one.0, g.is ∙ ap (λ k. Some k) one.1 ∙ sym h.is)
+  one_home a b i j same = grind (arith, has_slot, one_slot, home_at)

@@ -24,12 +24,7 @@ formats f g = inr (λ e. cc, refl)
 -- a block that is taken adds at most one
 pub taken_adds : (old new : Pool) (format : Format) → Lends old new format → blocks_of new format ≡ max (blocks_of old format) (lent_of new format) → KeepsOtherRooms old new format
     → (f : Format) → blocks_of new f ≤ blocks_of old f + one_of format f
-taken_adds old new format lends blocks others f = elim (formats f format) [
-  | inl one ↦
-      (let all : blocks_of new f ≡ max (blocks_of old f) (lent_of new f) = ap (blocks_of new) one.0 ∙ blocks ∙ ap (λ g. max (blocks_of old g) (lent_of new g)) (sym one.0) in
-      omega (arith, lends f, all, one.1))
-  | inr two ↦ omega (arith, lends f, ap length (others f two.0), two.1)
-]
+taken_adds old new format lends blocks others f = grind (arith, formats)
 
 -- ---- one slot more
 
@@ -45,18 +40,11 @@ module _ (slots : List Slot) (s : Slot) where
 
   pub lends_more : (format : Format) → samples_format s.samples ≡ format → (old now new : Pool) (f : Format) (blocks : ℕ) → Lends now new format → lent_of now f + blocks ≡ lent_of old f + slot_blocks slots f
       → lent_of new f + blocks ≡ lent_of old f + slot_blocks (slots ++ s ∷ []) f
-  lends_more format format_is old now new f blocks lends before =
-      let more = lends f in
-      let this : one_of (samples_format s.samples) f ≡ one_of format f = ap (λ g. one_of g f) format_is in
-      omega (arith, more, this, before, sum_by_push (λ (t : Slot). one_of (samples_format t.samples) f) slots s)
+  lends_more format format_is old now new f blocks lends before = grind (arith, sum_by_push)
 
 pub adds_more : (format f : Format) (k old now new : ℕ) → new ≤ now + one_of format f → now ≤ old + (if same_format format f then k else 0)
     → new ≤ old + (if same_format format f then k + 1 else 0)
-adds_more format f k old now new more before = either (same_format format f) more before
-  where
-    either : (b : Bool) → new ≤ now + (if b then 1 else 0) → now ≤ old + (if b then k else 0) → new ≤ old + (if b then k + 1 else 0)
-    either true more before = omega (arith, more, before)
-    either false more before = omega (arith, more, before)
+adds_more format f k old now new more before = grind arith
 
 -- ---- slots of the same rooms
 

@@ -30,9 +30,7 @@ names-shown slots (o ∷ l) = ap (λ (names : List ℕ). o.name ∷ names) (name
 
 -- what is found under a name
 pub held-shown : (slots : List Slot) (l : List Named) (name : ℕ) → object_held (shown slots l) name ≡ option_map (shown_as slots name) (object_held l name)
-held-shown slots l name =
-    object_held-map (λ (o : Named). record o { object = shown_as slots o.name o.object }) (shown_as slots name) l name (λ o. refl)
-    (λ o same. ap (λ n. shown_as slots n o.object) same)
+held-shown slots l name = grind (arith, object_held-map)
 
 -- where the same slot has a name, the same is found under it
 pub shown_same : (a b : List Slot) (name : ℕ) (object : ObjectValue) → slot_of a name ≡ slot_of b name → shown_as a name object ≡ shown_as b name object
@@ -65,13 +63,7 @@ real_as_it_is slots name other real = refl
 slot_beside : (k : ℕ) (new : ObjectValue) (s : Option Slot) (image : VirtualImage) → with_slot (Some k) new (standing s (VirtualObject image)) ≡ standing s (VirtualObject image)
 slot_beside k (ImageObject a) None image = refl
 slot_beside k new None image = refl
-slot_beside k new (Some s) image = of_holder s.holder new
-  where
-    of_holder : (o : Option VirtualOutput) (x : ObjectValue) → with_slot (Some k) x (image_in s o (VirtualObject image)) ≡ image_in s o (VirtualObject image)
-    of_holder None (ImageObject a) = refl
-    of_holder None other = refl
-    of_holder (Some o) (ImageObject a) = refl
-    of_holder (Some o) other = refl
+slot_beside k new (Some s) image = grind arith
 
 slot_written : (slots : List Slot) (name : ℕ) (slot : Option ℕ) (new object : ObjectValue) → is_virtual_object new ≡ false
     → shown_as slots name (with_slot slot new object) ≡ with_slot slot new (shown_as slots name object)
@@ -174,15 +166,10 @@ pub placed : {X : Type 0} (p : X → Bool) (xs : List X) (k : ℕ) → position 
 placed p xs k at = grind (arith, nat_tests, cases_lt (position_or_len p xs) (length xs))
 
 pub placed_passes : {X : Type 0} (p : X → Bool) (xs : List X) (k : ℕ) (x : X) → position p xs ≡ Some k → x ≡ get_or xs k x → p x ≡ true
-placed_passes p xs k x at read =
-    let less = placed p xs k at in
-    let same : position_or_len p xs ≡ k = grind (arith, nat_tests) in
-    subst (λ y. p y ≡ true) (sym read) (subst (λ i. p (get_or xs i x) ≡ true) same (passes_at_first p xs x (omega arith)))
+placed_passes p xs k x at read = grind (arith, placed, nat_tests, passes_at_first)
 
 pub not_placed : {X : Type 0} (p : X → Bool) (xs : List X) → position p xs ≡ None → find p xs ≡ None
-not_placed p xs none =
-    let past : length xs ≤ position_or_len p xs = grind (arith, nat_tests) in
-    find_at p xs ∙ slice_get_past xs (position_or_len p xs) past
+not_placed p xs none = grind (arith, nat_tests, find_at, slice_get_past)
 
 -- ---- what is found where another slot has the image
 

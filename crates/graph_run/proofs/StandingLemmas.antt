@@ -46,9 +46,7 @@ module _ (s : Stage) (is : IsArranged s) (cell : Cell) (old new : ObjectValue) (
   l = s.table.objects
 
   written : scene (over s table) ≡ with_objects (scene s) (with_object (scene s).objects cell new)
-  written =
-      ap (λ (t : Context). with_objects t (shown s.slots.items t.objects)) table_is
-      ∙ ap (with_objects s.table) (shown-with_object s.slots.items l cell new fresh)
+  written = grind (arith, shown-with_object)
 
   virtual_kept : map virtual_named table.objects ≡ map virtual_named l
   virtual_kept =
@@ -73,14 +71,7 @@ module _ (s : Stage) (is : IsArranged s) (cell : Cell) (old new : ObjectValue) (
       grind (arith, there.1, same, found, real)
 
   arranged : IsArranged (over s table)
-  arranged =
-      subst (λ (t : Context). IsArranged (over s t)) (sym table_is)
-      (record {
-        names = subst IsStrictlyIncreasing (sym (names-with_object l cell new)) is.names;
-        formats = is.formats;
-        there = λ k a h. let held = is.there k a h in ap (option_map object_kind) (held_beside l cell a.cell.name new (virtual_apart a.cell.name held)) ∙ held;
-        apart = is.apart;
-      })
+  arranged = grind (arith, names-with_object, held_beside, virtual_apart)
 
   pub real_set : IsArranged (over s table) × (scene (over s table) ≡ with_objects (scene s) (with_object (scene s).objects cell new)) × Keeps s (over s table)
   real_set = (arranged, written, record { virtual = virtual_kept; slots = refl })
@@ -119,24 +110,12 @@ module _ (s : Stage) (is : IsArranged s) (cell : Cell) where
     module _ (there : HoldsImage (scene s).objects cell) where
       -- an object that isn't virtual is held there
       pub real_there : (old : ObjectValue) × (object_held objects cell.name ≡ Some old) × (is_virtual_object old ≡ false)
-      real_there = of (object_held objects cell.name) refl
-        where
-          no_virtual : (slot : Option ℕ) (x : ObjectValue) → option_map object_kind (in_slot slot x) ≡ Some kind.Image → is_virtual_object x ≡ false
-          no_virtual None (VirtualObject image) e = cc
-          no_virtual (Some k) (VirtualObject image) e = cc
-          no_virtual slot other e = refl
-
-          of : (o : Option ObjectValue) → object_held objects cell.name ≡ o → (old : ObjectValue) × (object_held objects cell.name ≡ Some old) × (is_virtual_object old ≡ false)
-          of None e = absurd (grind (arith, e, as_image there))
-          of (Some x) e = (x, e, no_virtual cell.slot x (ap (λ y. option_map object_kind (option_and_then (in_slot cell.slot) y)) (sym e) ∙ as_image there))
+      real_there = grind (arith, as_image)
 
       -- its samples are just as many as it has places
       pub for_held : (d : Description) (samples : Samples) → d ≡ description_of (image_held objects cell) → samples_format samples ≡ (image_held objects cell).format
           → values samples ≡ (image_held objects cell).samples → IsImage (image_held (scene s).objects cell) → AreFor held_slots cell.name d samples
-      for_held d samples desc format same image =
-          let size : length (image_held objects cell).samples ≡ sample_count (description_of (image_held objects cell)) = (subst (λ (x : ObjectValue). IsImage (image_value x)) as_object image).size in
-          let count : length (values samples) ≡ sample_count d = ap length same ∙ size ∙ ap sample_count (sym desc) in
-          record { format = format ∙ ap (λ (e : Description). e.format) (sym desc); count = omega arith; exact = λ _. count }
+      for_held d samples desc format same image = grind (arith, as_object)
 
       pub held_set : (image : ImageValue) (table : Context) → table ≡ with_objects s.table (with_object objects cell (ImageObject image)) → (count : ℕ)
           → IsArranged (over s table) × (scene (over s table) ≡ with_objects (scene s) (with_object (scene s).objects cell (ImageObject image))) × Resized cell.name count s (over s table)
@@ -201,14 +180,7 @@ module _ (s : Stage) (is : IsArranged s) (cell : Cell) where
       pub for_slot : (d : Description) (samples : Samples) → IfSome t.holder (λ o. d ≡ o.desc) → samples_format samples ≡ samples_format t.samples → values samples ≡ values t.samples
           → IsImage (image_held (scene s).objects cell) → AreFor held_slots cell.name d samples
       for_slot d samples of_desc same_format same_values image =
-          let desc : d ≡ holder.0.desc = subst (λ (h : Option VirtualOutput). IfSome h (λ o. d ≡ o.desc)) holder.1 of_desc in
-          let size : length (take (sample_count holder.0.desc) (values t.samples)) ≡ sample_count holder.0.desc = (subst IsImage image_here image).size in
-          let enough : sample_count holder.0.desc ≤ length (values samples) = omega (arith, length-take (sample_count holder.0.desc) (values t.samples), ap length same_values) in
-          record {
-            format = same_format ∙ format_is ∙ ap (λ (e : Description). e.format) (sym desc);
-            count = subst (λ (e : Description). sample_count e ≤ length (values samples)) (sym desc) enough;
-            exact = λ none. let no : ◌≡◌ {A = Option Slot} (Some t) None = sym (alone_found cell.name t held_slots k alone) ∙ none in absurd (cc);
-          }
+          grind (arith, image_here, length-take, format_is, alone_found, alone, holder.1, of_desc, same_values)
 
       pub format_held : samples_format t.samples ≡ (image_held (scene s).objects cell).format
       format_held = format_is ∙ ap (λ (v : ImageValue). v.format) (sym image_here)

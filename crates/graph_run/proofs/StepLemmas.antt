@@ -42,11 +42,7 @@ use Rattle.graph_run.proofs.StandingLemmas.{over, real_set}
 -- a virtual image is found as an image, or as it is
 stands_as : (found : Option Slot) (image : VirtualImage) → ((a : ImageValue) × (standing found (VirtualObject image) ≡ ImageObject a)) ⊎ (standing found (VirtualObject image) ≡ VirtualObject image)
 stands_as None image = inr refl
-stands_as (Some s) image = of s.holder
-  where
-    of : (o : Option VirtualOutput) → ((a : ImageValue) × (image_in s o (VirtualObject image) ≡ ImageObject a)) ⊎ (image_in s o (VirtualObject image) ≡ VirtualObject image)
-    of None = inr refl
-    of (Some o) = inl (standing_image o s, refl)
+stands_as (Some s) image = grind arith
 
 -- kinds of which nothing is found as an image
 abbrev pub IsPlain : Kind → Type 0
@@ -61,12 +57,7 @@ module _ (slots : List Slot) (l : List Named) where
 
   -- a virtual image that can be read is found as an image
   pub virtual_read : (cell : Cell) (image : VirtualImage) → object_held l cell.name ≡ Some (VirtualObject image) → Holds (shown slots l) cell → IsRead (object_kind (cell_object (shown slots l) cell)) → HoldsImage (shown slots l) cell
-  virtual_read cell image found there read =
-      let is : held (shown slots l) cell ≡ in_slot cell.slot (standing (slot_of slots cell.name) (VirtualObject image)) = ap (option_and_then (in_slot cell.slot)) (held-shown slots l cell.name ∙ ap (option_map (shown_as slots cell.name)) found) in
-      elim (stands_as (slot_of slots cell.name) image) [
-        | inl a ↦ grind (arith, is, a.1, there)
-        | inr e ↦ absurd (grind (arith, is, e, there, read))
-      ]
+  virtual_read cell image found there read = grind (arith, held-shown, stands_as)
 
   -- what isn't virtual is found as it is
   pub real_found : (name : ℕ) (object : ObjectValue) → object_held l name ≡ Some object → is_virtual_object object ≡ false → object_held (shown slots l) name ≡ Some object
@@ -77,22 +68,11 @@ module _ (slots : List Slot) (l : List Named) where
 
   -- an object of another kind than an image isn't virtual
   real_of_kind : (name : ℕ) (object : ObjectValue) (k : Kind) → object_held l name ≡ Some object → IsUnder (shown slots l) k name → IsPlain k → is_virtual_object object ≡ false
-  real_of_kind name object k found under plain = of object (sym (ap (option_map object_kind) (held-shown slots l name ∙ ap (option_map (shown_as slots name)) found)) ∙ under)
-    where
-      of : (x : ObjectValue) → ◌≡◌ {A = Option Kind} (Some (object_kind (shown_as slots name x))) (Some k) → is_virtual_object x ≡ false
-      of (VirtualObject image) e = elim (stands_as (slot_of slots name) image) [
-        | inl a ↦ (let is : k ≡ kind.Image = let b = ap object_kind a.1 in cc in absurd (subst IsPlain is plain))
-        | inr v ↦ (let is : k ≡ kind.VirtualImage = let b = ap object_kind v in cc in absurd (subst IsPlain is plain))
-      ]
-      of other e = refl
+  real_of_kind name object k found under plain = grind (arith, held-shown, stands_as)
 
 -- content that isn't a virtual image
 pub not_virtual : (content : Content) (object : ObjectValue) → value_of content ≡ object → ((image : VirtualImage) → content ≡ Virtual image → ⊥) → is_virtual_object object ≡ false
-not_virtual content object is other = ap is_virtual_object (sym is) ∙ of content other
-  where
-    of : (x : Content) → ((image : VirtualImage) → x ≡ Virtual image → ⊥) → is_virtual_object (value_of x) ≡ false
-    of (Virtual image) none = absurd (none image refl)
-    of other none = refl
+not_virtual content object is other = grind arith
 
 -- ---- slots while samples are out
 
@@ -105,11 +85,7 @@ resized_twice name m n (f ∷ fs) = grind (arith, resized_twice name m n fs, cas
 
 -- samples that are put back, as many as there were
 pub put_keeps : (a b c : Stage) (name m n count : ℕ) → Resized name m a b → Resized name n b c → n ≡ count → HasCount a.slots.items name count → Keeps a c
-put_keeps a b c name m n count out back same has =
-    record {
-      virtual = back.virtual ∙ out.virtual;
-      slots = back.slots ∙ ap (map (resized name n)) out.slots ∙ resized_twice name m n (map fixed a.slots.items) ∙ subst (HasCount a.slots.items name) (sym same) has;
-    }
+put_keeps a b c name m n count out back same has = grind (arith, resized_twice)
 
 pub still_out : (a b c : Stage) (name n : ℕ) → Resized name n a b → Keeps b c → Resized name n a c
 still_out a b c name n change keeps = record { virtual = keeps.virtual ∙ change.virtual; slots = keeps.slots ∙ change.slots }
@@ -136,13 +112,7 @@ any_resized other name n (f ∷ fs) = grind (arith, any_resized other name n fs,
 pub still_for : (a b : Stage) (name n cell : ℕ) (d e : Description) (samples written : Samples) → Resized name n a b → AreFor a.slots.items cell d samples → samples_format written ≡ samples_format samples
     → length (values written) ≡ length (values samples) → e ≡ d → AreFor b.slots.items cell e written
 still_for a b name n cell d e samples written change for format count same =
-    rw same
-    (record {
-      format = format ∙ for.format;
-      count = rw count for.count;
-      exact = λ none.
-          count ∙ for.exact (no_slot a.slots.items cell (sym (any_resized cell name n (map fixed a.slots.items)) ∙ ap (any_named cell) (sym change.slots) ∙ none_named b.slots.items cell none));
-    })
+    grind (arith, no_slot, any_resized, none_named)
 
 -- ---- what stays of a stage
 
@@ -211,13 +181,7 @@ kept_stage a b is arranged keeps lasts =
 
 -- a stage is arranged
 pub stage_arranged : (s : Stage) → IsStage s → IsArranged s
-stage_arranged s is =
-    record {
-      names = is.names;
-      formats = λ k d below. IfSome_then (get_or s.slots.items k d).holder (is.room k d below) (λ o room. room.format);
-      there = is.there;
-      apart = is.apart;
-    }
+stage_arranged s is = grind (arith, IfSome_then)
 
 -- ---- an object that isn't an image
 
@@ -227,9 +191,7 @@ module _ (s : Stage) (is : IsArranged s) (k : Kind) (name : ℕ) (under : IsUnde
 
   -- something is held there
   pub under_there : object_held s_objects name ≡ None → ⊥
-  under_there none =
-      let no : ◌≡◌ {A = Option Kind} None (Some k) = sym (ap (option_map object_kind) (held-shown s.slots.items s_objects name ∙ ap (option_map (shown_as s.slots.items name)) none)) ∙ under in
-      cc
+  under_there none = grind (arith, held-shown)
 
   module _ (object : ObjectValue) (found : object_held s_objects name ≡ Some object) where
     under_real : is_virtual_object object ≡ false
@@ -246,11 +208,7 @@ module _ (s : Stage) (is : IsArranged s) (k : Kind) (name : ℕ) (under : IsUnde
     under_found = ap (λ (o : Option ObjectValue). unwrap_or o nothing) found_too
 
   pub under_object : (object : ObjectValue) × (object_held s_objects name ≡ Some object)
-  under_object = of (object_held s_objects name) refl
-    where
-      of : (o : Option ObjectValue) → object_held s_objects name ≡ o → (object : ObjectValue) × (object_held s_objects name ≡ Some object)
-      of None e = absurd (under_there e)
-      of (Some x) e = (x, e)
+  under_object = grind (arith, under_there)
 
   pub held_is_under : IsUnder s_objects k name
   held_is_under = ap (option_map object_kind) under_object.1 ∙ ap Some (under_kind under_object.0 under_object.1)
@@ -277,15 +235,7 @@ module _ (s : Stage) (empty : AreEmpty s.slots.items) where
   empty_scene = ap (with_objects s.table) (nothing_stands s.slots.items empty s.table.objects)
 
   pub empty_stage : IsStrictlyIncreasing (map (λ o. o.name) s.table.objects) → All (λ o. IsObject o.object) s.table.objects → IsStage s
-  empty_stage names are =
-      record {
-        names = names;
-        held = are;
-        objects = subst (λ (c : Context). All (λ (o : Named). IsObject o.object) c.objects) (sym empty_scene) are;
-        room = λ k t below. subst (λ (h : Option VirtualOutput). IfSome h (λ o. HasRoomFor (get_or s.slots.items k t) o.desc)) (sym (empty k t below)) tt;
-        there = λ k a h. absurd (none_standing s.slots.items empty k a h);
-        apart = λ j k a b h i same. absurd (none_standing s.slots.items empty j a h);
-      }
+  empty_stage names are = grind (arith, empty_scene, none_standing)
 
 -- slots stay empty as nodes write
 pub still_empty : (a b : Stage) → Stays a b → AreEmpty a.slots.items → AreEmpty b.slots.items

@@ -136,10 +136,7 @@ module _ (is : Cell → Operand) (nodes : List Node) (v : Verified) (how : IsVer
   ]
 
   pub output_described : (o : VirtualOutput) → In o written → written_description is nodes o.cell ≡ Some o.desc
-  output_described o i =
-      ap (λ b. if b then operand_description (resolved is nodes o.cell) else None)
-      (and_from (is_virtual_operand (is o.cell)) (is_written nodes o.cell) (output_in o i).1 (output_written o i))
-      ∙ ap operand_description (output_known o i)
+  output_described o i = grind (arith, and_from, output_in, output_written, output_known)
 
 module _ (objects : List Named) (nodes : List Node) (v : Verified) (work : ℕ) (how : IsVerified (operand_held objects) nodes v)
     (runs : verdict work (operand_held objects) nodes ≡ None) where
