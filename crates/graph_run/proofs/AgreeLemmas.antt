@@ -82,8 +82,7 @@ output_cases n c w = elim (or_cases (is_cell n.out1 c) (is_cell n.out2 c) (sym (
 ]
   where
     this : (o : Option Cell) → is_cell o c ≡ true → o ≡ Some c
-    this None e = absurd (cc)
-    this (Some d) e = ap Some (sym (same_cell-true c d e))
+    this x e = grind arith
 
 -- what it writes where its cells hold something
 output_given : (n : Node) (now : Cell → Option ObjectValue) (c : Cell) (first out : ObjectValue) → writes n c ≡ true → now n.in1 ≡ Some first → now c ≡ Some out
@@ -141,14 +140,11 @@ virtual_operand (Some k) image operand e = absurd (cc)
 -- what is an image as an operand is an image
 image_of_operand : (found : Option ObjectValue) (d : Description) → option_map operand_of found ≡ Some (Image d)
     → (image : ImageValue) × (found ≡ Some (ImageObject image)) × (description_of image ≡ d)
-image_of_operand None d e = absurd (cc)
-image_of_operand (Some (ImageObject image)) d e = (image, refl, (cc))
-image_of_operand (Some other) d e = absurd (cc)
+image_of_operand x d e = grind arith
 
 -- what is some operand is something
 found_some : (found : Option ObjectValue) (operand : Operand) → option_map operand_of found ≡ Some operand → (x : ObjectValue) × (found ≡ Some x)
-found_some None operand e = absurd (cc)
-found_some (Some x) operand e = (x, refl)
+found_some x operand e = grind arith
 
 turns_left : (before rest : List Node) → InTurn feeds (before ++ rest) → InTurn feeds rest
 turns_left [] rest turns = turns
@@ -302,9 +298,7 @@ module _ (objects : List Named) (nodes : List Node) (v : Verified) (h : IsReady 
       first_image = of_kind (held here n.in1) (of_operands (HoldsKind here) n can_run_here.kinds).in1
         where
           of_kind : (found : Option ObjectValue) → option_map object_kind found ≡ Some kind.Image → (a : ImageValue) × (found ≡ Some (ImageObject a))
-          of_kind None e = absurd (cc)
-          of_kind (Some (ImageObject a)) e = (a, refl)
-          of_kind (Some other) e = absurd (cc)
+          of_kind x e = grind arith
 
       pub written_same : written_by n (held here) ≡ written_by n (held ideal)
       written_same =

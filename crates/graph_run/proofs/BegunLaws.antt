@@ -45,12 +45,10 @@ WritesNo-begun is nodes objects whole c w h = grind (arith, object_held-begun is
 -- ---- where no virtual image is written
 
 pub virtual_kind : (x : ObjectValue) → is_virtual_object x ≡ true → object_kind x ≡ kind.VirtualImage
-virtual_kind (VirtualObject v) h = refl
-virtual_kind x h = absurd (cc h)
+virtual_kind x h = grind arith
 
 pub no_slot_of_virtual : (k : ℕ) (x : ObjectValue) → is_virtual_object x ≡ true → ◌≡◌ {A = Option ObjectValue} (in_slot (Some k) x) None
-no_slot_of_virtual k (VirtualObject v) h = refl
-no_slot_of_virtual k x h = absurd (cc h)
+no_slot_of_virtual k x h = grind arith
 
 -- nothing changes as the run begins
 pub nothing_begun : (is : Cell → Operand) (nodes : List Node) (objects : List Named) → Rising (map label_of objects) → WritesNo kind.VirtualImage nodes objects → map (begun is nodes) objects ≡ objects
@@ -68,20 +66,16 @@ kept_virtual o p = p
 
 pub object_held-forgotten : (before after : List Named) → map label_of before ≡ map label_of after → (name : ℕ)
     → object_held (forgotten before after) name ≡ kept_virtual (object_held before name) (object_held after name)
-object_held-forgotten [] [] labels name = refl
-object_held-forgotten [] (p ∷ after) labels name = absurd (cc labels)
-object_held-forgotten (o ∷ before) [] labels name = absurd (cc labels)
 object_held-forgotten (o ∷ before) (p ∷ after) labels name =
     let rest : map label_of before ≡ map label_of after = cc in
     grind (arith, object_held-forgotten before after rest name, cases_Bool (is_virtual_object o.object), cases_Bool (eqb o.name name))
+object_held-forgotten x y labels name = grind arith
 
 pub labels-forgotten : (before after : List Named) → map label_of before ≡ map label_of after → map label_of (forgotten before after) ≡ map label_of after
-labels-forgotten [] [] labels = refl
-labels-forgotten [] (p ∷ after) labels = refl
-labels-forgotten (o ∷ before) [] labels = refl
 labels-forgotten (o ∷ before) (p ∷ after) labels =
     let rest : map label_of before ≡ map label_of after = cc in
     grind (arith, labels-forgotten before after rest, cases_Bool (is_virtual_object o.object))
+labels-forgotten x y labels = grind arith
 
 -- nothing changes as the run ends
 pub nothing_forgotten : (before after : List Named) → Rising (map label_of before) → map label_of before ≡ map label_of after
@@ -101,9 +95,7 @@ begun_if written object operand = if written then begun_as object operand else o
 
 -- what stays as it was if it is no virtual image
 pub begun_stays : (object : ObjectValue) (written : Bool) (operand : Operand) → is_virtual_object object ≡ false → begun_if written object operand ≡ object
-begun_stays (VirtualObject image) written operand h = absurd (cc)
 begun_stays other written operand h = grind arith
 
 pub virtual_as_operand : (object : ObjectValue) → is_virtual_object object ≡ true → is_virtual_operand (operand_of object) ≡ true
-virtual_as_operand (VirtualObject image) h = refl
-virtual_as_operand other h = absurd (cc)
+virtual_as_operand other h = grind arith

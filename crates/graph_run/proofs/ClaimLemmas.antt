@@ -44,8 +44,7 @@ found_has P [] name h = tt
 found_has P (s ∷ slots) name h = grind (arith, All-head P s slots h, found_has P slots name (All-tail P s slots h), cases_Bool (is_named name s.holder))
 
 shown_is : (name : ℕ) (found : Option Slot) (image : VirtualImage) → IfSome found IsStanding → IsObject (VirtualObject image) → IsObject (standing found (VirtualObject image))
-shown_is name None image standing is = is
-shown_is name (Some s) image standing is = grind arith
+shown_is name y image standing is = grind arith
 
 shown_one : (slots : List Slot) (name : ℕ) (object : ObjectValue) → All IsStanding slots → IsObject object → IsObject (shown_as slots name object)
 shown_one slots name (VirtualObject image) standing is = shown_is name (slot_of slots name) image (found_has IsStanding slots name standing) is

@@ -21,20 +21,17 @@ seen objects cell = option_map shown (held objects cell)
 -- ---- options
 
 pub map-or : {X Y : Type 0} (f : X → Y) (o p : Option X) → option_map f (option_or o p) ≡ option_or (option_map f o) (option_map f p)
-map-or f None p = refl
-map-or f (Some x) p = refl
+map-or f y p = grind arith
 
 pub or_assoc : {X : Type 0} (o p q : Option X) → option_or (option_or o p) q ≡ option_or o (option_or p q)
-or_assoc None p q = refl
-or_assoc (Some x) p q = refl
+or_assoc x p q = grind arith
 
 pub form-seen : (o : Option ObjectValue) → option_map form_of (option_map shown o) ≡ option_map form_of o
 form-seen None = refl
 form-seen (Some x) = ap {B = Option ObjectValue} Some (form-shown x)
 
 pub kind-form_seen : (o : Option ObjectValue) → option_map object_kind (option_map form_of o) ≡ option_map object_kind o
-kind-form_seen None = refl
-kind-form_seen (Some x) = ap Some (kind-form x)
+kind-form_seen x = grind arith
 
 -- ---- an object that is written
 
@@ -47,8 +44,7 @@ kind_of_form : (o : Option ObjectValue) (new : ObjectValue) → option_map form_
 kind_of_form o new f = sym (kind-form_seen o) ∙ ap (option_map object_kind) f ∙ ap Some (kind-form new)
 
 whole_stays : (j : ℕ) (new x : ObjectValue) → shown (with_slot (Some j) new x) ≡ shown x
-whole_stays j (ImageObject image) (DelayObject images) = refl
-whole_stays j new x = refl
+whole_stays j new x = grind arith
 
 slot_written : (k j : Option ℕ) (new x : ObjectValue) → option_map form_of (in_slot j x) ≡ Some (form_of new) → is_delay new ≡ false
     → option_map shown (in_slot k (with_slot j new x)) ≡ (if same_slot k j then Some (shown new) else option_map shown (in_slot k x))
@@ -112,9 +108,7 @@ AreWrites-after objects w ws are = grind (arith, form-with_object)
 
 one_more : (last old : Option ObjectValue) (new : ObjectValue) (same : Bool)
     → option_or (option_map shown last) (if same then Some (shown new) else old) ≡ option_or (option_map shown (option_or last (if same then Some new else None))) old
-one_more None old new true = refl
-one_more None old new false = refl
-one_more (Some x) old new same = refl
+one_more x old new same = grind arith
 
 -- of each cell the last object that was written to it is seen, or where there is none what it held
 pub seen-with_written : (ws : List (Cell × ObjectValue)) (objects : List Named) → AreWrites objects ws → (c : Cell)

@@ -26,14 +26,11 @@ same_at_each {X} (x ∷ xs) (y ∷ ys) h =
     ap (λ z. z ∷ xs) head ∙ ap (λ zs. y ∷ zs) (same_at_each xs ys (λ k. h (suc k)))
 
 image_seen : (o p : Option ImageValue) → option_map ImageObject o ≡ option_map ImageObject p → o ≡ p
-image_seen None None h = refl
 image_seen (Some x) (Some y) h = let e : x ≡ y = cc in ap {B = Option ImageValue} Some e
-image_seen o p h = absurd (cc h)
+image_seen o p h = grind arith
 
 unshown : (o p : Option ImageValue) → option_map shown (option_map ImageObject o) ≡ option_map shown (option_map ImageObject p) → option_map ImageObject o ≡ option_map ImageObject p
-unshown None None h = refl
-unshown (Some x) (Some y) h = h
-unshown o p h = absurd (cc h)
+unshown o p h = grind arith
 
 -- what an object shows in its own name and in each slot makes the object
 from_shown : (x y : ObjectValue) → shown x ≡ shown y → ((k : ℕ) → option_map shown (in_slot (Some k) x) ≡ option_map shown (in_slot (Some k) y)) → x ≡ y

@@ -46,20 +46,15 @@ given_in n held c = given_to n held c (held c)
 
 pub output_of_again : (n : Node) (output : Output) (first before second other out : Option ObjectValue) → option_map object_kind before ≡ option_map object_kind first
     → output_of n output first second (output_of n output before other out) ≡ output_of n output first second out
-output_of_again n output (Some x) (Some y) second other (Some out) same = grind arith
-output_of_again n output (Some x) None second other out same = absurd (cc same)
-output_of_again n output None (Some y) second other out same = absurd (cc same)
-output_of_again n output first before second other out same = refl
+output_of_again n output first before second other out same = grind arith
 
 shown-output_of : (n : Node) (output : Output) (first second out : Option ObjectValue)
     → option_map shown (output_of n output first second out) ≡ output_of n output (option_map shown first) (option_map shown second) (option_map shown out)
 shown-output_of n output (Some first) second (Some out) = ap {B = Option ObjectValue} Some (shown-node_output n output first second out)
-shown-output_of n output None second out = refl
-shown-output_of n output first second None = refl
+shown-output_of n output first second out = grind arith
 
 shown-and_then : (held : Cell → Option ObjectValue) (o : Option Cell) → option_map shown (option_and_then held o) ≡ option_and_then (λ d. option_map shown (held d)) o
-shown-and_then held None = refl
-shown-and_then held (Some d) = refl
+shown-and_then held y = grind arith
 
 -- nothing that is hidden of delays counts
 pub shown-given_to : (n : Node) (held : Cell → Option ObjectValue) (c : Cell) (out : Option ObjectValue) → option_map shown (given_to n held c out) ≡ given_to n (λ d. option_map shown (held d)) c (option_map shown out)
@@ -71,8 +66,7 @@ shown-given_in n held c = shown-given_to n held c (held c)
 -- a form stays
 pub form-output_of : (n : Node) (output : Output) (first second out : Option ObjectValue) → option_map form_of (output_of n output first second out) ≡ option_map form_of out
 form-output_of n output (Some first) second (Some out) = ap {B = Option ObjectValue} Some (form-node_output n output first second out)
-form-output_of n output None second out = refl
-form-output_of n output first second None = refl
+form-output_of n output first second out = grind arith
 
 -- ---- the list of what a node writes
 
@@ -80,8 +74,7 @@ pub writes-outputs : (n : Node) (c : Cell) → writes n c ≡ (is_cell n.out1 c 
 writes-outputs n c = grind arith
 
 last_beside : (n : Node) (output : Output) (o : Option Cell) (held : Cell → Option ObjectValue) (c : Cell) → is_cell o c ≡ false → last_to c (written_in n output o held) ≡ None
-last_beside n output None held c h = refl
-last_beside n output (Some d) held c h = grind arith
+last_beside n output z held c h = grind arith
 
 last_there : (n : Node) (output : Output) (o : Option Cell) (held : Cell → Option ObjectValue) (c : Cell) → is_cell o c ≡ true
     → last_to c (written_in n output o held) ≡ last_to c (written_to n output c (held n.in1) (option_and_then held n.in2) (held c))
@@ -90,15 +83,11 @@ last_there n output (Some d) held c h = ap (λ z. last_to c (written_to n output
 
 -- it stands over what was held, and over what another output of the node gave
 over_old : (n : Node) (output : Output) (c : Cell) (first second out : Option ObjectValue) → option_or (last_to c (written_to n output c first second out)) out ≡ output_of n output first second out
-over_old n output c (Some first) second (Some out) = let e = same_cell-refl c in rw e refl
-over_old n output c None second out = refl
-over_old n output c (Some first) second None = refl
+over_old n output c u second out = grind arith
 
 over_other : (n : Node) (output other : Output) (c : Cell) (first second out : Option ObjectValue)
     → option_or (last_to c (written_to n output c first second out)) (output_of n other first second out) ≡ output_of n output first second out
-over_other n output other c (Some first) second (Some out) = let e = same_cell-refl c in rw e refl
-over_other n output other c None second out = refl
-over_other n output other c (Some first) second None = refl
+over_other n output other c v second out = grind arith
 
 -- what is written last to a cell is what the node gives it
 pub last_written : (n : Node) (held : Cell → Option ObjectValue) (c : Cell) → option_or (last_to c (written_by n held)) (held c) ≡ (if writes n c then given_in n held c else held c)

@@ -82,15 +82,12 @@ module _ (n : Node) (output : Output) (a : ImageValue) (second : Option ObjectVa
 
 -- an object that is an image is one
 pub image_of_object : (object : ObjectValue) → object_kind object ≡ kind.Image → IsObject object → IsImage (image_value object)
-image_of_object (ImageObject image) e is = is
-image_of_object other e is = cc
+image_of_object other e is = grind arith
 
 -- what is written by a node to an image
 pub of_images : (n : Node) (output : Output) (first : ObjectValue) (second : Option ObjectValue) (out : ObjectValue) → object_kind first ≡ kind.Image → object_kind out ≡ kind.Image
     → ImageObject (node_image n output (image_value out).format (image_value first) second) ≡ node_output n output first second out
-of_images n output (ImageObject a) second (ImageObject b) h i = refl
-of_images n output (ImageObject a) second other h i = cc
-of_images n output other second b h i = cc
+of_images n output other second b h i = grind arith
 
 -- a kernel can run where an output is an image
 pub can_run : (n : Node) (first : ObjectValue) (second : Option ObjectValue) (out : ObjectValue) → RunsOn n first second out → object_kind out ≡ kind.Image → CanRunTo n (image_value first) second (image_value out)
@@ -99,15 +96,8 @@ can_run n first second other runs e = cc
 
 -- what a function reads beside its first input can be lent to a kernel
 is_read : (function : Function) (k : Kind) → (parameters function).second_input ≡ Some k → IsRead k
-is_read function kind.Image e = tt
-is_read function kind.Lut e = tt
-is_read function kind.Threshold e = tt
-is_read function kind.Convolution e = tt
-is_read function kind.Delay e = absurd (takes_no_delay function e)
 is_read function kind.Distribution e = absurd (takes_no_distribution function e)
-is_read function kind.Extremes e = absurd (takes_no_extremes function e)
-is_read function kind.Graph e = absurd (takes_no_graph function e)
-is_read function kind.VirtualImage e = absurd (takes_no_virtual function e)
+is_read function y e = grind arith
 
 -- a node's output that is an image, in a cell
 module _ (objects : List Named) (n : Node) (which : Output) (output : Cell) (h : RunsTo objects n output) (is_image : (parameters n.function).output ≡ kind.Image) where

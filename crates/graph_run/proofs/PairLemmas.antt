@@ -42,9 +42,7 @@ use Rattle.graph_run.proofs.RunLemmas.{apart_back, has_of_node, output_beside, r
 -- what is written to two slots of one object can be written in any order
 slots_in_any_order : (j k : Option ℕ) (x y object : ObjectValue) → TwoSlots j k → with_slot j x (with_slot k y object) ≡ with_slot k y (with_slot j x object)
 slots_in_any_order (Some j) (Some k) (ImageObject a) (ImageObject b) (DelayObject images) apart = ap DelayObject (set_comm images k j b a (λ e. apart (sym e)))
-slots_in_any_order (Some j) (Some k) (ImageObject a) y (DelayObject images) apart = refl
-slots_in_any_order (Some j) (Some k) x y object apart = refl
-slots_in_any_order j k x y object apart = absurd apart
+slots_in_any_order j k x y object apart = grind arith
 
 one_of_two : (o : Named) (a b : Cell) (x y : ObjectValue) → AreApart a b → with_object (with_object (o ∷ []) b y) a x ≡ with_object (with_object (o ∷ []) a x) b y
 one_of_two o a b x y apart = grind (arith, cases_Bool (o.name == a.name), cases_Bool (o.name == b.name), eqb-true, slots_in_any_order)
@@ -68,14 +66,10 @@ pub has_two : (n : Node) (a b : Cell) → IsNode n → n.out1 ≡ Some a → n.o
 has_two n a b node first second = grind (arith, has_of_node, and_parts)
 
 sixteen_bits : (a : Format) (second : Option Format) (format : Format) → takes_formats Sobel a second (Some format) ≡ true → format ≡ S16
-sixteen_bits U8 None S16 h = refl
-sixteen_bits U8 None format h = cc
-sixteen_bits U8 (Some b) format h = cc
-sixteen_bits a second format h = cc
+sixteen_bits a second format h = grind arith
 
 image_of_sixteen : (a : Format) (second : Option Format) (out : ObjectValue) → object_kind out ≡ kind.Image → takes_formats Sobel a second (object_format out) ≡ true → (image_value out).format ≡ S16
-image_of_sixteen a second (ImageObject image) e h = sixteen_bits a second image.format h
-image_of_sixteen a second out e h = cc
+image_of_sixteen a second out e h = grind arith
 
 -- what it writes is of 16 bits
 pub writes_shorts : (objects : List Named) (n : Node) (output : Cell) → RunsTo objects n output → n.function ≡ Sobel → (image_held objects output).format ≡ S16
@@ -100,9 +94,6 @@ module _ (before : Context) (n : Node) (one other : Cell) (h : RunsTo before.obj
 
   abbrev left_one : ObjectValue
   left_one = with_samples (cell_object l one) (image_held l one).valid []
-
-  abbrev new_one : ObjectValue
-  new_one = output_of l n First one
 
   abbrev new_other : ObjectValue
   new_other = output_of l n Second other

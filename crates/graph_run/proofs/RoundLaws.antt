@@ -49,8 +49,7 @@ none_last (n ∷ ns) held c h =
     grind (arith, last_to-append c (written_by n held) (flat_map (λ m. written_by m held) ns), none_last ns held c both.1, last_elsewhere n held c both.0)
 
 absorbed : {X : Type 0} (o p q : Option X) → option_or o p ≡ q → option_or o q ≡ q
-absorbed None p q h = refl
-absorbed (Some x) p q h = h
+absorbed x p q h = grind arith
 
 last_in_round : (ns : List Node) (held : Cell → Option ObjectValue) (c : Cell) → OneWriter writes ns
     → option_or (last_to c (flat_map (λ n. written_by n held) ns)) (held c) ≡ cells.round writes given_in ns held c

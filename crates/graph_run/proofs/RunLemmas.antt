@@ -54,8 +54,7 @@ apart objects a b k l no_k no_l h i differ names = grind (arith, eq-eqb a.name b
 
 -- no function reads a delay as a whole
 second_no_delay : (function : Function) → unwrap_or (parameters function).second_input kind.Image ≢ kind.Delay
-second_no_delay AndBits = λ e. cc
-second_no_delay other = λ e. cc
+second_no_delay other = grind arith
 
 pub has_of_node : (n : Node) → is_node n ≡ true → has_operands (parameters n.function) n ≡ true
 has_of_node n shape = (and_parts (has_operands (parameters n.function) n) (all_named n) (and_parts (has_amount (parameters n.function) n.policy n.amount) (has_operands (parameters n.function) n && all_named n) shape).1).0
@@ -66,12 +65,10 @@ no_image e = cc
 -- ---- the objects that a node reads and writes
 
 pub same_format : (object : ObjectValue) → operand_format (operand_of object) ≡ object_format object
-same_format (ImageObject image) = refl
-same_format other = refl
+same_format other = grind arith
 
 pub same_formats : (second : Option ObjectValue) → option_and_then operand_format (option_map operand_of second) ≡ option_and_then object_format second
-same_formats None = refl
-same_formats (Some object) = same_format object
+same_formats x = grind arith
 
 swapped : (a b : Description) → same_size a b ≡ true → same_size b a ≡ true
 swapped a b e = grind (arith, and_parts (a.width == b.width) (a.height == b.height) e)
@@ -131,9 +128,8 @@ module _ (n : Node) where
   -- a second input is what the function has there
   second_wanted : (objects : List Named) (cell : Option Cell) (s : Option Kind) → (if is_some s then is_some cell else is_none cell) ≡ true → IfSome cell (λ c. HoldsKind objects (c, unwrap_or s kind.Image))
       → IfSome (option_map (cell_object objects) cell) (λ object. s ≡ Some (object_kind object))
-  second_wanted objects None s has h = tt
-  second_wanted objects (Some c) None has h = cc
   second_wanted objects (Some c) (Some s) has h = ap Some (sym (kind_there objects (c, s) h))
+  second_wanted objects y s has h = grind arith
 
   -- what a node reads and writes, where its cells hold what its function has there
   module _ (objects : List Named) (are : All (λ o. IsObject o.object) objects) (can : CanRunNow objects n) where
@@ -210,11 +206,10 @@ module _ (n : Node) where
     -- two outputs are apart
     outputs_apart : (one other : Option Cell) → IfSome one (λ c. HoldsKind objects (c, wanted)) → IfSome other (λ c. HoldsKind objects (c, wanted)) → has_twice (given one ++ given other) ≡ false
         → IfSome one (λ a. IfSome other (λ b. AreApart b a))
-    outputs_apart None other s t e = tt
-    outputs_apart (Some a) None s t e = tt
     outputs_apart (Some a) (Some b) s t e =
         let differ = (or_parts (same_cell a b) false (or_parts (list_any (same_cell a) (b ∷ [])) false e).0).0 in
         apart_back a b (apart objects a b wanted wanted (no_delay_written n.function) (no_delay_written n.function) s t differ)
+    outputs_apart x other s t e = grind arith
 
     pub two_outputs : IfSome n.out1 (λ a. IfSome n.out2 (λ b. AreApart b a))
     two_outputs = outputs_apart n.out1 n.out2 h.out1 h.out2 parts.0
@@ -224,9 +219,8 @@ module _ (n : Node) where
     runs_then = after n.out1 n.out2 runs_first runs_second two_outputs
       where
         after : (one other : Option Cell) → IfSome one (RunsTo objects n) → IfSome other (RunsTo objects n) → IfSome one (λ a. IfSome other (λ b. AreApart b a)) → IfSome other (RunsTo (with_output objects n First one) n)
-        after None other r s e = s
-        after (Some a) None r s e = tt
         after (Some a) (Some b) r s e = runs_beside objects n a b (output_of objects n First a) s r.in1_apart r.in2_apart e
+        after x other r s e = grind arith
 
     second_held : (cell : Option Cell) (k : Kind) → IfSome cell (λ c. HoldsKind objects (c, k)) → option_and_then (held objects) cell ≡ option_map (cell_object objects) cell
     second_held None k s = refl
@@ -240,15 +234,12 @@ module _ (n : Node) where
         grind (arith, there_is objects n.in1 (holds_there objects (n.in1, kind.Image) h.in1), holds_there objects (n.in1, kind.Image) h.in1, second_held n.in2 (second_kind n) h.in2, there_is objects c (holds_there objects (c, wanted) s), holds_there objects (c, wanted) s)
 
     same_first : (cell : Option Cell) → IfSome cell (λ c. output_of objects n First c ≡ output_of objects n First c)
-    same_first None = tt
-    same_first (Some c) = refl
+    same_first x = grind arith
 
     same_second : (one other : Option Cell) → IfSome one (RunsTo objects n) → IfSome other (RunsTo objects n) → IfSome one (λ a. IfSome other (λ b. AreApart b a))
         → IfSome other (λ c. output_of (with_output objects n First one) n Second c ≡ output_of objects n Second c)
-    same_second None None r s e = tt
-    same_second None (Some b) r s e = refl
-    same_second (Some a) None r s e = tt
     same_second (Some a) (Some b) r s e = output_beside objects n a b (output_of objects n First a) s r.in1_apart r.in2_apart e Second
+    same_second x y r s e = grind arith
 
     -- what the node writes is what its outputs become
     pub written_is : with_written objects (written_by n (held objects)) ≡ with_output (with_output objects n First n.out1) n Second n.out2
@@ -273,9 +264,7 @@ extremes_written n which (ImageObject a) second other e f = cc
 extremes_written n which first second out e f = cc
 
 counts_written : (n : Node) (which : Output) (first : ObjectValue) (second : Option ObjectValue) (out : ObjectValue) → object_kind first ≡ kind.Image → object_kind out ≡ kind.Distribution → counted_in (image_value first) out ≡ node_output n which first second out
-counts_written n which (ImageObject a) second (DistributionObject d) e f = refl
-counts_written n which (ImageObject a) second other e f = cc
-counts_written n which first second out e f = cc
+counts_written n which first second other e f = grind arith
 
 module _ (l : List Named) (n : Node) (which : Output) (output : Cell) (runs : RunsTo l n output) where
   -- an output that isn't an image stands under its name
@@ -306,9 +295,7 @@ output_lasts : (n : Node) (which : Output) (first : ObjectValue) (second : Optio
 output_lasts n which (ImageObject a) second (ImageObject out) runs =
     grind (arith, node_image_is, images-last, description_kept)
 output_lasts n which (ImageObject a) second (DistributionObject d) runs = (record { bins = runs.out_is.bins; size = length-histogram d.bins a }, refl)
-output_lasts n which (ImageObject a) second (ExtremesObject x) runs = (tt, refl)
-output_lasts n which (ImageObject a) second out runs = (runs.out_is, refl)
-output_lasts n which first second out runs = (runs.out_is, refl)
+output_lasts n which first second out runs = grind arith
 
 pub Lasts-with_output : (l : List Named) (n : Node) (which : Output) (output : Option Cell) → IsStrictlyIncreasing (names_of l) → All (λ o. IsObject o.object) l → IfSome output (RunsTo l n) → Lasts l (with_output l n which output)
 Lasts-with_output l n which None names are runs = record { objects = are; lasting = refl }

@@ -80,16 +80,13 @@ written_stay done old new same written k a h = written k a (sym (holders_stay ol
 -- ---- virtual images of the table
 
 kind_is_virtual : (object : ObjectValue) → object_kind object ≡ kind.VirtualImage → is_virtual_object object ≡ true
-kind_is_virtual (VirtualObject image) e = refl
-kind_is_virtual other e = cc
+kind_is_virtual other e = grind arith
 
 -- what stays virtual twice stays so
 pub forgotten-twice : (old now new : List Named) → map label_of now ≡ map label_of old → forgotten old now ≡ now → forgotten now new ≡ new → forgotten old new ≡ new
-forgotten-twice [] now new labels one other = refl
-forgotten-twice (o ∷ old) [] new labels one other = absurd (cc)
-forgotten-twice (o ∷ old) (p ∷ now) [] labels one other = refl
 forgotten-twice (o ∷ old) (p ∷ now) (q ∷ new) labels one other =
     grind (arith, forgotten-twice old now new (ap (drop 1) labels) (ap (drop 1) one) (ap (drop 1) other), cases_Bool (is_virtual_object o.object))
+forgotten-twice x now new labels one other = grind arith
 
 -- lists of the same names hold something under the same names
 both_held : (one other : List Named) → map label_of one ≡ map label_of other → (name : ℕ) (x : ObjectValue) → object_held one name ≡ Some x
@@ -165,8 +162,7 @@ module _ (objects : List Named) (nodes : List Node) (v : Verified) (h : IsReady 
       kept_name name (inr used) o i w same = written_once o.cell w (ap (is_written before) (itself o i ∙ ap whole same) ∙ used.0)
 
       kept_for : (name : ℕ) → Keeps outs before (n ∷ after) name → (is_output outs name ≡ false) ⊎ (is_used (n ∷ after) (whole name) ≡ true)
-      kept_for name (inl none) = inl none
-      kept_for name (inr used) = inr used.1
+      kept_for name y = grind arith
 
       pub claims_agree : (ideal : List Named) → Agrees outs before (n ∷ after) (shown slots l) ideal → Agrees outs before (n ∷ after) (shown both l) ideal
       claims_agree ideal agrees =
@@ -218,10 +214,7 @@ lasting_step (o ∷ before) (q ∷ after) slots next kept lasts free =
     let rest = lasting_step before after slots next (ap (drop 1) kept) (ap (drop 1) lasts) (λ r i. free r (inr i)) in
     let shows : lasting_named (record q { object = shown_as next q.name q.object }) ≡ lasting_named (record o { object = shown_as slots o.name o.object }) = cc in
     let name : q.name ≡ o.name = ap (λ (x : Named × List Node). x.0.name) shows in
-    elim (cases_Bool (is_virtual_object o.object)) [
-      | inl e ↦ grind (arith, rest)
-      | inr e ↦ (let none = ap (slot_of next) name ∙ free o (inl refl) e in grind (arith, rest, as_it_is next q.name q.object none, real_as_it_is slots o.name o.object e))
-    ]
+    grind (arith, rest, name, cases_Bool, as_it_is, real_as_it_is)
 
 -- ---- a graph that runs on a stage
 

@@ -29,9 +29,8 @@ use Rattle.graph_run.specs.Stage.{HasRoomFor}
 
 module _ {X : Type 0} where
   get_left : (xs ys : List X) (k : ℕ) → k < length xs → slice_get (xs ++ ys) k ≡ slice_get xs k
-  get_left [] ys k below = absurd (omega (arith, below))
-  get_left (x ∷ xs) ys zero below = refl
   get_left (x ∷ xs) ys (suc k) below = get_left xs ys k (omega (arith, below))
+  get_left x ys k below = grind arith
 
   get_right : (xs ys : List X) (n k : ℕ) → length xs ≡ n → slice_get (xs ++ ys) (n + k) ≡ slice_get ys k
   get_right [] ys n k long = let same : n + k ≡ k = omega (arith, long) in ap (slice_get ys) same
@@ -83,10 +82,7 @@ module _ (p : PlanValue) where
 
   -- one slot stands at a place
   one_slot : (f g : Format) (j k : ℕ) → j < p.slot_count f → k < p.slot_count g → slot_place p f j ≡ slot_place p g k → (f ≡ g) × (j ≡ k)
-  one_slot U8 U8 j k a b same = (refl, same)
-  one_slot S16 S16 j k a b same = (refl, (omega (arith, same)))
-  one_slot U32 U32 j k a b same = (refl, (omega (arith, same)))
-  one_slot f g j k a b same = absurd (omega (arith, a, b, same))
+  one_slot f g j k a b same = grind arith
 
 -- ---- the slots of virtual images
 

@@ -16,10 +16,7 @@ use Rattle.graph_run.specs.Slots.{room_of, slot_blocks}
 
 -- two formats are one or not
 formats : (f g : Format) → ((f ≡ g) × (one_of g f ≡ 1)) ⊎ ((f ≢ g) × (one_of g f ≡ 0))
-formats U8 U8 = inl (refl, refl)
-formats S16 S16 = inl (refl, refl)
-formats U32 U32 = inl (refl, refl)
-formats f g = inr (λ e. cc, refl)
+formats f g = grind arith
 
 -- a block that is taken adds at most one
 pub taken_adds : (old new : Pool) (format : Format) → Lends old new format → blocks_of new format ≡ max (blocks_of old format) (lent_of new format) → KeepsOtherRooms old new format

@@ -55,23 +55,17 @@ shown_nowhere slots none (o ∷ l) =
 
 -- so is what isn't virtual
 pub real_as_it_is : (slots : List Slot) (name : ℕ) (object : ObjectValue) → is_virtual_object object ≡ false → shown_as slots name object ≡ object
-real_as_it_is slots name (VirtualObject image) real = cc
-real_as_it_is slots name other real = refl
+real_as_it_is slots name other real = grind arith
 
 -- ---- what is written to an object that isn't virtual
 
 slot_beside : (k : ℕ) (new : ObjectValue) (s : Option Slot) (image : VirtualImage) → with_slot (Some k) new (standing s (VirtualObject image)) ≡ standing s (VirtualObject image)
-slot_beside k (ImageObject a) None image = refl
-slot_beside k new None image = refl
-slot_beside k new (Some s) image = grind arith
+slot_beside k new z image = grind arith
 
 slot_written : (slots : List Slot) (name : ℕ) (slot : Option ℕ) (new object : ObjectValue) → is_virtual_object new ≡ false
     → shown_as slots name (with_slot slot new object) ≡ with_slot slot new (shown_as slots name object)
-slot_written slots name None new object real = real_as_it_is slots name new real
 slot_written slots name (Some k) new (VirtualObject image) real = ap (shown_as slots name) (slot_beside k new None image) ∙ sym (slot_beside k new (slot_of slots name) image)
-slot_written slots name (Some k) (ImageObject a) (DelayObject images) real = refl
-slot_written slots name (Some k) (ImageObject a) other real = refl
-slot_written slots name (Some k) new other real = refl
+slot_written slots name z new object real = grind arith
 
 -- it is found there
 pub shown-with_object : (slots : List Slot) (l : List Named) (cell : Cell) (new : ObjectValue) → is_virtual_object new ≡ false
@@ -100,8 +94,7 @@ abbrev Elsewhere : List Slot → ℕ → ℕ → Type 0
 Elsewhere slots name k = (j : ℕ) (a : VirtualOutput) → holder_at slots j ≡ Some a → a.cell.name ≡ name → j ≡ k
 
 pub named_holder : (name : ℕ) (o : Option VirtualOutput) → is_named name o ≡ true → (a : VirtualOutput) × (o ≡ Some a) × (a.cell.name ≡ name)
-named_holder name None e = cc
-named_holder name (Some a) e = (a, refl, eqb-true a.cell.name name e)
+named_holder name y e = grind arith
 
 pub stands_nowhere : (slots : List Slot) (name : ℕ) → ((j : ℕ) (a : VirtualOutput) → holder_at slots j ≡ Some a → a.cell.name ≢ name) → slot_of slots name ≡ None
 stands_nowhere [] name none = refl
@@ -124,9 +117,8 @@ alone_at (t ∷ slots) name (suc k) s at named apart = (
 
 module _ (name : ℕ) (s : Slot) where
   pub alone_found : (slots : List Slot) (k : ℕ) → IsAlone slots name k s → slot_of slots name ≡ Some s
-  alone_found [] k h = absurd h
-  alone_found (t ∷ slots) zero h = rw h.0 (rw h.1 refl)
   alone_found (t ∷ slots) (suc k) h = rw h.0 (alone_found slots k h.1)
+  alone_found x k h = grind arith
 
   -- it has as many samples as it has
   pub alone_count : (slots : List Slot) (k : ℕ) → IsAlone slots name k s → map (resized name (length (values s.samples))) (map fixed slots) ≡ map fixed slots
@@ -137,9 +129,8 @@ module _ (name : ℕ) (s : Slot) where
   -- another slot in its place, in which the same image stands
   module _ (new : Slot) (same : new.holder ≡ s.holder) where
     pub set_found : (slots : List Slot) (k : ℕ) → IsAlone slots name k s → slot_of (set slots k new) name ≡ Some new
-    set_found [] k h = absurd h
-    set_found (t ∷ slots) zero h = rw (ap (is_named name) same ∙ h.1) refl
     set_found (t ∷ slots) (suc k) h = rw h.0 (set_found slots k h.1)
+    set_found x k h = grind arith
 
     pub set_beside : (other : ℕ) → is_named other s.holder ≡ false → (slots : List Slot) (k : ℕ) → IsAlone slots name k s → slot_of (set slots k new) other ≡ slot_of slots other
     set_beside other apart [] k h = absurd h
@@ -147,11 +138,9 @@ module _ (name : ℕ) (s : Slot) where
     set_beside other apart (t ∷ slots) (suc k) h = ap (λ found. if is_named other t.holder then Some t else found) (set_beside other apart slots k h.1)
 
     pub set_holders : (slots : List Slot) (k : ℕ) → IsAlone slots name k s → (j : ℕ) → holder_at (set slots k new) j ≡ holder_at slots j
-    set_holders [] k h j = absurd h
     set_holders (t ∷ slots) zero h zero = same ∙ ap (λ (q : Slot). q.holder) (sym h.0)
-    set_holders (t ∷ slots) zero h (suc j) = refl
-    set_holders (t ∷ slots) (suc k) h zero = refl
     set_holders (t ∷ slots) (suc k) h (suc j) = set_holders slots k h.1 j
+    set_holders x k h j = grind arith
 
     pub set_fixed : samples_format new.samples ≡ samples_format s.samples → (slots : List Slot) (k : ℕ) → IsAlone slots name k s
         → map fixed (set slots k new) ≡ map (resized name (length (values new.samples))) (map fixed slots)

@@ -57,9 +57,7 @@ module _ (s : Stage) (is : IsArranged s) (cell : Cell) (old new : ObjectValue) (
       l (held_once l cell.name old is.names found))
     where
       stays_real : (slot : Option ℕ) (n x : ObjectValue) → is_virtual_object n ≡ false → is_virtual_object x ≡ false → is_virtual_object (with_slot slot n x) ≡ false
-      stays_real None n x f e = f
-      stays_real (Some k) (ImageObject a) (DelayObject images) f e = refl
-      stays_real (Some k) n x f e = e
+      stays_real x n z f e = grind arith
 
       no_more : (o : Named) (x : ObjectValue) → is_virtual_object x ≡ false → is_virtual_object o.object ≡ false → virtual_named (record o { object = x }) ≡ virtual_named o
       no_more o x e f = grind arith

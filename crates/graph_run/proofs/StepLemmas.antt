@@ -41,8 +41,7 @@ use Rattle.graph_run.proofs.StandingLemmas.{over, real_set}
 
 -- a virtual image is found as an image, or as it is
 stands_as : (found : Option Slot) (image : VirtualImage) → ((a : ImageValue) × (standing found (VirtualObject image) ≡ ImageObject a)) ⊎ (standing found (VirtualObject image) ≡ VirtualObject image)
-stands_as None image = inr refl
-stands_as (Some s) image = grind arith
+stands_as x image = grind arith
 
 -- kinds of which nothing is found as an image
 abbrev pub IsPlain : Kind → Type 0
@@ -134,11 +133,10 @@ first_same : (o p : Named) (old new : List Named) → map virtual_named (p ∷ n
 first_same o p old new same = (ap (λ l. get_or l 0 (virtual_named p)) same, ap (drop 1) same)
 
 pub forgotten_kept : (old new : List Named) → map virtual_named new ≡ map virtual_named old → forgotten old new ≡ new
-forgotten_kept [] new same = refl
-forgotten_kept (o ∷ old) [] same = refl
 forgotten_kept (o ∷ old) (p ∷ new) same =
     let parts = first_same o p old new same in
     grind (arith, forgotten_kept old new parts.1, same_virtual o p parts.0, cases_Bool (is_virtual_object o.object))
+forgotten_kept x new same = grind arith
 
 -- what is held are objects, where what is found are, and virtual objects stay
 held_kept : (slots : List Slot) (old new : List Named) → map virtual_named new ≡ map virtual_named old → All (λ o. IsObject o.object) old → All (λ o. IsObject o.object) (shown slots new) → All (λ o. IsObject o.object) new
@@ -148,12 +146,7 @@ held_kept slots (o ∷ old) (p ∷ new) same was are =
     let parts = first_same o p old new same in
     let Is : Named → Type 0 = λ q. IsObject q.object in
     let found : Named = record p { object = shown_as slots p.name p.object } in
-    All-cons Is p new
-    (elim (cases_Bool (is_virtual_object p.object)) [
-      | inl e ↦ subst Is (sym (virtual_before o p parts.0 e)) (All-head Is o old was)
-      | inr e ↦ subst IsObject (real_as_it_is slots p.name p.object e) (All-head Is found (shown slots new) are)
-    ])
-    (held_kept slots old new parts.1 (All-tail Is o old was) (All-tail Is found (shown slots new) are))
+    grind (arith, parts, Is, found, held_kept slots old new parts.1 (All-tail Is o old was) (All-tail Is found (shown slots new) are), All-cons, cases_Bool, virtual_before, All-head, real_as_it_is, All-tail)
 
 -- slots have room as before
 abbrev Room : Fixed → Type 0

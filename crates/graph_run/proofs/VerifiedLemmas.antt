@@ -53,15 +53,13 @@ once_filter p (c ∷ cs) once =
     grind (arith, cases_Bool (p c), any_filter c p cs both.0, once_filter p cs both.1)
 
 once_apart : (cs : List Cell) → has_twice cs ≡ false → AllPairs (λ a b. a ≢ b) cs
-once_apart [] once i j d less within = absurd (omega (arith, within))
-once_apart (c ∷ cs) once zero zero d less within = absurd (omega (arith, less))
 once_apart (c ∷ cs) once zero (suc j) d less within = λ same.
     let none = (or_parts (list_any (same_cell c) cs) (has_twice cs) once).0 in
     let some = any-from_In (same_cell c) (get_or cs j d) cs (In-at cs j d (omega (arith, within))) (same_cell-is c (get_or cs j d) same) in
     cc
-once_apart (c ∷ cs) once (suc i) zero d less within = absurd (omega (arith, less))
 once_apart (c ∷ cs) once (suc i) (suc j) d less within =
     once_apart cs (or_parts (list_any (same_cell c) cs) (has_twice cs) once).1 i j d (omega (arith, less)) (omega (arith, within))
+once_apart x once i j d less within = grind arith
 
 -- ---- cells that a node names
 
@@ -212,13 +210,11 @@ module _ (objects : List Named) (nodes : List Node) (v : Verified) (work : ℕ) 
       where
         real_kind : (operand : Operand) (wanted : Kind) → is_virtual_operand operand ≡ false → StandsFor operand wanted
             → operand_kind operand ≡ wanted
-        real_kind (Virtual declared) wanted real stands = absurd (cc)
-        real_kind other wanted real stands = stands
+        real_kind other wanted real stands = grind arith
 
     kind_found : (found : Option ObjectValue) (operand : Operand) (wanted : Kind) → option_map operand_of found ≡ Some operand
         → operand_kind operand ≡ wanted → option_map object_kind found ≡ Some wanted
-    kind_found None operand wanted e is_kind = absurd (cc)
-    kind_found (Some x) operand wanted e is_kind = grind (arith, kind-operand x)
+    kind_found x operand wanted e is_kind = grind arith
 
     pub can_run_now : (n : Node) (now : List Named) → In n nodes → IsNode n → All (λ operand. StandsFor (is operand.0) operand.1) (operands n)
         → ((cell : Cell) → names_cell n cell ≡ true → HoldsOperand now cell (known cell)) → CanRunNow now n
