@@ -26,7 +26,7 @@ use Rattle.graph_verify.specs.Members.{In, AllIn}
 use Rattle.graph_verify.specs.Operand.{operand_of, is_virtual}
 use Rattle.graph_verify.specs.Order.{InTurn}
 use Rattle.graph_verify.specs.Outlines.{resolved}
-use Rattle.graph_verify.proofs.LinkLemmas.{same_cell-refl, same_cell-true, feeds_is}
+use Rattle.graph_verify.proofs.LinkLemmas.{same_cell-refl, feeds_is}
 use Rattle.graph_verify.proofs.MemberLemmas.{In-left, In-right, In-append, In-from_any, any-from_In, AllIn-permutation, AllIn-permutation_back}
 use Rattle.buffer_plan.specs.Lives.{is_used}
 use Rattle.graph_run.specs.Graph.{begun, one_by_one}

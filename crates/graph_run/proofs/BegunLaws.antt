@@ -5,7 +5,7 @@ use Rattle.std.proofs.lemmas.Bool.{cases_Bool}
 use Rattle.vx_base.specs.declared.kind.Kind.TheVariants as kind
 use Rattle.vx_base.specs.declared.node.Node.{Node}
 use Rattle.vx_base.specs.Cell.{Cell}
-use Rattle.vx_base.specs.Object.{ObjectValue, VirtualObject, object_kind}
+use Rattle.vx_base.specs.Object.{ObjectValue, object_kind}
 use Rattle.object_table.specs.Delay.{in_slot}
 use Rattle.object_table.specs.Named.{Named, object_held, with_object, with_written}
 use Rattle.graph_verify.specs.declared.operand.Operand.{Operand}

@@ -1,5 +1,5 @@
 -- A slot that another image claims.
-use Rattle.std.proofs.Common.{◌≡◌, ◌≢◌, ℕ, zero, suc, ◌⊎◌, true, List, [], ◌∷◌, get_or, set, Option, Some, None, IfSome, inl, inr, refl, sym, ap, subst, ◌∙◌, arith}
+use Rattle.std.proofs.Common.{◌≡◌, ◌≢◌, ℕ, zero, suc, ◌⊎◌, true, List, [], ◌∷◌, get_or, set, Option, Some, None, IfSome, refl, sym, ap, subst, ◌∙◌, arith}
 use Rattle.std.specs.Prelude.{All, ◌==◌, if◌then◌else◌, slice_get, take}
 use Rattle.std.specs.Option.{option_map, option_and_then}
 use Rattle.std.specs.Vec.{with_item}
@@ -11,17 +11,16 @@ use Rattle.std.proofs.lemmas.Option.{slice_get-get_or}
 use Rattle.vx_base.specs.declared.virtual_image.VirtualImage.{VirtualImage}
 use Rattle.vx_base.specs.Description.{IsDescription, sample_count}
 use Rattle.vx_base.specs.Image.{IsImage}
-use Rattle.vx_base.specs.Object.{ObjectValue, ImageObject, VirtualObject, IsObject, object_kind}
+use Rattle.vx_base.specs.Object.{ObjectValue, ImageObject, VirtualObject, IsObject}
 use Rattle.vx_base.specs.Picture.{PictureValue, IsPicture, values, samples_format}
 use Rattle.vx_base.specs.Sample.{IsSample}
 use Rattle.vx_base.proofs.PictureLaws.{pictured_image}
-use Rattle.vx_base.specs.declared.kind.Kind.TheVariants as kind
 use Rattle.object_table.specs.Named.{Named, object_held}
 use Rattle.object_table.proofs.HeldLemmas.{object_held_has}
 use Rattle.graph_verify.specs.declared.known.VirtualOutput.{VirtualOutput}
 use Rattle.graph_run.specs.declared.stage.Slot.{Slot}
 use Rattle.graph_run.specs.declared.stage.Stage.{Stage}
-use Rattle.graph_run.specs.Stage.{is_named, standing_image, image_in, standing, shown_as, shown, slot_of, holder_at, HoldsVirtual, HasRoomFor, IsStage, claimed}
+use Rattle.graph_run.specs.Stage.{is_named, standing_image, standing, shown_as, shown, slot_of, holder_at, HoldsVirtual, HasRoomFor, IsStage, claimed}
 use Rattle.graph_run.proofs.StageLemmas.{held-shown, alone_at, alone_found}
 
 -- ---- an element that is set

@@ -4,7 +4,7 @@ use Rattle.std.specs.Option.{option_map, option_and_then, option_or}
 use Rattle.std.proofs.lemmas.Bool.{cases_Bool, eqb-true, eqb-false}
 use Rattle.vx_base.specs.declared.kind.Kind.TheVariants as kind
 use Rattle.vx_base.specs.Cell.{Cell, same_slot, same_cell}
-use Rattle.vx_base.specs.Object.{ObjectValue, ImageObject, DelayObject, object_kind}
+use Rattle.vx_base.specs.Object.{ObjectValue, ImageObject, object_kind}
 use Rattle.object_table.specs.Delay.{in_slot, with_slot}
 use Rattle.object_table.specs.Object.{image_value}
 use Rattle.object_table.specs.Named.{Named, object_held, held, with_object, with_written}

@@ -16,7 +16,7 @@ use Rattle.graph_verify.specs.Members.{In}
 use Rattle.graph_verify.specs.Links.{writes, has_twice}
 use Rattle.graph_run.specs.Solution.{kind_in, form_of}
 use Rattle.graph_verify.proofs.MemberLemmas.{In-append}
-use Rattle.graph_verify.proofs.LinkLemmas.{same_cell-true, same_cell-refl}
+use Rattle.graph_verify.proofs.LinkLemmas.{same_cell-true}
 use Rattle.graph_run.proofs.ObjectLaws.{is_delay, shown, is_delay-form, not_delay, form-node_output, shown-node_output}
 use Rattle.graph_run.proofs.HeldLaws.{IsWrite, AreWrites, last_to, last_to-append, or_assoc}
 

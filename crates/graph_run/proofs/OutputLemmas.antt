@@ -1,5 +1,5 @@
 -- What nodes write to an output, whose samples are taken out, and put back once they are written.
-use Rattle.std.proofs.Common.{◌≡◌, ◌*◌, length, true, ℤ, refl, List, Option, ap, ◌∙◌, sym, [], Some, None, subst, arith}
+use Rattle.std.proofs.Common.{◌≡◌, ◌*◌, length, true, ℤ, List, Option, ap, ◌∙◌, sym, [], Some, None, subst, arith}
 use Rattle.std.specs.Prelude.{unsigned_abs, ◌==◌, IfSome}
 use Rattle.std.specs.List.{count_by}
 use Rattle.std.proofs.lemmas.List.FromFn.{length-map-range_with_len}
@@ -29,7 +29,7 @@ use Rattle.vx_base.specs.declared.kind.Kind.{Kind}
 use Rattle.vx_base.specs.Function.{parameters}
 use Rattle.vx_base.specs.declared.function.Function.{Function}
 use Rattle.vx_base.specs.declared.function.Function.TheVariants.{NotBits}
-use Rattle.vx_base.proofs.NodeLaws.{takes_no_delay, takes_no_distribution, takes_no_extremes, takes_no_graph, takes_no_virtual}
+use Rattle.vx_base.proofs.NodeLaws.{takes_no_distribution}
 use Rattle.vx_base.specs.Cell.{Cell}
 use Rattle.object_table.specs.Context.{Context, with_objects}
 use Rattle.object_table.specs.Named.{Named, with_object}

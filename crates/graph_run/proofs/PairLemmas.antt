@@ -1,11 +1,11 @@
 -- Nodes that write two outputs at once: the samples of both are taken out, and put back once they are written.
 use Rattle.std.proofs.Common.{◌≡◌, ℕ, true, ℤ, List, [], ◌∷◌, Option, Some, None, refl, sym, ap, subst, ◌∙◌, arith}
-use Rattle.std.specs.Prelude.{◌==◌, ◌||◌, is_some, is_none}
-use Rattle.std.specs.Option.{option_map, option_and_then}
+use Rattle.std.specs.Prelude.{◌==◌}
+use Rattle.std.specs.Option.{option_map}
 use Rattle.std.proofs.lemmas.Bool.{and_parts, eqb-true, cases_Bool}
 use Rattle.std.proofs.lemmas.List.{set_comm}
 use Rattle.vx_base.specs.declared.format.Format.{Format}
-use Rattle.vx_base.specs.declared.format.Format.TheVariants.{U8, S16}
+use Rattle.vx_base.specs.declared.format.Format.TheVariants.{S16}
 use Rattle.vx_base.specs.declared.function.Function.{Function}
 use Rattle.vx_base.specs.declared.function.Function.TheVariants.{Sobel}
 use Rattle.vx_base.specs.declared.kind.Kind.TheVariants as kind
@@ -17,7 +17,7 @@ use Rattle.vx_base.specs.Description.{Description}
 use Rattle.vx_base.specs.Formats.{takes_formats}
 use Rattle.vx_base.specs.Function.{parameters}
 use Rattle.vx_base.specs.Image.{ImageValue, IsImage, description_of, image_over}
-use Rattle.vx_base.specs.Node.{IsNode, has_operands}
+use Rattle.vx_base.specs.Node.{IsNode}
 use Rattle.vx_base.specs.Object.{ObjectValue, ImageObject, DelayObject, object_kind, object_format}
 use Rattle.vx_base.specs.Outputs.{node_image}
 use Rattle.vx_base.specs.Rectangle.{Rectangle, empty}

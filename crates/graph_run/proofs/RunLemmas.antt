@@ -1,13 +1,12 @@
 -- Nodes on what their cells hold, and what they write.
 use Rattle.std.proofs.Common.{◌≡◌, ◌≢◌, ℕ, true, false, List, [], ◌∷◌, ◌++◌, Option, Some, None, refl, sym, ap, subst, ◌∙◌, arith, rules}
-use Rattle.std.specs.Prelude.{All, ◌==◌, ◌&&◌, not, is_some, is_none, unwrap_or, if◌then◌else◌, IfSome, option_to_list}
+use Rattle.std.specs.Prelude.{All, ◌==◌, ◌&&◌, is_some, is_none, unwrap_or, if◌then◌else◌, IfSome, option_to_list}
 use Rattle.std.specs.List.{list_any, list_all}
 use Rattle.std.specs.List.Sorted.{IsStrictlyIncreasing}
 use Rattle.std.specs.Option.{option_map, option_and_then}
 use Rattle.std.proofs.lemmas.List.Folds.{list_any-append, list_all-append}
 use Rattle.std.proofs.lemmas.Bool.{eq-eqb, and_parts, or_parts}
 use Rattle.vx_base.specs.declared.function.Function.{Function}
-use Rattle.vx_base.specs.declared.function.Function.TheVariants.{AndBits}
 use Rattle.vx_base.specs.declared.output.Output.{Output}
 use Rattle.vx_base.specs.declared.output.Output.TheVariants.{First, Second}
 use Rattle.vx_base.specs.declared.kind.Kind.{Kind}
@@ -20,14 +19,13 @@ use Rattle.vx_base.specs.Image.{ImageValue, IsImage, description_of}
 use Rattle.vx_base.specs.Statistics.{extremes}
 use Rattle.vx_base.specs.Node.{IsNode, is_node, has_amount, has_operands, all_named, given, outputs, second_kind}
 use Rattle.vx_base.specs.Object.{ObjectValue, ImageObject, DistributionObject, ExtremesObject, IsObject, object_kind, object_format}
-use Rattle.vx_base.specs.Outputs.{node_image, node_output, written_in, written_by}
+use Rattle.vx_base.specs.Outputs.{node_output, written_in, written_by}
 use Rattle.image_core.specs.Fits.{SecondHasSize}
 use Rattle.graph_verify.specs.declared.operand.Operands.{Operands}
 use Rattle.graph_verify.specs.declared.operand.Operand.{Operand}
-use Rattle.graph_verify.specs.declared.verdict.Verdict.TheVariants.{InvalidFormat, InvalidDimension}
 use Rattle.graph_verify.specs.Links.{has_twice}
-use Rattle.graph_verify.specs.Operand.{operand_of, operands_of, operand_format, are_of_one_size, written_operands, other_operands}
-use Rattle.graph_verify.specs.Verdict.{writes_twice, reads_own_output, takes_operands, node_fault}
+use Rattle.graph_verify.specs.Operand.{operand_of, operands_of, operand_format, are_of_one_size}
+use Rattle.graph_verify.specs.Verdict.{writes_twice, reads_own_output, node_fault}
 use Rattle.graph_verify.proofs.SuitLemmas.{passed, met, Suits, no_fault_suits}
 use Rattle.object_table.specs.Named.{Named, held, with_object, with_written}
 use Rattle.object_table.specs.Object.{image_value}

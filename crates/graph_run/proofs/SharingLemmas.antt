@@ -1,6 +1,6 @@
 -- Virtual images that claim their slots: what stands in slots before and after.
 use Rattle.std.proofs.Common.{◌≡◌, ◌≢◌, ℕ, true, false, List, [], ◌∷◌, ◌++◌, map, suc, Option, Some, None, ◌⊎◌, inl, inr, refl, sym, ap, subst, ◌∙◌, arith}
-use Rattle.std.specs.Prelude.{◌==◌, ◌||◌, find, slice_get, if◌then◌else◌, is_some, unwrap_or}
+use Rattle.std.specs.Prelude.{◌==◌, ◌||◌, find, slice_get, if◌then◌else◌, unwrap_or}
 use Rattle.std.specs.List.{AllPairs}
 use Rattle.std.specs.Option.{option_map, option_and_then}
 use Rattle.std.proofs.lemmas.Bool.{cases_Bool, eqb-true, eq-eqb, ne_eqb, or_left, or_right, false_from_ne_true}

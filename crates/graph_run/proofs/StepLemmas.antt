@@ -1,6 +1,6 @@
 -- Nodes on a stage: what they read beside an image, what they write to objects that aren't images, and what stays.
-use Rattle.std.proofs.Common.{◌≡◌, ◌⊎◌, inl, inr, ℕ, ◌≤◌, Bool, true, false, cond, List, [], ◌∷◌, map, length, get_or, drop, Option, Some, None, IfSome, IsTrue, refl, sym, ap, subst, ◌∙◌, arith}
-use Rattle.std.specs.Prelude.{All, is_some, unwrap_or, slice_get, ⊤}
+use Rattle.std.proofs.Common.{◌≡◌, ◌⊎◌, ℕ, ◌≤◌, Bool, true, false, cond, List, [], ◌∷◌, map, length, get_or, drop, Option, Some, None, IfSome, refl, sym, ap, subst, ◌∙◌, arith}
+use Rattle.std.specs.Prelude.{All, unwrap_or, slice_get, ⊤}
 use Rattle.std.specs.List.{list_any}
 use Rattle.std.specs.List.Sorted.{IsStrictlyIncreasing}
 use Rattle.std.specs.Option.{option_map, option_and_then}
@@ -32,7 +32,7 @@ use Rattle.graph_run.specs.declared.stage.Stage.{Stage}
 use Rattle.graph_run.specs.Graph.{is_virtual_object, forgotten}
 use Rattle.graph_run.specs.Lasting.{Lasts}
 use Rattle.graph_run.specs.Slots.{AreEmpty}
-use Rattle.graph_run.specs.Stage.{is_named, standing_image, image_in, standing, shown_as, shown, scene, slot_of, holder_at, HasRoomFor, IsArranged, IsStage, AreFor, HasCount, Resized, Keeps, Stays, fixed, resized, virtual_named}
+use Rattle.graph_run.specs.Stage.{is_named, standing, shown_as, shown, scene, slot_of, holder_at, HasRoomFor, IsArranged, IsStage, AreFor, HasCount, Resized, Keeps, Stays, fixed, resized, virtual_named}
 use Rattle.graph_run.specs.Steps.{Holds, IsRead}
 use Rattle.graph_run.proofs.StageLemmas.{held-shown, real_as_it_is, shown_nowhere, stands_nowhere}
 use Rattle.graph_run.proofs.StandingLemmas.{over, real_set}

@@ -1,6 +1,6 @@
 -- A graph that is found able to run: how it runs.
 use Rattle.std.proofs.Common.{◌≡◌, ◌≢◌, ℕ, ◌<◌, Bool, true, false, List, [], ◌∷◌, map, get_or, zero, suc, Option, Some, None, inl, inr, refl, sym, ap, subst, ◌∙◌, arith}
-use Rattle.std.specs.Prelude.{All, ◌==◌, ◌&&◌, if◌then◌else◌, unwrap_or}
+use Rattle.std.specs.Prelude.{All, ◌==◌, ◌&&◌, unwrap_or}
 use Rattle.std.specs.List.{AllPairs, list_any, filter, flat_map}
 use Rattle.std.specs.List.Sorted.{IsStrictlyIncreasing}
 use Rattle.std.specs.Option.{option_map, option_and_then}
@@ -20,12 +20,12 @@ use Rattle.object_table.specs.Delay.{in_slot}
 use Rattle.object_table.specs.Named.{Named, object_held, held}
 use Rattle.graph_verify.specs.declared.known.VirtualOutput.{VirtualOutput}
 use Rattle.graph_verify.specs.declared.operand.Operand.{Operand}
-use Rattle.graph_verify.specs.declared.operand.Operand.TheVariants.{Image, Delay, Virtual}
+use Rattle.graph_verify.specs.declared.operand.Operand.TheVariants.{Image, Delay}
 use Rattle.graph_verify.specs.declared.operand.Operands.{Operands}
 use Rattle.graph_verify.specs.declared.verified.Verified.{Verified}
 use Rattle.graph_verify.specs.Links.{reads, writes, has_twice, is_written}
 use Rattle.graph_verify.specs.Members.{In}
-use Rattle.graph_verify.specs.Operand.{operand_of, operand_kind, operand_description, operands_of, is_virtual as is_virtual_operand}
+use Rattle.graph_verify.specs.Operand.{operand_of, operand_kind, operands_of, is_virtual as is_virtual_operand}
 use Rattle.graph_verify.specs.Outlines.{resolved, outlines}
 use Rattle.graph_verify.specs.Verdict.{verdict, verdict_on}
 use Rattle.graph_verify.specs.Verified.{IsVerified, written_description}
@@ -34,7 +34,7 @@ use Rattle.graph_verify.proofs.MemberLemmas.{In-left, In-right, In-append, In-fr
 use Rattle.graph_verify.proofs.VerdictLemmas.{CanRun, can_run}
 use Rattle.graph_run.specs.Operands.{HoldsOperand, names_cell, StandsFor, CellsStand, operand_held}
 use Rattle.graph_run.proofs.LinkLaws.{All-from_In, In-from_All}
-use Rattle.graph_run.proofs.OperandLaws.{kind-operand, outline_of_virtual, known_kept, virtual_written}
+use Rattle.graph_run.proofs.OperandLaws.{outline_of_virtual, known_kept, virtual_written}
 use Rattle.graph_run.proofs.TurnLaws.{each_alone}
 use Rattle.graph_run.specs.Turns.{HoldsKind, CanRunNow, AreVirtual}
 use Rattle.graph_run.proofs.BegunLaws.{begun_under, begun_stays, virtual_as_operand}
