@@ -32,10 +32,7 @@ new-requires-clause-image c =
     c.args.self.now.holder c.requires.there c.desc-desc.ensures c.requires.image
 
 pub new-requires-in-S16-clause-image : goal.new-requires-in-S16-clause-image
-new-requires-in-S16-clause-image c =
-    over_image c.args.self.now c.desc-desc.result c.sample_count-count.result _ c.sample_count-count.ensures.value
-    (map-id _ ∙ ap (take c.sample_count-count.result) c.deref-in-S16.ensures.value ∙ ap (λ q. take c.sample_count-count.result (values q)) (sym c.in-S16.is))
-    c.args.self.now.holder c.requires.there c.desc-desc.ensures c.requires.image
+new-requires-in-S16-clause-image c = grind (arith, map-id)
 
 pub new-requires-in-U32-clause-image : goal.new-requires-in-U32-clause-image
 new-requires-in-U32-clause-image c =
@@ -50,10 +47,7 @@ returns-in-U8 c =
     c.new.result c.new.ensures c.args.self.now.holder c.desc-desc.ensures
 
 pub returns-in-S16 : goal.returns-in-S16
-returns-in-S16 c =
-    result_over c.args.self.now c.desc-desc.result c.sample_count-count.result _ c.sample_count-count.ensures.value
-    (map-id _ ∙ ap (take c.sample_count-count.result) c.deref-in-S16.ensures.value ∙ ap (λ q. take c.sample_count-count.result (values q)) (sym c.in-S16.is))
-    c.new-in-S16.result c.new-in-S16.ensures c.args.self.now.holder c.desc-desc.ensures
+returns-in-S16 c = grind (arith, map-id)
 
 pub returns-in-U32 : goal.returns-in-U32
 returns-in-U32 c =
