@@ -3,8 +3,6 @@ use Rattle.std.specs.Prelude.{IfSome}
 use Rattle.vx_base.specs.Cell.{Cell, cell_of}
 use Rattle.vx_base.specs.declared.function.Parameters.{Parameters}
 use Rattle.object_table.specs.Context.{with_objects}
-use Rattle.vx_base.specs.Object.{ExtremesObject}
-use Rattle.vx_base.specs.Statistics.{extremes}
 use Rattle.object_table.specs.Named.{with_object}
 use Rattle.object_table.specs.Table.{image_held, object_under}
 use Rattle.graph_run.specs.Stage.{scene}

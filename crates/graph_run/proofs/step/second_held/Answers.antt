@@ -5,7 +5,6 @@ use Rattle.vx_base.specs.declared.format.Format.TheVariants.{U8}
 use Rattle.vx_base.specs.Image.{new_image}
 use Rattle.vx_base.specs.Object.{ObjectValue, ImageObject, IsObject, object_kind}
 use Rattle.object_table.specs.Named.{object_held}
-use Rattle.object_table.specs.Object.{value_of}
 use Rattle.object_table.specs.Table.{cell_object}
 use Rattle.graph_run.specs.Stage.{scene}
 use Rattle.graph_run.specs.Steps.{Holds, IsRead}

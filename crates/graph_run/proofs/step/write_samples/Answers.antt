@@ -1,10 +1,5 @@
-use Rattle.std.proofs.Common.{◌≡◌, ◌∙◌, pos, length, ap, sym, arith}
+use Rattle.std.proofs.Common.{arith}
 use Rattle.std.proofs.lemmas.List.{length-map}
-use Rattle.vx_base.specs.declared.format.Format.{Format}
-use Rattle.vx_base.specs.Description.{sample_count}
-use Rattle.vx_base.specs.Outputs.{node_image}
-use Rattle.vx_base.specs.Picture.{values, samples_format}
-use Rattle.image_core.specs.Second.{second_object}
 use Rattle.graph_run.proofs.PartLemmas.{first_written, numbers_written}
 use Rattle.graph_run.proofs.step.write_samples.Goals as goal
 

@@ -1,9 +1,5 @@
 use Rattle.std.proofs.Common.{◌∙◌, ap, arith}
 use Rattle.object_table.specs.Named.{object_held}
-use Rattle.vx_base.specs.Object.{ObjectValue}
-use Rattle.object_table.specs.Delay.{in_slot}
-use Rattle.std.specs.Option.{option_map}
-use Rattle.graph_verify.specs.Operand.{operand_of}
 use Rattle.graph_run.proofs.FoundLemmas.{operand_nowhere, operand_there}
 use Rattle.graph_run.proofs.verify.operand_held.Goals as goal
 
