@@ -1,12 +1,9 @@
 -- What nodes find on a stage, beside what they would find if each virtual image were an image of its own from the beginning.
-use Rattle.std.proofs.Common.{◌≡◌, ◌<◌, ℕ, Bool, true, false, eqb, List, [], ◌∷◌, ◌++◌, map, Option, Some, None, ◌⊎◌, inl, inr, refl, sym, ap, subst, ◌∙◌, arith}
+use Rattle.std.proofs.Common.{◌≡◌, ℕ, true, false, eqb, List, [], ◌∷◌, ◌++◌, map, Option, Some, None, ◌⊎◌, inl, inr, refl, sym, ap, subst, ◌∙◌, arith}
 use Rattle.std.specs.Prelude.{◌==◌, ◌||◌, All, if◌then◌else◌}
-use Rattle.std.specs.List.{AllPairs, list_any}
-use Rattle.std.specs.List.Sorted.{IsStrictlyIncreasing}
 use Rattle.std.specs.Option.{option_map, option_and_then}
 use Rattle.std.proofs.lemmas.Bool.{cases_Bool, eqb-true, eq-eqb, or_left, or_right, or_cases, false_from_ne_true}
 use Rattle.std.proofs.lemmas.List.Folds.{list_any-append}
-use Rattle.vx_base.specs.declared.format.Format.{Format}
 use Rattle.vx_base.specs.declared.node.Node.{Node}
 use Rattle.vx_base.specs.declared.output.Output.{Output}
 use Rattle.vx_base.specs.declared.output.Output.TheVariants.{First, Second}
@@ -15,9 +12,9 @@ use Rattle.vx_base.specs.declared.virtual_image.VirtualImage.{VirtualImage}
 use Rattle.vx_base.specs.Cell.{Cell}
 use Rattle.vx_base.specs.Description.{Description}
 use Rattle.vx_base.specs.Image.{ImageValue, description_of}
-use Rattle.vx_base.specs.Node.{IsNode, given, operands, outputs}
+use Rattle.vx_base.specs.Node.{IsNode, operands}
 use Rattle.vx_base.specs.Object.{ObjectValue, ImageObject, VirtualObject, object_kind}
-use Rattle.vx_base.specs.Outputs.{node_image, node_output, written_to, written_in, written_by}
+use Rattle.vx_base.specs.Outputs.{node_output, written_in, written_by}
 use Rattle.object_table.specs.Delay.{in_slot, with_slot}
 use Rattle.object_table.specs.Named.{Named, object_held, held, with_object, with_written}
 use Rattle.graph_verify.specs.declared.known.VirtualOutput.{VirtualOutput}
@@ -29,23 +26,19 @@ use Rattle.graph_verify.specs.Members.{In, AllIn}
 use Rattle.graph_verify.specs.Operand.{operand_of, is_virtual}
 use Rattle.graph_verify.specs.Order.{InTurn}
 use Rattle.graph_verify.specs.Outlines.{resolved}
-use Rattle.graph_verify.proofs.LinkLemmas.{same_cell-refl, same_cell-true, feeds_is}
+use Rattle.graph_verify.proofs.LinkLemmas.{same_cell-refl, feeds_is}
 use Rattle.graph_verify.proofs.MemberLemmas.{In-left, In-right, In-append, In-from_any, any-from_In, AllIn-permutation, AllIn-permutation_back}
 use Rattle.buffer_plan.specs.Lives.{is_used}
-use Rattle.graph_run.specs.declared.stage.Slot.{Slot}
-use Rattle.graph_run.specs.Graph.{begun, forgotten, is_virtual_object, one_by_one}
+use Rattle.graph_run.specs.Graph.{begun, one_by_one}
 use Rattle.graph_run.specs.Operands.{HoldsOperand, IsReady, names_cell, StandsFor, CellsStand, operand_held}
 use Rattle.graph_run.specs.Solution.{label_of}
-use Rattle.graph_run.specs.Stage.{shown, slot_of}
-use Rattle.graph_run.specs.Turns.{HoldsKind, CanRunNow, AreVirtual}
-use Rattle.graph_run.proofs.BegunLaws.{begun_under, object_held-begun, labels-begun, kept_virtual, object_held-forgotten, labels-forgotten}
+use Rattle.graph_run.specs.Turns.{HoldsKind, CanRunNow}
+use Rattle.graph_run.proofs.BegunLaws.{begun_under, object_held-begun, labels-begun}
 use Rattle.graph_run.proofs.FoundLemmas.{of_operands}
 use Rattle.graph_run.proofs.HeldLaws.{object_held-with_object, labels-with_written}
-use Rattle.graph_run.proofs.LinkLaws.{All-from_In, In-from_All, reads_first, reads_second}
-use Rattle.graph_run.proofs.NameLaws.{Rising, by_names}
+use Rattle.graph_run.proofs.LinkLaws.{In-from_All, reads_first, reads_second}
 use Rattle.graph_run.proofs.NodeLaws.{is_cell, writes-outputs}
-use Rattle.graph_run.proofs.OperandLaws.{outline_of_virtual, virtual_written}
-use Rattle.graph_run.proofs.StageLemmas.{found_as_it_is}
+use Rattle.graph_run.proofs.OperandLaws.{virtual_written}
 use Rattle.graph_run.proofs.TurnLaws.{at_its_turn}
 use Rattle.graph_run.proofs.VerifiedLemmas.{whole, is_output, output_known, in_outputs, output_object, output_whole, begun_kept, can, can_run_now}
 
@@ -66,23 +59,13 @@ written_whole : (ws : List (Cell × ObjectValue)) (one other : List Named) (w : 
     → object_held one name ≡ Some a → object_held other name ≡ Some b → object_held (with_written one ws) name ≡ object_held (with_written other ws) name
 written_whole [] one other w i name at a b here there = absurd i
 written_whole (v ∷ ws) one other w (inl same) name at a b here there =
-    written_alike ws (with_object one v.0 v.1) (with_object other v.0 v.1) name (after one a here ∙ sym (after other b there))
-  where
-    cell : v.0 ≡ whole name
-    cell = ap (λ (x : Cell × ObjectValue). x.0) (sym same) ∙ at
-
-    after : (l : List Named) (x : ObjectValue) → object_held l name ≡ Some x → object_held (with_object l v.0 v.1) name ≡ Some v.1
-    after l x held_there =
-        object_held-with_object l v.0 v.1 name
-        ∙ ap (λ (c : Cell). option_map (λ y. if eqb name c.name then with_slot c.slot v.1 y else y) (object_held l name)) cell
-        ∙ ap (λ b. option_map (λ y. if b then v.1 else y) (object_held l name)) (eq-eqb name name refl)
-        ∙ ap (option_map (λ (y : ObjectValue). v.1)) held_there
+    let cell : v.0 ≡ whole name = ap (λ (x : Cell × ObjectValue). x.0) (sym same) ∙ at in
+    written_alike ws (with_object one v.0 v.1) (with_object other v.0 v.1) name
+    (grind (arith, object_held-with_object one v.0 v.1 name, object_held-with_object other v.0 v.1 name, eq-eqb name name refl))
 written_whole (v ∷ ws) one other w (inr i) name at a b here there =
+    let change : ObjectValue → ObjectValue = λ x. if eqb name v.0.name then with_slot v.0.slot v.1 x else x in
     written_whole ws (with_object one v.0 v.1) (with_object other v.0 v.1) w i name at (change a) (change b)
     (object_held-with_object one v.0 v.1 name ∙ ap (option_map change) here) (object_held-with_object other v.0 v.1 name ∙ ap (option_map change) there)
-  where
-    change : ObjectValue → ObjectValue
-    change x = if eqb name v.0.name then with_slot v.0.slot v.1 x else x
 
 -- ---- what a node writes
 
@@ -99,30 +82,15 @@ output_cases n c w = elim (or_cases (is_cell n.out1 c) (is_cell n.out2 c) (sym (
 ]
   where
     this : (o : Option Cell) → is_cell o c ≡ true → o ≡ Some c
-    this None e = absurd (cc)
-    this (Some d) e = ap Some (sym (same_cell-true c d e))
+    this x e = grind arith
 
 -- what it writes where its cells hold something
 output_given : (n : Node) (now : Cell → Option ObjectValue) (c : Cell) (first out : ObjectValue) → writes n c ≡ true → now n.in1 ≡ Some first → now c ≡ Some out
     → (x : ObjectValue) × In (c, x) (written_by n now)
 output_given n now c first out w read there = elim (output_cases n c w) [
-  | inl e ↦ (
-    node_output n First first (option_and_then now n.in2) out,
-    In-left (c, node_output n First first (option_and_then now n.in2) out) (written_in n First n.out1 now) (written_in n Second n.out2 now)
-        (subst (λ l. In (c, node_output n First first (option_and_then now n.in2) out) l) (sym (gives First n.out1 e)) (inl refl)),
-  )
-  | inr e ↦ (
-    node_output n Second first (option_and_then now n.in2) out,
-    In-right (c, node_output n Second first (option_and_then now n.in2) out) (written_in n First n.out1 now) (written_in n Second n.out2 now)
-        (subst (λ l. In (c, node_output n Second first (option_and_then now n.in2) out) l) (sym (gives Second n.out2 e)) (inl refl)),
-  )
+  | inl e ↦ (node_output n First first (option_and_then now n.in2) out, In-left _ (written_in n First n.out1 now) (written_in n Second n.out2 now) (rw (e, read, there) (inl refl)))
+  | inr e ↦ (node_output n Second first (option_and_then now n.in2) out, In-right _ (written_in n First n.out1 now) (written_in n Second n.out2 now) (rw (e, read, there) (inl refl)))
 ]
-  where
-    gives : (output : Output) (o : Option Cell) → o ≡ Some c → written_in n output o now ≡ (c, node_output n output first (option_and_then now n.in2) out) ∷ []
-    gives output o e =
-        ap (λ d. written_in n output d now) e
-        ∙ ap (λ f. written_to n output c f (option_and_then now n.in2) (now c)) read
-        ∙ ap (written_to n output c (Some first) (option_and_then now n.in2)) there
 
 -- the same, or two images of one format
 record AreImages (a b : Option ObjectValue) : Type 0 where
@@ -135,28 +103,17 @@ record AreImages (a b : Option ObjectValue) : Type 0 where
 abbrev AsOutput : Option ObjectValue → Option ObjectValue → Type 0
 AsOutput a b = (a ≡ b) ⊎ AreImages a b
 
-written_to_alike : (n : Node) (output : Output) (c : Cell) (a : ImageValue) (second one other : Option ObjectValue) → AsOutput one other
-    → written_to n output c (Some (ImageObject a)) second one ≡ written_to n output c (Some (ImageObject a)) second other
-written_to_alike n output c a second one other (inl same) = ap (written_to n output c (Some (ImageObject a)) second) same
-written_to_alike n output c a second one other (inr h) =
-    ap (written_to n output c (Some (ImageObject a)) second) h.is_one
-    ∙ ap (λ (f : Format). let w : Cell × ObjectValue = (c, ImageObject (node_image n output f a second)) in w ∷ []) h.same
-    ∙ sym (ap (written_to n output c (Some (ImageObject a)) second) h.is_other)
-
 module _ (n : Node) (one other : Cell → Option ObjectValue) (a : ImageValue) (first : one n.in1 ≡ Some (ImageObject a)) (reads_one : one n.in1 ≡ other n.in1)
     (reads_other : option_and_then one n.in2 ≡ option_and_then other n.in2) where
   written_in_alike : (output : Output) (cell : Option Cell) → ((c : Cell) → cell ≡ Some c → AsOutput (one c) (other c)) → written_in n output cell one ≡ written_in n output cell other
   written_in_alike output None alike = refl
-  written_in_alike output (Some c) alike =
-      ap (λ f. written_to n output c f (option_and_then one n.in2) (one c)) first
-      ∙ ap (λ s. written_to n output c (Some (ImageObject a)) s (one c)) reads_other
-      ∙ written_to_alike n output c a (option_and_then other n.in2) (one c) (other c) (alike c refl)
-      ∙ ap (λ f. written_to n output c f (option_and_then other n.in2) (other c)) (sym first ∙ reads_one)
+  written_in_alike output (Some c) alike = elim (alike c refl) [
+    | inl same ↦ grind (arith, same)
+    | inr h ↦ grind (arith, h.is_one, h.is_other, h.same)
+  ]
 
   same_written : ((c : Cell) → writes n c ≡ true → AsOutput (one c) (other c)) → written_by n one ≡ written_by n other
-  same_written alike =
-      ap (λ l. l ++ written_in n Second n.out2 one) (written_in_alike First n.out1 (λ c e. alike c (first_output n c e)))
-      ∙ ap (λ l. written_in n First n.out1 other ++ l) (written_in_alike Second n.out2 (λ c e. alike c (second_output n c e)))
+  same_written alike = grind (arith, written_in_alike, first_output, second_output)
 
 -- ---- agreement
 
@@ -183,14 +140,11 @@ virtual_operand (Some k) image operand e = absurd (cc)
 -- what is an image as an operand is an image
 image_of_operand : (found : Option ObjectValue) (d : Description) → option_map operand_of found ≡ Some (Image d)
     → (image : ImageValue) × (found ≡ Some (ImageObject image)) × (description_of image ≡ d)
-image_of_operand None d e = absurd (cc)
-image_of_operand (Some (ImageObject image)) d e = (image, refl, (cc))
-image_of_operand (Some other) d e = absurd (cc)
+image_of_operand x d e = grind arith
 
 -- what is some operand is something
 found_some : (found : Option ObjectValue) (operand : Operand) → option_map operand_of found ≡ Some operand → (x : ObjectValue) × (found ≡ Some x)
-found_some None operand e = absurd (cc)
-found_some (Some x) operand e = (x, refl)
+found_some x operand e = grind arith
 
 turns_left : (before rest : List Node) → InTurn feeds (before ++ rest) → InTurn feeds rest
 turns_left [] rest turns = turns
@@ -224,9 +178,8 @@ module _ (objects : List Named) (nodes : List Node) (v : Verified) (h : IsReady 
       each : (name : ℕ) → Keeps outs [] v.steps.items name → (found : Option ObjectValue) → object_held objects name ≡ found
           → object_held objects name ≡ option_map (begun_under known nodes name) (object_held objects name)
       each name (inr used) found at = let no = used.0 in absurd (cc)
-      each name (inl none) None at = at ∙ sym (ap (option_map (begun_under known nodes name)) at)
-      each name (inl none) (Some x) at =
-          at ∙ ap (λ y. Some y) (begun_kept objects nodes v h.runs.0 h.verified h.runs.1 name x at none) ∙ sym (ap (option_map (begun_under known nodes name)) at)
+      each name (inl none) None at = grind arith
+      each name (inl none) (Some x) at = grind (arith, begun_kept objects nodes v h.runs.0 h.verified h.runs.1 name x at none)
 
   module _ (before after : List Node) (n : Node) (parts : v.steps.items ≡ before ++ n ∷ after) where
     in_steps : In n v.steps.items
@@ -253,8 +206,7 @@ module _ (objects : List Named) (nodes : List Node) (v : Verified) (h : IsReady 
         elim (In-append m before (n ∷ after) at) [
           | inl early ↦ any-from_In (λ k. writes k cell) m before early writer.2
           | inr late ↦
-              (let turns = turns_left before (n ∷ after) (subst (InTurn feeds) parts h.verified.order.in_turn) in
-              let not = turns.0 m late in
+              (let not = (turns_left before (n ∷ after) (subst (InTurn feeds) parts h.verified.order.in_turn)).0 m late in
               let yes = feeds_is m n cell writer.2 r in
               absurd (cc))
         ]
@@ -299,10 +251,7 @@ module _ (objects : List Named) (nodes : List Node) (v : Verified) (h : IsReady 
 
       -- what it writes that is virtual is an image of its description in both
       standing : (cell : Cell) (o : VirtualOutput) → In o outs → cell ≡ o.cell → writes n cell ≡ true → (image : ImageValue) × (held here cell ≡ Some (ImageObject image)) × (description_of image ≡ o.desc)
-      standing cell o i same w =
-          let stands = images o i (ap (writes n) (sym same) ∙ w) in
-          let itself : cell ≡ whole o.cell.name = same ∙ cell_is_whole o i in
-          (stands.image, ap (held here) itself ∙ ap (option_and_then (in_slot None)) stands.there, stands.desc)
+      standing cell o i same w = grind (arith, cell_is_whole)
 
       ideal_found : (cell : Cell) → names_cell n cell ≡ true → HoldsOperand ideal cell (known cell)
       ideal_found cell named = ideal_stands.found n cell in_nodes named
@@ -334,8 +283,7 @@ module _ (objects : List Named) (nodes : List Node) (v : Verified) (h : IsReady 
           | inl virtual ↦
               (let output = output_of_cell cell named virtual in
               let one = standing cell output.0 output.1 output.2 w in
-              ap (option_map operand_of) one.1 ∙ ap (λ d. Some (Image d)) one.2
-              ∙ sym (ap (λ c. Some (known c)) output.2 ∙ ap (λ x. Some x) (output_known is nodes v h.verified output.0 output.1)))
+              grind (arith, one.1, one.2, output.2, output_known is nodes v h.verified output.0 output.1))
           | inr real ↦ ap (option_map operand_of) (real_same cell named real) ∙ ideal_found cell named
         ]
       ]
@@ -350,9 +298,7 @@ module _ (objects : List Named) (nodes : List Node) (v : Verified) (h : IsReady 
       first_image = of_kind (held here n.in1) (of_operands (HoldsKind here) n can_run_here.kinds).in1
         where
           of_kind : (found : Option ObjectValue) → option_map object_kind found ≡ Some kind.Image → (a : ImageValue) × (found ≡ Some (ImageObject a))
-          of_kind None e = absurd (cc)
-          of_kind (Some (ImageObject a)) e = (a, refl)
-          of_kind (Some other) e = absurd (cc)
+          of_kind x e = grind arith
 
       pub written_same : written_by n (held here) ≡ written_by n (held ideal)
       written_same =
@@ -378,23 +324,14 @@ module _ (objects : List Named) (nodes : List Node) (v : Verified) (h : IsReady 
                 written_alike (written_by n (held ideal)) here ideal name
                 (agrees.same name (inr (early, or_right (reads n (whole name) || writes n (whole name)) (is_used after (whole name)) both.1)))
             | inr late ↦
-                (let now : writes n (whole name) ≡ true = last (writes n (whole name)) (is_written before (whole name)) late (sym (list_any-append (λ m. writes m (whole name)) before (n ∷ [])) ∙ both.0) in
+                (let now : writes n (whole name) ≡ true = grind (arith, list_any-append (λ m. writes m (whole name)) before (n ∷ []), both.0) in
                 let named = or_right (reads n (whole name)) (writes n (whole name)) now in
                 let a = found_some (object_held here name) (known (whole name)) (whole_found here name (here_found (whole name) named)) in
                 let b = found_some (object_held ideal name) (known (whole name)) (whole_found ideal name (ideal_found (whole name) named)) in
                 let first = sym (read_same n.in1 (reads_first n)) ∙ first_image.1 in
-                let given = output_given n (held ideal) (whole name) (ImageObject first_image.0) b.0 now first (ap (option_and_then (in_slot None)) b.1) in
+                let given = output_given n (held ideal) (whole name) (ImageObject first_image.0) b.0 now first (ap (option_and_then (in_slot None)) {y = Some b.0} b.1) in
                 written_whole (written_by n (held ideal)) here ideal (whole name, given.0) given.1 name refl a.0 b.0 a.1 b.1)
           ]
             where
-              last : (w b : Bool) → b ≡ false → (b || (w || false)) ≡ true → w ≡ true
-              last true b e f = refl
-              last false true e f = absurd (cc)
-              last false false e f = absurd (cc)
-
               whole_found : (l : List Named) (m : ℕ) → HoldsOperand l (whole m) (known (whole m)) → option_map operand_of (object_held l m) ≡ Some (known (whole m))
-              whole_found l m e = itself (object_held l m) e
-                where
-                  itself : (o : Option ObjectValue) → option_map operand_of (option_and_then (in_slot None) o) ≡ Some (known (whole m)) → option_map operand_of o ≡ Some (known (whole m))
-                  itself None f = f
-                  itself (Some x) f = f
+              whole_found l m e = grind arith

@@ -1,16 +1,14 @@
 -- What virtual images are as a run begins and ends.
-use Rattle.std.proofs.Common.{◌≡◌, ◌≢◌, ℕ, true, false, if◌then◌else◌, eqb, List, [], ◌∷◌, map, refl, sym, ap, subst, ◌∙◌, inl, inr, Option, Some, None, ◌⊎◌, Bool, arith}
-use Rattle.std.specs.Prelude.{◌⊎◌}
+use Rattle.std.proofs.Common.{◌≡◌, ℕ, true, false, if◌then◌else◌, eqb, List, [], ◌∷◌, map, refl, sym, subst, ◌∙◌, inr, Option, Some, None, Bool, arith}
 use Rattle.std.specs.Option.{option_map}
 use Rattle.std.proofs.lemmas.Bool.{cases_Bool}
 use Rattle.vx_base.specs.declared.kind.Kind.TheVariants as kind
 use Rattle.vx_base.specs.declared.node.Node.{Node}
 use Rattle.vx_base.specs.Cell.{Cell}
-use Rattle.vx_base.specs.Object.{ObjectValue, VirtualObject, object_kind}
+use Rattle.vx_base.specs.Object.{ObjectValue, object_kind}
 use Rattle.object_table.specs.Delay.{in_slot}
 use Rattle.object_table.specs.Named.{Named, object_held, with_object, with_written}
 use Rattle.graph_verify.specs.declared.operand.Operand.{Operand}
-use Rattle.graph_verify.specs.declared.operand.Operand.TheVariants.{Image}
 use Rattle.graph_verify.specs.Members.{In}
 use Rattle.graph_verify.specs.Links.{is_written}
 use Rattle.graph_run.specs.Graph.{begun_as, begun, is_virtual_object, forgotten}
@@ -40,29 +38,17 @@ pub begun-same : (is : Cell → Operand) (nodes others : List Node) → ((c : Ce
 begun-same is nodes others same [] = refl
 begun-same is nodes others same (o ∷ objects) = grind (arith, begun-same is nodes others same objects)
 
-delay_before : (slot : Option ℕ) (x : ObjectValue) (operand : Operand) → option_map object_kind (in_slot slot (begun_as x operand)) ≡ Some kind.Delay → option_map object_kind (in_slot slot x) ≡ Some kind.Delay
-delay_before None (VirtualObject v) (Image d) h = absurd (cc h)
-delay_before (Some k) (VirtualObject v) (Image d) h = absurd (cc h)
-delay_before slot (VirtualObject v) operand h = h
-delay_before slot x operand h = h
-
 -- no delay comes of a virtual image
 pub WritesNo-begun : (is : Cell → Operand) (nodes : List Node) (objects : List Named) → WritesNo kind.Delay nodes objects → WritesNo kind.Delay nodes (map (begun is nodes) objects)
 WritesNo-begun is nodes objects whole c w h = grind (arith, object_held-begun is nodes objects c.name)
 
 -- ---- where no virtual image is written
 
-begun_other : (x : ObjectValue) (operand : Operand) → object_kind x ≢ kind.VirtualImage → begun_as x operand ≡ x
-begun_other (VirtualObject v) operand h = absurd (h refl)
-begun_other x operand h = refl
-
 pub virtual_kind : (x : ObjectValue) → is_virtual_object x ≡ true → object_kind x ≡ kind.VirtualImage
-virtual_kind (VirtualObject v) h = refl
-virtual_kind x h = absurd (cc h)
+virtual_kind x h = grind arith
 
 pub no_slot_of_virtual : (k : ℕ) (x : ObjectValue) → is_virtual_object x ≡ true → ◌≡◌ {A = Option ObjectValue} (in_slot (Some k) x) None
-no_slot_of_virtual k (VirtualObject v) h = refl
-no_slot_of_virtual k x h = absurd (cc h)
+no_slot_of_virtual k x h = grind arith
 
 -- nothing changes as the run begins
 pub nothing_begun : (is : Cell → Operand) (nodes : List Node) (objects : List Named) → Rising (map label_of objects) → WritesNo kind.VirtualImage nodes objects → map (begun is nodes) objects ≡ objects
@@ -80,33 +66,16 @@ kept_virtual o p = p
 
 pub object_held-forgotten : (before after : List Named) → map label_of before ≡ map label_of after → (name : ℕ)
     → object_held (forgotten before after) name ≡ kept_virtual (object_held before name) (object_held after name)
-object_held-forgotten [] [] labels name = refl
-object_held-forgotten [] (p ∷ after) labels name = absurd (cc labels)
-object_held-forgotten (o ∷ before) [] labels name = absurd (cc labels)
 object_held-forgotten (o ∷ before) (p ∷ after) labels name =
-    let label : label_of o ≡ label_of p = cc in
     let rest : map label_of before ≡ map label_of after = cc in
-    either (ap (λ m. m.0) label) (object_held-forgotten before after rest name) (cases_Bool (is_virtual_object o.object)) (cases_Bool (eqb o.name name))
-  where
-    either : o.name ≡ p.name → object_held (forgotten before after) name ≡ kept_virtual (object_held before name) (object_held after name)
-        → (is_virtual_object o.object ≡ true) ⊎ (is_virtual_object o.object ≡ false) → (eqb o.name name ≡ true) ⊎ (eqb o.name name ≡ false)
-        → object_held (forgotten (o ∷ before) (p ∷ after)) name ≡ kept_virtual (object_held (o ∷ before) name) (object_held (p ∷ after) name)
-    either same h (inl v) (inl e) = let f : eqb p.name name ≡ true = ap (λ z. eqb z name) (sym same) ∙ e in rw (v, e, f, v) refl
-    either same h (inl v) (inr e) = let f : eqb p.name name ≡ false = ap (λ z. eqb z name) (sym same) ∙ e in rw (v, e, f) h
-    either same h (inr v) (inl e) = let f : eqb p.name name ≡ true = ap (λ z. eqb z name) (sym same) ∙ e in rw (v, e, f, v) refl
-    either same h (inr v) (inr e) = let f : eqb p.name name ≡ false = ap (λ z. eqb z name) (sym same) ∙ e in rw (v, e, f) h
+    grind (arith, object_held-forgotten before after rest name, cases_Bool (is_virtual_object o.object), cases_Bool (eqb o.name name))
+object_held-forgotten x y labels name = grind arith
 
 pub labels-forgotten : (before after : List Named) → map label_of before ≡ map label_of after → map label_of (forgotten before after) ≡ map label_of after
-labels-forgotten [] [] labels = refl
-labels-forgotten [] (p ∷ after) labels = refl
-labels-forgotten (o ∷ before) [] labels = refl
 labels-forgotten (o ∷ before) (p ∷ after) labels =
-    let label : label_of o ≡ label_of p = cc in
     let rest : map label_of before ≡ map label_of after = cc in
-    elim (cases_Bool (is_virtual_object o.object)) [
-      | inl v ↦ rw v (ap (λ z. z ∷ map label_of (forgotten before after)) label ∙ ap (λ z. label_of p ∷ z) (labels-forgotten before after rest))
-      | inr v ↦ rw v (ap (λ z. label_of p ∷ z) (labels-forgotten before after rest))
-    ]
+    grind (arith, labels-forgotten before after rest, cases_Bool (is_virtual_object o.object))
+labels-forgotten x y labels = grind arith
 
 -- nothing changes as the run ends
 pub nothing_forgotten : (before after : List Named) → Rising (map label_of before) → map label_of before ≡ map label_of after
@@ -118,8 +87,7 @@ nothing_forgotten before after up labels stays =
   where
     kept : (o p : Option ObjectValue) → ((x : ObjectValue) → o ≡ Some x → is_virtual_object x ≡ true → p ≡ Some x) → kept_virtual o p ≡ p
     kept (Some x) (Some y) h = grind (arith, cases_Bool (is_virtual_object x))
-    kept (Some x) None h = refl
-    kept None p h = refl
+    kept o p h = grind arith
 
 -- what an object becomes that is found to be this, if a node writes it
 abbrev pub begun_if : Bool → ObjectValue → Operand → ObjectValue
@@ -127,10 +95,7 @@ begun_if written object operand = if written then begun_as object operand else o
 
 -- what stays as it was if it is no virtual image
 pub begun_stays : (object : ObjectValue) (written : Bool) (operand : Operand) → is_virtual_object object ≡ false → begun_if written object operand ≡ object
-begun_stays (VirtualObject image) written operand h = absurd (cc)
-begun_stays other true operand h = refl
-begun_stays other false operand h = refl
+begun_stays other written operand h = grind arith
 
 pub virtual_as_operand : (object : ObjectValue) → is_virtual_object object ≡ true → is_virtual_operand (operand_of object) ≡ true
-virtual_as_operand (VirtualObject image) h = refl
-virtual_as_operand other h = absurd (cc)
+virtual_as_operand other h = grind arith

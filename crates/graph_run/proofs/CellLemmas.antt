@@ -30,8 +30,7 @@ use Rattle.graph_run.proofs.LastingLemmas.{skeletons-last, lasting-with_slot, ce
 -- two slots of one object
 other_slot : (j k : Option ℕ) (new object : ObjectValue) → TwoSlots j k → in_slot j (with_slot k new object) ≡ in_slot j object
 other_slot (Some j) (Some k) new object apart = with_slot_beside j k new object apart
-other_slot None k new object apart = absurd apart
-other_slot (Some j) None new object apart = absurd apart
+other_slot j k new object apart = absurd apart
 
 module _ (objects : List Named) (q : Cell) where
   -- what stands apart stays
@@ -117,9 +116,7 @@ module _ (objects : List Named) (w : Cell × ObjectValue) (may : IsReplacement o
       fits x e o at = ap (λ y. option_map lasting (in_slot slot y)) at ∙ ap (λ y. option_map lasting (option_and_then (in_slot slot) y)) (sym e) ∙ may.lasts
 
       found : (object : Option ObjectValue) → object_held objects w.0.name ≡ object → Lasts objects (with_object objects w.0 w.1)
-      found None e =
-          let no : ◌≡◌ {A = Option (ObjectValue × List Node)} None (Some (lasting w.1)) = ap (λ y. option_map lasting (option_and_then (in_slot slot) y)) (sym e) ∙ may.lasts in
-          absurd (cc)
+      found None e = absurd (grind (arith, e, may.lasts))
       found (Some x) e =
           let only = held_once objects w.0.name x names e in
           record {

@@ -1,28 +1,26 @@
 -- A slot that another image claims.
-use Rattle.std.proofs.Common.{◌≡◌, ◌≢◌, ℕ, zero, suc, ◌<◌, ◌≤◌, ◌⊎◌, Bool, true, false, List, [], ◌∷◌, length, get_or, set, Option, Some, None, IfSome, inl, inr, refl, sym, ap, subst, ◌∙◌, arith}
-use Rattle.std.specs.Prelude.{All, ◌==◌, if◌then◌else◌, find, slice_get, take}
+use Rattle.std.proofs.Common.{◌≡◌, ◌≢◌, ℕ, zero, suc, ◌⊎◌, true, List, [], ◌∷◌, get_or, set, Option, Some, None, IfSome, refl, sym, ap, subst, ◌∙◌, arith}
+use Rattle.std.specs.Prelude.{All, ◌==◌, if◌then◌else◌, slice_get, take}
 use Rattle.std.specs.Option.{option_map, option_and_then}
 use Rattle.std.specs.Vec.{with_item}
 use Rattle.std.proofs.lemmas.Bool.{cases_Bool, eqb-true, eqb-false, eq-eqb}
 use Rattle.std.proofs.lemmas.Bool.Decides.{nat_tests}
-use Rattle.std.proofs.lemmas.List.Elements.{All-nil, All-cons, All-head, All-tail, All-set, All-take, All-from_get_or}
+use Rattle.std.proofs.lemmas.List.Elements.{All-nil, All-cons, All-head, All-tail, All-set, All-take}
 use Rattle.std.proofs.lemmas.List.{length-take-le}
-use Rattle.std.proofs.lemmas.Option.{slice_get_within, slice_get-get_or, get_or_from_slice_get}
+use Rattle.std.proofs.lemmas.Option.{slice_get-get_or}
 use Rattle.vx_base.specs.declared.virtual_image.VirtualImage.{VirtualImage}
 use Rattle.vx_base.specs.Description.{IsDescription, sample_count}
 use Rattle.vx_base.specs.Image.{IsImage}
-use Rattle.vx_base.specs.Object.{ObjectValue, ImageObject, VirtualObject, IsObject, object_kind}
+use Rattle.vx_base.specs.Object.{ObjectValue, ImageObject, VirtualObject, IsObject}
 use Rattle.vx_base.specs.Picture.{PictureValue, IsPicture, values, samples_format}
-use Rattle.vx_base.specs.Rectangle.{Rectangle, whole}
 use Rattle.vx_base.specs.Sample.{IsSample}
 use Rattle.vx_base.proofs.PictureLaws.{pictured_image}
-use Rattle.vx_base.specs.declared.kind.Kind.TheVariants as kind
 use Rattle.object_table.specs.Named.{Named, object_held}
 use Rattle.object_table.proofs.HeldLemmas.{object_held_has}
 use Rattle.graph_verify.specs.declared.known.VirtualOutput.{VirtualOutput}
 use Rattle.graph_run.specs.declared.stage.Slot.{Slot}
 use Rattle.graph_run.specs.declared.stage.Stage.{Stage}
-use Rattle.graph_run.specs.Stage.{is_named, standing_image, image_in, standing, shown_as, shown, slot_of, holder_at, HoldsVirtual, HasRoomFor, IsStage, claimed}
+use Rattle.graph_run.specs.Stage.{is_named, standing_image, standing, shown_as, shown, slot_of, holder_at, HoldsVirtual, HasRoomFor, IsStage, claimed}
 use Rattle.graph_run.proofs.StageLemmas.{held-shown, alone_at, alone_found}
 
 -- ---- an element that is set
@@ -31,12 +29,8 @@ pub slice_get-set : {X : Type 0} (xs : List X) (i k : ℕ) (old new : X) (change
     → slice_get (set xs i new) k ≡ (if k == i then option_map change (slice_get xs k) else slice_get xs k)
 slice_get-set [] i k old new change at is = absurd (cc)
 slice_get-set {X} (x ∷ xs) zero zero old new change at is = let same : x ≡ old = cc in grind (arith, nat_tests)
-slice_get-set (x ∷ xs) zero (suc k) old new change at is = grind (arith, nat_tests)
-slice_get-set (x ∷ xs) (suc i) zero old new change at is = grind (arith, nat_tests)
-slice_get-set (x ∷ xs) (suc i) (suc k) old new change at is = slice_get-set xs i k old new change at is ∙ ap (λ b. if b then option_map change (slice_get xs k) else slice_get xs k) same
-  where
-    same : (k == i) ≡ (suc k == suc i)
-    same = grind (arith, nat_tests)
+slice_get-set (x ∷ xs) (suc i) (suc k) old new change at is = grind (arith, nat_tests, slice_get-set xs i k old new change at is)
+slice_get-set (x ∷ xs) i k old new change at is = grind (arith, nat_tests)
 
 -- ---- images in slots
 
@@ -46,18 +40,10 @@ IsStanding s = IfSome s.holder (λ o. IsImage (standing_image o s))
 -- the slot that has the image of a name is one of them
 found_has : (P : Slot → Type 0) (slots : List Slot) (name : ℕ) → All P slots → IfSome (slot_of slots name) P
 found_has P [] name h = tt
-found_has P (s ∷ slots) name h = elim (cases_Bool (is_named name s.holder)) [
-  | inl e ↦ rw e (All-head P s slots h)
-  | inr e ↦ rw e (found_has P slots name (All-tail P s slots h))
-]
+found_has P (s ∷ slots) name h = grind (arith, All-head P s slots h, found_has P slots name (All-tail P s slots h), cases_Bool (is_named name s.holder))
 
 shown_is : (name : ℕ) (found : Option Slot) (image : VirtualImage) → IfSome found IsStanding → IsObject (VirtualObject image) → IsObject (standing found (VirtualObject image))
-shown_is name None image standing is = is
-shown_is name (Some s) image standing is = of_holder s.holder standing
-  where
-    of_holder : (o : Option VirtualOutput) → IfSome o (λ a. IsImage (standing_image a s)) → IsObject (image_in s o (VirtualObject image))
-    of_holder None h = is
-    of_holder (Some a) h = h
+shown_is name y image standing is = grind arith
 
 shown_one : (slots : List Slot) (name : ℕ) (object : ObjectValue) → All IsStanding slots → IsObject object → IsObject (shown_as slots name object)
 shown_one slots name (VirtualObject image) standing is = shown_is name (slot_of slots name) image (found_has IsStanding slots name standing) is
@@ -73,15 +59,7 @@ shown_are slots (o ∷ l) standing are =
 
 -- a virtual object that is held
 pub virtual_there : (l : List Named) (name : ℕ) → HoldsVirtual l name → (image : VirtualImage) × (object_held l name ≡ Some (VirtualObject image))
-virtual_there l name h = of (object_held l name) h
-  where
-    is_one : (object : ObjectValue) → object_kind object ≡ kind.VirtualImage → (image : VirtualImage) × (Some object ≡ Some (VirtualObject image))
-    is_one (VirtualObject image) e = (image, refl)
-    is_one other e = cc
-
-    of : (o : Option ObjectValue) → option_map object_kind o ≡ Some kind.VirtualImage → (image : VirtualImage) × (o ≡ Some (VirtualObject image))
-    of None e = cc
-    of (Some x) e = let k : object_kind x ≡ kind.VirtualImage = cc in is_one x k
+virtual_there l name h = grind arith
 
 -- the holder of a slot is the one at its place
 pub holder_of : (slots : List Slot) (k : ℕ) (s : Slot) (o : VirtualOutput) → slice_get slots k ≡ Some s → s.holder ≡ Some o → holder_at slots k ≡ Some o
@@ -96,19 +74,15 @@ module _ (s : Stage) (is : IsStage s) where
   there_objects = s.table.objects
 
   one_standing : (k : ℕ) (t : Slot) → slice_get there_slots k ≡ Some t → (o : Option VirtualOutput) → t.holder ≡ o → IsStanding t
-  one_standing k t at None e = subst (λ (h : Option VirtualOutput). IfSome h (λ a. IsImage (standing_image a t))) (sym e) tt
+  one_standing k t at None e = rw e tt
   one_standing k t at (Some o) e =
       let here = holder_of there_slots k t o at e in
       let held = virtual_there there_objects o.cell.name (is.there k o here) in
       let named : is_named o.cell.name t.holder ≡ true = ap (is_named o.cell.name) e ∙ eq-eqb o.cell.name o.cell.name refl in
       let alone = alone_at there_slots o.cell.name k t at named (λ j a h same. is.apart j k a o h here same) in
       let found : object_held (shown there_slots there_objects) o.cell.name ≡ Some (ImageObject (standing_image o t)) =
-      held-shown there_slots there_objects o.cell.name
-      ∙ ap (option_map (shown_as there_slots o.cell.name)) held.1
-      ∙ ap (λ (f : Option Slot). Some (standing f (VirtualObject held.0))) (alone_found o.cell.name t there_slots k alone)
-      ∙ ap (λ (h : Option VirtualOutput). Some (image_in t h (VirtualObject held.0))) e in
-      subst (λ (h : Option VirtualOutput). IfSome h (λ a. IsImage (standing_image a t))) (sym e)
-      (subst (λ (x : Option ObjectValue). IfSome x IsObject) found (object_held_has IsObject (shown there_slots there_objects) o.cell.name is.objects))
+      grind (arith, held-shown there_slots there_objects o.cell.name, held.1, alone_found o.cell.name t there_slots k alone, e) in
+      rw e (subst (λ (x : Option ObjectValue). IfSome x IsObject) found (object_held_has IsObject (shown there_slots there_objects) o.cell.name is.objects))
 
   pub are_standing : All IsStanding there_slots
   are_standing k d below = one_standing k (get_or there_slots k d) (slice_get-get_or there_slots k d below) (get_or there_slots k d).holder refl
@@ -141,41 +115,17 @@ module _ (s : Stage) (is : IsStage s) (at : ℕ) (image : VirtualOutput) (t new 
   new_room = subst (λ (q : Slot). IfSome q.holder (λ o. HasRoomFor q o.desc)) (sym is_new) (record { format = room.format; count = room.count })
 
   holders : (k : ℕ) → holder_at (set slots at new) k ≡ (if k == at then Some image else holder_at slots k)
-  holders k =
-      ap (option_and_then (λ (q : Slot). q.holder)) (slice_get-set slots at k t new (λ _. new) old refl)
-      ∙ either (k == at) refl
-    where
-      either : (b : Bool) → (k == at) ≡ b → option_and_then (λ (q : Slot). q.holder) (if b then option_map (λ (_ : Slot). new) (slice_get slots k) else slice_get slots k) ≡ (if b then Some image else holder_at slots k)
-      either true e =
-          ap (λ i. option_and_then (λ (q : Slot). q.holder) (option_map (λ (_ : Slot). new) (slice_get slots i))) (eqb-true k at e)
-          ∙ ap (λ (o : Option Slot). option_and_then (λ (q : Slot). q.holder) (option_map (λ (_ : Slot). new) o)) old
-          ∙ ap (λ (q : Slot). q.holder) is_new
-      either false e = refl
+  holders k = grind (arith, slice_get-set slots at k t new (λ _. new) old refl, cases_Bool (k == at), eqb-true k at, old, is_new)
 
   -- who stands at a place
   who : (k : ℕ) (a : VirtualOutput) → holder_at (set slots at new) k ≡ Some a → ((k ≡ at) × (a ≡ image)) ⊎ ((k ≢ at) × (holder_at slots k ≡ Some a))
-  who k a e = elim (cases_Bool (k == at)) [
-    | inl same ↦ inl (eqb-true k at same, (let both : Some image ≡ Some a = sym (ap (λ b. if b then Some image else holder_at slots k) same) ∙ sym (holders k) ∙ e in cc))
-    | inr other ↦ inr (eqb-false k at other, sym (ap (λ b. if b then Some image else holder_at slots k) other) ∙ sym (holders k) ∙ e)
-  ]
+  who k a e = grind (arith, cases_Bool, eqb-true, holders, eqb-false)
 
   apart : (j k : ℕ) (a b : VirtualOutput) → holder_at (set slots at new) j ≡ Some a → holder_at (set slots at new) k ≡ Some b → a.cell.name ≡ b.cell.name → j ≡ k
-  apart j k a b h i same = elim (who j a h) [
-    | inl x ↦ elim (who k b i) [
-      | inl y ↦ x.0 ∙ sym y.0
-      | inr y ↦ x.0 ∙ sym (elsewhere k b y.1 (sym same ∙ ap (λ (o : VirtualOutput). o.cell.name) x.1))
-    ]
-    | inr x ↦ elim (who k b i) [
-      | inl y ↦ elsewhere j a x.1 (same ∙ ap (λ (o : VirtualOutput). o.cell.name) y.1) ∙ sym y.0
-      | inr y ↦ is.apart j k a b x.1 y.1 same
-    ]
-  ]
+  apart j k a b h i same = grind (arith, who j a h, who k b i, elsewhere j a, elsewhere k b, is.apart j k a b)
 
   there_all : (k : ℕ) (a : VirtualOutput) → holder_at (set slots at new) k ≡ Some a → HoldsVirtual s.table.objects a.cell.name
-  there_all k a h = elim (who k a h) [
-    | inl x ↦ subst (λ (o : VirtualOutput). HoldsVirtual s.table.objects o.cell.name) (sym x.1) there
-    | inr x ↦ is.there k a x.1
-  ]
+  there_all k a h = grind (arith, who k a h, is.there k a, there)
 
   pub claim_keeps : IsStage (record { table = s.table; slots = with_item s.slots at new })
   claim_keeps =

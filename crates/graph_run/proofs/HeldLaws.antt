@@ -1,11 +1,10 @@
 -- What cells hold after objects are written to some of them.
-use Rattle.std.proofs.Common.{◌≡◌, ℕ, Bool, true, false, ◌&&◌, if◌then◌else◌, eqb, List, [], ◌∷◌, ◌++◌, map, refl, sym, ap, subst, ◌∙◌, inl, inr, Option, Some, None, IsTrue, arith, rules}
-use Rattle.std.specs.Prelude.{is_some}
+use Rattle.std.proofs.Common.{◌≡◌, ℕ, Bool, true, false, ◌&&◌, if◌then◌else◌, eqb, List, [], ◌∷◌, ◌++◌, map, refl, sym, ap, subst, ◌∙◌, inl, inr, Option, Some, None, arith, rules}
 use Rattle.std.specs.Option.{option_map, option_and_then, option_or}
 use Rattle.std.proofs.lemmas.Bool.{cases_Bool, eqb-true, eqb-false}
 use Rattle.vx_base.specs.declared.kind.Kind.TheVariants as kind
 use Rattle.vx_base.specs.Cell.{Cell, same_slot, same_cell}
-use Rattle.vx_base.specs.Object.{ObjectValue, ImageObject, DelayObject, object_kind}
+use Rattle.vx_base.specs.Object.{ObjectValue, ImageObject, object_kind}
 use Rattle.object_table.specs.Delay.{in_slot, with_slot}
 use Rattle.object_table.specs.Object.{image_value}
 use Rattle.object_table.specs.Named.{Named, object_held, held, with_object, with_written}
@@ -22,20 +21,17 @@ seen objects cell = option_map shown (held objects cell)
 -- ---- options
 
 pub map-or : {X Y : Type 0} (f : X → Y) (o p : Option X) → option_map f (option_or o p) ≡ option_or (option_map f o) (option_map f p)
-map-or f None p = refl
-map-or f (Some x) p = refl
+map-or f y p = grind arith
 
 pub or_assoc : {X : Type 0} (o p q : Option X) → option_or (option_or o p) q ≡ option_or o (option_or p q)
-or_assoc None p q = refl
-or_assoc (Some x) p q = refl
+or_assoc x p q = grind arith
 
 pub form-seen : (o : Option ObjectValue) → option_map form_of (option_map shown o) ≡ option_map form_of o
 form-seen None = refl
 form-seen (Some x) = ap {B = Option ObjectValue} Some (form-shown x)
 
 pub kind-form_seen : (o : Option ObjectValue) → option_map object_kind (option_map form_of o) ≡ option_map object_kind o
-kind-form_seen None = refl
-kind-form_seen (Some x) = ap Some (kind-form x)
+kind-form_seen x = grind arith
 
 -- ---- an object that is written
 
@@ -47,13 +43,8 @@ pub record IsWrite (objects : List Named) (cell : Cell) (object : ObjectValue) :
 kind_of_form : (o : Option ObjectValue) (new : ObjectValue) → option_map form_of o ≡ Some (form_of new) → option_map object_kind o ≡ Some (object_kind new)
 kind_of_form o new f = sym (kind-form_seen o) ∙ ap (option_map object_kind) f ∙ ap Some (kind-form new)
 
-there : (o : Option ObjectValue) (new : ObjectValue) → option_map form_of o ≡ Some (form_of new) → IsTrue (is_some o)
-there None new f = absurd (cc f)
-there (Some x) new f = refl
-
 whole_stays : (j : ℕ) (new x : ObjectValue) → shown (with_slot (Some j) new x) ≡ shown x
-whole_stays j (ImageObject image) (DelayObject images) = refl
-whole_stays j new x = refl
+whole_stays j new x = grind arith
 
 slot_written : (k j : Option ℕ) (new x : ObjectValue) → option_map form_of (in_slot j x) ≡ Some (form_of new) → is_delay new ≡ false
     → option_map shown (in_slot k (with_slot j new x)) ≡ (if same_slot k j then Some (shown new) else option_map shown (in_slot k x))
@@ -62,7 +53,7 @@ slot_written (Some k) None new x f d = grind (arith, is_delay x, is_delay-form x
 slot_written None (Some j) new x f d = ap {B = Option ObjectValue} Some (whole_stays j new x)
 slot_written (Some k) (Some j) new x f d = elim (cases_Bool (eqb k j)) [
   | inl e ↦
-      (let image = slot_has_image j x (there (in_slot (Some j) x) new f) in
+      (let image = slot_has_image j x (grind arith) in
       let is : object_kind new ≡ kind.Image = let g = kind_of_form (in_slot (Some j) x) new f in cc in
       let same : new ≡ ImageObject (image_value new) = image_of_kind new is in
       let stands = with_slot_there (Some j) (image_value new) x image in
@@ -113,16 +104,11 @@ last_to-append c [] ys = grind arith
 last_to-append c (w ∷ xs) ys = grind (arith, last_to-append c xs ys, or_assoc (last_to c ys) (last_to c xs) (if same_cell c w.0 then Some w.1 else None))
 
 AreWrites-after : (objects : List Named) (w : Cell × ObjectValue) (ws : List (Cell × ObjectValue)) → AreWrites objects (w ∷ ws) → AreWrites (with_object objects w.0 w.1) ws
-AreWrites-after objects w ws are = λ v i. let is = are v (inr i) in record {
-  form = form-with_object objects w.0 w.1 (are w (inl refl)) v.0 ∙ is.form;
-  whole = is.whole;
-}
+AreWrites-after objects w ws are = grind (arith, form-with_object)
 
 one_more : (last old : Option ObjectValue) (new : ObjectValue) (same : Bool)
     → option_or (option_map shown last) (if same then Some (shown new) else old) ≡ option_or (option_map shown (option_or last (if same then Some new else None))) old
-one_more None old new true = refl
-one_more None old new false = refl
-one_more (Some x) old new same = refl
+one_more x old new same = grind arith
 
 -- of each cell the last object that was written to it is seen, or where there is none what it held
 pub seen-with_written : (ws : List (Cell × ObjectValue)) (objects : List Named) → AreWrites objects ws → (c : Cell)

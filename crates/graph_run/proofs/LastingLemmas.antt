@@ -1,8 +1,9 @@
 -- What lasts of objects as others are written in their places.
-use Rattle.std.proofs.Common.{◌≡◌, ℕ, Bool, true, false, cond, List, [], ◌∷◌, Option, Some, None, map, get_or, drop, refl, sym, ap, subst, ◌∙◌}
-use Rattle.std.specs.Prelude.{◌==◌, find, slice_get}
+use Rattle.std.proofs.Common.{◌≡◌, ℕ, List, [], ◌∷◌, Option, Some, None, map, get_or, drop, refl, sym, ap, subst, ◌∙◌, arith}
+use Rattle.std.specs.Prelude.{◌==◌}
 use Rattle.std.specs.List.Sorted.{IsStrictlyIncreasing}
 use Rattle.std.specs.Option.{option_map, option_and_then}
+use Rattle.std.proofs.lemmas.Bool.{cases_Bool}
 use Rattle.vx_base.specs.declared.node.Node.{Node}
 use Rattle.vx_base.specs.Cell.{Cell}
 use Rattle.vx_base.specs.Description.{Description}
@@ -36,12 +37,8 @@ in_slots-last : (slot : Option ℕ) (one other : Option ObjectValue) → option_
     → option_map lasting (option_and_then (in_slot slot) one) ≡ option_map lasting (option_and_then (in_slot slot) other)
 in_slots-last slot one other same = sym (through one) ∙ ap (option_and_then (in_left slot)) same ∙ through other
   where
-    of_image : (found : Option ImageValue) → option_map (λ object. (object, [])) (option_map skeleton (option_map ImageObject found)) ≡ option_map lasting (option_map ImageObject found)
-    of_image None = refl
-    of_image (Some image) = refl
-
     of_slot : (k : ℕ) (object : ObjectValue) → option_map (λ x. (x, [])) (option_map skeleton (in_slot (Some k) object)) ≡ option_map lasting (in_slot (Some k) object)
-    of_slot k (DelayObject images) = of_image (slice_get images k)
+    of_slot k (DelayObject images) = grind arith
     of_slot k object = refl
 
     of_left : (s : Option ℕ) (object : ObjectValue) → in_left s (lasting object) ≡ option_map lasting (in_slot s object)
@@ -59,13 +56,7 @@ images-last a b e = ap (λ (d : Description). let left : ObjectValue × List Nod
 -- an object in the place of one of which as much lasts
 pub lasting-with_slot : (slot : Option ℕ) (new object : ObjectValue) → option_map lasting (in_slot slot object) ≡ Some (lasting new) → lasting (with_slot slot new object) ≡ lasting object
 lasting-with_slot slot new object same =
-    ap (λ x. let left : ObjectValue × List Node = (x, nodes_in (with_slot slot new object)) in left) (skeleton-with_slot slot new object (skeletons-last (in_slot slot object) (Some new) same))
-    ∙ ap (λ nodes. let left : ObjectValue × List Node = (skeleton object, nodes) in left) (nodes slot new object (nodes-last (in_slot slot object) (Some new) same))
-  where
-    nodes : (s : Option ℕ) (x y : ObjectValue) → option_map nodes_in (in_slot s y) ≡ Some (nodes_in x) → nodes_in (with_slot s x y) ≡ nodes_in y
-    nodes None x y e = let is : nodes_in y ≡ nodes_in x = cc in sym is
-    nodes (Some k) (ImageObject image) (DelayObject images) e = refl
-    nodes (Some k) x y e = refl
+    grind (arith, skeleton-with_slot, skeletons-last, nodes-last)
 
 -- ---- of what is held
 
@@ -83,16 +74,8 @@ held-lasts [] (p ∷ new) name same = absurd (cc)
 held-lasts (o ∷ old) [] name same = absurd (cc)
 held-lasts (o ∷ old) (p ∷ new) name same =
     let first : lasting_named p ≡ lasting_named o = ap (λ l. get_or l 0 (lasting_named p)) same in
-    ap (λ n. option_map lasting (option_map (λ (q : Named). q.object) (cond (n == name) (Some p) (find (λ q. q.name == name) new))))
-    (ap (λ (left : Lasting). left.0.name) first)
-    ∙ either (o.name == name) (ap (λ (left : Lasting). let of_object : ObjectValue × List Node = (left.0.object, left.1) in of_object) first) (held-lasts old new name (ap (drop 1) same))
-  where
-    either : (b : Bool) → lasting p.object ≡ lasting o.object
-        → option_map lasting (object_held new name) ≡ option_map lasting (object_held old name)
-        → option_map lasting (option_map (λ (q : Named). q.object) (cond b (Some p) (find (λ q. q.name == name) new)))
-        ≡ option_map lasting (option_map (λ (q : Named). q.object) (cond b (Some o) (find (λ q. q.name == name) old)))
-    either true here later = ap Some here
-    either false here later = later
+    let here : lasting p.object ≡ lasting o.object = ap (λ (left : Lasting). let of_object : ObjectValue × List Node = (left.0.object, left.1) in of_object) first in
+    grind (arith, held-lasts old new name (ap (drop 1) same), cases_Bool (o.name == name), ap (λ (left : Lasting). left.0.name) first)
 
 -- and in each cell
 pub cell-lasts : (old new : List Named) (cell : Cell) → map lasting_named new ≡ map lasting_named old → option_map lasting (held new cell) ≡ option_map lasting (held old cell)

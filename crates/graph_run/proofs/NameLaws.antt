@@ -1,6 +1,6 @@
 -- Objects under the same names and labels, of which the same is seen at each cell, are the same.
 use Rattle.std.proofs.Common.{◌≡◌, ℕ, suc, ◌<◌, Bool, true, false, eqb, List, [], ◌∷◌, length, map, get_or, refl, sym, ap, subst, ◌∙◌, inl, inr, Option, Some, None, arith}
-use Rattle.std.specs.Prelude.{slice_get, ◌⊎◌}
+use Rattle.std.specs.Prelude.{slice_get}
 use Rattle.std.specs.Option.{option_map, option_and_then}
 use Rattle.std.specs.List.{AllPairs}
 use Rattle.std.proofs.lemmas.Bool.{cases_Bool, eqb-true, eq-eqb, ne_eqb}
@@ -15,28 +15,26 @@ use Rattle.graph_run.proofs.HeldLaws.{seen}
 
 -- ---- objects
 
-all_slots : (xs ys : List ImageValue) → ((k : ℕ) → slice_get xs k ≡ slice_get ys k) → xs ≡ ys
-all_slots [] [] h = refl
-all_slots [] (y ∷ ys) h = let first = h 0 in absurd (cc first)
-all_slots (x ∷ xs) [] h = let first = h 0 in absurd (cc first)
-all_slots (x ∷ xs) (y ∷ ys) h =
-    let first : ◌≡◌ {A = Option ImageValue} (Some x) (Some y) = h 0 in
+-- lists of the same element at each place
+pub same_at_each : {X : Type 0} (xs ys : List X) → ((k : ℕ) → slice_get xs k ≡ slice_get ys k) → xs ≡ ys
+same_at_each [] [] h = refl
+same_at_each [] (y ∷ ys) h = let first = h 0 in absurd (cc first)
+same_at_each (x ∷ xs) [] h = let first = h 0 in absurd (cc first)
+same_at_each {X} (x ∷ xs) (y ∷ ys) h =
+    let first : ◌≡◌ {A = Option X} (Some x) (Some y) = h 0 in
     let head : x ≡ y = cc in
-    ap (λ z. z ∷ xs) head ∙ ap (λ zs. y ∷ zs) (all_slots xs ys (λ k. h (suc k)))
+    ap (λ z. z ∷ xs) head ∙ ap (λ zs. y ∷ zs) (same_at_each xs ys (λ k. h (suc k)))
 
 image_seen : (o p : Option ImageValue) → option_map ImageObject o ≡ option_map ImageObject p → o ≡ p
-image_seen None None h = refl
 image_seen (Some x) (Some y) h = let e : x ≡ y = cc in ap {B = Option ImageValue} Some e
-image_seen o p h = absurd (cc h)
+image_seen o p h = grind arith
 
 unshown : (o p : Option ImageValue) → option_map shown (option_map ImageObject o) ≡ option_map shown (option_map ImageObject p) → option_map ImageObject o ≡ option_map ImageObject p
-unshown None None h = refl
-unshown (Some x) (Some y) h = h
-unshown o p h = absurd (cc h)
+unshown o p h = grind arith
 
 -- what an object shows in its own name and in each slot makes the object
 from_shown : (x y : ObjectValue) → shown x ≡ shown y → ((k : ℕ) → option_map shown (in_slot (Some k) x) ≡ option_map shown (in_slot (Some k) y)) → x ≡ y
-from_shown (DelayObject xs) (DelayObject ys) h each = ap DelayObject (all_slots xs ys (λ k. image_seen (slice_get xs k) (slice_get ys k) (unshown (slice_get xs k) (slice_get ys k) (each k))))
+from_shown (DelayObject xs) (DelayObject ys) h each = ap DelayObject (same_at_each xs ys (λ k. image_seen (slice_get xs k) (slice_get ys k) (unshown (slice_get xs k) (slice_get ys k) (each k))))
 from_shown (DelayObject xs) y h each = absurd (cc h)
 from_shown x y h each = h ∙ shown_whole y (sym (is_delay-shown y) ∙ ap is_delay (sym h))
 
@@ -95,15 +93,12 @@ by_names (o ∷ old) [] up labels h = absurd (cc labels)
 by_names (o ∷ old) (p ∷ new) up labels h =
     let label : label_of o ≡ label_of p = cc in
     let rest : map label_of old ≡ map label_of new = cc in
-    ap (λ z. z ∷ old) (same_named o p label (first (ap (λ m. m.0) label)))
-    ∙ ap (λ z. p ∷ z) (by_names old new up.1 rest (λ name. others (ap (λ m. m.0) label) rest name (cases_Bool (eqb o.name name))))
-  where
-    first : o.name ≡ p.name → ◌≡◌ {A = Option ObjectValue} (Some o.object) (Some p.object)
-    first same = sym (under_own o old) ∙ h o.name ∙ ap (object_held (p ∷ new)) same ∙ under_own p new
-
-    others : o.name ≡ p.name → map label_of old ≡ map label_of new → (name : ℕ) → (eqb o.name name ≡ true) ⊎ (eqb o.name name ≡ false) → object_held old name ≡ object_held new name
-    others same rest name (inl e) = subst (λ z. object_held old z ≡ object_held new z) (eqb-true o.name name e) (absent_both old new o.name up.0 rest)
-    others same rest name (inr e) = sym (under_other o old name e) ∙ h name ∙ under_other p new name (ap (λ z. eqb z name) (sym same) ∙ e)
+    let same : o.name ≡ p.name = ap (λ m. m.0) label in
+    ap (λ z. z ∷ old) (same_named o p label (sym (under_own o old) ∙ h o.name ∙ ap (object_held (p ∷ new)) same ∙ under_own p new))
+    ∙ ap (λ z. p ∷ z) (by_names old new up.1 rest (λ name. elim (cases_Bool (eqb o.name name)) [
+      | inl e ↦ subst (λ z. object_held old z ≡ object_held new z) (eqb-true o.name name e) (absent_both old new o.name up.0 rest)
+      | inr e ↦ sym (under_other o old name e) ∙ h name ∙ under_other p new name (ap (λ z. eqb z name) (sym same) ∙ e)
+    ]))
 
 -- objects whose names increase are told by their labels and by what is seen at each cell
 pub same_objects : (old new : List Named) → Rising (map label_of old) → map label_of old ≡ map label_of new → ((c : Cell) → seen old c ≡ seen new c) → old ≡ new

@@ -16,7 +16,7 @@ use Rattle.graph_verify.specs.Members.{In}
 use Rattle.graph_verify.specs.Links.{writes, has_twice}
 use Rattle.graph_run.specs.Solution.{kind_in, form_of}
 use Rattle.graph_verify.proofs.MemberLemmas.{In-append}
-use Rattle.graph_verify.proofs.LinkLemmas.{same_cell-true, same_cell-refl}
+use Rattle.graph_verify.proofs.LinkLemmas.{same_cell-true}
 use Rattle.graph_run.proofs.ObjectLaws.{is_delay, shown, is_delay-form, not_delay, form-node_output, shown-node_output}
 use Rattle.graph_run.proofs.HeldLaws.{IsWrite, AreWrites, last_to, last_to-append, or_assoc}
 
@@ -46,20 +46,15 @@ given_in n held c = given_to n held c (held c)
 
 pub output_of_again : (n : Node) (output : Output) (first before second other out : Option ObjectValue) → option_map object_kind before ≡ option_map object_kind first
     → output_of n output first second (output_of n output before other out) ≡ output_of n output first second out
-output_of_again n output (Some x) (Some y) second other (Some out) same = grind arith
-output_of_again n output (Some x) None second other out same = absurd (cc same)
-output_of_again n output None (Some y) second other out same = absurd (cc same)
-output_of_again n output first before second other out same = refl
+output_of_again n output first before second other out same = grind arith
 
 shown-output_of : (n : Node) (output : Output) (first second out : Option ObjectValue)
     → option_map shown (output_of n output first second out) ≡ output_of n output (option_map shown first) (option_map shown second) (option_map shown out)
 shown-output_of n output (Some first) second (Some out) = ap {B = Option ObjectValue} Some (shown-node_output n output first second out)
-shown-output_of n output None second out = refl
-shown-output_of n output first second None = refl
+shown-output_of n output first second out = grind arith
 
 shown-and_then : (held : Cell → Option ObjectValue) (o : Option Cell) → option_map shown (option_and_then held o) ≡ option_and_then (λ d. option_map shown (held d)) o
-shown-and_then held None = refl
-shown-and_then held (Some d) = refl
+shown-and_then held y = grind arith
 
 -- nothing that is hidden of delays counts
 pub shown-given_to : (n : Node) (held : Cell → Option ObjectValue) (c : Cell) (out : Option ObjectValue) → option_map shown (given_to n held c out) ≡ given_to n (λ d. option_map shown (held d)) c (option_map shown out)
@@ -71,21 +66,15 @@ shown-given_in n held c = shown-given_to n held c (held c)
 -- a form stays
 pub form-output_of : (n : Node) (output : Output) (first second out : Option ObjectValue) → option_map form_of (output_of n output first second out) ≡ option_map form_of out
 form-output_of n output (Some first) second (Some out) = ap {B = Option ObjectValue} Some (form-node_output n output first second out)
-form-output_of n output None second out = refl
-form-output_of n output first second None = refl
+form-output_of n output first second out = grind arith
 
 -- ---- the list of what a node writes
-
-or_false : (b : Bool) → (b || false) ≡ b
-or_false true = refl
-or_false false = refl
 
 pub writes-outputs : (n : Node) (c : Cell) → writes n c ≡ (is_cell n.out1 c || is_cell n.out2 c)
 writes-outputs n c = grind arith
 
 last_beside : (n : Node) (output : Output) (o : Option Cell) (held : Cell → Option ObjectValue) (c : Cell) → is_cell o c ≡ false → last_to c (written_in n output o held) ≡ None
-last_beside n output None held c h = refl
-last_beside n output (Some d) held c h = grind arith
+last_beside n output z held c h = grind arith
 
 last_there : (n : Node) (output : Output) (o : Option Cell) (held : Cell → Option ObjectValue) (c : Cell) → is_cell o c ≡ true
     → last_to c (written_in n output o held) ≡ last_to c (written_to n output c (held n.in1) (option_and_then held n.in2) (held c))
@@ -94,15 +83,11 @@ last_there n output (Some d) held c h = ap (λ z. last_to c (written_to n output
 
 -- it stands over what was held, and over what another output of the node gave
 over_old : (n : Node) (output : Output) (c : Cell) (first second out : Option ObjectValue) → option_or (last_to c (written_to n output c first second out)) out ≡ output_of n output first second out
-over_old n output c (Some first) second (Some out) = let e = same_cell-refl c in rw e refl
-over_old n output c None second out = refl
-over_old n output c (Some first) second None = refl
+over_old n output c u second out = grind arith
 
 over_other : (n : Node) (output other : Output) (c : Cell) (first second out : Option ObjectValue)
     → option_or (last_to c (written_to n output c first second out)) (output_of n other first second out) ≡ output_of n output first second out
-over_other n output other c (Some first) second (Some out) = let e = same_cell-refl c in rw e refl
-over_other n output other c None second out = refl
-over_other n output other c (Some first) second None = refl
+over_other n output other c v second out = grind arith
 
 -- what is written last to a cell is what the node gives it
 pub last_written : (n : Node) (held : Cell → Option ObjectValue) (c : Cell) → option_or (last_to c (written_by n held)) (held c) ≡ (if writes n c then given_in n held c else held c)
@@ -124,10 +109,6 @@ pub record IsGiven (n : Node) (output : Output) (o : Option Cell) (held : Cell �
   pub old : held c ≡ Some out
   pub gives : object ≡ node_output n output first (option_and_then held n.in2) out
 
-IsGiven-from_In : (n : Node) (output : Output) (o : Option Cell) (held : Cell → Option ObjectValue) (w : Cell × ObjectValue) → In w (written_in n output o held) → IsGiven n output o held w.0 w.1
-IsGiven-from_In n output None held w i = absurd i
-IsGiven-from_In n output (Some d) held w i = grind (arith, same_cell-refl d)
-
 given_cases : (n : Node) (held : Cell → Option ObjectValue) (w : Cell × ObjectValue) → In w (written_by n held) → IsGiven n First n.out1 held w.0 w.1 ⊎ IsGiven n Second n.out2 held w.0 w.1
 given_cases n held w i = grind (arith, In-append w (written_in n First n.out1 held) (written_in n Second n.out2 held) i)
 
@@ -139,10 +120,7 @@ second_written n c e = writes-outputs n c ∙ or_right (is_cell n.out1 c) (is_ce
 
 -- what is written is held
 pub written_held : (n : Node) (held : Cell → Option ObjectValue) (w : Cell × ObjectValue) → In w (written_by n held) → (writes n w.0 ≡ true) × ((out : ObjectValue) × (held w.0 ≡ Some out))
-written_held n held w i = elim (given_cases n held w i) [
-  | inl g ↦ (first_written n w.0 g.there, (g.out, g.old))
-  | inr g ↦ (second_written n w.0 g.there, (g.out, g.old))
-]
+written_held n held w i = elim (given_cases n held w i) [ inl g ↦ (first_written n w.0 g.there, (g.out, g.old)) | inr g ↦ (second_written n w.0 g.there, (g.out, g.old)) ]
 
 -- it has the form of what was held
 write_is : (objects : List Named) (n : Node) (output : Output) (o : Option Cell) (c : Cell) (object : ObjectValue) → kind_in objects c ≢ Some kind.Delay → IsGiven n output o (held objects) c object → IsWrite objects c object
@@ -153,12 +131,6 @@ AreWrites-written objects n whole w i = grind (arith, given_cases n (held object
 
 -- ---- cells that hold what a node gives them
 
-other_cell : (n : Node) (c : Cell) → has_twice (outputs n) ≡ false → is_cell n.out1 c ≡ true → is_cell n.out2 c ≡ false
-other_cell n c h e = grind arith
-
-given_as : (n : Node) (output : Output) (o : Option Cell) (held : Cell → Option ObjectValue) (c : Cell) (object : ObjectValue) → output_at n c ≡ output → IsGiven n output o held c object → given_in n held c ≡ Some object
-given_as n output o held c object at g = grind arith
-
 -- where each output holds what the node gives it, all that the node writes is held
 pub given_holds : (n : Node) (held : Cell → Option ObjectValue) → has_twice (outputs n) ≡ false → ((c : Cell) → writes n c ≡ true → held c ≡ given_in n held c)
     → (w : Cell × ObjectValue) → In w (written_by n held) → held w.0 ≡ Some w.1
@@ -167,13 +139,7 @@ given_holds n held once h w i = grind (arith, given_cases n held w i)
 held_last : (held : Cell → Option ObjectValue) (c : Cell) (ws : List (Cell × ObjectValue)) → ((w : Cell × ObjectValue) → In w ws → held w.0 ≡ Some w.1) → option_or (last_to c ws) (held c) ≡ held c
 held_last held c [] h = refl
 held_last held c (w ∷ ws) h =
-    or_assoc (last_to c ws) (if same_cell c w.0 then Some w.1 else None) (held c)
-    ∙ ap (option_or (last_to c ws)) (this (cases_Bool (same_cell c w.0)))
-    ∙ held_last held c ws (λ v i. h v (inr i))
-  where
-    this : (same_cell c w.0 ≡ true) ⊎ (same_cell c w.0 ≡ false) → option_or (if same_cell c w.0 then Some w.1 else None) (held c) ≡ held c
-    this (inl e) = rw e (sym (h w (inl refl)) ∙ ap held (sym (same_cell-true c w.0 e)))
-    this (inr e) = rw e refl
+    grind (arith, or_assoc (last_to c ws) (if same_cell c w.0 then Some w.1 else None) (held c), held_last held c ws (λ v i. h v (inr i)), cases_Bool (same_cell c w.0), same_cell-true c w.0, h w (inl refl))
 
 -- where all that a node writes is held, each output holds what the node gives it
 pub holds_given : (n : Node) (held : Cell → Option ObjectValue) → ((w : Cell × ObjectValue) → In w (written_by n held) → held w.0 ≡ Some w.1) → (c : Cell) → writes n c ≡ true → held c ≡ given_in n held c

@@ -28,10 +28,6 @@ pub shown_whole : (x : ObjectValue) → is_delay x ≡ false → shown x ≡ x
 shown_whole (DelayObject images) h = absurd (cc h)
 shown_whole other h = refl
 
-pub delay_shown : (x : ObjectValue) → is_delay x ≡ true → shown x ≡ DelayObject []
-delay_shown (DelayObject images) h = refl
-delay_shown other h = absurd (cc h)
-
 pub is_delay-shown : (x : ObjectValue) → is_delay (shown x) ≡ is_delay x
 is_delay-shown (DelayObject images) = refl
 is_delay-shown other = refl
@@ -52,10 +48,6 @@ pub not_delay : (x : ObjectValue) → object_kind x ≢ kind.Delay → is_delay 
 not_delay (DelayObject images) h = absurd (h refl)
 not_delay other h = refl
 
-pub delay_kind : (x : ObjectValue) → is_delay x ≡ false → object_kind x ≢ kind.Delay
-delay_kind (DelayObject images) h = cc
-delay_kind other h = λ e. cc
-
 -- ---- what a node gives
 
 format-one : (function : Function) (n : Node) (output : Output) (format : Format) (a : ImageValue) → (image_of_one function n output format a).format ≡ format
@@ -75,20 +67,6 @@ pub form-node_output : (n : Node) (output : Output) (first : ObjectValue) (secon
 form-node_output n output (ImageObject a) second (ImageObject out) = ap (λ f. ImageObject (new_image 0 0 f)) (format-node_image n output out.format a second)
 form-node_output n output (ImageObject a) second other = refl
 form-node_output n output first second out = refl
-
--- of an output but a delay as a whole, the form alone counts where the first input is an image
-pub node_output-form : (n : Node) (output : Output) (a : ImageValue) (second : Option ObjectValue) (out : ObjectValue) → is_delay out ≡ false → node_output n output (ImageObject a) second (form_of out) ≡ node_output n output (ImageObject a) second out
-node_output-form n output a second (DelayObject images) h = absurd (cc h)
-node_output-form n output a second other h = refl
-
--- what a node of the same kind of first input gave before makes no difference
-pub node_output_again : (n : Node) (output : Output) (first before : ObjectValue) (second other : Option ObjectValue) (out : ObjectValue) → object_kind before ≡ object_kind first
-    → node_output n output first second (node_output n output before other out) ≡ node_output n output first second out
-node_output_again n output (ImageObject a) (ImageObject b) second other (ImageObject out) same = ap (λ f. ImageObject (node_image n output f a second)) (format-node_image n output out.format b other)
-node_output_again n output (ImageObject a) (ImageObject b) second other out same = refl
-node_output_again n output (ImageObject a) before second other out same = absurd (cc same)
-node_output_again n output first (ImageObject b) second other out same = absurd (cc same)
-node_output_again n output first before second other out same = refl
 
 -- nothing that is hidden of delays counts
 pub shown-node_output : (n : Node) (output : Output) (first : ObjectValue) (second : Option ObjectValue) (out : ObjectValue) → shown (node_output n output first second out) ≡ node_output n output (shown first) (option_map shown second) (shown out)

@@ -1,13 +1,12 @@
 -- What cells hold, as operands: as a graph begins to run, and as its nodes write.
 use Rattle.std.proofs.Common.{◌≡◌, ◌≢◌, ℕ, Bool, true, false, List, map, refl, sym, ap, subst, ◌∙◌, inl, inr, Option, Some, None, arith}
-use Rattle.std.specs.Prelude.{◌&&◌, ◌==◌, not, if◌then◌else◌, option_to_list, slice_get}
+use Rattle.std.specs.Prelude.{◌==◌, not, if◌then◌else◌, option_to_list, slice_get}
 use Rattle.std.specs.Option.{option_map, option_and_then}
 use Rattle.std.specs.List.{list_all, list_any}
 use Rattle.std.proofs.lemmas.List.Sums.{AllPass-from_list_all}
 use Rattle.std.proofs.lemmas.Bool.{cases_Bool, and_parts, or_cases, or_left, or_right}
 use Rattle.vx_base.specs.declared.format.Format.{Format}
 use Rattle.vx_base.specs.declared.function.Function.{Function}
-use Rattle.vx_base.specs.declared.function.Function.TheVariants.{NotBits, Histogram, MinMaxLoc}
 use Rattle.vx_base.specs.declared.kind.Kind.TheVariants as kind
 use Rattle.vx_base.specs.declared.node.Node.{Node}
 use Rattle.vx_base.specs.declared.output.Output.{Output}
@@ -26,8 +25,7 @@ use Rattle.object_table.specs.Skeleton.{skeleton}
 use Rattle.graph_verify.specs.declared.operand.Operand.{Operand}
 use Rattle.graph_verify.specs.declared.operand.Operand.TheVariants.{Image, Virtual}
 use Rattle.graph_verify.specs.declared.operand.Operands.{Operands}
-use Rattle.graph_verify.specs.declared.verdict.Verdict.{Verdict}
-use Rattle.graph_verify.specs.declared.verdict.Verdict.TheVariants.{MultipleWriters, InvalidGraph, InvalidFormat, InvalidDimension}
+use Rattle.graph_verify.specs.declared.verdict.Verdict.TheVariants.{InvalidFormat, InvalidDimension}
 use Rattle.graph_verify.specs.Links.{reads, writes, is_written}
 use Rattle.graph_verify.specs.Members.{In}
 use Rattle.graph_verify.specs.Operand.{operand_of, operand_kind, operand_format, are_of_one_size, is_virtual, operands_of, written_operands, other_operands}
@@ -50,31 +48,24 @@ use Rattle.graph_run.proofs.ObjectLaws.{shown}
 
 -- in a slot no image is virtual
 image_in_slot : (image : Option ImageValue) (declared : Outline) → option_map operand_of (option_map ImageObject image) ≢ Some (Virtual declared)
-image_in_slot None declared e = cc
-image_in_slot (Some image) declared e = cc
+image_in_slot x declared e = grind arith
 
 -- a cell that holds a virtual image has no slot
 pub virtual_there : (slot : Option ℕ) (x : ObjectValue) (declared : Outline) → option_map operand_of (in_slot slot x) ≡ Some (Virtual declared)
     → ◌≡◌ {A = Option ℕ} slot None × (v : VirtualImage) × (x ≡ VirtualObject v)
-virtual_there None (VirtualObject v) declared e = (refl, v, refl)
-virtual_there None x declared e = absurd (cc e)
 virtual_there (Some k) (DelayObject images) declared e = absurd (image_in_slot (slice_get images k) declared e)
-virtual_there (Some k) x declared e = absurd (cc e)
+virtual_there x y declared e = grind arith
 
 -- what isn't virtual begins as it was
 real_begins : (slot : Option ℕ) (x : ObjectValue) (operand found : Operand) → option_map operand_of (in_slot slot x) ≡ Some operand → is_virtual operand ≡ false → in_slot slot (begun_as x found) ≡ in_slot slot x
-real_begins None (VirtualObject v) operand found e real = grind arith
-real_begins (Some k) (VirtualObject v) operand found e real = absurd (cc e)
-real_begins slot x operand found e real = refl
+real_begins slot x operand found e real = grind arith
 
 pub outline_of_virtual : (operand : Operand) → is_virtual operand ≡ true → (declared : Outline) × (operand ≡ Virtual declared)
-outline_of_virtual (Virtual declared) h = (declared, refl)
-outline_of_virtual operand h = absurd (cc h)
+outline_of_virtual operand h = grind arith
 
 -- what isn't virtual is what it was found to be
 pub known_kept : (operand : Operand) (known : Outline) → is_virtual operand ≡ false → as_known operand known ≡ operand
-known_kept (Virtual declared) known h = absurd (cc h)
-known_kept operand known h = refl
+known_kept operand known h = grind arith
 
 -- ---- a node's outputs as operands
 
@@ -82,12 +73,7 @@ pub written_operand : (is : Cell → Operand) (n : Node) (c : Cell) → writes n
 written_operand is n c w = grind (arith, In-map is c (outputs n) (In-from_same c (outputs n) w), In-from_same c (outputs n) w)
 
 pub no_fault : (n : Node) (is : Cell → Operand) → verdict_on n (operands_of is n) ≡ None → node_fault n.function (operands_of is n) ≡ None
-no_fault n is h = last (writes_twice n) (reads_own_output n) (node_fault n.function (operands_of is n)) h
-  where
-    last : (twice own : Bool) (fault : Option Verdict) → (if twice then Some MultipleWriters else (if own then Some InvalidGraph else fault)) ≡ None → fault ≡ None
-    last true own fault e = absurd (cc e)
-    last false true fault e = absurd (cc e)
-    last false false fault e = e
+no_fault n is h = grind (arith, cases_Bool (writes_twice n), cases_Bool (reads_own_output n))
 
 -- ---- as a graph begins to run
 
@@ -110,13 +96,11 @@ module _ (work : ℕ) (is : Cell → Operand) (nodes : List Node) (can : CanRun 
   -- a virtual image that is read is written
   pub virtual_written : (n : Node) (c : Cell) → In n nodes → names_cell n c ≡ true → is_virtual (is c) ≡ true → is_written nodes c ≡ true
   virtual_written n c i named v = elim (or_cases (reads n c) (writes n c) named) [
-    | inl r ↦ tight (is_written nodes c) (ap (λ b. b && not (is_written nodes c)) (sym v) ∙ fails-from_In (is_loose is nodes) c (inputs n) (fails-from_In (λ m. list_any (is_loose is nodes) (inputs m)) n nodes can.no_loose_end i) (In-from_same c (inputs n) r))
+    | inl r ↦
+        (let fails = fails-from_In (is_loose is nodes) c (inputs n) (fails-from_In (λ m. list_any (is_loose is nodes) (inputs m)) n nodes can.no_loose_end i) (In-from_same c (inputs n) r) in
+        grind (arith, fails, v))
     | inr w ↦ any-from_In (λ m. writes m c) n nodes i w
   ]
-    where
-      tight : (b : Bool) → (true && not b) ≡ false → b ≡ true
-      tight true e = refl
-      tight false e = absurd (cc e)
 
   -- an image stands for a virtual one that is written
   virtual_begins : (c : Cell) (x : ObjectValue) (v : VirtualImage) (d : Description) → ◌≡◌ {A = Option ℕ} c.slot None → x ≡ VirtualObject v → is_written nodes c ≡ true → known c ≡ Image d
@@ -170,17 +154,13 @@ module _ (work : ℕ) (is : Cell → Operand) (nodes : List Node) (can : CanRun 
 
 -- an operand is told by the skeleton
 pub operand-skeleton : (x : ObjectValue) → operand_of (skeleton x) ≡ operand_of x
-operand-skeleton (ImageObject image) = refl
-operand-skeleton x = refl
+operand-skeleton x = grind arith
 
 pub kind-operand : (x : ObjectValue) → operand_kind (operand_of x) ≡ object_kind x
-kind-operand (ImageObject image) = refl
-kind-operand x = refl
+kind-operand x = grind arith
 
 pub no_delay_written : (function : Function) → (parameters function).output ≢ kind.Delay
-no_delay_written Histogram e = cc
-no_delay_written MinMaxLoc e = cc
-no_delay_written function e = cc
+no_delay_written function e = grind arith
 
 -- no function writes a delay
 pub no_delay : (is : Cell → Operand) (nodes : List Node) (objects : List Named) → CellsStand is nodes objects → WritesNo kind.Delay nodes objects
@@ -188,13 +168,11 @@ no_delay is nodes objects stand c w e = grind (arith, In-from_any, or_right, no_
 
 -- what a node gives is of its first input's size, and of the format that is asked for
 described_one : (function : Function) (n : Node) (output : Output) (format : Format) (a : ImageValue) → description_of (image_of_one function n output format a) ≡ record { width = a.width; height = a.height; format = format }
-described_one NotBits n output format a = refl
-described_one function n output format a = refl
+described_one function n output format a = grind arith
 
 pub described_node : (n : Node) (output : Output) (format : Format) (a : ImageValue) (second : Option ObjectValue) → description_of (node_image n output format a second) ≡ record { width = a.width; height = a.height; format = format }
 described_node n output format a None = described_one n.function n output format a
-described_node n output format a (Some (ImageObject b)) = refl
-described_node n output format a (Some second) = refl
+described_node n output format a v = grind arith
 
 one_description : (a out : ImageValue) → same_size (description_of a) (description_of out) ≡ true → ◌≡◌ {A = Description} (record { width = a.width; height = a.height; format = out.format }) (description_of out)
 one_description a out same = grind (arith, and_parts (a.width == out.width) (a.height == out.height) same)
@@ -203,19 +181,15 @@ one_description a out same = grind (arith, and_parts (a.width == out.width) (a.h
 output_kept : (n : Node) (output : Output) (first : ObjectValue) (second : Option ObjectValue) (out : ObjectValue) → are_of_one_size (operand_of first) (operand_of out) ≡ true
     → operand_of (node_output n output first second out) ≡ operand_of out
 output_kept n output (ImageObject a) second (ImageObject out) same = ap Image (described_node n output out.format a second ∙ one_description a out same)
-output_kept n output (ImageObject a) second out same = refl
-output_kept n output first second out same = refl
+output_kept n output first second out same = grind arith
 
 given_kept : (n : Node) (output : Output) (first second out : Option ObjectValue) → ((x y : ObjectValue) → first ≡ Some x → out ≡ Some y → are_of_one_size (operand_of x) (operand_of y) ≡ true)
     → option_map operand_of (output_of n output first second out) ≡ option_map operand_of out
 given_kept n output (Some x) second (Some y) h = ap Some (output_kept n output x second y (h x y refl refl))
-given_kept n output None second out h = refl
-given_kept n output (Some x) second None h = refl
+given_kept n output z second out h = grind arith
 
 operand-shown : (o : Option ObjectValue) → option_map operand_of (option_map shown o) ≡ option_map operand_of o
-operand-shown None = refl
-operand-shown (Some (DelayObject images)) = refl
-operand-shown (Some x) = refl
+operand-shown x = grind arith
 
 -- what a node writes is of its first input's size
 one_size : (n : Node) (is : Cell → Operand) (c : Cell) → node_fault n.function (operands_of is n) ≡ None → writes n c ≡ true → are_of_one_size (is n.in1) (is c) ≡ true
@@ -226,13 +200,10 @@ one_size n is c none w =
     (In-right (is c) (option_to_list o.in2) (written_operands o) (written_operand is n c w))
   where
     sizes : (takes same : Bool) → (if not takes then Some InvalidFormat else (if same then None else Some InvalidDimension)) ≡ None → same ≡ true
-    sizes true true e = refl
-    sizes true false e = absurd (cc e)
-    sizes false same e = absurd (cc e)
+    sizes x same e = grind arith
 
 operand_is : (o : Option ObjectValue) (x : ObjectValue) (operand : Operand) → option_map operand_of o ≡ Some operand → o ≡ Some x → operand_of x ≡ operand
-operand_is None x operand f e = absurd (cc e)
-operand_is (Some y) x operand f e = grind arith
+operand_is x y operand f e = grind arith
 
 module _ (is : Cell → Operand) (nodes : List Node) (objects : List Named) (stand : CellsStand is nodes objects) (n : Node) (i : In n nodes) (none : node_fault n.function (operands_of is n) ≡ None) where
   gives_alike : (c : Cell) → writes n c ≡ true → option_map operand_of (given_in n (held objects) c) ≡ option_map operand_of (held objects c)

@@ -1,5 +1,5 @@
 -- What nodes write to an output, whose samples are taken out, and put back once they are written.
-use Rattle.std.proofs.Common.{◌≡◌, ◌*◌, length, true, ℤ, refl, List, Option, ap, ◌∙◌, sym, [], Some, None, subst, arith}
+use Rattle.std.proofs.Common.{◌≡◌, ◌*◌, length, true, ℤ, List, Option, ap, ◌∙◌, sym, [], Some, None, subst, arith}
 use Rattle.std.specs.Prelude.{unsigned_abs, ◌==◌, IfSome}
 use Rattle.std.specs.List.{count_by}
 use Rattle.std.proofs.lemmas.List.FromFn.{length-map-range_with_len}
@@ -9,7 +9,7 @@ use Rattle.std.proofs.lemmas.Bool.{and_parts}
 use Rattle.vx_base.specs.declared.node.Node.{Node}
 use Rattle.vx_base.specs.declared.format.Format.{Format}
 use Rattle.vx_base.specs.Rectangle.{Rectangle, empty}
-use Rattle.vx_base.specs.Description.{Description, same_size, sample_count}
+use Rattle.vx_base.specs.Description.{Description, same_size}
 use Rattle.vx_base.specs.Object.{ObjectValue, ImageObject, IsObject, object_kind}
 use Rattle.vx_base.specs.declared.output.Output.{Output}
 use Rattle.vx_base.specs.Outputs.{image_of_one, node_image, node_output}
@@ -29,7 +29,7 @@ use Rattle.vx_base.specs.declared.kind.Kind.{Kind}
 use Rattle.vx_base.specs.Function.{parameters}
 use Rattle.vx_base.specs.declared.function.Function.{Function}
 use Rattle.vx_base.specs.declared.function.Function.TheVariants.{NotBits}
-use Rattle.vx_base.proofs.NodeLaws.{takes_no_delay, takes_no_distribution, takes_no_extremes, takes_no_graph, takes_no_virtual}
+use Rattle.vx_base.proofs.NodeLaws.{takes_no_distribution}
 use Rattle.vx_base.specs.Cell.{Cell}
 use Rattle.object_table.specs.Context.{Context, with_objects}
 use Rattle.object_table.specs.Named.{Named, with_object}
@@ -82,15 +82,12 @@ module _ (n : Node) (output : Output) (a : ImageValue) (second : Option ObjectVa
 
 -- an object that is an image is one
 pub image_of_object : (object : ObjectValue) → object_kind object ≡ kind.Image → IsObject object → IsImage (image_value object)
-image_of_object (ImageObject image) e is = is
-image_of_object other e is = cc
+image_of_object other e is = grind arith
 
 -- what is written by a node to an image
 pub of_images : (n : Node) (output : Output) (first : ObjectValue) (second : Option ObjectValue) (out : ObjectValue) → object_kind first ≡ kind.Image → object_kind out ≡ kind.Image
     → ImageObject (node_image n output (image_value out).format (image_value first) second) ≡ node_output n output first second out
-of_images n output (ImageObject a) second (ImageObject b) h i = refl
-of_images n output (ImageObject a) second other h i = cc
-of_images n output other second b h i = cc
+of_images n output other second b h i = grind arith
 
 -- a kernel can run where an output is an image
 pub can_run : (n : Node) (first : ObjectValue) (second : Option ObjectValue) (out : ObjectValue) → RunsOn n first second out → object_kind out ≡ kind.Image → CanRunTo n (image_value first) second (image_value out)
@@ -99,15 +96,8 @@ can_run n first second other runs e = cc
 
 -- what a function reads beside its first input can be lent to a kernel
 is_read : (function : Function) (k : Kind) → (parameters function).second_input ≡ Some k → IsRead k
-is_read function kind.Image e = tt
-is_read function kind.Lut e = tt
-is_read function kind.Threshold e = tt
-is_read function kind.Convolution e = tt
-is_read function kind.Delay e = absurd (takes_no_delay function e)
 is_read function kind.Distribution e = absurd (takes_no_distribution function e)
-is_read function kind.Extremes e = absurd (takes_no_extremes function e)
-is_read function kind.Graph e = absurd (takes_no_graph function e)
-is_read function kind.VirtualImage e = absurd (takes_no_virtual function e)
+is_read function y e = grind arith
 
 -- a node's output that is an image, in a cell
 module _ (objects : List Named) (n : Node) (which : Output) (output : Cell) (h : RunsTo objects n output) (is_image : (parameters n.function).output ≡ kind.Image) where
@@ -156,22 +146,13 @@ module _ (objects : List Named) (n : Node) (which : Output) (output : Cell) (h :
     second_is_read = grind (arith, second_there, is_read)
 
   module _ (d : Description) (described : d ≡ description_of out) where
-    -- as many samples are taken out as the image has
-    pub taken_count : (samples : List ℤ) → samples ≡ out.samples → length samples ≡ sample_count d
-    taken_count samples is = ap length is ∙ (image_of_object (cell_object objects output) out_kind h.runs.out_is).size ∙ ap sample_count (sym described)
-
-    pub taken_format : (format : Format) → format ≡ out.format → d.format ≡ format
-    taken_format format is = ap (λ (e : Description). e.format) described ∙ sym is
-
     module _ (after : Context) (left : ObjectValue) (before : Context) (taken : after ≡ with_objects before (with_object objects output left)) (a : ImageValue) (b : Option ObjectValue)
         (is_first : a ≡ image_held after.objects n.in1) (is_second : b ≡ option_map (cell_object after.objects) n.in2) where
       -- a kernel can run on what is lent to it
       pub runs_there : CanRunTo n a b (image_over d empty [])
       runs_there =
-          subst (λ (e : Description). CanRunTo n a b (image_over e empty [])) (sym described)
-          (subst (λ (v : ImageValue). CanRunTo n v b (image_over (description_of out) empty [])) (sym (is_first ∙ first_there after left before taken))
-          (subst (λ (s : Option ObjectValue). CanRunTo n first s (image_over (description_of out) empty [])) (sym (is_second ∙ second_there after left before taken))
-          (record { node = can.node; kind = can.kind; formats = can.formats; size = can.size; second_size = can.second_size })))
+          rw (described, is_first ∙ first_there after left before taken, is_second ∙ second_there after left before taken)
+          (record { node = can.node; kind = can.kind; formats = can.formats; size = can.size; second_size = can.second_size })
 
       -- the output is what the node gives
       pub put_back : left ≡ with_samples (cell_object objects output) out.valid [] → (back : Context) (area : Rectangle) (samples : List ℤ) (format : Format)

@@ -1,11 +1,11 @@
 -- Nodes that write two outputs at once: the samples of both are taken out, and put back once they are written.
 use Rattle.std.proofs.Common.{◌≡◌, ℕ, true, ℤ, List, [], ◌∷◌, Option, Some, None, refl, sym, ap, subst, ◌∙◌, arith}
-use Rattle.std.specs.Prelude.{◌==◌, ◌||◌, is_some, is_none}
-use Rattle.std.specs.Option.{option_map, option_and_then}
+use Rattle.std.specs.Prelude.{◌==◌}
+use Rattle.std.specs.Option.{option_map}
 use Rattle.std.proofs.lemmas.Bool.{and_parts, eqb-true, cases_Bool}
 use Rattle.std.proofs.lemmas.List.{set_comm}
 use Rattle.vx_base.specs.declared.format.Format.{Format}
-use Rattle.vx_base.specs.declared.format.Format.TheVariants.{U8, S16}
+use Rattle.vx_base.specs.declared.format.Format.TheVariants.{S16}
 use Rattle.vx_base.specs.declared.function.Function.{Function}
 use Rattle.vx_base.specs.declared.function.Function.TheVariants.{Sobel}
 use Rattle.vx_base.specs.declared.kind.Kind.TheVariants as kind
@@ -17,7 +17,7 @@ use Rattle.vx_base.specs.Description.{Description}
 use Rattle.vx_base.specs.Formats.{takes_formats}
 use Rattle.vx_base.specs.Function.{parameters}
 use Rattle.vx_base.specs.Image.{ImageValue, IsImage, description_of, image_over}
-use Rattle.vx_base.specs.Node.{IsNode, has_operands}
+use Rattle.vx_base.specs.Node.{IsNode}
 use Rattle.vx_base.specs.Object.{ObjectValue, ImageObject, DelayObject, object_kind, object_format}
 use Rattle.vx_base.specs.Outputs.{node_image}
 use Rattle.vx_base.specs.Rectangle.{Rectangle, empty}
@@ -42,10 +42,7 @@ use Rattle.graph_run.proofs.RunLemmas.{apart_back, has_of_node, output_beside, r
 -- what is written to two slots of one object can be written in any order
 slots_in_any_order : (j k : Option ℕ) (x y object : ObjectValue) → TwoSlots j k → with_slot j x (with_slot k y object) ≡ with_slot k y (with_slot j x object)
 slots_in_any_order (Some j) (Some k) (ImageObject a) (ImageObject b) (DelayObject images) apart = ap DelayObject (set_comm images k j b a (λ e. apart (sym e)))
-slots_in_any_order (Some j) (Some k) (ImageObject a) y (DelayObject images) apart = refl
-slots_in_any_order (Some j) (Some k) x y object apart = refl
-slots_in_any_order None k x y object apart = absurd apart
-slots_in_any_order (Some j) None x y object apart = absurd apart
+slots_in_any_order j k x y object apart = grind arith
 
 one_of_two : (o : Named) (a b : Cell) (x y : ObjectValue) → AreApart a b → with_object (with_object (o ∷ []) b y) a x ≡ with_object (with_object (o ∷ []) a x) b y
 one_of_two o a b x y apart = grind (arith, cases_Bool (o.name == a.name), cases_Bool (o.name == b.name), eqb-true, slots_in_any_order)
@@ -62,39 +59,21 @@ pub writes_images : (n : Node) → n.function ≡ Sobel → (parameters n.functi
 writes_images n is = ap (λ (f : Function). (parameters f).output) is
 
 pub reads_one : (n : Node) → IsNode n → n.function ≡ Sobel → n.in2 ≡ None
-reads_one n node is =
-    let has = subst (λ (f : Function). has_operands (parameters f) n ≡ true) is (has_of_node n node.shape) in
-    none n.in2 (and_parts (is_none n.in2) (is_some n.out1 || is_some n.out2) has).0
-  where
-    none : (o : Option Cell) → is_none o ≡ true → o ≡ None
-    none None e = refl
-    none (Some c) e = cc
+reads_one n node is = grind (arith, has_of_node, and_parts)
 
 -- a node that has two outputs is of that function
 pub has_two : (n : Node) (a b : Cell) → IsNode n → n.out1 ≡ Some a → n.out2 ≡ Some b → n.function ≡ Sobel
-has_two n a b node first second = of n.function (has_of_node n node.shape)
-  where
-    of : (f : Function) → has_operands (parameters f) n ≡ true → f ≡ Sobel
-    of Sobel h = refl
-    of f h = grind (arith, and_parts)
+has_two n a b node first second = grind (arith, has_of_node, and_parts)
 
 sixteen_bits : (a : Format) (second : Option Format) (format : Format) → takes_formats Sobel a second (Some format) ≡ true → format ≡ S16
-sixteen_bits U8 None S16 h = refl
-sixteen_bits U8 None format h = cc
-sixteen_bits U8 (Some b) format h = cc
-sixteen_bits a second format h = cc
+sixteen_bits a second format h = grind arith
 
 image_of_sixteen : (a : Format) (second : Option Format) (out : ObjectValue) → object_kind out ≡ kind.Image → takes_formats Sobel a second (object_format out) ≡ true → (image_value out).format ≡ S16
-image_of_sixteen a second (ImageObject image) e h = sixteen_bits a second image.format h
-image_of_sixteen a second out e h = cc
+image_of_sixteen a second out e h = grind arith
 
 -- what it writes is of 16 bits
 pub writes_shorts : (objects : List Named) (n : Node) (output : Cell) → RunsTo objects n output → n.function ≡ Sobel → (image_held objects output).format ≡ S16
-writes_shorts objects n output h is =
-    let a = (image_held objects n.in1).format in
-    let second = option_and_then object_format (option_map (cell_object objects) n.in2) in
-    let out = cell_object objects output in
-    image_of_sixteen a second out (h.runs.out_kind ∙ writes_images n is) (subst (λ (f : Function). takes_formats f a second (object_format out) ≡ true) is h.runs.formats)
+writes_shorts objects n output h is = grind (arith, image_of_sixteen, writes_images)
 
 -- a gradient that is written to all rows of an output is what the node gives
 pub gradient_whole : (n : Node) (which : Output) (a : ImageValue) (d : Description) (samples : List ℤ) (old new : ImageMut) → n.function ≡ Sobel → CanRunTo n a None (image_over d empty [])
@@ -115,9 +94,6 @@ module _ (before : Context) (n : Node) (one other : Cell) (h : RunsTo before.obj
 
   abbrev left_one : ObjectValue
   left_one = with_samples (cell_object l one) (image_held l one).valid []
-
-  abbrev new_one : ObjectValue
-  new_one = output_of l n First one
 
   abbrev new_other : ObjectValue
   new_other = output_of l n Second other
@@ -144,10 +120,7 @@ module _ (before : Context) (n : Node) (one other : Cell) (h : RunsTo before.obj
 
   -- both outputs, in the other order
   both : with_object late one (output_of late n First one) ≡ with_output (with_output l n First (Some one)) n Second (Some other)
-  both =
-      ap (with_object late one) (output_beside l n other one new_other h k.in1_apart k.in2_apart apart_too First)
-      ∙ in_any_order l one other new_one new_other apart_too
-      ∙ ap (with_object (with_object l one new_one) other) (sym (output_beside l n one other new_one k h.in1_apart h.in2_apart apart Second))
+  both = grind (arith, output_beside, apart_too, in_any_order)
 
   module _ (one_out : Context) (is_one_out : one_out ≡ with_objects before (with_object l one left_one)) where
     pub runs_other : RunsTo one_out.objects n other

@@ -1,16 +1,16 @@
 -- The first elements of a list, which are written.
-use Rattle.std.proofs.Common.{◌≡◌, ◌≤◌, ◌+◌, ℤ, Vec, Global, ◌++◌, ◌∙◌, ℕ, List, length, take, drop, ap, sym, arith, length-append}
+use Rattle.std.proofs.Common.{◌≡◌, ◌≤◌, ◌+◌, ℤ, Vec, Global, ◌++◌, ◌∙◌, ℕ, List, length, map, pos, take, drop, ap, arith, length-append}
 use Rattle.std.specs.Vec.{with_items}
-use Rattle.std.proofs.lemmas.List.{take-take, take-append-le, take_all, append_assoc, with_items_is}
+use Rattle.std.proofs.lemmas.List.{take-map, take-take, take-append-le, take_all, append_assoc, with_items_is}
 
 -- they stand there
 pub first_written : {X : Type 0} (n len : ℕ) (first others items : List X) → length first ≡ n → n ≤ len → take n (take len ((first ++ others) ++ drop (length (first ++ others)) items)) ≡ first
 first_written n len first others items long room =
-    let left = drop (length (first ++ others)) items in
-    take-take n len ((first ++ others) ++ left) room
-    ∙ ap (take n) (append_assoc first others left)
-    ∙ take-append-le n first (others ++ left) (omega arith)
-    ∙ take_all n first (omega arith)
+    grind (arith, take-take, append_assoc, take-append-le, take_all)
+
+-- so do numbers among samples
+pub numbers_written : (n len : ℕ) (first others items : List ℕ) → length first ≡ n → n ≤ len → take n (map pos (take len ((first ++ others) ++ drop (length (first ++ others)) items))) ≡ map pos first
+numbers_written n len first others items long room = take-map pos n (take len ((first ++ others) ++ drop (length (first ++ others)) items)) ∙ ap (map pos) (first_written n len first others items long room)
 
 -- so they do in a vector
 module _ (v : Vec ℤ Global) (first others whole front : List ℤ) (all : whole ≡ v.items) (n : ℕ) (long : length whole ≡ v.len) (written : length first ≡ length front)

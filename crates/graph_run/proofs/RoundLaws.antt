@@ -1,6 +1,5 @@
 -- Rounds and runs of objects, as rounds and runs of what is seen at each cell.
-use Rattle.std.proofs.Common.{◌≡◌, ℕ, zero, suc, Bool, true, false, if◌then◌else◌, List, [], ◌∷◌, map, refl, sym, ap, ◌∙◌, inl, inr, Option, Some, None, arith, rules}
-use Rattle.std.specs.Prelude.{◌⊎◌}
+use Rattle.std.proofs.Common.{◌≡◌, ℕ, zero, suc, Bool, true, false, List, [], ◌∷◌, map, refl, sym, ap, ◌∙◌, inl, inr, Option, None, arith, rules}
 use Rattle.std.specs.Option.{option_map, option_or}
 use Rattle.std.specs.List.{list_any, flat_map}
 use Rattle.std.proofs.lemmas.Bool.{cases_Bool, or_parts}
@@ -17,7 +16,7 @@ use Rattle.graph_verify.specs.Rounds as cells
 use Rattle.graph_verify.specs.Rounds.{OneWriter}
 use Rattle.graph_run.specs.Graph.{round_of_nodes, rounds_of_nodes, one_by_one}
 use Rattle.graph_run.specs.Solution.{WritesNo, form_held, label_of}
-use Rattle.graph_verify.proofs.MemberLemmas.{In-append, In-from_any, any-from_In}
+use Rattle.graph_verify.proofs.MemberLemmas.{In-from_any, any-from_In, In-from_flat_map}
 use Rattle.graph_run.proofs.ObjectLaws.{shown}
 use Rattle.graph_run.proofs.HeldLaws.{seen, AreWrites, last_to, last_to-append, or_assoc, map-or, kind-form_seen, seen-with_written, form-with_written, labels-with_written}
 use Rattle.graph_run.proofs.NodeLaws.{given_in, shown-given_in, last_written, last_elsewhere, AreWrites-written}
@@ -28,13 +27,8 @@ module _ {N C V : Type 0} (writes : N → C → Bool) (value : N → (C → V) �
   -- where it has one writer, that node's value
   pub round_written : (ns : List N) (held : C → V) (c : C) (n : N) → cells.OneWriter writes ns → In n ns → writes n c ≡ true → cells.round writes value ns held c ≡ value n held c
   round_written [] held c n one i w = absurd i
-  round_written (m ∷ ns) held c n one i w = elim (cases_Bool (writes m c)) [
-    | inl e ↦ (let same : m ≡ n = one m n c (inl refl) i e w in rw e (ap (λ z. value z held c) same))
-    | inr e ↦ elim i [
-      | inl same ↦ (let f : writes m c ≡ true = ap (λ z. writes z c) (sym same) ∙ w in absurd (cc))
-      | inr j ↦ rw e (round_written ns held c n (λ x y d p q. one x y d (inr p) (inr q)) j w)
-    ]
-  ]
+  round_written (m ∷ ns) held c n one (inl same) w = grind (arith, same)
+  round_written (m ∷ ns) held c n one (inr j) w = grind (arith, cases_Bool (writes m c), one m n c (inl refl) (inr j), round_written ns held c n (λ x y d p q. one x y d (inr p) (inr q)) j w)
 
   -- where it has none, what it held
   pub round_other : (ns : List N) (held : C → V) (c : C) → list_any (λ n. writes n c) ns ≡ false → cells.round writes value ns held c ≡ held c
@@ -52,43 +46,31 @@ none_last : (ns : List Node) (held : Cell → Option ObjectValue) (c : Cell) →
 none_last [] held c h = refl
 none_last (n ∷ ns) held c h =
     let both = or_parts (writes n c) (list_any (λ m. writes m c) ns) h in
-    last_to-append c (written_by n held) (flat_map (λ m. written_by m held) ns)
-    ∙ rw (none_last ns held c both.1, last_elsewhere n held c both.0) refl
+    grind (arith, last_to-append c (written_by n held) (flat_map (λ m. written_by m held) ns), none_last ns held c both.1, last_elsewhere n held c both.0)
 
 absorbed : {X : Type 0} (o p q : Option X) → option_or o p ≡ q → option_or o q ≡ q
-absorbed None p q h = refl
-absorbed (Some x) p q h = h
+absorbed x p q h = grind arith
 
 last_in_round : (ns : List Node) (held : Cell → Option ObjectValue) (c : Cell) → OneWriter writes ns
     → option_or (last_to c (flat_map (λ n. written_by n held) ns)) (held c) ≡ cells.round writes given_in ns held c
 last_in_round [] held c one = refl
 last_in_round (n ∷ ns) held c one =
     let later : Option ObjectValue = last_to c (flat_map (λ m. written_by m held) ns) in
+    let less : OneWriter writes ns = λ x y d p q. one x y d (inr p) (inr q) in
+    let h = last_in_round ns held c less in
     ap (λ z. option_or z (held c)) (last_to-append c (written_by n held) (flat_map (λ m. written_by m held) ns))
     ∙ or_assoc later (last_to c (written_by n held)) (held c)
     ∙ ap (option_or later) (last_written n held c)
-    ∙ either (cases_Bool (writes n c)) (cases_Bool (list_any (λ m. writes m c) ns))
-    (last_in_round ns held c (λ x y d p q. one x y d (inr p) (inr q)))
-  where
-    either : (writes n c ≡ true) ⊎ (writes n c ≡ false) → (list_any (λ m. writes m c) ns ≡ true) ⊎ (list_any (λ m. writes m c) ns ≡ false)
-        → option_or (last_to c (flat_map (λ m. written_by m held) ns)) (held c) ≡ cells.round writes given_in ns held c
-        → option_or (last_to c (flat_map (λ m. written_by m held) ns)) (if writes n c then given_in n held c else held c)
-        ≡ (if writes n c then given_in n held c else cells.round writes given_in ns held c)
-    either (inl w) (inl some) h =
-        let m = In-from_any (λ z. writes z c) ns some in
-        let same : m.0 ≡ n = one m.0 n c (inr m.1) (inl refl) m.2 w in
-        let gives : cells.round writes given_in ns held c ≡ given_in n held c =
-        round_written writes given_in ns held c m.0 (λ x y d p q. one x y d (inr p) (inr q)) m.1 m.2 ∙ ap (λ z. given_in z held c) same in
-        rw w (absorbed (last_to c (flat_map (λ z. written_by z held) ns)) (held c) (given_in n held c) (h ∙ gives))
-    either (inl w) (inr none) h = rw (w, none_last ns held c none) refl
-    either (inr w) _ h = rw w h
-
-In-from_flat_map : {X A : Type 0} (f : X → List A) (xs : List X) (a : A) → In a (flat_map f xs) → (x : X) × In x xs × In a (f x)
-In-from_flat_map f [] a h = absurd h
-In-from_flat_map f (x ∷ xs) a h = elim (In-append a (f x) (flat_map f xs) h) [
-  | inl i ↦ (x, inl refl, i)
-  | inr i ↦ (let r = In-from_flat_map f xs a i in (r.0, inr r.1, r.2))
-]
+    ∙ elim (cases_Bool (writes n c)) [
+      | inl w ↦ elim (cases_Bool (list_any (λ m. writes m c) ns)) [
+        | inl some ↦
+            (let m = In-from_any (λ z. writes z c) ns some in
+            let same : m.0 ≡ n = one m.0 n c (inr m.1) (inl refl) m.2 w in
+            rw w (absorbed later (held c) (given_in n held c) (h ∙ round_written writes given_in ns held c m.0 less m.1 m.2 ∙ ap (λ z. given_in z held c) same)))
+        | inr none ↦ rw (w, none_last ns held c none) refl
+      ]
+      | inr w ↦ rw w h
+    ]
 
 AreWrites-node : (nodes : List Node) (objects : List Named) → WritesNo kind.Delay nodes objects → (n : Node) → In n nodes → AreWrites objects (written_by n (held objects))
 AreWrites-node nodes objects whole n i = AreWrites-written objects n (λ c w. whole c (any-from_In (λ m. writes m c) n nodes i w))

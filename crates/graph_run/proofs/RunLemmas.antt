@@ -1,44 +1,41 @@
 -- Nodes on what their cells hold, and what they write.
-use Rattle.std.proofs.Common.{◌≡◌, ◌≢◌, ℕ, true, false, List, [], ◌∷◌, ◌++◌, Option, Some, None, IsTrue, refl, sym, ap, subst, ◌∙◌, arith, rules}
-use Rattle.std.specs.Prelude.{All, ◌==◌, ◌&&◌, not, is_some, is_none, unwrap_or, if◌then◌else◌, IfSome, option_to_list}
+use Rattle.std.proofs.Common.{◌≡◌, ◌≢◌, ℕ, true, false, List, [], ◌∷◌, ◌++◌, Option, Some, None, refl, sym, ap, subst, ◌∙◌, arith, rules}
+use Rattle.std.specs.Prelude.{All, ◌==◌, ◌&&◌, is_some, is_none, unwrap_or, if◌then◌else◌, IfSome, option_to_list}
 use Rattle.std.specs.List.{list_any, list_all}
 use Rattle.std.specs.List.Sorted.{IsStrictlyIncreasing}
 use Rattle.std.specs.Option.{option_map, option_and_then}
 use Rattle.std.proofs.lemmas.List.Folds.{list_any-append, list_all-append}
-use Rattle.std.proofs.lemmas.Bool.{eq-eqb, eqb-false, and_parts, or_parts}
+use Rattle.std.proofs.lemmas.Bool.{eq-eqb, and_parts, or_parts}
 use Rattle.vx_base.specs.declared.function.Function.{Function}
-use Rattle.vx_base.specs.declared.function.Function.TheVariants.{AndBits}
 use Rattle.vx_base.specs.declared.output.Output.{Output}
 use Rattle.vx_base.specs.declared.output.Output.TheVariants.{First, Second}
 use Rattle.vx_base.specs.declared.kind.Kind.{Kind}
 use Rattle.vx_base.specs.declared.kind.Kind.TheVariants as kind
 use Rattle.vx_base.specs.declared.node.Node.{Node}
-use Rattle.vx_base.specs.Cell.{Cell, same_slot, same_cell, cell_of, cell_of}
+use Rattle.vx_base.specs.Cell.{Cell, same_cell, cell_of, cell_of}
 use Rattle.vx_base.specs.Description.{Description, same_size}
 use Rattle.vx_base.specs.Function.{parameters}
 use Rattle.vx_base.specs.Image.{ImageValue, IsImage, description_of}
 use Rattle.vx_base.specs.Statistics.{extremes}
 use Rattle.vx_base.specs.Node.{IsNode, is_node, has_amount, has_operands, all_named, given, outputs, second_kind}
-use Rattle.vx_base.specs.Object.{ObjectValue, ImageObject, DelayObject, DistributionObject, ExtremesObject, IsObject, object_kind, object_format}
-use Rattle.vx_base.specs.Outputs.{node_image, node_output, written_in, written_by}
+use Rattle.vx_base.specs.Object.{ObjectValue, ImageObject, DistributionObject, ExtremesObject, IsObject, object_kind, object_format}
+use Rattle.vx_base.specs.Outputs.{node_output, written_in, written_by}
 use Rattle.image_core.specs.Fits.{SecondHasSize}
 use Rattle.graph_verify.specs.declared.operand.Operands.{Operands}
 use Rattle.graph_verify.specs.declared.operand.Operand.{Operand}
-use Rattle.graph_verify.specs.declared.verdict.Verdict.TheVariants.{InvalidFormat, InvalidDimension}
 use Rattle.graph_verify.specs.Links.{has_twice}
-use Rattle.graph_verify.specs.Operand.{operand_of, operands_of, operand_format, are_of_one_size, written_operands, other_operands}
-use Rattle.graph_verify.specs.Verdict.{writes_twice, reads_own_output, takes_operands, node_fault, verdict_on}
+use Rattle.graph_verify.specs.Operand.{operand_of, operands_of, operand_format, are_of_one_size}
+use Rattle.graph_verify.specs.Verdict.{writes_twice, reads_own_output, node_fault}
 use Rattle.graph_verify.proofs.SuitLemmas.{passed, met, Suits, no_fault_suits}
-use Rattle.object_table.specs.Delay.{in_slot, object_in}
 use Rattle.object_table.specs.Named.{Named, held, with_object, with_written}
 use Rattle.object_table.specs.Object.{image_value}
 use Rattle.object_table.specs.Table.{object_under, IsUnder, cell_object, image_held}
 use Rattle.object_table.proofs.HeldLemmas.{names_of, held_is}
 use Rattle.graph_run.specs.Lasting.{lasting, Lasts}
 use Rattle.graph_run.specs.Operands.{operand_held}
-use Rattle.graph_run.specs.Steps.{Holds, TwoSlots, AreApart, RunsOn, RunsTo, counted_in, output_of, with_output}
-use Rattle.graph_run.specs.Turns.{HoldsKind}
-use Rattle.graph_run.proofs.FoundLemmas.{OfOperands}
+use Rattle.graph_run.specs.Steps.{Holds, AreApart, RunsOn, RunsTo, counted_in, output_of, with_output}
+use Rattle.graph_run.specs.Turns.{HoldsKind, CanRunNow}
+use Rattle.graph_run.proofs.FoundLemmas.{OfOperands, of_operands}
 use Rattle.graph_run.proofs.CellLemmas.{object_beside, object_if_beside, holds_beside, hold_beside, image_beside, there_is, kind_there, holds_there, operand_there, Lasts-with_object}
 use Rattle.graph_run.proofs.LastingLemmas.{images-last, Lasts-trans, Lasts-names}
 use Rattle.graph_run.proofs.OutputLemmas.{image_of_object, description_kept, length-histogram}
@@ -46,16 +43,6 @@ use Rattle.graph_run.proofs.OperandLaws.{no_delay_written}
 use Rattle.vx_base.proofs.NodeLaws.{node_image_is}
 
 -- ---- cells
-
--- two slots, or not one object: where neither is a delay as a whole
-two_slots : (j k : Option ℕ) (object : ObjectValue) (a b : Kind) → option_map object_kind (in_slot j object) ≡ Some a → option_map object_kind (in_slot k object) ≡ Some b
-    → a ≢ kind.Delay → b ≢ kind.Delay → same_slot j k ≡ false → TwoSlots j k
-two_slots (Some j) (Some k) object a b at_j at_k no_a no_b differ = eqb-false j k differ
-two_slots None None object a b at_j at_k no_a no_b differ = cc
-two_slots None (Some k) (DelayObject images) a b at_j at_k no_a no_b differ = let is : a ≡ kind.Delay = cc in no_a is
-two_slots None (Some k) object a b at_j at_k no_a no_b differ = cc
-two_slots (Some j) None (DelayObject images) a b at_j at_k no_a no_b differ = let is : b ≡ kind.Delay = cc in no_b is
-two_slots (Some j) None object a b at_j at_k no_a no_b differ = cc
 
 -- two cells that aren't one are apart
 apart : (objects : List Named) (a b : Cell) (k l : Kind) → k ≢ kind.Delay → l ≢ kind.Delay → HoldsKind objects (a, k) → HoldsKind objects (b, l) → same_cell a b ≡ false → AreApart a b
@@ -65,8 +52,7 @@ apart objects a b k l no_k no_l h i differ names = grind (arith, eq-eqb a.name b
 
 -- no function reads a delay as a whole
 second_no_delay : (function : Function) → unwrap_or (parameters function).second_input kind.Image ≢ kind.Delay
-second_no_delay AndBits = λ e. cc
-second_no_delay other = λ e. cc
+second_no_delay other = grind arith
 
 pub has_of_node : (n : Node) → is_node n ≡ true → has_operands (parameters n.function) n ≡ true
 has_of_node n shape = (and_parts (has_operands (parameters n.function) n) (all_named n) (and_parts (has_amount (parameters n.function) n.policy n.amount) (has_operands (parameters n.function) n && all_named n) shape).1).0
@@ -77,12 +63,10 @@ no_image e = cc
 -- ---- the objects that a node reads and writes
 
 pub same_format : (object : ObjectValue) → operand_format (operand_of object) ≡ object_format object
-same_format (ImageObject image) = refl
-same_format other = refl
+same_format other = grind arith
 
 pub same_formats : (second : Option ObjectValue) → option_and_then operand_format (option_map operand_of second) ≡ option_and_then object_format second
-same_formats None = refl
-same_formats (Some object) = same_format object
+same_formats x = grind arith
 
 swapped : (a b : Description) → same_size a b ≡ true → same_size b a ≡ true
 swapped a b e = grind (arith, and_parts (a.width == b.width) (a.height == b.height) e)
@@ -99,8 +83,7 @@ second_fits a (Some object) e = object_fits a object (and_parts (are_of_one_size
 -- the cells of two lists, none of which a second input is
 in2_reads : (cell : Option Cell) (xs ys : List Cell) → list_any (λ a. list_any (same_cell a) (xs ++ ys)) (given cell) ≡ false
     → (list_any (λ a. list_any (same_cell a) xs) (given cell) ≡ false) × (list_any (λ a. list_any (same_cell a) ys) (given cell) ≡ false)
-in2_reads None xs ys e = (refl, refl)
-in2_reads (Some c) xs ys e = grind (arith, or_parts, list_any-append)
+in2_reads cell xs ys e = grind (arith, or_parts, list_any-append)
 
 -- writes one after the other
 with_written-append : (objects : List Named) (written others : List (Cell × ObjectValue)) → with_written objects (written ++ others) ≡ with_written (with_written objects written) others
@@ -132,23 +115,25 @@ operands_there objects n =
       out2 = option_map operand_of (option_map (cell_object objects) n.out2);
     }
 
-module _ (n : Node) (node : IsNode n) where
-  runs_on : (first : ObjectValue) (second : Option ObjectValue) (out : ObjectValue)
+module _ (n : Node) where
+  runs_on : IsNode n → (first : ObjectValue) (second : Option ObjectValue) (out : ObjectValue)
       → object_kind first ≡ kind.Image → object_kind out ≡ (parameters n.function).output → IsObject first → IfSome second IsObject → IsObject out → IfSome second (λ object. (parameters n.function).second_input ≡ Some (object_kind object))
       → Suits n.function (operand_of first) (option_and_then operand_format (option_map operand_of second)) (operand_of out) → list_all (are_of_one_size (operand_of first)) (option_to_list (option_map operand_of second)) ≡ true
       → RunsOn n first second out
-  runs_on (ImageObject a) second out h i is_first is_second is_out k suits sizes = grind (arith, same_formats, same_format, second_fits, object_fits)
-  runs_on other second out h i is_first is_second is_out k suits sizes = cc
+  runs_on node (ImageObject a) second out h i is_first is_second is_out k suits sizes = grind (arith, same_formats, same_format, second_fits, object_fits)
+  runs_on node other second out h i is_first is_second is_out k suits sizes = cc
 
   -- a second input is what the function has there
   second_wanted : (objects : List Named) (cell : Option Cell) (s : Option Kind) → (if is_some s then is_some cell else is_none cell) ≡ true → IfSome cell (λ c. HoldsKind objects (c, unwrap_or s kind.Image))
       → IfSome (option_map (cell_object objects) cell) (λ object. s ≡ Some (object_kind object))
-  second_wanted objects None s has h = tt
-  second_wanted objects (Some c) None has h = cc
   second_wanted objects (Some c) (Some s) has h = ap Some (sym (kind_there objects (c, s) h))
+  second_wanted objects y s has h = grind arith
 
   -- what a node reads and writes, where its cells hold what its function has there
-  module _ (objects : List Named) (are : All (λ o. IsObject o.object) objects) (h : OfOperands (HoldsKind objects) n) (verdict : verdict_on n (operands_of (operand_held objects) n) ≡ None) where
+  module _ (objects : List Named) (are : All (λ o. IsObject o.object) objects) (can : CanRunNow objects n) where
+    h : OfOperands (HoldsKind objects) n
+    h = of_operands (HoldsKind objects) n can.kinds
+
     abbrev wanted : Kind
     wanted = (parameters n.function).output
 
@@ -164,13 +149,10 @@ module _ (n : Node) (node : IsNode n) where
         grind (arith, operand_there objects n.in1 (holds_there objects (n.in1, kind.Image) h.in1), holds_there objects (n.in1, kind.Image) h.in1, if_there n.in2 (second_kind n) h.in2, if_there n.out1 wanted h.out1, if_there n.out2 wanted h.out2)
 
     parts : (writes_twice n ≡ false) × (reads_own_output n ≡ false) × (node_fault n.function (operands_there objects n) ≡ None)
-    parts = grind (arith, passed, there)
+    parts = grind (arith, passed, there, can.verdict)
 
     second_sizes : list_all (are_of_one_size (operand_of (cell_object objects n.in1))) (option_to_list (option_map operand_of (option_map (cell_object objects) n.in2))) ≡ true
-    second_sizes =
-        let o = operands_there objects n in
-        let sizes = met (list_all (are_of_one_size o.in1) (other_operands o)) InvalidDimension (passed (not (takes_operands n.function o)) InvalidFormat _ parts.2).1 in
-        (and_parts (list_all (are_of_one_size o.in1) (option_to_list o.in2)) (list_all (are_of_one_size o.in1) (written_operands o)) (sym (list_all-append (are_of_one_size o.in1) (option_to_list o.in2) (written_operands o)) ∙ sizes)).0
+    second_sizes = grind (arith, met, passed, parts, and_parts, list_all-append)
 
     -- the second input is apart from an output
     second_apart : (second : Option Cell) (beside : Kind) (cell : Cell) → beside ≢ kind.Delay → IfSome second (λ c. HoldsKind objects (c, beside)) → HoldsKind objects (cell, wanted)
@@ -200,9 +182,9 @@ module _ (n : Node) (node : IsNode n) where
           in1_apart = apart objects n.in1 cell kind.Image wanted no_image (no_delay_written n.function) h.in1 holds differ;
           in2_apart = second.1;
           runs =
-              runs_on (cell_object objects n.in1) (option_map (cell_object objects) n.in2) (cell_object objects cell) (kind_there objects (n.in1, kind.Image) h.in1) (kind_there objects (cell, wanted) holds)
+              runs_on can.node (cell_object objects n.in1) (option_map (cell_object objects) n.in2) (cell_object objects cell) (kind_there objects (n.in1, kind.Image) h.in1) (kind_there objects (cell, wanted) holds)
               (object_is n.in1 (holds_there objects (n.in1, kind.Image) h.in1)) (object_if_is n.in2 second.0) (object_is cell (holds_there objects (cell, wanted) holds))
-              (second_wanted objects n.in2 (parameters n.function).second_input (and_parts (if is_some (parameters n.function).second_input then is_some n.in2 else is_none n.in2) _ (has_of_node n node.shape)).0 h.in2)
+              (second_wanted objects n.in2 (parameters n.function).second_input (and_parts (if is_some (parameters n.function).second_input then is_some n.in2 else is_none n.in2) _ (has_of_node n can.node.shape)).0 h.in2)
               suits second_sizes;
         }
 
@@ -222,11 +204,10 @@ module _ (n : Node) (node : IsNode n) where
     -- two outputs are apart
     outputs_apart : (one other : Option Cell) → IfSome one (λ c. HoldsKind objects (c, wanted)) → IfSome other (λ c. HoldsKind objects (c, wanted)) → has_twice (given one ++ given other) ≡ false
         → IfSome one (λ a. IfSome other (λ b. AreApart b a))
-    outputs_apart None other s t e = tt
-    outputs_apart (Some a) None s t e = tt
     outputs_apart (Some a) (Some b) s t e =
         let differ = (or_parts (same_cell a b) false (or_parts (list_any (same_cell a) (b ∷ [])) false e).0).0 in
         apart_back a b (apart objects a b wanted wanted (no_delay_written n.function) (no_delay_written n.function) s t differ)
+    outputs_apart x other s t e = grind arith
 
     pub two_outputs : IfSome n.out1 (λ a. IfSome n.out2 (λ b. AreApart b a))
     two_outputs = outputs_apart n.out1 n.out2 h.out1 h.out2 parts.0
@@ -236,9 +217,8 @@ module _ (n : Node) (node : IsNode n) where
     runs_then = after n.out1 n.out2 runs_first runs_second two_outputs
       where
         after : (one other : Option Cell) → IfSome one (RunsTo objects n) → IfSome other (RunsTo objects n) → IfSome one (λ a. IfSome other (λ b. AreApart b a)) → IfSome other (RunsTo (with_output objects n First one) n)
-        after None other r s e = s
-        after (Some a) None r s e = tt
         after (Some a) (Some b) r s e = runs_beside objects n a b (output_of objects n First a) s r.in1_apart r.in2_apart e
+        after x other r s e = grind arith
 
     second_held : (cell : Option Cell) (k : Kind) → IfSome cell (λ c. HoldsKind objects (c, k)) → option_and_then (held objects) cell ≡ option_map (cell_object objects) cell
     second_held None k s = refl
@@ -252,15 +232,12 @@ module _ (n : Node) (node : IsNode n) where
         grind (arith, there_is objects n.in1 (holds_there objects (n.in1, kind.Image) h.in1), holds_there objects (n.in1, kind.Image) h.in1, second_held n.in2 (second_kind n) h.in2, there_is objects c (holds_there objects (c, wanted) s), holds_there objects (c, wanted) s)
 
     same_first : (cell : Option Cell) → IfSome cell (λ c. output_of objects n First c ≡ output_of objects n First c)
-    same_first None = tt
-    same_first (Some c) = refl
+    same_first x = grind arith
 
     same_second : (one other : Option Cell) → IfSome one (RunsTo objects n) → IfSome other (RunsTo objects n) → IfSome one (λ a. IfSome other (λ b. AreApart b a))
         → IfSome other (λ c. output_of (with_output objects n First one) n Second c ≡ output_of objects n Second c)
-    same_second None None r s e = tt
-    same_second None (Some b) r s e = refl
-    same_second (Some a) None r s e = tt
     same_second (Some a) (Some b) r s e = output_beside objects n a b (output_of objects n First a) s r.in1_apart r.in2_apart e Second
+    same_second x y r s e = grind arith
 
     -- what the node writes is what its outputs become
     pub written_is : with_written objects (written_by n (held objects)) ≡ with_output (with_output objects n First n.out1) n Second n.out2
@@ -268,12 +245,6 @@ module _ (n : Node) (node : IsNode n) where
         grind (arith, with_written-append objects (written_in n First n.out1 (held objects)) (written_in n Second n.out2 (held objects)), written_one objects First n.out1 h.out1 (same_first n.out1), same_first n.out1, written_one (with_output objects n First n.out1) Second n.out2 h.out2 (same_second n.out1 n.out2 runs_first runs_second two_outputs), same_second n.out1 n.out2 runs_first runs_second two_outputs)
 
 -- ---- what is written is an object
-
--- only images stand in slots
-pub slot_none : (slot : Option ℕ) (object : ObjectValue) → IsTrue (is_some (in_slot slot object)) → object_kind (object_in slot object) ≢ kind.Image → slot ≡ None
-slot_none None object there other = refl
-slot_none (Some k) (DelayObject images) there other = grind arith
-slot_none (Some k) object there other = cc
 
 -- an output that isn't an image is an object as a whole
 whole_cell : (l : List Named) (output : Cell) → Holds l output → object_kind (cell_object l output) ≢ kind.Image → output.slot ≡ None
@@ -291,9 +262,7 @@ extremes_written n which (ImageObject a) second other e f = cc
 extremes_written n which first second out e f = cc
 
 counts_written : (n : Node) (which : Output) (first : ObjectValue) (second : Option ObjectValue) (out : ObjectValue) → object_kind first ≡ kind.Image → object_kind out ≡ kind.Distribution → counted_in (image_value first) out ≡ node_output n which first second out
-counts_written n which (ImageObject a) second (DistributionObject d) e f = refl
-counts_written n which (ImageObject a) second other e f = cc
-counts_written n which first second out e f = cc
+counts_written n which first second other e f = grind arith
 
 module _ (l : List Named) (n : Node) (which : Output) (output : Cell) (runs : RunsTo l n output) where
   -- an output that isn't an image stands under its name
@@ -321,14 +290,10 @@ module _ (l : List Named) (n : Node) (which : Output) (output : Cell) (runs : Ru
 -- an output becomes an object, of which as much lasts
 output_lasts : (n : Node) (which : Output) (first : ObjectValue) (second : Option ObjectValue) (out : ObjectValue) → RunsOn n first second out
     → IsObject (node_output n which first second out) × (lasting (node_output n which first second out) ≡ lasting out)
-output_lasts n which (ImageObject a) second (ImageObject out) runs = (
-  node_image_is n out.format a runs.node runs.first_is which second runs.second_is runs.second_kind runs.formats,
-  images-last (node_image n which out.format a second) out (description_kept n which a second out runs.out_size),
-)
+output_lasts n which (ImageObject a) second (ImageObject out) runs =
+    grind (arith, node_image_is, images-last, description_kept)
 output_lasts n which (ImageObject a) second (DistributionObject d) runs = (record { bins = runs.out_is.bins; size = length-histogram d.bins a }, refl)
-output_lasts n which (ImageObject a) second (ExtremesObject x) runs = (tt, refl)
-output_lasts n which (ImageObject a) second out runs = (runs.out_is, refl)
-output_lasts n which first second out runs = (runs.out_is, refl)
+output_lasts n which first second out runs = grind arith
 
 pub Lasts-with_output : (l : List Named) (n : Node) (which : Output) (output : Option Cell) → IsStrictlyIncreasing (names_of l) → All (λ o. IsObject o.object) l → IfSome output (RunsTo l n) → Lasts l (with_output l n which output)
 Lasts-with_output l n which None names are runs = record { objects = are; lasting = refl }
@@ -338,10 +303,9 @@ Lasts-with_output l n which (Some output) names are runs =
     (record { is_object = made.0; lasts = ap (option_map lasting) (there_is l output runs.out) ∙ ap Some (sym made.1) }) names are
 
 -- so do the objects once a node has run
-module _ (n : Node) (node : IsNode n) (l : List Named) (are : All (λ o. IsObject o.object) l) (h : OfOperands (HoldsKind l) n) (verdict : verdict_on n (operands_of (operand_held l) n) ≡ None) where
-  pub Lasts-outputs : IsStrictlyIncreasing (names_of l) → Lasts l (with_output (with_output l n First n.out1) n Second n.out2)
-  Lasts-outputs names =
-      let between = with_output l n First n.out1 in
-      let first = Lasts-with_output l n First n.out1 names are (runs_first n node l are h verdict) in
-      let second = Lasts-with_output between n Second n.out2 (Lasts-names l between first names) first.objects (runs_then n node l are h verdict) in
-      Lasts-trans l between (with_output between n Second n.out2) first second
+pub Lasts-outputs : (n : Node) (l : List Named) → All (λ o. IsObject o.object) l → CanRunNow l n → IsStrictlyIncreasing (names_of l) → Lasts l (with_output (with_output l n First n.out1) n Second n.out2)
+Lasts-outputs n l are can names =
+    let between = with_output l n First n.out1 in
+    let first = Lasts-with_output l n First n.out1 names are (runs_first n l are can) in
+    let second = Lasts-with_output between n Second n.out2 (Lasts-names l between first names) first.objects (runs_then n l are can) in
+    Lasts-trans l between (with_output between n Second n.out2) first second

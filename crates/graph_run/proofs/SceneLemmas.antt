@@ -1,15 +1,14 @@
 -- What nodes find on a stage: as outputs claim their slots, as nodes run, and at the end.
 use Rattle.std.proofs.Common.{◌≡◌, ◌≢◌, ◌<◌, ℕ, Bool, true, false, List, [], ◌∷◌, ◌++◌, map, length, get_or, Option, Some, None, ◌⊎◌, inl, inr, refl, sym, ap, subst, ◌∙◌, arith, ◌+◌, ◌≤◌, take, drop}
-use Rattle.std.specs.Prelude.{◌==◌, All, find, slice_get, if◌then◌else◌}
-use Rattle.std.specs.List.{AllPairs, flat_map}
+use Rattle.std.specs.Prelude.{◌==◌, slice_get}
+use Rattle.std.specs.List.{flat_map}
 use Rattle.std.specs.List.Sorted.{IsStrictlyIncreasing}
 use Rattle.std.specs.Option.{option_map, option_and_then}
-use Rattle.std.proofs.lemmas.Bool.{cases_Bool, eqb-true, eq-eqb, or_left, false_from_ne_true}
+use Rattle.std.proofs.lemmas.Bool.{cases_Bool, eqb-true, eq-eqb, or_left}
 use Rattle.std.proofs.lemmas.List.Folds.{list_any-append}
 use Rattle.std.proofs.lemmas.Grind.{flat_map-append}
 use Rattle.std.proofs.lemmas.List.{take-append-drop, take_more, take_all, drop_more, drop_all}
-use Rattle.std.proofs.lemmas.Option.{slice_get-map, slice_get_within, get_or_from_slice_get}
-use Rattle.vx_base.specs.declared.format.Format.{Format}
+use Rattle.std.proofs.lemmas.Option.{slice_get-map}
 use Rattle.vx_base.specs.declared.kind.Kind.TheVariants as kind
 use Rattle.vx_base.specs.declared.node.Node.{Node}
 use Rattle.vx_base.specs.declared.virtual_image.VirtualImage.{VirtualImage}
@@ -36,16 +35,16 @@ use Rattle.graph_run.specs.Lasting.{lasting_named}
 use Rattle.graph_run.specs.Operands.{IsReady, operand_held}
 use Rattle.graph_run.specs.Slots.{place_of, room_of, AreEmpty, AreShared, claimed_at, planned_rooms}
 use Rattle.graph_run.specs.Solution.{label_of}
-use Rattle.graph_run.specs.Stage.{is_named, standing_image, image_in, standing, shown_as, shown, holder_at, HoldsVirtual, slot_of, fixed}
+use Rattle.graph_run.specs.Stage.{is_named, standing_image, shown_as, shown, holder_at, HoldsVirtual, slot_of, fixed}
 use Rattle.graph_run.specs.Turns.{AreVirtual, CanRunNow}
 use Rattle.graph_run.proofs.AgreeLemmas.{Keeps, Agrees, StandsAs, first_output, second_output, output_cases, begin, begins, can_run_here, next_agrees}
 use Rattle.graph_run.proofs.BegunLaws.{kept_virtual, object_held-forgotten, labels-forgotten}
 use Rattle.graph_run.proofs.ClaimLemmas.{virtual_there}
 use Rattle.graph_run.proofs.LinkLaws.{In-from_All}
 use Rattle.graph_run.proofs.NameLaws.{Rising, by_names, rising}
-use Rattle.graph_run.proofs.SharingLemmas.{one_of_name, name_of_output, WereWritten, used_now, written_now, AreClaimed, output_claims}
-use Rattle.graph_run.proofs.SlotLemmas.{find_nowhere}
-use Rattle.graph_run.proofs.StageLemmas.{held-shown, found_as_it_is, real_as_it_is, alone_at, alone_found}
+use Rattle.graph_run.proofs.SharingLemmas.{one_of_name, name_of_output, WereWritten, used_now, AreClaimed, output_claims}
+use Rattle.graph_run.proofs.StageLemmas.{shown_same, as_it_is, held-shown, found_as_it_is, real_as_it_is, stands_nowhere, alone_at, alone_found}
+use Rattle.graph_run.proofs.StepLemmas.{none_standing, nothing_stands}
 use Rattle.graph_run.proofs.TurnLaws.{run_in_order}
 use Rattle.graph_run.proofs.VerifiedLemmas.{whole, is_output, output_whole, are_virtual, can, output_object, pairs_of}
 
@@ -55,42 +54,8 @@ pub labels-shown : (slots : List Slot) (l : List Named) → map label_of (shown 
 labels-shown slots [] = refl
 labels-shown slots (o ∷ l) = ap (λ (labels : List (ℕ × Bool)). label_of o ∷ labels) (labels-shown slots l)
 
--- where the same slot has a name, the same is shown of it
-shown_as-same : (one other : List Slot) (name : ℕ) → slot_of one name ≡ slot_of other name → (object : ObjectValue) → shown_as one name object ≡ shown_as other name object
-shown_as-same one other name same (VirtualObject image) = ap (λ s. standing s (VirtualObject image)) same
-shown_as-same one other name same object = refl
-
 found_same : (one other : List Slot) (l : List Named) (name : ℕ) → slot_of one name ≡ slot_of other name → object_held (shown one l) name ≡ object_held (shown other l) name
-found_same one other l name same = held-shown one l name ∙ each (object_held l name) ∙ sym (held-shown other l name)
-  where
-    each : (o : Option ObjectValue) → option_map (shown_as one name) o ≡ option_map (shown_as other name) o
-    each None = refl
-    each (Some x) = ap (λ y. Some y) (shown_as-same one other name same x)
-
--- what no slot has is shown as it is
-shown_itself : (slots : List Slot) (name : ℕ) (object : ObjectValue) → slot_of slots name ≡ None → shown_as slots name object ≡ object
-shown_itself slots name (VirtualObject image) none = ap (λ s. standing s (VirtualObject image)) none
-shown_itself slots name object none = refl
-
--- where nothing stands in slots
-empty_at : (slots : List Slot) → AreEmpty slots → (k : ℕ) (s : Slot) → slice_get slots k ≡ Some s → s.holder ≡ None
-empty_at slots empty k s at =
-    subst (λ (t : Slot). t.holder ≡ None) (get_or_from_slice_get slots k s s at) (empty k s (slice_get_within slots k s at))
-
-pub none_standing : (slots : List Slot) → AreEmpty slots → (k : ℕ) (a : VirtualOutput) → holder_at slots k ≡ Some a → ⊥
-none_standing slots empty k a h = of_slot (slice_get slots k) refl h
-  where
-    of_slot : (s : Option Slot) → slice_get slots k ≡ s → option_and_then (λ (t : Slot). t.holder) s ≡ Some a → ⊥
-    of_slot None at e = cc
-    of_slot (Some s) at e = let none = empty_at slots empty k s at in cc
-
-pub nothing_stands : (slots : List Slot) → AreEmpty slots → (l : List Named) → shown slots l ≡ l
-nothing_stands slots empty [] = refl
-nothing_stands slots empty (o ∷ l) =
-    ap (λ (x : ObjectValue). let p : Named = record o { object = x } in p ∷ shown slots l)
-    (shown_itself slots o.name o.object
-    (find_nowhere (λ s. is_named o.name s.holder) slots (λ k s at. ap (is_named o.name) (empty_at slots empty k s at))))
-    ∙ ap (λ (m : List Named). o ∷ m) (nothing_stands slots empty l)
+found_same one other l name same = grind (arith, held-shown one l name, held-shown other l name, shown_same one other name)
 
 -- ---- slots that keep their formats, their sizes, and what stands in them
 
@@ -99,16 +64,8 @@ rooms_stay old new same = map-told fixed room_of (λ f. (f.0, f.1)) (λ _. refl)
 
 holders_stay : (old new : List Slot) → map fixed new ≡ map fixed old → (k : ℕ) → holder_at new k ≡ holder_at old k
 holders_stay old new same k =
-    through (slice_get new k)
-    ∙ ap (option_and_then third) (sym (slice_get-map fixed new k) ∙ ap (λ l. slice_get l k) same ∙ slice_get-map fixed old k)
-    ∙ sym (through (slice_get old k))
-  where
-    third : Format × ℕ × Option VirtualOutput → Option VirtualOutput
-    third f = f.2
-
-    through : (s : Option Slot) → option_and_then (λ (t : Slot). t.holder) s ≡ option_and_then third (option_map fixed s)
-    through None = refl
-    through (Some s) = refl
+    let both : option_map fixed (slice_get new k) ≡ option_map fixed (slice_get old k) = sym (slice_get-map fixed new k) ∙ ap (λ l. slice_get l k) same ∙ slice_get-map fixed old k in
+    grind (arith, both)
 
 pub shared_stay : (p : PlanValue) (outs : List VirtualOutput) (old new : List Slot) → map fixed new ≡ map fixed old → AreShared p outs old → AreShared p outs new
 shared_stay p outs old new same shared =
@@ -123,30 +80,13 @@ written_stay done old new same written k a h = written k a (sym (holders_stay ol
 -- ---- virtual images of the table
 
 kind_is_virtual : (object : ObjectValue) → object_kind object ≡ kind.VirtualImage → is_virtual_object object ≡ true
-kind_is_virtual (VirtualObject image) e = refl
-kind_is_virtual other e = cc
+kind_is_virtual other e = grind arith
 
 -- what stays virtual twice stays so
 pub forgotten-twice : (old now new : List Named) → map label_of now ≡ map label_of old → forgotten old now ≡ now → forgotten now new ≡ new → forgotten old new ≡ new
-forgotten-twice [] now new labels one other = refl
-forgotten-twice (o ∷ old) [] new labels one other = absurd (cc)
-forgotten-twice (o ∷ old) (p ∷ now) [] labels one other = refl
 forgotten-twice (o ∷ old) (p ∷ now) (q ∷ new) labels one other =
-    let first : (if is_virtual_object o.object then o else p) ≡ p = cc in
-    let second : (if is_virtual_object p.object then p else q) ≡ q = cc in
-    let rest_labels : map label_of now ≡ map label_of old = cc in
-    let rest_one : forgotten old now ≡ now = cc in
-    let rest_other : forgotten now new ≡ new = cc in
-    ap (λ (x : Named). x ∷ forgotten old new) (either (cases_Bool (is_virtual_object o.object)) first second)
-    ∙ ap (λ (l : List Named). q ∷ l) (forgotten-twice old now new rest_labels rest_one rest_other)
-  where
-    either : (is_virtual_object o.object ≡ true) ⊎ (is_virtual_object o.object ≡ false) → (if is_virtual_object o.object then o else p) ≡ p → (if is_virtual_object p.object then p else q) ≡ q
-        → (if is_virtual_object o.object then o else q) ≡ q
-    either (inl virtual) first second =
-        let same : o ≡ p = sym (ap (λ b. if b then o else p) virtual) ∙ first in
-        let still : is_virtual_object p.object ≡ true = ap (λ (x : Named). is_virtual_object x.object) (sym same) ∙ virtual in
-        ap (λ b. if b then o else q) virtual ∙ same ∙ sym (ap (λ b. if b then p else q) still) ∙ second
-    either (inr real) first second = ap (λ b. if b then o else q) real
+    grind (arith, forgotten-twice old now new (ap (drop 1) labels) (ap (drop 1) one) (ap (drop 1) other), cases_Bool (is_virtual_object o.object))
+forgotten-twice x now new labels one other = grind arith
 
 -- lists of the same names hold something under the same names
 both_held : (one other : List Named) → map label_of one ≡ map label_of other → (name : ℕ) (x : ObjectValue) → object_held one name ≡ Some x
@@ -155,25 +95,17 @@ both_held [] other labels name x at = absurd (cc)
 both_held (o ∷ one) [] labels name x at = absurd (cc)
 both_held (o ∷ one) (p ∷ other) labels name x at =
     let label : label_of o ≡ label_of p = cc in
-    let rest : map label_of one ≡ map label_of other = cc in
-    either (ap (λ m. m.0) label) (both_held one other rest name x) (cases_Bool (o.name == name))
-  where
-    either : o.name ≡ p.name → (object_held one name ≡ Some x → (y : ObjectValue) × (object_held other name ≡ Some y)) → ((o.name == name) ≡ true) ⊎ ((o.name == name) ≡ false)
-        → (y : ObjectValue) × (object_held (p ∷ other) name ≡ Some y)
-    either same rest (inl here) = (p.object, ap (λ b. option_map (λ (q : Named). q.object) (if b then Some p else find (λ q. q.name == name) other)) (ap (λ n. n == name) (sym same) ∙ here))
-    either same rest (inr later) =
-        let at_rest : object_held one name ≡ Some x =
-        sym (ap (λ b. option_map (λ (q : Named). q.object) (if b then Some o else find (λ q. q.name == name) one)) later) ∙ at in
-        let found = rest at_rest in
-        (found.0, ap (λ b. option_map (λ (q : Named). q.object) (if b then Some p else find (λ q. q.name == name) other)) (ap (λ n. n == name) (sym same) ∙ later) ∙ found.1)
+    let same : o.name ≡ p.name = ap (λ (m : ℕ × Bool). m.0) label in
+    elim (cases_Bool (p.name == name)) [
+      | inl here ↦ (p.object, rw here refl)
+      | inr later ↦ rw later (both_held one other (ap (drop 1) labels) name x (rw (same, later) at at))
+    ]
 
 -- a virtual image stays where it was
 stays_virtual : (old now : List Named) → map label_of now ≡ map label_of old → forgotten old now ≡ now → (name : ℕ) (image : VirtualImage)
     → object_held old name ≡ Some (VirtualObject image) → object_held now name ≡ Some (VirtualObject image)
 stays_virtual old now labels kept name image at =
-    let found = both_held old now (sym labels) name (VirtualObject image) at in
-    ap (λ l. object_held l name) (sym kept) ∙ object_held-forgotten old now (sym labels) name
-    ∙ ap (λ o. kept_virtual o (object_held now name)) at ∙ ap (kept_virtual (Some (VirtualObject image))) found.1
+    grind (arith, both_held, labels, object_held-forgotten)
 
 pub outputs_stay : (old now : List Named) (outs : List VirtualOutput) → map label_of now ≡ map label_of old → forgotten old now ≡ now → AreVirtual old outs → AreVirtual now outs
 outputs_stay old now outs labels kept virtual =
@@ -191,9 +123,6 @@ module _ (objects : List Named) (nodes : List Node) (v : Verified) (h : IsReady 
     (before after : List Node) (n : Node) (parts : v.steps.items ≡ before ++ n ∷ after) where
   abbrev outs : List VirtualOutput
   outs = v.virtual_outputs.items
-
-  virtual_at_first : AreVirtual objects outs
-  virtual_at_first = are_virtual objects nodes v h.runs.0 h.verified h.runs.1
 
   pub plan_here : IsPlan (before ++ n ∷ after) outs p
   plan_here = subst (λ steps. IsPlan steps outs p) parts plan
@@ -233,8 +162,7 @@ module _ (objects : List Named) (nodes : List Node) (v : Verified) (h : IsReady 
       kept_name name (inr used) o i w same = written_once o.cell w (ap (is_written before) (itself o i ∙ ap whole same) ∙ used.0)
 
       kept_for : (name : ℕ) → Keeps outs before (n ∷ after) name → (is_output outs name ≡ false) ⊎ (is_used (n ∷ after) (whole name) ≡ true)
-      kept_for name (inl none) = inl none
-      kept_for name (inr used) = inr used.1
+      kept_for name y = grind arith
 
       pub claims_agree : (ideal : List Named) → Agrees outs before (n ∷ after) (shown slots l) ideal → Agrees outs before (n ∷ after) (shown both l) ideal
       claims_agree ideal agrees =
@@ -270,11 +198,7 @@ module _ (objects : List Named) (nodes : List Node) (v : Verified) (h : IsReady 
               sym home.1 ∙ ap (place_of p) (one_of_name outs virtual.apart a o home.0 i same)) in
               record {
                 image = standing_image o s;
-                there =
-                    held-shown both l name
-                    ∙ ap (option_map (shown_as both name)) image.1
-                    ∙ ap (λ (f : Option Slot). Some (standing f (VirtualObject image.0))) (alone_found name s both (place_of p o) alone)
-                    ∙ ap (λ (holder : Option VirtualOutput). Some (image_in s holder (VirtualObject image.0))) e;
+                there = grind (arith, held-shown both l name, image.1, alone_found name s both (place_of p o) alone, e);
                 desc = refl;
               }
 
@@ -287,22 +211,10 @@ lasting_step [] [] slots next kept lasts free = refl
 lasting_step [] (q ∷ after) slots next kept lasts free = absurd (cc)
 lasting_step (o ∷ before) [] slots next kept lasts free = absurd (cc)
 lasting_step (o ∷ before) (q ∷ after) slots next kept lasts free =
-    let first : (if is_virtual_object o.object then o else q) ≡ q = cc in
-    let rest : forgotten before after ≡ after = cc in
+    let rest = lasting_step before after slots next (ap (drop 1) kept) (ap (drop 1) lasts) (λ r i. free r (inr i)) in
     let shows : lasting_named (record q { object = shown_as next q.name q.object }) ≡ lasting_named (record o { object = shown_as slots o.name o.object }) = cc in
-    let shows_rest : map lasting_named (shown next after) ≡ map lasting_named (shown slots before) = cc in
-    ap (λ x. x ∷ map lasting_named after) (either (cases_Bool (is_virtual_object o.object)) first shows)
-    ∙ ap (λ xs. lasting_named o ∷ xs) (lasting_step before after slots next rest shows_rest (λ r i. free r (inr i)))
-  where
-    either : (is_virtual_object o.object ≡ true) ⊎ (is_virtual_object o.object ≡ false) → (if is_virtual_object o.object then o else q) ≡ q
-        → lasting_named (record q { object = shown_as next q.name q.object }) ≡ lasting_named (record o { object = shown_as slots o.name o.object }) → lasting_named q ≡ lasting_named o
-    either (inl virtual) first shows = sym (ap lasting_named (sym (ap (λ b. if b then o else q) virtual) ∙ first))
-    either (inr real) first shows =
-        let name : q.name ≡ o.name = ap (λ (x : Named × List Node). x.0.name) shows in
-        let none = ap (slot_of next) name ∙ free o (inl refl) real in
-        sym (ap (λ x. lasting_named (record q { object = x })) (shown_itself next q.name q.object none))
-        ∙ shows
-        ∙ ap (λ x. lasting_named (record o { object = x })) (real_as_it_is slots o.name o.object real)
+    let name : q.name ≡ o.name = ap (λ (x : Named × List Node). x.0.name) shows in
+    grind (arith, rest, name, cases_Bool, as_it_is, real_as_it_is)
 
 -- ---- a graph that runs on a stage
 
@@ -333,11 +245,7 @@ course_begins objects v p slots empty rooms =
   where
     itself_forgotten : (l : List Named) → forgotten l l ≡ l
     itself_forgotten [] = refl
-    itself_forgotten (o ∷ l) = ap (λ x. x ∷ forgotten l l) (same (is_virtual_object o.object)) ∙ ap (λ m. o ∷ m) (itself_forgotten l)
-      where
-        same : (b : Bool) → (if b then o else o) ≡ o
-        same true = refl
-        same false = refl
+    itself_forgotten (o ∷ l) = grind (arith, itself_forgotten l)
 
 module _ (objects : List Named) (v : Verified) (p : PlanValue) (plan : IsPlan v.steps.items v.virtual_outputs.items p) (k : ℕ) (l : List Named) (slots : List Slot)
     (course : IsOnCourse objects v p k l slots) where
@@ -352,7 +260,13 @@ module _ (objects : List Named) (v : Verified) (p : PlanValue) (plan : IsPlan v.
 
   -- ---- one step
 
-  module _ (n : Node) (below : k < length v.steps.items) (read : n ≡ get_or v.steps.items k n) where
+  module _ (items : List Node) (are : items ≡ v.steps.items) (n : Node) (within : k < length items) (item : n ≡ get_or items k n) where
+    below : k < length v.steps.items
+    below = subst (λ (l : List Node). k < length l) are within
+
+    read : n ≡ get_or v.steps.items k n
+    read = item ∙ ap (λ (l : List Node). get_or l k n) are
+
     abbrev before : List Node
     before = take k v.steps.items
 
@@ -394,7 +308,12 @@ module _ (objects : List Named) (v : Verified) (p : PlanValue) (plan : IsPlan v.
             let shared = shared_stay p images both next fixed claims.shared in
             let more : take (k + 1) v.steps.items ≡ before ++ n ∷ [] = take_more v.steps.items k n below ∙ ap (λ x. before ++ x ∷ []) (sym read) in
             let free : (o : Named) → In o l → is_virtual_object o.object ≡ false → slot_of next o.name ≡ None =
-            λ o i real. find_nowhere (λ s. is_named o.name s.holder) next (λ j s at. unnamed names shared o i real j s at s.holder refl) in
+            λ o i real. stands_nowhere next o.name (λ j a at same.
+            let virtual = In-from_All (λ (q : VirtualOutput). HoldsVirtual l q.cell.name) images (course_outputs nodes h).held a (shared.homes j a at).0 in
+            let at_name : object_held l a.cell.name ≡ Some o.object = ap (object_held l) same ∙ In-from_All (λ (q : Named). object_held l q.name ≡ Some q.object) l (held_by_name l names) o i in
+            let of_kind : Some (object_kind o.object) ≡ Some kind.VirtualImage = sym (ap (option_map object_kind) at_name) ∙ virtual in
+            let virtual_so = kind_is_virtual o.object (cc) in
+            cc) in
             record {
               shared = shared;
               written = subst (λ done. WereWritten done next) (sym more) (written_stay (before ++ n ∷ []) both next fixed claims.written);
@@ -407,21 +326,6 @@ module _ (objects : List Named) (v : Verified) (p : PlanValue) (plan : IsPlan v.
                   (subst (λ ideal. Agrees images (before ++ n ∷ []) after (with_written (shown both l) (written_by n (held (shown both l)))) ideal)
                   (sym (one_by_one-more before n (begin objects ms v g))) agree));
             }
-          where
-            unnamed : IsStrictlyIncreasing (names_of l) → AreShared p images next → (o : Named) → In o l → is_virtual_object o.object ≡ false → (j : ℕ) (s : Slot) → slice_get next j ≡ Some s
-                → (holder : Option VirtualOutput) → s.holder ≡ holder → is_named o.name s.holder ≡ false
-            unnamed names shared o i real j s at None e = ap (is_named o.name) e
-            unnamed names shared o i real j s at (Some a) e =
-                ap (is_named o.name) e
-                ∙ false_from_ne_true (a.cell.name == o.name) (λ same.
-                let home = shared.homes j a (ap (option_and_then (λ (t : Slot). t.holder)) at ∙ e) in
-                let virtual = In-from_All (λ (q : VirtualOutput). HoldsVirtual l q.cell.name) images (course_outputs nodes h).held a home.0 in
-                let at_name : object_held l a.cell.name ≡ Some o.object =
-                ap (object_held l) (eqb-true a.cell.name o.name same) ∙ In-from_All (λ (q : Named). object_held l q.name ≡ Some q.object) l (held_by_name l names) o i in
-                let of_kind : Some (object_kind o.object) ≡ Some kind.VirtualImage = sym (ap (option_map object_kind) at_name) ∙ virtual in
-                let kind_so : object_kind o.object ≡ kind.VirtualImage = cc in
-                let virtual_so = kind_is_virtual o.object kind_so in
-                cc)
 
   -- ---- the end
 
@@ -449,16 +353,7 @@ module _ (objects : List Named) (v : Verified) (p : PlanValue) (plan : IsPlan v.
           ∙ sym (object_held-forgotten objects ideal ideal_labels name)
         where
           real_slot : is_output images name ≡ false → slot_of slots name ≡ None
-          real_slot none = find_nowhere (λ s. is_named name s.holder) slots (λ j s at_j. of_holder j s at_j s.holder refl)
-            where
-              of_holder : (j : ℕ) (s : Slot) → slice_get slots j ≡ Some s → (holder : Option VirtualOutput) → s.holder ≡ holder → is_named name s.holder ≡ false
-              of_holder j s at_j None e = ap (is_named name) e
-              of_holder j s at_j (Some a) e =
-                  ap (is_named name) e
-                  ∙ false_from_ne_true (a.cell.name == name) (λ same.
-                  let home = course.shared.homes j a (ap (option_and_then (λ (t : Slot). t.holder)) at_j ∙ e) in
-                  let some = name_of_output images a home.0 name (sym (eqb-true a.cell.name name same)) in
-                  cc)
+          real_slot none = stands_nowhere slots name (λ j a at_j same. let some = name_of_output images a (course.shared.homes j a at_j).0 name (sym same) in cc)
 
           of_name : (is_output images name ≡ true) ⊎ (is_output images name ≡ false)
               → kept_virtual (object_held objects name) (object_held l name) ≡ kept_virtual (object_held objects name) (object_held ideal name)
@@ -469,5 +364,4 @@ module _ (objects : List Named) (v : Verified) (p : PlanValue) (plan : IsPlan v.
               let at_name : object_held objects name ≡ Some (VirtualObject virtual.0) = ap (object_held objects) (eqb-true name output.0.cell.name output.2) ∙ virtual.1 in
               let one = both_held objects l (sym labels) name (VirtualObject virtual.0) at_name in
               let other = both_held objects ideal ideal_labels name (VirtualObject virtual.0) at_name in
-              ap (λ o. kept_virtual o (object_held l name)) at_name ∙ ap (kept_virtual (Some (VirtualObject virtual.0))) one.1
-              ∙ sym (ap (λ o. kept_virtual o (object_held ideal name)) at_name ∙ ap (kept_virtual (Some (VirtualObject virtual.0))) other.1)
+              grind (arith, at_name, one.1, other.1)

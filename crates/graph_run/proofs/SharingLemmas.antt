@@ -1,9 +1,9 @@
 -- Virtual images that claim their slots: what stands in slots before and after.
-use Rattle.std.proofs.Common.{◌≡◌, ◌≢◌, ℕ, ◌+◌, ◌<◌, Bool, true, false, cond, List, [], ◌∷◌, ◌++◌, map, length, zero, suc, Option, Some, None, ◌⊎◌, inl, inr, refl, sym, ap, subst, ◌∙◌, arith}
-use Rattle.std.specs.Prelude.{◌==◌, ◌||◌, find, slice_get, if◌then◌else◌, is_some, unwrap_or}
-use Rattle.std.specs.List.{AllPairs, list_any}
+use Rattle.std.proofs.Common.{◌≡◌, ◌≢◌, ℕ, true, false, List, [], ◌∷◌, ◌++◌, map, suc, Option, Some, None, ◌⊎◌, inl, inr, refl, sym, ap, subst, ◌∙◌, arith}
+use Rattle.std.specs.Prelude.{◌==◌, ◌||◌, find, slice_get, if◌then◌else◌, unwrap_or}
+use Rattle.std.specs.List.{AllPairs}
 use Rattle.std.specs.Option.{option_map, option_and_then}
-use Rattle.std.proofs.lemmas.Bool.{cases_Bool, eqb-true, eq-eqb, ne_eqb, or_left, or_right}
+use Rattle.std.proofs.lemmas.Bool.{cases_Bool, eqb-true, eq-eqb, ne_eqb, or_left, or_right, false_from_ne_true}
 use Rattle.std.proofs.lemmas.List.Folds.{list_any-append}
 use Rattle.std.proofs.lemmas.Option.{slice_get-map}
 use Rattle.vx_base.specs.declared.node.Node.{Node}
@@ -24,7 +24,8 @@ use Rattle.buffer_plan.proofs.TakenLemmas.{one_when_taken}
 use Rattle.graph_run.specs.declared.stage.Slot.{Slot}
 use Rattle.graph_run.specs.Slots.{slot_place, place_of, room_of, planned_rooms, AreShared, claimed_if, claimed_at}
 use Rattle.graph_run.specs.Stage.{is_named, holder_at, claimed}
-use Rattle.graph_run.proofs.SlotLemmas.{same_at_each, Fails, find_agree, HasRoomAt, room_at_home, one_home}
+use Rattle.graph_run.proofs.NameLaws.{same_at_each}
+use Rattle.graph_run.proofs.SlotLemmas.{Fails, find_agree, HasRoomAt, room_at_home, one_home}
 use Rattle.graph_run.proofs.VerifiedLemmas.{whole, is_output, described_output, output_described}
 
 -- ---- outputs by name
@@ -64,11 +65,7 @@ module _ (outs : List VirtualOutput) (p : PlanValue) (before after : List Node) 
   done = before ++ n ∷ []
 
   written_either : (c : Cell) → is_written done c ≡ true → (is_written before c || writes n c) ≡ true
-  written_either c w = ap (λ b. is_written before c || b) (sym (or_nothing (writes n c))) ∙ sym (list_any-append (λ m. writes m c) before (n ∷ [])) ∙ w
-    where
-      or_nothing : (b : Bool) → (b || false) ≡ b
-      or_nothing true = refl
-      or_nothing false = refl
+  written_either c w = grind (arith, list_any-append (λ m. writes m c) before (n ∷ []))
 
   pub written_now : (c : Cell) → writes n c ≡ true → is_written done c ≡ true
   written_now c w = list_any-append (λ m. writes m c) before (n ∷ []) ∙ or_right (is_written before c) (is_written (n ∷ []) c) (or_left (writes n c) false w)
@@ -87,13 +84,8 @@ module _ (outs : List VirtualOutput) (p : PlanValue) (before after : List Node) 
 
   module _ (slots next : List Slot) (shared : AreShared p outs slots) (written : WereWritten done slots) (o : VirtualOutput) (i : In o outs) (w : writes n o.cell ≡ true)
       (claims : (k : ℕ) → slice_get next k ≡ claimed_if p (Some o) k (slice_get slots k)) where
-    at_other : (k : ℕ) → k ≢ place_of p o → slice_get next k ≡ slice_get slots k
-    at_other k other = claims k ∙ ap (λ b. cond b (option_map (claimed o) (slice_get slots k)) (slice_get slots k)) (ne_eqb k (place_of p o) other)
-
     at_home : slice_get next (place_of p o) ≡ option_map (claimed o) (slice_get slots (place_of p o))
-    at_home =
-        let k = place_of p o in
-        claims k ∙ ap (λ b. cond b (option_map (claimed o) (slice_get slots k)) (slice_get slots k)) (eq-eqb k k refl)
+    at_home = grind (arith, claims (place_of p o), eq-eqb (place_of p o) (place_of p o) refl)
 
     -- it stands in its place
     stands : holder_at next (place_of p o) ≡ Some o
@@ -103,45 +95,29 @@ module _ (outs : List VirtualOutput) (p : PlanValue) (before after : List Node) 
 
     -- in each other place stands what stood there
     holders : (k : ℕ) (a : VirtualOutput) → holder_at next k ≡ Some a → ((k ≡ place_of p o) × (a ≡ o)) ⊎ (holder_at slots k ≡ Some a)
-    holders k a h = elim (cases_Bool (k == place_of p o)) [
-      | inl here ↦
-          let same = eqb-true k (place_of p o) here in
-          let now : Some a ≡ Some o = sym h ∙ ap (holder_at next) same ∙ stands in
-          inl (same, (cc))
-      | inr other ↦ inr (sym (ap (option_and_then (λ (s : Slot). s.holder)) (claims k ∙ ap (λ b. cond b (option_map (claimed o) (slice_get slots k)) (slice_get slots k)) other)) ∙ h)
-    ]
+    holders k a h = grind (arith, cases_Bool, eqb-true, stands)
 
     claim_shared : AreShared p outs next
     claim_shared =
         record {
-          rooms = same_at_each (map room_of next) (map room_of slots)
-              (λ k. slice_get-map room_of next k ∙ ap (option_map room_of) (claims k) ∙ as_much (k == place_of p o) (slice_get slots k) ∙ sym (slice_get-map room_of slots k))
-              ∙ shared.rooms;
+          rooms = same_at_each (map room_of next) (map room_of slots) as_much ∙ shared.rooms;
           homes = λ k a h. elim (holders k a h) [
             | inl e ↦ (subst (λ (q : VirtualOutput). In q outs) (sym e.1) i, ap (place_of p) e.1 ∙ sym e.0)
             | inr e ↦ shared.homes k a e
           ];
         }
       where
-        as_much : (b : Bool) (s : Option Slot) → option_map room_of (if b then option_map (claimed o) s else s) ≡ option_map room_of s
-        as_much true None = refl
-        as_much true (Some s) = refl
-        as_much false s = refl
+        as_much : (k : ℕ) → slice_get (map room_of next) k ≡ slice_get (map room_of slots) k
+        as_much k = grind (arith, slice_get-map room_of next k, slice_get-map room_of slots k, claims k)
 
     claim_written : WereWritten done next
-    claim_written k a h = elim (holders k a h) [
-      | inl e ↦ ap (λ (q : VirtualOutput). is_written done q.cell) e.1 ∙ written_now o.cell w
-      | inr e ↦ written k a e
-    ]
+    claim_written k a h = grind (arith, holders k a h, written_now o.cell w, written k a)
 
     -- another image that is used still, and stands in its place, stays there
     claim_keeps : (a : VirtualOutput) → In a outs → is_used (n ∷ after) a.cell ≡ true → holder_at slots (place_of p a) ≡ Some a → holder_at next (place_of p a) ≡ Some a
     claim_keeps a j used there = elim (cases_Bool (place_of p a == place_of p o)) [
-      | inl here ↦
-          let same = eqb-true (place_of p a) (place_of p o) here in
-          let one = one_claims o a i j w (written (place_of p a) a there) used same in
-          ap (holder_at next) same ∙ stands ∙ ap (λ q. Some q) (sym one)
-      | inr other ↦ ap (option_and_then (λ (s : Slot). s.holder)) (claims (place_of p a) ∙ ap (λ b. cond b (option_map (claimed o) (slice_get slots (place_of p a))) (slice_get slots (place_of p a))) other) ∙ there
+      | inl here ↦ (let one = one_claims o a i j w (written (place_of p a) a there) used (eqb-true (place_of p a) (place_of p o) here) in subst (λ (q : VirtualOutput). holder_at next (place_of p q) ≡ Some q) (sym one) stands)
+      | inr other ↦ grind (arith, claims (place_of p a), other, there)
     ]
 
     -- the same is found under another name, if that is no output's or is used still
@@ -151,13 +127,10 @@ module _ (outs : List VirtualOutput) (p : PlanValue) (before after : List Node) 
       where
         former : (holder : Option VirtualOutput) → holder_at slots (place_of p o) ≡ holder → is_named name holder ≡ false
         former None at = refl
-        former (Some a) at = elim (cases_Bool (a.cell.name == name)) [
-          | inl same ↦ (
-              let home = shared.homes (place_of p o) a at in
-              let named_so = eqb-true a.cell.name name same in
-              absurd (other (ap (λ (q : VirtualOutput). q.cell.name) (sym (this a home.0 home.1 at named_so for)) ∙ named_so)))
-          | inr fails ↦ fails
-        ]
+        former (Some a) at = false_from_ne_true (a.cell.name == name) (λ same.
+            let home = shared.homes (place_of p o) a at in
+            let named_so = eqb-true a.cell.name name same in
+            other (ap (λ (q : VirtualOutput). q.cell.name) (sym (this a home.0 home.1 at named_so for)) ∙ named_so))
           where
             this : (b : VirtualOutput) → In b outs → place_of p b ≡ place_of p o → holder_at slots (place_of p o) ≡ Some b → b.cell.name ≡ name
                 → (is_output outs name ≡ false) ⊎ (is_used (n ∷ after) (whole name) ≡ true) → b ≡ o
@@ -172,12 +145,8 @@ module _ (outs : List VirtualOutput) (p : PlanValue) (before after : List Node) 
               let room = room_at_home (before ++ n ∷ after) outs p plan slots shared.rooms o i in
               let was : slice_get slots k ≡ Some room.slot = ap (slice_get slots) same ∙ room.there in
               let is : slice_get next k ≡ Some (claimed o room.slot) = ap (slice_get next) same ∙ at_home ∙ ap (option_map (claimed o)) room.there in
-              inr (
-                subst (Fails (λ s. is_named name s.holder)) (sym is) (ne_eqb o.cell.name name other),
-                subst (Fails (λ s. is_named name s.holder)) (sym was)
-                    (former room.slot.holder (ap (option_and_then (λ (s : Slot). s.holder)) room.there)),
-              ))
-          | inr elsewhere ↦ inl (claims k ∙ ap (λ b. cond b (option_map (claimed o) (slice_get slots k)) (slice_get slots k)) elsewhere)
+              inr (rw is (ne_eqb o.cell.name name other), rw was (former room.slot.holder (ap (option_and_then (λ (s : Slot). s.holder)) room.there))))
+          | inr elsewhere ↦ inl (grind (arith, claims k, elsewhere))
         ]
 
   -- ---- a node's output claims its slot, if it is a virtual image
@@ -194,15 +163,7 @@ module _ (outs : List VirtualOutput) (p : PlanValue) (before after : List Node) 
   -- nothing changes where none claims a slot
   unclaimed : (output : Option Cell) (slots next : List Slot) → AreShared p outs slots → WereWritten done slots → ((o : VirtualOutput) → In o outs → output ≢ Some o.cell)
       → slots ≡ next → AreClaimed output slots next
-  unclaimed output slots next shared written none same =
-      subst (AreClaimed output slots) same
-      (record {
-        shared = shared;
-        written = written;
-        stands = λ o i e. absurd (none o i e);
-        keeps = λ a i used there. there;
-        finds = λ name other for. refl;
-      })
+  unclaimed output slots next shared written none same = grind arith
 
   pub output_claims : (output : Option Cell) (slots next : List Slot) → AreShared p outs slots → WereWritten done slots → ((cell : Cell) → output ≡ Some cell → writes n cell ≡ true)
       → ((k : ℕ) → slice_get next k ≡ claimed_at p outs output k (slice_get slots k)) → AreClaimed output slots next
@@ -214,15 +175,13 @@ module _ (outs : List VirtualOutput) (p : PlanValue) (before after : List Node) 
         let same : o.cell ≡ cell = same_cell-true o.cell cell found.3 in
         let w : writes n o.cell ≡ true = ap (writes n) same ∙ given cell refl in
         let i = found.2 in
-        let by_o : (k : ℕ) → slice_get next k ≡ claimed_if p (Some o) k (slice_get slots k) =
-        λ k. claims k ∙ ap (λ f. claimed_if p f k (slice_get slots k)) found.1 in
+        let by_o = λ (k : ℕ). claims k ∙ ap (λ f. claimed_if p f k (slice_get slots k)) found.1 in
         record {
           shared = claim_shared slots next shared written o i w by_o;
           written = claim_written slots next shared written o i w by_o;
           stands = λ a j e.
-              let here : a.cell ≡ o.cell = let there : cell ≡ a.cell = cc in sym there ∙ sym same in
-              let one : a ≡ o = one_of_name outs apart a o j i (ap (λ (c : Cell). c.name) here) in
-              ap (λ (q : VirtualOutput). holder_at next (place_of p q)) one ∙ stands slots next shared written o i w by_o ∙ ap (λ q. Some q) (sym one);
+              let there : cell ≡ a.cell = cc in
+              subst (λ (q : VirtualOutput). holder_at next (place_of p q) ≡ Some q) (one_of_name outs apart o a i j (ap (λ (c : Cell). c.name) (same ∙ there))) (stands slots next shared written o i w by_o);
           keeps = claim_keeps slots next shared written o i w by_o;
           finds = λ name other for. claim_finds slots next shared written o i w by_o name (other o i (ap (λ c. Some c) (sym same))) for;
         })
@@ -238,63 +197,52 @@ module _ (outs : List VirtualOutput) (p : PlanValue) (before after : List Node) 
 
 -- ---- which slot an output claims
 
+abbrev pub output_at : Cell → Description → VirtualOutput
+output_at cell d = record { cell = cell; desc = d }
+
 module _ (is : Cell → Operand) (nodes : List Node) (v : Verified) (how : IsVerified is nodes v) (p : PlanValue)
     (plan : IsPlan v.steps.items v.virtual_outputs.items p) (apart : AllPairs (λ a b. a.cell.name ≢ b.cell.name) v.virtual_outputs.items) where
   abbrev written : List VirtualOutput
   written = v.virtual_outputs.items
 
-  -- a cell that is described and has a slot is an output, with its description
-  described_home : (cell : Cell) (d : Description) (k : ℕ) → Some d ≡ written_description is nodes cell → Some k ≡ p.slot_of cell
-      → In (record { cell = cell; desc = d }) written × (place_of p (record { cell = cell; desc = d }) ≡ slot_place p d.format k)
-  described_home cell d k described placed =
-      let output = described_output is nodes v how cell d (sym described) in (
-        subst (λ (o : VirtualOutput). In o written) output.2 output.1,
-        ap (λ s. slot_place p d.format (unwrap_or s 0)) (sym placed),
-      )
-
-  -- it can claim its slot
-  pub record CanClaim (cell : Cell) (d : Description) (at : ℕ) (slots : List Slot) : Type 0 where
-    pub member : In (record { cell = cell; desc = d }) written
-    pub place : at ≡ place_of p (record { cell = cell; desc = d })
-    pub room : HasRoomAt at (record { cell = cell; desc = d }) slots
-
-  pub can_claim : (slots : List Slot) → map room_of slots ≡ planned_rooms p → (cell : Cell) (d : Description) (k : ℕ) → Some d ≡ written_description is nodes cell → Some k ≡ p.slot_of cell
-      → (at : ℕ) → at ≡ slot_place p d.format k → CanClaim cell d at slots
-  can_claim slots rooms cell d k described placed at is_at =
-      let o : VirtualOutput = record { cell = cell; desc = d } in
-      let home = described_home cell d k described placed in
-      let place : at ≡ place_of p o = is_at ∙ sym home.1 in
-      record {
-        member = home.0;
-        place = place;
-        room = subst (λ n. HasRoomAt n o slots) (sym place) (room_at_home v.steps.items written p plan slots rooms o home.0);
-      }
-
   -- the output of its cell is found
-  pub output_found : (o : VirtualOutput) → In o written → find (λ q. same_cell q.cell o.cell) written ≡ Some o
+  output_found : (o : VirtualOutput) → In o written → find (λ q. same_cell q.cell o.cell) written ≡ Some o
   output_found o i = elim (find_cases (λ (q : VirtualOutput). same_cell q.cell o.cell) written) [
     | inl found ↦ found.1 ∙ ap (λ q. Some q) (one_of_name written apart found.0 o found.2 i (ap (λ (c : Cell). c.name) (same_cell-true found.0.cell o.cell found.3)))
     | inr none ↦ (let miss = none.1 o i in let hit = same_cell-refl o.cell in absurd (cc))
   ]
 
-  -- none is found where a cell isn't described, or has no slot
-  pub undescribed_none : (cell : Cell) → None ≡ written_description is nodes cell → find (λ q. same_cell q.cell cell) written ≡ None
-  undescribed_none cell none = elim (find_cases (λ (q : VirtualOutput). same_cell q.cell cell) written) [
-    | inl found ↦
-        (let described = ap (written_description is nodes) (sym (same_cell-true found.0.cell cell found.3)) ∙ output_described is nodes v how found.0 found.2 in
-        let no : ◌≡◌ {A = Option Description} None (Some found.0.desc) = none ∙ described in
-        absurd (cc))
-    | inr none ↦ none.0
+  -- a cell that is described and has a slot is an output, which can claim its slot
+  pub can_claim : (slots : List Slot) → map room_of slots ≡ planned_rooms p → (cell : Cell) (d : Description) (k : ℕ) → Some d ≡ written_description is nodes cell → Some k ≡ p.slot_of cell
+      → (at : ℕ) → at ≡ slot_place p d.format k → In (output_at cell d) written × (at ≡ place_of p (output_at cell d)) × HasRoomAt at (output_at cell d) slots
+  can_claim slots rooms cell d k described placed at is_at =
+      let output = described_output is nodes v how cell d (sym described) in
+      let member = subst (λ (q : VirtualOutput). In q written) output.2 output.1 in
+      let place : at ≡ place_of p (output_at cell d) = is_at ∙ ap (λ s. slot_place p d.format (unwrap_or s 0)) placed in
+      (member, place, subst (λ n. HasRoomAt n (output_at cell d) slots) (sym place) (room_at_home v.steps.items written p plan slots rooms (output_at cell d) member))
+
+  -- what a slot is then
+  pub claims_slot : (o : VirtualOutput) → In o written → (at : ℕ) → at ≡ place_of p o → (output : Option Cell) → output ≡ Some o.cell → (k : ℕ) (slot : Option Slot)
+      → (if k == at then option_map (claimed o) slot else slot) ≡ claimed_at p written output k slot
+  claims_slot o i at place output is_cell k slot =
+      ap (λ n. if k == n then option_map (claimed o) slot else slot) place
+      ∙ sym (ap (λ f. claimed_if p f k slot) (output_found o i)) ∙ sym (ap (λ q. claimed_at p written q k slot) is_cell)
+
+  -- none changes where no output is of a cell
+  none_claims : (cell : Cell) → ((o : VirtualOutput) → In o written → o.cell ≢ cell) → (output : Option Cell) → output ≡ Some cell → (k : ℕ) (slot : Option Slot) → slot ≡ claimed_at p written output k slot
+  none_claims cell other output is_cell k slot = elim (find_cases (λ (q : VirtualOutput). same_cell q.cell cell) written) [
+    | inl found ↦ absurd (other found.0 found.2 (same_cell-true found.0.cell cell found.3))
+    | inr none ↦ sym (ap (λ q. claimed_at p written q k slot) is_cell ∙ ap (λ f. claimed_if p f k slot) none.0)
   ]
 
-  pub unplaced_none : (cell : Cell) → None ≡ p.slot_of cell → find (λ q. same_cell q.cell cell) written ≡ None
-  unplaced_none cell none = elim (find_cases (λ (q : VirtualOutput). same_cell q.cell cell) written) [
-    | inl found ↦
-        (let some = plan.given cell ∙ any-from_In (λ (q : VirtualOutput). same_cell q.cell cell) found.0 written found.2 found.3 in
-        let no = subst (λ (s : Option ℕ). is_some s ≡ true) (sym none) some in
-        absurd (cc))
-    | inr none ↦ none.0
-  ]
+  -- as where it isn't described, or has no slot
+  pub undescribed : (cell : Cell) → None ≡ written_description is nodes cell → (output : Option Cell) → output ≡ Some cell → (k : ℕ) (slot : Option Slot) → slot ≡ claimed_at p written output k slot
+  undescribed cell none = none_claims cell (λ o i same.
+      let no : ◌≡◌ {A = Option Description} None (Some o.desc) = none ∙ ap (written_description is nodes) (sym same) ∙ output_described is nodes v how o i in
+      cc)
+
+  pub unplaced : (cell : Cell) → None ≡ p.slot_of cell → (output : Option Cell) → output ≡ Some cell → (k : ℕ) (slot : Option Slot) → slot ≡ claimed_at p written output k slot
+  unplaced cell none = grind (arith, none_claims, any-from_In, same_cell-refl)
 
   -- who claims stands in no other slot
   pub stands_nowhere_else : (slots : List Slot) → AreShared p written slots → (o : VirtualOutput) → In o written → (k : ℕ) (a : VirtualOutput) → holder_at slots k ≡ Some a

@@ -1,18 +1,17 @@
 -- Slots of a plan: where they stand, what they have room for, and what is found in them.
-use Rattle.std.proofs.Common.{◌≡◌, ℕ, ◌+◌, ◌<◌, ◌≤◌, Bool, true, false, cond, List, [], ◌∷◌, ◌++◌, map, length, zero, suc, Option, Some, None, ◌⊎◌, inl, inr, refl, sym, ap, subst, ◌∙◌, arith}
-use Rattle.std.specs.Prelude.{◌==◌, nat_le, IfSome, find, slice_get, is_some, unwrap_or, if◌then◌else◌}
-use Rattle.std.specs.List.{range_with_len, list_any, filter}
+use Rattle.std.proofs.Common.{◌≡◌, ℕ, ◌+◌, ◌<◌, ◌≤◌, Bool, true, false, cond, List, [], ◌∷◌, ◌++◌, map, length, suc, Option, Some, None, ◌⊎◌, inl, inr, refl, sym, ap, subst, ◌∙◌, arith}
+use Rattle.std.specs.Prelude.{IfSome, find, slice_get, is_some, unwrap_or}
+use Rattle.std.specs.List.{range_with_len, filter}
 use Rattle.std.specs.Option.{option_map}
-use Rattle.std.proofs.lemmas.Bool.{cases_Bool, eq-eqb}
+use Rattle.std.proofs.lemmas.Bool.{eq-eqb}
 use Rattle.std.proofs.lemmas.Bool.Decides.{nat_tests}
 use Rattle.std.proofs.lemmas.List.FromFn.{length-map-range_with_len, get_or-map-range_with_len}
 use Rattle.std.proofs.lemmas.List.{length-append}
 use Rattle.std.proofs.lemmas.Option.{slice_get-map, slice_get-get_or}
 use Rattle.vx_base.specs.declared.format.Format.{Format}
 use Rattle.vx_base.specs.declared.format.Format.TheVariants.{U8, S16, U32}
-use Rattle.vx_base.specs.Cell.{Cell, same_cell}
+use Rattle.vx_base.specs.Cell.{same_cell}
 use Rattle.vx_base.specs.Description.{sample_count}
-use Rattle.vx_base.specs.Picture.{values, samples_format}
 use Rattle.vx_base.specs.Sample.{same_format}
 use Rattle.graph_verify.specs.declared.known.VirtualOutput.{VirtualOutput}
 use Rattle.vx_base.specs.declared.node.Node.{Node}
@@ -30,9 +29,8 @@ use Rattle.graph_run.specs.Stage.{HasRoomFor}
 
 module _ {X : Type 0} where
   get_left : (xs ys : List X) (k : ℕ) → k < length xs → slice_get (xs ++ ys) k ≡ slice_get xs k
-  get_left [] ys k below = absurd (omega (arith, below))
-  get_left (x ∷ xs) ys zero below = refl
   get_left (x ∷ xs) ys (suc k) below = get_left xs ys k (omega (arith, below))
+  get_left x ys k below = grind arith
 
   get_right : (xs ys : List X) (n k : ℕ) → length xs ≡ n → slice_get (xs ++ ys) (n + k) ≡ slice_get ys k
   get_right [] ys n k long = let same : n + k ≡ k = omega (arith, long) in ap (slice_get ys) same
@@ -45,16 +43,6 @@ module _ {X : Type 0} where
       let long : length (map f (range_with_len 0 n)) ≡ n = length-map-range_with_len f 0 n in
       slice_get-get_or (map f (range_with_len 0 n)) k (f k) (omega (arith, long, below))
       ∙ ap (λ x. Some x) (get_or-map-range_with_len f 0 n k k (f k) below (omega arith))
-
-  -- lists of the same element at each place
-  pub same_at_each : (xs ys : List X) → ((k : ℕ) → slice_get xs k ≡ slice_get ys k) → xs ≡ ys
-  same_at_each [] [] h = refl
-  same_at_each [] (y ∷ ys) h = let first = h 0 in absurd (cc first)
-  same_at_each (x ∷ xs) [] h = let first = h 0 in absurd (cc first)
-  same_at_each (x ∷ xs) (y ∷ ys) h =
-      let first : ◌≡◌ {A = Option X} (Some x) (Some y) = h 0 in
-      let head : x ≡ y = cc in
-      ap (λ z. z ∷ xs) head ∙ ap (λ zs. y ∷ zs) (same_at_each xs ys (λ k. h (suc k)))
 
   -- ---- what is found
 
@@ -76,11 +64,6 @@ module _ {X : Type 0} where
         | inr e ↦ ap (λ b. cond b (Some x) (find p xs)) e.0 ∙ rest ∙ sym (ap (λ b. cond b (Some y) (find p ys)) e.1)
       ]
 
-  -- nothing passes
-  pub find_nowhere : (p : X → Bool) (xs : List X) → ((k : ℕ) (x : X) → slice_get xs k ≡ Some x → p x ≡ false) → find p xs ≡ None
-  find_nowhere p [] h = refl
-  find_nowhere p (x ∷ xs) h = ap (λ b. cond b (Some x) (find p xs)) (h 0 x refl) ∙ find_nowhere p xs (λ k y at. h (suc k) y at)
-
 -- ---- where slots stand
 
 module _ (p : PlanValue) where
@@ -93,35 +76,13 @@ module _ (p : PlanValue) where
   -- what a slot has room for
   planned_at : (format : Format) (k : ℕ) → k < p.slot_count format
       → slice_get (planned_rooms p) (slot_place p format k) ≡ Some (format, p.slot_samples format k)
-  planned_at U8 k below =
-      let u8 = long U8 in
-      let both = length-append (rooms_for p U8) (rooms_for p S16) in
-      get_left (rooms_for p U8 ++ rooms_for p S16) (rooms_for p U32) k (omega (arith, u8, both, below))
-      ∙ get_left (rooms_for p U8) (rooms_for p S16) k (omega (arith, u8, below)) ∙ made_at U8 k below
-  planned_at S16 k below =
-      let u8 = long U8 in
-      let s16 = long S16 in
-      let both = length-append (rooms_for p U8) (rooms_for p S16) in
-      get_left (rooms_for p U8 ++ rooms_for p S16) (rooms_for p U32) (p.slot_count U8 + k) (omega (arith, u8, s16, both, below))
-      ∙ get_right (rooms_for p U8) (rooms_for p S16) (p.slot_count U8) k u8 ∙ made_at S16 k below
-  planned_at U32 k below =
-      let u8 = long U8 in
-      let s16 = long S16 in
-      let both = length-append (rooms_for p U8) (rooms_for p S16) in
-      get_right (rooms_for p U8 ++ rooms_for p S16) (rooms_for p U32) (p.slot_count U8 + p.slot_count S16) k (omega (arith, u8, s16, both))
-      ∙ made_at U32 k below
+  planned_at U8 k below = grind (arith, get_left, long, length-append, made_at)
+  planned_at S16 k below = grind (arith, get_left, long, length-append, get_right, made_at)
+  planned_at U32 k below = grind (arith, get_right, long, length-append, made_at)
 
   -- one slot stands at a place
   one_slot : (f g : Format) (j k : ℕ) → j < p.slot_count f → k < p.slot_count g → slot_place p f j ≡ slot_place p g k → (f ≡ g) × (j ≡ k)
-  one_slot U8 U8 j k a b same = (refl, same)
-  one_slot U8 S16 j k a b same = absurd (omega (arith, a, b, same))
-  one_slot U8 U32 j k a b same = absurd (omega (arith, a, b, same))
-  one_slot S16 U8 j k a b same = absurd (omega (arith, a, b, same))
-  one_slot S16 S16 j k a b same = (refl, (omega (arith, same)))
-  one_slot S16 U32 j k a b same = absurd (omega (arith, a, b, same))
-  one_slot U32 U8 j k a b same = absurd (omega (arith, a, b, same))
-  one_slot U32 S16 j k a b same = absurd (omega (arith, a, b, same))
-  one_slot U32 U32 j k a b same = (refl, (omega (arith, same)))
+  one_slot f g j k a b same = grind arith
 
 -- ---- the slots of virtual images
 
@@ -186,19 +147,8 @@ module _ (steps : List Node) (outs : List VirtualOutput) (p : PlanValue) (plan :
       found None at h e = absurd (cc)
       found (Some s) at h e =
           let room : room_of s ≡ (o.desc.format, p.slot_samples o.desc.format h.slot) = cc in
-          record {
-            slot = s;
-            there = at;
-            room = record {
-              format = ap (λ r. r.0) room;
-              count = subst (λ n. sample_count o.desc ≤ n) (sym (ap (λ r. r.1) room)) h.room;
-            };
-          }
+          record { slot = s; there = at; room = record { format = ap (λ r. r.0) room; count = subst (λ n. sample_count o.desc ≤ n) (sym (ap (λ r. r.1) room)) h.room } }
 
   -- images in one place have one slot
   pub one_home : (a b : VirtualOutput) → In a outs → In b outs → place_of p a ≡ place_of p b → (a.desc.format ≡ b.desc.format) × (p.slot_of a.cell ≡ p.slot_of b.cell)
-  one_home a b i j same =
-      let g = has_slot a i in
-      let h = has_slot b j in
-      let one = one_slot p a.desc.format b.desc.format g.slot h.slot g.below h.below (sym (home_at a g) ∙ same ∙ home_at b h) in
-      (one.0, g.is ∙ ap (λ k. Some k) one.1 ∙ sym h.is)
+  one_home a b i j same = grind (arith, has_slot, one_slot, home_at)

@@ -1,68 +1,26 @@
 -- Blocks of a pool that slots take and give back.
-use Rattle.std.proofs.Common.{◌≡◌, ◌≢◌, ℕ, ◌+◌, ◌<◌, ◌≤◌, ◌⊎◌, Bool, true, false, List, [], ◌∷◌, ◌++◌, length, map, max, None, inl, inr, refl, sym, ap, ◌∙◌, arith}
+use Rattle.std.proofs.Common.{◌≡◌, ◌≢◌, ℕ, ◌+◌, ◌≤◌, ◌⊎◌, List, [], ◌∷◌, ◌++◌, length, map, max, refl, sym, ap, ◌∙◌, arith}
 use Rattle.std.specs.Prelude.{if◌then◌else◌, sum_by}
 use Rattle.std.specs.List.{range_with_len}
-use Rattle.std.proofs.lemmas.Bool.{cases_Bool}
-use Rattle.std.proofs.lemmas.List.{length-append, map-append, append_assoc}
-use Rattle.std.proofs.lemmas.List.Elements.{All-push}
+use Rattle.std.proofs.lemmas.List.{map-append, append_assoc}
 use Rattle.std.proofs.lemmas.List.FromFn.{map-range_with_len_more}
 use Rattle.std.proofs.lemmas.List.Sums.{sum_by_push, sum_by-cons}
 use Rattle.vx_base.specs.declared.format.Format.{Format}
-use Rattle.vx_base.specs.declared.format.Format.TheVariants.{U8, S16, U32}
 use Rattle.vx_base.specs.Picture.{values, samples_format}
 use Rattle.vx_base.specs.Sample.{same_format}
 use Rattle.pixel_pool.specs.declared.pool.Pool.{Pool}
-use Rattle.pixel_pool.specs.Free.{GetsRoom}
-use Rattle.pixel_pool.specs.Pool.{lent_of, rooms_of, blocks_of, one_of, Lends, GetsBack, KeepsOtherRooms}
-use Rattle.buffer_plan.specs.Plan.{PlanValue}
+use Rattle.pixel_pool.specs.Pool.{lent_of, blocks_of, one_of, Lends, KeepsOtherRooms}
 use Rattle.graph_run.specs.declared.stage.Slot.{Slot}
-use Rattle.graph_run.specs.Slots.{room_of, AreEmpty, slot_blocks}
+use Rattle.graph_run.specs.Slots.{room_of, slot_blocks}
 
 -- two formats are one or not
 formats : (f g : Format) → ((f ≡ g) × (one_of g f ≡ 1)) ⊎ ((f ≢ g) × (one_of g f ≡ 0))
-formats U8 U8 = inl (refl, refl)
-formats U8 S16 = inr (λ e. cc, refl)
-formats U8 U32 = inr (λ e. cc, refl)
-formats S16 U8 = inr (λ e. cc, refl)
-formats S16 S16 = inl (refl, refl)
-formats S16 U32 = inr (λ e. cc, refl)
-formats U32 U8 = inr (λ e. cc, refl)
-formats U32 S16 = inr (λ e. cc, refl)
-formats U32 U32 = inl (refl, refl)
+formats f g = grind arith
 
 -- a block that is taken adds at most one
 pub taken_adds : (old new : Pool) (format : Format) → Lends old new format → blocks_of new format ≡ max (blocks_of old format) (lent_of new format) → KeepsOtherRooms old new format
     → (f : Format) → blocks_of new f ≤ blocks_of old f + one_of format f
-taken_adds old new format lends blocks others f = elim (formats f format) [
-  | inl one ↦
-      (let lent = lends f in
-      let all : blocks_of new f ≡ max (blocks_of old f) (lent_of new f) = ap (blocks_of new) one.0 ∙ blocks ∙ ap (λ g. max (blocks_of old g) (lent_of new g)) (sym one.0) in
-      omega (arith, lent, all, one.1))
-  | inr two ↦
-      (let lent = lends f in
-      let rooms = ap length (others f two.0) in
-      omega (arith, lent, rooms, two.1))
-]
-
--- one that is given back adds none
-pub given_adds : (old new : Pool) (format : Format) (count : ℕ) → GetsBack old new format → GetsRoom (rooms_of old format) (rooms_of new format) count → KeepsOtherRooms old new format
-    → (f : Format) → blocks_of new f ≤ blocks_of old f
-given_adds old new format count back room others f = elim (formats f format) [
-  | inl one ↦
-      (let lent = back f in
-      let most = at_most room.kept in
-      let rooms : length (rooms_of new f) ≡ length room.before + 1 = ap (λ g. length (rooms_of new g)) one.0 ∙ ap length room.added ∙ length-append room.before (room.room ∷ []) in
-      let old_rooms : length (rooms_of old f) ≡ length (rooms_of old format) = ap (λ g. length (rooms_of old g)) one.0 in
-      omega (arith, lent, most, rooms, old_rooms, one.1))
-  | inr two ↦
-      (let lent = back f in
-      let rooms = ap length (others f two.0) in
-      omega (arith, lent, rooms, two.1))
-]
-  where
-    at_most : (room.before ≡ rooms_of old format) ⊎ (room.before ≡ []) → length room.before ≤ length (rooms_of old format)
-    at_most (inl all) = let e = ap length all in omega (arith, e)
-    at_most (inr none) = let e = ap length none in omega (arith, e)
+taken_adds old new format lends blocks others f = grind (arith, formats)
 
 -- ---- one slot more
 
@@ -78,18 +36,11 @@ module _ (slots : List Slot) (s : Slot) where
 
   pub lends_more : (format : Format) → samples_format s.samples ≡ format → (old now new : Pool) (f : Format) (blocks : ℕ) → Lends now new format → lent_of now f + blocks ≡ lent_of old f + slot_blocks slots f
       → lent_of new f + blocks ≡ lent_of old f + slot_blocks (slots ++ s ∷ []) f
-  lends_more format format_is old now new f blocks lends before =
-      let more = lends f in
-      let this : one_of (samples_format s.samples) f ≡ one_of format f = ap (λ g. one_of g f) format_is in
-      omega (arith, more, this, before, sum_by_push (λ (t : Slot). one_of (samples_format t.samples) f) slots s)
+  lends_more format format_is old now new f blocks lends before = grind (arith, sum_by_push)
 
 pub adds_more : (format f : Format) (k old now new : ℕ) → new ≤ now + one_of format f → now ≤ old + (if same_format format f then k else 0)
     → new ≤ old + (if same_format format f then k + 1 else 0)
-adds_more format f k old now new more before = either (same_format format f) more before
-  where
-    either : (b : Bool) → new ≤ now + (if b then 1 else 0) → now ≤ old + (if b then k else 0) → new ≤ old + (if b then k + 1 else 0)
-    either true more before = omega (arith, more, before)
-    either false more before = omega (arith, more, before)
+adds_more format f k old now new more before = grind arith
 
 -- ---- slots of the same rooms
 

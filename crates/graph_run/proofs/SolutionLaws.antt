@@ -1,5 +1,5 @@
 -- What the rounds give solves a graph, and nothing else does.
-use Rattle.std.proofs.Common.{◌≡◌, ◌≢◌, ◌<◌, true, false, List, length, map, refl, sym, ap, subst, ◌∙◌, Option, Some, None, arith}
+use Rattle.std.proofs.Common.{◌≡◌, ◌≢◌, ◌<◌, true, false, List, length, map, sym, ap, subst, ◌∙◌, Option, Some, arith}
 use Rattle.std.specs.Prelude.{All}
 use Rattle.std.specs.Option.{option_map, option_and_then}
 use Rattle.std.specs.List.{AllPairs}
@@ -33,9 +33,8 @@ use Rattle.graph_run.proofs.ValueLaws.{given_from, reads_alone, given_same, same
 
 -- what is seen of a cell that holds no delay as a whole is what it holds
 unshown : (o p : Option ObjectValue) → option_map object_kind p ≢ Some kind.Delay → option_map shown o ≡ option_map shown p → o ≡ p
-unshown None None whole h = refl
 unshown (Some x) (Some y) whole h = grind (arith, shown x, shown y, is_delay y, not_delay y (λ k. whole (ap Some k)), is_delay x, is_delay-shown x, is_delay-shown y)
-unshown o p whole h = absurd (cc h)
+unshown o p whole h = grind arith
 
 kinds_by_forms : (o p : Option ObjectValue) → option_map form_of o ≡ option_map form_of p → option_map object_kind o ≡ option_map object_kind p
 kinds_by_forms o p h = sym (kind-form_seen o) ∙ ap (option_map object_kind) h ∙ kind-form_seen p
@@ -84,16 +83,12 @@ module _ (nodes : List Node) (objects : List Named) (one : two_writers nodes ≡
 same_given : (n : Node) (output : Output) (first second x y : Option ObjectValue) → option_map object_kind first ≡ Some kind.Image → option_map form_of x ≡ option_map form_of y → option_map object_kind y ≢ Some kind.Delay
     → output_of n output first second x ≡ output_of n output first second y
 same_given n output (Some (ImageObject a)) second (Some x) (Some y) image forms whole = grind (arith, is_delay, not_delay, kinds_by_forms)
-same_given n output (Some first) second None None image forms whole = refl
-same_given n output (Some first) second (Some x) None image forms whole = absurd (cc forms)
-same_given n output (Some first) second None (Some y) image forms whole = absurd (cc forms)
-same_given n output first second x y image forms whole = absurd (cc image)
+same_given n output first second x y image forms whole = grind arith
 
 -- of a delay as a whole nothing is seen but that it is one
 same_seen : (o p : Option ObjectValue) → option_map form_of o ≡ option_map form_of p → (option_map object_kind p ≢ Some kind.Delay → o ≡ p) → option_map shown o ≡ option_map shown p
-same_seen None None forms h = refl
 same_seen (Some x) (Some y) forms h = grind (arith, cases_Bool (is_delay y), is_delay y, is_delay x, is_delay-form x, is_delay-form y)
-same_seen o p forms h = absurd (cc forms)
+same_seen o p forms h = grind arith
 
 solution_seen : (nodes : List Node) (before after : List Named) → WritesNo kind.Delay nodes before → ReadImages nodes before → Solves nodes before after
     → IsSolution writes (given_from (seen before)) nodes (seen before) (seen after)

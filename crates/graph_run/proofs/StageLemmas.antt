@@ -1,29 +1,26 @@
 -- What nodes find of objects, where images stand in slots.
-use Rattle.std.proofs.Common.{◌≡◌, ◌≢◌, ℕ, zero, suc, ◌+◌, ◌<◌, ◌≤◌, ◌⊎◌, Bool, true, false, cond, List, [], ◌∷◌, map, length, get_or, set, Option, Some, None, IfSome, IsTrue, inl, inr, refl, sym, ap, subst, ◌∙◌, arith}
-use Rattle.std.specs.Prelude.{All, ◌==◌, if◌then◌else◌, find, slice_get, is_some, position, take}
+use Rattle.std.proofs.Common.{◌≡◌, ◌≢◌, ℕ, zero, suc, ◌<◌, Bool, true, false, List, [], ◌∷◌, map, length, get_or, set, Option, Some, None, inl, inr, refl, sym, ap, ◌∙◌, arith}
+use Rattle.std.specs.Prelude.{All, ◌==◌, if◌then◌else◌, find, slice_get, position}
 use Rattle.std.specs.List.{position_or_len}
-use Rattle.std.specs.List.Sorted.{IsStrictlyIncreasing}
 use Rattle.std.specs.Option.{option_map, option_and_then}
-use Rattle.std.proofs.lemmas.Bool.{cases_Bool, cases_lt, eqb-true, eqb-false, ne_eqb}
+use Rattle.std.proofs.lemmas.Bool.{cases_Bool, cases_lt, eqb-true, eqb-false, ne_eqb, false_from_ne_true}
 use Rattle.std.proofs.lemmas.Bool.Decides.{nat_tests}
-use Rattle.std.proofs.lemmas.List.Elements.{All-nil, All-cons, All-head, All-tail}
+use Rattle.std.proofs.lemmas.List.Elements.{All-head, All-tail}
 use Rattle.std.proofs.lemmas.List.Folds.{find_at}
 use Rattle.std.proofs.lemmas.List.Sums.{passes_at_first}
 use Rattle.std.proofs.lemmas.Option.{slice_get_past}
-use Rattle.vx_base.specs.declared.format.Format.{Format}
-use Rattle.vx_base.specs.declared.kind.Kind.TheVariants as kind
 use Rattle.vx_base.specs.declared.virtual_image.VirtualImage.{VirtualImage}
 use Rattle.vx_base.specs.Cell.{Cell, cell_of}
-use Rattle.vx_base.specs.Object.{ObjectValue, ImageObject, DelayObject, VirtualObject, object_kind}
+use Rattle.vx_base.specs.Object.{ObjectValue, ImageObject, VirtualObject}
 use Rattle.vx_base.specs.Picture.{values, samples_format}
 use Rattle.object_table.specs.Delay.{in_slot, with_slot}
 use Rattle.object_table.specs.Named.{Named, object_held, held, with_object}
-use Rattle.object_table.proofs.HeldLemmas.{names_of, HasObject, held_alone, object_held-map}
+use Rattle.object_table.proofs.HeldLemmas.{names_of, HasObject, object_held-map}
 use Rattle.graph_verify.specs.declared.known.VirtualOutput.{VirtualOutput}
 use Rattle.graph_run.specs.declared.stage.Slot.{Slot}
 use Rattle.graph_run.specs.Graph.{is_virtual_object}
 use Rattle.graph_run.proofs.HeldLaws.{object_held-with_object}
-use Rattle.graph_run.specs.Stage.{is_named, standing_image, image_in, standing, shown_as, shown, slot_of, holder_at, HoldsVirtual, fixed, resized}
+use Rattle.graph_run.specs.Stage.{is_named, standing_image, image_in, standing, shown_as, shown, slot_of, holder_at, fixed, resized}
 
 -- ---- what is shown
 
@@ -31,69 +28,44 @@ pub names-shown : (slots : List Slot) (l : List Named) → names_of (shown slots
 names-shown slots [] = refl
 names-shown slots (o ∷ l) = ap (λ (names : List ℕ). o.name ∷ names) (names-shown slots l)
 
--- where nothing stands in a slot, all is as it is
-nothing_shown : (name : ℕ) (object : ObjectValue) → shown_as [] name object ≡ object
-nothing_shown name (VirtualObject image) = refl
-nothing_shown name other = refl
-
-pub shown-nil : (l : List Named) → shown [] l ≡ l
-shown-nil [] = refl
-shown-nil (o ∷ l) = ap (λ (x : ObjectValue). let p : Named = record o { object = x } in p ∷ shown [] l) (nothing_shown o.name o.object) ∙ ap (λ (m : List Named). o ∷ m) (shown-nil l)
-
 -- what is found under a name
 pub held-shown : (slots : List Slot) (l : List Named) (name : ℕ) → object_held (shown slots l) name ≡ option_map (shown_as slots name) (object_held l name)
-held-shown slots l name =
-    object_held-map (λ (o : Named). record o { object = shown_as slots o.name o.object }) (shown_as slots name) l name (λ o. refl)
-    (λ o same. ap (λ n. shown_as slots n o.object) same)
+held-shown slots l name = grind (arith, object_held-map)
+
+-- where the same slot has a name, the same is found under it
+pub shown_same : (a b : List Slot) (name : ℕ) (object : ObjectValue) → slot_of a name ≡ slot_of b name → shown_as a name object ≡ shown_as b name object
+shown_same a b name (VirtualObject image) same = ap (λ s. standing s (VirtualObject image)) same
+shown_same a b name other same = refl
 
 -- what stands in no slot is found as it is
-as_it_is : (slots : List Slot) (name : ℕ) (object : ObjectValue) → slot_of slots name ≡ None → shown_as slots name object ≡ object
+pub as_it_is : (slots : List Slot) (name : ℕ) (object : ObjectValue) → slot_of slots name ≡ None → shown_as slots name object ≡ object
 as_it_is slots name (VirtualObject image) none = ap (λ s. standing s (VirtualObject image)) none
 as_it_is slots name other none = refl
 
 pub found_as_it_is : (slots : List Slot) (l : List Named) (name : ℕ) → slot_of slots name ≡ None → object_held (shown slots l) name ≡ object_held l name
-found_as_it_is slots l name none = held-shown slots l name ∙ same (object_held l name)
-  where
-    same : (o : Option ObjectValue) → option_map (shown_as slots name) o ≡ o
-    same None = refl
-    same (Some x) = ap Some (as_it_is slots name x none)
+found_as_it_is slots l name none = grind (arith, held-shown slots l name, as_it_is slots name)
 
 pub cell_as_it_is : (slots : List Slot) (l : List Named) (cell : Cell) → slot_of slots cell.name ≡ None → held (shown slots l) cell ≡ held l cell
 cell_as_it_is slots l cell none = ap (option_and_then (in_slot cell.slot)) (found_as_it_is slots l cell.name none)
 
+pub shown_nowhere : (slots : List Slot) → ((name : ℕ) → slot_of slots name ≡ None) → (l : List Named) → shown slots l ≡ l
+shown_nowhere slots none [] = refl
+shown_nowhere slots none (o ∷ l) =
+    ap (λ (x : ObjectValue). let p : Named = record o { object = x } in p ∷ shown slots l) (as_it_is slots o.name o.object (none o.name)) ∙ ap (λ (m : List Named). o ∷ m) (shown_nowhere slots none l)
+
 -- so is what isn't virtual
 pub real_as_it_is : (slots : List Slot) (name : ℕ) (object : ObjectValue) → is_virtual_object object ≡ false → shown_as slots name object ≡ object
-real_as_it_is slots name (VirtualObject image) real = cc
-real_as_it_is slots name other real = refl
+real_as_it_is slots name other real = grind arith
 
 -- ---- what is written to an object that isn't virtual
 
 slot_beside : (k : ℕ) (new : ObjectValue) (s : Option Slot) (image : VirtualImage) → with_slot (Some k) new (standing s (VirtualObject image)) ≡ standing s (VirtualObject image)
-slot_beside k new None image = of_virtual new
-  where
-    of_virtual : (x : ObjectValue) → with_slot (Some k) x (VirtualObject image) ≡ VirtualObject image
-    of_virtual (ImageObject a) = refl
-    of_virtual other = refl
-slot_beside k new (Some s) image = of_holder s.holder new
-  where
-    of_holder : (o : Option VirtualOutput) (x : ObjectValue) → with_slot (Some k) x (image_in s o (VirtualObject image)) ≡ image_in s o (VirtualObject image)
-    of_holder None (ImageObject a) = refl
-    of_holder None other = refl
-    of_holder (Some o) (ImageObject a) = refl
-    of_holder (Some o) other = refl
+slot_beside k new z image = grind arith
 
 slot_written : (slots : List Slot) (name : ℕ) (slot : Option ℕ) (new object : ObjectValue) → is_virtual_object new ≡ false
     → shown_as slots name (with_slot slot new object) ≡ with_slot slot new (shown_as slots name object)
-slot_written slots name None new object real = real_as_it_is slots name new real
 slot_written slots name (Some k) new (VirtualObject image) real = ap (shown_as slots name) (slot_beside k new None image) ∙ sym (slot_beside k new (slot_of slots name) image)
-slot_written slots name (Some k) (ImageObject a) (DelayObject images) real = refl
-slot_written slots name (Some k) (ImageObject a) other real = refl
-slot_written slots name (Some k) new (DelayObject images) real = no_image new
-  where
-    no_image : (x : ObjectValue) → shown_as slots name (with_slot (Some k) x (DelayObject images)) ≡ with_slot (Some k) x (DelayObject images)
-    no_image (ImageObject a) = refl
-    no_image other = refl
-slot_written slots name (Some k) new other real = refl
+slot_written slots name z new object real = grind arith
 
 -- it is found there
 pub shown-with_object : (slots : List Slot) (l : List Named) (cell : Cell) (new : ObjectValue) → is_virtual_object new ≡ false
@@ -103,21 +75,14 @@ shown-with_object slots (o ∷ l) cell new real = grind (arith, shown-with_objec
 
 -- what was held under another name stays
 pub held_beside : (l : List Named) (cell : Cell) (name : ℕ) (new : ObjectValue) → name ≢ cell.name → object_held (with_object l cell new) name ≡ object_held l name
-held_beside l cell name new apart = object_held-with_object l cell new name ∙ ap (λ b. option_map (λ x. if b then with_slot cell.slot new x else x) (object_held l name)) (ne_eqb name cell.name apart) ∙ same (object_held l name)
-  where
-    same : (o : Option ObjectValue) → option_map (λ x. x) o ≡ o
-    same None = refl
-    same (Some x) = refl
+held_beside l cell name new apart = grind (arith, object_held-with_object l cell new name, ne_eqb name cell.name apart)
 
 -- ---- the slot in which an image stands
 
 -- where no slot has an image of this name, none is changed
 pub none_resized : (slots : List Slot) (name count : ℕ) → slot_of slots name ≡ None → map (resized name count) (map fixed slots) ≡ map fixed slots
 none_resized [] name count none = refl
-none_resized (t ∷ slots) name count none = elim (cases_Bool (is_named name t.holder)) [
-  | inl e ↦ (let no : ◌≡◌ {A = Option Slot} (Some t) None = sym (ap (λ b. if b then Some t else slot_of slots name) e) ∙ none in absurd (cc))
-  | inr e ↦ rw e (ap (λ fs. fixed t ∷ fs) (none_resized slots name count (sym (ap (λ b. if b then Some t else slot_of slots name) e) ∙ none)))
-]
+none_resized (t ∷ slots) name count none = grind (arith, none_resized slots name count, cases_Bool (is_named name t.holder))
 
 -- of slots this one alone has an image of this name
 abbrev pub IsAlone : List Slot → ℕ → ℕ → Slot → Type 0
@@ -129,14 +94,13 @@ abbrev Elsewhere : List Slot → ℕ → ℕ → Type 0
 Elsewhere slots name k = (j : ℕ) (a : VirtualOutput) → holder_at slots j ≡ Some a → a.cell.name ≡ name → j ≡ k
 
 pub named_holder : (name : ℕ) (o : Option VirtualOutput) → is_named name o ≡ true → (a : VirtualOutput) × (o ≡ Some a) × (a.cell.name ≡ name)
-named_holder name None e = cc
-named_holder name (Some a) e = (a, refl, eqb-true a.cell.name name e)
+named_holder name y e = grind arith
 
-nowhere : (slots : List Slot) (name : ℕ) → ((j : ℕ) (a : VirtualOutput) → holder_at slots j ≡ Some a → a.cell.name ≢ name) → slot_of slots name ≡ None
-nowhere [] name none = refl
-nowhere (t ∷ slots) name none = elim (cases_Bool (is_named name t.holder)) [
+pub stands_nowhere : (slots : List Slot) (name : ℕ) → ((j : ℕ) (a : VirtualOutput) → holder_at slots j ≡ Some a → a.cell.name ≢ name) → slot_of slots name ≡ None
+stands_nowhere [] name none = refl
+stands_nowhere (t ∷ slots) name none = elim (cases_Bool (is_named name t.holder)) [
   | inl e ↦ (let a = named_holder name t.holder e in absurd (none 0 a.0 a.1 a.2))
-  | inr e ↦ rw e (nowhere slots name (λ j. none (suc j)))
+  | inr e ↦ rw e (stands_nowhere slots name (λ j. none (suc j)))
 ]
 
 pub alone_at : (slots : List Slot) (name k : ℕ) (s : Slot) → slice_get slots k ≡ Some s → is_named name s.holder ≡ true → Elsewhere slots name k → IsAlone slots name k s
@@ -144,31 +108,17 @@ alone_at [] name k s at named apart = absurd (cc)
 alone_at (t ∷ slots) name zero s at named apart = (
   cc,
   named,
-  nowhere slots name (λ j a e f. let no = apart (suc j) a e f in omega arith),
+  stands_nowhere slots name (λ j a e f. let no = apart (suc j) a e f in omega arith),
 )
 alone_at (t ∷ slots) name (suc k) s at named apart = (
-  elim (cases_Bool (is_named name t.holder)) [
-    | inl e ↦ (let a = named_holder name t.holder e in let no = apart 0 a.0 a.1 a.2 in absurd (omega arith))
-    | inr e ↦ e
-  ],
+  false_from_ne_true (is_named name t.holder) (λ e. let a = named_holder name t.holder e in let no = apart 0 a.0 a.1 a.2 in omega arith),
   alone_at slots name k s at named (λ j a e f. let same = apart (suc j) a e f in omega arith),
 )
 
 module _ (name : ℕ) (s : Slot) where
   pub alone_found : (slots : List Slot) (k : ℕ) → IsAlone slots name k s → slot_of slots name ≡ Some s
-  alone_found [] k h = absurd h
-  alone_found (t ∷ slots) zero h = rw h.0 (rw h.1 refl)
   alone_found (t ∷ slots) (suc k) h = rw h.0 (alone_found slots k h.1)
-
-  pub alone_there : (slots : List Slot) (k : ℕ) → IsAlone slots name k s → slice_get slots k ≡ Some s
-  alone_there [] k h = absurd h
-  alone_there (t ∷ slots) zero h = ap Some h.0
-  alone_there (t ∷ slots) (suc k) h = alone_there slots k h.1
-
-  pub alone_named : (slots : List Slot) (k : ℕ) → IsAlone slots name k s → is_named name s.holder ≡ true
-  alone_named [] k h = absurd h
-  alone_named (t ∷ slots) zero h = h.1
-  alone_named (t ∷ slots) (suc k) h = alone_named slots k h.1
+  alone_found x k h = grind arith
 
   -- it has as many samples as it has
   pub alone_count : (slots : List Slot) (k : ℕ) → IsAlone slots name k s → map (resized name (length (values s.samples))) (map fixed slots) ≡ map fixed slots
@@ -179,9 +129,8 @@ module _ (name : ℕ) (s : Slot) where
   -- another slot in its place, in which the same image stands
   module _ (new : Slot) (same : new.holder ≡ s.holder) where
     pub set_found : (slots : List Slot) (k : ℕ) → IsAlone slots name k s → slot_of (set slots k new) name ≡ Some new
-    set_found [] k h = absurd h
-    set_found (t ∷ slots) zero h = rw (ap (is_named name) same ∙ h.1) refl
     set_found (t ∷ slots) (suc k) h = rw h.0 (set_found slots k h.1)
+    set_found x k h = grind arith
 
     pub set_beside : (other : ℕ) → is_named other s.holder ≡ false → (slots : List Slot) (k : ℕ) → IsAlone slots name k s → slot_of (set slots k new) other ≡ slot_of slots other
     set_beside other apart [] k h = absurd h
@@ -189,53 +138,33 @@ module _ (name : ℕ) (s : Slot) where
     set_beside other apart (t ∷ slots) (suc k) h = ap (λ found. if is_named other t.holder then Some t else found) (set_beside other apart slots k h.1)
 
     pub set_holders : (slots : List Slot) (k : ℕ) → IsAlone slots name k s → (j : ℕ) → holder_at (set slots k new) j ≡ holder_at slots j
-    set_holders [] k h j = absurd h
     set_holders (t ∷ slots) zero h zero = same ∙ ap (λ (q : Slot). q.holder) (sym h.0)
-    set_holders (t ∷ slots) zero h (suc j) = refl
-    set_holders (t ∷ slots) (suc k) h zero = refl
     set_holders (t ∷ slots) (suc k) h (suc j) = set_holders slots k h.1 j
+    set_holders x k h j = grind arith
 
     pub set_fixed : samples_format new.samples ≡ samples_format s.samples → (slots : List Slot) (k : ℕ) → IsAlone slots name k s
         → map fixed (set slots k new) ≡ map (resized name (length (values new.samples))) (map fixed slots)
     set_fixed format [] k h = absurd h
     set_fixed format (t ∷ slots) zero h =
-        rw h.0 (rw h.1 (ap (λ (f : Format). (f, length (values new.samples), new.holder) ∷ map fixed slots) format
-        ∙ ap (λ (o : Option VirtualOutput). (samples_format s.samples, length (values new.samples), o) ∷ map fixed slots) same
-        ∙ ap (λ fs. (samples_format s.samples, length (values new.samples), s.holder) ∷ fs) (sym (none_resized slots name (length (values new.samples)) h.2))))
+        grind (arith, h.0, h.1, none_resized slots name (length (values new.samples)) h.2)
     set_fixed format (t ∷ slots) (suc k) h = rw h.0 (ap (λ fs. fixed t ∷ fs) (set_fixed format slots k h.1))
 
 -- ---- the first slot that has an image of a name
 
 pub placed : {X : Type 0} (p : X → Bool) (xs : List X) (k : ℕ) → position p xs ≡ Some k → k < length xs
-placed p xs k at = within (cases_lt (position_or_len p xs) (length xs))
-  where
-    within : (position_or_len p xs < length xs) ⊎ (length xs ≤ position_or_len p xs) → k < length xs
-    within (inl less) = let same : position_or_len p xs ≡ k = grind (arith, nat_tests) in omega arith
-    within (inr past) = grind (arith, nat_tests)
+placed p xs k at = grind (arith, nat_tests, cases_lt (position_or_len p xs) (length xs))
 
 pub placed_passes : {X : Type 0} (p : X → Bool) (xs : List X) (k : ℕ) (x : X) → position p xs ≡ Some k → x ≡ get_or xs k x → p x ≡ true
-placed_passes p xs k x at read =
-    let less = placed p xs k at in
-    let same : position_or_len p xs ≡ k = grind (arith, nat_tests) in
-    subst (λ y. p y ≡ true) (sym read) (subst (λ i. p (get_or xs i x) ≡ true) same (passes_at_first p xs x (omega arith)))
+placed_passes p xs k x at read = grind (arith, placed, nat_tests, passes_at_first)
 
 pub not_placed : {X : Type 0} (p : X → Bool) (xs : List X) → position p xs ≡ None → find p xs ≡ None
-not_placed p xs none =
-    let past : length xs ≤ position_or_len p xs = grind (arith, nat_tests) in
-    find_at p xs ∙ slice_get_past xs (position_or_len p xs) past
+not_placed p xs none = grind (arith, nat_tests, find_at, slice_get_past)
 
 -- ---- what is found where another slot has the image
-
-shown_same : (a b : List Slot) (name : ℕ) (object : ObjectValue) → slot_of a name ≡ slot_of b name → shown_as a name object ≡ shown_as b name object
-shown_same a b name (VirtualObject image) same = ap (λ s. standing s (VirtualObject image)) same
-shown_same a b name other same = refl
 
 module _ (slots : List Slot) (name k : ℕ) (s new : Slot) (o : VirtualOutput) (image : VirtualImage) (alone : IsAlone slots name k s) (same : new.holder ≡ s.holder) (holder : s.holder ≡ Some o) (named : o.cell.name ≡ name) where
   found_new : shown_as (set slots k new) name (VirtualObject image) ≡ ImageObject (standing_image o new)
   found_new = ap (λ (t : Option Slot). standing t (VirtualObject image)) (set_found name s new same slots k alone) ∙ ap (λ (h : Option VirtualOutput). image_in new h (VirtualObject image)) (same ∙ holder)
-
-  found_old : shown_as slots name (VirtualObject image) ≡ ImageObject (standing_image o s)
-  found_old = ap (λ (t : Option Slot). standing t (VirtualObject image)) (alone_found name s slots k alone) ∙ ap (λ (h : Option VirtualOutput). image_in s h (VirtualObject image)) holder
 
   others : (other : ℕ) (object : ObjectValue) → other ≢ name → shown_as (set slots k new) other object ≡ shown_as slots other object
   others other object apart =

@@ -1,71 +1,61 @@
 -- The image that a cell holds on a stage, and stages where it changes.
-use Rattle.std.proofs.Common.{◌≡◌, ◌≢◌, ℕ, ◌<◌, ◌≤◌, Bool, true, false, cond, ℤ, List, [], ◌∷◌, map, length, get_or, set, Option, Some, None, IfSome, refl, sym, ap, subst, ◌∙◌, arith}
-use Rattle.std.specs.Prelude.{All, ◌==◌, IsSome, slice_get, position, take, unwrap_or}
-use Rattle.std.specs.List.Sorted.{IsStrictlyIncreasing}
-use Rattle.std.specs.Option.{option_map, option_and_then}
-use Rattle.std.proofs.lemmas.Bool.{eq-eqb}
+use Rattle.std.proofs.Common.{◌≡◌, ◌≢◌, ℕ, ◌<◌, Bool, true, false, ℤ, List, map, length, get_or, Option, Some, None, IfSome, refl, sym, ap, subst, ◌∙◌, arith}
+use Rattle.std.specs.Prelude.{IsSome, slice_get, position, take, unwrap_or}
+use Rattle.std.specs.Option.{option_map}
+use Rattle.std.specs.Vec.{with_item}
 use Rattle.std.proofs.lemmas.List.Elements.{All-set, All-weaker}
 use Rattle.std.proofs.lemmas.List.{length-take}
-use Rattle.std.proofs.lemmas.Option.{slice_get_read, slice_get_within, get_or_from_slice_get}
+use Rattle.std.proofs.lemmas.Option.{slice_get_read}
 use Rattle.vx_base.specs.declared.format.Format.{Format}
 use Rattle.vx_base.specs.declared.format.Format.TheVariants.{U8}
-use Rattle.vx_base.specs.declared.kind.Kind.{Kind}
-use Rattle.vx_base.specs.declared.kind.Kind.TheVariants as kind
 use Rattle.vx_base.specs.declared.samples.Samples.{Samples}
 use Rattle.vx_base.specs.declared.virtual_image.VirtualImage.{VirtualImage}
-use Rattle.vx_base.specs.Cell.{Cell, cell_of}
+use Rattle.vx_base.specs.Cell.{Cell}
 use Rattle.vx_base.specs.Description.{Description, sample_count}
 use Rattle.vx_base.specs.Image.{ImageValue, IsImage, new_image, description_of}
-use Rattle.vx_base.specs.Object.{ObjectValue, ImageObject, DelayObject, VirtualObject, object_kind}
+use Rattle.vx_base.specs.Object.{ObjectValue, ImageObject, VirtualObject, object_kind}
 use Rattle.vx_base.specs.Picture.{values, samples_format}
 use Rattle.vx_base.specs.Rectangle.{Rectangle}
 use Rattle.object_table.specs.Context.{Context, with_objects}
-use Rattle.object_table.specs.Delay.{in_slot, with_slot}
+use Rattle.object_table.specs.Delay.{with_slot}
 use Rattle.object_table.specs.Named.{Named, object_held, held, with_object}
 use Rattle.object_table.specs.Object.{image_value, with_samples}
 use Rattle.object_table.specs.Table.{cell_object, image_held, HoldsImage}
-use Rattle.object_table.proofs.HeldLemmas.{names_of, HasObject, names-with_object, map-with_object}
+use Rattle.object_table.proofs.HeldLemmas.{HasObject, names-with_object, map-with_object}
 use Rattle.graph_verify.specs.declared.known.VirtualOutput.{VirtualOutput}
 use Rattle.graph_run.specs.declared.stage.Slot.{Slot}
 use Rattle.graph_run.specs.declared.stage.Stage.{Stage}
 use Rattle.graph_run.specs.Graph.{is_virtual_object}
-use Rattle.graph_run.specs.Stage.{is_named, standing_image, image_in, standing, shown_as, shown, scene, slot_of, holder_at, HoldsVirtual, IsArranged, AreFor, HasCount, Resized, Keeps, virtual_named, fixed, resized}
+use Rattle.graph_run.specs.Stage.{is_named, standing_image, shown, scene, slot_of, holder_at, HoldsVirtual, IsArranged, AreFor, HasCount, Resized, Keeps, virtual_named}
 use Rattle.graph_run.proofs.CellLemmas.{held_once}
 use Rattle.graph_run.proofs.ClaimLemmas.{virtual_there, holder_of}
-use Rattle.graph_run.proofs.StageLemmas.{held-shown, cell_as_it_is, shown-with_object, held_beside, shown-set, IsAlone, alone_at, alone_found, alone_there, alone_named, named_holder, alone_count, none_resized, set_fixed, set_holders, placed, placed_passes, not_placed}
+use Rattle.graph_run.proofs.StageLemmas.{held-shown, cell_as_it_is, shown-with_object, held_beside, shown-set, IsAlone, alone_at, alone_found, named_holder, alone_count, none_resized, set_fixed, set_holders, placed, placed_passes, not_placed}
 
 -- ---- objects that aren't virtual
 
+-- other objects under the same slots
+abbrev pub over : Stage → Context → Stage
+over s table = record { table = table; slots = s.slots }
+
 -- what was written leaves all of the stage but the object as it is
 module _ (s : Stage) (is : IsArranged s) (cell : Cell) (old new : ObjectValue) (found : object_held s.table.objects cell.name ≡ Some old) (real : is_virtual_object old ≡ false) (fresh : is_virtual_object new ≡ false)
-    (after : Stage) (table : after.table ≡ with_objects s.table (with_object s.table.objects cell new)) (slots_are : after.slots.items ≡ s.slots.items) where
+    (table : Context) (table_is : table ≡ with_objects s.table (with_object s.table.objects cell new)) where
   abbrev l : List Named
   l = s.table.objects
 
-  abbrev slots : List Slot
-  slots = s.slots.items
+  written : scene (over s table) ≡ with_objects (scene s) (with_object (scene s).objects cell new)
+  written = grind (arith, shown-with_object)
 
-  pub real_written : scene after ≡ with_objects (scene s) (with_object (scene s).objects cell new)
-  real_written =
-      ap (λ (t : Context). with_objects t (shown after.slots.items t.objects)) table
-      ∙ ap (λ (ts : List Slot). with_objects s.table (shown ts (with_object l cell new))) slots_are
-      ∙ ap (with_objects s.table) (shown-with_object slots l cell new fresh)
-
-  pub real_virtual : map virtual_named after.table.objects ≡ map virtual_named l
-  real_virtual =
-      ap (λ (t : Context). map virtual_named t.objects) table
+  virtual_kept : map virtual_named table.objects ≡ map virtual_named l
+  virtual_kept =
+      ap (λ (t : Context). map virtual_named t.objects) table_is
       ∙ map-with_object virtual_named l cell new
       (All-weaker (HasObject cell.name old) (λ o. o.name ≡ cell.name → virtual_named (record o { object = with_slot cell.slot new o.object }) ≡ virtual_named o)
-      (λ o at named. no_more o (with_slot cell.slot new o.object) (stays_real cell.slot o.object (ap is_virtual_object (at named) ∙ real)) (ap is_virtual_object (at named) ∙ real))
+      (λ o at named. let was = ap is_virtual_object (at named) ∙ real in no_more o (with_slot cell.slot new o.object) (stays_real cell.slot new o.object fresh was) was)
       l (held_once l cell.name old is.names found))
     where
-      stays_real : (slot : Option ℕ) (x : ObjectValue) → is_virtual_object x ≡ false → is_virtual_object (with_slot slot new x) ≡ false
-      stays_real None x e = fresh
-      stays_real (Some k) x e = in_slots new x e
-        where
-          in_slots : (n y : ObjectValue) → is_virtual_object y ≡ false → is_virtual_object (with_slot (Some k) n y) ≡ false
-          in_slots (ImageObject a) (DelayObject images) f = refl
-          in_slots n y f = f
+      stays_real : (slot : Option ℕ) (n x : ObjectValue) → is_virtual_object n ≡ false → is_virtual_object x ≡ false → is_virtual_object (with_slot slot n x) ≡ false
+      stays_real x n z f e = grind arith
 
       no_more : (o : Named) (x : ObjectValue) → is_virtual_object x ≡ false → is_virtual_object o.object ≡ false → virtual_named (record o { object = x }) ≡ virtual_named o
       no_more o x e f = grind arith
@@ -74,25 +64,13 @@ module _ (s : Stage) (is : IsArranged s) (cell : Cell) (old new : ObjectValue) (
   virtual_apart : (name : ℕ) → HoldsVirtual l name → name ≢ cell.name
   virtual_apart name held same =
       let there = virtual_there l name held in
-      let is_old : Some (VirtualObject there.0) ≡ Some old = sym there.1 ∙ ap (object_held l) same ∙ found in
-      let virtual : is_virtual_object old ≡ true = ap (λ (o : Option ObjectValue). is_virtual_object (unwrap_or o (VirtualObject there.0))) (sym is_old) in
-      let no : true ≡ false = sym virtual ∙ real in
-      cc
+      grind (arith, there.1, same, found, real)
 
-  pub real_arranged : IsArranged after
-  real_arranged =
-      record {
-        names = subst (λ (t : Context). IsStrictlyIncreasing (map (λ (o : Named). o.name) t.objects)) (sym table) (subst IsStrictlyIncreasing (sym (names-with_object l cell new)) is.names);
-        formats = subst (λ (ts : List Slot). All (λ (t : Slot). IfSome t.holder (λ o. samples_format t.samples ≡ o.desc.format)) ts) (sym slots_are) is.formats;
-        there = λ k a h.
-            let held = is.there k a (ap (λ (ts : List Slot). holder_at ts k) (sym slots_are) ∙ h) in
-            subst (λ (t : Context). HoldsVirtual t.objects a.cell.name) (sym table)
-            (ap (option_map object_kind) (held_beside l cell a.cell.name new (virtual_apart a.cell.name held)) ∙ held);
-        apart = λ j k a b h i same. is.apart j k a b (ap (λ (ts : List Slot). holder_at ts j) (sym slots_are) ∙ h) (ap (λ (ts : List Slot). holder_at ts k) (sym slots_are) ∙ i) same;
-      }
+  arranged : IsArranged (over s table)
+  arranged = grind (arith, names-with_object, held_beside, virtual_apart)
 
-  pub real_keeps : Keeps s after
-  real_keeps = record { virtual = real_virtual; slots = ap (map fixed) slots_are }
+  pub real_set : IsArranged (over s table) × (scene (over s table) ≡ with_objects (scene s) (with_object (scene s).objects cell new)) × Keeps s (over s table)
+  real_set = (arranged, written, record { virtual = virtual_kept; slots = refl })
 
 -- ---- the image that a cell holds
 
@@ -128,40 +106,18 @@ module _ (s : Stage) (is : IsArranged s) (cell : Cell) where
     module _ (there : HoldsImage (scene s).objects cell) where
       -- an object that isn't virtual is held there
       pub real_there : (old : ObjectValue) × (object_held objects cell.name ≡ Some old) × (is_virtual_object old ≡ false)
-      real_there = of (object_held objects cell.name) refl
-        where
-          no_virtual : (slot : Option ℕ) (x : ObjectValue) → option_map object_kind (in_slot slot x) ≡ Some kind.Image → is_virtual_object x ≡ false
-          no_virtual None (VirtualObject image) e = cc
-          no_virtual (Some k) (VirtualObject image) e = cc
-          no_virtual slot other e = refl
-
-          of : (o : Option ObjectValue) → object_held objects cell.name ≡ o → (old : ObjectValue) × (object_held objects cell.name ≡ Some old) × (is_virtual_object old ≡ false)
-          of None e =
-              let no : ◌≡◌ {A = Option Kind} None (Some kind.Image) = ap (λ x. option_map object_kind (option_and_then (in_slot cell.slot) x)) (sym e) ∙ as_image there in
-              absurd (cc)
-          of (Some x) e = (x, e, no_virtual cell.slot x (ap (λ y. option_map object_kind (option_and_then (in_slot cell.slot) y)) (sym e) ∙ as_image there))
+      real_there = grind (arith, as_image)
 
       -- its samples are just as many as it has places
       pub for_held : (d : Description) (samples : Samples) → d ≡ description_of (image_held objects cell) → samples_format samples ≡ (image_held objects cell).format
           → values samples ≡ (image_held objects cell).samples → IsImage (image_held (scene s).objects cell) → AreFor held_slots cell.name d samples
-      for_held d samples desc format same image =
-          let size : length (image_held objects cell).samples ≡ sample_count (description_of (image_held objects cell)) = (subst (λ (x : ObjectValue). IsImage (image_value x)) as_object image).size in
-          let count : length (values samples) ≡ sample_count d = ap length same ∙ size ∙ ap sample_count (sym desc) in
-          record { format = format ∙ ap (λ (e : Description). e.format) (sym desc); count = omega arith; exact = λ _. count }
+      for_held d samples desc format same image = grind (arith, as_object)
 
-      module _ (image : ImageValue) (after : Stage) (table : after.table ≡ with_objects s.table (with_object objects cell (ImageObject image))) (slots_are : after.slots.items ≡ held_slots) where
-        pub held_written : scene after ≡ with_objects (scene s) (with_object (scene s).objects cell (ImageObject image))
-        held_written = real_written s is cell real_there.0 (ImageObject image) real_there.1 real_there.2 refl after table slots_are
-
-        pub held_arranged : IsArranged after
-        held_arranged = real_arranged s is cell real_there.0 (ImageObject image) real_there.1 real_there.2 refl after table slots_are
-
-        pub held_resized : (count : ℕ) → Resized cell.name count s after
-        held_resized count =
-            record {
-              virtual = real_virtual s is cell real_there.0 (ImageObject image) real_there.1 real_there.2 refl after table slots_are;
-              slots = ap (map fixed) slots_are ∙ sym (none_resized held_slots cell.name count nowhere);
-            }
+      pub held_set : (image : ImageValue) (table : Context) → table ≡ with_objects s.table (with_object objects cell (ImageObject image)) → (count : ℕ)
+          → IsArranged (over s table) × (scene (over s table) ≡ with_objects (scene s) (with_object (scene s).objects cell (ImageObject image))) × Resized cell.name count s (over s table)
+      held_set image table table_is count =
+          let set = real_set s is cell real_there.0 (ImageObject image) real_there.1 real_there.2 refl table table_is in
+          (set.0, set.1, record { virtual = set.2.virtual; slots = sym (none_resized held_slots cell.name count nowhere) })
 
   -- where it stands in a slot
   module _ (k : ℕ) (at : position is_here held_slots ≡ Some k) (t : Slot) (read : t ≡ get_or held_slots k t) where
@@ -194,24 +150,14 @@ module _ (s : Stage) (is : IsArranged s) (cell : Cell) where
     virtual = virtual_there objects cell.name (subst (HoldsVirtual objects) holder.2 (is.there k holder.0 (holder_of held_slots k t holder.0 there_it_is holder.1)))
 
     found_here : object_held (scene s).objects cell.name ≡ Some (ImageObject (standing_image holder.0 t))
-    found_here =
-        held-shown held_slots objects cell.name
-        ∙ ap (option_map (shown_as held_slots cell.name)) virtual.1
-        ∙ ap (λ (f : Option Slot). Some (standing f (VirtualObject virtual.0))) (alone_found cell.name t held_slots k alone)
-        ∙ ap (λ (h : Option VirtualOutput). Some (image_in t h (VirtualObject virtual.0))) holder.1
+    found_here = grind (arith, held-shown held_slots objects cell.name, virtual.1, alone_found cell.name t held_slots k alone, holder.1)
 
     module _ (there : HoldsImage (scene s).objects cell) where
       whole : cell.slot ≡ None
-      whole = of cell.slot (ap (λ o. option_map object_kind (option_and_then (in_slot cell.slot) o)) (sym found_here) ∙ there)
-        where
-          of : (slot : Option ℕ) → option_map object_kind (in_slot slot (ImageObject (standing_image holder.0 t))) ≡ Some kind.Image → slot ≡ None
-          of None e = refl
-          of (Some j) e = cc
+      whole = grind (arith, found_here, there)
 
       pub object_here : cell_object (scene s).objects cell ≡ ImageObject (standing_image holder.0 t)
-      object_here =
-          ap (λ o. unwrap_or (option_and_then (in_slot cell.slot) o) (ImageObject (new_image 0 0 U8))) found_here
-          ∙ ap (λ slot. unwrap_or (in_slot slot (ImageObject (standing_image holder.0 t))) (ImageObject (new_image 0 0 U8))) whole
+      object_here = grind (arith, found_here, whole)
 
       image_here : image_held (scene s).objects cell ≡ standing_image holder.0 t
       image_here = ap image_value object_here
@@ -230,14 +176,7 @@ module _ (s : Stage) (is : IsArranged s) (cell : Cell) where
       pub for_slot : (d : Description) (samples : Samples) → IfSome t.holder (λ o. d ≡ o.desc) → samples_format samples ≡ samples_format t.samples → values samples ≡ values t.samples
           → IsImage (image_held (scene s).objects cell) → AreFor held_slots cell.name d samples
       for_slot d samples of_desc same_format same_values image =
-          let desc : d ≡ holder.0.desc = subst (λ (h : Option VirtualOutput). IfSome h (λ o. d ≡ o.desc)) holder.1 of_desc in
-          let size : length (take (sample_count holder.0.desc) (values t.samples)) ≡ sample_count holder.0.desc = (subst IsImage image_here image).size in
-          let enough : sample_count holder.0.desc ≤ length (values t.samples) = omega (arith, length-take (sample_count holder.0.desc) (values t.samples)) in
-          record {
-            format = same_format ∙ format_is ∙ ap (λ (e : Description). e.format) (sym desc);
-            count = subst (λ (e : Description). sample_count e ≤ length (values samples)) (sym desc) (subst (λ (zs : List ℤ). sample_count holder.0.desc ≤ length zs) (sym same_values) enough);
-            exact = λ none. let no : ◌≡◌ {A = Option Slot} (Some t) None = sym (alone_found cell.name t held_slots k alone) ∙ none in absurd (cc);
-          }
+          grind (arith, image_here, length-take, format_is, alone_found, alone, holder.1, of_desc, same_values)
 
       pub format_held : samples_format t.samples ≡ (image_held (scene s).objects cell).format
       format_held = format_is ∙ ap (λ (v : ImageValue). v.format) (sym image_here)
@@ -249,43 +188,35 @@ module _ (s : Stage) (is : IsArranged s) (cell : Cell) where
       slot_count samples same = subst (λ (zs : List ℤ). HasCount held_slots cell.name (length zs)) (sym same) (alone_count cell.name t held_slots k alone)
 
       -- other samples in the slot
-      module _ (new : Slot) (same : new.holder ≡ t.holder) (format : samples_format new.samples ≡ samples_format t.samples) (after : Stage) (table : after.table ≡ s.table) (slots_are : after.slots.items ≡ set held_slots k new) where
-        as_cell : cell_of cell.name ≡ cell
-        as_cell = ap (λ (slot : Option ℕ). let q : Cell = record { name = cell.name; slot = slot } in q) (sym whole)
+      module _ (samples : Samples) (area : Rectangle) (format : samples_format samples ≡ samples_format t.samples) where
+        abbrev new : Slot
+        new = record { samples = samples; valid = area; holder = t.holder }
+
+        abbrev set_in : Stage
+        set_in = record { table = s.table; slots = with_item s.slots k new }
 
         abbrev in_place : ObjectValue → ObjectValue
-        in_place x = with_samples x new.valid (take (sample_count (description_of (image_value x))) (values new.samples))
+        in_place x = with_samples x area (take (sample_count (description_of (image_value x))) (values samples))
 
-        pub set_written : scene after ≡ with_objects (scene s) (with_object (scene s).objects cell (in_place (cell_object (scene s).objects cell)))
+        set_written : scene set_in ≡ with_objects (scene s) (with_object (scene s).objects cell (in_place (cell_object (scene s).objects cell)))
         set_written =
-            ap (λ (c : Context). with_objects c (shown after.slots.items c.objects)) table
-            ∙ ap (λ (ts : List Slot). with_objects s.table (shown ts objects)) slots_are
-            ∙ ap (with_objects s.table)
-            (shown-set held_slots cell.name k t new holder.0 virtual.0 alone same holder.1 holder.2 objects (held_once objects cell.name (VirtualObject virtual.0) is.names virtual.1)
-            ∙ ap (λ (q : Cell). with_object (shown held_slots objects) q (ImageObject (standing_image holder.0 new))) as_cell
+            ap (with_objects s.table)
+            (shown-set held_slots cell.name k t new holder.0 virtual.0 alone refl holder.1 holder.2 objects (held_once objects cell.name (VirtualObject virtual.0) is.names virtual.1)
+            ∙ ap (λ (slot : Option ℕ). with_object (shown held_slots objects) (record { name = cell.name; slot = slot }) (ImageObject (standing_image holder.0 new))) (sym whole)
             ∙ ap (λ (x : ObjectValue). with_object (shown held_slots objects) cell (in_place x)) (sym object_here))
 
-        same_holders : (j : ℕ) → holder_at after.slots.items j ≡ holder_at held_slots j
-        same_holders j = ap (λ (ts : List Slot). holder_at ts j) slots_are ∙ set_holders cell.name t new same held_slots k alone j
+        same_holders : (j : ℕ) → holder_at set_in.slots.items j ≡ holder_at held_slots j
+        same_holders = set_holders cell.name t new refl held_slots k alone
 
-        new_format : IfSome new.holder (λ o. samples_format new.samples ≡ o.desc.format)
-        new_format =
-            subst (λ (h : Option VirtualOutput). IfSome h (λ o. samples_format new.samples ≡ o.desc.format)) (sym same)
-            (subst (λ (f : Format). IfSome t.holder (λ o. f ≡ o.desc.format)) (sym format) of_format)
-
-        pub set_arranged : IsArranged after
+        set_arranged : IsArranged set_in
         set_arranged =
             record {
-              names = subst (λ (c : Context). IsStrictlyIncreasing (map (λ (o : Named). o.name) c.objects)) (sym table) is.names;
-              formats = subst (λ (ts : List Slot). All (λ (q : Slot). IfSome q.holder (λ o. samples_format q.samples ≡ o.desc.format)) ts) (sym slots_are)
-                  (All-set (λ (q : Slot). IfSome q.holder (λ o. samples_format q.samples ≡ o.desc.format)) held_slots k new new_format is.formats);
-              there = λ j a h. subst (λ (c : Context). HoldsVirtual c.objects a.cell.name) (sym table) (is.there j a (sym (same_holders j) ∙ h));
+              names = is.names;
+              formats = All-set (λ (q : Slot). IfSome q.holder (λ o. samples_format q.samples ≡ o.desc.format)) held_slots k new
+                  (subst (λ (f : Format). IfSome t.holder (λ o. f ≡ o.desc.format)) (sym format) of_format) is.formats;
+              there = λ j a h. is.there j a (sym (same_holders j) ∙ h);
               apart = λ i j a b h g e. is.apart i j a b (sym (same_holders i) ∙ h) (sym (same_holders j) ∙ g) e;
             }
 
-        pub set_resized : Resized cell.name (length (values new.samples)) s after
-        set_resized =
-            record {
-              virtual = ap (λ (c : Context). map virtual_named c.objects) table;
-              slots = ap (map fixed) slots_are ∙ set_fixed cell.name t new same format held_slots k alone;
-            }
+        pub slot_set : IsArranged set_in × (scene set_in ≡ with_objects (scene s) (with_object (scene s).objects cell (in_place (cell_object (scene s).objects cell)))) × Resized cell.name (length (values samples)) s set_in
+        slot_set = (set_arranged, set_written, record { virtual = refl; slots = set_fixed cell.name t new refl format held_slots k alone })

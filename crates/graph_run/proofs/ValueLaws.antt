@@ -43,34 +43,18 @@ module _ (nodes : List Node) (start : Cell → Option ObjectValue) where
   -- each cell is left as it is, or gets what a node gives it
   Follows-next : OneWriter writes nodes → (now next : Cell → Option ObjectValue) → Follows nodes start now
       → ((c : Cell) → (next c ≡ now c) ⊎ ((n : Node) × In n nodes × (writes n c ≡ true) × (next c ≡ given_from start n now c))) → Follows nodes start next
-  Follows-next one now next f h = record {
-    forms = (λ c. elim (h c) [
-      | inl e ↦ ap (option_map form_of) e ∙ f.forms c
-      | inr r ↦ ap (option_map form_of) r.3 ∙ form-output_of r.0 (output_at r.0 c) (now (r.0).in1) (option_and_then now (r.0).in2) (start c)
-    ]);
-    again = (λ n c first second i w k. elim (h c) [
-      | inl e ↦ ap (output_of n (output_at n c) first second) e ∙ f.again n c first second i w k
-      | inr r ↦
-          ap (output_of n (output_at n c) first second) (r.3 ∙ ap (λ z. given_from start z now c) (one r.0 n c r.1 i r.2 w))
-          ∙ output_of_again n (output_at n c) first (now n.in1) second (option_and_then now n.in2) (start c) (same_kinds now f n.in1 ∙ sym k)
-    ]);
-  }
+  Follows-next one now next f h = grind (arith, form-output_of, output_of_again, same_kinds)
 
   Follows-round : OneWriter writes nodes → (now : Cell → Option ObjectValue) → Follows nodes start now → Follows nodes start (round writes (given_from start) nodes now)
   Follows-round one now f = grind (arith, Follows-next, cases_Bool, In-from_any, round_written, round_other)
 
   Follows-step : OneWriter writes nodes → (now : Cell → Option ObjectValue) → Follows nodes start now → (n : Node) → In n nodes → Follows nodes start (step writes (given_from start) n now)
-  Follows-step one now f n i = Follows-next one now (step writes (given_from start) n now) f (λ c. elim (cases_Bool (writes n c)) [
-    | inl w ↦ inr (n, i, w, (rw w refl))
-    | inr w ↦ inl (rw w refl)
-  ])
+  Follows-step one now f n i =
+      Follows-next one now (step writes (given_from start) n now) f (λ c. elim (cases_Bool (writes n c)) [ inl w ↦ inr (n, i, w, (rw w refl)) | inr w ↦ inl (rw w refl) ])
 
   same_round : (now : Cell → Option ObjectValue) → Follows nodes start now → (ns : List Node) → AllIn ns nodes → (c : Cell) → round writes given_in ns now c ≡ round writes (given_from start) ns now c
   same_round now f [] within c = refl
-  same_round now f (n ∷ ns) within c = elim (cases_Bool (writes n c)) [
-    | inl w ↦ rw w (given_same now f n c (within n (inl refl)) w)
-    | inr w ↦ rw w (same_round now f ns (λ x i. within x (inr i)) c)
-  ]
+  same_round now f (n ∷ ns) within c = grind (arith, cases_Bool (writes n c), given_same now f n c (within n (inl refl)), same_round now f ns (λ x i. within x (inr i)) c)
 
   pub Follows-rounds : OneWriter writes nodes → (k : ℕ) → Follows nodes start (rounds writes (given_from start) nodes k start)
   Follows-rounds one zero = Follows-first

@@ -1,10 +1,10 @@
 -- A graph that is found able to run: how it runs.
-use Rattle.std.proofs.Common.{◌≡◌, ◌≢◌, ℕ, ◌<◌, Bool, true, false, cond, List, [], ◌∷◌, map, drop, get_or, zero, suc, Option, Some, None, inl, inr, refl, sym, ap, subst, ◌∙◌, arith}
-use Rattle.std.specs.Prelude.{All, ◌==◌, ◌||◌, ◌&&◌, if◌then◌else◌, unwrap_or}
+use Rattle.std.proofs.Common.{◌≡◌, ◌≢◌, ℕ, ◌<◌, Bool, true, false, List, [], ◌∷◌, map, get_or, zero, suc, Option, Some, None, inl, inr, refl, sym, ap, subst, ◌∙◌, arith}
+use Rattle.std.specs.Prelude.{All, ◌==◌, ◌&&◌, unwrap_or}
 use Rattle.std.specs.List.{AllPairs, list_any, filter, flat_map}
 use Rattle.std.specs.List.Sorted.{IsStrictlyIncreasing}
 use Rattle.std.specs.Option.{option_map, option_and_then}
-use Rattle.std.proofs.lemmas.Bool.{false_from_ne_true, cases_Bool, cond_both, eqb-true, eq-eqb, or_parts, or_left, or_right, or_from, and_parts, and_from}
+use Rattle.std.proofs.lemmas.Bool.{false_from_ne_true, cases_Bool, eq-eqb, or_parts, or_left, or_right, and_parts, and_from}
 use Rattle.std.proofs.lemmas.List.{length-map, get_or-map}
 use Rattle.std.proofs.lemmas.List.Kept.{AllPairs-from_increasing}
 use Rattle.std.proofs.Math.ListN.{get_or-map as get_or-map_default}
@@ -14,40 +14,30 @@ use Rattle.vx_base.specs.declared.node.Node.{Node}
 use Rattle.vx_base.specs.declared.virtual_image.VirtualImage.{VirtualImage}
 use Rattle.vx_base.specs.Cell.{Cell, same_cell}
 use Rattle.vx_base.specs.Description.{Description}
-use Rattle.vx_base.specs.Image.{ImageValue, new_image, image_over, description_of}
-use Rattle.vx_base.specs.Outline.{Outline}
 use Rattle.vx_base.specs.Node.{IsNode, inputs, outputs, operands}
-use Rattle.vx_base.specs.Object.{ObjectValue, ImageObject, VirtualObject, object_kind}
-use Rattle.vx_base.specs.Outputs.{written_by}
-use Rattle.vx_base.specs.Rectangle.{empty}
+use Rattle.vx_base.specs.Object.{ObjectValue, VirtualObject, object_kind}
 use Rattle.object_table.specs.Delay.{in_slot}
-use Rattle.object_table.specs.Named.{Named, object_held, held, with_written}
-use Rattle.object_table.specs.Object.{image_value}
-use Rattle.object_table.specs.Skeleton.{skeleton}
+use Rattle.object_table.specs.Named.{Named, object_held, held}
 use Rattle.graph_verify.specs.declared.known.VirtualOutput.{VirtualOutput}
 use Rattle.graph_verify.specs.declared.operand.Operand.{Operand}
-use Rattle.graph_verify.specs.declared.operand.Operand.TheVariants.{Image, Delay, Virtual}
+use Rattle.graph_verify.specs.declared.operand.Operand.TheVariants.{Image, Delay}
 use Rattle.graph_verify.specs.declared.operand.Operands.{Operands}
 use Rattle.graph_verify.specs.declared.verified.Verified.{Verified}
 use Rattle.graph_verify.specs.Links.{reads, writes, has_twice, is_written}
-use Rattle.graph_verify.specs.Members.{In, AllIn}
-use Rattle.graph_verify.specs.Operand.{operand_of, operand_kind, operand_description, operands_of, is_virtual as is_virtual_operand}
+use Rattle.graph_verify.specs.Members.{In}
+use Rattle.graph_verify.specs.Operand.{operand_of, operand_kind, operands_of, is_virtual as is_virtual_operand}
 use Rattle.graph_verify.specs.Outlines.{resolved, outlines}
 use Rattle.graph_verify.specs.Verdict.{verdict, verdict_on}
 use Rattle.graph_verify.specs.Verified.{IsVerified, written_description}
 use Rattle.graph_verify.proofs.LinkLemmas.{same_cell-is, same-from_In, In-outputs, two_writers-permutation}
 use Rattle.graph_verify.proofs.MemberLemmas.{In-left, In-right, In-append, In-from_any, any-from_In, In-filter, In-from_filter, In-map, In-from_map, In-from_flat_map, In-at, AllIn-permutation, AllIn-permutation_back}
 use Rattle.graph_verify.proofs.VerdictLemmas.{CanRun, can_run}
-use Rattle.graph_run.specs.Graph.{begun, begun_as, forgotten, one_by_one, run_of_graph}
 use Rattle.graph_run.specs.Operands.{HoldsOperand, names_cell, StandsFor, CellsStand, operand_held}
 use Rattle.graph_run.proofs.LinkLaws.{All-from_In, In-from_All}
-use Rattle.graph_run.proofs.OperandLaws.{kind-operand, no_fault, outline_of_virtual, known_kept, virtual_written, begun_stands, no_delay, stands_after}
-use Rattle.graph_run.proofs.FoundLemmas.{of_operands}
-use Rattle.graph_run.proofs.NameLaws.{Rising, rising}
+use Rattle.graph_run.proofs.OperandLaws.{outline_of_virtual, known_kept, virtual_written}
 use Rattle.graph_run.proofs.TurnLaws.{each_alone}
-use Rattle.graph_run.specs.Solution.{ReadImages, kind_in}
 use Rattle.graph_run.specs.Turns.{HoldsKind, CanRunNow, AreVirtual}
-use Rattle.graph_run.proofs.BegunLaws.{begun_under, object_held-begun, labels-begun, begun_if, begun_stays, virtual_as_operand}
+use Rattle.graph_run.proofs.BegunLaws.{begun_under, begun_stays, virtual_as_operand}
 use Rattle.object_table.proofs.HeldLemmas.{names_of}
 
 -- ---- cells that stand in a list once
@@ -60,20 +50,16 @@ once_filter : (p : Cell → Bool) (cs : List Cell) → has_twice cs ≡ false �
 once_filter p [] once = refl
 once_filter p (c ∷ cs) once =
     let both = or_parts (list_any (same_cell c) cs) (has_twice cs) once in
-    cond_both (p c) (c ∷ filter p cs) (filter p cs) (λ l. has_twice l ≡ false)
-    (λ e. or_from (list_any (same_cell c) (filter p cs)) (has_twice (filter p cs)) (any_filter c p cs both.0) (once_filter p cs both.1))
-    (λ e. once_filter p cs both.1)
+    grind (arith, cases_Bool (p c), any_filter c p cs both.0, once_filter p cs both.1)
 
 once_apart : (cs : List Cell) → has_twice cs ≡ false → AllPairs (λ a b. a ≢ b) cs
-once_apart [] once i j d less within = absurd (omega (arith, within))
-once_apart (c ∷ cs) once zero zero d less within = absurd (omega (arith, less))
 once_apart (c ∷ cs) once zero (suc j) d less within = λ same.
     let none = (or_parts (list_any (same_cell c) cs) (has_twice cs) once).0 in
     let some = any-from_In (same_cell c) (get_or cs j d) cs (In-at cs j d (omega (arith, within))) (same_cell-is c (get_or cs j d) same) in
     cc
-once_apart (c ∷ cs) once (suc i) zero d less within = absurd (omega (arith, less))
 once_apart (c ∷ cs) once (suc i) (suc j) d less within =
     once_apart cs (or_parts (list_any (same_cell c) cs) (has_twice cs) once).1 i j d (omega (arith, less)) (omega (arith, within))
+once_apart x once i j d less within = grind arith
 
 -- ---- cells that a node names
 
@@ -105,11 +91,6 @@ whole name = record { name = name; slot = None }
 -- whether a name is that of an output
 abbrev pub is_output : List VirtualOutput → ℕ → Bool
 is_output outputs name = list_any (λ o. name == o.cell.name) outputs
-
--- what is virtual is there
-virtual_found : (found : Option Operand) (declared : Outline) → unwrap_or found Delay ≡ Virtual declared → found ≡ Some (Virtual declared)
-virtual_found None declared e = absurd (cc)
-virtual_found (Some operand) declared e = ap Some e
 
 -- the virtual images that the nodes of a verified graph write
 module _ (is : Cell → Operand) (nodes : List Node) (v : Verified) (how : IsVerified is nodes v) where
@@ -146,25 +127,14 @@ module _ (is : Cell → Operand) (nodes : List Node) (v : Verified) (how : IsVer
     | inl both ↦
         (let parts = and_parts (is_virtual_operand (is cell)) (is_written nodes cell) both in
         let output = in_outputs cell parts.1 parts.0 in
-        let found : operand_description (resolved is nodes cell) ≡ Some d = sym (ap (λ b. if b then operand_description (resolved is nodes cell) else None) both) ∙ e in
         let known : resolved is nodes cell ≡ Image output.0.desc = ap (resolved is nodes) output.2 ∙ output_known output.0 output.1 in
-        let described : ◌≡◌ {A = Option Description} (Some output.0.desc) (Some d) = ap operand_description (sym known) ∙ found in
-        let desc : output.0.desc ≡ d = cc in (
-          output.0,
-          output.1,
-          (ap (λ c. let o : VirtualOutput = record { cell = c; desc = output.0.desc } in o) (sym output.2)
-              ∙ ap (λ x. let o : VirtualOutput = record { cell = cell; desc = x } in o) desc),
-        ))
-    | inr none ↦
-        (let nothing = sym (ap (λ b. if b then operand_description (resolved is nodes cell) else None) none) ∙ e in
-        absurd (cc))
+        let desc : output.0.desc ≡ d = grind (arith, both, known, e) in
+        (output.0, output.1, grind (arith, desc, output.2)))
+    | inr none ↦ absurd (grind (arith, none, e))
   ]
 
   pub output_described : (o : VirtualOutput) → In o written → written_description is nodes o.cell ≡ Some o.desc
-  output_described o i =
-      ap (λ b. if b then operand_description (resolved is nodes o.cell) else None)
-      (and_from (is_virtual_operand (is o.cell)) (is_written nodes o.cell) (output_in o i).1 (output_written o i))
-      ∙ ap operand_description (output_known o i)
+  output_described o i = grind (arith, and_from, output_in, output_written, output_known)
 
 module _ (objects : List Named) (nodes : List Node) (v : Verified) (work : ℕ) (how : IsVerified (operand_held objects) nodes v)
     (runs : verdict work (operand_held objects) nodes ≡ None) where
@@ -240,13 +210,11 @@ module _ (objects : List Named) (nodes : List Node) (v : Verified) (work : ℕ) 
       where
         real_kind : (operand : Operand) (wanted : Kind) → is_virtual_operand operand ≡ false → StandsFor operand wanted
             → operand_kind operand ≡ wanted
-        real_kind (Virtual declared) wanted real stands = absurd (cc)
-        real_kind other wanted real stands = stands
+        real_kind other wanted real stands = grind arith
 
     kind_found : (found : Option ObjectValue) (operand : Operand) (wanted : Kind) → option_map operand_of found ≡ Some operand
         → operand_kind operand ≡ wanted → option_map object_kind found ≡ Some wanted
-    kind_found None operand wanted e is_kind = absurd (cc)
-    kind_found (Some x) operand wanted e is_kind = grind (arith, kind-operand x)
+    kind_found x operand wanted e is_kind = grind arith
 
     pub can_run_now : (n : Node) (now : List Named) → In n nodes → IsNode n → All (λ operand. StandsFor (is operand.0) operand.1) (operands n)
         → ((cell : Cell) → names_cell n cell ≡ true → HoldsOperand now cell (known cell)) → CanRunNow now n

@@ -1,8 +1,7 @@
 use Rattle.std.proofs.Common.{◌≡◌, ◌+◌, [], ◌∷◌, ◌++◌, List, length, map, None, refl, ap, sym, subst, ◌∙◌, arith}
-use Rattle.std.specs.Prelude.{All}
 use Rattle.std.proofs.lemmas.List.{length_push}
 use Rattle.std.proofs.lemmas.List.Elements.{All-push}
-use Rattle.vx_base.specs.Picture.{values, samples_format}
+use Rattle.vx_base.specs.Picture.{values}
 use Rattle.pixel_pool.specs.Pool.{lent_of, blocks_of}
 use Rattle.buffer_plan.specs.Places.{told}
 use Rattle.graph_run.specs.declared.stage.Slot.{Slot}

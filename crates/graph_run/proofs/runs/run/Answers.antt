@@ -1,33 +1,22 @@
-use Rattle.std.proofs.Common.{◌≡◌, ◌∙◌, List, None, get_or, ap, sym, subst, arith}
-use Rattle.std.specs.Prelude.{All, Option, IfSome}
+use Rattle.std.proofs.Common.{◌≡◌, List, sym, subst, arith}
+use Rattle.std.specs.Prelude.{All}
 use Rattle.std.specs.List.Sorted.{IsStrictlyIncreasing}
 use Rattle.vx_base.specs.declared.node.Node.{Node}
 use Rattle.vx_base.specs.Object.{IsObject}
 use Rattle.object_table.specs.Context.{Context, with_objects}
-use Rattle.object_table.specs.Named.{Named}
 use Rattle.object_table.proofs.HeldLemmas.{names_of}
-use Rattle.graph_verify.specs.declared.known.VirtualOutput.{VirtualOutput}
 use Rattle.graph_verify.specs.Outlines.{resolved}
 use Rattle.graph_run.specs.Graph.{run_of_graph}
 use Rattle.graph_run.specs.Operands.{operand_held, IsReady}
-use Rattle.graph_run.specs.Stage.{HasRoomFor}
-use Rattle.graph_run.proofs.SceneLemmas.{none_standing, nothing_stands}
+use Rattle.graph_run.proofs.StepLemmas.{empty_stage}
 use Rattle.graph_run.proofs.SlotPoolLemmas.{blocks_stay}
 use Rattle.graph_run.proofs.runs.run.Goals as goal
 
 pub run_steps-requires-clause-stage : goal.run_steps-requires-clause-stage
 run_steps-requires-clause-stage c =
-    let slots = c.in_ok-slots.slots.items in
-    let empty = c.in_ok-slots.ensures.empty in
-    let held = subst (λ (t : Context). All (λ o. IsObject o.object) t.objects) (sym c.replace.ensures.value) c.requires.objects in
-    record {
-      names = subst (λ (t : Context). IsStrictlyIncreasing (names_of t.objects)) (sym c.replace.ensures.value) c.requires.names;
-      held = held;
-      objects = subst (λ (l : List Named). All (λ o. IsObject o.object) l) (sym (nothing_stands slots empty c.replace.result.objects)) held;
-      room = λ k s below. subst (λ (h : Option VirtualOutput). IfSome h (λ o. HasRoomFor (get_or slots k s) o.desc)) (sym (empty k s below)) tt;
-      there = λ k a at. absurd (none_standing slots empty k a at);
-      apart = λ j k a b at also same. absurd (none_standing slots empty j a at);
-    }
+    empty_stage _ c.in_ok-slots.ensures.empty
+    (subst (λ (t : Context). IsStrictlyIncreasing (names_of t.objects)) (sym c.replace.ensures.value) c.requires.names)
+    (subst (λ (t : Context). All (λ o. IsObject o.object) t.objects) (sym c.replace.ensures.value) c.requires.objects)
 
 pub give_back-requires : goal.give_back-requires
 give_back-requires c = λ f.

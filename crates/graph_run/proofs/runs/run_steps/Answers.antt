@@ -1,5 +1,4 @@
-use Rattle.std.proofs.Common.{◌≡◌, ◌<◌, ◌≤◌, ◌∙◌, List, length, map, get_or, refl, ap, sym, subst}
-use Rattle.std.specs.List.Sorted.{IsStrictlyIncreasing}
+use Rattle.std.proofs.Common.{◌≡◌, ◌≤◌, ◌∙◌, List, length, map, refl, ap, sym, subst}
 use Rattle.vx_base.specs.declared.node.Node.{Node}
 use Rattle.vx_base.specs.Outputs.{written_by}
 use Rattle.object_table.specs.Context.{Context, with_objects}
@@ -24,76 +23,47 @@ loop-node-init c =
     }
 
 pub claim_for-requires-clause-outputs : goal.claim_for-requires-clause-outputs
-claim_for-requires-clause-outputs c =
-    course_outputs c.args.stage.now.table.objects c.args.verified.now (told c.args.plan.now) c.requires.plan c.loop-node.node-index
-    c.loop-node.stage.table.objects c.loop-node.stage.slots.items c.loop-node.invariant.course c.requires.ready.0 c.requires.ready.1
+claim_for-requires-clause-outputs c = course_outputs _ _ _ c.requires.plan _ _ _ c.loop-node.invariant.course c.requires.ready.0 c.requires.ready.1
 
 pub claim_for-requires-in-loop-node-clause-outputs : goal.claim_for-requires-in-loop-node-clause-outputs
 claim_for-requires-in-loop-node-clause-outputs c =
     subst (λ (t : Context). AreVirtual t.objects c.args.verified.now.virtual_outputs.items) (sym c.claim_for.ensures.table)
-    (course_outputs c.args.stage.now.table.objects c.args.verified.now (told c.args.plan.now) c.requires.plan c.loop-node.node-index
-    c.loop-node.stage.table.objects c.loop-node.stage.slots.items c.loop-node.invariant.course c.requires.ready.0 c.requires.ready.1)
+    (course_outputs _ _ _ c.requires.plan _ _ _ c.loop-node.invariant.course c.requires.ready.0 c.requires.ready.1)
 
 pub claim_for-requires-in-loop-node-clause-shared : goal.claim_for-requires-in-loop-node-clause-shared
 claim_for-requires-in-loop-node-clause-shared c =
-    let v = c.args.verified.now in
-    let k = c.loop-node.node-index in
-    let n = c.node-item.result in
-    let below = subst (λ (l : List Node). k < length l) c.deref-node-items.ensures.value c.loop-node-test.true in
-    let read = c.node-item.is ∙ ap (λ (l : List Node). get_or l k n) c.deref-node-items.ensures.value in
-    first_shared c.args.stage.now.table.objects v (told c.args.plan.now) c.requires.plan k
-    c.loop-node.stage.table.objects c.loop-node.stage.slots.items c.loop-node.invariant.course n below read c.requires.ready.0 c.requires.ready.1
-    c.claim_for.new.stage.slots.items c.claim_for.ensures.slots
+    first_shared _ _ _ c.requires.plan _ _ _ c.loop-node.invariant.course _ c.deref-node-items.ensures.value c.node-item.result c.loop-node-test.true c.node-item.is
+    c.requires.ready.0 c.requires.ready.1 c.claim_for.new.stage.slots.items c.claim_for.ensures.slots
 
 pub run_step-requires-clause-runs : goal.run_step-requires-clause-runs
 run_step-requires-clause-runs c =
-    let v = c.args.verified.now in
-    let k = c.loop-node.node-index in
-    let n = c.node-item.result in
-    let below = subst (λ (l : List Node). k < length l) c.deref-node-items.ensures.value c.loop-node-test.true in
-    let read = c.node-item.is ∙ ap (λ (l : List Node). get_or l k n) c.deref-node-items.ensures.value in
     let both = c.claim_for-in-loop-node.new.stage.slots.items in
-    subst (λ (t : Context). CanRunNow (shown both t.objects) n) (sym (c.claim_for-in-loop-node.ensures.table ∙ c.claim_for.ensures.table))
-    (course_runs c.args.stage.now.table.objects v (told c.args.plan.now) c.requires.plan k
-    c.loop-node.stage.table.objects c.loop-node.stage.slots.items c.loop-node.invariant.course n below read c.requires.ready.0 c.requires.ready.1
-    c.claim_for.new.stage.slots.items c.claim_for.ensures.slots both c.claim_for-in-loop-node.ensures.slots)
+    subst (λ (t : Context). CanRunNow (shown both t.objects) c.node-item.result) (sym (c.claim_for-in-loop-node.ensures.table ∙ c.claim_for.ensures.table))
+    (course_runs _ _ _ c.requires.plan _ _ _ c.loop-node.invariant.course _ c.deref-node-items.ensures.value c.node-item.result c.loop-node-test.true c.node-item.is
+    c.requires.ready.0 c.requires.ready.1 c.claim_for.new.stage.slots.items c.claim_for.ensures.slots both c.claim_for-in-loop-node.ensures.slots)
 
 pub loop-node-preserved : goal.loop-node-preserved
 loop-node-preserved c =
-    let v = c.args.verified.now in
-    let k = c.loop-node.node-index in
     let n = c.node-item.result in
-    let below = subst (λ (l : List Node). k < length l) c.deref-node-items.ensures.value c.loop-node-test.true in
-    let read = c.node-item.is ∙ ap (λ (l : List Node). get_or l k n) c.deref-node-items.ensures.value in
-    let stage = c.loop-node.stage in
     let claimed = c.claim_for-in-loop-node.new.stage in
     let both = claimed.slots.items in
-    let tables : claimed.table ≡ stage.table = c.claim_for-in-loop-node.ensures.table ∙ c.claim_for.ensures.table in
-    let same : claimed.table.objects ≡ stage.table.objects = ap objects_of tables in
+    let tables : claimed.table ≡ c.loop-node.stage.table = c.claim_for-in-loop-node.ensures.table ∙ c.claim_for.ensures.table in
     let left = c.run_step.new.stage.table.objects in
     let slots = c.run_step.new.stage.slots.items in
-    let kept : forgotten stage.table.objects left ≡ left = subst (λ (l : List Named). forgotten l left ≡ left) same c.run_step.ensures.stays.virtual in
-    let value : shown slots left ≡ with_written (shown both stage.table.objects) (written_by n (held (shown both stage.table.objects))) =
-    subst (λ (l : List Named). shown slots left ≡ with_written (shown both l) (written_by n (held (shown both l)))) same (ap objects_of c.run_step.ensures.value) in
-    let lasts : map lasting_named (shown slots left) ≡ map lasting_named (shown both stage.table.objects) =
-    subst (λ (l : List Named). map lasting_named (shown slots left) ≡ map lasting_named (shown both l)) same c.run_step.ensures.lasts.lasting in
+    let does = subst (λ (l : List Named). (forgotten l left ≡ left) × (shown slots left ≡ with_written (shown both l) (written_by n (held (shown both l)))) × (map lasting_named (shown slots left) ≡ map lasting_named (shown both l)))
+    (ap objects_of tables) (c.run_step.ensures.stays.virtual, ap objects_of c.run_step.ensures.value, c.run_step.ensures.lasts.lasting) in
     record {
       stage = c.run_step.ensures.stage;
       next = ap (λ (t : Context). t.next) c.run_step.ensures.value ∙ ap (λ (t : Context). t.next) tables ∙ c.loop-node.invariant.next;
       course =
-          course_next c.args.stage.now.table.objects v (told c.args.plan.now) c.requires.plan k stage.table.objects stage.slots.items c.loop-node.invariant.course
-          n below read c.requires.ready.0 c.requires.ready.1 c.claim_for.new.stage.slots.items c.claim_for.ensures.slots both c.claim_for-in-loop-node.ensures.slots
-          left slots c.loop-node.invariant.stage.names c.run_step.ensures.stays.slots kept value lasts;
+          course_next _ _ _ c.requires.plan _ _ _ c.loop-node.invariant.course _ c.deref-node-items.ensures.value n c.loop-node-test.true c.node-item.is
+          c.requires.ready.0 c.requires.ready.1 c.claim_for.new.stage.slots.items c.claim_for.ensures.slots both c.claim_for-in-loop-node.ensures.slots
+          left slots c.loop-node.invariant.stage.names c.run_step.ensures.stays.slots does.0 does.1 does.2;
     }
 
 pub returns-clause-value : goal.returns-clause-value
 returns-clause-value c = λ nodes ready.
-    let first = c.args.stage.now.table in
-    let v = c.args.verified.now in
-    let k = c.loop-node.node-index in
-    let past = subst (λ (l : List Node). length l ≤ k) c.deref-node-items.ensures.value c.loop-node-test.false in
-    let left = c.loop-node.stage.table in
-    let is = course_ends first.objects v (told c.args.plan.now) c.requires.plan k
-    left.objects c.loop-node.stage.slots.items c.loop-node.invariant.course c.requires.stage.names past nodes ready in
-    ap (λ n. let t : Context = record { next = n; objects = left.objects } in t) c.loop-node.invariant.next
-    ∙ ap (with_objects first) is
+    let left = c.loop-node.stage.table.objects in
+    let past = subst (λ (l : List Node). length l ≤ c.loop-node.node-index) c.deref-node-items.ensures.value c.loop-node-test.false in
+    ap (λ n. let t : Context = record { next = n; objects = left } in t) c.loop-node.invariant.next
+    ∙ ap (with_objects c.args.stage.now.table) (course_ends _ _ _ c.requires.plan _ _ _ c.loop-node.invariant.course c.requires.stage.names past nodes ready)

@@ -1,130 +1,70 @@
-use Rattle.std.proofs.Common.{◌≡◌, ◌∙◌, Option, Some, map, ap, sym, subst}
+use Rattle.std.proofs.Common.{◌≡◌, ◌∙◌, Option, Some, ap, sym, subst}
 use Rattle.std.specs.Prelude.{IfSome}
 use Rattle.std.specs.List.Sorted.{IsStrictlyIncreasing}
+use Rattle.vx_base.specs.declared.node.Node.{Node}
 use Rattle.vx_base.specs.declared.output.Output.TheVariants.{First, Second}
 use Rattle.vx_base.specs.Cell.{Cell}
+use Rattle.vx_base.specs.Outputs.{written_by}
 use Rattle.object_table.specs.Context.{Context, with_objects}
+use Rattle.object_table.specs.Named.{held, with_written}
+use Rattle.graph_run.specs.declared.stage.Stage.{Stage}
 use Rattle.graph_run.specs.Lasting.{Lasts}
-use Rattle.graph_run.specs.Stage.{scene}
+use Rattle.graph_run.specs.Stage.{scene, IsStage, IsArranged, Keeps, Stays}
 use Rattle.graph_run.specs.Steps.{AreApart, RunsTo, with_output}
-use Rattle.graph_run.specs.Turns.{HoldsKind}
-use Rattle.graph_run.proofs.FoundLemmas.{of_operands}
+use Rattle.graph_run.specs.Turns.{CanRunNow}
 use Rattle.graph_run.proofs.RunLemmas.{runs_first, runs_second, runs_then, two_outputs, written_is, Lasts-outputs}
 use Rattle.graph_run.proofs.PairLemmas.{has_two}
 use Rattle.graph_run.proofs.StageLemmas.{names-shown}
-use Rattle.graph_run.proofs.StepLemmas.{Keeps-trans, kept_stage, kept_stays}
+use Rattle.graph_run.proofs.StepLemmas.{Keeps-trans, kept_stage, kept_stays, stage_arranged}
 use Rattle.graph_run.proofs.step.run_step.Goals as goal
 
+-- a stage once both outputs of a node are written
+stepped : (a b : Stage) (n : Node) → IsStage a → CanRunNow (scene a).objects n → IsArranged b → Keeps a b
+    → scene b ≡ with_objects (scene a) (with_output (with_output (scene a).objects n First n.out1) n Second n.out2)
+    → (scene b ≡ with_objects (scene a) (with_written (scene a).objects (written_by n (held (scene a).objects)))) × IsStage b × Lasts (scene a).objects (scene b).objects × Stays a b
+stepped a b n is can arranged keeps written =
+    let names = subst IsStrictlyIncreasing (sym (names-shown a.slots.items a.table.objects)) is.names in
+    let lasts = subst (λ (k : Context). Lasts (scene a).objects k.objects) (sym written) (Lasts-outputs n (scene a).objects is.objects can names) in
+    (written ∙ ap (with_objects (scene a)) (sym (written_is n (scene a).objects is.objects can)), kept_stage a b is arranged keeps lasts, lasts, kept_stays a b keeps)
+
 pub run_to-requires-clause-runs : goal.run_to-requires-clause-runs
-run_to-requires-clause-runs c =
-    let n = c.args.node.now in
-    let s = c.args.stage.now in
-    let l = (scene s).objects in
-    let cells = of_operands (HoldsKind l) n c.requires.runs.kinds in
-    runs_first n c.requires.runs.node l c.requires.stage.objects cells c.requires.runs.verdict
+run_to-requires-clause-runs c = runs_first _ _ c.requires.stage.objects c.requires.runs
 
 pub run_to-requires-in_default-clause-runs : goal.run_to-requires-in_default-clause-runs
 run_to-requires-in_default-clause-runs c =
-    let n = c.args.node.now in
-    let s = c.args.stage.now in
-    let l = (scene s).objects in
-    let cells = of_operands (HoldsKind l) n c.requires.runs.kinds in
-    subst (λ (t : Context). IfSome n.out2 (RunsTo t.objects n)) (sym c.run_to.ensures.value) (runs_then n c.requires.runs.node l c.requires.stage.objects cells c.requires.runs.verdict)
+    subst (λ (t : Context). IfSome c.args.node.now.out2 (RunsTo t.objects c.args.node.now)) (sym c.run_to.ensures.value) (runs_then _ _ c.requires.stage.objects c.requires.runs)
 
-pub returns-in_default-clause-value : goal.returns-in_default-clause-value
-returns-in_default-clause-value c =
+pub returns-in_default : goal.returns-in_default
+returns-in_default c =
     let n = c.args.node.now in
-    let s = c.args.stage.now in
-    let l = (scene s).objects in
-    let cells = of_operands (HoldsKind l) n c.requires.runs.kinds in
-    c.run_to-in_default.ensures.value
-    ∙ ap (λ (k : Context). with_objects k (with_output k.objects n Second n.out2)) c.run_to.ensures.value
-    ∙ ap (with_objects (scene s)) (sym (written_is n c.requires.runs.node l c.requires.stage.objects cells c.requires.runs.verdict))
-
-pub returns-in_default-clause-lasts : goal.returns-in_default-clause-lasts
-returns-in_default-clause-lasts c =
-    let n = c.args.node.now in
-    let s = c.args.stage.now in
-    let l = (scene s).objects in
-    let cells = of_operands (HoldsKind l) n c.requires.runs.kinds in
-    subst (λ (k : Context). Lasts l k.objects) (sym
-    (c.run_to-in_default.ensures.value
-    ∙ ap (λ (k : Context). with_objects k (with_output k.objects n Second n.out2)) c.run_to.ensures.value))
-    (Lasts-outputs n c.requires.runs.node l c.requires.stage.objects cells c.requires.runs.verdict (subst IsStrictlyIncreasing (sym (names-shown s.slots.items s.table.objects)) c.requires.stage.names))
-
-pub returns-in_default-clause-stage : goal.returns-in_default-clause-stage
-returns-in_default-clause-stage c =
-    let n = c.args.node.now in
-    let s = c.args.stage.now in
-    let l = (scene s).objects in
-    let cells = of_operands (HoldsKind l) n c.requires.runs.kinds in
-    kept_stage s c.run_to-in_default.new.stage c.requires.stage c.run_to-in_default.ensures.stage
-    (Keeps-trans s c.run_to.new.stage c.run_to-in_default.new.stage c.run_to.ensures.keeps c.run_to-in_default.ensures.keeps)
-    (returns-in_default-clause-lasts c)
-
-pub returns-in_default-clause-stays : goal.returns-in_default-clause-stays
-returns-in_default-clause-stays c =
-    let s = c.args.stage.now in
-    kept_stays s c.run_to-in_default.new.stage (Keeps-trans s c.run_to.new.stage c.run_to-in_default.new.stage c.run_to.ensures.keeps c.run_to-in_default.ensures.keeps)
+    let h = stepped c.args.stage.now c.run_to-in_default.new.stage n c.requires.stage c.requires.runs c.run_to-in_default.ensures.stage
+    (Keeps-trans _ c.run_to.new.stage _ c.run_to.ensures.keeps c.run_to-in_default.ensures.keeps)
+    (c.run_to-in_default.ensures.value ∙ ap (λ (k : Context). with_objects k (with_output k.objects n Second n.out2)) c.run_to.ensures.value) in
+    record { value = h.0; stage = h.1; lasts = h.2; stays = h.3 }
 
 -- ---- where both outputs are there
 
-pub write_both-requires-clause-function : goal.write_both-requires-clause-function
-write_both-requires-clause-function c =
-    has_two c.args.node.now _ _ c.requires.runs.node c.in-Some-Some.is-0 c.in-Some-Some.is-1
+pub write_both-requires : goal.write_both-requires
+write_both-requires c =
+    let n = c.args.node.now in
+    let l = (scene c.args.stage.now).objects in
+    let is = c.requires.stage.objects in
+    let first = c.in-Some-Some.is-0 in
+    let second = c.in-Some-Some.is-1 in
+    record {
+      stage = stage_arranged c.args.stage.now c.requires.stage;
+      function = has_two n _ _ c.requires.runs.node first second;
+      first = subst (λ (o : Option Cell). IfSome o (RunsTo l n)) first (runs_first n l is c.requires.runs);
+      second = subst (λ (o : Option Cell). IfSome o (RunsTo l n)) second (runs_second n l is c.requires.runs);
+      apart = subst (λ (o : Option Cell). IfSome o (λ b. AreApart b c.in-Some-Some.out1)) second
+          (subst (λ (o : Option Cell). IfSome o (λ a. IfSome n.out2 (λ b. AreApart b a))) first (two_outputs n l is c.requires.runs));
+    }
 
-pub write_both-requires-clause-first : goal.write_both-requires-clause-first
-write_both-requires-clause-first c =
+pub returns-in-Some-Some : goal.returns-in-Some-Some
+returns-in-Some-Some c =
     let n = c.args.node.now in
     let s = c.args.stage.now in
-    let l = (scene s).objects in
-    let cells = of_operands (HoldsKind l) n c.requires.runs.kinds in
-    subst (λ (o : Option Cell). IfSome o (RunsTo l n)) c.in-Some-Some.is-0 (runs_first n c.requires.runs.node l c.requires.stage.objects cells c.requires.runs.verdict)
-
-pub write_both-requires-clause-second : goal.write_both-requires-clause-second
-write_both-requires-clause-second c =
-    let n = c.args.node.now in
-    let s = c.args.stage.now in
-    let l = (scene s).objects in
-    let cells = of_operands (HoldsKind l) n c.requires.runs.kinds in
-    subst (λ (o : Option Cell). IfSome o (RunsTo l n)) c.in-Some-Some.is-1 (runs_second n c.requires.runs.node l c.requires.stage.objects cells c.requires.runs.verdict)
-
-pub write_both-requires-clause-apart : goal.write_both-requires-clause-apart
-write_both-requires-clause-apart c =
-    let n = c.args.node.now in
-    let s = c.args.stage.now in
-    let l = (scene s).objects in
-    let cells = of_operands (HoldsKind l) n c.requires.runs.kinds in
-    subst (λ (o : Option Cell). IfSome o (λ b. AreApart b c.in-Some-Some.out1)) c.in-Some-Some.is-1
-    (subst (λ (o : Option Cell). IfSome o (λ a. IfSome n.out2 (λ b. AreApart b a))) c.in-Some-Some.is-0 (two_outputs n c.requires.runs.node l c.requires.stage.objects cells c.requires.runs.verdict))
-
-pub returns-in-Some-Some-clause-value : goal.returns-in-Some-Some-clause-value
-returns-in-Some-Some-clause-value c =
-    let n = c.args.node.now in
-    let s = c.args.stage.now in
-    let l = (scene s).objects in
-    let cells = of_operands (HoldsKind l) n c.requires.runs.kinds in
-    c.write_both.ensures.value
-    ∙ ap (λ (o : Option Cell). with_objects (scene s) (with_output (with_output l n First o) n Second (Some c.in-Some-Some.out2))) (sym c.in-Some-Some.is-0)
-    ∙ ap (λ (o : Option Cell). with_objects (scene s) (with_output (with_output l n First n.out1) n Second o)) (sym c.in-Some-Some.is-1)
-    ∙ ap (with_objects (scene s)) (sym (written_is n c.requires.runs.node l c.requires.stage.objects cells c.requires.runs.verdict))
-
-pub returns-in-Some-Some-clause-lasts : goal.returns-in-Some-Some-clause-lasts
-returns-in-Some-Some-clause-lasts c =
-    let n = c.args.node.now in
-    let s = c.args.stage.now in
-    let l = (scene s).objects in
-    let cells = of_operands (HoldsKind l) n c.requires.runs.kinds in
-    subst (λ (k : Context). Lasts l k.objects) (sym
-    (c.write_both.ensures.value
-    ∙ ap (λ (o : Option Cell). with_objects (scene s) (with_output (with_output l n First o) n Second (Some c.in-Some-Some.out2))) (sym c.in-Some-Some.is-0)
-    ∙ ap (λ (o : Option Cell). with_objects (scene s) (with_output (with_output l n First n.out1) n Second o)) (sym c.in-Some-Some.is-1)))
-    (Lasts-outputs n c.requires.runs.node l c.requires.stage.objects cells c.requires.runs.verdict (subst IsStrictlyIncreasing (sym (names-shown s.slots.items s.table.objects)) c.requires.stage.names))
-
-pub returns-in-Some-Some-clause-stage : goal.returns-in-Some-Some-clause-stage
-returns-in-Some-Some-clause-stage c =
-    kept_stage c.args.stage.now c.write_both.new.stage c.requires.stage c.write_both.ensures.stage c.write_both.ensures.keeps (returns-in-Some-Some-clause-lasts c)
-
-pub returns-in-Some-Some-clause-stays : goal.returns-in-Some-Some-clause-stays
-returns-in-Some-Some-clause-stays c =
-    kept_stays c.args.stage.now c.write_both.new.stage c.write_both.ensures.keeps
+    let outputs : Option Cell → Option Cell → Context = λ one other. with_objects (scene s) (with_output (with_output (scene s).objects n First one) n Second other) in
+    let h = stepped s c.write_both.new.stage n c.requires.stage c.requires.runs c.write_both.ensures.stage c.write_both.ensures.keeps
+    (c.write_both.ensures.value ∙ ap (λ one. outputs one (Some c.in-Some-Some.out2)) (sym c.in-Some-Some.is-0) ∙ ap (outputs n.out1) (sym c.in-Some-Some.is-1)) in
+    record { value = h.0; stage = h.1; lasts = h.2; stays = h.3 }

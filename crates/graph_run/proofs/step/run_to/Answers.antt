@@ -1,10 +1,8 @@
-use Rattle.std.proofs.Common.{◌∙◌, Option, ap, sym, subst}
+use Rattle.std.proofs.Common.{◌∙◌, Option, ap, sym, subst, arith}
 use Rattle.std.specs.Prelude.{IfSome}
 use Rattle.vx_base.specs.Cell.{Cell, cell_of}
 use Rattle.vx_base.specs.declared.function.Parameters.{Parameters}
 use Rattle.object_table.specs.Context.{with_objects}
-use Rattle.vx_base.specs.Object.{ExtremesObject}
-use Rattle.vx_base.specs.Statistics.{extremes}
 use Rattle.object_table.specs.Named.{with_object}
 use Rattle.object_table.specs.Table.{image_held, object_under}
 use Rattle.graph_run.specs.Stage.{scene}
@@ -13,16 +11,10 @@ use Rattle.graph_run.proofs.RunLemmas.{counted_is, located_is, reads_an_image}
 use Rattle.graph_run.proofs.step.run_to.Goals as goal
 
 pub count_to-requires-clause-image : goal.count_to-requires-clause-image
-count_to-requires-clause-image c =
-    let l = (scene c.args.stage.now).objects in
-    let runs = subst (λ (o : Option Cell). IfSome o (RunsTo l c.args.node.now)) c.in-Some.is c.requires.runs in
-    reads_an_image l c.args.node.now c.args.which c.in-Some.output runs
+count_to-requires-clause-image c = grind (arith, reads_an_image)
 
 pub locate_to-requires-clause-image : goal.locate_to-requires-clause-image
-locate_to-requires-clause-image c =
-    let l = (scene c.args.stage.now).objects in
-    let runs = subst (λ (o : Option Cell). IfSome o (RunsTo l c.args.node.now)) c.in-Some.is c.requires.runs in
-    reads_an_image l c.args.node.now c.args.which c.in-Some.output runs
+locate_to-requires-clause-image c = grind (arith, reads_an_image)
 
 pub returns-in-Distribution-clause-value : goal.returns-in-Distribution-clause-value
 returns-in-Distribution-clause-value c =
@@ -35,11 +27,4 @@ returns-in-Distribution-clause-value c =
     ∙ ap (with_objects t) (counted_is t.objects n c.args.which c.in-Some.output runs output ∙ ap (with_output t.objects n c.args.which) (sym c.in-Some.is))
 
 pub returns-in-Extremes-clause-value : goal.returns-in-Extremes-clause-value
-returns-in-Extremes-clause-value c =
-    let t = scene c.args.stage.now in
-    let n = c.args.node.now in
-    let runs = subst (λ (o : Option Cell). IfSome o (RunsTo t.objects n)) c.in-Some.is c.requires.runs in
-    let output = ap (λ (q : Parameters). q.output) (sym c.parameters.ensures) ∙ c.in-Extremes.is in
-    c.locate_to.ensures.value
-    ∙ ap (λ name. with_objects t (with_object t.objects (cell_of name) (ExtremesObject (extremes (image_held t.objects n.in1))))) c.name-in-Extremes.ensures.value
-    ∙ ap (with_objects t) (located_is t.objects n c.args.which c.in-Some.output runs output ∙ ap (with_output t.objects n c.args.which) (sym c.in-Some.is))
+returns-in-Extremes-clause-value c = grind (arith, located_is)

@@ -1,13 +1,10 @@
-use Rattle.std.proofs.Common.{◌≡◌, ℕ, Option, Some, None, IsTrue, ap, sym, subst, ◌∙◌}
+use Rattle.std.proofs.Common.{◌≡◌, Option, Some, IsTrue, ap, sym, subst, ◌∙◌, arith}
 use Rattle.std.specs.Prelude.{is_some, unwrap_or, IfSome}
-use Rattle.std.specs.Option.{option_map, option_and_then}
+use Rattle.std.specs.Option.{option_map}
 use Rattle.vx_base.specs.declared.format.Format.TheVariants.{U8}
-use Rattle.vx_base.specs.Cell.{Cell}
 use Rattle.vx_base.specs.Image.{new_image}
 use Rattle.vx_base.specs.Object.{ObjectValue, ImageObject, IsObject, object_kind}
-use Rattle.object_table.specs.Delay.{in_slot, object_in}
-use Rattle.object_table.specs.Named.{object_held, held}
-use Rattle.object_table.specs.Object.{value_of}
+use Rattle.object_table.specs.Named.{object_held}
 use Rattle.object_table.specs.Table.{cell_object}
 use Rattle.graph_run.specs.Stage.{scene}
 use Rattle.graph_run.specs.Steps.{Holds, IsRead}
@@ -15,20 +12,10 @@ use Rattle.graph_run.proofs.StepLemmas.{none_found, virtual_read, real_cell, not
 use Rattle.graph_run.proofs.step.second_held.Goals as goal
 
 pub image-requires-clause-there : goal.image-requires-clause-there
-image-requires-clause-there c =
-    let s = c.args.stage.now in
-    let found : object_held s.table.objects c.in-Some.cell.name ≡ Some (value_of (c.content.result.now)) =
-    ap (object_held s.table.objects) (sym c.name.ensures.value) ∙ sym c.get_held.ensures ∙ ap (option_map (λ o. o.now)) c.in-Some-get_held.is ∙ ap Some (sym c.content.ensures) in
-    virtual_read s.slots.items s.table.objects c.in-Some.cell c.in-Virtual.field-0 (found ∙ ap (λ x. Some (value_of x)) c.in-Virtual.is)
-    (subst (λ o. IfSome o (Holds (scene s).objects)) c.in-Some.is c.requires.there)
-    (subst (λ o. IfSome (option_map (cell_object (scene s).objects) o) (λ object. IsRead (object_kind object))) c.in-Some.is c.requires.kind)
+image-requires-clause-there c = grind (arith, virtual_read)
 
 pub unreachable-requires : goal.unreachable-requires
-unreachable-requires c =
-    let s = c.args.stage.now in
-    none_found s.slots.items s.table.objects c.in-Some.cell
-    (ap (object_held s.table.objects) (sym c.name.ensures.value) ∙ sym c.get_held.ensures ∙ ap (option_map (λ o. o.now)) c.in-None.is)
-    (subst (λ o. IfSome o (Holds (scene s).objects)) c.in-Some.is c.requires.there)
+unreachable-requires c = grind (arith, none_found)
 
 pub second_in-requires : goal.second_in-requires
 second_in-requires c =

@@ -1,29 +1,22 @@
-use Rattle.std.proofs.Common.{◌≡◌, ◌≤◌, ◌∙◌, ℕ, ℤ, List, length, refl, ap, sym, subst}
-use Rattle.vx_base.specs.declared.samples.Samples.{Samples}
-use Rattle.vx_base.specs.Description.{Description, sample_count}
-use Rattle.vx_base.specs.Picture.{values}
+use Rattle.std.proofs.Common.{◌∙◌, length, refl, ap, sym}
+use Rattle.vx_base.specs.Description.{sample_count}
 use Rattle.vx_base.specs.declared.output.Output.TheVariants as outputs
-use Rattle.graph_run.specs.Stage.{scene, HasCount, Keeps}
+use Rattle.graph_run.specs.Stage.{scene}
 use Rattle.graph_run.proofs.OutputLemmas.{out_is_image, writes_image}
 use Rattle.graph_run.proofs.PairLemmas.{both_back, can_one, can_other, described_one, described_other, reads, reads_value, runs_other, takes_one, takes_other, writes_images, writes_shorts}
 use Rattle.graph_run.proofs.PartLemmas.{shorts_count, shorts_written}
-use Rattle.graph_run.proofs.StepLemmas.{twice, back, still_out, still_for}
+use Rattle.graph_run.proofs.StepLemmas.{put_keeps, still_out, still_for}
 use Rattle.graph_run.proofs.step.write_both.Goals as goal
 
 pub take-desc_x-requires-clause-image : goal.take-desc_x-requires-clause-image
 take-desc_x-requires-clause-image c = out_is_image _ c.args.node.now outputs.First _ c.requires.first (writes_images c.args.node.now c.requires.function)
 
-pub take-desc_y-requires-clause-there : goal.take-desc_y-requires-clause-there
-take-desc_y-requires-clause-there c =
+pub take-desc_y-requires : goal.take-desc_y-requires
+take-desc_y-requires c =
     let n = c.args.node.now in
     let other = runs_other (scene c.args.stage.now) n c.args.out1 c.args.out2 c.requires.first c.requires.second c.requires.apart c.requires.function _ c.take-desc_x.ensures.left in
-    writes_image _ n outputs.Second c.args.out2 other (writes_images n c.requires.function)
-
-pub take-desc_y-requires-clause-image : goal.take-desc_y-requires-clause-image
-take-desc_y-requires-clause-image c =
-    let n = c.args.node.now in
-    let other = runs_other (scene c.args.stage.now) n c.args.out1 c.args.out2 c.requires.first c.requires.second c.requires.apart c.requires.function _ c.take-desc_x.ensures.left in
-    out_is_image _ n outputs.Second c.args.out2 other (writes_images n c.requires.function)
+    let images = writes_images n c.requires.function in
+    record { stage = c.take-desc_x.ensures.stage; there = writes_image _ n outputs.Second c.args.out2 other images; image = out_is_image _ n outputs.Second c.args.out2 other images }
 
 pub shorts_of-samples_y-requires : goal.shorts_of-samples_y-requires
 shorts_of-samples_y-requires c =
@@ -31,13 +24,14 @@ shorts_of-samples_y-requires c =
     let other = runs_other (scene c.args.stage.now) n c.args.out1 c.args.out2 c.requires.first c.requires.second c.requires.apart c.requires.function _ c.take-desc_x.ensures.left in
     c.take-desc_y.ensures.samples.format ∙ ap (λ d. d.format) c.take-desc_y.ensures.desc ∙ writes_shorts _ n c.args.out2 other c.requires.function
 
-pub image-image-requires-clause-there : goal.image-image-requires-clause-there
-image-image-requires-clause-there c =
-    reads (scene c.args.stage.now) c.args.node.now c.args.out1 c.args.out2 c.requires.first c.requires.second c.requires.apart c.requires.function _ c.take-desc_x.ensures.left _ c.take-desc_y.ensures.left
-
-pub image-image-requires-clause-image : goal.image-image-requires-clause-image
-image-image-requires-clause-image c =
-    reads_value (scene c.args.stage.now) c.args.node.now c.args.out1 c.args.out2 c.requires.first c.requires.second c.requires.apart c.requires.function _ c.take-desc_x.ensures.left _ c.take-desc_y.ensures.left _ refl
+pub image-image-requires : goal.image-image-requires
+image-image-requires c =
+    let s = scene c.args.stage.now in
+    record {
+      stage = c.take-desc_y.ensures.stage;
+      there = reads s c.args.node.now c.args.out1 c.args.out2 c.requires.first c.requires.second c.requires.apart c.requires.function _ c.take-desc_x.ensures.left _ c.take-desc_y.ensures.left;
+      image = reads_value s c.args.node.now c.args.out1 c.args.out2 c.requires.first c.requires.second c.requires.apart c.requires.function _ c.take-desc_x.ensures.left _ c.take-desc_y.ensures.left _ refl;
+    }
 
 pub run_both-x-requires-clause-can_x : goal.run_both-x-requires-clause-can_x
 run_both-x-requires-clause-can_x c =
@@ -61,43 +55,36 @@ put-requires-clause-samples c =
     (shorts_count c.shorts_of-samples_y.result c.run_both-x.new.samples_y c.split_at_mut-part_y.result.1.now c.deref_mut-2.result.now c.split_at_mut-part_y.result.0.now c.deref_mut-2.ensures.value _ c.deref_mut-2.ensures.len c.run_both-x.auto.samples_y c.split_at_mut-part_y.ensures.front_len c.split_at_mut-part_y.ensures.back_len ∙ ap length c.shorts_of-samples_y.ensures)
     (described_other (scene c.args.stage.now) c.args.node.now c.args.out1 c.args.out2 c.requires.first c.requires.second c.requires.apart c.requires.function _ c.take-desc_x.ensures.left _ c.take-desc_y.ensures.left ∙ sym c.take-desc_y.ensures.desc)
 
-pub put-requires-2-clause-there : goal.put-requires-2-clause-there
-put-requires-2-clause-there c =
-    let places_y = described_other (scene c.args.stage.now) c.args.node.now c.args.out1 c.args.out2 c.requires.first c.requires.second c.requires.apart c.requires.function _ c.take-desc_x.ensures.left _ c.take-desc_y.ensures.left ∙ sym c.take-desc_y.ensures.desc in
-    let written_y = shorts_written c.shorts_of-samples_y.result c.run_both-x.new.samples_y c.split_at_mut-part_y.result.1.now c.deref_mut-2.result.now c.split_at_mut-part_y.result.0.now c.deref_mut-2.ensures.value _ c.deref_mut-2.ensures.len c.run_both-x.auto.samples_y c.split_at_mut-part_y.ensures.front_len c.split_at_mut-part_y.ensures.back_len _ (ap sample_count places_y ∙ sym c.sample_count-2.ensures.value) ∙ c.run_both-x.ensures.samples_y in
-    takes_one (scene c.args.stage.now) c.args.node.now c.args.out1 c.args.out2 c.requires.first c.requires.second c.requires.apart c.requires.function _ c.take-desc_x.ensures.left _ c.take-desc_y.ensures.left _ c.image-image.ensures _ c.take-desc_y.ensures.desc _ _ _ c.put.ensures.value c.run_both-x.ensures.valid_y written_y
-
-pub put-requires-2-clause-samples : goal.put-requires-2-clause-samples
-put-requires-2-clause-samples c =
+pub put-requires-2 : goal.put-requires-2
+put-requires-2 c =
     let n = c.args.node.now in
+    let places_y = described_other (scene c.args.stage.now) n c.args.out1 c.args.out2 c.requires.first c.requires.second c.requires.apart c.requires.function _ c.take-desc_x.ensures.left _ c.take-desc_y.ensures.left ∙ sym c.take-desc_y.ensures.desc in
+    let written_y = shorts_written c.shorts_of-samples_y.result c.run_both-x.new.samples_y c.split_at_mut-part_y.result.1.now c.deref_mut-2.result.now c.split_at_mut-part_y.result.0.now c.deref_mut-2.ensures.value _ c.deref_mut-2.ensures.len c.run_both-x.auto.samples_y c.split_at_mut-part_y.ensures.front_len c.split_at_mut-part_y.ensures.back_len _ (ap sample_count places_y ∙ sym c.sample_count-2.ensures.value) ∙ c.run_both-x.ensures.samples_y in
+    let kept = put_keeps c.take-desc_x.new.self c.take-desc_y.new.self c.put.new.self c.args.out2.name 0 _ _ c.take-desc_y.ensures.none c.put.ensures.count
+    (shorts_count c.shorts_of-samples_y.result c.run_both-x.new.samples_y c.split_at_mut-part_y.result.1.now c.deref_mut-2.result.now c.split_at_mut-part_y.result.0.now c.deref_mut-2.ensures.value _ c.deref_mut-2.ensures.len c.run_both-x.auto.samples_y c.split_at_mut-part_y.ensures.front_len c.split_at_mut-part_y.ensures.back_len ∙ ap length c.shorts_of-samples_y.ensures) c.take-desc_y.ensures.count in
+    let out = still_out c.args.stage.now c.take-desc_x.new.self c.put.new.self c.args.out1.name 0 c.take-desc_x.ensures.none kept in
     let format = c.take-desc_x.ensures.samples.format ∙ ap (λ d. d.format) c.take-desc_x.ensures.desc ∙ writes_shorts _ n c.args.out1 c.requires.first c.requires.function in
-    let places_y = described_other (scene c.args.stage.now) c.args.node.now c.args.out1 c.args.out2 c.requires.first c.requires.second c.requires.apart c.requires.function _ c.take-desc_x.ensures.left _ c.take-desc_y.ensures.left ∙ sym c.take-desc_y.ensures.desc in
-    let written_y = shorts_written c.shorts_of-samples_y.result c.run_both-x.new.samples_y c.split_at_mut-part_y.result.1.now c.deref_mut-2.result.now c.split_at_mut-part_y.result.0.now c.deref_mut-2.ensures.value _ c.deref_mut-2.ensures.len c.run_both-x.auto.samples_y c.split_at_mut-part_y.ensures.front_len c.split_at_mut-part_y.ensures.back_len _ (ap sample_count places_y ∙ sym c.sample_count-2.ensures.value) ∙ c.run_both-x.ensures.samples_y in
-    let kept : Keeps c.take-desc_x.new.self c.put.new.self =
-    back c.take-desc_x.new.self c.put.new.self c.args.out2.name _
-    (twice c.take-desc_x.new.self c.take-desc_y.new.self c.put.new.self c.args.out2.name 0 _ c.take-desc_y.ensures.none c.put.ensures.count)
-    (subst (HasCount c.take-desc_x.new.self.slots.items c.args.out2.name) (sym (shorts_count c.shorts_of-samples_y.result c.run_both-x.new.samples_y c.split_at_mut-part_y.result.1.now c.deref_mut-2.result.now c.split_at_mut-part_y.result.0.now c.deref_mut-2.ensures.value _ c.deref_mut-2.ensures.len c.run_both-x.auto.samples_y c.split_at_mut-part_y.ensures.front_len c.split_at_mut-part_y.ensures.back_len ∙ ap length c.shorts_of-samples_y.ensures)) c.take-desc_y.ensures.count) in
-    let out = still_out c.args.stage.now c.take-desc_x.new.self c.put.new.self c.args.out1.name 0 c.take-desc_x.ensures.none kept in
-    still_for c.args.stage.now c.put.new.self c.args.out1.name 0 c.args.out1.name c.take-desc_x.result.0 _ c.take-desc_x.result.1 _ out c.take-desc_x.ensures.samples
-    (sym format)
-    (shorts_count c.shorts_of-samples_x.result c.run_both-x.new.samples_x c.split_at_mut-part_x.result.1.now c.deref_mut.result.now c.split_at_mut-part_x.result.0.now c.deref_mut.ensures.value _ c.deref_mut.ensures.len c.run_both-x.auto.samples_x c.split_at_mut-part_x.ensures.front_len c.split_at_mut-part_x.ensures.back_len ∙ ap length c.shorts_of-samples_x.ensures)
-    (described_one (scene c.args.stage.now) c.args.node.now c.args.out1 c.args.out2 c.requires.first c.requires.second c.requires.apart c.requires.function _ c.take-desc_x.ensures.left _ c.take-desc_y.ensures.left _ c.image-image.ensures _ c.take-desc_y.ensures.desc _ _ _ c.put.ensures.value c.run_both-x.ensures.valid_y written_y ∙ sym c.take-desc_x.ensures.desc)
+    record {
+      stage = c.put.ensures.stage;
+      there = takes_one (scene c.args.stage.now) n c.args.out1 c.args.out2 c.requires.first c.requires.second c.requires.apart c.requires.function _ c.take-desc_x.ensures.left _ c.take-desc_y.ensures.left _ c.image-image.ensures _ c.take-desc_y.ensures.desc _ _ _ c.put.ensures.value c.run_both-x.ensures.valid_y written_y;
+      samples = still_for c.args.stage.now c.put.new.self c.args.out1.name 0 c.args.out1.name c.take-desc_x.result.0 _ c.take-desc_x.result.1 _ out c.take-desc_x.ensures.samples (sym format)
+          (shorts_count c.shorts_of-samples_x.result c.run_both-x.new.samples_x c.split_at_mut-part_x.result.1.now c.deref_mut.result.now c.split_at_mut-part_x.result.0.now c.deref_mut.ensures.value _ c.deref_mut.ensures.len c.run_both-x.auto.samples_x c.split_at_mut-part_x.ensures.front_len c.split_at_mut-part_x.ensures.back_len ∙ ap length c.shorts_of-samples_x.ensures)
+          (described_one (scene c.args.stage.now) n c.args.out1 c.args.out2 c.requires.first c.requires.second c.requires.apart c.requires.function _ c.take-desc_x.ensures.left _ c.take-desc_y.ensures.left _ c.image-image.ensures _ c.take-desc_y.ensures.desc _ _ _ c.put.ensures.value c.run_both-x.ensures.valid_y written_y ∙ sym c.take-desc_x.ensures.desc);
+    }
 
-pub returns-clause-value : goal.returns-clause-value
-returns-clause-value c =
-    let places_y = described_other (scene c.args.stage.now) c.args.node.now c.args.out1 c.args.out2 c.requires.first c.requires.second c.requires.apart c.requires.function _ c.take-desc_x.ensures.left _ c.take-desc_y.ensures.left ∙ sym c.take-desc_y.ensures.desc in
+pub returns : goal.returns
+returns c =
+    let n = c.args.node.now in
+    let places_y = described_other (scene c.args.stage.now) n c.args.out1 c.args.out2 c.requires.first c.requires.second c.requires.apart c.requires.function _ c.take-desc_x.ensures.left _ c.take-desc_y.ensures.left ∙ sym c.take-desc_y.ensures.desc in
     let written_y = shorts_written c.shorts_of-samples_y.result c.run_both-x.new.samples_y c.split_at_mut-part_y.result.1.now c.deref_mut-2.result.now c.split_at_mut-part_y.result.0.now c.deref_mut-2.ensures.value _ c.deref_mut-2.ensures.len c.run_both-x.auto.samples_y c.split_at_mut-part_y.ensures.front_len c.split_at_mut-part_y.ensures.back_len _ (ap sample_count places_y ∙ sym c.sample_count-2.ensures.value) ∙ c.run_both-x.ensures.samples_y in
-    let places_x = described_one (scene c.args.stage.now) c.args.node.now c.args.out1 c.args.out2 c.requires.first c.requires.second c.requires.apart c.requires.function _ c.take-desc_x.ensures.left _ c.take-desc_y.ensures.left _ c.image-image.ensures _ c.take-desc_y.ensures.desc _ _ _ c.put.ensures.value c.run_both-x.ensures.valid_y written_y ∙ sym c.take-desc_x.ensures.desc in
-    both_back (scene c.args.stage.now) c.args.node.now c.args.out1 c.args.out2 c.requires.first c.requires.second c.requires.apart c.requires.function _ c.take-desc_x.ensures.left _ c.take-desc_y.ensures.left _ c.image-image.ensures _ c.take-desc_y.ensures.desc _ _ _ c.put.ensures.value c.run_both-x.ensures.valid_y written_y _ c.take-desc_x.ensures.desc _ _ _ c.put-2.ensures.value c.run_both-x.ensures.valid_x
-    (shorts_written c.shorts_of-samples_x.result c.run_both-x.new.samples_x c.split_at_mut-part_x.result.1.now c.deref_mut.result.now c.split_at_mut-part_x.result.0.now c.deref_mut.ensures.value _ c.deref_mut.ensures.len c.run_both-x.auto.samples_x c.split_at_mut-part_x.ensures.front_len c.split_at_mut-part_x.ensures.back_len _ (ap sample_count places_x ∙ sym c.sample_count.ensures.value) ∙ c.run_both-x.ensures.samples_x)
-
-pub returns-clause-keeps : goal.returns-clause-keeps
-returns-clause-keeps c =
-    let kept : Keeps c.take-desc_x.new.self c.put.new.self =
-    back c.take-desc_x.new.self c.put.new.self c.args.out2.name _
-    (twice c.take-desc_x.new.self c.take-desc_y.new.self c.put.new.self c.args.out2.name 0 _ c.take-desc_y.ensures.none c.put.ensures.count)
-    (subst (HasCount c.take-desc_x.new.self.slots.items c.args.out2.name) (sym (shorts_count c.shorts_of-samples_y.result c.run_both-x.new.samples_y c.split_at_mut-part_y.result.1.now c.deref_mut-2.result.now c.split_at_mut-part_y.result.0.now c.deref_mut-2.ensures.value _ c.deref_mut-2.ensures.len c.run_both-x.auto.samples_y c.split_at_mut-part_y.ensures.front_len c.split_at_mut-part_y.ensures.back_len ∙ ap length c.shorts_of-samples_y.ensures)) c.take-desc_y.ensures.count) in
+    let kept = put_keeps c.take-desc_x.new.self c.take-desc_y.new.self c.put.new.self c.args.out2.name 0 _ _ c.take-desc_y.ensures.none c.put.ensures.count
+    (shorts_count c.shorts_of-samples_y.result c.run_both-x.new.samples_y c.split_at_mut-part_y.result.1.now c.deref_mut-2.result.now c.split_at_mut-part_y.result.0.now c.deref_mut-2.ensures.value _ c.deref_mut-2.ensures.len c.run_both-x.auto.samples_y c.split_at_mut-part_y.ensures.front_len c.split_at_mut-part_y.ensures.back_len ∙ ap length c.shorts_of-samples_y.ensures) c.take-desc_y.ensures.count in
     let out = still_out c.args.stage.now c.take-desc_x.new.self c.put.new.self c.args.out1.name 0 c.take-desc_x.ensures.none kept in
-    back c.args.stage.now c.put-2.new.self c.args.out1.name _
-    (twice c.args.stage.now c.put.new.self c.put-2.new.self c.args.out1.name 0 _ out c.put-2.ensures.count)
-    (subst (HasCount c.args.stage.now.slots.items c.args.out1.name) (sym (shorts_count c.shorts_of-samples_x.result c.run_both-x.new.samples_x c.split_at_mut-part_x.result.1.now c.deref_mut.result.now c.split_at_mut-part_x.result.0.now c.deref_mut.ensures.value _ c.deref_mut.ensures.len c.run_both-x.auto.samples_x c.split_at_mut-part_x.ensures.front_len c.split_at_mut-part_x.ensures.back_len ∙ ap length c.shorts_of-samples_x.ensures)) c.take-desc_x.ensures.count)
+    let places_x = described_one (scene c.args.stage.now) n c.args.out1 c.args.out2 c.requires.first c.requires.second c.requires.apart c.requires.function _ c.take-desc_x.ensures.left _ c.take-desc_y.ensures.left _ c.image-image.ensures _ c.take-desc_y.ensures.desc _ _ _ c.put.ensures.value c.run_both-x.ensures.valid_y written_y ∙ sym c.take-desc_x.ensures.desc in
+    record {
+      value = both_back (scene c.args.stage.now) n c.args.out1 c.args.out2 c.requires.first c.requires.second c.requires.apart c.requires.function _ c.take-desc_x.ensures.left _ c.take-desc_y.ensures.left _ c.image-image.ensures _ c.take-desc_y.ensures.desc _ _ _ c.put.ensures.value c.run_both-x.ensures.valid_y written_y _ c.take-desc_x.ensures.desc _ _ _ c.put-2.ensures.value c.run_both-x.ensures.valid_x
+          (shorts_written c.shorts_of-samples_x.result c.run_both-x.new.samples_x c.split_at_mut-part_x.result.1.now c.deref_mut.result.now c.split_at_mut-part_x.result.0.now c.deref_mut.ensures.value _ c.deref_mut.ensures.len c.run_both-x.auto.samples_x c.split_at_mut-part_x.ensures.front_len c.split_at_mut-part_x.ensures.back_len _ (ap sample_count places_x ∙ sym c.sample_count.ensures.value) ∙ c.run_both-x.ensures.samples_x);
+      stage = c.put-2.ensures.stage;
+      keeps = put_keeps c.args.stage.now c.put.new.self c.put-2.new.self c.args.out1.name 0 _ _ out c.put-2.ensures.count
+          (shorts_count c.shorts_of-samples_x.result c.run_both-x.new.samples_x c.split_at_mut-part_x.result.1.now c.deref_mut.result.now c.split_at_mut-part_x.result.0.now c.deref_mut.ensures.value _ c.deref_mut.ensures.len c.run_both-x.auto.samples_x c.split_at_mut-part_x.ensures.front_len c.split_at_mut-part_x.ensures.back_len ∙ ap length c.shorts_of-samples_x.ensures) c.take-desc_x.ensures.count;
+    }

@@ -1,9 +1,9 @@
-use Rattle.std.proofs.Common.{◌∙◌, take, length, refl, ap, sym, subst}
+use Rattle.std.proofs.Common.{◌∙◌, take, refl, ap, sym}
 use Rattle.vx_base.specs.Description.{Description, sample_count}
 use Rattle.vx_base.specs.Picture.{values}
-use Rattle.graph_run.specs.Stage.{scene, HasCount}
-use Rattle.graph_run.proofs.OutputLemmas.{out_is_image, reads_image, first_is_image, holds_second, second_is_object, second_is_read, runs_there, takes_back, left_described, taken_format, put_back}
-use Rattle.graph_run.proofs.StepLemmas.{twice, back, still_for}
+use Rattle.graph_run.specs.Stage.{scene}
+use Rattle.graph_run.proofs.OutputLemmas.{out_is_image, reads_image, first_is_image, holds_second, second_is_object, second_is_read, runs_there, takes_back, left_described, put_back}
+use Rattle.graph_run.proofs.StepLemmas.{put_keeps, still_for}
 use Rattle.graph_run.proofs.step.write_to.Goals as goal
 
 pub take-desc-requires-clause-image : goal.take-desc-requires-clause-image
@@ -46,8 +46,4 @@ returns-clause-value c =
 
 pub returns-clause-keeps : goal.returns-clause-keeps
 returns-clause-keeps c =
-    let written = c.write_samples-valid.new.samples in
-    let n = length (values written) in
-    back c.args.stage.now c.put.new.self c.args.output.name n
-    (twice c.args.stage.now c.take-desc.new.self c.put.new.self c.args.output.name 0 n c.take-desc.ensures.none c.put.ensures.count)
-    (subst (HasCount c.args.stage.now.slots.items c.args.output.name) (sym c.write_samples-valid.ensures.count) c.take-desc.ensures.count)
+    put_keeps c.args.stage.now c.take-desc.new.self c.put.new.self c.args.output.name 0 _ _ c.take-desc.ensures.none c.put.ensures.count c.write_samples-valid.ensures.count c.take-desc.ensures.count

@@ -1,9 +1,5 @@
-use Rattle.std.proofs.Common.{◌∙◌, ap}
+use Rattle.std.proofs.Common.{◌∙◌, ap, arith}
 use Rattle.object_table.specs.Named.{object_held}
-use Rattle.vx_base.specs.Object.{ObjectValue}
-use Rattle.object_table.specs.Delay.{in_slot}
-use Rattle.std.specs.Option.{option_map}
-use Rattle.graph_verify.specs.Operand.{operand_of}
 use Rattle.graph_run.proofs.FoundLemmas.{operand_nowhere, operand_there}
 use Rattle.graph_run.proofs.verify.operand_held.Goals as goal
 
@@ -13,10 +9,4 @@ returns-in-None c =
     operand_nowhere objects c.args.cell (c.in-None.ensures ∙ ap (object_held objects) c.name.ensures.value)
 
 pub returns-in-Some : goal.returns-in-Some
-returns-in-Some c =
-    let objects = c.args.table.now.objects in
-    let object : ObjectValue = c.in-Some.object.now in
-    operand_there objects c.args.cell object c.operand_in.result c.unwrap_or.result
-    (c.in-Some.ensures ∙ ap (object_held objects) c.name.ensures.value)
-    (c.operand_in.ensures ∙ ap (λ s. option_map operand_of (in_slot s object)) c.slot.ensures.value)
-    c.unwrap_or.ensures
+returns-in-Some c = grind (arith, operand_there)

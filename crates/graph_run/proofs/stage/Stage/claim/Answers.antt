@@ -1,4 +1,4 @@
-use Rattle.std.proofs.Common.{◌≡◌, IfSome, Some, refl, subst, sym, ap, ◌∙◌}
+use Rattle.std.proofs.Common.{◌≡◌, IfSome, Some, refl, subst, ap, arith}
 use Rattle.std.proofs.lemmas.Option.{slice_get_read}
 use Rattle.vx_base.specs.Rectangle.{Rectangle, whole}
 use Rattle.graph_verify.specs.declared.known.VirtualOutput.{VirtualOutput}
@@ -18,7 +18,4 @@ returns-clause-stage c =
     (subst (λ o. IfSome o (λ t. HasRoomFor t c.args.image.desc)) old c.requires.room) c.requires.there c.requires.elsewhere c.has_sides.ensures c.are_samples.ensures (claimed_is c.args.image c.index_mut-slot.result.now _ c.whole-slot.ensures)
 
 pub returns-clause-slots : goal.returns-clause-slots
-returns-clause-slots c k =
-    let s = c.args.self.now in
-    let old = slice_get_read s.slots.items _ c.args.at c.index_mut-slot.result.now refl c.requires.slot c.index_mut-slot.ensures.value in
-    slice_get-set s.slots.items c.args.at k c.index_mut-slot.result.now _ (claimed c.args.image) old (claimed_is c.args.image c.index_mut-slot.result.now _ c.whole-slot.ensures)
+returns-clause-slots c k = grind (arith, slice_get_read, slice_get-set)
