@@ -2,3 +2,4 @@ mod RowLaws
 mod DepthLaws
 mod BlockLaws
 mod LaneLaws
+mod ScaleLaws
