@@ -3,3 +3,4 @@ mod DepthLaws
 mod BlockLaws
 mod LaneLaws
 mod ScaleLaws
+mod StoreLaws
