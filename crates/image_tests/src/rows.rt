@@ -1,9 +1,11 @@
 //! The kernels of lane_rows, at lengths around that of a block: each item that is written is the
 //! formula of the items at its place, and no other is touched.
+ghost use Rattle.vx_base.specs.Pixelwise.{not_bits};
+
 use lane_rows::{
-    absdiff_s16, absdiff_u8, add_s16, add_u8, and_u8, max_s16, max_u8, min_s16, min_u8, mul_s16,
-    mul_u8, narrow, not_u8, or_u8, shift_up, sub_s16, sub_u8, threshold_s16, threshold_u8, widen,
-    xor_u8,
+    OfItem, absdiff_s16, absdiff_u8, add_s16, add_u8, and_u8, map_bytes, max_s16, max_u8, min_s16,
+    min_u8, mul_s16, mul_u8, narrow, not_u8, or_u8, shift_up, sub_s16, sub_u8, threshold_s16,
+    threshold_u8, widen, xor_u8,
 };
 use std::test::Fail;
 use vx_base::{Format, Policy, ThresholdKind, ThresholdRule};
@@ -134,6 +136,23 @@ fn wrapped_byte(number: i32) -> u8 {
 /// The nearest number of eight bits.
 fn nearest_byte(number: i32) -> u8 {
     number.max(0).min(255) as u8
+}
+
+struct Inverted;
+
+impl OfItem<u8, u8> for Inverted {
+    ghost formula = { λ _. not_bits };
+
+    fn item(&self, a: u8) -> u8 {
+        !a
+    }
+}
+
+#[test]
+fn bytes_of_a_kernel(rt: HostRuntime) {
+    assert_items!(rt, in_turn(&BYTES), 77u8;
+        |row, out| map_bytes(&Inverted, row, out);
+        |x| 255 - x);
 }
 
 #[test]

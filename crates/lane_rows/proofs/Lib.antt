@@ -2,3 +2,5 @@ mod RowLaws
 mod DepthLaws
 mod BlockLaws
 mod LaneLaws
+mod ScaleLaws
+mod StoreLaws

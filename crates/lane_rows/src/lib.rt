@@ -8,11 +8,13 @@
 //!
 //! - `item`: the numbers that rows hold
 //! - `rows`: rows that are written item by item
+//! - `bytes`: rows of bytes that are stored sixteen at a time
 //! - `overflow`: policies as types, so that a loop asks for none
 //! - `bits`, `sums`, `products`, `distances`, `extremes`, `thresholds`, `depths`: the kernels
 #![tactic(auto)]
 
 mod bits;
+mod bytes;
 mod depths;
 mod distances;
 mod extremes;
@@ -26,6 +28,7 @@ mod thresholds;
 mod vectors;
 
 pub use bits::{and_u8, not_u8, or_u8, xor_u8};
+pub use bytes::map_bytes;
 pub use depths::{narrow, shift_up, widen};
 pub use distances::{absdiff_s16, absdiff_u8};
 pub use extremes::{max_s16, max_u8, min_s16, min_u8};

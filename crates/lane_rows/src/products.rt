@@ -13,14 +13,15 @@ use crate::vectors::{narrowed, scaled_products};
 use std::simd::prelude::*;
 use vx_base::{Policy, narrow_s16, narrow_u8};
 
-/// A number over 2^amount, rounded to zero.
+/// A number over 2^amount, rounded to zero. Rounded down, it is that of a number that isn't
+/// negative, and of a negative one that is 2^amount - 1 greater.
 fn scaled(number: i32, amount: u8) -> i32
     requires size { unsigned_abs number ≤ 1073741824 }
     requires amount { amount ≤ 15 }
     ensures { result ≡ int_div number (pos (2 ^ amount)) }
 {
-    let magnitude = (number.unsigned_abs() >> amount) as i32;
-    if number < 0 { -magnitude } else { magnitude }
+    let added = if number < 0 { (1 << amount) - 1 } else { 0 };
+    (number + added) >> amount
 }
 
 /// The product of two S16 samples over 2^amount, rounded to zero.

@@ -9,7 +9,7 @@ ghost use Rattle.image_core.specs.Target.{written, Writes};
 
 use crate::one::{OfOne, write_one};
 use image_core::{Image, ImageMut};
-use lane_rows::{OfItem, map_row};
+use lane_rows::{OfItem, map_bytes, map_row};
 use vx_base::{Lut, Samples};
 
 /// The entry of a U8 sample.
@@ -31,7 +31,7 @@ impl OfOne<u8, u8> for ByteTable<'_> {
     ghost formula = { λ s. looked_up (record { format = U8; entries = map pos s.entries.now }) };
 
     fn row(&self, row: &[u8], out: &mut [u8]) {
-        map_row(self, row, out);
+        map_bytes(self, row, out);
     }
 }
 
