@@ -2,7 +2,7 @@
 use Rattle.std.proofs.Common.{◌≡◌, ℕ, ℤ, pos, ◌+◌, ◌-◌, ◌<◌, ◌≤◌, ◌-ℤ◌, ◌<ℤ◌, ◌≤ℤ◌, ◌&&◌, Bool, true, false, cond, List, ◌++◌, length, map, replicate, min, max, take, get_or, refl, ap, ◌∙◌, sym, arith, zero-add}
 use Rattle.std.specs.Prelude.{Option, Some, None, int_lt, int_le, unsigned_abs}
 use Rattle.std.proofs.lemmas.Int.{ints, by_lt_z}
-use Rattle.std.proofs.lemmas.List.{map-append, take-map, take-replicate}
+use Rattle.std.proofs.lemmas.List.{take-map, take-replicate}
 use Rattle.std.proofs.Math.ListN.{get_or-map}
 use Rattle.vx_base.specs.declared.border.Border.{Border}
 use Rattle.vx_base.specs.declared.border.Border.TheVariants.{Undefined, Constant, Replicate}
@@ -11,7 +11,6 @@ use Rattle.vx_base.specs.Image.{ImageValue, run, at}
 use Rattle.vx_base.specs.Window.{nearest, beside, look}
 use Rattle.vx_base.proofs.TableLaws.{run-append, run-same, run-constant, get_or-run}
 use Rattle.vx_base.proofs.WindowLaws.{run_shifted}
-use Rattle.vx_base.proofs.ZeroLaws.{map-replicate}
 use Rattle.border_rows.specs.Seen.{value_beside, row_beside, row_seen, seen_along}
 
 -- ---- tests
@@ -153,13 +152,9 @@ pub seen_in_three : (image : ImageValue) (border : Border) (line start radius n 
     → image.valid.x0 < image.valid.x1 → length samples ≡ m
     → b ≡ min (image.valid.x0 + radius - start) n → m ≡ min (image.valid.x1 + radius - start) n - b → first ≡ min (max (start - radius) image.valid.x0) image.valid.x1
     → pos left ≡ value_beside border (at image image.valid.x0 line) → pos right ≡ value_beside border (at image (image.valid.x1 - 1) line) → map pos samples ≡ run first m (λ k. at image k line)
-    → map pos (replicate b left ++ (samples ++ replicate (n - (b + length samples)) right)) ≡ run start n (λ c. seen_along image border line (pos c -ℤ pos radius))
+    → replicate b (pos left) ++ (map pos samples ++ replicate (n - (b + length samples)) (pos right)) ≡ run start n (λ c. seen_along image border line (pos c -ℤ pos radius))
 seen_in_three image border line start radius n b m first left right samples some long at_before at_middle at_first is_left is_right is_middle =
-    map-append pos (replicate b left) (samples ++ replicate (n - (b + length samples)) right)
-    ∙ ap (λ l. map pos (replicate b left) ++ l) (map-append pos samples (replicate (n - (b + length samples)) right))
-    ∙ ap (λ l. l ++ (map pos samples ++ map pos (replicate (n - (b + length samples)) right))) (map-replicate pos b left)
-    ∙ ap (λ l. replicate b (pos left) ++ (map pos samples ++ l)) (map-replicate pos (n - (b + length samples)) right)
-    ∙ ap (λ k. replicate b (pos left) ++ (map pos samples ++ replicate k (pos right))) rest
+    ap (λ k. replicate b (pos left) ++ (map pos samples ++ replicate k (pos right))) rest
     ∙ sym (run_in_three g start b m (n - (b + m)) (pos left) (pos right) (map pos samples) before (sym (is_middle ∙ sym between)) after)
     ∙ ap (λ k. run start k g) (omega arith)
   where

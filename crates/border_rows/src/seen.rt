@@ -6,8 +6,26 @@ ghost use Rattle.vx_base.specs.Image.{run, at};
 ghost use Rattle.vx_base.specs.Window.{look};
 ghost use Rattle.border_rows.specs.Seen.{value_beside, row_seen, seen_along};
 
-use image_core::Image;
+use image_core::{Image, Number, set_all};
 use vx_base::{Border, Rect};
+
+/// A number type in which rows are loaded: `u8` or `i16`.
+pub trait Loaded: Number {
+    fn loaded(sample: u8) -> Self
+        ensures { Self.value result ≡ pos sample };
+}
+
+impl Loaded for u8 {
+    fn loaded(sample: u8) -> u8 {
+        sample
+    }
+}
+
+impl Loaded for i16 {
+    fn loaded(sample: u8) -> i16 {
+        i16::from(sample)
+    }
+}
 
 /// The sample that counts beside the valid places, where the nearest of them has this one.
 pub fn value_beside(border: Border, edge: u8) -> u8
@@ -37,25 +55,43 @@ fn row_seen(valid: Rect, border: Border, y: i32) -> Option<u16>
     }
 }
 
+/// Writes samples as numbers of the type.
+fn load_samples<T: Loaded>(samples: &[u8], out: &mut [T])
+    requires { length samples.now ≡ length out.old }
+    ensures { map T.value out.new ≡ map pos samples.now }
+{
+    for (i, item) in out.iter_mut().enumerate() {
+        *item = T::loaded(samples[i]);
+    }
+}
+
 /// Writes a row's samples, after so many times one sample and before another.
-fn write_between(left: u8, before: usize, samples: &[u8], right: u8, out: &mut [u8])
+fn load_between<T: Loaded>(left: u8, before: usize, samples: &[u8], right: u8, out: &mut [T])
     requires { before + length samples.now ≤ length out.old }
-    ensures { out.new ≡ replicate before left
-        ++ (samples.now ++ replicate (length out.old - (before + length samples.now)) right) }
+    ensures { map T.value out.new ≡ replicate before (pos left)
+        ++ (map pos samples.now
+        ++ replicate (length out.old - (before + length samples.now)) (pos right)) }
 {
     let (front, others) = out.split_at_mut(before);
     let (middle, back) = others.split_at_mut(samples.len());
-    front.fill(left);
-    middle.copy_from_slice(samples);
-    back.fill(right);
+    set_all(front, T::loaded(left));
+    load_samples(samples, middle);
+    set_all(back, T::loaded(right));
 }
 
 /// Writes what is seen along a valid row, as `load_row` does.
-fn load_line(image: &Image<'_>, start: u16, radius: u16, line: u16, border: Border, out: &mut [u8])
+fn load_line<T: Loaded>(
+    image: &Image<'_>,
+    start: u16,
+    radius: u16,
+    line: u16,
+    border: Border,
+    out: &mut [T],
+)
     requires format { image.now.format ≡ U8 }
     requires columns { image.now.valid.x0 < image.now.valid.x1 }
     requires line { line < image.now.valid.y1 }
-    ensures { map pos out.new ≡ run start (length out.old)
+    ensures { map T.value out.new ≡ run start (length out.old)
         (λ c. seen_along image.now border line (pos c -ℤ pos radius)) }
 {
     let valid = image.valid();
@@ -71,20 +107,27 @@ fn load_line(image: &Image<'_>, start: u16, radius: u16, line: u16, border: Bord
         .min(out.len());
     let first = start.saturating_sub(radius).max(valid.x0()).min(valid.x1());
     let samples = image.part_of_row::<u8>(first, line, end - before);
-    write_between(left, before, samples, right, out);
+    load_between(left, before, samples, right, out);
 }
 
 /// Writes what a window sees in row y of a U8 image, from column `start - radius` on.
-pub fn load_row(image: &Image<'_>, start: u16, radius: u16, y: i32, border: Border, out: &mut [u8])
+pub fn load_row<T: Loaded>(
+    image: &Image<'_>,
+    start: u16,
+    radius: u16,
+    y: i32,
+    border: Border,
+    out: &mut [T],
+)
     requires format { image.now.format ≡ U8 }
     requires columns { image.now.valid.x0 < image.now.valid.x1 }
     requires rows { image.now.valid.y0 < image.now.valid.y1 }
-    ensures { map pos out.new ≡ run start (length out.old)
+    ensures { map T.value out.new ≡ run start (length out.old)
         (λ c. look image.now border (pos c -ℤ pos radius) y) }
 {
     match row_seen(image.valid(), border, y) {
         Some(line) => load_line(image, start, radius, line, border, out),
-        None => out.fill(value_beside(border, 0)),
+        None => set_all(out, T::loaded(value_beside(border, 0))),
     }
 }
 

@@ -1,9 +1,10 @@
 -- Rows of images over slices.
-use Rattle.std.proofs.Common.{◌≡◌, ℕ, ℤ, pos, ◌+◌, ◌-◌, ◌*◌, ◌<◌, ◌≤◌, List, length, map, take, drop, get_or, ap, ◌∙◌, sym, refl, arith}
-use Rattle.std.proofs.lemmas.List.{length-map, take-take}
+use Rattle.std.proofs.Common.{◌≡◌, ℕ, ℤ, pos, ◌+◌, ◌-◌, ◌*◌, ◌<◌, ◌≤◌, List, ◌++◌, length, map, replicate, take, drop, get_or, ap, ◌∙◌, sym, refl, arith}
+use Rattle.std.proofs.lemmas.List.{length-map, map-append, take-take}
 use borrow.Rule.Slice.PartMut.{put_mid}
-use Rattle.vx_base.specs.Image.{ImageValue, IsImage, run, band}
-use Rattle.vx_base.proofs.TableLaws.{row_part, part_of_row, band_written, length_part}
+use Rattle.vx_base.specs.Rectangle.{Rectangle}
+use Rattle.vx_base.specs.Image.{ImageValue, IsImage, run, band, within}
+use Rattle.vx_base.proofs.TableLaws.{row_across, row_part, part_of_row, band_written, length_part}
 use Rattle.image_core.specs.Rows.{row_of}
 
 -- a row's part of the samples that are lent
@@ -29,3 +30,16 @@ row_of_band_written value width start count k first step f out row size below at
     band_written value width start count k first (first + step - first) f out row size below at (long ∙ part)
     (ap (λ n. map value (take n out)) at ∙ before)
     (here ∙ ap (λ n. run 0 n (λ x. f x (start + k))) part)
+
+-- a row through an area is zeros, what is written in its columns, and zeros
+pub row_in_three : {T : Type 0} (value : T → ℤ) (r : Rectangle) (f : ℕ → ℕ → ℤ) (n x0 x1 y a b c : ℕ) (v w : ℤ) (front inside back : List T) → v ≡ pos 0 → w ≡ pos 0 → a ≡ x0 → b ≡ x1 - x0 → c ≡ n - x1
+    → map value front ≡ replicate a v → map value inside ≡ run x0 b (λ x. f x y) → map value back ≡ replicate c w
+    → r.x0 ≡ x0 → r.x1 ≡ x1 → x0 ≤ x1 → x1 ≤ n → r.y0 ≤ y → y < r.y1 → map value (front ++ (inside ++ back)) ≡ run 0 n (λ x. within r f x y)
+row_in_three value r f n x0 x1 y a b c v w front inside back none nothing first second third left middle right from to ordered room above below =
+    map-append value front (inside ++ back)
+    ∙ ap (λ l. l ++ map value (inside ++ back)) (left ∙ ap (λ k. replicate k v) first ∙ ap (replicate x0) none)
+    ∙ ap (λ l. replicate x0 (pos 0) ++ l)
+    (map-append value inside back
+    ∙ ap (λ l. l ++ map value back) (middle ∙ ap (λ k. run x0 k (λ x. f x y)) second)
+    ∙ ap (λ l. run x0 (x1 - x0) (λ x. f x y) ++ l) (right ∙ ap (λ k. replicate k w) third ∙ ap (replicate (n - x1)) nothing))
+    ∙ sym (row_across r f n x0 x1 y from to ordered room above below)

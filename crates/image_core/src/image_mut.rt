@@ -9,7 +9,7 @@ ghost use Rattle.image_core.specs.Rows.{sample_from};
 
 use crate::band::Band;
 use crate::formula::Formula;
-use crate::row_formula::{RowFormula, Unaided};
+use crate::row_formula::{RowFormula, TwoRowFormulas, Unaided};
 use crate::rows::{clear_rows, write_rows_of_two};
 use crate::sample::Sample;
 use crate::whole::Whole;
@@ -138,15 +138,14 @@ impl<'a> ImageMut<'a> {
         T::write_samples(self, formula, scratch);
     }
 
-    /// Writes two whole S16 images, or the band's rows of them, a row of each in turn: so what both
-    /// formulas read is read once. Each has scratch memory of its own, `scratch` and `room`.
-    pub fn write_two_by_rows<S, R, F: RowFormula<i16, S>, G: RowFormula<i16, R>>(
+    /// Writes two whole S16 images, or the band's rows of them, a row of each in turn. The scratch
+    /// memory is the formulas'.
+    pub fn write_two_by_rows<S, R, F: TwoRowFormulas<i16, S, R>>(
         &mut self,
         other: &mut ImageMut<'_>,
-        first: &F,
-        second: &G,
+        formulas: &F,
         scratch: &mut [S],
-        room: &mut [R],
+        more: &mut [R],
     )
         requires target { IsTarget self.old }
         requires other_target { IsTarget other.old }
@@ -154,27 +153,27 @@ impl<'a> ImageMut<'a> {
         requires other_format { (written other.old).format ≡ S16 }
         requires width { (written other.old).width ≡ (written self.old).width }
         requires rows { other.old.rows ≡ self.old.rows }
-        requires room { IsWithin (F.area first.now) (written self.old).width
+        requires room { IsWithin (F.area formulas.now) (written self.old).width
             (written self.old).height }
-        requires other_room { IsWithin (G.area second.now) (written other.old).width
+        requires other_room { IsWithin (F.area formulas.now) (written other.old).width
             (written other.old).height }
-        requires scratch { F.room first.now ≤ length scratch.old }
-        requires other_scratch { G.room second.now ≤ length room.old }
+        requires scratch { F.room formulas.now ≤ length scratch.old }
+        requires more { F.room formulas.now ≤ length more.old }
         ensures first { Writes (made (written self.old).width (written self.old).height S16
-            (F.area first.now) (F.at first.now)) self.old self.new }
+            (F.area formulas.now) (F.first formulas.now)) self.old self.new }
         ensures second { Writes (made (written other.old).width (written other.old).height S16
-            (G.area second.now) (G.at second.now)) other.old other.new }
+            (F.area formulas.now) (F.second formulas.now)) other.old other.new }
     {
         let _limits = self.desc.height();
-        self.valid = first.area();
-        other.valid = second.area();
+        let area = formulas.area();
+        self.valid = area;
+        other.valid = area;
         write_rows_of_two(
-            first,
-            second,
+            formulas,
             self.desc.width(),
             self.rows,
             scratch,
-            room,
+            more,
             self.shorts,
             other.shorts,
         );

@@ -7,7 +7,8 @@
 //! What is computed place by place is a `Formula`, and one that needs scratch memory for that a
 //! `RowFormula`; `ImageMut::write` and `write_by_rows` write a whole image of one, or the band's
 //! rows of it: each sample, and 0 outside the rectangle. So whatever writes whole images by them
-//! writes any rows of them too. `Second` is what a kernel reads beside its first image.
+//! writes any rows of them too. `TwoRowFormulas` are written to two images at once. `Second` is
+//! what a kernel reads beside its first image.
 #![tactic(auto)]
 
 mod band;
@@ -27,7 +28,7 @@ pub use formula::Formula;
 pub use image::Image;
 pub use image_mut::ImageMut;
 pub use number::Number;
-pub use row_formula::RowFormula;
+pub use row_formula::{RowFormula, TwoRowFormulas};
 pub use rows::{clear_rows, set_all};
 pub use sample::Sample;
 pub use second::Second;

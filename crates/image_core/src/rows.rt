@@ -5,7 +5,7 @@ ghost use Rattle.image_core.specs.Rows.{sample_from, sample_in};
 
 use crate::band::Band;
 use crate::number::Number;
-use crate::row_formula::RowFormula;
+use crate::row_formula::{RowFormula, TwoRowFormulas};
 use vx_base::Rect;
 
 /// Writes one sample to each place.
@@ -88,36 +88,100 @@ pub fn write_rows<T: Number, S, F: RowFormula<T, S>>(
     }
 }
 
-/// Writes the samples of a band of rows of two images, a row of each in turn: so what both formulas
-/// read is read once. Each has scratch memory of its own, `scratch` and `room`.
-pub fn write_rows_of_two<T: Number, S, R, F: RowFormula<T, S>, G: RowFormula<T, R>>(
-    first: &F,
-    second: &G,
-    width: u16,
-    rows: Band,
+/// Writes a row of two images that goes through the formulas' area, which is in the columns from x0
+/// to x1 - 1.
+fn write_both_across<T: Number, S, R, F: TwoRowFormulas<T, S, R>>(
+    formulas: &F,
+    y: u16,
+    x0: u16,
+    x1: u16,
     scratch: &mut [S],
-    room: &mut [R],
+    more: &mut [R],
     out: &mut [T],
     other: &mut [T],
 )
-    requires scratch { F.room first.now ≤ length scratch.old }
-    requires other_scratch { G.room second.now ≤ length room.old }
+    requires in_rows { ((F.area formulas.now).y0 ≤ y) × (y < (F.area formulas.now).y1) }
+    requires columns { ((F.area formulas.now).x0 ≡ x0) × ((F.area formulas.now).x1 ≡ x1) }
+    requires ordered { x0 ≤ x1 }
+    requires scratch { F.room formulas.now ≤ length scratch.old }
+    requires more { F.room formulas.now ≤ length more.old }
+    requires room { x1 ≤ length out.old }
+    requires as_long { length other.old ≡ length out.old }
+    ensures first { map T.value out.new ≡ run 0 (length out.old)
+        (λ x. within (F.area formulas.now) (F.first formulas.now) x y) }
+    ensures second { map T.value other.new ≡ run 0 (length other.old)
+        (λ x. within (F.area formulas.now) (F.second formulas.now) x y) }
+{
+    let (front, others) = out.split_at_mut(usize::from(x0));
+    let (inside, back) = others.split_at_mut(usize::from(x1 - x0));
+    let (other_front, rest) = other.split_at_mut(usize::from(x0));
+    let (other_inside, other_back) = rest.split_at_mut(usize::from(x1 - x0));
+    set_all(front, T::zero());
+    set_all(other_front, T::zero());
+    formulas.fill(x0, y, scratch, more, inside, other_inside);
+    set_all(back, T::zero());
+    set_all(other_back, T::zero());
+}
+
+fn write_both_rows<T: Number, S, R, F: TwoRowFormulas<T, S, R>>(
+    formulas: &F,
+    y: u16,
+    scratch: &mut [S],
+    more: &mut [R],
+    out: &mut [T],
+    other: &mut [T],
+)
+    requires scratch { F.room formulas.now ≤ length scratch.old }
+    requires more { F.room formulas.now ≤ length more.old }
+    requires room { (F.area formulas.now).x1 ≤ length out.old }
+    requires as_long { length other.old ≡ length out.old }
+    ensures first { map T.value out.new ≡ run 0 (length out.old)
+        (λ x. within (F.area formulas.now) (F.first formulas.now) x y) }
+    ensures second { map T.value other.new ≡ run 0 (length other.old)
+        (λ x. within (F.area formulas.now) (F.second formulas.now) x y) }
+{
+    let area = formulas.area();
+    if y < area.y0() || y >= area.y1() {
+        set_all(out, T::zero());
+        set_all(other, T::zero());
+    } else {
+        write_both_across(formulas, y, area.x0(), area.x1(), scratch, more, out, other);
+    }
+}
+
+/// Writes the samples of a band of rows of two images, a row of each in turn.
+pub fn write_rows_of_two<T: Number, S, R, F: TwoRowFormulas<T, S, R>>(
+    formulas: &F,
+    width: u16,
+    rows: Band,
+    scratch: &mut [S],
+    more: &mut [R],
+    out: &mut [T],
+    other: &mut [T],
+)
+    requires scratch { F.room formulas.now ≤ length scratch.old }
+    requires more { F.room formulas.now ≤ length more.old }
     requires rows { rows.start + rows.count < 2 ^ 16 }
     requires size { length out.old ≡ rows.count * width }
     requires other_size { length other.old ≡ rows.count * width }
-    requires room { (F.area first.now).x1 ≤ width }
-    requires other_room { (G.area second.now).x1 ≤ width }
+    requires room { (F.area formulas.now).x1 ≤ width }
     ensures first { map T.value out.new ≡ band width rows.start rows.count
-        (within (F.area first.now) (F.at first.now)) }
-    ensures second { map T.value other.new
-        ≡ band width rows.start rows.count (within (G.area second.now) (G.at second.now)) }
+        (within (F.area formulas.now) (F.first formulas.now)) }
+    ensures second { map T.value other.new ≡ band width rows.start rows.count
+        (within (F.area formulas.now) (F.second formulas.now)) }
 {
     let step = usize::from(width);
     for line in 0..rows.count {
         let start = usize::from(line) * step;
         let y = rows.start + line;
-        write_row(first, y, scratch, &mut out[start..start + step]);
-        write_row(second, y, room, &mut other[start..start + step]);
+        write_both_rows(
+            formulas,
+            y,
+            scratch,
+            more,
+            &mut out[start..start + step],
+            &mut other[start..start + step],
+        );
     }
 }
 

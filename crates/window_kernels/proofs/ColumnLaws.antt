@@ -99,3 +99,16 @@ nine_of_columns gives joined of_nine law f x k y =
 -- a run from a column on, counted from 0
 pub from_zero : (h : ℤ → ℤ) (x n : ℕ) → run x n (λ c. h (pos c -ℤ pos 1)) ≡ run 0 n (λ i. h (pos (x + i) -ℤ pos 1))
 from_zero h x n = run_shifted (λ c. h (pos c -ℤ pos 1)) (λ i. h (pos (x + i) -ℤ pos 1)) x 0 n (λ k below. ap (λ i. h (pos (x + i) -ℤ pos 1)) (sym (zero-add k)))
+
+-- what goes across such columns gives what the nine samples do
+pub nines_across : {S : Type 0} (value : S → ℤ) (gives joined : ℤ → ℤ → ℤ → ℤ) (of_nine : List ℤ → ℤ)
+    → ((a b c d e f g h i : ℤ) → joined (gives a d g) (gives b e h) (gives c f i) ≡ of_nine (a ∷ b ∷ c ∷ d ∷ e ∷ f ∷ g ∷ h ∷ i ∷ []))
+    → (f : ℤ → ℤ → ℤ) (x m : ℕ) (y : ℤ) (columns : List S) (n : ℕ) (out : List ℤ)
+    → map value columns ≡ run x m (λ c. column_seen gives f (pos c -ℤ pos 1) y) → length columns ≡ m
+    → ((h : ℕ → ℤ) → map value columns ≡ run 0 (length columns) h → out ≡ run 0 n (λ i. joined (h i) (h (i + 1)) (h (i + 2))))
+    → out ≡ run x n (λ k. of_nine (nine_around f (pos k) y))
+nines_across value gives joined of_nine law f x m y columns n out seen long across =
+    let h : ℕ → ℤ = λ i. column_seen gives f (pos (x + i) -ℤ pos 1) y in
+    across h (seen ∙ from_zero (λ u. column_seen gives f u y) x m ∙ ap (λ k. run 0 k h) (sym long))
+    ∙ run_shifted (λ i. joined (h i) (h (i + 1)) (h (i + 2))) (λ k. of_nine (nine_around f (pos k) y)) 0 x n
+    (λ k below. ap (λ i. joined (h i) (h (i + 1)) (h (i + 2))) (zero-add k) ∙ nine_of_columns gives joined of_nine law f x k y)

@@ -4,6 +4,7 @@ mod PlaceLaws
 mod AddLaws
 mod SumLaws
 mod ProductLaws
+mod ScaleLaws
 mod MatrixLaws
 mod RowLaws
 mod MedianLaws

@@ -1,24 +1,31 @@
 -- Rows that are loaded, and rows that are written block by block.
-use Rattle.std.proofs.Common.{◌≡◌, ℕ, ℤ, pos, zero-add, ◌+◌, ◌-◌, ◌*◌, ◌/◌, ◌%◌, ◌<◌, ◌≤◌, ◌+ℤ◌, ◌-ℤ◌, List, [], ◌∷◌, ◌++◌, length, map, take, get_or, set, min, ap, ◌∙◌, sym, subst, arith, w8, w32, Fits, to_z, of_z}
+use Rattle.std.proofs.Common.{◌≡◌, ℕ, ℤ, pos, zero, suc, zero-add, ◌+◌, ◌-◌, ◌*◌, ◌/◌, ◌%◌, ◌<◌, ◌≤◌, ◌+ℤ◌, ◌-ℤ◌, List, [], ◌∷◌, ◌++◌, length, map, take, set, min, ap, ◌∙◌, sym, subst, arith, w32, to_z, of_z}
 use Rattle.std.specs.Prelude.{unsigned_abs}
 use Rattle.std.specs.Simd.Lanes.{Each1}
-use Rattle.std.proofs.Math.ListN.{get_or-map}
 use Rattle.std.proofs.lemmas.Int.{ints}
 use Rattle.std.proofs.lemmas.List.{map-id, map-append, take_more_set}
-use Rattle.std.proofs.lemmas.Simd.{Each1-from_get_or}
 use Rattle.std.proofs.lemmas.Slice.{take-put_mid}
 use borrow.Rule.Slice.PartMut.{put_mid}
-use Rattle.vx_base.specs.Image.{run}
+use Rattle.vx_base.specs.declared.border.Border.{Border}
+use Rattle.vx_base.specs.declared.format.Format.TheVariants.{U8}
+use Rattle.vx_base.specs.Image.{ImageValue, IsImage, run}
+use Rattle.vx_base.specs.Node.{IsBorder}
+use Rattle.vx_base.specs.Sample.{IsSample}
+use Rattle.vx_base.specs.Window.{look}
 use Rattle.vx_base.proofs.TableLaws.{run-append}
-use Rattle.vx_base.proofs.WindowLaws.{run_shifted}
+use Rattle.vx_base.proofs.WindowLaws.{run_shifted, look_sample}
 use Rattle.window_kernels.specs.Products.{IsUpTo}
 use Rattle.window_kernels.proofs.BitLaws.{Each1-append}
 
--- samples are bytes
-pub bytes_up_to : (samples : List ℕ) → ((i : ℕ) → Fits w8 (get_or samples i 0)) → Each1 (IsUpTo 255) (map pos samples)
-bytes_up_to samples fits =
-    Each1-from_get_or (IsUpTo 255) (map pos samples) (pos 0)
-    (λ i below. let byte : get_or samples i 0 ≤ 255 = omega (arith, (fits i).fits) in subst (IsUpTo 255) (sym (get_or-map pos samples i 0)) byte)
+-- what is seen of a U8 image are bytes
+seen_up_to : (z : ℤ) → IsSample U8 z → IsUpTo 255 z
+seen_up_to z is = omega (arith, ints, is.at_least, is.at_most)
+
+pub looks_up_to : (image : ImageValue) (border : Border) (radius : ℕ) (y : ℤ) (x n : ℕ) → IsImage image → image.format ≡ U8 → image.valid.x0 < image.valid.x1 → image.valid.y0 < image.valid.y1 → IsBorder border
+    → Each1 (IsUpTo 255) (run x n (λ c. look image border (pos c -ℤ pos radius) y))
+looks_up_to image border radius y x zero is format columns rows constant = tt
+looks_up_to image border radius y x (suc n) is format columns rows constant =
+    (seen_up_to _ (look_sample image border (pos x -ℤ pos radius) y is format columns rows constant), looks_up_to image border radius y (x + 1) n is format columns rows constant)
 
 -- one more item of those that are written is near, or fits
 pub item_fits : (P : ℤ → Type 0) (out : List ℤ) (i : ℕ) (z : ℤ) → Each1 P (take i out) → i < length out → P z → Each1 P (take (i + 1) (set out i z))

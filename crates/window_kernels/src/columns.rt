@@ -39,6 +39,31 @@ fn write_down<S: Number, C: OfColumn<S>>(
     }
 }
 
+/// Writes what the columns of three rows give to two functions, which read them once.
+fn write_both_down<S: Number, R: Number, C: OfColumn<S>, D: OfColumn<R>>(
+    first: &C,
+    second: &D,
+    above: &[u8],
+    here: &[u8],
+    below: &[u8],
+    out: &mut [S],
+    other: &mut [R],
+)
+    requires above { length above.now ≡ length out.old }
+    requires here { length here.now ≡ length out.old }
+    requires below { length below.now ≡ length out.old }
+    requires as_long { length other.old ≡ length out.old }
+    ensures first { map S.value out.new ≡ run 0 (length out.old)
+        (column_in (C.gives first.now) above.now here.now below.now) }
+    ensures second { map R.value other.new ≡ run 0 (length out.old)
+        (column_in (D.gives second.now) above.now here.now below.now) }
+{
+    for (i, item) in out.iter_mut().enumerate() {
+        *item = first.of_column(above[i], here[i], below[i]);
+        other[i] = second.of_column(above[i], here[i], below[i]);
+    }
+}
+
 /// What the column beside three samples gives.
 fn beside<S: Number, C: OfColumn<S>>(
     column: &C,
@@ -84,6 +109,53 @@ fn write_around<S: Number, C: OfColumn<S>>(
     set_all(
         right,
         beside(column, border, above[last], here[last], below[last]),
+    );
+}
+
+/// Writes what the columns of three rows give to two functions, each as `write_around` does.
+fn write_both_around<S: Number, R: Number, C: OfColumn<S>, D: OfColumn<R>>(
+    first: &C,
+    second: &D,
+    border: Border,
+    above: &[u8],
+    here: &[u8],
+    below: &[u8],
+    before: usize,
+    out: &mut [S],
+    other: &mut [R],
+)
+    requires some { 0 < length above.now }
+    requires here { length here.now ≡ length above.now }
+    requires below { length below.now ≡ length above.now }
+    requires room { before + length above.now ≤ length out.old }
+    requires as_long { length other.old ≡ length out.old }
+    ensures first { map S.value out.new ≡
+        replicate before (column_beside (C.gives first.now) border (slice_index above.now 0) (slice_index here.now 0) (slice_index below.now 0))
+        ++ (run 0 (length above.now) (column_in (C.gives first.now) above.now here.now below.now)
+        ++ replicate (length out.old - (before + length above.now)) (column_beside (C.gives first.now) border (slice_index above.now (length above.now - 1)) (slice_index here.now (length above.now - 1)) (slice_index below.now (length above.now - 1)))) }
+    ensures second { map R.value other.new ≡
+        replicate before (column_beside (D.gives second.now) border (slice_index above.now 0) (slice_index here.now 0) (slice_index below.now 0))
+        ++ (run 0 (length above.now) (column_in (D.gives second.now) above.now here.now below.now)
+        ++ replicate (length other.old - (before + length above.now)) (column_beside (D.gives second.now) border (slice_index above.now (length above.now - 1)) (slice_index here.now (length above.now - 1)) (slice_index below.now (length above.now - 1)))) }
+{
+    let last = above.len() - 1;
+    let (left, others) = out.split_at_mut(before);
+    let (middle, right) = others.split_at_mut(above.len());
+    let (other_left, rest) = other.split_at_mut(before);
+    let (other_middle, other_right) = rest.split_at_mut(above.len());
+    write_both_down(first, second, above, here, below, middle, other_middle);
+    set_all(left, beside(first, border, above[0], here[0], below[0]));
+    set_all(
+        right,
+        beside(first, border, above[last], here[last], below[last]),
+    );
+    set_all(
+        other_left,
+        beside(second, border, above[0], here[0], below[0]),
+    );
+    set_all(
+        other_right,
+        beside(second, border, above[last], here[last], below[last]),
     );
 }
 
@@ -147,5 +219,42 @@ impl Window<'_, '_> {
         );
         let before = usize::from(first) + 1 - usize::from(x);
         write_around(column, self.border, above, here, below, before, out);
+    }
+
+    /// Writes what the columns around row y give to two functions, each as `write_columns` does.
+    pub fn write_both_columns<S: Number, R: Number, C: OfColumn<S>, D: OfColumn<R>>(
+        &self,
+        first: &C,
+        second: &D,
+        x: u16,
+        y: u16,
+        out: &mut [S],
+        other: &mut [R],
+    )
+        requires rows { self.now.image.now.valid.y0 < self.now.image.now.valid.y1 }
+        requires column { (self.now.image.now.valid.x0 ≤ x) × (x < self.now.image.now.valid.x1) }
+        requires room { (3 ≤ length out.old) ×
+            (x + length out.old ≤ self.now.image.now.valid.x1 + 2) }
+        requires as_long { length other.old ≡ length out.old }
+        ensures first { map S.value out.new ≡ run x (length out.old)
+            (λ c. column_seen (C.gives first.now) (look self.now.image.now self.now.border)
+            (pos c -ℤ pos 1) (pos y)) }
+        ensures second { map R.value other.new ≡ run x (length other.old)
+            (λ c. column_seen (D.gives second.now) (look self.now.image.now self.now.border)
+            (pos c -ℤ pos 1) (pos y)) }
+    {
+        let (image, border) = (self.image, self.border);
+        let valid = image.valid();
+        let start = x.saturating_sub(1).max(valid.x0());
+        let end = (usize::from(x) + out.len() - 1).min(usize::from(valid.x1()));
+        let count = end - usize::from(start);
+        let line = i32::from(y);
+        let above = row_in_place(image, start, line - 1, count, border, self.off_rows);
+        let here = row_in_place(image, start, line, count, border, self.off_rows);
+        let below = row_in_place(image, start, line + 1, count, border, self.off_rows);
+        let before = usize::from(start) + 1 - usize::from(x);
+        write_both_around(
+            first, second, border, above, here, below, before, out, other,
+        );
     }
 }

@@ -8,6 +8,7 @@ ghost use Rattle.vx_base.specs.declared.format.Format.TheVariants.{U8};
 ghost use Rattle.vx_base.specs.Sample.{clamp};
 ghost use Rattle.vx_base.specs.Convolution.{is_odd_side};
 ghost use Rattle.vx_base.specs.Image.{run, table};
+ghost use Rattle.vx_base.specs.Node.{IsBorder};
 ghost use Rattle.vx_base.specs.Window.{look, convolved, from_matrix};
 ghost use Rattle.image_core.specs.Fits.{HaveSameSize};
 ghost use Rattle.image_core.specs.Target.{written, IsTarget, Writes};
@@ -38,14 +39,18 @@ impl Clamped for i16 {
     }
 }
 
-/// A sum over 2^exponent, rounded to zero.
+/// A sum over 2^exponent, rounded to zero: a shift rounds down, so a sum below 0 is raised before.
 fn scaled(sum: i32, exponent: u8) -> i32
     requires size { unsigned_abs sum ≤ 752025600 }
     requires exponent { exponent ≤ 31 }
     ensures { result ≡ int_div sum (pos (2 ^ exponent)) }
 {
-    let magnitude = (sum.unsigned_abs() >> exponent) as i32;
-    if sum < 0 { -magnitude } else { magnitude }
+    let rest = ((1u32 << exponent) - 1) as i32;
+    if sum < 0 {
+        (sum + rest) >> exponent
+    } else {
+        sum >> exponent
+    }
 }
 
 /// Writes the sums over 2^exponent, rounded to zero and clamped.
@@ -121,15 +126,11 @@ fn write_tables(convolution: &Convolution, tables: &mut [i16])
     }
 }
 
-/// Writes samples as numbers of 16 bits.
-fn widen(samples: &[u8], out: &mut [i16])
-    requires { length samples.now ≡ length out.old }
-    ensures value { out.new ≡ map pos samples.now }
-    ensures limit { Each1 (IsUpTo 255) out.new }
+/// The constant that counts beside the valid places is a sample.
+fn has_constant(border: Border)
+    ensures { IsBorder border }
 {
-    for (i, item) in out.iter_mut().enumerate() {
-        *item = i16::from(samples[i]);
-    }
+    if let Border::Constant(_value) = border {}
 }
 
 /// How many more items than the image has columns a row has: what the windows of a whole block at
@@ -156,18 +157,18 @@ struct FromMatrix<'a, 'b> {
 
 impl FromMatrix<'_, '_> {
     /// Loads what the windows see in a row, from those of column x on.
-    fn load_line(&self, x: u16, row: i32, samples: &mut [u8], line: &mut [i16])
+    fn load_line(&self, x: u16, row: i32, line: &mut [i16])
         requires columns { self.now.image.now.valid.x0 < self.now.image.now.valid.x1 }
         requires rows { self.now.image.now.valid.y0 < self.now.image.now.valid.y1 }
-        requires len { length samples.old ≡ length line.old }
         ensures value { line.new ≡ run x (length line.old)
             (λ c. look self.now.image.now self.now.border
             (pos c -ℤ pos (self.now.convolution.now.columns / 2)) row) }
         ensures limit { Each1 (IsUpTo 255) line.new }
     {
+        let _limits = self.image.valid();
+        has_constant(self.border);
         let radius = u16::from(self.convolution.columns() / 2);
-        load_row(self.image, x, radius, row, self.border, samples);
-        widen(samples, line);
+        load_row(self.image, x, radius, row, self.border, line);
     }
 
     /// Loads the rows that the windows of row y see, from those of column x on: the lowest first,
@@ -183,13 +184,12 @@ impl FromMatrix<'_, '_> {
             (pos y +ℤ pos (self.now.convolution.now.rows / 2) -ℤ pos l)) }
         ensures limit { Each1 (IsUpTo 255) rows.new }
     {
-        let mut samples = [0; (GREATEST_SIDE + AROUND) as usize];
         let step = usize::from(line);
         let count = self.convolution.rows();
         for l in 0..count {
             let row = i32::from(y) + i32::from(count / 2) - i32::from(l);
             let start = usize::from(l) * step;
-            self.load_line(x, row, &mut samples[..step], &mut rows[start..start + step]);
+            self.load_line(x, row, &mut rows[start..start + step]);
         }
     }
 

@@ -88,11 +88,9 @@ fn write_gradients(
     ensures y { Writes (from_nine S16 gradient_y border image.now) output_y.old output_y.new }
 {
     let _limits = image.valid();
-    let x = ByColumns { kernel: &GradientX };
-    let y = ByColumns { kernel: &GradientY };
     with_scratch!(image.desc().width(), sums = WeightedSum::zero(), changes = Change::zero() => {
         write_two_nines::<WeightedSum, Change, _, _>(
-            &x, &y, image, output_x, output_y, border, sums, changes,
+            &GradientX, &GradientY, image, output_x, output_y, border, sums, changes,
         )
     })
 }

@@ -12,7 +12,7 @@ ghost use Rattle.window_kernels.specs.Nine.{column_seen};
 
 use crate::columns::{OfColumn, Window};
 use border_rows::{value_beside, window_valid};
-use image_core::{Image, ImageMut, Number, RowFormula, Sample};
+use image_core::{Image, ImageMut, Number, RowFormula, Sample, TwoRowFormulas};
 use vx_base::{Border, Rect};
 
 /// What a function of the nine samples around a place gives there.
@@ -111,6 +111,56 @@ impl<T: Sample, S: Number, K: OfNine<T, S>> RowFormula<T, S> for FromNine<'_, '_
     }
 }
 
+/// What two kernels of columns give of a U8 image under a border.
+#[derive(Drop)]
+struct FromBoth<'a, 'b, K, L> {
+    first: &'a K,
+    second: &'a L,
+    window: &'a Window<'a, 'b>,
+}
+
+impl<S: Number, R: Number, K: AcrossColumns<i16, S>, L: AcrossColumns<i16, R>> TwoRowFormulas<
+    i16,
+    S,
+    R,
+> for FromBoth<'_, '_, K, L> {
+    ghost first = { λ s x y. K.of_nine s.first.now
+        (nine_around (look s.window.now.image.now s.window.now.border) (pos x) (pos y)) };
+
+    ghost second = { λ s x y. L.of_nine s.second.now
+        (nine_around (look s.window.now.image.now s.window.now.border) (pos x) (pos y)) };
+
+    ghost area = { λ s. s.window.now.area };
+
+    ghost room = { λ s. s.window.now.image.now.width + 2 };
+
+    fn area(&self) -> Rect {
+        self.window.area
+    }
+
+    fn fill(
+        &self,
+        x: u16,
+        y: u16,
+        scratch: &mut [S],
+        more: &mut [R],
+        out: &mut [i16],
+        other: &mut [i16],
+    ) {
+        if out.is_empty() {
+            return;
+        }
+        let _valid = self.window.image.valid();
+        let count = out.len() + 2;
+        let columns = &mut scratch[..count];
+        let others = &mut more[..count];
+        self.window
+            .write_both_columns(self.first, self.second, x, y, columns, others);
+        write_across(self.first, columns, out);
+        write_across(self.second, others, other);
+    }
+}
+
 /// Writes what the kernel gives, with a row as it is seen where no valid row is.
 fn write_with_rows<T: Sample, S: Number, K: OfNine<T, S>>(
     kernel: &K,
@@ -188,7 +238,7 @@ pub fn write_nine<T: Sample, S: Number, K: OfNine<T, S>>(
 }
 
 /// Writes what two kernels give, as `write_with_rows` does.
-fn write_two_with_rows<S: Number, R: Number, K: OfNine<i16, S>, L: OfNine<i16, R>>(
+fn write_two_with_rows<S: Number, R: Number, K: AcrossColumns<i16, S>, L: AcrossColumns<i16, R>>(
     first: &K,
     second: &L,
     image: &Image<'_>,
@@ -197,7 +247,7 @@ fn write_two_with_rows<S: Number, R: Number, K: OfNine<i16, S>, L: OfNine<i16, R
     border: Border,
     off_rows: &[u8],
     scratch: &mut [S],
-    room: &mut [R],
+    more: &mut [R],
 )
     requires fits { WindowFits S16 image.now output.old }
     requires other_fits { WindowFits S16 image.now other.old }
@@ -205,11 +255,11 @@ fn write_two_with_rows<S: Number, R: Number, K: OfNine<i16, S>, L: OfNine<i16, R
     requires off_rows { map pos off_rows.now
         ≡ replicate (length off_rows.now) (value_beside border (pos 0)) }
     requires room { image.now.width ≤ length off_rows.now }
-    requires scratch { 3 * (image.now.width + 2) ≤ length scratch.old }
-    requires other_scratch { 3 * (image.now.width + 2) ≤ length room.old }
-    ensures first { Writes (from_nine S16 (K.formula first.now) border image.now)
+    requires scratch { image.now.width + 2 ≤ length scratch.old }
+    requires more { image.now.width + 2 ≤ length more.old }
+    ensures first { Writes (from_nine S16 (K.of_nine first.now) border image.now)
         output.old output.new }
-    ensures second { Writes (from_nine S16 (L.formula second.now) border image.now)
+    ensures second { Writes (from_nine S16 (L.of_nine second.now) border image.now)
         other.old other.new }
 {
     let area = window_valid(border, 1, 1, image.valid());
@@ -219,21 +269,18 @@ fn write_two_with_rows<S: Number, R: Number, K: OfNine<i16, S>, L: OfNine<i16, R
         off_rows,
         area,
     };
-    let one = FromNine {
-        kernel: first,
+    let formulas = FromBoth {
+        first,
+        second,
         window: &window,
     };
-    let two = FromNine {
-        kernel: second,
-        window: &window,
-    };
-    output.write_two_by_rows::<S, R, _, _>(other, &one, &two, scratch, room);
+    output.write_two_by_rows::<S, R, _>(other, &formulas, scratch, more);
 }
 
-/// Writes what two kernels give of a U8 image to the same rows of two S16 images of its size, a row
-/// of each in turn. Each kernel has scratch memory for three rows that are two items longer than
-/// the image's.
-pub fn write_two_nines<S: Number, R: Number, K: OfNine<i16, S>, L: OfNine<i16, R>>(
+/// Writes what two kernels of columns give of a U8 image to the same rows of two S16 images of its
+/// size, a row of each in turn: so each row of the image is read once. Each kernel has scratch
+/// memory for a row that is two items longer than the image's.
+pub fn write_two_nines<S: Number, R: Number, K: AcrossColumns<i16, S>, L: AcrossColumns<i16, R>>(
     first: &K,
     second: &L,
     image: &Image<'_>,
@@ -241,23 +288,23 @@ pub fn write_two_nines<S: Number, R: Number, K: OfNine<i16, S>, L: OfNine<i16, R
     other: &mut ImageMut<'_>,
     border: Border,
     scratch: &mut [S],
-    room: &mut [R],
+    more: &mut [R],
 )
     requires fits { WindowFits S16 image.now output.old }
     requires other_fits { WindowFits S16 image.now other.old }
     requires rows { other.old.rows ≡ output.old.rows }
-    requires scratch { 3 * (image.now.width + 2) ≤ length scratch.old }
-    requires other_scratch { 3 * (image.now.width + 2) ≤ length room.old }
-    ensures first { Writes (from_nine S16 (K.formula first.now) border image.now)
+    requires scratch { image.now.width + 2 ≤ length scratch.old }
+    requires more { image.now.width + 2 ≤ length more.old }
+    ensures first { Writes (from_nine S16 (K.of_nine first.now) border image.now)
         output.old output.new }
-    ensures second { Writes (from_nine S16 (L.formula second.now) border image.now)
+    ensures second { Writes (from_nine S16 (L.of_nine second.now) border image.now)
         other.old other.new }
 {
     let _limits = image.valid();
     let width = image.desc().width();
     with_off_rows!(width, border, rows => {
         write_two_with_rows(
-            first, second, image, output, other, border, rows, scratch, room,
+            first, second, image, output, other, border, rows, scratch, more,
         );
     })
 }

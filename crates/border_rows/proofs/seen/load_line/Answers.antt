@@ -1,4 +1,4 @@
-use Rattle.std.proofs.Common.{◌≡◌, ◌∙◌, ap, arith, length, map, pos, ◌-◌}
+use Rattle.std.proofs.Common.{◌≡◌, ◌∙◌, ap, arith, length, ◌-◌}
 use Rattle.vx_base.specs.Rectangle.{Rectangle}
 use Rattle.vx_base.specs.Image.{at}
 use Rattle.border_rows.specs.Seen.{value_beside}
@@ -6,7 +6,7 @@ use Rattle.border_rows.proofs.SeenLaws.{seen_in_three, item_of_row}
 use Rattle.border_rows.proofs.seen.load_line.Goals as goal
 
 pub returns : goal.returns
-returns c =
+returns g c =
     let image = c.args.image.now in
     let line = c.args.line in
     let row = c.row-row.result.now in
@@ -16,7 +16,7 @@ returns c =
     let item = item_of_row row (λ x. at image x line) image.width in
     let first : c.from.result ≡ image.valid.x0 = omega (arith, c.from.ensures, c.x0.ensures.value) in
     let last : c.from-2.result - 1 ≡ image.valid.x1 - 1 = omega (arith, c.from-2.ensures, c.x1.ensures.value) in
-    ap (map pos) c.write_between.ensures
+    c.load_between.ensures
     ∙ seen_in_three image c.args.border line c.args.start c.args.radius (length c.args.out.now) c.min-before.result (c.min-end.result - c.min-before.result) c.min-first.result
     c.value_beside-left.result c.value_beside-right.result c.part_of_row-samples.result.now
     c.requires.columns c.part_of_row-samples.ensures.len

@@ -1,15 +1,14 @@
-use Rattle.std.proofs.Common.{◌∙◌, ◌-ℤ◌, ap, sym, length, map, pos, w32}
+use Rattle.std.proofs.Common.{◌∙◌, ◌-ℤ◌, ap, sym, length, replicate, pos, w32}
 use Rattle.std.proofs.lemmas.Int.{to_z-of_z}
 use Rattle.vx_base.specs.Rectangle.{Rectangle}
 use Rattle.vx_base.specs.Window.{look}
 use Rattle.vx_base.proofs.TableLaws.{run-same, run-constant}
-use Rattle.vx_base.proofs.ZeroLaws.{map-replicate}
 use Rattle.border_rows.specs.Seen.{row_seen, seen_along}
 use Rattle.border_rows.proofs.SeenLaws.{look_along, look_off}
 use Rattle.border_rows.proofs.seen.load_row.Goals as goal
 
 pub returns-in-Some : goal.returns-in-Some
-returns-in-Some c =
+returns-in-Some g c =
     let image = c.args.image.now in
     let border = c.args.border in
     let line = c.in-Some.line in
@@ -20,14 +19,14 @@ returns-in-Some c =
     (λ k a b. sym (look_along image border (pos k -ℤ pos radius) c.args.y line c.requires.columns seen))
 
 pub returns-in-None : goal.returns-in-None
-returns-in-None c =
+returns-in-None g c =
     let image = c.args.image.now in
     let border = c.args.border in
     let radius = c.args.radius in
     let n = length c.args.out.now in
     let seen = ap (λ (r : Rectangle). row_seen r border c.args.y) (sym c.valid.ensures.value) ∙ ap (row_seen c.valid.result border) (sym (to_z-of_z w32 c.args.y c.ranges.y)) ∙ sym c.row_seen.ensures.value ∙ c.in-None.is in
-    ap (map pos) (c.fill.ensures.after (λ y same. same))
-    ∙ map-replicate pos n c.value_beside.result
+    c.set_all.ensures
+    ∙ ap (replicate n) c.loaded.ensures
     ∙ sym (run-constant (pos c.value_beside.result) c.args.start n)
     ∙ run-same (λ _. pos c.value_beside.result) (λ k. look image border (pos k -ℤ pos radius) c.args.y) c.args.start n
     (λ k a b. c.value_beside.ensures ∙ sym (look_off image border (pos k -ℤ pos radius) c.args.y seen))

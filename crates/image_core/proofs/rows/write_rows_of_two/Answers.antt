@@ -13,9 +13,9 @@ loop-line-preserved g c =
     let at : start ≡ line * width = ap (λ n. n * step) c.from.ensures ∙ ap (λ n. line * n) c.from-step.ensures in
     record {
       first =
-          row_of_band_written g.T.Number.value width rows.start rows.count line start step (within (g.F.RowFormula.area c.args.first.now) (g.F.RowFormula.at c.args.first.now)) c.loop-line.out c.write_row.new.out
-          (c.loop-line.auto.out ∙ c.requires.size) c.loop-line-test.true at c.from-step.ensures c.loop-line.invariant.first c.write_row.auto.out c.write_row.ensures;
+          row_of_band_written g.T.Number.value width rows.start rows.count line start step (within (g.F.TwoRowFormulas.area c.args.formulas.now) (g.F.TwoRowFormulas.first c.args.formulas.now)) c.loop-line.out c.write_both_rows.new.out
+          (c.loop-line.auto.out ∙ c.requires.size) c.loop-line-test.true at c.from-step.ensures c.loop-line.invariant.first c.write_both_rows.auto.out c.write_both_rows.ensures.first;
       second =
-          row_of_band_written g.T.Number.value width rows.start rows.count line start step (within (g.G.RowFormula.area c.args.second.now) (g.G.RowFormula.at c.args.second.now)) c.loop-line.other c.write_row-in-loop-line.new.out
-          (c.loop-line.auto.other ∙ c.requires.other_size) c.loop-line-test.true at c.from-step.ensures c.loop-line.invariant.second c.write_row-in-loop-line.auto.out c.write_row-in-loop-line.ensures;
+          row_of_band_written g.T.Number.value width rows.start rows.count line start step (within (g.F.TwoRowFormulas.area c.args.formulas.now) (g.F.TwoRowFormulas.second c.args.formulas.now)) c.loop-line.other c.write_both_rows.new.other
+          (c.loop-line.auto.other ∙ c.requires.other_size) c.loop-line-test.true at c.from-step.ensures c.loop-line.invariant.second c.write_both_rows.auto.other c.write_both_rows.ensures.second;
     }

@@ -4,6 +4,6 @@ use Rattle.image_core.proofs.rows.write_rows_of_two.Given as goal
 
 abbrev pub invariant-loop-line : goal.invariant-loop-line
 invariant-loop-line g l = record {
-  first : map g.T.Number.value (take (l.line * l.width) l.out) ≡ band l.width l.rows.start l.line (within (g.F.RowFormula.area l.first) (g.F.RowFormula.at l.first));
-  second : map g.T.Number.value (take (l.line * l.width) l.other) ≡ band l.width l.rows.start l.line (within (g.G.RowFormula.area l.second) (g.G.RowFormula.at l.second));
+  first : map g.T.Number.value (take (l.line * l.width) l.out) ≡ band l.width l.rows.start l.line (within (g.F.TwoRowFormulas.area l.formulas) (g.F.TwoRowFormulas.first l.formulas));
+  second : map g.T.Number.value (take (l.line * l.width) l.other) ≡ band l.width l.rows.start l.line (within (g.F.TwoRowFormulas.area l.formulas) (g.F.TwoRowFormulas.second l.formulas));
 }

@@ -13,7 +13,7 @@ returns-clause-first g c =
     let desc = c.args.output.now.desc in
     let sides = same_sides (written c.args.output.now) image c.requires.fits.size in
     written_alike desc.width desc.height image.width image.height S16 c.window_valid-area.result (window_valid border 1 1 image.valid)
-    (λ x y. g.K.OfNine.formula c.args.first.now (nine_around (look image border) (pos x) (pos y))) c.args.output.now c.write_two_by_rows.new.self
+    (λ x y. g.K.AcrossColumns.of_nine c.args.first.now (nine_around (look image border) (pos x) (pos y))) c.args.output.now c.write_two_by_rows.new.self
     sides.0 sides.1 (c.window_valid-area.ensures.value ∙ ap (window_valid border 1 1) c.valid.ensures.value) c.write_two_by_rows.ensures.first
 
 pub returns-clause-second : goal.returns-clause-second
@@ -23,5 +23,5 @@ returns-clause-second g c =
     let desc = c.args.other.now.desc in
     let sides = same_sides (written c.args.other.now) image c.requires.other_fits.size in
     written_alike desc.width desc.height image.width image.height S16 c.window_valid-area.result (window_valid border 1 1 image.valid)
-    (λ x y. g.L.OfNine.formula c.args.second.now (nine_around (look image border) (pos x) (pos y))) c.args.other.now c.write_two_by_rows.new.other
+    (λ x y. g.L.AcrossColumns.of_nine c.args.second.now (nine_around (look image border) (pos x) (pos y))) c.args.other.now c.write_two_by_rows.new.other
     sides.0 sides.1 (c.window_valid-area.ensures.value ∙ ap (window_valid border 1 1) c.valid.ensures.value) c.write_two_by_rows.ensures.second
