@@ -121,32 +121,23 @@ none_counted p (x ∷ xs) h = let r = or_parts (p x) (list_any p xs) h in let e 
 
 none_since_count : {X : Type 0} (p : X → Bool) (xs : List X) → counted p xs ≡ 0 → list_any p xs ≡ false
 none_since_count p [] h = refl
-none_since_count p (x ∷ xs) h = elim (cases_Bool (p x)) [
-  | inl k ↦ (let g : 1 + counted p xs ≡ 0 = rw k at h in absurd (omega arith))
-  | inr k ↦ (let g : counted p xs ≡ 0 = rw k at h in or_from (p x) (list_any p xs) k (none_since_count p xs g))
-]
+none_since_count p (x ∷ xs) h = grind (arith, none_since_count p xs, cases_Bool (p x))
 
 counted_once : (xs : List Cell) (c : Cell) → has_twice xs ≡ false → counted (same_cell c) xs ≤ 1
 counted_once [] c h = omega arith
 counted_once (x ∷ xs) c h =
     let r = or_parts (list_any (same_cell x) xs) (has_twice xs) h in
     elim (cases_Bool (same_cell c x)) [
-      | inl k ↦ (let e : c ≡ x = same_cell-true c x k in
-          let z : counted (same_cell c) xs ≡ 0 = ap (λ d. counted (same_cell d) xs) e ∙ none_counted (same_cell x) xs r.0 in rw k (omega arith))
-      | inr k ↦ (let i = counted_once xs c r.1 in rw k i)
+      | inl k ↦ rw k (omega (arith, ap (λ d. counted (same_cell d) xs) (same_cell-true c x k), none_counted (same_cell x) xs r.0))
+      | inr k ↦ rw k (counted_once xs c r.1)
     ]
 
 once_since_count : (xs : List Cell) → ((c : Cell) → counted (same_cell c) xs ≤ 1) → has_twice xs ≡ false
 once_since_count [] h = refl
 once_since_count (x ∷ xs) h =
-    let k : same_cell x x ≡ true = same_cell-refl x in
-    let one : counted (same_cell x) (x ∷ xs) ≤ 1 = h x in
-    let same : counted (same_cell x) (x ∷ xs) ≡ 1 + counted (same_cell x) xs = rw k refl in
-    or_from (list_any (same_cell x) xs) (has_twice xs) (none_since_count (same_cell x) xs (omega arith))
-    (once_since_count xs (λ c. let o = h c in elim (cases_Bool (same_cell c x)) [
-      | inl j ↦ (let s : counted (same_cell c) (x ∷ xs) ≡ 1 + counted (same_cell c) xs = rw j refl in omega arith)
-      | inr j ↦ (let s : counted (same_cell c) (x ∷ xs) ≡ counted (same_cell c) xs = rw j refl in omega arith)
-    ]))
+    let none : counted (same_cell x) xs ≡ 0 = grind (arith, h x, same_cell-refl x) in
+    or_from (list_any (same_cell x) xs) (has_twice xs) (none_since_count (same_cell x) xs none)
+    (once_since_count xs (λ c. grind (arith, h c, cases_Bool (same_cell c x))))
 
 counted-append : {X : Type 0} (p : X → Bool) (xs ys : List X) → counted p (xs ++ ys) ≡ counted p xs + counted p ys
 counted-append p [] ys = omega arith
@@ -161,11 +152,13 @@ totalled-permutation f xs ys h = is_sum_by (totalled f) f refl (λ _ _. refl) ys
 
 pub two_writers-permutation : (g steps : List Node) → IsPermutation g steps → two_writers g ≡ false → two_writers steps ≡ false
 two_writers-permutation g steps same h = once_since_count (flat_map outputs steps) (λ c.
-    let a = counted_once (flat_map outputs g) c h in
-    let b = counted-flat_map (same_cell c) g in
-    let d = counted-flat_map (same_cell c) steps in
-    let e = totalled-permutation (λ n. counted (same_cell c) (outputs n)) g steps same in
-    omega arith)
+    omega (
+      arith,
+      counted_once (flat_map outputs g) c h,
+      counted-flat_map (same_cell c) g,
+      counted-flat_map (same_cell c) steps,
+      totalled-permutation (λ n. counted (same_cell c) (outputs n)) g steps same,
+    ))
 
 -- ---- the test of the writers, node by node
 
