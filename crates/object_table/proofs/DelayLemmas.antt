@@ -23,11 +23,6 @@ bytes_alike d (image ∷ images) h =
 pub sum-turned : {X : Type 0} (f : X → ℕ) (n : ℕ) (xs : List X) → sum_by f (drop n xs ++ take n xs) ≡ sum_by f xs
 sum-turned f n xs = omega (arith, sum_by-append f (drop n xs) (take n xs), sum_by-take-drop f xs n)
 
--- as many images of the description take as many bytes
-pub bytes_kept : (d : Description) (old new : List ImageValue) → All (λ image. description_of image ≡ d) old → All (λ image. description_of image ≡ d) new → length new ≡ length old
-    → sum_by image_bytes new ≡ sum_by image_bytes old
-bytes_kept d old new h i same = bytes_alike d new i ∙ ap (λ n. n * byte_count d) same ∙ sym (bytes_alike d old h)
-
 -- images of one description are alike, any two of them
 pub alike : (d : Description) (images : List ImageValue) → All (λ image. description_of image ≡ d) images → AllPairs (λ a b. a ≡ b) (map description_of images)
 alike d images h i j default less within =

@@ -2,7 +2,7 @@
 use Rattle.std.proofs.Common.{◌≡◌, ℕ, ◌+◌, ◌<◌, ◌≤◌, Bool, true, false, cond, List, [], ◌∷◌, ◌++◌, ◌*◌, length, map, Option, Some, None, refl, sym, ap, subst, ◌∙◌, arith, rules}
 use Rattle.std.specs.Prelude.{All, IfSome, IsTrue, ◌==◌, nat_lt, ◌||◌, sum_by, unwrap_or}
 use Rattle.std.specs.Ordering.{nat_cmp}
-use Rattle.std.specs.Map.{keys_of, lookup, set_value}
+use Rattle.std.specs.Map.{keys_of, lookup, set_value, remove_entry}
 use Rattle.std.specs.BTreeMap.{is_at, insert_entry}
 use Rattle.std.specs.Option.{option_map}
 use Rattle.std.specs.List.{flat_map}
@@ -105,6 +105,11 @@ pub sum-written : (f : ℕ × Entry → ℕ) (entries : List (ℕ × Entry)) (na
 sum-written f [] name old new found = cc
 sum-written f (e ∷ entries) name old new found = grind (arith, sum-written f entries name old new, same_name, sum_by-cons)
 
+pub sum-removed : (f : ℕ × Entry → ℕ) (entries : List (ℕ × Entry)) (name : ℕ) (old : Entry) → lookup (is_at (nat_cmp name)) entries ≡ Some old
+    → sum_by f (remove_entry (is_at (nat_cmp name)) entries) + f (name, old) ≡ sum_by f entries
+sum-removed f [] name old found = cc
+sum-removed f (e ∷ entries) name old found = grind (arith, sum-removed f entries name old, same_name, sum_by-cons)
+
 -- what a context is charged is the sum over the entries
 pub charge_is : (entries : List (ℕ × Entry)) → charge_of (map named entries) ≡ sum_by (λ e. object_bytes e.1.object) entries
 charge_is [] = refl
@@ -142,12 +147,6 @@ pub charge_limit : (next charge : ℕ) (entries : List (ℕ × Entry)) → IsTab
 charge_limit next charge entries t = omega (arith, t.charged, charge_is entries, t.count, sum_by-le (λ e. object_bytes e.1.object) (16 * 67108864) entries t.each)
 
 module _ (next charge : ℕ) (entries : List (ℕ × Entry)) (t : IsTable next charge entries) (name : ℕ) (old : Entry) (found : lookup (is_at (nat_cmp name)) entries ≡ Some old) where
-  -- an object that is found is charged
-  pub charge_found : object_bytes old.object ≤ charge
-  charge_found =
-      let gone : Entry = record old { object = GraphObject new_graph } in
-      omega (arith, t.charged, charge_is entries, sum-written (λ e. object_bytes e.1.object) entries name old gone found)
-
   bytes_found : object_bytes old.object ≤ 16 * 67108864
   bytes_found = subst (λ (o : Option Entry). IfSome o (λ e. object_bytes e.object ≤ 16 * 67108864)) found (All-lookup (λ (e : Entry). object_bytes e.object ≤ 16 * 67108864) (is_at (nat_cmp name)) entries t.each)
 

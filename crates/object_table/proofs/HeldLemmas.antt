@@ -82,10 +82,6 @@ object_held-map f change (o ∷ objects) name same changed = grind (arith, objec
 
 -- ---- what a cell holds
 
--- what holds of each image that stands in a slot holds of what stands there
-pub slot_has : (P : ObjectValue → Type 0) (images : List ImageValue) (k : ℕ) → ((image : ImageValue) → slice_get images k ≡ Some image → P (ImageObject image)) → IfSome (in_slot (Some k) (DelayObject images)) P
-slot_has P images k h = grind arith
-
 -- what a cell holds is an object
 pub held_is : (objects : List Named) (cell : Cell) → All (λ o. IsObject o.object) objects → IfSome (held objects cell) IsObject
 held_is objects cell h = grind (arith, object_held_has IsObject objects cell.name h, object_held_has, IsObject-in_slot)

@@ -48,17 +48,13 @@ returns-in_err-node-clause-err c =
 
 pub end_uses-self-inside-requires-clause-held : goal.end_uses-self-inside-requires-clause-held
 end_uses-self-inside-requires-clause-held c =
-    let s = c.self.inside in
-    let old = c.in-Some.entry.now in
-    let new = record old { object = c.remove_node.new.self } in
-    subst (λ (l : List (ℕ × Entry)). All (λ e. IsTrue (is_kept e)) l) (sym (c.get_mut.follows.holds new).0) (held-after s.next s.charge s.entries.entries c.self.invariant c.args.graph old new (sym c.in-Some.ensures.value) refl refl)
+    let new = record c.in-Some.entry.now { object = c.remove_node.new.self } in
+    subst (λ (l : List (ℕ × Entry)). All (λ e. IsTrue (is_kept e)) l) (sym (c.get_mut.follows.holds new).0) (held-after _ _ _ c.self.invariant c.args.graph _ new (sym c.in-Some.ensures.value) refl refl)
 
 pub end_uses-self-inside-requires-clause-charge : goal.end_uses-self-inside-requires-clause-charge
 end_uses-self-inside-requires-clause-charge c =
-    let s = c.self.inside in
-    let old = c.in-Some.entry.now in
-    let new = record old { object = c.remove_node.new.self } in
-    charged-after s.next s.charge s.entries.entries c.self.invariant c.args.graph old new (sym c.in-Some.ensures.value) refl c.remove_node.ensures.bytes
+    let new = record c.in-Some.entry.now { object = c.remove_node.new.self } in
+    charged-after _ _ _ c.self.invariant c.args.graph _ new (sym c.in-Some.ensures.value) refl c.remove_node.ensures.bytes
     ∙ ap (λ (l : List (ℕ × Entry)). charge_of (map named l)) (sym (c.get_mut.follows.holds new).0)
 
 -- the graph's entry, without the node
@@ -110,9 +106,7 @@ returns-clause-ok c =
 
 pub returns-clause-missing : goal.returns-clause-missing
 returns-clause-missing c =
-    let s = c.self.inside in
-    let under = under_is c.args.self.now s.next s.entries.entries c.self.view_is c.args.graph c.in-Some.entry.now (sym c.in-Some.ensures.value) in
-    c.in_ok-node.ensures.missing ∙ ap (λ (o : ObjectValue). not (has_node (graph_value o) c.args.number)) (sym under)
+    c.in_ok-node.ensures.missing ∙ ap (λ (o : ObjectValue). not (has_node (graph_value o) c.args.number)) (sym (under_is _ _ _ c.self.view_is c.args.graph _ (sym c.in-Some.ensures.value)))
 
 pub returns-in_err-node-clause-balances : goal.returns-in_err-node-clause-balances
 returns-in_err-node-clause-balances c =
