@@ -77,27 +77,13 @@ none_written (e ∷ entries) cell object none = grind (arith, none_written entri
 pub written : (entries : List (ℕ × Entry)) (cell : Cell) (old new : Entry) (object : ObjectValue) → InOrder entries → lookup (is_at (nat_cmp cell.name)) entries ≡ Some old
     → new.live ≡ old.live → new.object ≡ with_slot cell.slot object old.object → map named (set_value (is_at (nat_cmp cell.name)) entries new) ≡ with_object (map named entries) cell object
 written [] cell old new object order found live is = cc
-written (e ∷ entries) cell old new object order found live is =
-    either (is_at (nat_cmp cell.name) e.0) refl found (written entries cell old new object (sorted_tail nat_cmp e.0 (keys_of entries) order))
-    ∙ ap (λ b. let o = named e in cond b (record o { object = with_slot cell.slot object o.object }) o ∷ with_object (map named entries) cell object) (same_name cell.name e.0)
-  where
-    either : (b : Bool) → is_at (nat_cmp cell.name) e.0 ≡ b → cond b (Some e.1) (lookup (is_at (nat_cmp cell.name)) entries) ≡ Some old
-        → (lookup (is_at (nat_cmp cell.name)) entries ≡ Some old → new.live ≡ old.live → new.object ≡ with_slot cell.slot object old.object → map named (set_value (is_at (nat_cmp cell.name)) entries new) ≡ with_object (map named entries) cell object)
-        → map named (cond b ((e.0, new) ∷ entries) (e ∷ set_value (is_at (nat_cmp cell.name)) entries new)) ≡ (let o = named e in cond b (record o { object = with_slot cell.slot object o.object }) o ∷ with_object (map named entries) cell object)
-    either true here found rest = grind (arith, none_written entries cell object (past_head e entries cell.name order here), past_head e entries cell.name order here)
-    either false here found rest = ap (λ l. named e ∷ l) (rest found live is)
+written (e ∷ entries) cell old new object order found live is = grind (arith, written entries cell old new object (sorted_tail nat_cmp e.0 (keys_of entries) order), none_written entries cell object, past_head e entries cell.name order, same_name cell.name e.0)
 
 -- what holds of the others, and of the new one where it did of the old one
 pub All-written : (P : ℕ × Entry → Type 0) (entries : List (ℕ × Entry)) (name : ℕ) (old new : Entry) → lookup (is_at (nat_cmp name)) entries ≡ Some old → ((k : ℕ) → P (k, old) → P (k, new)) → All P entries
     → All P (set_value (is_at (nat_cmp name)) entries new)
 All-written P [] name old new found still h = cc
-All-written P (e ∷ entries) name old new found still h =
-    either (is_at (nat_cmp name) e.0) found (λ later. All-written P entries name old new later still (All-tail P e entries h))
-  where
-    either : (b : Bool) → cond b (Some e.1) (lookup (is_at (nat_cmp name)) entries) ≡ Some old → (lookup (is_at (nat_cmp name)) entries ≡ Some old → All P (set_value (is_at (nat_cmp name)) entries new))
-        → All P (cond b ((e.0, new) ∷ entries) (e ∷ set_value (is_at (nat_cmp name)) entries new))
-    either true found rest = grind (arith, All-head P e entries h, All-tail P e entries h)
-    either false found rest = All-cons P e (set_value (is_at (nat_cmp name)) entries new) (All-head P e entries h) (rest found)
+All-written P (e ∷ entries) name old new found still h = grind (arith, All-written P entries name old new, still, All-head P e entries h, All-tail P e entries h, All-cons P)
 
 -- a sum over the entries
 pub sum-written : (f : ℕ × Entry → ℕ) (entries : List (ℕ × Entry)) (name : ℕ) (old new : Entry) → lookup (is_at (nat_cmp name)) entries ≡ Some old
@@ -119,16 +105,7 @@ charge_is (e ∷ entries) = search (rules, charge_is entries, sum_by-cons)
 used-written : (entries : List (ℕ × Entry)) (name : ℕ) (old new : Entry) → lookup (is_at (nat_cmp name)) entries ≡ Some old → new.live ≡ old.live → nodes_in new.object ≡ nodes_in old.object
     → names_used (map named (set_value (is_at (nat_cmp name)) entries new)) ≡ names_used (map named entries)
 used-written [] name old new found live nodes = cc
-used-written (e ∷ entries) name old new found live nodes =
-    either (is_at (nat_cmp name) e.0) found (λ later. used-written entries name old new later live nodes)
-  where
-    rest_used : List (ℕ × Entry) → List ℕ
-    rest_used l = names_used (map named l)
-
-    either : (b : Bool) → cond b (Some e.1) (lookup (is_at (nat_cmp name)) entries) ≡ Some old → (lookup (is_at (nat_cmp name)) entries ≡ Some old → rest_used (set_value (is_at (nat_cmp name)) entries new) ≡ rest_used entries)
-        → rest_used (cond b ((e.0, new) ∷ entries) (e ∷ set_value (is_at (nat_cmp name)) entries new)) ≡ rest_used (e ∷ entries)
-    either true found rest = grind arith
-    either false found rest = ap (λ l. names_used_by (named e) ++ l) (rest found)
+used-written (e ∷ entries) name old new found live nodes = grind (arith, used-written entries name old new)
 
 -- a new name goes last
 pub insert_last : (entries : List (ℕ × Entry)) (name : ℕ) (new : Entry) → All (λ e. e.0 < name) entries → insert_entry nat_cmp entries name new ≡ entries ++ (name, new) ∷ []

@@ -36,18 +36,7 @@ kept-map f still (e ∷ entries) = grind (arith, kept-map f still entries, still
 kept-live : (entries : List (ℕ × Entry)) (name : ℕ) → option_map (λ (e : Entry). e.live) (lookup (is_at (nat_cmp name)) entries) ≡ Some true
     → lookup (is_at (nat_cmp name)) (kept entries) ≡ lookup (is_at (nat_cmp name)) entries
 kept-live [] name live = refl
-kept-live (e ∷ entries) name live = either (is_at (nat_cmp name) e.0) (is_kept e) refl refl live (kept-live entries name)
-  where
-    test : ℕ → Bool
-    test = is_at (nat_cmp name)
-
-    either : (b held : Bool) → test e.0 ≡ b → is_kept e ≡ held → option_map (λ (e : Entry). e.live) (cond b (Some e.1) (lookup test entries)) ≡ Some true
-        → (option_map (λ (e : Entry). e.live) (lookup test entries) ≡ Some true → lookup test (kept entries) ≡ lookup test entries)
-        → lookup test (cond held (e ∷ kept entries) (kept entries)) ≡ cond b (Some e.1) (lookup test entries)
-    either true true here is live rest = ap (λ b. cond b (Some e.1) (lookup test (kept entries))) here
-    either true false here is live rest = let on : e.1.live ≡ true = cc in let no : true ≡ false = sym (or_left e.1.live (nat_lt 0 e.1.uses) on) ∙ is in cc
-    either false true here is live rest = ap (λ b. cond b (Some e.1) (lookup test (kept entries))) here ∙ rest live
-    either false false here is live rest = rest live
+kept-live (e ∷ entries) name live = grind (arith, kept-live entries name, or_left e.1.live (nat_lt 0 e.1.uses))
 
 -- ---- an entry that is written, and dropped
 
@@ -62,24 +51,8 @@ pub dropped : (entries : List (ℕ × Entry)) (name : ℕ) (old new : Entry) →
     → (new.live || nat_lt 0 new.uses) ≡ false → remove_entry (is_at (nat_cmp name)) (set_value (is_at (nat_cmp name)) entries new) ≡ kept (set_value (is_at (nat_cmp name)) entries new)
 dropped [] name old new found held none = cc
 dropped (e ∷ entries) name old new found held none =
-    either (is_at (nat_cmp name) e.0) refl found (λ later. dropped entries name old new later (All-tail (λ e. IsTrue (is_kept e)) e entries held) none)
-  where
-    test : ℕ → Bool
-    test = is_at (nat_cmp name)
-
-    then : List (ℕ × Entry)
-    then = set_value test entries new
-
-    either : (b : Bool) → test e.0 ≡ b → cond b (Some e.1) (lookup test entries) ≡ Some old → (lookup test entries ≡ Some old → remove_entry test then ≡ kept then)
-        → remove_entry test (cond b ((e.0, new) ∷ entries) (e ∷ then)) ≡ kept (cond b ((e.0, new) ∷ entries) (e ∷ then))
-    either true here found rest =
-        ap (λ b. cond b entries ((e.0, new) ∷ remove_entry test entries)) here
-        ∙ sym (all_kept entries (All-tail (λ e. IsTrue (is_kept e)) e entries held))
-        ∙ ap (λ b. cond b ((e.0, new) ∷ kept entries) (kept entries)) (sym none)
-    either false here found rest =
-        ap (λ b. cond b then (e ∷ remove_entry test then)) here
-        ∙ ap (λ l. e ∷ l) (rest found)
-        ∙ ap (λ b. cond b (e ∷ kept then) (kept then)) (sym (All-head (λ e. IsTrue (is_kept e)) e entries held))
+    let others = All-tail (λ e. IsTrue (is_kept e)) e entries held in
+    grind (arith, dropped entries name old new, others, all_kept entries others, All-head (λ e. IsTrue (is_kept e)) e entries held)
 
 -- an object of as many bytes leaves the charge
 pub charge-written : (entries : List (ℕ × Entry)) (name : ℕ) (old new : Entry) → lookup (is_at (nat_cmp name)) entries ≡ Some old → new.object ≡ old.object
@@ -149,21 +122,7 @@ ended-none (e ∷ entries) name none = grind (arith, ended-none entries name, sa
 pub ended-one : (entries : List (ℕ × Entry)) (name : ℕ) (old : Entry) → InOrder entries → lookup (is_at (nat_cmp name)) entries ≡ Some old
     → set_value (is_at (nat_cmp name)) entries (record old { live = false }) ≡ ended name entries
 ended-one [] name old order found = cc
-ended-one (e ∷ entries) name old order found =
-    either (is_at (nat_cmp name) e.0) refl found (ended-one entries name old (sorted_tail nat_cmp e.0 (keys_of entries) order))
-    ∙ ap (λ b. let n : Entry = e.1 in cond b (e.0, record n { live = false }) e ∷ ended name entries) (same_name name e.0)
-  where
-    new : Entry
-    new = record old { live = false }
-
-    either : (b : Bool) → is_at (nat_cmp name) e.0 ≡ b → cond b (Some e.1) (lookup (is_at (nat_cmp name)) entries) ≡ Some old
-        → (lookup (is_at (nat_cmp name)) entries ≡ Some old → set_value (is_at (nat_cmp name)) entries new ≡ ended name entries)
-        → cond b ((e.0, new) ∷ entries) (e ∷ set_value (is_at (nat_cmp name)) entries new) ≡ (let n : Entry = e.1 in cond b (e.0, record n { live = false }) e ∷ ended name entries)
-    either true here found rest =
-        let same : old ≡ e.1 = cc in
-        ap (λ (x : Entry). let d : ℕ × Entry = (e.0, record x { live = false }) in d ∷ entries) same
-        ∙ ap (λ l. let n : Entry = e.1 in let d : ℕ × Entry = (e.0, record n { live = false }) in d ∷ l) (ended-none entries name (past_head e entries name order here))
-    either false here found rest = ap (λ l. e ∷ l) (rest found)
+ended-one (e ∷ entries) name old order found = grind (arith, ended-one entries name old (sorted_tail nat_cmp e.0 (keys_of entries) order), ended-none entries name, past_head e entries name order, same_name name e.0)
 
 -- it isn't shown as live then
 pub shown-ended : (name : ℕ) (entries : List (ℕ × Entry)) → map named (ended name entries) ≡ unnamed (map named entries) name
