@@ -58,13 +58,7 @@ cycle_from_fed {N} feeds x xs fed =
 -- what feeds each node of a chain, its end included
 fed_on_chain : {N : Type 0} (feeds : N → N → Bool) (a : N) (xs : List N) (b n : N) → Chain feeds a xs b → In n xs ⊎ (n ≡ b) → (m : N) × In m (a ∷ xs) × (feeds m n ≡ true)
 fed_on_chain feeds a [] b n h i = elim i [ inl k ↦ absurd k | inr e ↦ (a, inl refl, ap (feeds a) e ∙ h) ]
-fed_on_chain feeds a (x ∷ xs) b n h i = elim i [
-  | inl k ↦ elim k [
-    | inl e ↦ (a, inl refl, ap (feeds a) e ∙ h.0)
-    | inr l ↦ (let r = fed_on_chain feeds x xs b n h.1 (inl l) in (r.0, inr r.1, r.2))
-  ]
-  | inr e ↦ (let r = fed_on_chain feeds x xs b n h.1 (inr e) in (r.0, inr r.1, r.2))
-]
+fed_on_chain feeds a (x ∷ xs) b n h i = grind (arith, fed_on_chain feeds x xs b n h.1)
 
 pub fed_from_cycle : {N : Type 0} (feeds : N → N → Bool) (ns : List N) → IsCycle feeds ns → Fed feeds ns
 fed_from_cycle feeds [] h = λ n i. absurd h

@@ -52,23 +52,23 @@ same-from_In c cs h = any-from_In (same_cell c) c cs h (same_cell-refl c)
 pub feeds_is : (m n : Node) (c : Cell) → writes m c ≡ true → reads n c ≡ true → feeds m n ≡ true
 feeds_is m n c w r = any-from_In (reads n) c (outputs m) (In-from_same c (outputs m) w) r
 
+pub same_tests : (a b : Bool) → (a ≡ true → b ≡ true) → (b ≡ true → a ≡ true) → a ≡ b
+same_tests true b to from = sym (to refl)
+same_tests false true to from = from refl
+same_tests false false to from = refl
+
 -- a node is fed by those that write what it reads
 pub is_fed-written : (g : List Node) (n : Node) → is_fed feeds g n ≡ list_any (is_written g) (inputs n)
-is_fed-written g n = elim (cases_Bool (list_any (is_written g) (inputs n))) [
-  | inl some ↦ (
-      let input = In-from_any (is_written g) (inputs n) some in
-      let writer = In-from_any (λ m. writes m input.0) g input.2 in
-      any-from_In (λ m. feeds m n) writer.0 g writer.1 (feeds_is writer.0 n input.0 writer.2 (same-from_In input.0 (inputs n) input.1)) ∙ sym some)
-  | inr none ↦ elim (cases_Bool (is_fed feeds g n)) [
-    | inl fed ↦ (
-        let feeder = In-from_any (λ m. feeds m n) g fed in
-        let cell = In-from_any (reads n) (outputs feeder.0) feeder.2 in
-        let written = any-from_In (λ m. writes m cell.0) feeder.0 g feeder.1 (same-from_In cell.0 (outputs feeder.0) cell.1) in
-        let some = any-from_In (is_written g) cell.0 (inputs n) (In-from_same cell.0 (inputs n) cell.2) written in
-        absurd (cc))
-    | inr unfed ↦ unfed ∙ sym none
-  ]
-]
+is_fed-written g n = sym (same_tests (list_any (is_written g) (inputs n)) (is_fed feeds g n)
+    (λ some.
+    let input = In-from_any (is_written g) (inputs n) some in
+    let writer = In-from_any (λ m. writes m input.0) g input.2 in
+    any-from_In (λ m. feeds m n) writer.0 g writer.1 (feeds_is writer.0 n input.0 writer.2 (same-from_In input.0 (inputs n) input.1)))
+    (λ fed.
+    let feeder = In-from_any (λ m. feeds m n) g fed in
+    let cell = In-from_any (reads n) (outputs feeder.0) feeder.2 in
+    let written = any-from_In (λ m. writes m cell.0) feeder.0 g feeder.1 (same-from_In cell.0 (outputs feeder.0) cell.1) in
+    any-from_In (is_written g) cell.0 (inputs n) (In-from_same cell.0 (inputs n) cell.2) written))
 
 -- ---- no cell stands twice in a list
 
@@ -127,10 +127,7 @@ counted_once : (xs : List Cell) (c : Cell) → has_twice xs ≡ false → counte
 counted_once [] c h = omega arith
 counted_once (x ∷ xs) c h =
     let r = or_parts (list_any (same_cell x) xs) (has_twice xs) h in
-    elim (cases_Bool (same_cell c x)) [
-      | inl k ↦ rw k (omega (arith, ap (λ d. counted (same_cell d) xs) (same_cell-true c x k), none_counted (same_cell x) xs r.0))
-      | inr k ↦ rw k (counted_once xs c r.1)
-    ]
+    grind (arith, same_cell-true c x, none_counted (same_cell x) xs r.0, counted_once xs c r.1, cases_Bool (same_cell c x))
 
 once_since_count : (xs : List Cell) → ((c : Cell) → counted (same_cell c) xs ≤ 1) → has_twice xs ≡ false
 once_since_count [] h = refl

@@ -260,10 +260,7 @@ module _ (nodes steps : List Linked) (one : two_writers (linked_nodes nodes) ≡
 
 -- no more outputs than two for each node
 pub few_outputs : (nodes steps : List Linked) (known : List Known) (outputs : List VirtualOutput) → length nodes ≤ 256 → IsOrder links nodes steps → length known ≤ 2 * length steps → outputs ≡ filter_map closed_output known → length outputs ≤ 512
-few_outputs nodes steps known outputs few order limit is =
-    let same = length_permutation nodes steps order.same_nodes in
-    let fewer = shorter known in
-    omega (arith, few, same, limit, fewer, ap length is)
+few_outputs nodes steps known outputs few order limit is = omega (arith, few, length_permutation nodes steps order.same_nodes, limit, shorter known, ap length is)
   where
     shorter : (known : List Known) → length (filter_map closed_output known) ≤ length known
     shorter [] = omega arith
