@@ -144,10 +144,7 @@ parts value count place = record { value = value; count = count; at = place }
 
 -- an extreme by its parts
 is_located : (choose : ℤ → ℤ → ℤ) (f : ℕ → ℕ → ℤ) (ps : List (ℕ × ℕ)) (v : ℤ) (n : ℕ) (p : ℕ × ℕ) → v ≡ chosen choose (samples f ps) → n ≡ count_of v (samples f ps) → p ≡ unwrap_or (find (holds f v) ps) (0, 0) → parts v n p ≡ located choose f ps
-is_located choose f ps v n p value count place =
-    ap (λ m. parts v m p) count
-    ∙ ap (parts v (count_of v (samples f ps))) place
-    ∙ ap (λ w. parts w (count_of w (samples f ps)) (first_of f w ps)) value
+is_located choose f ps v n p value count place = rw (count, place, value) refl
 
 module _ (choose : ℤ → ℤ → ℤ) (beyond : ℤ → ℤ → Bool) (d : IsDirection choose beyond) (f : ℕ → ℕ → ℤ) (ws : List ℤ) (x n y : ℕ) (wide : length ws ≡ n) (some : 0 < n) (row : ws ≡ run x n (λ k. f k y)) (v : ℤ) (is : v ≡ chosen choose ws) where
   abbrev next : List (ℕ × ℕ) → List (ℕ × ℕ)
@@ -219,11 +216,8 @@ module _ (choose : ℤ → ℤ → ℤ) (beyond : ℤ → ℤ → Bool) (d : IsD
         joins_kept old.count among below (omega (arith, count_beyond choose beyond d (chosen choose ws) old.value ws above (none_beyond choose beyond d ws)))
 
 -- no count is above the number of places
-pub least_at_most : (f : ℕ → ℕ → ℤ) (ps : List (ℕ × ℕ)) → (found_in f ps).least.count ≤ length ps
-least_at_most f ps = omega (arith, count_by-le-length (λ s. int_eq s (chosen int_min (map (λ p. f p.0 p.1) ps))) (map (λ p. f p.0 p.1) ps), length-map ps (λ p. f p.0 p.1))
-
-pub greatest_at_most : (f : ℕ → ℕ → ℤ) (ps : List (ℕ × ℕ)) → (found_in f ps).greatest.count ≤ length ps
-greatest_at_most f ps = omega (arith, count_by-le-length (λ s. int_eq s (chosen int_max (map (λ p. f p.0 p.1) ps))) (map (λ p. f p.0 p.1) ps), length-map ps (λ p. f p.0 p.1))
+pub at_most : (choose : ℤ → ℤ → ℤ) (f : ℕ → ℕ → ℤ) (ps : List (ℕ × ℕ)) → (located choose f ps).count ≤ length ps
+at_most choose f ps = omega (arith, count_by-le-length (λ s. int_eq s (chosen choose (samples f ps))) (samples f ps), length-map ps (λ p. f p.0 p.1))
 
 -- one more row
 pub next_found : (image : ImageValue) (part : Part) → IsValidPart image part → (y n : ℕ) (row : List ℤ) (old new : Found) → part.top ≤ y → n ≡ part.count → row ≡ run part.x part.count (λ k. at image k y)

@@ -72,11 +72,8 @@ map-zeros n = map-replicate pos n 0
 -- a row beside the valid part
 pub row_of_zeros : (image : ImageValue) (part : Part) → IsValidPart image part → (y : ℕ) (out : List ℕ) → ((y < part.top) ⊎ (part.bottom ≤ y)) → out ≡ replicate image.width 0 → map pos out ≡ run 0 image.width (λ x. within image.valid (sum_to image) x y)
 row_of_zeros image part is y out beside zeros =
-    ap (map pos) zeros ∙ map-zeros image.width ∙ sym (row_outside image.valid (sum_to image) image.width y (at_rows beside))
-  where
-    at_rows : (y < part.top) ⊎ (part.bottom ≤ y) → (y < image.valid.y0) ⊎ (image.valid.y1 ≤ y)
-    at_rows (inl before) = inl (omega (arith, is.top))
-    at_rows (inr after) = inr (omega (arith, is.bottom))
+    let at_rows : (y < image.valid.y0) ⊎ (image.valid.y1 ≤ y) = elim beside [ inl before ↦ inl (omega (arith, is.top)) | inr after ↦ inr (omega (arith, is.bottom)) ] in
+    ap (map pos) zeros ∙ map-zeros image.width ∙ sym (row_outside image.valid (sum_to image) image.width y at_rows)
 
 run_of_sums : (sums : List ℕ) (x n : ℕ) (f : ℕ → ℤ) → length sums ≡ n → ((k : ℕ) → k < n → pos (get_or sums k 0) ≡ f (x + k)) → map pos sums ≡ run x n f
 run_of_sums sums x n f long same =
