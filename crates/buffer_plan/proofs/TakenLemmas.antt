@@ -1,9 +1,9 @@
 -- What stands in a slot as another image takes it.
-use Rattle.std.proofs.Common.{◌≡◌, ◌≢◌, ◌+◌, ◌-◌, inl, inr, suc, true, false, List, [], ◌∷◌, ◌++◌, length, take, drop, refl, ◌∙◌, ap, arith}
+use Rattle.std.proofs.Common.{◌≡◌, ◌≢◌, ◌+◌, ◌-◌, suc, true, false, List, [], ◌∷◌, ◌++◌, length, take, drop, refl, ◌∙◌, ap, arith}
 use Rattle.std.specs.Prelude.{◌||◌}
 use Rattle.std.proofs.Math.Bool.{or-false}
 use Rattle.std.proofs.Math.Seq.{drop-append_seam}
-use Rattle.std.proofs.lemmas.Bool.{cases_Bool, or_left, or_right, and_from}
+use Rattle.std.proofs.lemmas.Bool.{false_from_ne_true, or_left, or_right, and_from}
 use Rattle.std.proofs.lemmas.List.Folds.{list_any-append}
 use Rattle.vx_base.specs.declared.node.Node.{Node}
 use Rattle.vx_base.specs.Cell.{Cell}
@@ -48,9 +48,6 @@ one_when_taken before after n images p plan taken held i j format writer written
 pub free_when_taken : (before after : List Node) (n : Node) (images : List VirtualOutput) (p : PlanValue) → IsPlan (before ++ n ∷ after) images p → (taken held : VirtualOutput)
     → In taken images → In held images → held.desc.format ≡ taken.desc.format → writes n taken.cell ≡ true → is_written before held.cell ≡ true
     → p.slot_of held.cell ≡ p.slot_of taken.cell → held.cell ≢ taken.cell → is_used (n ∷ after) held.cell ≡ false
-free_when_taken before after n images p plan taken held i j format writer written same other = elim (cases_Bool (is_used (n ∷ after) held.cell)) [
-  | inl used ↦ (
-      let both = or_left (is_written before held.cell) (writes n held.cell) written in
-      absurd (other (ap (λ (o : VirtualOutput). o.cell) (one_when_taken before after n images p plan taken held i j format writer both used same))))
-  | inr none ↦ none
-]
+free_when_taken before after n images p plan taken held i j format writer written same other = false_from_ne_true (is_used (n ∷ after) held.cell) (λ used.
+    let both = or_left (is_written before held.cell) (writes n held.cell) written in
+    other (ap (λ (o : VirtualOutput). o.cell) (one_when_taken before after n images p plan taken held i j format writer both used same)))

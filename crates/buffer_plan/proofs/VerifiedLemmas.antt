@@ -1,5 +1,5 @@
 -- The plan of a verified graph.
-use Rattle.std.proofs.Common.{◌≡◌, ℕ, Bool, true, false, List, refl, sym, ◌∙◌, ap, subst}
+use Rattle.std.proofs.Common.{◌≡◌, ℕ, Bool, false, List, refl, sym, ◌∙◌, ap, subst}
 use Rattle.std.specs.Prelude.{None, is_some, ◌&&◌}
 use Rattle.std.specs.List.{filter, flat_map, list_any}
 use Rattle.std.proofs.lemmas.Bool.{and_parts, and_from}
@@ -17,7 +17,7 @@ use Rattle.graph_verify.specs.Members.{In}
 use Rattle.graph_verify.specs.Operand.{is_virtual}
 use Rattle.graph_verify.specs.Verdict.{verdict, virtual_outputs}
 use Rattle.graph_verify.specs.Verified.{IsVerified}
-use Rattle.graph_verify.proofs.LinkLemmas.{two_writers-permutation, In-outputs, same-from_In, same_cell-true, same_cell-is}
+use Rattle.graph_verify.proofs.LinkLemmas.{same_tests, two_writers-permutation, In-outputs, same-from_In, same_cell-true, same_cell-is}
 use Rattle.graph_verify.proofs.MemberLemmas.{In-filter, In-from_filter, In-from_flat_map, In-from_any, any-from_In, any-map, AllIn-permutation, AllIn-permutation_back}
 use Rattle.graph_verify.proofs.VerdictLemmas.{can_run}
 use Rattle.buffer_plan.specs.declared.plan.Plan.{Plan}
@@ -35,11 +35,6 @@ of_each P a b c U32 = c
 
 once_cells : (p : Cell → Bool) (cs : List Cell) → has_twice cs ≡ false → has_twice (filter p cs) ≡ false
 once_cells p cs once = ap has_twice (sym (map-id (filter p cs))) ∙ once-filter (λ (c : Cell). c) p cs (ap has_twice (map-id cs) ∙ once)
-
-same_tests : (a b : Bool) → (a ≡ true → b ≡ true) → (b ≡ true → a ≡ true) → a ≡ b
-same_tests true b to from = sym (to refl)
-same_tests false true to from = from refl
-same_tests false false to from = refl
 
 -- a cell is among the images exactly where it is virtual and a node writes it
 images_are : (is : Cell → Operand) (nodes : List Node) (v : Verified) → IsVerified is nodes v → (c : Cell)
