@@ -6,7 +6,7 @@ use Rattle.std.proofs.lemmas.Simd.{map-map}
 use Rattle.vx_base.specs.declared.format.Format.{Format}
 use Rattle.vx_base.specs.Image.{ImageValue}
 use Rattle.vx_base.specs.Object.{ObjectValue, DelayObject}
-use Rattle.object_table.specs.Blocks.{image_blocks, object_blocks, blocks_of_all, blocks_in, KeepsBlocks}
+use Rattle.object_table.specs.Blocks.{image_blocks, object_blocks, blocks_in, KeepsBlocks}
 use Rattle.object_table.specs.Named.{Named}
 use Rattle.object_table.specs.Skeleton.{image_skeleton, skeleton}
 use Rattle.object_table.proofs.SkeletonLaws.{map-told}

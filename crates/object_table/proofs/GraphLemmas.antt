@@ -3,21 +3,20 @@ use Rattle.std.proofs.Common.{inl, inr, ◌≡◌, ℕ, ◌+◌, ◌-◌, ◌*�
 use Rattle.std.specs.Prelude.{All, ◌==◌, ◌&&◌, ◌||◌, not, nat_lt, find, filter, sum_by, is_some}
 use Rattle.std.specs.List.{list_any, flat_map, AllPairs}
 use Rattle.std.specs.List.Sorted.{IsStrictlyIncreasing}
-use Rattle.std.specs.Map.{keys_of, lookup, set_value}
+use Rattle.std.specs.Map.{lookup, set_value}
 use Rattle.std.specs.BTreeMap.{is_at}
 use Rattle.std.specs.Ordering.{nat_cmp}
 use Rattle.std.proofs.lemmas.Bool.Decides.{nat_tests}
-use Rattle.std.proofs.lemmas.Bool.{cases_Bool, eqb-true, ne_eqb, lt-ltb, ltb-true, false≢true, and_parts}
+use Rattle.std.proofs.lemmas.Bool.{cases_Bool, eqb-true, ne_eqb, ltb-true, false≢true, and_parts}
 use Rattle.std.proofs.lemmas.Grind.{flat_map-append}
 use Rattle.std.proofs.lemmas.List.{map-append, length-map, length-append, get_or-map}
 use Rattle.std.proofs.lemmas.List.Concat.{length-flat_map}
 use Rattle.std.proofs.lemmas.List.Elements.{All-nil, All-cons, All-head, All-tail, All-append, All-map, All-weaker, All-filter, filter_passes}
 use Rattle.std.proofs.lemmas.List.Folds.{flat_map-map, list_any-append}
 use Rattle.std.proofs.lemmas.List.Kept.{AllPairs-filter, AllPairs-from_increasing}
-use Rattle.std.proofs.lemmas.List.Sums.{sum_by-cons, sum_by-append, sum_by-le, length-filter, count_by-le-length}
+use Rattle.std.proofs.lemmas.List.Sums.{sum_by-cons, sum_by-le, length-filter, count_by-le-length}
 use Rattle.std.proofs.lemmas.Map.{keys-set_value, length-set_value}
 use Rattle.std.proofs.lemmas.Map.Steps.{set_value_same}
-use Rattle.std.proofs.lemmas.Map.Keys.{sorted_tail}
 use Rattle.vx_base.specs.declared.format.Format.TheVariants.{U8}
 use Rattle.vx_base.specs.declared.kind.Kind.{Kind}
 use Rattle.vx_base.specs.declared.kind.Kind.TheVariants as kind
@@ -37,7 +36,7 @@ use Rattle.object_table.specs.Table.{named, used_more, used_less, is_kept, kept,
 use Rattle.object_table.specs.Uses.{used_names, nodes_in, names_used_by, names_used, times}
 use Rattle.object_table.proofs.KeptLemmas.{ended-one, shown-ended}
 use Rattle.object_table.proofs.UseLemmas.{times-append}
-use Rattle.object_table.proofs.EntryLemmas.{same_name, past_head, none_named, InOrder, in_order, named_is, if_live, All-written, sum-written, charge_is}
+use Rattle.object_table.proofs.EntryLemmas.{none_named, InOrder, in_order, named_is, if_live, All-written, sum-written, charge_is}
 
 -- ---- how often a name stands in a list
 
@@ -116,14 +115,10 @@ All-with_node P g n h new =
 times_left : (number : ℕ) (nodes : List Numbered) (node : Node) (name : ℕ) → AllPairs (λ a b. a.number < b.number) nodes → find (λ n. n.number == number) nodes ≡ Some (record { number = number; node = node })
     → sum_by (λ n. times name (used_names n.node)) (filter (λ n. not (n.number == number)) nodes) + times name (used_names node) ≡ sum_by (λ n. times name (used_names n.node)) nodes
 times_left number [] node name increase found = cc
-times_left number (n ∷ nodes) node name increase found = either (n.number == number) refl found (times_left number nodes node name later)
+times_left number (n ∷ nodes) node name increase found =
+    let weight : Numbered → ℕ = λ m. times name (used_names m.node) in
+    grind (arith, times_left number nodes node name later, all_stay nodes above, eqb-true n.number number, sum_by-cons weight n nodes, sum_by-cons weight n (filter (λ m. not (m.number == number)) nodes), cases_Bool (n.number == number))
   where
-    weight : Numbered → ℕ
-    weight m = times name (used_names m.node)
-
-    rest : List Numbered
-    rest = filter (λ m. not (m.number == number)) nodes
-
     later : AllPairs (λ a b. a.number < b.number) nodes
     later i j d less below = increase (suc i) (suc j) d (omega (arith, less)) (omega (arith, below))
 
@@ -134,12 +129,6 @@ times_left number (n ∷ nodes) node name increase found = either (n.number == n
 
     above : All (λ m. n.number < m.number) nodes
     above k d below = increase zero (suc k) d (omega arith) (omega (arith, below))
-
-    either : (b : Bool) → (n.number == number) ≡ b → cond b (Some n) (find (λ m. m.number == number) nodes) ≡ Some (record { number = number; node = node })
-        → (find (λ m. m.number == number) nodes ≡ Some (record { number = number; node = node }) → sum_by weight rest + times name (used_names node) ≡ sum_by weight nodes)
-        → sum_by weight (cond (not b) (n ∷ rest) rest) + times name (used_names node) ≡ sum_by weight (n ∷ nodes)
-    either true same is others = grind (arith, all_stay nodes above (eqb-true n.number number same), eqb-true n.number number same, sum_by-cons weight n nodes)
-    either false apart is others = omega (arith, sum_by-cons weight n rest, sum_by-cons weight n nodes, others is)
 
 times-without_node : (g : GraphValue) (number : ℕ) (node : Node) (name : ℕ) → IsGraph g → find (λ n. n.number == number) g.nodes ≡ Some (record { number = number; node = node })
     → times name (names_in (GraphObject (without_node g number))) + times name (used_names node) ≡ times name (names_in (GraphObject g))
