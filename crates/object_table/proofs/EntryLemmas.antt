@@ -1,11 +1,10 @@
 -- Entries of a map by name, and what they show.
-use Rattle.std.proofs.Common.{◌≡◌, ℕ, ◌+◌, ◌<◌, ◌≤◌, Bool, true, false, cond, List, [], ◌∷◌, ◌++◌, ◌*◌, length, map, Option, Some, None, refl, sym, ap, subst, ◌∙◌, arith, rules}
+use Rattle.std.proofs.Common.{◌≡◌, ℕ, ◌+◌, ◌<◌, ◌≤◌, true, cond, List, [], ◌∷◌, ◌++◌, ◌*◌, length, map, Option, Some, None, refl, sym, ap, subst, ◌∙◌, arith, rules}
 use Rattle.std.specs.Prelude.{All, IfSome, IsTrue, ◌==◌, nat_lt, ◌||◌, sum_by, unwrap_or}
 use Rattle.std.specs.Ordering.{nat_cmp}
 use Rattle.std.specs.Map.{keys_of, lookup, set_value, remove_entry}
 use Rattle.std.specs.BTreeMap.{is_at, insert_entry}
 use Rattle.std.specs.Option.{option_map}
-use Rattle.std.specs.List.{flat_map}
 use Rattle.std.specs.List.Sorted.{IsStrictlySortedBy, IsStrictlyIncreasing}
 use Rattle.std.proofs.lemmas.Bool.{cases_lt, and_parts}
 use Rattle.std.proofs.lemmas.Cmp.{nat_cmp_total, eq_by_cmp_equiv}
@@ -18,7 +17,6 @@ use Rattle.std.proofs.lemmas.Map.Keys.{sorted_tail, sorted_from_strictly_increas
 use Rattle.vx_base.specs.declared.format.Format.TheVariants.{U8}
 use Rattle.vx_base.specs.declared.kind.Kind.{Kind}
 use Rattle.vx_base.specs.declared.kind.Kind.TheVariants as kind
-use Rattle.vx_base.specs.declared.node.Node.{Node}
 use Rattle.vx_base.specs.Cell.{Cell, cell_of}
 use Rattle.vx_base.specs.Image.{ImageValue, new_image}
 use Rattle.vx_base.specs.Object.{ObjectValue, ImageObject, LutObject, ThresholdObject, DelayObject, ConvolutionObject, DistributionObject, ExtremesObject, GraphObject, VirtualObject, object_bytes, object_kind}
@@ -28,7 +26,7 @@ use Rattle.object_table.specs.Delay.{object_in, with_slot, HasImage}
 use Rattle.object_table.specs.Named.{object_held, with_object}
 use Rattle.object_table.specs.Object.{image_value, aged_object}
 use Rattle.object_table.specs.Table.{object_under, IsUnder, cell_object, image_held, HoldsImage, named, is_kept, IsTable}
-use Rattle.object_table.specs.Uses.{used_names, nodes_in, names_used_by, names_used, times}
+use Rattle.object_table.specs.Uses.{nodes_in, names_used_by, names_used, times}
 
 -- ---- keys
 
@@ -160,12 +158,8 @@ IsTable-inserted next charge entries new t left room live uses nodes limit incre
       given = subst (All (λ n. n < next + 1)) (sym used) (All-weaker (λ n. n < next) (λ n. n < next + 1) (λ n h. omega (arith, h)) (names_used (map named entries)) t.given);
     }
   where
-    nothing : (live : Bool) (l : List Node) → l ≡ [] → cond live (flat_map used_names l) [] ++ [] ≡ []
-    nothing true l none = ap (λ l. flat_map used_names l ++ []) none
-    nothing false l none = refl
-
     map_used : (l : List (ℕ × Entry)) → names_used (map named (l ++ (next, new) ∷ [])) ≡ names_used (map named l)
-    map_used [] = nothing new.live (nodes_in new.object) nodes
+    map_used [] = grind (arith, nodes)
     map_used (e ∷ l) = ap (λ names. names_used_by (named e) ++ names) (map_used l)
 
 -- ---- a table that shows a context
