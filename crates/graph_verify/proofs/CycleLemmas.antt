@@ -107,11 +107,7 @@ length-filter_le p (x ∷ xs) = grind (arith, length-filter_le p xs, cases_Bool 
 -- a filter that takes nothing away takes all
 all_pass : {X : Type 0} (p : X → Bool) (xs : List X) → length xs ≤ length (filter p xs) → (x : X) → In x xs → p x ≡ true
 all_pass p [] h x i = absurd i
-all_pass p (y ∷ ys) h x i = elim (cases_Bool (p y)) [
-  | inl k ↦ (let g : length (y ∷ ys) ≤ length (y ∷ filter p ys) = rw k at h in let g2 : length ys ≤ length (filter p ys) = omega arith in
-      elim i [ inl e ↦ ap p e ∙ k | inr j ↦ all_pass p ys g2 x j ])
-  | inr k ↦ (let g : length (y ∷ ys) ≤ length (filter p ys) = rw k at h in let l = length-filter_le p ys in absurd (omega arith))
-]
+all_pass p (y ∷ ys) h x i = grind (arith, all_pass p ys, length-filter_le p ys, cases_Bool (p y))
 
 -- `left_after` of at least as many rounds as there are nodes leaves nodes that feed each other
 Fed-waiting : {N : Type 0} (feeds : N → N → Bool) (g : List N) → Fed feeds g → Fed feeds (waiting feeds g)

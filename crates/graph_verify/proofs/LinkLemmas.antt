@@ -22,9 +22,8 @@ use Rattle.graph_verify.proofs.OrderLemmas.{is_fed}
 
 same_slot-true : (a b : Option ℕ) → same_slot a b ≡ true → a ≡ b
 same_slot-true None None h = refl
-same_slot-true None (Some y) h = absurd (cc h)
-same_slot-true (Some x) None h = absurd (cc h)
 same_slot-true (Some x) (Some y) h = ap {B = Option ℕ} Some (eqb-true x y h)
+same_slot-true a b h = absurd (cc h)
 
 pub same_cell-true : (a b : Cell) → same_cell a b ≡ true → a ≡ b
 same_cell-true a b h = grind (arith, and_parts (a.name == b.name) (same_slot a.slot b.slot) h)

@@ -110,7 +110,4 @@ In-flat_map f x y (z ∷ xs) (inr h) k = In-right y (f z) (flat_map f xs) (In-fl
 
 pub In-from_flat_map : {X Y : Type 0} (f : X → List Y) (y : Y) (xs : List X) → In y (flat_map f xs) → (x : X) × In x xs × In y (f x)
 In-from_flat_map f y [] h = absurd h
-In-from_flat_map f y (x ∷ xs) h = elim (In-append y (f x) (flat_map f xs) h) [
-  | inl i ↦ (x, inl refl, i)
-  | inr j ↦ (let r = In-from_flat_map f y xs j in (r.0, inr r.1, r.2))
-]
+In-from_flat_map f y (x ∷ xs) h = grind (arith, In-from_flat_map f y xs, In-append y (f x) (flat_map f xs))
