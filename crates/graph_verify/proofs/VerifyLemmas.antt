@@ -50,11 +50,8 @@ module _ (is : Cell → Operand) where
   sum_of_outputs : (f : Cell → ℕ) (g : List Node) → sum_by f (virtual_outputs is g) ≡ sum_by (λ n. sum_by f (filter (λ c. is_virtual (is c)) (outputs n))) g
   sum_of_outputs f [] = refl
   sum_of_outputs f (n ∷ ns) =
-      let virtual : Cell → Bool = λ c. is_virtual (is c) in
-      ap (sum_by f) (filter-append virtual (outputs n) (flat_map outputs ns))
-      ∙ sum_by-append f (filter virtual (outputs n)) (virtual_outputs is ns)
-      ∙ ap (λ k. sum_by f (filter virtual (outputs n)) + k) (sum_of_outputs f ns)
-      ∙ sym (sum_by-cons (λ m. sum_by f (filter virtual (outputs m))) n ns)
+      let here = filter (λ c. is_virtual (is c)) (outputs n) in
+      grind (arith, filter-append (λ c. is_virtual (is c)) (outputs n) (flat_map outputs ns), sum_by-append f here (virtual_outputs is ns), sum_of_outputs f ns, sum_by-cons (λ m. sum_by f (filter (λ c. is_virtual (is c)) (outputs m))) n ns)
 
   outputs_sum-permutation : (f : Cell → ℕ) (g steps : List Node) → IsPermutation g steps → sum_by f (virtual_outputs is steps) ≡ sum_by f (virtual_outputs is g)
   outputs_sum-permutation f g steps same = grind (arith, sum_of_outputs, sum_by-IsPermutation)
