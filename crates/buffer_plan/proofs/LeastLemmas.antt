@@ -1,9 +1,10 @@
 -- That no plan has fewer slots of a format than the peak.
-use Rattle.std.proofs.Common.{◌≡◌, ℕ, ◌≤◌, ◌⊎◌, inl, inr, suc, false, List, [], ◌∷◌, length, map, eqb, refl, ◌∙◌, ap, arith}
+use Rattle.std.proofs.Common.{◌≡◌, ℕ, ◌≤◌, ◌⊎◌, inl, inr, false, List, [], ◌∷◌, length, map, eqb, refl, ◌∙◌, ap, arith}
 use Rattle.std.specs.Prelude.{Option, Some, None}
 use Rattle.std.specs.Cmp.{nat_eq_equiv}
 use Rattle.std.specs.List.{list_any, IsDistinct}
 use Rattle.std.proofs.lemmas.Bool.{ne_eqb, or_parts, eqb-true, eq-eqb}
+use Rattle.std.proofs.lemmas.List.{length-map}
 use Rattle.std.proofs.lemmas.Map.Made.{length-le_from_is_member}
 use Rattle.vx_base.specs.declared.format.Format.{Format}
 use Rattle.vx_base.specs.declared.node.Node.{Node}
@@ -17,7 +18,7 @@ use Rattle.buffer_plan.specs.Lives.{is_live}
 use Rattle.buffer_plan.specs.Plan.{PlanValue, IsPlan}
 use Rattle.buffer_plan.specs.Slots.{of_format, live_images, IsValid, AreSlotsOf}
 use Rattle.buffer_plan.proofs.OnceLemmas.{once-filter, not_again}
-use Rattle.buffer_plan.proofs.PlacingLemmas.{by_recursion-from_In}
+use Rattle.buffer_plan.proofs.EachLemmas.{by_recursion-from_In}
 
 -- images of different slots have distinct slots
 distinct_slots : (slot : Cell → ℕ) (images : List VirtualOutput) → has_twice (map (λ o. o.cell) images) ≡ false
@@ -33,10 +34,6 @@ distinct_slots slot (o ∷ images) once apart =
       distinct_slots slot images both.1 (λ a b i j. apart a b (inr i) (inr j)),
     )
 
-length-slots : (slot : Cell → ℕ) (images : List VirtualOutput) → length (map (λ (o : VirtualOutput). slot o.cell) images) ≡ length images
-length-slots slot [] = refl
-length-slots slot (o ∷ images) = ap suc (length-slots slot images)
-
 cases_option : (x : Option ℕ) → (x ≡ None) ⊎ ((k : ℕ) × (x ≡ Some k))
 cases_option None = inl refl
 cases_option (Some k) = inr (k, refl)
@@ -46,26 +43,19 @@ enough : (steps : List Node) (images : List VirtualOutput) (format : Format) (st
     → IsValid steps images slot → AreSlotsOf slot format images slots → length (live_images steps images format step) ≤ length slots
 enough steps images format step slot slots once valid has =
     let live = live_images steps images format step in
+    let slot_at = λ (o : VirtualOutput). slot o.cell in
     let once' = once-filter (λ (o : VirtualOutput). o.cell) (λ (o : VirtualOutput). is_live steps o.cell step) (of_format format images)
     (once-filter (λ (o : VirtualOutput). o.cell) (λ (o : VirtualOutput). same_format o.desc.format format) images once) in
-    let distinct = distinct_slots slot (live_images steps images format step) once' (valid format step) in
-    let most = length-le_from_is_member nat_eq_equiv (map (λ (o : VirtualOutput). slot o.cell) (live_images steps images format step)) slots distinct
-    (λ k h.
-    let a = In-from_any (eqb k) (map (λ (o : VirtualOutput). slot o.cell) (live_images steps images format step)) h in
-    let o = In-from_map (λ (z : VirtualOutput). slot z.cell) a.0 (live_images steps images format step) a.1 in
+    let most = length-le_from_is_member nat_eq_equiv (map slot_at live) slots (distinct_slots slot live once' (valid format step)) (λ k h.
+    let a = In-from_any (eqb k) (map slot_at live) h in
+    let o = In-from_map slot_at a.0 live a.1 in
     let i = has o.0 (In-from_filter (λ (z : VirtualOutput). is_live steps z.cell step) o.0 (of_format format images) o.1).0 in
-    let e : k ≡ slot o.0.cell = eqb-true k a.0 a.2 ∙ o.2 in
-    any-from_In (eqb k) (slot o.0.cell) slots i (eq-eqb k (slot o.0.cell) e)) in
-    let n = length-slots slot (live_images steps images format step) in
-    omega arith
+    any-from_In (eqb k) (slot o.0.cell) slots i (eq-eqb k (slot o.0.cell) (eqb-true k a.0 a.2 ∙ o.2))) in
+    omega (arith, most, length-map live slot_at)
 
 pub least : (steps : List Node) (images : List VirtualOutput) (p : PlanValue) (format : Format) → IsPlan steps images p → (slot : Cell → ℕ) → IsValid steps images slot
     → (slots : List ℕ) → AreSlotsOf slot format images slots → p.slot_count format ≤ length slots
 least steps images p format plan slot valid slots has = elim (cases_option (p.peak_step format)) [
-  | inl none ↦ (let zero = (plan.peak format).none none in omega arith)
-  | inr some ↦ (
-      let first = (plan.peak format).some some.0 some.1 in
-      let there = first.there in
-      let most = enough steps images format some.0 slot slots plan.once valid has in
-      omega arith)
+  | inl none ↦ omega (arith, (plan.peak format).none none)
+  | inr some ↦ omega (arith, ((plan.peak format).some some.0 some.1).there, enough steps images format some.0 slot slots plan.once valid has)
 ]

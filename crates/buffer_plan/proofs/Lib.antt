@@ -1,3 +1,4 @@
+pub mod EachLemmas
 pub mod LiveLemmas
 pub mod PlacingLemmas
 pub mod SampleLemmas

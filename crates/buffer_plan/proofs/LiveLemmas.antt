@@ -1,5 +1,5 @@
 -- When images are live, by the first step that writes them and the last that uses them.
-use Rattle.std.proofs.Common.{◌≡◌, ℕ, ◌+◌, ◌-◌, ◌<◌, ◌≤◌, inl, inr, suc, zero, Bool, true, false, cond, List, [], ◌∷◌, ◌++◌, length, take, drop, get_or, ltb, refl, sym, ap, subst, ◌∙◌, arith, append-nil}
+use Rattle.std.proofs.Common.{◌≡◌, ℕ, ◌+◌, ◌-◌, ◌<◌, ◌≤◌, inl, inr, suc, zero, Bool, true, false, cond, List, [], ◌∷◌, ◌++◌, length, take, drop, get_or, ltb, refl, sym, ap, ◌∙◌, arith, append-nil}
 use Rattle.std.specs.Prelude.{◌||◌, Some, None, position}
 use Rattle.std.specs.List.{position_or_len}
 use Rattle.std.proofs.lemmas.Bool.{cases_Bool, or_right, cases_lt, ltb-false}
@@ -15,7 +15,7 @@ use Rattle.graph_verify.specs.Links.{reads, writes, is_written}
 use Rattle.buffer_plan.specs.declared.lives.Life.{Life}
 use Rattle.buffer_plan.specs.Lives.{is_used, is_live, is_in, IsLife, AreLives}
 use Rattle.buffer_plan.specs.Slots.{of_format}
-use Rattle.graph_verify.proofs.MemberLemmas.{In-append}
+use Rattle.buffer_plan.proofs.EachLemmas.{each-push}
 
 -- ---- the last use
 
@@ -58,38 +58,27 @@ unused_past (n ∷ steps) c (suc j) h = unused_past steps c j (omega (arith, h))
 pub is_life : (steps : List Node) (l : Life) → l.first ≡ position_or_len (λ n. writes n l.image.cell) steps + 1 → ((j : ℕ) → is_used (drop j steps) l.image.cell ≡ ltb j l.last) → IsLife steps l
 is_life steps l first last = record { first = first; live = at }
   where
-    c : Cell
-    c = l.image.cell
+    less : (j : ℕ) → suc j - 1 ≡ j
+    less j = omega arith
 
     at : (step : ℕ) → is_live steps l.image.cell step ≡ is_in step l
     at zero = grind (arith, nat_tests)
     at (suc j) = elim (cases_lt j (length steps)) [
-      | inl within ↦ (
-          let less : suc j - 1 ≡ j = omega arith in
-          rw (less, written_by steps l.image.cell (suc j) (omega (arith, within)), last j) (grind (arith, nat_tests)))
-      | inr past ↦ (
-          let less : suc j - 1 ≡ j = omega arith in
-          let none : ltb j l.last ≡ false = sym (last j) ∙ unused_past steps l.image.cell j past in
-          rw (less, last j, none) (grind (arith, nat_tests)))
+      | inl within ↦ rw (less j, written_by steps l.image.cell (suc j) (omega (arith, within)), last j) (grind (arith, nat_tests))
+      | inr past ↦ (let none = sym (last j) ∙ unused_past steps l.image.cell j past in rw (less j, last j, none) (grind (arith, nat_tests)))
     ]
 
 -- ---- how lives are found
 
 pub position_found : (p : Node → Bool) (steps : List Node) (k : ℕ) → Some k ≡ position p steps → k ≡ position_or_len p steps
-position_found p steps k h = elim (cases_Bool (ltb (position_or_len p steps) (length steps))) [
-  | inl less ↦ (let e : Some k ≡ Some (position_or_len p steps) = rw less at h in cc)
-  | inr none ↦ (let e : Some k ≡ None = rw none at h in absurd (cc e))
-]
+position_found p steps k h = grind (arith, cases_Bool (ltb (position_or_len p steps) (length steps)))
 
 position_within : (p : Node → Bool) (steps : List Node) → position_or_len p steps ≤ length steps
 position_within p [] = omega arith
 position_within p (n ∷ steps) = let w = position_within p steps in grind (arith, nat_tests, cases_Bool (p n))
 
 pub position_missing : (p : Node → Bool) (steps : List Node) → None ≡ position p steps → length steps ≡ position_or_len p steps
-position_missing p steps h = elim (cases_Bool (ltb (position_or_len p steps) (length steps))) [
-  | inl less ↦ (let e : None ≡ Some (position_or_len p steps) = rw less at h in absurd (cc e))
-  | inr none ↦ (let a = ltb-false (position_or_len p steps) (length steps) none in let b = position_within p steps in omega arith)
-]
+position_missing p steps h = grind (arith, ltb-false, position_within, cases_Bool (ltb (position_or_len p steps) (length steps)))
 
 module _ (steps : List Node) (format : Format) (images : List VirtualOutput) (i : ℕ) (image : VirtualOutput) (lives : List Life)
     (within : i < length images) (here : image ≡ get_or images i image) (was : AreLives steps (of_format format (take i images)) lives)
@@ -105,10 +94,7 @@ module _ (steps : List Node) (format : Format) (images : List VirtualOutput) (i 
         rw more (record {
           each = map-append (λ (m : Life). m.image) lives (l ∷ []) ∙ ap (λ os. os ++ l.image ∷ []) was.each
               ∙ ap (λ o. of_format format (take i images) ++ o ∷ []) of_it ∙ ap (λ os. of_format format (take i images) ++ os) (sym one) ∙ sym of_format_more;
-          exact = (λ m h. elim (In-append m lives (l ∷ []) h) [
-            | inl j ↦ was.exact m j
-            | inr j ↦ elim j [ inl e ↦ subst (IsLife steps) (sym e) exact | inr none ↦ absurd none ]
-          ]);
+          exact = each-push (IsLife steps) lives l was.exact exact;
         })
 
     pub lives_same : same_format image.desc.format format ≡ false → AreLives steps (of_format format (take (i + 1) images)) lives

@@ -1,7 +1,7 @@
 -- Things whose cells stand in a list once.
 use Rattle.std.proofs.Common.{◌≡◌, inl, inr, Bool, false, List, [], ◌∷◌, map, refl, sym, ◌∙◌, ap}
 use Rattle.std.specs.List.{filter, list_any}
-use Rattle.std.proofs.lemmas.Bool.{cases_Bool, or_parts, or_from}
+use Rattle.std.proofs.lemmas.Bool.{cases_Bool, false_from_ne_true, or_parts, or_from}
 use Rattle.vx_base.specs.Cell.{Cell, same_cell}
 use Rattle.graph_verify.specs.Links.{has_twice}
 use Rattle.graph_verify.specs.Members.{In}
@@ -30,13 +30,10 @@ module _ {X : Type 0} (f : X → Cell) where
       let rest = once-filter p xs both.1 in
       elim (cases_Bool (p x)) [
         | inl k ↦ rw k (or_from (list_any (same_cell (f x)) (map f (filter p xs))) (has_twice (map f (filter p xs)))
-            (elim (cases_Bool (list_any (same_cell (f x)) (map f (filter p xs)))) [
-              | inl some ↦ (
-                  let r = In-from_any (same_cell (f x)) (map f (filter p xs)) some in
-                  let y = In-from_map f r.0 (filter p xs) r.1 in
-                  absurd (not_again x y.0 xs both.0 (In-from_filter p y.0 xs y.1).0 (same_cell-true (f x) r.0 r.2 ∙ y.2)))
-              | inr none ↦ none
-            ])
+            (false_from_ne_true (list_any (same_cell (f x)) (map f (filter p xs))) (λ some.
+            let r = In-from_any (same_cell (f x)) (map f (filter p xs)) some in
+            let y = In-from_map f r.0 (filter p xs) r.1 in
+            not_again x y.0 xs both.0 (In-from_filter p y.0 xs y.1).0 (same_cell-true (f x) r.0 r.2 ∙ y.2)))
             rest)
         | inr k ↦ rw k rest
       ]

@@ -1,19 +1,21 @@
 -- Images that get slots one after the other.
 use Rattle.std.proofs.Common.{◌≡◌, ◌≢◌, ℕ, ◌+◌, ◌<◌, ◌≤◌, inl, inr, suc, zero, true, false, List, [], ◌∷◌, ◌++◌, length, take, get_or, set, map, eqb, leb, refl, sym, ◌∙◌, ap, subst, arith, length-append, get_or-set_other, get_or-set_same, length-set}
 use Rattle.std.specs.Prelude.{Option, Some, None, if◌then◌else◌, ◌==◌}
-use Rattle.std.specs.List.{filter, IsDistinct, AllByRecursion}
+use Rattle.std.specs.List.{filter, IsDistinct}
 use Rattle.std.proofs.Math.Seq.{get_or-append_seam}
 use Rattle.std.proofs.Math.ListN.{get_or-append}
 use Rattle.std.proofs.lemmas.List.{map-append, take_more, take_all}
 use Rattle.std.proofs.lemmas.List.Elements.{filter-append}
 use Rattle.std.proofs.lemmas.Map.Steps.{le-length_from_below, length-le_from_distinct_below}
+use Rattle.std.proofs.lemmas.Bool.Decides.{nat_tests}
 use Rattle.std.proofs.lemmas.Bool.{cases_Bool, cases_eq, leb-true, le-leb, eq-eqb, eqb-true, ne_eqb, and_parts, and_from}
 use Rattle.graph_verify.specs.Members.{In}
-use Rattle.graph_verify.proofs.MemberLemmas.{In-left, In-right, In-append, In-from_any, any-from_In, In-filter, In-from_filter, In-map, In-from_map}
+use Rattle.graph_verify.proofs.MemberLemmas.{In-left, In-right, In-from_any, any-from_In, In-filter, In-from_filter, In-map, In-from_map, In-at}
 use Rattle.buffer_plan.specs.declared.lives.Life.{Life}
 use Rattle.buffer_plan.specs.declared.slots.Placed.{Placed}
 use Rattle.buffer_plan.specs.Lives.{is_in}
 use Rattle.buffer_plan.specs.Placed.{Rising, count_in, TakesSlot, AllApart, IsReached}
+use Rattle.buffer_plan.proofs.EachLemmas.{by_recursion-from_In, each-push}
 
 -- ---- steps of a life
 
@@ -25,19 +27,12 @@ in_life-from s l a b = and_from (leb l.first s) (leb s l.last) (le-leb l.first s
 
 -- ---- the slots of what is live at a step are distinct
 
-pub by_recursion-from_In : {X : Type 0} (P : X → Type 0) (xs : List X) → ((x : X) → In x xs → P x) → AllByRecursion P xs
-by_recursion-from_In P [] h = tt
-by_recursion-from_In P (x ∷ xs) h = (h x (inl refl), by_recursion-from_In P xs (λ y i. h y (inr i)))
-
 abbrev live_slots : ℕ → List Placed → List ℕ
 live_slots s placed = map (λ p. p.slot) (filter (λ p. is_in s p.life) placed)
 
 length-live_slots : (s : ℕ) (placed : List Placed) → length (live_slots s placed) ≡ count_in s (map (λ p. p.life) placed)
 length-live_slots s [] = refl
-length-live_slots s (p ∷ ps) = elim (cases_Bool (is_in s p.life)) [
-  | inl k ↦ rw k (ap suc (length-live_slots s ps))
-  | inr k ↦ rw k (length-live_slots s ps)
-]
+length-live_slots s (p ∷ ps) = grind (arith, length-live_slots s ps, cases_Bool (is_in s p.life))
 
 In-live_slots : (s : ℕ) (p : Placed) (ps : List Placed) → In p ps → is_in s p.life ≡ true → In p.slot (live_slots s ps)
 In-live_slots s p ps h e = In-map (λ (q : Placed). q.slot) p (filter (λ q. is_in s q.life) ps) (In-filter (λ q. is_in s q.life) p ps h e)
@@ -63,29 +58,18 @@ live_slots_distinct s (p ∷ ps) h = elim (cases_Bool (is_in s p.life)) [
 -- so many slots are needed as are live at a step
 pub count-within : (s : ℕ) (placed : List Placed) (n : ℕ) → AllApart placed → ((p : Placed) → In p placed → p.slot < n) → count_in s (map (λ p. p.life) placed) ≤ n
 count-within s placed n apart below =
-    let l = length-le_from_distinct_below (live_slots s placed) n (live_slots_distinct s placed apart)
-    (λ q a.
+    let few = length-le_from_distinct_below (live_slots s placed) n (live_slots_distinct s placed apart) (λ q a.
     let r = In-from_any (eqb q) (live_slots s placed) a in
     let t = from_live_slots s r.0 placed r.1 in
-    let e : q ≡ r.0 = eqb-true q r.0 r.2 in
-    let b = below t.0 t.1 in
-    let f = t.3 in
-    omega arith) in
-    let e = length-live_slots s placed in
-    omega arith
+    omega (arith, eqb-true q r.0 r.2, below t.0 t.1, t.3)) in
+    omega (arith, few, length-live_slots s placed)
 
 -- ---- an image more
 
 AllApart-push : (ps : List Placed) (q : Placed) → AllApart ps → ((p : Placed) (s : ℕ) → In p ps → is_in s p.life ≡ true → is_in s q.life ≡ true → p.slot ≢ q.slot) → AllApart (ps ++ q ∷ [])
 AllApart-push [] q h new = ((λ r s i. absurd i), tt)
 AllApart-push (p ∷ ps) q h new = (
-  (λ r s i a b. elim (In-append r ps (q ∷ []) i) [
-    | inl j ↦ h.0 r s j a b
-    | inr j ↦ elim j [
-      | inl e ↦ (λ f. new p s (inl refl) a (ap (λ (z : Placed). is_in s z.life) (sym e) ∙ b) (f ∙ ap (λ (z : Placed). z.slot) e))
-      | inr k ↦ absurd k
-    ]
-  ]),
+  (λ r s i a. each-push (λ z. is_in s z.life ≡ true → p.slot ≢ z.slot) ps q (λ z j. h.0 z s j a) (new p s (inl refl) a) r i),
   AllApart-push ps q h.1 (λ r s i. new r s (inr i)),
 )
 
@@ -99,10 +83,7 @@ count-push_later : (s : ℕ) (ps : List Placed) (q : Placed) → is_in s q.life 
 count-push_later s ps q h = simp (map-append, filter-append, length-append) (rw h (omega arith))
 
 not_yet : (s : ℕ) (l : Life) → s < l.first → is_in s l ≡ false
-not_yet s l less = elim (cases_Bool (is_in s l)) [
-  | inl live ↦ (let r = in_life s l live in let a = r.0 in absurd (omega arith))
-  | inr none ↦ none
-]
+not_yet s l less = grind (arith, nat_tests)
 
 -- what the slots' ends and the images that have one keep
 pub record IsFine (ends : List ℕ) (placed : List Placed) : Type 0 where
@@ -117,88 +98,36 @@ pub record IsPeaking (step : ℕ) (count : ℕ) (placed : List Placed) : Type 0 
   pub fewer : (earlier : ℕ) → earlier < step → count_in earlier (map (λ p. p.life) placed) < count
   pub opener : (p : Placed) × In p placed × (p.life.first ≡ step)
 
--- the new image takes a slot whose holders have ended
-fine-reused : (ends : List ℕ) (placed : List Placed) (q : Placed) → q.slot < length ends → get_or ends q.slot 0 < q.life.first → q.life.first ≤ q.life.last → IsFine ends placed → IsFine (set ends q.slot q.life.last) (placed ++ q ∷ [])
-fine-reused ends placed q lt free proper fine =
-    let len : length (set ends q.slot q.life.last) ≡ length ends = length-set ends q.slot q.life.last in
-    let end_here : get_or (set ends q.slot q.life.last) q.slot 0 ≡ q.life.last = get_or-set_same ends q.slot q.life.last 0 lt in
+-- the new image takes a slot that is new, or whose holders have ended
+fine-more : (ends ends' : List ℕ) (placed : List Placed) (q : Placed) → length ends ≤ length ends' → q.slot < length ends' → get_or ends' q.slot 0 ≡ q.life.last
+    → ((k : ℕ) → k ≢ q.slot → k < length ends' → (k < length ends) × (get_or ends' k 0 ≡ get_or ends k 0))
+    → (q.slot < length ends → get_or ends q.slot 0 < q.life.first) → q.life.first ≤ q.life.last → IsFine ends placed → IsFine ends' (placed ++ q ∷ [])
+fine-more ends ends' placed q more there at others free proper fine =
     record {
-      held = (λ p i. elim (In-append p placed (q ∷ []) i) [
-        | inl j ↦ (
-            let h = fine.held p j in
-            let a = h.0 in
-            let b = h.1 in
+      held = each-push (λ p. (p.slot < length ends') × (p.life.last ≤ get_or ends' p.slot 0)) placed q
+          (λ p i.
+          let h = fine.held p i in
+          let here : p.slot < length ends' = omega (arith, h.0) in (
+            here,
             elim (cases_eq p.slot q.slot) [
-              | inl e ↦ (
-                  let same : get_or (set ends q.slot q.life.last) p.slot 0 ≡ q.life.last = rw e end_here in
-                  let was : get_or ends p.slot 0 ≡ get_or ends q.slot 0 = ap (λ z. get_or ends z 0) e in
-                  (omega arith, omega arith))
-              | inr ne ↦ (
-                  let same : get_or (set ends q.slot q.life.last) p.slot 0 ≡ get_or ends p.slot 0 = get_or-set_other ends q.slot p.slot q.life.last 0 ne in
-                  (omega arith, omega arith))
-            ])
-        | inr j ↦ elim j [
-          | inl e ↦ (
-              let pk : p.slot ≡ q.slot = ap (λ (z : Placed). z.slot) e in
-              let pl : p.life.last ≡ q.life.last = ap (λ (z : Placed). z.life.last) e in
-              let same : get_or (set ends q.slot q.life.last) p.slot 0 ≡ q.life.last = rw pk end_here in
-              (omega arith, omega arith))
-          | inr b ↦ absurd b
-        ]
-      ]);
-      holder = (λ j h. elim (cases_eq j q.slot) [
-        | inl e ↦ (q, In-right q placed (q ∷ []) (inl refl), sym e, (let same : get_or (set ends q.slot q.life.last) j 0 ≡ q.life.last = rw e end_here in sym same))
+              | inl e ↦ omega (arith, ended p i e, at, ap (λ k. get_or ends' k 0) e)
+              | inr ne ↦ omega (arith, h.1, (others p.slot ne here).1)
+            ],
+          ))
+          (there, omega (arith, at));
+      holder = (λ k h. elim (cases_eq k q.slot) [
+        | inl e ↦ (q, In-right q placed (q ∷ []) (inl refl), sym e, sym (ap (λ j. get_or ends' j 0) e ∙ at))
         | inr ne ↦ (
-            let within : j < length ends = omega arith in
-            let r = fine.holder j within in
-            (r.0, In-left r.0 placed (q ∷ []) r.1, r.2, r.3 ∙ sym (get_or-set_other ends q.slot j q.life.last 0 ne)))
+            let same = others k ne h in
+            let r = fine.holder k same.0 in
+            (r.0, In-left r.0 placed (q ∷ []) r.1, r.2, r.3 ∙ sym same.1))
       ]);
-      apart = AllApart-push placed q fine.apart (λ p s i a b e.
-          let h = fine.held p i in
-          let x = in_life s p.life a in
-          let y = in_life s q.life b in
-          let was : get_or ends p.slot 0 ≡ get_or ends q.slot 0 = ap (λ z. get_or ends z 0) e in
-          let c1 = h.1 in
-          let c2 = x.1 in
-          let c3 = y.0 in
-          absurd (omega arith));
+      apart = AllApart-push placed q fine.apart (λ p s i a b e. absurd (omega (arith, ended p i e, (in_life s p.life a).1, (in_life s q.life b).0)));
     }
-
--- no slot is free, and the new image takes a new one
-fine-new : (ends : List ℕ) (placed : List Placed) (q : Placed) → q.slot ≡ length ends → IsFine ends placed → IsFine (ends ++ q.life.last ∷ []) (placed ++ q ∷ [])
-fine-new ends placed q new fine =
-    let len : length (ends ++ q.life.last ∷ []) ≡ length ends + 1 = length-append ends (q.life.last ∷ []) in
-    let end_new : get_or (ends ++ q.life.last ∷ []) (length ends) 0 ≡ q.life.last = get_or-append_seam ends q.life.last [] 0 in
-    let end_old : (k : ℕ) → k < length ends → get_or (ends ++ q.life.last ∷ []) k 0 ≡ get_or ends k 0 = λ k h. get_or-append ends (q.life.last ∷ []) 0 k h in
-    record {
-      held = (λ p i. elim (In-append p placed (q ∷ []) i) [
-        | inl j ↦ (
-            let h = fine.held p j in
-            let o = end_old p.slot h.0 in
-            let a = h.0 in
-            let b = h.1 in
-            (omega arith, omega arith))
-        | inr j ↦ elim j [
-          | inl e ↦ (
-              let pk : p.slot ≡ length ends = ap (λ (z : Placed). z.slot) e ∙ new in
-              let pl : p.life.last ≡ q.life.last = ap (λ (z : Placed). z.life.last) e in
-              let same : get_or (ends ++ q.life.last ∷ []) p.slot 0 ≡ q.life.last = rw pk end_new in
-              (omega arith, omega arith))
-          | inr b ↦ absurd b
-        ]
-      ]);
-      holder = (λ j h. elim (cases_eq j (length ends)) [
-        | inl e ↦ (q, In-right q placed (q ∷ []) (inl refl), (new ∙ sym e), (let same : get_or (ends ++ q.life.last ∷ []) j 0 ≡ q.life.last = rw e end_new in sym same))
-        | inr ne ↦ (
-            let within : j < length ends = omega arith in
-            let r = fine.holder j within in
-            (r.0, In-left r.0 placed (q ∷ []) r.1, r.2, r.3 ∙ sym (end_old j within)))
-      ]);
-      apart = AllApart-push placed q fine.apart (λ p s i a b e.
-          let h = fine.held p i in
-          let c = h.0 in
-          absurd (omega arith));
-    }
+  where
+    -- the holders have
+    ended : (p : Placed) → In p placed → p.slot ≡ q.slot → p.life.last < q.life.first
+    ended p i e = let h = fine.held p i in omega (arith, h.1, free (omega (arith, h.0, e)), ap (λ k. get_or ends k 0) e)
 
 -- where none is free, all slots are live as the new image begins
 peaking-new : (ends : List ℕ) (placed : List Placed) (q : Placed) → ((k : ℕ) → k < length ends → q.life.first ≤ get_or ends k 0)
@@ -207,20 +136,13 @@ peaking-new ends placed q full earlier proper fine =
     record {
       some = omega arith;
       there = (
-          let n = le-length_from_below (live_slots q.life.first placed) (length ends) (λ k h.
+          let all = le-length_from_below (live_slots q.life.first placed) (length ends) (λ k h.
           let r = fine.holder k h in
-          let up = full k h in
-          let lo = earlier r.0 r.1 in
-          let end = r.3 in
-          let live : is_in q.life.first r.0.life ≡ true = in_life-from q.life.first r.0.life lo (omega arith) in
+          let live = in_life-from q.life.first r.0.life (earlier r.0 r.1) (omega (arith, full k h, r.3)) in
           any-from_In (eqb k) r.0.slot (live_slots q.life.first placed) (In-live_slots q.life.first r.0 placed r.1 live) (eq-eqb k r.0.slot (sym r.2))) in
-          let m = length-live_slots q.life.first placed in
-          let c = count-push_live q.life.first placed q (in_life-from q.life.first q.life (omega arith) proper) in
-          omega arith);
+          omega (arith, all, length-live_slots q.life.first placed, count-push_live q.life.first placed q (in_life-from q.life.first q.life (omega arith) proper)));
       fewer = (λ s less.
-          let same = count-push_later s placed q (not_yet s q.life less) in
-          let most = count-within s placed (length ends) fine.apart (λ p i. (fine.held p i).0) in
-          omega arith);
+          omega (arith, count-push_later s placed q (not_yet s q.life less), count-within s placed (length ends) fine.apart (λ p i. (fine.held p i).0)));
       opener = (q, In-right q placed (q ∷ []) (inl refl), refl);
     }
 
@@ -228,44 +150,24 @@ peaking-new ends placed q full earlier proper fine =
 peaking-reused : (step count : ℕ) (placed : List Placed) (q : Placed) → ((p : Placed) → In p placed → p.life.first ≤ q.life.first) → IsPeaking step count placed → IsPeaking step count (placed ++ q ∷ [])
 peaking-reused step count placed q earlier peak =
     let o = peak.opener in
-    let from = earlier o.0 o.1 in
-    let at_step = o.2 in
     record {
       some = peak.some;
-      there = (let more = count-push step placed q in let was = peak.there in omega arith);
-      fewer = (λ s less.
-          let same = count-push_later s placed q (not_yet s q.life (omega arith)) in
-          let was = peak.fewer s less in
-          omega arith);
+      there = omega (arith, count-push step placed q, peak.there);
+      fewer = (λ s less. omega (arith, count-push_later s placed q (not_yet s q.life (omega (arith, less, earlier o.0 o.1, o.2))), peak.fewer s less));
       opener = (o.0, In-left o.0 placed (q ∷ []) o.1, o.2);
     }
 
 -- ---- lives in the order of their beginnings
-
-In-take : {X : Type 0} (x : X) (xs : List X) (i : ℕ) → In x (take i xs) → In x xs
-In-take x [] zero h = h
-In-take x [] (suc i) h = h
-In-take x (y ∷ xs) zero h = absurd h
-In-take x (y ∷ xs) (suc i) (inl e) = inl e
-In-take x (y ∷ xs) (suc i) (inr h) = inr (In-take x xs i h)
 
 rising-proper : (lives : List Life) (i : ℕ) (d : Life) → Rising lives → i < length lives → (get_or lives i d).first ≤ (get_or lives i d).last
 rising-proper [] i d rising h = absurd (omega (arith, h))
 rising-proper (l ∷ lives) zero d rising h = rising.0
 rising-proper (l ∷ lives) (suc i) d rising h = rising-proper lives i d rising.2 (omega (arith, h))
 
-In-at : {X : Type 0} (xs : List X) (k : ℕ) (d : X) → k < length xs → In (get_or xs k d) xs
-In-at [] k d h = absurd (omega (arith, h))
-In-at (y ∷ ys) zero d h = inl refl
-In-at (y ∷ ys) (suc k) d h = inr (In-at ys k d (omega (arith, h)))
-
 rising-before : (lives : List Life) (i : ℕ) (d m : Life) → Rising lives → i < length lives → In m (take i lives) → m.first ≤ (get_or lives i d).first
 rising-before [] i d m rising h before = absurd (omega (arith, h))
 rising-before (l ∷ lives) zero d m rising h before = absurd before
-rising-before (l ∷ lives) (suc i) d m rising h (inl e) =
-    let later = rising.1 (get_or lives i d) (In-at lives i d (omega (arith, h))) in
-    let f : m.first ≡ l.first = ap (λ (z : Life). z.first) e in
-    omega arith
+rising-before (l ∷ lives) (suc i) d m rising h (inl e) = omega (arith, rising.1 (get_or lives i d) (In-at lives i d (omega (arith, h))), ap (λ (z : Life). z.first) e)
 rising-before (l ∷ lives) (suc i) d m rising h (inr before) = rising-before lives i d m rising.2 (omega (arith, h)) before
 
 -- the first i images have their slots
@@ -276,15 +178,6 @@ pub record IsPlacing (lives : List Life) (i : ℕ) (ends : List ℕ) (placed : L
   pub fine : Rising lives → IsFine ends placed
   pub peaking : Rising lives → (step : ℕ) → peak ≡ Some step → IsPeaking step (length ends) placed
 
-pub placing_none : (lives : List Life) → IsPlacing lives 0 [] [] None
-placing_none lives = record {
-  each = refl;
-  below = (λ p i. absurd i);
-  none = (λ e. refl);
-  fine = (λ rising. record { held = (λ p i. absurd i); holder = (λ k h. absurd (omega (arith, h))); apart = tt });
-  peaking = (λ rising step e. absurd (cc e));
-}
-
 module _ (lives : List Life) (i : ℕ) (ends : List ℕ) (placed : List Placed) (peak : Option ℕ) (q : Placed)
     (within : i < length lives) (here : q.life ≡ get_or lives i q.life) (was : IsPlacing lives i ends placed peak)
   where
@@ -294,29 +187,21 @@ module _ (lives : List Life) (i : ℕ) (ends : List ℕ) (placed : List Placed) 
 
     earlier : Rising lives → (p : Placed) → In p placed → p.life.first ≤ q.life.first
     earlier rising p h =
-        let before : In p.life (take i lives) = subst (In p.life) was.each (In-map (λ (z : Placed). z.life) p placed h) in
-        let less = rising-before lives i q.life p.life rising within before in
-        let same : (get_or lives i q.life).first ≡ q.life.first = ap (λ (z : Life). z.first) (sym here) in
-        omega arith
+        let before = rising-before lives i q.life p.life rising within (subst (In p.life) was.each (In-map (λ (z : Placed). z.life) p placed h)) in
+        omega (arith, before, ap (λ (z : Life). z.first) here)
 
     proper : Rising lives → q.life.first ≤ q.life.last
-    proper rising =
-        let less = rising-proper lives i q.life rising within in
-        let first : (get_or lives i q.life).first ≡ q.life.first = ap (λ (z : Life). z.first) (sym here) in
-        let last : (get_or lives i q.life).last ≡ q.life.last = ap (λ (z : Life). z.last) (sym here) in
-        omega arith
+    proper rising = omega (arith, rising-proper lives i q.life rising within, ap (λ (z : Life). z.first) here, ap (λ (z : Life). z.last) here)
 
     placing_reused : q.slot < length ends → get_or ends q.slot 0 < q.life.first → IsPlacing lives (i + 1) (set ends q.slot q.life.last) (placed ++ q ∷ []) peak
     placing_reused lt free =
         let len : length (set ends q.slot q.life.last) ≡ length ends = length-set ends q.slot q.life.last in
         record {
           each = all_lives;
-          below = (λ p j. elim (In-append p placed (q ∷ []) j) [
-            | inl k ↦ (let b = was.below p k in omega arith)
-            | inr k ↦ elim k [ inl e ↦ (let s : p.slot ≡ q.slot = ap (λ (z : Placed). z.slot) e in omega arith) | inr none ↦ absurd none ]
-          ]);
+          below = each-push (λ p. p.slot < length (set ends q.slot q.life.last)) placed q (λ p k. omega (arith, was.below p k, len)) (omega arith);
           none = (λ e. len ∙ was.none e);
-          fine = (λ rising. fine-reused ends placed q lt free (proper rising) (was.fine rising));
+          fine = (λ rising. fine-more ends (set ends q.slot q.life.last) placed q (omega arith) (omega arith) (get_or-set_same ends q.slot q.life.last 0 lt)
+              (λ k ne h. (omega arith, get_or-set_other ends q.slot k q.life.last 0 ne)) (λ _. free) (proper rising) (was.fine rising));
           peaking = (λ rising step e. rw len (peaking-reused step (length ends) placed q (earlier rising) (was.peaking rising step e)));
         }
 
@@ -325,28 +210,20 @@ module _ (lives : List Life) (i : ℕ) (ends : List ℕ) (placed : List Placed) 
         let len : length (ends ++ q.life.last ∷ []) ≡ length ends + 1 = length-append ends (q.life.last ∷ []) in
         record {
           each = all_lives;
-          below = (λ p j. elim (In-append p placed (q ∷ []) j) [
-            | inl k ↦ (let b = was.below p k in omega arith)
-            | inr k ↦ elim k [ inl e ↦ (let s : p.slot ≡ q.slot = ap (λ (z : Placed). z.slot) e in omega arith) | inr none ↦ absurd none ]
-          ]);
+          below = each-push (λ p. p.slot < length (ends ++ q.life.last ∷ [])) placed q (λ p k. omega (arith, was.below p k, len)) (omega arith);
           none = (λ e. absurd (cc e));
-          fine = (λ rising. fine-new ends placed q new (was.fine rising));
+          fine = (λ rising. fine-more ends (ends ++ q.life.last ∷ []) placed q (omega arith) (omega arith) (rw new (get_or-append_seam ends q.life.last [] 0))
+              (λ k ne h. let less : k < length ends = omega arith in (less, get_or-append ends (q.life.last ∷ []) 0 k less)) (λ lt. absurd (omega arith)) (proper rising) (was.fine rising));
           peaking = (λ rising step e.
               let s : q.life.first ≡ step = cc e in
-              rw len (subst (λ z. IsPeaking z (length ends + 1) (placed ++ q ∷ [])) s (peaking-new ends placed q full (earlier rising) (proper rising) (was.fine rising))));
+              rw (len, ← s) (peaking-new ends placed q full (earlier rising) (proper rising) (was.fine rising)));
         }
 
     pub placing_more : (ends' : List ℕ) (placed' : List Placed) (peak' : Option ℕ) → TakesSlot q.life ends ends' q.slot → placed' ≡ placed ++ q ∷ []
         → peak' ≡ (if q.slot == length ends then Some q.life.first else peak) → IsPlacing lives (i + 1) ends' placed' peak'
     placing_more ends' placed' peak' takes more peaks = elim takes [
-      | inl reused ↦ (
-          let ne : (q.slot == length ends) ≡ false = ne_eqb q.slot (length ends) (λ e. let lt = reused.0 in absurd (omega arith)) in
-          let p : peak' ≡ peak = peaks ∙ ap (λ b. if b then Some q.life.first else peak) ne in
-          rw (more, reused.2, p) (placing_reused reused.0 reused.1))
-      | inr new ↦ (
-          let eq : (q.slot == length ends) ≡ true = eq-eqb q.slot (length ends) new.0 in
-          let p : peak' ≡ Some q.life.first = peaks ∙ ap (λ b. if b then Some q.life.first else peak) eq in
-          rw (more, new.1, p) (placing_new new.0 new.2))
+      | inl reused ↦ rw (more, reused.2, peaks, ne_eqb q.slot (length ends) (λ e. absurd (omega (arith, e, reused.0)))) (placing_reused reused.0 reused.1)
+      | inr new ↦ rw (more, new.1, peaks, eq-eqb q.slot (length ends) new.0) (placing_new new.0 new.2)
     ]
 
 -- what holds in the end

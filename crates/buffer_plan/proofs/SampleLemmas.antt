@@ -1,12 +1,14 @@
 -- The greatest sample counts of slots.
-use Rattle.std.proofs.Common.{◌≡◌, ℕ, ◌+◌, ◌<◌, ◌≤◌, inl, inr, true, false, cond, List, [], ◌∷◌, ◌++◌, length, take, get_or, set, map, refl, sym, ◌∙◌, ap, arith, get_or-set_other, get_or-set_same, append-nil}
+use Rattle.std.proofs.Common.{◌≡◌, ℕ, ◌+◌, ◌<◌, ◌≤◌, inl, inr, cond, List, [], ◌∷◌, ◌++◌, length, take, get_or, set, map, sym, ◌∙◌, ap, subst, arith, get_or-set_other, get_or-set_same, append-nil}
 use Rattle.std.specs.Prelude.{nat_le, ◌==◌}
 use Rattle.std.specs.List.{filter}
 use Rattle.std.proofs.lemmas.List.{map-append, take_more}
 use Rattle.std.proofs.lemmas.List.Elements.{filter-append}
-use Rattle.std.proofs.lemmas.Bool.{cases_eq, eq-eqb, ne_eqb, le-leb, lt-leb}
+use Rattle.std.proofs.lemmas.Bool.{cases_Bool, cases_eq}
 use Rattle.std.proofs.lemmas.Bool.Decides.{nat_tests}
 use Rattle.vx_base.specs.Description.{sample_count}
+use Rattle.graph_verify.specs.Members.{In}
+use Rattle.graph_verify.proofs.MemberLemmas.{In-at}
 use Rattle.buffer_plan.specs.declared.slots.Placed.{Placed}
 use Rattle.buffer_plan.specs.Placed.{samples_in}
 use Rattle.buffer_plan.specs.Slots.{greatest}
@@ -19,44 +21,26 @@ module _ (placed : List Placed) (i : ℕ) (q : Placed) (within : i < length plac
   one_more : take (i + 1) placed ≡ take i placed ++ q ∷ []
   one_more = take_more placed i q within ∙ ap (λ p. take i placed ++ p ∷ []) (sym here)
 
-  more_in : (k : ℕ) → samples_in (take (i + 1) placed) k
-      ≡ greatest (map (λ (p : Placed). sample_count p.life.image.desc) (filter (λ (p : Placed). p.slot == k) (take i placed))
-      ++ map (λ (p : Placed). sample_count p.life.image.desc) (filter (λ (p : Placed). p.slot == k) (q ∷ [])))
-  more_in k = ap (λ ps. samples_in ps k) one_more
-      ∙ ap (λ ps. greatest (map (λ (p : Placed). sample_count p.life.image.desc) ps)) (filter-append (λ (p : Placed). p.slot == k) (take i placed) (q ∷ []))
-      ∙ ap greatest (map-append (λ (p : Placed). sample_count p.life.image.desc) (filter (λ (p : Placed). p.slot == k) (take i placed)) (filter (λ (p : Placed). p.slot == k) (q ∷ [])))
+  -- its slot is one of those that there are
+  pub has_slot : (samples : List ℕ) (count : ℕ) → length samples ≡ count → ((p : Placed) → In p placed → p.slot < count) → q.slot < length samples
+  has_slot samples count long below = omega (arith, long, below q (subst (λ p. In p placed) (sym here) (In-at placed i q within)))
 
   -- the slot of the new image, and the others
-  samples_here : samples_in (take (i + 1) placed) q.slot ≡ cond (nat_le (sample_count q.life.image.desc) (samples_in (take i placed) q.slot)) (samples_in (take i placed) q.slot) (sample_count q.life.image.desc)
-  samples_here =
-      let same : (q.slot == q.slot) ≡ true = eq-eqb q.slot q.slot refl in
-      more_in q.slot
-      ∙ ap (λ b. greatest (map (λ (p : Placed). sample_count p.life.image.desc) (filter (λ (p : Placed). p.slot == q.slot) (take i placed)) ++ map (λ (p : Placed). sample_count p.life.image.desc) (cond b (q ∷ []) []))) same
-      ∙ greatest-push (map (λ (p : Placed). sample_count p.life.image.desc) (filter (λ (p : Placed). p.slot == q.slot) (take i placed))) (sample_count q.life.image.desc)
-
-  samples_beside : (k : ℕ) → (q.slot == k) ≡ false → samples_in (take (i + 1) placed) k ≡ samples_in (take i placed) k
-  samples_beside k other =
-      more_in k
-      ∙ ap (λ b. greatest (map (λ (p : Placed). sample_count p.life.image.desc) (filter (λ (p : Placed). p.slot == k) (take i placed)) ++ map (λ (p : Placed). sample_count p.life.image.desc) (cond b (q ∷ []) []))) other
-      ∙ ap greatest (append-nil (map (λ (p : Placed). sample_count p.life.image.desc) (filter (λ (p : Placed). p.slot == k) (take i placed))))
+  samples_more : (k : ℕ) → samples_in (take (i + 1) placed) k
+      ≡ cond (q.slot == k) (cond (nat_le (sample_count q.life.image.desc) (samples_in (take i placed) k)) (samples_in (take i placed) k) (sample_count q.life.image.desc)) (samples_in (take i placed) k)
+  samples_more k =
+      let before = map (λ (p : Placed). sample_count p.life.image.desc) (filter (λ (p : Placed). p.slot == k) (take i placed)) in
+      rw one_more (simp (filter-append, map-append) (elim (cases_Bool (q.slot == k)) [
+        | inl here ↦ rw here (greatest-push before (sample_count q.life.image.desc))
+        | inr other ↦ rw other (ap greatest (append-nil before))
+      ]))
 
   pub samples_grow : (samples : List ℕ) → q.slot < length samples → ((k : ℕ) → get_or samples k 0 ≡ samples_in (take i placed) k) → get_or samples q.slot 0 < sample_count q.life.image.desc
       → (k : ℕ) → get_or (set samples q.slot (sample_count q.life.image.desc)) k 0 ≡ samples_in (take (i + 1) placed) k
-  samples_grow samples within_samples was less k = elim (cases_eq k q.slot) [
-    | inl e ↦ rw e (
-        let now = was q.slot in
-        let fails : nat_le (sample_count q.life.image.desc) (samples_in (take i placed) q.slot) ≡ false = lt-leb (sample_count q.life.image.desc) (samples_in (take i placed) q.slot) (omega arith) in
-        get_or-set_same samples q.slot (sample_count q.life.image.desc) 0 within_samples
-        ∙ sym (samples_here ∙ ap (λ b. cond b (samples_in (take i placed) q.slot) (sample_count q.life.image.desc)) fails))
-    | inr ne ↦ get_or-set_other samples q.slot k (sample_count q.life.image.desc) 0 ne ∙ was k ∙ sym (samples_beside k (ne_eqb q.slot k (λ e. ne (sym e))))
-  ]
+  samples_grow samples there was less k =
+      let n = sample_count q.life.image.desc in
+      grind (arith, nat_tests, samples_more k, was k, get_or-set_same samples q.slot n 0 there, get_or-set_other samples q.slot k n 0, cases_eq k q.slot)
 
   pub samples_stay : (samples : List ℕ) → ((k : ℕ) → get_or samples k 0 ≡ samples_in (take i placed) k) → sample_count q.life.image.desc ≤ get_or samples q.slot 0
       → (k : ℕ) → get_or samples k 0 ≡ samples_in (take (i + 1) placed) k
-  samples_stay samples was less k = elim (cases_eq k q.slot) [
-    | inl e ↦ rw e (
-        let now = was q.slot in
-        let passes : nat_le (sample_count q.life.image.desc) (samples_in (take i placed) q.slot) ≡ true = le-leb (sample_count q.life.image.desc) (samples_in (take i placed) q.slot) (omega arith) in
-        now ∙ sym (samples_here ∙ ap (λ b. cond b (samples_in (take i placed) q.slot) (sample_count q.life.image.desc)) passes))
-    | inr ne ↦ was k ∙ sym (samples_beside k (ne_eqb q.slot k (λ e. ne (sym e))))
-  ]
+  samples_stay samples was less k = grind (arith, nat_tests, samples_more k, was k, cases_eq k q.slot)

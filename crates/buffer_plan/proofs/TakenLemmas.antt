@@ -1,13 +1,12 @@
 -- What stands in a slot as another image takes it.
-use Rattle.std.proofs.Common.{◌≡◌, ◌≢◌, ℕ, ◌+◌, ◌-◌, ◌⊎◌, inl, inr, suc, Bool, true, false, List, [], ◌∷◌, ◌++◌, length, take, drop, refl, sym, ◌∙◌, ap, subst, arith}
-use Rattle.std.specs.Prelude.{◌||◌, ◌&&◌}
-use Rattle.std.specs.List.{list_any, filter}
+use Rattle.std.proofs.Common.{◌≡◌, ◌≢◌, ◌+◌, ◌-◌, suc, true, false, List, [], ◌∷◌, ◌++◌, length, take, drop, refl, ◌∙◌, ap, arith}
+use Rattle.std.specs.Prelude.{◌||◌}
+use Rattle.std.proofs.Math.Bool.{or-false}
 use Rattle.std.proofs.Math.Seq.{drop-append_seam}
-use Rattle.std.proofs.lemmas.Bool.{cases_Bool, or_left, or_right, and_from}
+use Rattle.std.proofs.lemmas.Bool.{false_from_ne_true, or_left, or_right, and_from}
 use Rattle.std.proofs.lemmas.List.Folds.{list_any-append}
 use Rattle.vx_base.specs.declared.node.Node.{Node}
 use Rattle.vx_base.specs.Cell.{Cell}
-use Rattle.vx_base.specs.Sample.{same_format}
 use Rattle.graph_verify.specs.declared.known.VirtualOutput.{VirtualOutput}
 use Rattle.graph_verify.specs.Links.{reads, writes, is_written}
 use Rattle.graph_verify.specs.Members.{In}
@@ -15,7 +14,7 @@ use Rattle.graph_verify.proofs.MemberLemmas.{In-filter}
 use Rattle.buffer_plan.specs.Lives.{is_used, is_live}
 use Rattle.buffer_plan.specs.Plan.{IsPlan, PlanValue}
 use Rattle.buffer_plan.specs.Slots.{of_format}
-use Rattle.buffer_plan.proofs.PlanLemmas.{same_format-refl}
+use Rattle.buffer_plan.proofs.PlanLemmas.{In-format}
 
 take_one : (before after : List Node) (n : Node) → take (length before + 1) (before ++ n ∷ after) ≡ before ++ n ∷ []
 take_one [] after n = refl
@@ -23,44 +22,32 @@ take_one (m ∷ before) after n =
     let more : length (m ∷ before) + 1 ≡ suc (length before + 1) = omega arith in
     rw more (ap (λ ns. m ∷ ns) (take_one before after n))
 
-or_nothing : (b : Bool) → (b || false) ≡ b
-or_nothing true = refl
-or_nothing false = refl
-
 -- a cell that has been written, this step's own included, and is used from this step on
 live_now : (before after : List Node) (n : Node) (c : Cell) → (is_written before c || writes n c) ≡ true → is_used (n ∷ after) c ≡ true → is_live (before ++ n ∷ after) c (length before + 1) ≡ true
 live_now before after n c written used =
     let here : length before + 1 - 1 ≡ length before = omega arith in
-    let begun : is_written (take (length before + 1) (before ++ n ∷ after)) c ≡ true =
-    ap (λ ns. is_written ns c) (take_one before after n) ∙ list_any-append (λ m. writes m c) before (n ∷ [])
-    ∙ ap (λ b. is_written before c || b) (or_nothing (writes n c)) ∙ written in
-    let later : is_used (drop (length before + 1 - 1) (before ++ n ∷ after)) c ≡ true =
-    ap (λ k. is_used (drop k (before ++ n ∷ after)) c) here ∙ ap (λ ns. is_used ns c) (drop-append_seam before (n ∷ after)) ∙ used in
-    and_from (is_written (take (length before + 1) (before ++ n ∷ after)) c) (is_used (drop (length before + 1 - 1) (before ++ n ∷ after)) c) begun later
+    let steps = before ++ n ∷ after in
+    let begun : is_written (take (length before + 1) steps) c ≡ true =
+    ap (λ ns. is_written ns c) (take_one before after n) ∙ list_any-append (λ m. writes m c) before (n ∷ []) ∙ ap (λ b. is_written before c || b) (or-false (writes n c)) ∙ written in
+    let later = ap (λ k. is_used (drop k steps) c) here ∙ ap (λ ns. is_used ns c) (drop-append_seam before (n ∷ after)) ∙ used in
+    and_from (is_written (take (length before + 1) steps) c) (is_used (drop (length before + 1 - 1) steps) c) begun later
 
 -- of two images in one slot, of which a step writes one, the other is that one if it has been written and is used again
 pub one_when_taken : (before after : List Node) (n : Node) (images : List VirtualOutput) (p : PlanValue) → IsPlan (before ++ n ∷ after) images p → (taken held : VirtualOutput)
     → In taken images → In held images → held.desc.format ≡ taken.desc.format → writes n taken.cell ≡ true → (is_written before held.cell || writes n held.cell) ≡ true
     → is_used (n ∷ after) held.cell ≡ true → p.slot_of held.cell ≡ p.slot_of taken.cell → held ≡ taken
 one_when_taken before after n images p plan taken held i j format writer written used same =
-    let uses : is_used (n ∷ after) taken.cell ≡ true =
-    or_left (reads n taken.cell || writes n taken.cell) (is_used after taken.cell) (or_right (reads n taken.cell) (writes n taken.cell) writer) in
+    let uses = or_left (reads n taken.cell || writes n taken.cell) (is_used after taken.cell) (or_right (reads n taken.cell) (writes n taken.cell) writer) in
     let a = live_now before after n taken.cell (or_right (is_written before taken.cell) (writes n taken.cell) writer) uses in
-    let b = live_now before after n held.cell written used in
-    let taken_live = In-filter (λ (o : VirtualOutput). is_live (before ++ n ∷ after) o.cell (length before + 1)) taken (of_format taken.desc.format images)
-    (In-filter (λ (o : VirtualOutput). same_format o.desc.format taken.desc.format) taken images i (same_format-refl taken.desc.format)) a in
-    let held_live = In-filter (λ (o : VirtualOutput). is_live (before ++ n ∷ after) o.cell (length before + 1)) held (of_format taken.desc.format images)
-    (In-filter (λ (o : VirtualOutput). same_format o.desc.format taken.desc.format) held images j
-    (ap (λ g. same_format g taken.desc.format) format ∙ same_format-refl taken.desc.format)) b in
-    plan.valid taken.desc.format (length before + 1) held taken held_live taken_live same
+    let live = λ (o : VirtualOutput). is_live (before ++ n ∷ after) o.cell (length before + 1) in
+    let f = taken.desc.format in
+    let taken_live = In-filter live taken (of_format f images) (In-format f taken images i refl) a in
+    let held_live = In-filter live held (of_format f images) (In-format f held images j format) (live_now before after n held.cell written used) in
+    plan.valid f (length before + 1) held taken held_live taken_live same
 
 pub free_when_taken : (before after : List Node) (n : Node) (images : List VirtualOutput) (p : PlanValue) → IsPlan (before ++ n ∷ after) images p → (taken held : VirtualOutput)
     → In taken images → In held images → held.desc.format ≡ taken.desc.format → writes n taken.cell ≡ true → is_written before held.cell ≡ true
     → p.slot_of held.cell ≡ p.slot_of taken.cell → held.cell ≢ taken.cell → is_used (n ∷ after) held.cell ≡ false
-free_when_taken before after n images p plan taken held i j format writer written same other = elim (cases_Bool (is_used (n ∷ after) held.cell)) [
-  | inl used ↦
-      (let one =
-      one_when_taken before after n images p plan taken held i j format writer (or_left (is_written before held.cell) (writes n held.cell) written) used same in
-      absurd (other (ap (λ (o : VirtualOutput). o.cell) one)))
-  | inr none ↦ none
-]
+free_when_taken before after n images p plan taken held i j format writer written same other = false_from_ne_true (is_used (n ∷ after) held.cell) (λ used.
+    let both = or_left (is_written before held.cell) (writes n held.cell) written in
+    other (ap (λ (o : VirtualOutput). o.cell) (one_when_taken before after n images p plan taken held i j format writer both used same)))

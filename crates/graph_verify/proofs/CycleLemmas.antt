@@ -58,13 +58,7 @@ cycle_from_fed {N} feeds x xs fed =
 -- what feeds each node of a chain, its end included
 fed_on_chain : {N : Type 0} (feeds : N → N → Bool) (a : N) (xs : List N) (b n : N) → Chain feeds a xs b → In n xs ⊎ (n ≡ b) → (m : N) × In m (a ∷ xs) × (feeds m n ≡ true)
 fed_on_chain feeds a [] b n h i = elim i [ inl k ↦ absurd k | inr e ↦ (a, inl refl, ap (feeds a) e ∙ h) ]
-fed_on_chain feeds a (x ∷ xs) b n h i = elim i [
-  | inl k ↦ elim k [
-    | inl e ↦ (a, inl refl, ap (feeds a) e ∙ h.0)
-    | inr l ↦ (let r = fed_on_chain feeds x xs b n h.1 (inl l) in (r.0, inr r.1, r.2))
-  ]
-  | inr e ↦ (let r = fed_on_chain feeds x xs b n h.1 (inr e) in (r.0, inr r.1, r.2))
-]
+fed_on_chain feeds a (x ∷ xs) b n h i = grind (arith, fed_on_chain feeds x xs b n h.1)
 
 pub fed_from_cycle : {N : Type 0} (feeds : N → N → Bool) (ns : List N) → IsCycle feeds ns → Fed feeds ns
 fed_from_cycle feeds [] h = λ n i. absurd h
@@ -113,11 +107,7 @@ length-filter_le p (x ∷ xs) = grind (arith, length-filter_le p xs, cases_Bool 
 -- a filter that takes nothing away takes all
 all_pass : {X : Type 0} (p : X → Bool) (xs : List X) → length xs ≤ length (filter p xs) → (x : X) → In x xs → p x ≡ true
 all_pass p [] h x i = absurd i
-all_pass p (y ∷ ys) h x i = elim (cases_Bool (p y)) [
-  | inl k ↦ (let g : length (y ∷ ys) ≤ length (y ∷ filter p ys) = rw k at h in let g2 : length ys ≤ length (filter p ys) = omega arith in
-      elim i [ inl e ↦ ap p e ∙ k | inr j ↦ all_pass p ys g2 x j ])
-  | inr k ↦ (let g : length (y ∷ ys) ≤ length (filter p ys) = rw k at h in let l = length-filter_le p ys in absurd (omega arith))
-]
+all_pass p (y ∷ ys) h x i = grind (arith, all_pass p ys, length-filter_le p ys, cases_Bool (p y))
 
 -- `left_after` of at least as many rounds as there are nodes leaves nodes that feed each other
 Fed-waiting : {N : Type 0} (feeds : N → N → Bool) (g : List N) → Fed feeds g → Fed feeds (waiting feeds g)

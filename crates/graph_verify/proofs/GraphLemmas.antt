@@ -1,10 +1,10 @@
 -- Graphs with one more node, and with one less.
-use Rattle.std.proofs.Common.{◌≡◌, ℕ, ◌+◌, ◌<◌, Bool, true, false, cond, List, [], ◌∷◌, length, IsTrue, refl, ap, ◌∙◌, arith}
+use Rattle.std.proofs.Common.{◌≡◌, ℕ, ◌+◌, ◌<◌, Bool, true, List, [], ◌∷◌, length, IsTrue, refl, ◌∙◌, arith}
 use Rattle.std.specs.Prelude.{Some, ◌==◌, not, find}
 use Rattle.std.specs.List.{filter, list_any, items_where_true}
 use Rattle.std.specs.List.Retain.{IsFiltered, ReturnsInTurn}
 use Rattle.std.specs.Option.{is_none}
-use Rattle.std.proofs.lemmas.Bool.{eqb-true}
+use Rattle.std.proofs.lemmas.Bool.{cases_Bool, eqb-true}
 use Rattle.std.proofs.lemmas.Bool.Decides.{nat_tests}
 use Rattle.std.proofs.lemmas.List.{length_push}
 use Rattle.std.proofs.lemmas.List.Elements.{All-push, All-filter, All-weaker}
@@ -37,14 +37,7 @@ module _ {X P : Type 0} (R : P → X → Bool → P → Type 0) (I : P → Type 
       picked p q (x ∷ xs) [] i same answers = absurd (omega (arith, same))
       picked p q (x ∷ xs) (b ∷ bs) i same answers =
           let said = says p x b answers.0 i answers.1 in
-          let others = picked answers.0 q xs bs said.1 (omega (arith, same)) answers.2 in
-          either b (test x) said.0 others
-        where
-          either : (b c : Bool) → b ≡ c → items_where_true bs xs ≡ filter test xs → items_where_true (b ∷ bs) (x ∷ xs) ≡ cond c (x ∷ filter test xs) (filter test xs)
-          either true true same h = ap (λ l. x ∷ l) h
-          either false false same h = h
-          either true false same h = absurd (cc)
-          either false true same h = absurd (cc)
+          grind (arith, said.0, picked answers.0 q xs bs said.1 (omega (arith, same)) answers.2, cases_Bool b)
 
 -- what is found under a number has that number
 pub find_numbered : (nodes : List Numbered) (number : ℕ) (n : Numbered) → find (λ k. k.number == number) nodes ≡ Some n → find (λ k. k.number == number) nodes ≡ Some (record { number = number; node = n.node })

@@ -14,7 +14,7 @@ use Rattle.vx_base.specs.Outline.{Outline, filled}
 use Rattle.graph_verify.specs.declared.known.Known.{Known}
 use Rattle.graph_verify.specs.declared.linked.Linked.{Linked}
 use Rattle.graph_verify.specs.declared.operand.Operand.{Operand}
-use Rattle.graph_verify.specs.declared.operand.Operand.TheVariants.{Image, Lut, Threshold, Delay, Convolution, Distribution, Extremes, Graph, Virtual}
+use Rattle.graph_verify.specs.declared.operand.Operand.TheVariants.{Image, Virtual}
 use Rattle.graph_verify.specs.declared.operand.Operands.{Operands}
 use Rattle.graph_verify.specs.Members.{In}
 use Rattle.graph_verify.specs.Known.{known_of, known_outline, learnt, learnt_from, known_operand, known_operands, AreKnown}
@@ -66,13 +66,7 @@ module _ (is : Cell → Operand) where
       → ((n : Node) → In n all → writes n c ≡ true → In n done) → known_outline known c o ≡ outlines is all c
   outline_known all done known solves h c (Image d) e image writers_done = sym (image_outline is all c d e)
   outline_known all done known solves h c (Virtual declared) e image writers_done = virtual_known all done known solves h c declared e writers_done
-  outline_known all done known solves h c (Lut f) e image writers_done = absurd (cc image)
-  outline_known all done known solves h c (Threshold f) e image writers_done = absurd (cc image)
-  outline_known all done known solves h c Delay e image writers_done = absurd (cc image)
-  outline_known all done known solves h c Convolution e image writers_done = absurd (cc image)
-  outline_known all done known solves h c Distribution e image writers_done = absurd (cc image)
-  outline_known all done known solves h c Extremes e image writers_done = absurd (cc image)
-  outline_known all done known solves h c Graph e image writers_done = absurd (cc image)
+  outline_known all done known solves h c other e image writers_done = absurd (cc image)
 
   -- ---- one more node
 
@@ -129,9 +123,6 @@ module _ (is : Cell → Operand) where
           ]
         ]);
       }
-
-  pub learn_none : (all : List Node) → AreLearnt all [] []
-  learn_none all = record { cells = refl; each = (λ k i. absurd i) }
 
   -- one more of the steps
   pub learn_next : (steps : List Linked) (i : ℕ) (l : Linked) (known known' : List Known) → i < length steps → l ≡ get_or steps i l → two_writers (linked_nodes steps) ≡ false

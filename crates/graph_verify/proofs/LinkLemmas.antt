@@ -22,9 +22,8 @@ use Rattle.graph_verify.proofs.OrderLemmas.{is_fed}
 
 same_slot-true : (a b : Option ℕ) → same_slot a b ≡ true → a ≡ b
 same_slot-true None None h = refl
-same_slot-true None (Some y) h = absurd (cc h)
-same_slot-true (Some x) None h = absurd (cc h)
 same_slot-true (Some x) (Some y) h = ap {B = Option ℕ} Some (eqb-true x y h)
+same_slot-true a b h = absurd (cc h)
 
 pub same_cell-true : (a b : Cell) → same_cell a b ≡ true → a ≡ b
 same_cell-true a b h = grind (arith, and_parts (a.name == b.name) (same_slot a.slot b.slot) h)
@@ -52,23 +51,23 @@ same-from_In c cs h = any-from_In (same_cell c) c cs h (same_cell-refl c)
 pub feeds_is : (m n : Node) (c : Cell) → writes m c ≡ true → reads n c ≡ true → feeds m n ≡ true
 feeds_is m n c w r = any-from_In (reads n) c (outputs m) (In-from_same c (outputs m) w) r
 
+pub same_tests : (a b : Bool) → (a ≡ true → b ≡ true) → (b ≡ true → a ≡ true) → a ≡ b
+same_tests true b to from = sym (to refl)
+same_tests false true to from = from refl
+same_tests false false to from = refl
+
 -- a node is fed by those that write what it reads
 pub is_fed-written : (g : List Node) (n : Node) → is_fed feeds g n ≡ list_any (is_written g) (inputs n)
-is_fed-written g n = elim (cases_Bool (list_any (is_written g) (inputs n))) [
-  | inl some ↦ (
-      let input = In-from_any (is_written g) (inputs n) some in
-      let writer = In-from_any (λ m. writes m input.0) g input.2 in
-      any-from_In (λ m. feeds m n) writer.0 g writer.1 (feeds_is writer.0 n input.0 writer.2 (same-from_In input.0 (inputs n) input.1)) ∙ sym some)
-  | inr none ↦ elim (cases_Bool (is_fed feeds g n)) [
-    | inl fed ↦ (
-        let feeder = In-from_any (λ m. feeds m n) g fed in
-        let cell = In-from_any (reads n) (outputs feeder.0) feeder.2 in
-        let written = any-from_In (λ m. writes m cell.0) feeder.0 g feeder.1 (same-from_In cell.0 (outputs feeder.0) cell.1) in
-        let some = any-from_In (is_written g) cell.0 (inputs n) (In-from_same cell.0 (inputs n) cell.2) written in
-        absurd (cc))
-    | inr unfed ↦ unfed ∙ sym none
-  ]
-]
+is_fed-written g n = sym (same_tests (list_any (is_written g) (inputs n)) (is_fed feeds g n)
+    (λ some.
+    let input = In-from_any (is_written g) (inputs n) some in
+    let writer = In-from_any (λ m. writes m input.0) g input.2 in
+    any-from_In (λ m. feeds m n) writer.0 g writer.1 (feeds_is writer.0 n input.0 writer.2 (same-from_In input.0 (inputs n) input.1)))
+    (λ fed.
+    let feeder = In-from_any (λ m. feeds m n) g fed in
+    let cell = In-from_any (reads n) (outputs feeder.0) feeder.2 in
+    let written = any-from_In (λ m. writes m cell.0) feeder.0 g feeder.1 (same-from_In cell.0 (outputs feeder.0) cell.1) in
+    any-from_In (is_written g) cell.0 (inputs n) (In-from_same cell.0 (inputs n) cell.2) written))
 
 -- ---- no cell stands twice in a list
 
@@ -121,32 +120,20 @@ none_counted p (x ∷ xs) h = let r = or_parts (p x) (list_any p xs) h in let e 
 
 none_since_count : {X : Type 0} (p : X → Bool) (xs : List X) → counted p xs ≡ 0 → list_any p xs ≡ false
 none_since_count p [] h = refl
-none_since_count p (x ∷ xs) h = elim (cases_Bool (p x)) [
-  | inl k ↦ (let g : 1 + counted p xs ≡ 0 = rw k at h in absurd (omega arith))
-  | inr k ↦ (let g : counted p xs ≡ 0 = rw k at h in or_from (p x) (list_any p xs) k (none_since_count p xs g))
-]
+none_since_count p (x ∷ xs) h = grind (arith, none_since_count p xs, cases_Bool (p x))
 
 counted_once : (xs : List Cell) (c : Cell) → has_twice xs ≡ false → counted (same_cell c) xs ≤ 1
 counted_once [] c h = omega arith
 counted_once (x ∷ xs) c h =
     let r = or_parts (list_any (same_cell x) xs) (has_twice xs) h in
-    elim (cases_Bool (same_cell c x)) [
-      | inl k ↦ (let e : c ≡ x = same_cell-true c x k in
-          let z : counted (same_cell c) xs ≡ 0 = ap (λ d. counted (same_cell d) xs) e ∙ none_counted (same_cell x) xs r.0 in rw k (omega arith))
-      | inr k ↦ (let i = counted_once xs c r.1 in rw k i)
-    ]
+    grind (arith, same_cell-true c x, none_counted (same_cell x) xs r.0, counted_once xs c r.1, cases_Bool (same_cell c x))
 
 once_since_count : (xs : List Cell) → ((c : Cell) → counted (same_cell c) xs ≤ 1) → has_twice xs ≡ false
 once_since_count [] h = refl
 once_since_count (x ∷ xs) h =
-    let k : same_cell x x ≡ true = same_cell-refl x in
-    let one : counted (same_cell x) (x ∷ xs) ≤ 1 = h x in
-    let same : counted (same_cell x) (x ∷ xs) ≡ 1 + counted (same_cell x) xs = rw k refl in
-    or_from (list_any (same_cell x) xs) (has_twice xs) (none_since_count (same_cell x) xs (omega arith))
-    (once_since_count xs (λ c. let o = h c in elim (cases_Bool (same_cell c x)) [
-      | inl j ↦ (let s : counted (same_cell c) (x ∷ xs) ≡ 1 + counted (same_cell c) xs = rw j refl in omega arith)
-      | inr j ↦ (let s : counted (same_cell c) (x ∷ xs) ≡ counted (same_cell c) xs = rw j refl in omega arith)
-    ]))
+    let none : counted (same_cell x) xs ≡ 0 = grind (arith, h x, same_cell-refl x) in
+    or_from (list_any (same_cell x) xs) (has_twice xs) (none_since_count (same_cell x) xs none)
+    (once_since_count xs (λ c. grind (arith, h c, cases_Bool (same_cell c x))))
 
 counted-append : {X : Type 0} (p : X → Bool) (xs ys : List X) → counted p (xs ++ ys) ≡ counted p xs + counted p ys
 counted-append p [] ys = omega arith
@@ -161,11 +148,13 @@ totalled-permutation f xs ys h = is_sum_by (totalled f) f refl (λ _ _. refl) ys
 
 pub two_writers-permutation : (g steps : List Node) → IsPermutation g steps → two_writers g ≡ false → two_writers steps ≡ false
 two_writers-permutation g steps same h = once_since_count (flat_map outputs steps) (λ c.
-    let a = counted_once (flat_map outputs g) c h in
-    let b = counted-flat_map (same_cell c) g in
-    let d = counted-flat_map (same_cell c) steps in
-    let e = totalled-permutation (λ n. counted (same_cell c) (outputs n)) g steps same in
-    omega arith)
+    omega (
+      arith,
+      counted_once (flat_map outputs g) c h,
+      counted-flat_map (same_cell c) g,
+      counted-flat_map (same_cell c) steps,
+      totalled-permutation (λ n. counted (same_cell c) (outputs n)) g steps same,
+    ))
 
 -- ---- the test of the writers, node by node
 

@@ -1,9 +1,9 @@
 -- Members of lists.
-use Rattle.std.proofs.Common.{◌≡◌, ℕ, ◌+◌, ◌<◌, ◌≤◌, ◌⊎◌, inl, inr, suc, zero, Bool, true, false, List, [], ◌∷◌, ◌++◌, length, get_or, map, refl, sym, ap, subst, ◌∙◌, arith}
+use Rattle.std.proofs.Common.{◌≡◌, ℕ, ◌<◌, ◌≤◌, ◌⊎◌, inl, inr, suc, zero, Bool, true, false, List, [], ◌∷◌, ◌++◌, length, get_or, map, refl, sym, ap, subst, ◌∙◌, arith}
 use Rattle.std.specs.Prelude.{◌||◌, None, position}
 use Rattle.std.specs.List.{filter, flat_map, list_any, Contains, remove, position_or_len}
 use Rattle.std.specs.List.Sorted.{IsPermutation}
-use Rattle.std.proofs.lemmas.Bool.{cases_Bool, or_cases, or_left, or_right, ltb-false}
+use Rattle.std.proofs.lemmas.Bool.{cases_Bool, or_left, or_right, ltb-false}
 use Rattle.std.proofs.lemmas.List.Sorted.{Contains-permutation, IsPermutation-sym}
 use Rattle.graph_verify.specs.Members.{In, AllIn}
 
@@ -25,10 +25,7 @@ module _ {X : Type 0} where
   -- what some member passes
   pub In-from_any : (p : X → Bool) (xs : List X) → list_any p xs ≡ true → (x : X) × In x xs × (p x ≡ true)
   In-from_any p [] h = absurd (cc h)
-  In-from_any p (x ∷ xs) h = elim (or_cases (p x) (list_any p xs) h) [
-    | inl passes ↦ (x, inl refl, passes)
-    | inr others ↦ (let r = In-from_any p xs others in (r.0, inr r.1, r.2))
-  ]
+  In-from_any p (x ∷ xs) h = grind (arith, In-from_any p xs, cases_Bool (p x))
 
   pub any-from_In : (p : X → Bool) (x : X) (xs : List X) → In x xs → p x ≡ true → list_any p xs ≡ true
   any-from_In p x [] h passes = absurd h
@@ -46,11 +43,7 @@ module _ {X : Type 0} where
 
   pub In-from_filter : (p : X → Bool) (x : X) (xs : List X) → In x (filter p xs) → In x xs × (p x ≡ true)
   In-from_filter p x [] h = absurd h
-  In-from_filter p x (y ∷ xs) h = elim (cases_Bool (p y)) [
-    | inl k ↦ (let g : In x (y ∷ filter p xs) = rw k at h in
-        elim g [ inl same ↦ (inl same, ap p same ∙ k) | inr i ↦ (let r = In-from_filter p x xs i in (inr r.0, r.1)) ])
-    | inr k ↦ (let g : In x (filter p xs) = rw k at h in let r = In-from_filter p x xs g in (inr r.0, r.1))
-  ]
+  In-from_filter p x (y ∷ xs) h = grind (arith, In-from_filter p x xs, cases_Bool (p y))
 
   pub In-map : {Y : Type 0} (f : X → Y) (x : X) (xs : List X) → In x xs → In (f x) (map f xs)
   In-map f x [] h = absurd h
@@ -90,11 +83,7 @@ module _ {X : Type 0} where
   -- what `position` says where it finds none
   none_pass : (p : X → Bool) (xs : List X) → length xs ≤ position_or_len p xs → (x : X) → In x xs → p x ≡ false
   none_pass p [] h x i = absurd i
-  none_pass p (y ∷ ys) h x i = elim (cases_Bool (p y)) [
-    | inl k ↦ (let g : length (y ∷ ys) ≤ 0 = rw k at h in absurd (omega arith))
-    | inr k ↦ (let g : length (y ∷ ys) ≤ 1 + position_or_len p ys = rw k at h in
-        elim i [ inl same ↦ ap p same ∙ k | inr j ↦ none_pass p ys (omega arith) x j ])
-  ]
+  none_pass p (y ∷ ys) h x i = grind (arith, none_pass p ys, cases_Bool (p y))
 
   pub position-None : (p : X → Bool) (xs : List X) → position p xs ≡ None → (x : X) → In x xs → p x ≡ false
   position-None p xs h = grind (arith, none_pass, cases_Bool, ltb-false)
@@ -121,7 +110,4 @@ In-flat_map f x y (z ∷ xs) (inr h) k = In-right y (f z) (flat_map f xs) (In-fl
 
 pub In-from_flat_map : {X Y : Type 0} (f : X → List Y) (y : Y) (xs : List X) → In y (flat_map f xs) → (x : X) × In x xs × In y (f x)
 In-from_flat_map f y [] h = absurd h
-In-from_flat_map f y (x ∷ xs) h = elim (In-append y (f x) (flat_map f xs) h) [
-  | inl i ↦ (x, inl refl, i)
-  | inr j ↦ (let r = In-from_flat_map f y xs j in (r.0, inr r.1, r.2))
-]
+In-from_flat_map f y (x ∷ xs) h = grind (arith, In-from_flat_map f y xs, In-append y (f x) (flat_map f xs))

@@ -2,7 +2,7 @@
 use Rattle.std.proofs.Common.{◌≡◌, ◌≢◌, ℕ, Bool, true, false, List, [], ◌∷◌, ◌++◌, Option, Some, None, refl, sym, ap, ◌∙◌, inl, inr, arith}
 use Rattle.std.specs.Prelude.{not, if◌then◌else◌}
 use Rattle.std.specs.List.{list_any, list_all, flat_map}
-use Rattle.std.specs.Option.{option_or, option_and_then}
+use Rattle.std.specs.Option.{option_and_then}
 use Rattle.std.proofs.lemmas.Bool.{cases_Bool, or_parts, or_from, and_parts}
 use Rattle.std.proofs.lemmas.List.Folds.{list_any-append}
 use Rattle.vx_base.specs.declared.format.Format.{Format}
@@ -17,18 +17,18 @@ use Rattle.vx_base.specs.Cell.{Cell, same_cell}
 use Rattle.vx_base.specs.Node.{inputs, outputs}
 use Rattle.graph_verify.specs.declared.operand.Operand.{Operand}
 use Rattle.graph_verify.specs.declared.operand.Operands.{Operands}
-use Rattle.graph_verify.specs.declared.verdict.Verdict.{Verdict}
 use Rattle.graph_verify.specs.declared.verdict.Verdict.TheVariants.{InvalidFormat, InvalidDimension}
 use Rattle.graph_verify.specs.Members.{In}
 use Rattle.graph_verify.specs.Links.{feeds, has_twice}
 use Rattle.graph_verify.specs.Cycle.{has_cycle}
 use Rattle.graph_verify.specs.Operand.{operand_format, are_of_one_size, written_operands, other_operands, operands_of}
 use Rattle.graph_verify.specs.Outlines.{resolved}
-use Rattle.graph_verify.specs.Verdict.{two_writers, first_fault, node_fault, writes_twice, reads_own_output, verdict_on, takes_first, takes_operands}
+use Rattle.graph_verify.specs.Verdict.{two_writers, node_fault, writes_twice, reads_own_output, verdict_on, takes_first, takes_operands}
 use Rattle.graph_verify.proofs.MemberLemmas.{In-from_any}
 use Rattle.graph_verify.proofs.LinkLemmas.{same-from_In, feeds_is, once_after}
 use Rattle.graph_verify.proofs.CycleLemmas.{has_cycle-from_cycle}
 use Rattle.graph_verify.proofs.VerdictLemmas.{CanRun}
+use Rattle.graph_verify.proofs.VerifyLemmas.{first_fault-None}
 
 -- in the front of a list in which no cell stands twice none does
 no_twice_before : (xs ys : List Cell) → has_twice (xs ++ ys) ≡ false → has_twice xs ≡ false
@@ -51,24 +51,10 @@ cycle_of_one nodes n member own =
     let cell = In-from_any (λ a. list_any (same_cell a) (outputs n)) (inputs n) own in
     has_cycle-from_cycle feeds nodes (n ∷ [], feeds_is n n cell.0 cell.2 (same-from_In cell.0 (inputs n) cell.1), λ x i. elim i [ inl e ↦ rw e member | inr k ↦ absurd k ])
 
--- none of the nodes has a fault where there is no first one
-no_fault_each : (is : Cell → Operand) (nodes : List Node) (n : Node) → first_fault is nodes ≡ None → In n nodes → node_fault n.function (operands_of is n) ≡ None
-no_fault_each is [] n h member = absurd member
-no_fault_each is (m ∷ nodes) n h (inl e) = ap (λ (k : Node). node_fault k.function (operands_of is k)) e ∙ first (node_fault m.function (operands_of is m)) (first_fault is nodes) h
-  where
-    first : (o p : Option Verdict) → option_or o p ≡ None → o ≡ None
-    first None p none = refl
-    first (Some v) p none = absurd (cc none)
-no_fault_each is (m ∷ nodes) n h (inr later) = no_fault_each is nodes n (rest (node_fault m.function (operands_of is m)) (first_fault is nodes) h) later
-  where
-    rest : (o p : Option Verdict) → option_or o p ≡ None → p ≡ None
-    rest None p none = none
-    rest (Some v) p none = absurd (cc none)
-
 -- a node of a graph that can run can run by itself, on what its cells are found to be
 pub runs_alone : (work : ℕ) (is : Cell → Operand) (nodes : List Node) (n : Node) → CanRun work is nodes → In n nodes → verdict_on n (operands_of (resolved is nodes) n) ≡ None
 runs_alone work is nodes n can member =
-    grind (arith, no_twice_each nodes n can.one_writer member, cases_Bool (reads_own_output n), no_fault_each (resolved is nodes) nodes n can.no_fault member, no_twice_each, cases_Bool, cycle_of_one, no_fault_each)
+    grind (arith, no_twice_each nodes n can.one_writer member, cases_Bool (reads_own_output n), first_fault-None (resolved is nodes) nodes can.no_fault n member, no_twice_each, cases_Bool, cycle_of_one)
 
 -- ---- what a node without a fault writes
 

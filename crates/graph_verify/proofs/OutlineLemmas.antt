@@ -20,9 +20,6 @@ use Rattle.graph_verify.proofs.OrderLemmas.{no_cycle_from_order}
 use Rattle.graph_verify.proofs.SolutionLemmas.{rounds_solve, only_solution}
 
 module _ (is : Cell → Operand) where
-  declared_outline : Cell → Outline
-  declared_outline c = operand_outline (is c)
-
   -- a node gives its outputs what its first input has
   pub reads_alone : ReadsAlone reads (written_outline is)
   reads_alone n a b same c = grind (arith, or_left, same_cell-refl)

@@ -60,10 +60,6 @@ module _ {N C V : Type 0} (reads writes : N → C → Bool) (feeds : N → N →
     abbrev Agrees : List N → (C → V) → (C → V) → Type 0
     Agrees rest a b = (c : C) → ((n : N) → In n rest → writes n c ≡ false) → a c ≡ b c
 
-    -- where the nodes of `rest` feed a node in no way, it reads what is settled
-    reads_settled : (rest : List N) (a b : C → V) → Agrees rest a b → (m : N) → ((k : N) → In k rest → feeds k m ≡ false) → (c : C) → value m a c ≡ value m b c
-    reads_settled rest a b agree m h = reads_alone m a b (λ d r. agree d (λ k i. false_from_ne_true (writes k d) (λ w. let p = h k i in let q = feeds_is k m d w r in cc)))
-
     Agrees-next : (g : List N) (held b : C → V) → IsSolution writes value g held b → (n : N) (rest : List N) (a : C → V)
         → InTurn feeds (n ∷ rest) → AllIn (n ∷ rest) g → Settled g (n ∷ rest) → Agrees (n ∷ rest) a b → Agrees rest (round writes value g a) b
     Agrees-next g held b sol n rest a turn within s agree c h = grind (arith, round_cases g a c)
@@ -86,11 +82,6 @@ module _ {N C V : Type 0} (reads writes : N → C → Bool) (feeds : N → N →
         → (c : C) → rounds writes value g (length g) held c ≡ once writes value steps held c
     once_is_rounds g steps held turn to from same one =
         solution_is_rounds g steps held (once writes value steps held) turn to from same (once_solves g steps held turn one to from)
-
-    -- there is one solution
-    pub solutions_agree : (g steps : List N) (held a b : C → V) → InTurn feeds steps → AllIn g steps → AllIn steps g → length steps ≡ length g
-        → IsSolution writes value g held a → IsSolution writes value g held b → (c : C) → a c ≡ b c
-    solutions_agree g steps held a b turn to from same p q c = grind (arith, solution_is_rounds g steps held a turn to from same p c, solution_is_rounds g steps held b turn to from same q c)
 
     -- the rounds give a solution
     pub rounds_solve : (g steps : List N) (held : C → V) → InTurn feeds steps → AllIn g steps → AllIn steps g → length steps ≡ length g → OneWriter writes steps

@@ -1,8 +1,9 @@
 -- The graph of one node.
-use Rattle.std.proofs.Common.{◌≡◌, ℕ, Bool, true, false, cond, List, [], ◌∷◌, ◌++◌, append-nil, refl, ◌∙◌, ap, arith}
+use Rattle.std.proofs.Common.{◌≡◌, ℕ, false, cond, List, [], ◌∷◌, ◌++◌, append-nil, refl, ◌∙◌, ap, arith}
 use Rattle.std.specs.Prelude.{Option, Some, None, ◌||◌, ◌&&◌, not, nat_le, if◌then◌else◌}
 use Rattle.std.specs.Option.{option_map, option_or}
 use Rattle.std.specs.List.{list_any, filter}
+use Rattle.std.proofs.Math.Bool.{or-false}
 use Rattle.std.proofs.lemmas.Bool.{or_parts}
 use Rattle.std.proofs.lemmas.Bool.Decides.{nat_tests}
 use Rattle.std.proofs.lemmas.List.Folds.{list_any-append}
@@ -11,7 +12,7 @@ use Rattle.vx_base.specs.Cell.{Cell}
 use Rattle.vx_base.specs.Node.{given, inputs, outputs}
 use Rattle.vx_base.specs.Outline.{Outline}
 use Rattle.graph_verify.specs.declared.operand.Operand.{Operand}
-use Rattle.graph_verify.specs.declared.operand.Operand.TheVariants.{Image, Lut, Threshold, Delay, Convolution, Distribution, Extremes, Graph, Virtual}
+use Rattle.graph_verify.specs.declared.operand.Operand.TheVariants.{Virtual}
 use Rattle.graph_verify.specs.declared.verdict.Verdict.{Verdict}
 use Rattle.graph_verify.specs.declared.verdict.Verdict.TheVariants.{NoResources}
 use Rattle.graph_verify.specs.Cycle.{has_cycle}
@@ -21,13 +22,9 @@ use Rattle.graph_verify.specs.Outlines.{outlines, as_known, resolved}
 use Rattle.graph_verify.specs.Verdict.{reads_own_output, verdict_on, is_loose, verdict}
 use Rattle.graph_verify.proofs.LinkLemmas.{is_fed-written, any_agree}
 
-or_false : (b : Bool) → (b || false) ≡ b
-or_false true = refl
-or_false false = refl
-
 -- a node feeds itself where it reads what it writes
 feeds_itself : (n : Node) → feeds n n ≡ reads_own_output n
-feeds_itself n = grind (arith, or_false (feeds n n), is_fed-written (n ∷ []) n, any_agree (is_written (n ∷ [])) (writes n) (inputs n) (λ c. or_false (writes n c)))
+feeds_itself n = grind (arith, or-false (feeds n n), is_fed-written (n ∷ []) n, any_agree (is_written (n ∷ [])) (writes n) (inputs n) (λ c. or-false (writes n c)))
 
 cycle_of_one : (n : Node) → has_cycle feeds (n ∷ []) ≡ reads_own_output n
 cycle_of_one n = grind (arith, feeds_itself n)
@@ -58,14 +55,7 @@ module _ (is : Cell → Operand) where
   -- what isn't virtual is known
   as_it_is : (o : Operand) (known : Outline) → is_virtual o ≡ false → as_known o known ≡ o
   as_it_is (Virtual declared) known h = absurd (cc h)
-  as_it_is (Image d) known h = refl
-  as_it_is (Lut f) known h = refl
-  as_it_is (Threshold f) known h = refl
-  as_it_is Delay known h = refl
-  as_it_is Convolution known h = refl
-  as_it_is Distribution known h = refl
-  as_it_is Extremes known h = refl
-  as_it_is Graph known h = refl
+  as_it_is other known h = refl
 
   given_as_it_is : (nodes : List Node) (cell : Option Cell) → NoneVirtual (given cell) → option_map (resolved is nodes) cell ≡ option_map is cell
   given_as_it_is nodes None h = refl
@@ -76,4 +66,4 @@ module _ (is : Cell → Operand) where
 
 pub verdict_on_one : (work : ℕ) (is : Cell → Operand) (n : Node) → list_any (λ c. is_virtual (is c)) (inputs n ++ outputs n) ≡ false → verdict work is (n ∷ []) ≡ verdict_on n (operands_of is n)
 verdict_on_one work is n h =
-    grind (arith, append-nil (outputs n), or_false (list_any (is_loose is (n ∷ [])) (inputs n)), nothing_fits work, operands_as_they_are is (n ∷ []) n h, cycle_of_one n, or_parts, list_any-append, append-nil, or_false, none_loose, none_written, nothing_fits, operands_as_they_are, cycle_of_one, nothing_more)
+    grind (arith, append-nil (outputs n), or-false (list_any (is_loose is (n ∷ [])) (inputs n)), nothing_fits work, operands_as_they_are is (n ∷ []) n h, cycle_of_one n, or_parts, list_any-append, append-nil, or-false, none_loose, none_written, nothing_fits, operands_as_they_are, cycle_of_one, nothing_more)

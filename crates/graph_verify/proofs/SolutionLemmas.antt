@@ -1,8 +1,7 @@
 -- Runs of the nodes of a graph, whatever the values of cells are.
-use Rattle.std.proofs.Common.{◌≡◌, false, List, length, sym, ◌∙◌}
+use Rattle.std.proofs.Common.{◌≡◌, false, List, length, sym}
 use Rattle.vx_base.specs.declared.node.Node.{Node}
 use Rattle.vx_base.specs.Cell.{Cell}
-use Rattle.graph_verify.specs.Members.{In}
 use Rattle.graph_verify.specs.Links.{reads, writes, feeds}
 use Rattle.graph_verify.specs.Cycle.{has_cycle}
 use Rattle.graph_verify.specs.Order.{IsOrder}
@@ -35,13 +34,3 @@ module _ {V : Type 0} (value : Node → (Cell → V) → Cell → V) where
       let found = steps_from_no_cycle feeds nodes no_cycle in
       let o = found.1 in
       sym (runs.solution_is_rounds reads writes feeds value feeds_is alone nodes found.0 held after o.in_turn o.to o.from o.long solves c)
-
-  -- what is held at first of a written cell has no effect
-  pub rounds_forget : (nodes : List Node) (held other : Cell → V) → ReadsAlone reads value → two_writers nodes ≡ false → has_cycle feeds nodes ≡ false
-      → ((c : Cell) → ((n : Node) → In n nodes → writes n c ≡ false) → held c ≡ other c) → (c : Cell) → rounds writes value nodes (length nodes) held c ≡ rounds writes value nodes (length nodes) other c
-  rounds_forget nodes held other alone one no_cycle same =
-      let solves = rounds_solve nodes held alone one no_cycle in
-      only_solution nodes other (rounds writes value nodes (length nodes) held) alone one no_cycle (record {
-        written = solves.written;
-        others = (λ d unwritten. solves.others d unwritten ∙ same d unwritten);
-      })

@@ -36,11 +36,6 @@ pub record Suits (function : Function) (first : Operand) (second : Option Format
   pub formats : IsTrue (takes_output function (operand_format first) second out)
   pub size : IsTrue (are_of_one_size first out)
 
--- a test that an operand passes, if it is there
-if_passes : {X : Type 0} (p : X → Bool) (x : Option X) → list_all p (option_to_list x) ≡ true → IfSome x (λ y. p y ≡ true)
-if_passes p None h = tt
-if_passes p (Some x) h = (and_parts (p x) true h).0
-
 -- a test that both operands pass, as far as they are there
 both_pass : {X : Type 0} (p : X → Bool) (x y : Option X) → list_all p (option_to_list x ++ option_to_list y) ≡ true → IfSome x (λ z. p z ≡ true) × IfSome y (λ z. p z ≡ true)
 both_pass p x y h = grind (arith, and_parts, list_all-append)

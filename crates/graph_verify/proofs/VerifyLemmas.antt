@@ -1,6 +1,6 @@
 -- Why a graph is found to run, or not, by what is known of its virtual images.
 use Rattle.std.proofs.Common.{◌≡◌, ℕ, ◌+◌, ◌*◌, ◌≤◌, Bool, true, false, List, [], ◌∷◌, length, map, get_or, IsTrue, refl, sym, ◌∙◌, ap, subst, inl, inr, arith, rules}
-use Rattle.std.specs.Prelude.{Option, Some, None, All, find, sum_by, ◌&&◌, if◌then◌else◌}
+use Rattle.std.specs.Prelude.{unwrap_or, Option, Some, None, All, find, sum_by, ◌&&◌, if◌then◌else◌}
 use Rattle.std.specs.Option.{option_map, option_or}
 use Rattle.std.specs.List.{filter, flat_map, filter_map, cons_option}
 use Rattle.std.specs.List.Sorted.{IsPermutation}
@@ -21,7 +21,7 @@ use Rattle.graph_verify.specs.declared.known.Known.{Known}
 use Rattle.graph_verify.specs.declared.known.VirtualOutput.{VirtualOutput}
 use Rattle.graph_verify.specs.declared.linked.Linked.{Linked}
 use Rattle.graph_verify.specs.declared.operand.Operand.{Operand}
-use Rattle.graph_verify.specs.declared.operand.Operand.TheVariants.{Image, Lut, Threshold, Delay, Convolution, Distribution, Extremes, Graph, Virtual}
+use Rattle.graph_verify.specs.declared.operand.Operand.TheVariants.{Image, Virtual}
 use Rattle.graph_verify.specs.declared.operand.Operands.{Operands}
 use Rattle.graph_verify.specs.declared.verdict.Verdict.{Verdict}
 use Rattle.graph_verify.specs.declared.verdict.Verdict.TheVariants.{InvalidLink}
@@ -50,11 +50,8 @@ module _ (is : Cell → Operand) where
   sum_of_outputs : (f : Cell → ℕ) (g : List Node) → sum_by f (virtual_outputs is g) ≡ sum_by (λ n. sum_by f (filter (λ c. is_virtual (is c)) (outputs n))) g
   sum_of_outputs f [] = refl
   sum_of_outputs f (n ∷ ns) =
-      let virtual : Cell → Bool = λ c. is_virtual (is c) in
-      ap (sum_by f) (filter-append virtual (outputs n) (flat_map outputs ns))
-      ∙ sum_by-append f (filter virtual (outputs n)) (virtual_outputs is ns)
-      ∙ ap (λ k. sum_by f (filter virtual (outputs n)) + k) (sum_of_outputs f ns)
-      ∙ sym (sum_by-cons (λ m. sum_by f (filter virtual (outputs m))) n ns)
+      let here = filter (λ c. is_virtual (is c)) (outputs n) in
+      grind (arith, filter-append (λ c. is_virtual (is c)) (outputs n) (flat_map outputs ns), sum_by-append f here (virtual_outputs is ns), sum_of_outputs f ns, sum_by-cons (λ m. sum_by f (filter (λ c. is_virtual (is c)) (outputs m))) n ns)
 
   outputs_sum-permutation : (f : Cell → ℕ) (g steps : List Node) → IsPermutation g steps → sum_by f (virtual_outputs is steps) ≡ sum_by f (virtual_outputs is g)
   outputs_sum-permutation f g steps same = grind (arith, sum_of_outputs, sum_by-IsPermutation)
@@ -86,14 +83,7 @@ module _ (is : Cell → Operand) where
 
   virtual_resolved : (all : List Node) (c : Cell) (o : Operand) → is_virtual o ≡ true → as_known o (outlines is all c) ≡ virtual_or_image (outlines is all c) (closed (outlines is all c))
   virtual_resolved all c (Virtual declared) e = refl
-  virtual_resolved all c (Image d) e = absurd (cc e)
-  virtual_resolved all c (Lut f) e = absurd (cc e)
-  virtual_resolved all c (Threshold f) e = absurd (cc e)
-  virtual_resolved all c Delay e = absurd (cc e)
-  virtual_resolved all c Convolution e = absurd (cc e)
-  virtual_resolved all c Distribution e = absurd (cc e)
-  virtual_resolved all c Extremes e = absurd (cc e)
-  virtual_resolved all c Graph e = absurd (cc e)
+  virtual_resolved all c other e = absurd (cc e)
 
   -- what is known of a virtual image says what it is
   pub known_resolved : (all : List Node) (known : List Known) → AreKnown is all known → (k : Known) → In k known → virtual_or_image k.outline (closed k.outline) ≡ resolved is all k.cell
@@ -112,7 +102,7 @@ module _ (is : Cell → Operand) where
 
 -- ---- the fault of a node
 
-first_fault-None : (is : Cell → Operand) (nodes : List Node) → first_fault is nodes ≡ None → (n : Node) → In n nodes → node_fault n.function (operands_of is n) ≡ None
+pub first_fault-None : (is : Cell → Operand) (nodes : List Node) → first_fault is nodes ≡ None → (n : Node) → In n nodes → node_fault n.function (operands_of is n) ≡ None
 first_fault-None is [] h n i = absurd i
 first_fault-None is (m ∷ nodes) h n i =
     let parts = neither (node_fault m.function (operands_of is m)) (first_fault is nodes) h in
@@ -132,17 +122,8 @@ closed_is o d h = grind arith
 
 -- what a node gives to a virtual image leaves nothing of it open, where nothing of the first input is
 filled_closed : (declared : Outline) (function : Function) (d : Description) → (e : Description) × (closed (filled declared (given_outline function (outline_of d))) ≡ Some e)
-filled_closed declared function d = by declared.width declared.height declared.format
-  where
-    by : (width height : Option ℕ) (format : Option Format) → (e : Description) × (closed (filled (record { width = width; height = height; format = format }) (given_outline function (outline_of d))) ≡ Some e)
-    by None None None = (record { width = d.width; height = d.height; format = open_format function d.format }, refl)
-    by None None (Some f) = (record { width = d.width; height = d.height; format = f }, refl)
-    by None (Some h) None = (record { width = d.width; height = h; format = open_format function d.format }, refl)
-    by None (Some h) (Some f) = (record { width = d.width; height = h; format = f }, refl)
-    by (Some w) None None = (record { width = w; height = d.height; format = open_format function d.format }, refl)
-    by (Some w) None (Some f) = (record { width = w; height = d.height; format = f }, refl)
-    by (Some w) (Some h) None = (record { width = w; height = h; format = open_format function d.format }, refl)
-    by (Some w) (Some h) (Some f) = (record { width = w; height = h; format = f }, refl)
+filled_closed declared function d =
+    (record { width = unwrap_or declared.width d.width; height = unwrap_or declared.height d.height; format = unwrap_or declared.format (open_format function d.format) }, grind arith)
 
 module _ (is : Cell → Operand) where
   -- an image with a format is known
@@ -153,13 +134,7 @@ module _ (is : Cell → Operand) where
       by : (d : Option Description) → closed (outlines is all c) ≡ d → (d : Description) × (outlines is all c ≡ outline_of d)
       by (Some d) k = (d, closed_is (outlines is all c) d k)
       by None k = let fails : operand_format (virtual_or_image (outlines is all c) (closed (outlines is all c))) ≡ None = ap (λ (g : Option Description). operand_format (virtual_or_image (outlines is all c) g)) k in absurd (cc)
-  image_closed all c (Lut f') f e image has = absurd (cc image)
-  image_closed all c (Threshold f') f e image has = absurd (cc image)
-  image_closed all c Delay f e image has = absurd (cc image)
-  image_closed all c Convolution f e image has = absurd (cc image)
-  image_closed all c Distribution f e image has = absurd (cc image)
-  image_closed all c Extremes f e image has = absurd (cc image)
-  image_closed all c Graph f e image has = absurd (cc image)
+  image_closed all c other f e image has = absurd (cc image)
 
   -- what a node without a fault writes is known
   output_closed : (all : List Node) → IsSolution writes (written_outline is) all (λ c. operand_outline (is c)) (outlines is all) → (n : Node) → In n all → IsTrue (is_image (is n.in1)) → node_fault n.function (operands_of (resolved is all) n) ≡ None
@@ -282,10 +257,7 @@ module _ (nodes steps : List Linked) (one : two_writers (linked_nodes nodes) ≡
 
 -- no more outputs than two for each node
 pub few_outputs : (nodes steps : List Linked) (known : List Known) (outputs : List VirtualOutput) → length nodes ≤ 256 → IsOrder links nodes steps → length known ≤ 2 * length steps → outputs ≡ filter_map closed_output known → length outputs ≤ 512
-few_outputs nodes steps known outputs few order limit is =
-    let same = length_permutation nodes steps order.same_nodes in
-    let fewer = shorter known in
-    omega (arith, few, same, limit, fewer, ap length is)
+few_outputs nodes steps known outputs few order limit is = omega (arith, few, length_permutation nodes steps order.same_nodes, limit, shorter known, ap length is)
   where
     shorter : (known : List Known) → length (filter_map closed_output known) ≤ length known
     shorter [] = omega arith

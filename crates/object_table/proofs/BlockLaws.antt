@@ -6,7 +6,7 @@ use Rattle.std.proofs.lemmas.Simd.{map-map}
 use Rattle.vx_base.specs.declared.format.Format.{Format}
 use Rattle.vx_base.specs.Image.{ImageValue}
 use Rattle.vx_base.specs.Object.{ObjectValue, DelayObject}
-use Rattle.object_table.specs.Blocks.{image_blocks, object_blocks, blocks_of_all, blocks_in, KeepsBlocks}
+use Rattle.object_table.specs.Blocks.{image_blocks, object_blocks, blocks_in, KeepsBlocks}
 use Rattle.object_table.specs.Named.{Named}
 use Rattle.object_table.specs.Skeleton.{image_skeleton, skeleton}
 use Rattle.object_table.proofs.SkeletonLaws.{map-told}
@@ -26,13 +26,7 @@ same_blocks one other format same =
 
 -- ---- of several
 
--- so have lists of objects whose skeletons are the same
-pub blocks_of_all-same : (new old : List ObjectValue) (format : Format) → map skeleton new ≡ map skeleton old → blocks_of_all new format ≡ blocks_of_all old format
-blocks_of_all-same new old format same =
-    let of_object : ObjectValue → ℕ = λ object. object_blocks object format in
-    sym (sum-map of_object new) ∙ ap sum (map-told skeleton of_object of_object (λ object. blocks_of_skeleton object format) new old same) ∙ sum-map of_object old
-
--- and objects under names
+-- so have objects under names whose skeletons are the same
 pub keeps_blocks : (new old : List Named) → map (λ o. skeleton o.object) new ≡ map (λ o. skeleton o.object) old → KeepsBlocks old new
 keeps_blocks new old same format =
     let of_named : Named → ℕ = λ o. object_blocks o.object format in

@@ -1,5 +1,5 @@
 -- Delays: images of one description.
-use Rattle.std.proofs.Common.{◌≡◌, ℕ, ◌*◌, ◌<◌, ◌≤◌, List, [], ◌∷◌, ◌++◌, length, map, get_or, refl, sym, ap, ◌∙◌, arith}
+use Rattle.std.proofs.Common.{◌≡◌, ℕ, ◌*◌, ◌<◌, ◌≤◌, List, [], ◌∷◌, ◌++◌, length, map, get_or, refl, sym, ◌∙◌, arith}
 use Rattle.std.specs.Prelude.{All, take, drop, sum_by, nat_le, IsTrue}
 use Rattle.std.specs.List.{AllPairs}
 use Rattle.std.proofs.lemmas.Bool.{and_parts, leb-true}
@@ -22,11 +22,6 @@ bytes_alike d (image ∷ images) h =
 -- what is turned round takes as much
 pub sum-turned : {X : Type 0} (f : X → ℕ) (n : ℕ) (xs : List X) → sum_by f (drop n xs ++ take n xs) ≡ sum_by f xs
 sum-turned f n xs = omega (arith, sum_by-append f (drop n xs) (take n xs), sum_by-take-drop f xs n)
-
--- as many images of the description take as many bytes
-pub bytes_kept : (d : Description) (old new : List ImageValue) → All (λ image. description_of image ≡ d) old → All (λ image. description_of image ≡ d) new → length new ≡ length old
-    → sum_by image_bytes new ≡ sum_by image_bytes old
-bytes_kept d old new h i same = bytes_alike d new i ∙ ap (λ n. n * byte_count d) same ∙ sym (bytes_alike d old h)
 
 -- images of one description are alike, any two of them
 pub alike : (d : Description) (images : List ImageValue) → All (λ image. description_of image ≡ d) images → AllPairs (λ a b. a ≡ b) (map description_of images)

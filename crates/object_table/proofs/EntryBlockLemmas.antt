@@ -1,5 +1,5 @@
 -- In how many blocks of a pool the entries of a map have their samples.
-use Rattle.std.proofs.Common.{◌≡◌, ℕ, ◌+◌, Bool, true, false, cond, List, [], ◌∷◌, map, Some, refl, sym, ap, ◌∙◌, arith}
+use Rattle.std.proofs.Common.{◌≡◌, ℕ, ◌+◌, List, [], ◌∷◌, map, Some, refl, sym, ap, ◌∙◌, arith, rules}
 use Rattle.std.specs.Prelude.{sum_by}
 use Rattle.std.specs.Map.{lookup, set_value, remove_entry}
 use Rattle.std.specs.BTreeMap.{is_at}
@@ -14,7 +14,7 @@ use Rattle.pixel_pool.specs.declared.pool.Pool.{Pool}
 use Rattle.object_table.specs.Blocks.{object_blocks, blocks_in, LendsAtLeast, LendsLess, Balances}
 use Rattle.object_table.specs.Named.{Named}
 use Rattle.object_table.specs.Table.{named}
-use Rattle.object_table.proofs.EntryLemmas.{sum-written}
+use Rattle.object_table.proofs.EntryLemmas.{sum-written, sum-removed}
 
 -- in how many blocks of a format they have theirs
 abbrev pub entry_blocks : List (ℕ × Entry) → Format → ℕ
@@ -27,9 +27,7 @@ blocks-cons e entries format = sum_by-cons (λ (o : Named). object_blocks o.obje
 -- they are the sum over the entries
 blocks_is : (entries : List (ℕ × Entry)) (format : Format) → entry_blocks entries format ≡ sum_by (λ e. object_blocks e.1.object format) entries
 blocks_is [] format = refl
-blocks_is (e ∷ entries) format =
-    blocks-cons e entries format ∙ ap (λ n. object_blocks e.1.object format + n) (blocks_is entries format)
-    ∙ sym (sum_by-cons (λ (e : ℕ × Entry). object_blocks e.1.object format) e entries)
+blocks_is (e ∷ entries) format = search (rules, blocks_is entries format, sum_by-cons)
 
 -- an entry that is written with an object of as many has as many
 pub blocks-written : (entries : List (ℕ × Entry)) (name : ℕ) (old new : Entry) (format : Format) → lookup (is_at (nat_cmp name)) entries ≡ Some old → object_blocks new.object format ≡ object_blocks old.object format
@@ -40,17 +38,8 @@ blocks-written entries name old new format found same =
 -- an entry that is removed leaves those of the others
 pub blocks-removed : (entries : List (ℕ × Entry)) (name : ℕ) (old : Entry) → lookup (is_at (nat_cmp name)) entries ≡ Some old
     → (format : Format) → entry_blocks (remove_entry (is_at (nat_cmp name)) entries) format + object_blocks old.object format ≡ entry_blocks entries format
-blocks-removed [] name old found format = cc
-blocks-removed (e ∷ entries) name old found format = either (is_at (nat_cmp name) e.0) found (λ later. blocks-removed entries name old later format)
-  where
-    test : ℕ → Bool
-    test = is_at (nat_cmp name)
-
-    either : (b : Bool) → cond b (Some e.1) (lookup test entries) ≡ Some old
-        → (lookup test entries ≡ Some old → entry_blocks (remove_entry test entries) format + object_blocks old.object format ≡ entry_blocks entries format)
-        → entry_blocks (cond b entries (e ∷ remove_entry test entries)) format + object_blocks old.object format ≡ entry_blocks (e ∷ entries) format
-    either true found rest = let same : e.1 ≡ old = cc in omega (arith, blocks-cons e entries format, ap (λ (x : Entry). object_blocks x.object format) same)
-    either false found rest = omega (arith, blocks-cons e entries format, blocks-cons e (remove_entry test entries) format, rest found)
+blocks-removed entries name old found format =
+    omega (arith, blocks_is entries format, blocks_is (remove_entry (is_at (nat_cmp name)) entries) format, sum-removed (λ e. object_blocks e.1.object format) entries name old found)
 
 -- ---- what is lent as the entries change
 

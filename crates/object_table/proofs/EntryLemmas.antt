@@ -1,11 +1,10 @@
 -- Entries of a map by name, and what they show.
-use Rattle.std.proofs.Common.{◌≡◌, ℕ, ◌+◌, ◌<◌, ◌≤◌, Bool, true, false, cond, List, [], ◌∷◌, ◌++◌, ◌*◌, length, map, Option, Some, None, refl, sym, ap, subst, ◌∙◌, arith, rules}
+use Rattle.std.proofs.Common.{◌≡◌, ℕ, ◌+◌, ◌<◌, ◌≤◌, true, cond, List, [], ◌∷◌, ◌++◌, ◌*◌, length, map, Option, Some, None, refl, sym, ap, subst, ◌∙◌, arith, rules}
 use Rattle.std.specs.Prelude.{All, IfSome, IsTrue, ◌==◌, nat_lt, ◌||◌, sum_by, unwrap_or}
 use Rattle.std.specs.Ordering.{nat_cmp}
-use Rattle.std.specs.Map.{keys_of, lookup, set_value}
+use Rattle.std.specs.Map.{keys_of, lookup, set_value, remove_entry}
 use Rattle.std.specs.BTreeMap.{is_at, insert_entry}
 use Rattle.std.specs.Option.{option_map}
-use Rattle.std.specs.List.{flat_map}
 use Rattle.std.specs.List.Sorted.{IsStrictlySortedBy, IsStrictlyIncreasing}
 use Rattle.std.proofs.lemmas.Bool.{cases_lt, and_parts}
 use Rattle.std.proofs.lemmas.Cmp.{nat_cmp_total, eq_by_cmp_equiv}
@@ -18,9 +17,7 @@ use Rattle.std.proofs.lemmas.Map.Keys.{sorted_tail, sorted_from_strictly_increas
 use Rattle.vx_base.specs.declared.format.Format.TheVariants.{U8}
 use Rattle.vx_base.specs.declared.kind.Kind.{Kind}
 use Rattle.vx_base.specs.declared.kind.Kind.TheVariants as kind
-use Rattle.vx_base.specs.declared.node.Node.{Node}
 use Rattle.vx_base.specs.Cell.{Cell, cell_of}
-use Rattle.vx_base.specs.Graph.{new_graph}
 use Rattle.vx_base.specs.Image.{ImageValue, new_image}
 use Rattle.vx_base.specs.Object.{ObjectValue, ImageObject, LutObject, ThresholdObject, DelayObject, ConvolutionObject, DistributionObject, ExtremesObject, GraphObject, VirtualObject, object_bytes, object_kind}
 use Rattle.object_table.specs.declared.table.Entry.{Entry}
@@ -29,7 +26,7 @@ use Rattle.object_table.specs.Delay.{object_in, with_slot, HasImage}
 use Rattle.object_table.specs.Named.{object_held, with_object}
 use Rattle.object_table.specs.Object.{image_value, aged_object}
 use Rattle.object_table.specs.Table.{object_under, IsUnder, cell_object, image_held, HoldsImage, named, is_kept, IsTable}
-use Rattle.object_table.specs.Uses.{used_names, nodes_in, names_used_by, names_used, times}
+use Rattle.object_table.specs.Uses.{nodes_in, names_used_by, names_used, times}
 
 -- ---- keys
 
@@ -77,33 +74,24 @@ none_written (e ∷ entries) cell object none = grind (arith, none_written entri
 pub written : (entries : List (ℕ × Entry)) (cell : Cell) (old new : Entry) (object : ObjectValue) → InOrder entries → lookup (is_at (nat_cmp cell.name)) entries ≡ Some old
     → new.live ≡ old.live → new.object ≡ with_slot cell.slot object old.object → map named (set_value (is_at (nat_cmp cell.name)) entries new) ≡ with_object (map named entries) cell object
 written [] cell old new object order found live is = cc
-written (e ∷ entries) cell old new object order found live is =
-    either (is_at (nat_cmp cell.name) e.0) refl found (written entries cell old new object (sorted_tail nat_cmp e.0 (keys_of entries) order))
-    ∙ ap (λ b. let o = named e in cond b (record o { object = with_slot cell.slot object o.object }) o ∷ with_object (map named entries) cell object) (same_name cell.name e.0)
-  where
-    either : (b : Bool) → is_at (nat_cmp cell.name) e.0 ≡ b → cond b (Some e.1) (lookup (is_at (nat_cmp cell.name)) entries) ≡ Some old
-        → (lookup (is_at (nat_cmp cell.name)) entries ≡ Some old → new.live ≡ old.live → new.object ≡ with_slot cell.slot object old.object → map named (set_value (is_at (nat_cmp cell.name)) entries new) ≡ with_object (map named entries) cell object)
-        → map named (cond b ((e.0, new) ∷ entries) (e ∷ set_value (is_at (nat_cmp cell.name)) entries new)) ≡ (let o = named e in cond b (record o { object = with_slot cell.slot object o.object }) o ∷ with_object (map named entries) cell object)
-    either true here found rest = grind (arith, none_written entries cell object (past_head e entries cell.name order here), past_head e entries cell.name order here)
-    either false here found rest = ap (λ l. named e ∷ l) (rest found live is)
+written (e ∷ entries) cell old new object order found live is = grind (arith, written entries cell old new object (sorted_tail nat_cmp e.0 (keys_of entries) order), none_written entries cell object, past_head e entries cell.name order, same_name cell.name e.0)
 
 -- what holds of the others, and of the new one where it did of the old one
 pub All-written : (P : ℕ × Entry → Type 0) (entries : List (ℕ × Entry)) (name : ℕ) (old new : Entry) → lookup (is_at (nat_cmp name)) entries ≡ Some old → ((k : ℕ) → P (k, old) → P (k, new)) → All P entries
     → All P (set_value (is_at (nat_cmp name)) entries new)
 All-written P [] name old new found still h = cc
-All-written P (e ∷ entries) name old new found still h =
-    either (is_at (nat_cmp name) e.0) found (λ later. All-written P entries name old new later still (All-tail P e entries h))
-  where
-    either : (b : Bool) → cond b (Some e.1) (lookup (is_at (nat_cmp name)) entries) ≡ Some old → (lookup (is_at (nat_cmp name)) entries ≡ Some old → All P (set_value (is_at (nat_cmp name)) entries new))
-        → All P (cond b ((e.0, new) ∷ entries) (e ∷ set_value (is_at (nat_cmp name)) entries new))
-    either true found rest = grind (arith, All-head P e entries h, All-tail P e entries h)
-    either false found rest = All-cons P e (set_value (is_at (nat_cmp name)) entries new) (All-head P e entries h) (rest found)
+All-written P (e ∷ entries) name old new found still h = grind (arith, All-written P entries name old new, still, All-head P e entries h, All-tail P e entries h, All-cons P)
 
 -- a sum over the entries
 pub sum-written : (f : ℕ × Entry → ℕ) (entries : List (ℕ × Entry)) (name : ℕ) (old new : Entry) → lookup (is_at (nat_cmp name)) entries ≡ Some old
     → sum_by f (set_value (is_at (nat_cmp name)) entries new) + f (name, old) ≡ sum_by f entries + f (name, new)
 sum-written f [] name old new found = cc
 sum-written f (e ∷ entries) name old new found = grind (arith, sum-written f entries name old new, same_name, sum_by-cons)
+
+pub sum-removed : (f : ℕ × Entry → ℕ) (entries : List (ℕ × Entry)) (name : ℕ) (old : Entry) → lookup (is_at (nat_cmp name)) entries ≡ Some old
+    → sum_by f (remove_entry (is_at (nat_cmp name)) entries) + f (name, old) ≡ sum_by f entries
+sum-removed f [] name old found = cc
+sum-removed f (e ∷ entries) name old found = grind (arith, sum-removed f entries name old, same_name, sum_by-cons)
 
 -- what a context is charged is the sum over the entries
 pub charge_is : (entries : List (ℕ × Entry)) → charge_of (map named entries) ≡ sum_by (λ e. object_bytes e.1.object) entries
@@ -114,16 +102,7 @@ charge_is (e ∷ entries) = search (rules, charge_is entries, sum_by-cons)
 used-written : (entries : List (ℕ × Entry)) (name : ℕ) (old new : Entry) → lookup (is_at (nat_cmp name)) entries ≡ Some old → new.live ≡ old.live → nodes_in new.object ≡ nodes_in old.object
     → names_used (map named (set_value (is_at (nat_cmp name)) entries new)) ≡ names_used (map named entries)
 used-written [] name old new found live nodes = cc
-used-written (e ∷ entries) name old new found live nodes =
-    either (is_at (nat_cmp name) e.0) found (λ later. used-written entries name old new later live nodes)
-  where
-    rest_used : List (ℕ × Entry) → List ℕ
-    rest_used l = names_used (map named l)
-
-    either : (b : Bool) → cond b (Some e.1) (lookup (is_at (nat_cmp name)) entries) ≡ Some old → (lookup (is_at (nat_cmp name)) entries ≡ Some old → rest_used (set_value (is_at (nat_cmp name)) entries new) ≡ rest_used entries)
-        → rest_used (cond b ((e.0, new) ∷ entries) (e ∷ set_value (is_at (nat_cmp name)) entries new)) ≡ rest_used (e ∷ entries)
-    either true found rest = grind arith
-    either false found rest = ap (λ l. names_used_by (named e) ++ l) (rest found)
+used-written (e ∷ entries) name old new found live nodes = grind (arith, used-written entries name old new)
 
 -- a new name goes last
 pub insert_last : (entries : List (ℕ × Entry)) (name : ℕ) (new : Entry) → All (λ e. e.0 < name) entries → insert_entry nat_cmp entries name new ≡ entries ++ (name, new) ∷ []
@@ -142,12 +121,6 @@ pub charge_limit : (next charge : ℕ) (entries : List (ℕ × Entry)) → IsTab
 charge_limit next charge entries t = omega (arith, t.charged, charge_is entries, t.count, sum_by-le (λ e. object_bytes e.1.object) (16 * 67108864) entries t.each)
 
 module _ (next charge : ℕ) (entries : List (ℕ × Entry)) (t : IsTable next charge entries) (name : ℕ) (old : Entry) (found : lookup (is_at (nat_cmp name)) entries ≡ Some old) where
-  -- an object that is found is charged
-  pub charge_found : object_bytes old.object ≤ charge
-  charge_found =
-      let gone : Entry = record old { object = GraphObject new_graph } in
-      omega (arith, t.charged, charge_is entries, sum-written (λ e. object_bytes e.1.object) entries name old gone found)
-
   bytes_found : object_bytes old.object ≤ 16 * 67108864
   bytes_found = subst (λ (o : Option Entry). IfSome o (λ e. object_bytes e.object ≤ 16 * 67108864)) found (All-lookup (λ (e : Entry). object_bytes e.object ≤ 16 * 67108864) (is_at (nat_cmp name)) entries t.each)
 
@@ -185,12 +158,8 @@ IsTable-inserted next charge entries new t left room live uses nodes limit incre
       given = subst (All (λ n. n < next + 1)) (sym used) (All-weaker (λ n. n < next) (λ n. n < next + 1) (λ n h. omega (arith, h)) (names_used (map named entries)) t.given);
     }
   where
-    nothing : (live : Bool) (l : List Node) → l ≡ [] → cond live (flat_map used_names l) [] ++ [] ≡ []
-    nothing true l none = ap (λ l. flat_map used_names l ++ []) none
-    nothing false l none = refl
-
     map_used : (l : List (ℕ × Entry)) → names_used (map named (l ++ (next, new) ∷ [])) ≡ names_used (map named l)
-    map_used [] = nothing new.live (nodes_in new.object) nodes
+    map_used [] = grind (arith, nodes)
     map_used (e ∷ l) = ap (λ names. names_used_by (named e) ++ names) (map_used l)
 
 -- ---- a table that shows a context

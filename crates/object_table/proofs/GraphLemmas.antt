@@ -1,22 +1,22 @@
 -- Nodes that come and go, the names that they use, and what is held then.
-use Rattle.std.proofs.Common.{◌≡◌, ℕ, ◌+◌, ◌-◌, ◌*◌, ◌<◌, ◌≤◌, zero, suc, Bool, true, false, cond, List, [], ◌∷◌, ◌++◌, Some, None, length, map, get_or, IsTrue, refl, sym, ap, subst, ◌∙◌, arith, rules}
+use Rattle.std.proofs.Common.{inl, inr, ◌≡◌, ℕ, ◌+◌, ◌-◌, ◌*◌, ◌<◌, ◌≤◌, zero, suc, Bool, true, false, cond, List, [], ◌∷◌, ◌++◌, Some, None, length, map, get_or, IsTrue, refl, sym, ap, subst, ◌∙◌, arith, rules}
 use Rattle.std.specs.Prelude.{All, ◌==◌, ◌&&◌, ◌||◌, not, nat_lt, find, filter, sum_by, is_some}
 use Rattle.std.specs.List.{list_any, flat_map, AllPairs}
 use Rattle.std.specs.List.Sorted.{IsStrictlyIncreasing}
-use Rattle.std.specs.Map.{keys_of, lookup, set_value}
+use Rattle.std.specs.Map.{lookup, set_value}
 use Rattle.std.specs.BTreeMap.{is_at}
 use Rattle.std.specs.Ordering.{nat_cmp}
-use Rattle.std.proofs.lemmas.Bool.{eqb-true, ne_eqb, lt-ltb, ltb-true, false≢true, and_parts}
+use Rattle.std.proofs.lemmas.Bool.Decides.{nat_tests}
+use Rattle.std.proofs.lemmas.Bool.{cases_Bool, eqb-true, ne_eqb, ltb-true, false≢true, and_parts}
 use Rattle.std.proofs.lemmas.Grind.{flat_map-append}
 use Rattle.std.proofs.lemmas.List.{map-append, length-map, length-append, get_or-map}
 use Rattle.std.proofs.lemmas.List.Concat.{length-flat_map}
 use Rattle.std.proofs.lemmas.List.Elements.{All-nil, All-cons, All-head, All-tail, All-append, All-map, All-weaker, All-filter, filter_passes}
 use Rattle.std.proofs.lemmas.List.Folds.{flat_map-map, list_any-append}
 use Rattle.std.proofs.lemmas.List.Kept.{AllPairs-filter, AllPairs-from_increasing}
-use Rattle.std.proofs.lemmas.List.Sums.{sum_by-cons, sum_by-append, sum_by-le, length-filter, count_by-le-length}
+use Rattle.std.proofs.lemmas.List.Sums.{sum_by-cons, sum_by-le, length-filter, count_by-le-length}
 use Rattle.std.proofs.lemmas.Map.{keys-set_value, length-set_value}
 use Rattle.std.proofs.lemmas.Map.Steps.{set_value_same}
-use Rattle.std.proofs.lemmas.Map.Keys.{sorted_tail}
 use Rattle.vx_base.specs.declared.format.Format.TheVariants.{U8}
 use Rattle.vx_base.specs.declared.kind.Kind.{Kind}
 use Rattle.vx_base.specs.declared.kind.Kind.TheVariants as kind
@@ -34,15 +34,14 @@ use Rattle.object_table.specs.Named.{Named, object_held}
 use Rattle.object_table.specs.Object.{graph_value}
 use Rattle.object_table.specs.Table.{named, used_more, used_less, is_kept, kept, IsTable}
 use Rattle.object_table.specs.Uses.{used_names, nodes_in, names_used_by, names_used, times}
-use Rattle.object_table.proofs.EntryLemmas.{same_name, past_head, none_named, InOrder, in_order, named_is, if_live, All-written, sum-written, charge_is}
+use Rattle.object_table.proofs.KeptLemmas.{ended-one, shown-ended}
+use Rattle.object_table.proofs.UseLemmas.{times-append}
+use Rattle.object_table.proofs.EntryLemmas.{none_named, InOrder, in_order, named_is, if_live, All-written, sum-written, charge_is}
 
 -- ---- how often a name stands in a list
 
 times-cons : (name other : ℕ) (names : List ℕ) → times name (other ∷ names) ≡ cond (name == other) 1 0 + times name names
 times-cons name other names = sum_by-cons (λ other. cond (name == other) 1 0) other names
-
-times-append : (name : ℕ) (names others : List ℕ) → times name (names ++ others) ≡ times name names + times name others
-times-append name names others = sum_by-append (λ other. cond (name == other) 1 0) names others
 
 -- whether a name stands there
 any_times : (name : ℕ) (names : List ℕ) → nat_lt 0 (times name names) ≡ list_any (λ other. name == other) names
@@ -116,14 +115,10 @@ All-with_node P g n h new =
 times_left : (number : ℕ) (nodes : List Numbered) (node : Node) (name : ℕ) → AllPairs (λ a b. a.number < b.number) nodes → find (λ n. n.number == number) nodes ≡ Some (record { number = number; node = node })
     → sum_by (λ n. times name (used_names n.node)) (filter (λ n. not (n.number == number)) nodes) + times name (used_names node) ≡ sum_by (λ n. times name (used_names n.node)) nodes
 times_left number [] node name increase found = cc
-times_left number (n ∷ nodes) node name increase found = either (n.number == number) refl found (times_left number nodes node name later)
+times_left number (n ∷ nodes) node name increase found =
+    let weight : Numbered → ℕ = λ m. times name (used_names m.node) in
+    grind (arith, times_left number nodes node name later, all_stay nodes above, eqb-true n.number number, sum_by-cons weight n nodes, sum_by-cons weight n (filter (λ m. not (m.number == number)) nodes), cases_Bool (n.number == number))
   where
-    weight : Numbered → ℕ
-    weight m = times name (used_names m.node)
-
-    rest : List Numbered
-    rest = filter (λ m. not (m.number == number)) nodes
-
     later : AllPairs (λ a b. a.number < b.number) nodes
     later i j d less below = increase (suc i) (suc j) d (omega (arith, less)) (omega (arith, below))
 
@@ -134,12 +129,6 @@ times_left number (n ∷ nodes) node name increase found = either (n.number == n
 
     above : All (λ m. n.number < m.number) nodes
     above k d below = increase zero (suc k) d (omega arith) (omega (arith, below))
-
-    either : (b : Bool) → (n.number == number) ≡ b → cond b (Some n) (find (λ m. m.number == number) nodes) ≡ Some (record { number = number; node = node })
-        → (find (λ m. m.number == number) nodes ≡ Some (record { number = number; node = node }) → sum_by weight rest + times name (used_names node) ≡ sum_by weight nodes)
-        → sum_by weight (cond (not b) (n ∷ rest) rest) + times name (used_names node) ≡ sum_by weight (n ∷ nodes)
-    either true same is others = grind (arith, all_stay nodes above (eqb-true n.number number same), eqb-true n.number number same, sum_by-cons weight n nodes)
-    either false apart is others = omega (arith, sum_by-cons weight n rest, sum_by-cons weight n nodes, others is)
 
 times-without_node : (g : GraphValue) (number : ℕ) (node : Node) (name : ℕ) → IsGraph g → find (λ n. n.number == number) g.nodes ≡ Some (record { number = number; node = node })
     → times name (names_in (GraphObject (without_node g number))) + times name (used_names node) ≡ times name (names_in (GraphObject g))
@@ -219,14 +208,10 @@ used_limit entries count nodes =
     omega (arith, each, count, ap length (used_is entries), length-flat_map used_by entries)
   where
     one : (e : ℕ × Entry) → length (nodes_in e.1.object) ≤ 256 → length (used_by e) ≤ 1024
-    one e few = either e.1.live
-      where
-        either : (b : Bool) → length (cond b (names_in e.1.object) []) ≤ 1024
-        either true =
-            let each : sum_by (λ n. length (used_names n)) (nodes_in e.1.object) ≤ length (nodes_in e.1.object) * 4 =
-            sum_by-le (λ n. length (used_names n)) 4 (nodes_in e.1.object) (λ k d below. four_names (get_or (nodes_in e.1.object) k d)) in
-            omega (arith, each, few, length-flat_map used_names (nodes_in e.1.object))
-        either false = omega arith
+    one e few =
+        let each : sum_by (λ n. length (used_names n)) (nodes_in e.1.object) ≤ length (nodes_in e.1.object) * 4 =
+        sum_by-le (λ n. length (used_names n)) 4 (nodes_in e.1.object) (λ k d below. four_names (get_or (nodes_in e.1.object) k d)) in
+        elim (cases_Bool e.1.live) [ inl k ↦ rw k (omega (arith, each, few, length-flat_map used_names (nodes_in e.1.object))) | inr k ↦ rw k (omega arith) ]
 
 -- a name that is held is below the next
 pub held_below : (next : ℕ) (entries : List (ℕ × Entry)) (name : ℕ) → All (λ e. e.0 < next) entries → IsTrue (is_some (object_held (map named entries) name)) → name < next
@@ -235,26 +220,10 @@ held_below next (e ∷ entries) name h there = grind (arith, held_below next ent
 
 -- ---- an entry that is written
 
-none_unnamed : (entries : List (ℕ × Entry)) (name : ℕ) → lookup (is_at (nat_cmp name)) entries ≡ None → unnamed (map named entries) name ≡ map named entries
-none_unnamed [] name none = refl
-none_unnamed (e ∷ entries) name none = grind (arith, none_unnamed entries name, same_name name e.0)
-
 -- one that isn't live from now on
 pub named-unlive : (entries : List (ℕ × Entry)) (name : ℕ) (old : Entry) → InOrder entries → lookup (is_at (nat_cmp name)) entries ≡ Some old
     → map named (set_value (is_at (nat_cmp name)) entries (record old { live = false })) ≡ unnamed (map named entries) name
-named-unlive [] name old order found = cc
-named-unlive (e ∷ entries) name old order found =
-    either (is_at (nat_cmp name) e.0) refl found (named-unlive entries name old (sorted_tail nat_cmp e.0 (keys_of entries) order))
-    ∙ ap (λ b. let o = named e in cond b (record o { live = false }) o ∷ unnamed (map named entries) name) (same_name name e.0)
-  where
-    new : Entry
-    new = record old { live = false }
-
-    either : (b : Bool) → is_at (nat_cmp name) e.0 ≡ b → cond b (Some e.1) (lookup (is_at (nat_cmp name)) entries) ≡ Some old
-        → (lookup (is_at (nat_cmp name)) entries ≡ Some old → map named (set_value (is_at (nat_cmp name)) entries new) ≡ unnamed (map named entries) name)
-        → map named (cond b ((e.0, new) ∷ entries) (e ∷ set_value (is_at (nat_cmp name)) entries new)) ≡ (let o = named e in cond b (record o { live = false }) o ∷ unnamed (map named entries) name)
-    either true here found rest = grind (arith, none_unnamed entries name (past_head e entries name order here), past_head e entries name order here)
-    either false here found rest = ap (λ l. named e ∷ l) (rest found)
+named-unlive entries name old order found = ap (map named) (ended-one entries name old order found) ∙ shown-ended name entries
 
 module _ (next charge : ℕ) (entries : List (ℕ × Entry)) (h : IsTable next charge entries) (name : ℕ) (old new : Entry) (found : lookup (is_at (nat_cmp name)) entries ≡ Some old) (same : new.uses ≡ old.uses) where
   abbrev pub after : List (ℕ × Entry)
@@ -330,11 +299,7 @@ module _ (f : ℕ → ℕ → ℕ) where
 held-more : (names : List ℕ) (entries : List (ℕ × Entry)) → All (λ e. IsTrue (is_kept e)) entries → All (λ e. IsTrue (is_kept e)) (used_more names entries)
 held-more names entries h =
     All-map {X = ℕ × Entry} (λ e. IsTrue (is_kept e)) {Y = ℕ × Entry} (λ e. let n : Entry = e.1 in (e.0, record n { uses = n.uses + times e.0 names })) entries
-    (All-weaker (λ e. IsTrue (is_kept e)) (λ e. (e.1.live || nat_lt 0 (e.1.uses + times e.0 names)) ≡ true) (λ e is. either e e.1.live is) entries h)
-  where
-    either : (e : ℕ × Entry) (b : Bool) → (b || nat_lt 0 e.1.uses) ≡ true → (b || nat_lt 0 (e.1.uses + times e.0 names)) ≡ true
-    either e true is = refl
-    either e false is = lt-ltb 0 (e.1.uses + times e.0 names) (omega (arith, ltb-true 0 e.1.uses is))
+    (All-weaker (λ e. IsTrue (is_kept e)) (λ e. (e.1.live || nat_lt 0 (e.1.uses + times e.0 names)) ≡ true) (λ e is. grind (arith, nat_tests, cases_Bool e.1.live)) entries h)
 
 -- ---- what is held still
 
@@ -388,11 +353,6 @@ IsTable-kept next entries h uses =
     }) refl
     (subst (λ (l : List ℕ). All (λ e. e.1.uses ≡ times e.0 l) (kept entries)) used (All-filter is_kept (λ e. e.1.uses ≡ times e.0 (names_used (map named entries))) entries uses))
     (filter_passes is_kept entries)
-
--- no name that is used less leaves all as they are
-pub used_less-none : (entries : List (ℕ × Entry)) → used_less [] entries ≡ entries
-used_less-none [] = refl
-used_less-none (e ∷ entries) = grind (arith, used_less-none entries)
 
 -- ---- one node more
 
@@ -505,11 +465,6 @@ module _ (next charge : ℕ) (entries : List (ℕ × Entry)) (h : IsTable next c
   -- once a name isn't live
   pub released-left : less ≡ used_less (names_in old.object) (set_value (is_at (nat_cmp name)) entries (record old { live = false })) → AreLeft next (set_value (is_at (nat_cmp name)) entries (record old { live = false })) less
   released-left is = search (rules, are-left, fewer-released, entries-released)
-
--- what is written is found
-pub found-written : (entries : List (ℕ × Entry)) (name : ℕ) (old new : Entry) → lookup (is_at (nat_cmp name)) entries ≡ Some old → lookup (is_at (nat_cmp name)) (set_value (is_at (nat_cmp name)) entries new) ≡ Some new
-found-written [] name old new found = cc
-found-written (e ∷ entries) name old new found = grind (arith, found-written entries name old new)
 
 -- the same table, where its parts are the same
 pub IsTable-same : (next more charge sum : ℕ) (entries others : List (ℕ × Entry)) → more ≡ next → sum ≡ charge → others ≡ entries → IsTable next charge entries → IsTable more sum others

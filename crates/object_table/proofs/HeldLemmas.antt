@@ -1,6 +1,6 @@
 -- Objects under their names: the one of a name, and the objects when one is written.
 use Rattle.std.proofs.Common.{◌≡◌, ℕ, ◌+◌, ◌<◌, List, [], ◌∷◌, map, zero, suc, refl, ap, subst, ◌∙◌, arith, Option, Some, IfSome, rules}
-use Rattle.std.specs.Prelude.{All, ◌==◌, if◌then◌else◌, find, slice_get}
+use Rattle.std.specs.Prelude.{All, ◌==◌, if◌then◌else◌, find}
 use Rattle.std.specs.List.Sorted.{IsStrictlyIncreasing}
 use Rattle.std.specs.List.{AllPairs}
 use Rattle.std.specs.Option.{option_map}
@@ -11,10 +11,9 @@ use Rattle.std.proofs.lemmas.List.Elements.{All-nil, All-cons, All-head, All-tai
 use Rattle.std.proofs.lemmas.List.Kept.{AllPairs-from_increasing}
 use Rattle.std.proofs.lemmas.Option.{IfSome_then}
 use Rattle.vx_base.specs.Cell.{Cell}
-use Rattle.vx_base.specs.Image.{ImageValue}
-use Rattle.vx_base.specs.Object.{ObjectValue, ImageObject, DelayObject, IsObject}
+use Rattle.vx_base.specs.Object.{ObjectValue, IsObject}
 use Rattle.object_table.proofs.SlotLemmas.{IsObject-in_slot}
-use Rattle.object_table.specs.Delay.{in_slot, with_slot}
+use Rattle.object_table.specs.Delay.{with_slot}
 use Rattle.object_table.specs.Named.{Named, object_held, held, with_object}
 
 -- ---- names that increase
@@ -81,10 +80,6 @@ object_held-map f change [] name same changed = refl
 object_held-map f change (o ∷ objects) name same changed = grind (arith, object_held-map f change objects name same changed)
 
 -- ---- what a cell holds
-
--- what holds of each image that stands in a slot holds of what stands there
-pub slot_has : (P : ObjectValue → Type 0) (images : List ImageValue) (k : ℕ) → ((image : ImageValue) → slice_get images k ≡ Some image → P (ImageObject image)) → IfSome (in_slot (Some k) (DelayObject images)) P
-slot_has P images k h = grind arith
 
 -- what a cell holds is an object
 pub held_is : (objects : List Named) (cell : Cell) → All (λ o. IsObject o.object) objects → IfSome (held objects cell) IsObject

@@ -1,59 +1,40 @@
 -- Entries that are held, and what is left of them when uses and names end.
-use Rattle.std.proofs.Common.{◌≡◌, ℕ, ◌+◌, ◌-◌, Bool, true, false, cond, List, [], ◌∷◌, ◌++◌, length, map, IsTrue, Option, Some, None, refl, sym, ap, subst, ◌∙◌, arith}
+use Rattle.std.proofs.Common.{inl, inr, ◌≡◌, ℕ, ◌+◌, ◌-◌, true, false, cond, List, [], ◌∷◌, ◌++◌, length, map, IsTrue, Option, Some, None, refl, sym, ap, subst, ◌∙◌, arith}
 use Rattle.std.specs.Prelude.{All, ◌==◌, nat_lt, ◌||◌, unwrap_or}
 use Rattle.std.specs.Map.{keys_of, lookup, set_value, remove_entry}
 use Rattle.std.specs.BTreeMap.{is_at}
 use Rattle.std.specs.Ordering.{nat_cmp}
 use Rattle.std.specs.Option.{option_map}
-use Rattle.std.proofs.lemmas.Bool.{or_parts, or_left, or_from, ltb-false, le-ltb}
+use Rattle.std.proofs.lemmas.Bool.{cases_Bool, or_parts, or_left, or_from, ltb-false, le-ltb}
 use Rattle.std.proofs.lemmas.List.{length-map}
 use Rattle.std.proofs.lemmas.List.Elements.{All-head, All-tail, filter_passes}
-use Rattle.std.proofs.lemmas.List.Sums.{sum_by-cons}
 use Rattle.std.proofs.lemmas.Map.Keys.{sorted_tail}
 use Rattle.vx_base.specs.declared.numbered.Numbered.{Numbered}
 use Rattle.vx_base.specs.Object.{object_bytes, object_kind}
 use Rattle.object_table.specs.declared.table.Entry.{Entry}
 use Rattle.object_table.specs.Context.{charge_of}
-use Rattle.object_table.specs.Named.{Named}
+use Rattle.object_table.specs.Holds.{unnamed}
 use Rattle.object_table.specs.Table.{named, is_kept, kept, nodes_at, used_less, ended}
 use Rattle.object_table.specs.Uses.{nodes_in, times}
-use Rattle.object_table.proofs.EntryLemmas.{InOrder, same_name, past_head, charge_is, All-written, sum-written}
+use Rattle.object_table.proofs.EntryLemmas.{InOrder, same_name, past_head, charge_is, All-written, sum-written, sum-removed}
 use Rattle.object_table.proofs.UseLemmas.{with_uses, less, less_is, used-append, used-nil, shown-used}
 
 -- ---- what is kept
 
 pub all_kept : (entries : List (ℕ × Entry)) → All (λ e. IsTrue (is_kept e)) entries → kept entries ≡ entries
 all_kept [] h = refl
-all_kept (e ∷ entries) h =
-    ap (λ b. cond b (e ∷ kept entries) (kept entries)) (All-head (λ e. IsTrue (is_kept e)) e entries h)
-    ∙ ap (λ l. e ∷ l) (all_kept entries (All-tail (λ e. IsTrue (is_kept e)) e entries h))
+all_kept (e ∷ entries) h = grind (arith, all_kept entries (All-tail (λ e. IsTrue (is_kept e)) e entries h), All-head (λ e. IsTrue (is_kept e)) e entries h)
 
 -- a change by which nothing is held that wasn't: what was dropped before it would be dropped after it
 kept-map : (f : ℕ × Entry → ℕ × Entry) → ((e : ℕ × Entry) → is_kept e ≡ false → is_kept (f e) ≡ false) → (entries : List (ℕ × Entry)) → kept (map f (kept entries)) ≡ kept (map f entries)
 kept-map f still [] = refl
-kept-map f still (e ∷ entries) = either (is_kept e) refl (kept-map f still entries)
-  where
-    either : (b : Bool) → is_kept e ≡ b → kept (map f (kept entries)) ≡ kept (map f entries)
-        → kept (map f (cond b (e ∷ kept entries) (kept entries))) ≡ cond (is_kept (f e)) (f e ∷ kept (map f entries)) (kept (map f entries))
-    either true is rest = ap (λ l. cond (is_kept (f e)) (f e ∷ l) l) rest
-    either false is rest = rest ∙ ap (λ b. cond b (f e ∷ kept (map f entries)) (kept (map f entries))) (sym (still e is))
+kept-map f still (e ∷ entries) = grind (arith, kept-map f still entries, still e, cases_Bool (is_kept e))
 
 -- what is live is found as before
 kept-live : (entries : List (ℕ × Entry)) (name : ℕ) → option_map (λ (e : Entry). e.live) (lookup (is_at (nat_cmp name)) entries) ≡ Some true
     → lookup (is_at (nat_cmp name)) (kept entries) ≡ lookup (is_at (nat_cmp name)) entries
 kept-live [] name live = refl
-kept-live (e ∷ entries) name live = either (is_at (nat_cmp name) e.0) (is_kept e) refl refl live (kept-live entries name)
-  where
-    test : ℕ → Bool
-    test = is_at (nat_cmp name)
-
-    either : (b held : Bool) → test e.0 ≡ b → is_kept e ≡ held → option_map (λ (e : Entry). e.live) (cond b (Some e.1) (lookup test entries)) ≡ Some true
-        → (option_map (λ (e : Entry). e.live) (lookup test entries) ≡ Some true → lookup test (kept entries) ≡ lookup test entries)
-        → lookup test (cond held (e ∷ kept entries) (kept entries)) ≡ cond b (Some e.1) (lookup test entries)
-    either true true here is live rest = ap (λ b. cond b (Some e.1) (lookup test (kept entries))) here
-    either true false here is live rest = let on : e.1.live ≡ true = cc in let no : true ≡ false = sym (or_left e.1.live (nat_lt 0 e.1.uses) on) ∙ is in cc
-    either false true here is live rest = ap (λ b. cond b (Some e.1) (lookup test (kept entries))) here ∙ rest live
-    either false false here is live rest = rest live
+kept-live (e ∷ entries) name live = grind (arith, kept-live entries name, or_left e.1.live (nat_lt 0 e.1.uses))
 
 -- ---- an entry that is written, and dropped
 
@@ -68,24 +49,8 @@ pub dropped : (entries : List (ℕ × Entry)) (name : ℕ) (old new : Entry) →
     → (new.live || nat_lt 0 new.uses) ≡ false → remove_entry (is_at (nat_cmp name)) (set_value (is_at (nat_cmp name)) entries new) ≡ kept (set_value (is_at (nat_cmp name)) entries new)
 dropped [] name old new found held none = cc
 dropped (e ∷ entries) name old new found held none =
-    either (is_at (nat_cmp name) e.0) refl found (λ later. dropped entries name old new later (All-tail (λ e. IsTrue (is_kept e)) e entries held) none)
-  where
-    test : ℕ → Bool
-    test = is_at (nat_cmp name)
-
-    then : List (ℕ × Entry)
-    then = set_value test entries new
-
-    either : (b : Bool) → test e.0 ≡ b → cond b (Some e.1) (lookup test entries) ≡ Some old → (lookup test entries ≡ Some old → remove_entry test then ≡ kept then)
-        → remove_entry test (cond b ((e.0, new) ∷ entries) (e ∷ then)) ≡ kept (cond b ((e.0, new) ∷ entries) (e ∷ then))
-    either true here found rest =
-        ap (λ b. cond b entries ((e.0, new) ∷ remove_entry test entries)) here
-        ∙ sym (all_kept entries (All-tail (λ e. IsTrue (is_kept e)) e entries held))
-        ∙ ap (λ b. cond b ((e.0, new) ∷ kept entries) (kept entries)) (sym none)
-    either false here found rest =
-        ap (λ b. cond b then (e ∷ remove_entry test then)) here
-        ∙ ap (λ l. e ∷ l) (rest found)
-        ∙ ap (λ b. cond b (e ∷ kept then) (kept then)) (sym (All-head (λ e. IsTrue (is_kept e)) e entries held))
+    let others = All-tail (λ e. IsTrue (is_kept e)) e entries held in
+    grind (arith, dropped entries name old new, others, all_kept entries others, All-head (λ e. IsTrue (is_kept e)) e entries held)
 
 -- an object of as many bytes leaves the charge
 pub charge-written : (entries : List (ℕ × Entry)) (name : ℕ) (old new : Entry) → lookup (is_at (nat_cmp name)) entries ≡ Some old → new.object ≡ old.object
@@ -96,22 +61,8 @@ charge-written entries name old new found same =
 -- what is dropped isn't charged
 pub charge-removed : (entries : List (ℕ × Entry)) (name : ℕ) (old : Entry) → lookup (is_at (nat_cmp name)) entries ≡ Some old
     → charge_of (map named (remove_entry (is_at (nat_cmp name)) entries)) + object_bytes old.object ≡ charge_of (map named entries)
-charge-removed [] name old found = cc
-charge-removed (e ∷ entries) name old found = either (is_at (nat_cmp name) e.0) found (charge-removed entries name old)
-  where
-    test : ℕ → Bool
-    test = is_at (nat_cmp name)
-
-    sum : List (ℕ × Entry) → ℕ
-    sum l = charge_of (map named l)
-
-    more : (l : List (ℕ × Entry)) → sum (e ∷ l) ≡ object_bytes e.1.object + sum l
-    more l = sum_by-cons (λ (o : Named). object_bytes o.object) (named e) (map named l)
-
-    either : (b : Bool) → cond b (Some e.1) (lookup test entries) ≡ Some old → (lookup test entries ≡ Some old → sum (remove_entry test entries) + object_bytes old.object ≡ sum entries)
-        → sum (cond b entries (e ∷ remove_entry test entries)) + object_bytes old.object ≡ sum (e ∷ entries)
-    either true found rest = let same : e.1 ≡ old = cc in omega (arith, more entries, ap (λ (x : Entry). object_bytes x.object) same)
-    either false found rest = omega (arith, more entries, more (remove_entry test entries), rest found)
+charge-removed entries name old found =
+    omega (arith, charge_is entries, charge_is (remove_entry (is_at (nat_cmp name)) entries), sum-removed (λ e. object_bytes e.1.object) entries name old found)
 
 -- ---- uses that end
 
@@ -142,9 +93,6 @@ module _ (graph : ℕ) (names : List ℕ) (old now : List (ℕ × Entry)) (then 
       ap (lookup (is_at (nat_cmp graph))) then
       ∙ kept-live (used_less names old) graph (shown-used less less_is (λ live object. live) graph names old ∙ live)
 
-  pub live_kept : option_map (λ (e : Entry). e.live) (lookup (is_at (nat_cmp graph)) now) ≡ Some true
-  live_kept = ap (option_map (λ (e : Entry). e.live)) found-left ∙ shown-used less less_is (λ live object. live) graph names old ∙ live
-
   -- what is held under the name stays of its kind
   pub kind_kept : option_map (λ e. object_kind e.object) (lookup (is_at (nat_cmp graph)) now) ≡ option_map (λ e. object_kind e.object) (lookup (is_at (nat_cmp graph)) old)
   kind_kept = ap (option_map (λ (e : Entry). object_kind e.object)) found-left ∙ shown-used less less_is (λ live object. object_kind object) graph names old
@@ -166,57 +114,26 @@ module _ (graph : ℕ) (names : List ℕ) (old now : List (ℕ × Entry)) (then 
 -- a name that isn't there
 pub ended-none : (entries : List (ℕ × Entry)) (name : ℕ) → lookup (is_at (nat_cmp name)) entries ≡ None → entries ≡ ended name entries
 ended-none [] name none = refl
-ended-none (e ∷ entries) name none =
-    either (is_at (nat_cmp name) e.0) none (ended-none entries name)
-    ∙ ap (λ b. let n : Entry = e.1 in cond b (e.0, record n { live = false }) e ∷ ended name entries) (same_name name e.0)
-  where
-    either : (b : Bool) → cond b (Some e.1) (lookup (is_at (nat_cmp name)) entries) ≡ None → (lookup (is_at (nat_cmp name)) entries ≡ None → entries ≡ ended name entries)
-        → e ∷ entries ≡ (let n : Entry = e.1 in cond b (e.0, record n { live = false }) e ∷ ended name entries)
-    either true none rest = cc
-    either false none rest = ap (λ l. e ∷ l) (rest none)
+ended-none (e ∷ entries) name none = grind (arith, ended-none entries name, same_name name e.0)
 
 -- a name that is there
 pub ended-one : (entries : List (ℕ × Entry)) (name : ℕ) (old : Entry) → InOrder entries → lookup (is_at (nat_cmp name)) entries ≡ Some old
     → set_value (is_at (nat_cmp name)) entries (record old { live = false }) ≡ ended name entries
 ended-one [] name old order found = cc
-ended-one (e ∷ entries) name old order found =
-    either (is_at (nat_cmp name) e.0) refl found (ended-one entries name old (sorted_tail nat_cmp e.0 (keys_of entries) order))
-    ∙ ap (λ b. let n : Entry = e.1 in cond b (e.0, record n { live = false }) e ∷ ended name entries) (same_name name e.0)
-  where
-    new : Entry
-    new = record old { live = false }
+ended-one (e ∷ entries) name old order found = grind (arith, ended-one entries name old (sorted_tail nat_cmp e.0 (keys_of entries) order), ended-none entries name, past_head e entries name order, same_name name e.0)
 
-    either : (b : Bool) → is_at (nat_cmp name) e.0 ≡ b → cond b (Some e.1) (lookup (is_at (nat_cmp name)) entries) ≡ Some old
-        → (lookup (is_at (nat_cmp name)) entries ≡ Some old → set_value (is_at (nat_cmp name)) entries new ≡ ended name entries)
-        → cond b ((e.0, new) ∷ entries) (e ∷ set_value (is_at (nat_cmp name)) entries new) ≡ (let n : Entry = e.1 in cond b (e.0, record n { live = false }) e ∷ ended name entries)
-    either true here found rest =
-        let same : old ≡ e.1 = cc in
-        ap (λ (x : Entry). let d : ℕ × Entry = (e.0, record x { live = false }) in d ∷ entries) same
-        ∙ ap (λ l. let n : Entry = e.1 in let d : ℕ × Entry = (e.0, record n { live = false }) in d ∷ l) (ended-none entries name (past_head e entries name order here))
-    either false here found rest = ap (λ l. e ∷ l) (rest found)
+-- it isn't shown as live then
+pub shown-ended : (name : ℕ) (entries : List (ℕ × Entry)) → map named (ended name entries) ≡ unnamed (map named entries) name
+shown-ended name [] = refl
+shown-ended name (e ∷ entries) = grind (arith, shown-ended name entries, cases_Bool (e.0 == name))
 
 kept-ended : (name : ℕ) (entries : List (ℕ × Entry)) → kept (ended name (kept entries)) ≡ kept (ended name entries)
-kept-ended name entries = kept-map (λ e. let n : Entry = e.1 in cond (e.0 == name) (e.0, record n { live = false }) e) (λ e is. either e (e.0 == name) is) entries
-  where
-    either : (e : ℕ × Entry) (b : Bool) → is_kept e ≡ false → is_kept (let n : Entry = e.1 in cond b (e.0, record n { live = false }) e) ≡ false
-    either e true is = (or_parts e.1.live (nat_lt 0 e.1.uses) is).1
-    either e false is = is
+kept-ended name entries = kept-map (λ e. let n : Entry = e.1 in cond (e.0 == name) (e.0, record n { live = false }) e)
+    (λ e is. elim (cases_Bool (e.0 == name)) [ inl k ↦ rw k (or_parts e.1.live (nat_lt 0 e.1.uses) is).1 | inr k ↦ rw k is ]) entries
 
 ended-less : (name : ℕ) (names : List ℕ) (entries : List (ℕ × Entry)) → ended name (used_less names entries) ≡ used_less names (ended name entries)
 ended-less name names [] = refl
-ended-less name names (e ∷ entries) = either (e.0 == name) (ended-less name names entries)
-  where
-    -- an entry whose uses are less, and one that isn't live
-    fewer : ℕ × Entry → ℕ × Entry
-    fewer d = (d.0, with_uses d.1 (d.1.uses - times d.0 names))
-
-    over : ℕ × Entry → ℕ × Entry
-    over d = let n : Entry = d.1 in (d.0, record n { live = false })
-
-    either : (b : Bool) → ended name (used_less names entries) ≡ used_less names (ended name entries)
-        → cond b (over (fewer e)) (fewer e) ∷ ended name (used_less names entries) ≡ fewer (cond b (over e) e) ∷ used_less names (ended name entries)
-    either true rest = ap (λ l. fewer (over e) ∷ l) rest
-    either false rest = ap (λ l. fewer e ∷ l) rest
+ended-less name names (e ∷ entries) = grind (arith, ended-less name names entries, cases_Bool (e.0 == name))
 
 -- uses that end and then the name, as at once
 pub left-ended : (entries now next : List (ℕ × Entry)) (names : List ℕ) (name : ℕ) (old : Entry) → InOrder entries → lookup (is_at (nat_cmp name)) entries ≡ Some old

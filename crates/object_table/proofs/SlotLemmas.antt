@@ -64,9 +64,6 @@ IsObject-in_slot (Some k) (DelayObject images) h = image_is (slice_get images k)
     image_is (Some image) h = h image refl
 IsObject-in_slot (Some k) other h = tt
 
-pub IsObject-object_in : (slot : Option ℕ) (object : ObjectValue) → IsObject object → IsTrue (is_some (in_slot slot object)) → IsObject (object_in slot object)
-IsObject-object_in slot object h there = subst (λ (o : Option ObjectValue). IfSome o IsObject) (there_is slot object there) (IsObject-in_slot slot object h)
-
 -- ---- what is written
 
 -- an image in a slot, and another over it

@@ -1,7 +1,7 @@
 -- The first items of a list of samples: how many are this one, and what they fold to.
-use Rattle.std.proofs.Common.{◌≡◌, ℕ, ℤ, pos, ◌+◌, ◌-◌, ◌*◌, ◌<◌, ◌≤◌, List, [], ◌∷◌, length, map, take, drop, get_or, cond, true, false, eqb, ap, ◌∙◌, sym, refl, arith, rules, ◌⊎◌, inl, inr, ◌≢◌, suc, to_z, of_z, w16, FitsSigned, Bool}
+use Rattle.std.proofs.Common.{◌≡◌, ℕ, ℤ, pos, ◌+◌, ◌-◌, ◌*◌, ◌<◌, ◌≤◌, List, [], ◌∷◌, length, map, take, drop, get_or, cond, true, false, eqb, ap, ◌∙◌, sym, refl, arith, rules, inl, inr, suc, to_z, of_z, w16, FitsSigned}
 use Rattle.std.specs.Prelude.{count_by, slice_range}
-use Rattle.std.proofs.lemmas.Bool.{cases_eq, eq-eqb, ne_eqb}
+use Rattle.std.proofs.lemmas.Bool.{cases_Bool, cases_eq, eq-eqb, ne_eqb}
 use Rattle.std.proofs.lemmas.Bool.Decides.{Decides-int_eq}
 use Rattle.std.specs.List.{fold}
 use Rattle.std.specs.Ordering.{int_eq}
@@ -11,10 +11,6 @@ use Rattle.std.proofs.lemmas.List.{take-map, drop-map, get_or-map, take_more, ta
 use Rattle.std.proofs.lemmas.List.Sums.{sum_by-append, sum_by-cons, sum_by_more, sum_by-take-le, fold_push, count_by-le-length}
 use Rattle.vx_base.specs.Statistics.{chosen, count_of}
 
-pub bool_cases : (b : Bool) → (b ≡ true) ⊎ (b ≡ false)
-bool_cases true = inl refl
-bool_cases false = inr refl
-
 eq_from_test : (w z : ℤ) → int_eq w z ≡ true → w ≡ z
 eq_from_test w z h = (Decides-int_eq w z).0 h
 
@@ -22,11 +18,7 @@ pub test_same : (z : ℤ) → int_eq z z ≡ true
 test_same z = (Decides-int_eq z z).1 refl
 
 pub test_other : (w z : ℤ) → (w ≡ z → ⊥) → int_eq w z ≡ false
-test_other w z other = cases (bool_cases (int_eq w z))
-  where
-    cases : (int_eq w z ≡ true) ⊎ (int_eq w z ≡ false) → int_eq w z ≡ false
-    cases (inl holds) = absurd (other (eq_from_test w z holds))
-    cases (inr fails) = fails
+test_other w z other = elim (cases_Bool (int_eq w z)) [ inl holds ↦ absurd (other (eq_from_test w z holds)) | inr fails ↦ fails ]
 
 -- the number of a sample that is read
 pub number_read : {T : Type 0} (value : T → ℤ) (row : List T) (i : ℕ) (r : T) → i < length row → r ≡ get_or row i r → value r ≡ get_or (map value row) i (pos 0)
@@ -87,28 +79,24 @@ same_test x v = search (rules, ints)
 pub bytes_counted : (v : ℕ) (xs : List ℕ) → count_by (λ x. eqb x v) xs ≡ count_of (pos v) (map pos xs)
 bytes_counted v [] = refl
 bytes_counted v (x ∷ xs) =
-    sum_by-cons (λ x. cond (eqb x v) 1 0) x xs
-    ∙ ap (λ b. cond b 1 0 + count_by (λ x. eqb x v) xs) (same_test x v)
-    ∙ ap (λ n. cond (int_eq (pos x) (pos v)) 1 0 + n) (bytes_counted v xs)
-    ∙ sym (sum_by-cons (λ s. cond (int_eq s (pos v)) 1 0) (pos x) (map pos xs))
+    let same = ap (λ b. let n : ℕ = cond b 1 0 in n) (same_test x v) in
+    omega (arith, same, bytes_counted v xs, sum_by-cons (λ x. cond (eqb x v) 1 0) x xs, sum_by-cons (λ s. cond (int_eq s (pos v)) 1 0) (pos x) (map pos xs))
 
 same_bits : (z v : ℤ) → FitsSigned w16 z → FitsSigned w16 v → eqb (of_z w16 z) (of_z w16 v) ≡ int_eq z v
-same_bits z v fits v_fits = cases (cases_eq (of_z w16 z) (of_z w16 v))
-  where
-    cases : (of_z w16 z ≡ of_z w16 v) ⊎ (of_z w16 z ≢ of_z w16 v) → eqb (of_z w16 z) (of_z w16 v) ≡ int_eq z v
-    cases (inl same) =
-        let equal : z ≡ v = sym (to_z-of_z w16 z fits) ∙ ap (to_z w16) same ∙ to_z-of_z w16 v v_fits in
-        eq-eqb (of_z w16 z) (of_z w16 v) same ∙ sym (ap (λ w. int_eq w v) equal ∙ test_same v)
-    cases (inr other) = ne_eqb (of_z w16 z) (of_z w16 v) other ∙ sym (test_other z v (λ equal. other (ap (of_z w16) equal)))
+same_bits z v fits v_fits = elim (cases_eq (of_z w16 z) (of_z w16 v)) [
+  | inl same ↦ (
+      let equal : z ≡ v = sym (to_z-of_z w16 z fits) ∙ ap (to_z w16) same ∙ to_z-of_z w16 v v_fits in
+      eq-eqb (of_z w16 z) (of_z w16 v) same ∙ sym (ap (λ w. int_eq w v) equal ∙ test_same v))
+  | inr other ↦ ne_eqb (of_z w16 z) (of_z w16 v) other ∙ sym (test_other z v (λ equal. other (ap (of_z w16) equal)))
+]
 
 -- signed samples that are counted by their bits
 pub bits_counted : (v : ℤ) (zs : List ℤ) → FitsSigned w16 v → ((j : ℕ) → j < length zs → FitsSigned w16 (get_or zs j (pos 0))) → count_by (λ x. eqb x (of_z w16 v)) (map (of_z w16) zs) ≡ count_of v (map (λ z. z) zs)
 bits_counted v [] v_fits fits = refl
 bits_counted v (z ∷ zs) v_fits fits =
-    sum_by-cons (λ x. cond (eqb x (of_z w16 v)) 1 0) (of_z w16 z) (map (of_z w16) zs)
-    ∙ ap (λ b. cond b 1 0 + count_by (λ x. eqb x (of_z w16 v)) (map (of_z w16) zs)) (same_bits z v (fits 0 (omega arith)) v_fits)
-    ∙ ap (λ n. cond (int_eq z v) 1 0 + n) (bits_counted v zs v_fits (λ j h. fits (suc j) (omega arith)))
-    ∙ sym (sum_by-cons (λ s. cond (int_eq s v) 1 0) z (map (λ z. z) zs))
+    let same = ap (λ b. let n : ℕ = cond b 1 0 in n) (same_bits z v (fits 0 (omega arith)) v_fits) in
+    let rest = bits_counted v zs v_fits (λ j h. fits (suc j) (omega arith)) in
+    omega (arith, same, rest, sum_by-cons (λ x. cond (eqb x (of_z w16 v)) 1 0) (of_z w16 z) (map (of_z w16) zs), sum_by-cons (λ s. cond (int_eq s v) 1 0) z (map (λ z. z) zs))
 
 -- one more sample is chosen from
 pub next_chosen : {T : Type 0} (value : T → ℤ) (choose : ℤ → ℤ → ℤ) (row : List T) (a w next : ℤ) (i : ℕ) (r : T) → i < length row → r ≡ get_or row i r → w ≡ fold choose a (take i (map value row)) → next ≡ choose w (value r) → next ≡ fold choose a (take (i + 1) (map value row))

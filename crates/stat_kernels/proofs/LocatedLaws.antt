@@ -1,10 +1,11 @@
 -- Extremes of one more row.
-use Rattle.std.proofs.Common.{◌≡◌, ◌⊎◌, inl, inr, ℕ, ℤ, pos, ◌+◌, ◌<◌, ◌≤◌, List, [], ◌∷◌, ◌++◌, length, map, cond, Bool, true, false, ap, ◌∙◌, sym, refl, arith, Some, None, ◌-◌, take, get_or, add-one}
+use Rattle.std.proofs.Common.{◌≡◌, ℕ, ℤ, pos, ◌+◌, ◌<◌, ◌≤◌, List, [], ◌∷◌, ◌++◌, length, map, cond, Bool, true, false, ap, ◌∙◌, sym, refl, arith, Some, None, ◌-◌, take, get_or, add-one}
 use Rattle.std.specs.List.{fold, find, All}
 use Rattle.std.specs.Option.{unwrap_or, option_or}
 use Rattle.std.specs.Ordering.{int_eq}
 use Rattle.std.specs.Int.{int_min, int_max}
 use Rattle.std.specs.Prelude.{int_lt}
+use Rattle.std.proofs.lemmas.Bool.{cases_Bool}
 use Rattle.std.proofs.lemmas.Int.{ints}
 use Rattle.std.proofs.lemmas.List.{map-append, length-map}
 use Rattle.std.proofs.lemmas.List.Sums.{fold-append, sum_by-append, sum_by-cons, count_by-le-length}
@@ -18,33 +19,16 @@ use Rattle.stat_kernels.specs.Part.{IsValidPart}
 use Rattle.stat_kernels.proofs.Rows.{above}
 use Rattle.vx_base.proofs.TableLaws.{get_or-run}
 use Rattle.std.proofs.lemmas.List.FromFn.{take-map-range_with_len}
-use Rattle.stat_kernels.proofs.CountLaws.{bool_cases, test_same, test_other}
+use Rattle.stat_kernels.proofs.CountLaws.{test_same, test_other}
 use Rattle.stat_kernels.proofs.PlaceLaws.{next_places, row_samples, row_places-append}
 use Rattle.stat_kernels.specs.declared.located.Located.{Located}
 use Rattle.stat_kernels.specs.Located.{IsDirection, located, found_in}
 
 pub downwards : IsDirection int_min int_lt
-downwards = record {
-  takes = λ v z h. grind (arith, ints);
-  keeps = λ v z h. grind (arith, ints);
-  irreflexive = λ z. grind (arith, ints);
-  transitive = λ w z v a b. grind (arith, ints);
-  total = λ z v not other. grind (arith, ints);
-  associative = λ v z w. grind (arith, ints);
-}
+downwards = grind (arith, ints)
 
 pub upwards : IsDirection int_max (λ z v. int_lt v z)
-upwards = record {
-  takes = λ v z h. grind (arith, ints);
-  keeps = λ v z h. grind (arith, ints);
-  irreflexive = λ z. grind (arith, ints);
-  transitive = λ w z v a b. grind (arith, ints);
-  total = λ z v not other. grind (arith, ints);
-  associative = λ v z w. grind (arith, ints);
-}
-
-not_both : (b : Bool) {P : Type 0} → b ≡ true → b ≡ false → P
-not_both b holds fails = absurd (cc)
+upwards = grind (arith, ints)
 
 count_cons : (v a : ℤ) (zs : List ℤ) → count_of v (a ∷ zs) ≡ cond (int_eq a v) 1 0 + count_of v zs
 count_cons v a zs = sum_by-cons (λ s. cond (int_eq s v) 1 0) a zs
@@ -65,23 +49,14 @@ count_here v a zs same = omega (arith, count_cons v a zs, one_more a v same)
 module _ (choose : ℤ → ℤ → ℤ) (beyond : ℤ → ℤ → Bool) (d : IsDirection choose beyond) where
   -- what is not beyond one of two is not beyond the choice between them
   choice_kept : (a z w : ℤ) → beyond w a ≡ false → beyond w (choose a z) ≡ false
-  choice_kept a z w below = cases (bool_cases (beyond z a)) (bool_cases (beyond w z))
-    where
-      cases : (beyond z a ≡ true) ⊎ (beyond z a ≡ false) → (beyond w z ≡ true) ⊎ (beyond w z ≡ false) → beyond w (choose a z) ≡ false
-      cases (inr not) e = ap (beyond w) (d.keeps a z not) ∙ below
-      cases (inl is) (inl above) = not_both (beyond w a) (d.transitive w z a above is) below
-      cases (inl is) (inr not) = ap (beyond w) (d.takes a z is) ∙ not
+  choice_kept a z w below = grind (arith, cases_Bool (beyond z a), cases_Bool (beyond w z), d.takes a z, d.keeps a z, d.transitive w z a)
 
   fold_kept : (a w : ℤ) (zs : List ℤ) → beyond w a ≡ false → beyond w (fold choose a zs) ≡ false
   fold_kept a w [] below = below
   fold_kept a w (z ∷ zs) below = fold_kept (choose a z) w zs (choice_kept a z w below)
 
   choice_above : (a z : ℤ) → beyond z (choose a z) ≡ false
-  choice_above a z = cases (bool_cases (beyond z a))
-    where
-      cases : (beyond z a ≡ true) ⊎ (beyond z a ≡ false) → beyond z (choose a z) ≡ false
-      cases (inl is) = ap (beyond z) (d.takes a z is) ∙ d.irreflexive z
-      cases (inr not) = ap (beyond z) (d.keeps a z not) ∙ not
+  choice_above a z = grind (arith, cases_Bool (beyond z a), d.takes a z, d.keeps a z, d.irreflexive z)
 
   fold_above : (a : ℤ) (zs : List ℤ) → All (λ z. beyond z (fold choose a zs) ≡ false) zs
   fold_above a [] = All-nil (λ z. beyond z a ≡ false)
@@ -96,17 +71,9 @@ module _ (choose : ℤ → ℤ → ℤ) (beyond : ℤ → ℤ → Bool) (d : IsD
   -- the one that is chosen is one of them
   fold_counted : (a : ℤ) (zs : List ℤ) → 0 < count_of (fold choose a zs) (a ∷ zs)
   fold_counted a [] = count_here a a [] refl
-  fold_counted a (z ∷ zs) = cases (bool_cases (beyond z a)) (fold_counted (choose a z) zs)
-    where
-      v : ℤ
-      v = fold choose (choose a z) zs
-
-      counts : count_of v (a ∷ z ∷ zs) ≡ cond (int_eq a v) 1 0 + (cond (int_eq z v) 1 0 + count_of v zs)
-      counts = count_cons v a (z ∷ zs) ∙ ap (λ n. cond (int_eq a v) 1 0 + n) (count_cons v z zs)
-
-      cases : (beyond z a ≡ true) ⊎ (beyond z a ≡ false) → 0 < count_of v (choose a z ∷ zs) → 0 < count_of v (a ∷ z ∷ zs)
-      cases (inl is) some = omega (arith, counts, some, count_cons v (choose a z) zs, ap (λ w. let n : ℕ = cond (int_eq w v) 1 0 in n) (d.takes a z is))
-      cases (inr not) some = omega (arith, counts, some, count_cons v (choose a z) zs, ap (λ w. let n : ℕ = cond (int_eq w v) 1 0 in n) (d.keeps a z not))
+  fold_counted a (z ∷ zs) =
+      let v = fold choose (choose a z) zs in
+      grind (arith, fold_counted (choose a z) zs, cases_Bool (beyond z a), d.takes a z, d.keeps a z, count_cons v a (z ∷ zs), count_cons v z zs, count_cons v (choose a z) zs)
 
   nothing_counted : (zs : List ℤ) → count_of (chosen choose zs) zs ≡ 0 → zs ≡ []
   nothing_counted [] none = refl
@@ -116,7 +83,7 @@ module _ (choose : ℤ → ℤ → ℤ) (beyond : ℤ → ℤ → Bool) (d : IsD
   count_beyond : (v z : ℤ) (zs : List ℤ) → beyond z v ≡ true → All (λ w. beyond w v ≡ false) zs → count_of z zs ≡ 0
   count_beyond v z [] is below = refl
   count_beyond v z (a ∷ zs) is below =
-      let other : int_eq a z ≡ false = test_other a z (λ same. not_both (beyond z v) is (ap (λ w. beyond w v) (sym same) ∙ All-head (λ w. beyond w v ≡ false) a zs below)) in
+      let other : int_eq a z ≡ false = test_other a z (λ same. cc (is, same, All-head (λ w. beyond w v ≡ false) a zs below)) in
       omega (arith, count_cons z a zs, ap (λ b. let n : ℕ = cond b 1 0 in n) other, count_beyond v z zs is (All-tail (λ w. beyond w v ≡ false) a zs below))
 
   fold_joined : (a z : ℤ) (zs : List ℤ) → fold choose (choose a z) zs ≡ choose a (fold choose z zs)
@@ -144,44 +111,25 @@ module _ (choose : ℤ → ℤ → ℤ) (beyond : ℤ → ℤ → Bool) (d : IsD
 
 -- ---- the first place
 
-holds : (f : ℕ → ℕ → ℤ) (v : ℤ) → ℕ × ℕ → Bool
+abbrev holds : (f : ℕ → ℕ → ℤ) (v : ℤ) → ℕ × ℕ → Bool
 holds f v p = int_eq (f p.0 p.1) v
 
-samples : (f : ℕ → ℕ → ℤ) → List (ℕ × ℕ) → List ℤ
+abbrev samples : (f : ℕ → ℕ → ℤ) → List (ℕ × ℕ) → List ℤ
 samples f ps = map (λ p. f p.0 p.1) ps
 
 found_none : (f : ℕ → ℕ → ℤ) (v : ℤ) (ps : List (ℕ × ℕ)) → count_of v (samples f ps) ≡ 0 → find (holds f v) ps ≡ None
-unfolding holds samples
 found_none f v [] none = refl
-found_none f v (p ∷ ps) none = cases (bool_cases (int_eq (f p.0 p.1) v)) (found_none f v ps)
-  where
-    count : count_of v (samples f (p ∷ ps)) ≡ cond (int_eq (f p.0 p.1) v) 1 0 + count_of v (samples f ps)
-    count = sum_by-cons (λ s. cond (int_eq s v) 1 0) (f p.0 p.1) (samples f ps)
-
-    cases : (int_eq (f p.0 p.1) v ≡ true) ⊎ (int_eq (f p.0 p.1) v ≡ false) → (count_of v (samples f ps) ≡ 0 → find (holds f v) ps ≡ None) → find (holds f v) (p ∷ ps) ≡ None
-    cases (inl is) rest = absurd (omega (arith, none, count, ap (λ b. let n : ℕ = cond b 1 0 in n) is))
-    cases (inr not) rest = ap (λ b. cond b (Some p) (find (holds f v) ps)) not ∙ rest (omega (arith, none, count, ap (λ b. let n : ℕ = cond b 1 0 in n) not))
+found_none f v (p ∷ ps) none = grind (arith, found_none f v ps, count_cons v (f p.0 p.1) (samples f ps), cases_Bool (int_eq (f p.0 p.1) v))
 
 found_kept : (f : ℕ → ℕ → ℤ) (v : ℤ) (ps qs : List (ℕ × ℕ)) → 0 < count_of v (samples f ps) → find (holds f v) (ps ++ qs) ≡ find (holds f v) ps
-unfolding holds samples
 found_kept f v [] qs some = absurd (omega (arith, some))
-found_kept f v (p ∷ ps) qs some = cases (bool_cases (int_eq (f p.0 p.1) v)) (found_kept f v ps qs)
-  where
-    count : count_of v (samples f (p ∷ ps)) ≡ cond (int_eq (f p.0 p.1) v) 1 0 + count_of v (samples f ps)
-    count = sum_by-cons (λ s. cond (int_eq s v) 1 0) (f p.0 p.1) (samples f ps)
-
-    cases : (int_eq (f p.0 p.1) v ≡ true) ⊎ (int_eq (f p.0 p.1) v ≡ false) → (0 < count_of v (samples f ps) → find (holds f v) (ps ++ qs) ≡ find (holds f v) ps) → find (holds f v) ((p ∷ ps) ++ qs) ≡ find (holds f v) (p ∷ ps)
-    cases (inl is) rest = ap (λ b. cond b (Some p) (find (holds f v) (ps ++ qs))) is ∙ sym (ap (λ b. cond b (Some p) (find (holds f v) ps)) is)
-    cases (inr not) rest =
-        ap (λ b. cond b (Some p) (find (holds f v) (ps ++ qs))) not ∙ rest (omega (arith, some, count, ap (λ b. let n : ℕ = cond b 1 0 in n) not)) ∙ sym (ap (λ b. cond b (Some p) (find (holds f v) ps)) not)
+found_kept f v (p ∷ ps) qs some = grind (arith, found_kept f v ps qs, count_cons v (f p.0 p.1) (samples f ps), cases_Bool (int_eq (f p.0 p.1) v))
 
 found_behind : (f : ℕ → ℕ → ℤ) (v : ℤ) (ps qs : List (ℕ × ℕ)) → count_of v (samples f ps) ≡ 0 → find (holds f v) (ps ++ qs) ≡ find (holds f v) qs
-unfolding holds samples
 found_behind f v ps qs none = find-append (holds f v) ps qs ∙ ap (λ o. option_or o (find (holds f v) qs)) (found_none f v ps none)
 
 -- where a row holds it first
 first_in_row : (f : ℕ → ℕ → ℤ) (v : ℤ) (x n y i m : ℕ) → n ≡ i + (m + 1) → count_of v (samples f (row_places x i y)) ≡ 0 → f (x + i) y ≡ v → find (holds f v) (row_places x n y) ≡ Some (x + i, y)
-unfolding holds samples
 first_in_row f v x n y i m split none is =
     ap (λ k. find (holds f v) (row_places x k y)) split
     ∙ ap (find (holds f v)) (row_places-append x i (m + 1) y)
@@ -196,18 +144,13 @@ parts value count place = record { value = value; count = count; at = place }
 
 -- an extreme by its parts
 is_located : (choose : ℤ → ℤ → ℤ) (f : ℕ → ℕ → ℤ) (ps : List (ℕ × ℕ)) (v : ℤ) (n : ℕ) (p : ℕ × ℕ) → v ≡ chosen choose (samples f ps) → n ≡ count_of v (samples f ps) → p ≡ unwrap_or (find (holds f v) ps) (0, 0) → parts v n p ≡ located choose f ps
-unfolding holds samples
-is_located choose f ps v n p value count place =
-    ap (λ m. parts v m p) count
-    ∙ ap (parts v (count_of v (samples f ps))) place
-    ∙ ap (λ w. parts w (count_of w (samples f ps)) (first_of f w ps)) value
+is_located choose f ps v n p value count place = rw (count, place, value) refl
 
 module _ (choose : ℤ → ℤ → ℤ) (beyond : ℤ → ℤ → Bool) (d : IsDirection choose beyond) (f : ℕ → ℕ → ℤ) (ws : List ℤ) (x n y : ℕ) (wide : length ws ≡ n) (some : 0 < n) (row : ws ≡ run x n (λ k. f k y)) (v : ℤ) (is : v ≡ chosen choose ws) where
-  next : List (ℕ × ℕ) → List (ℕ × ℕ)
+  abbrev next : List (ℕ × ℕ) → List (ℕ × ℕ)
   next ps = ps ++ row_places x n y
 
   next_samples : (ps : List (ℕ × ℕ)) → samples f (next ps) ≡ samples f ps ++ ws
-  unfolding samples next
   next_samples ps = map-append (λ p. f p.0 p.1) ps (row_places x n y) ∙ ap (λ l. samples f ps ++ l) (row_samples f x n y ∙ sym row)
 
   next_count : (ps : List (ℕ × ℕ)) (w : ℤ) → count_of w (samples f (next ps)) ≡ count_of w (samples f ps) + count_of w ws
@@ -215,7 +158,6 @@ module _ (choose : ℤ → ℤ → ℤ) (beyond : ℤ → ℤ → Bool) (d : IsD
 
   -- the row's extreme takes the place of another
   row_taken : (ps : List (ℕ × ℕ)) (m i : ℕ) → v ≡ chosen choose (samples f (next ps)) → count_of v (samples f ps) ≡ 0 → m ≡ count_of v ws → i < n → get_or ws i (pos 0) ≡ v → count_of v (take i ws) ≡ 0 → parts v m (x + i, y) ≡ located choose f (next ps)
-  unfolding samples next
   row_taken ps m i value none count below here before =
       let left : samples f (row_places x i y) ≡ take i ws = row_samples f x i y ∙ sym (ap (take i) row ∙ take-map-range_with_len (λ k. f k y) x n i (omega (arith, below))) in
       let at_place : f (x + i) y ≡ v = sym (ap (λ l. get_or l i (pos 0)) row ∙ get_or-run (λ k. f k y) x n i (pos 0) below) ∙ here in
@@ -225,7 +167,6 @@ module _ (choose : ℤ → ℤ → ℤ) (beyond : ℤ → ℤ → Bool) (d : IsD
 
   -- an extreme is kept
   row_passed : (ps : List (ℕ × ℕ)) (m : ℕ) → let w = chosen choose (samples f ps) in 0 < count_of w (samples f ps) → beyond v w ≡ false → m ≡ count_of w (samples f ps) + count_of w ws → parts w m (first_of f w ps) ≡ located choose f (next ps)
-  unfolding holds samples next
   row_passed ps m among not count =
       let w = chosen choose (samples f ps) in
       is_located choose f (next ps) w m (first_of f w ps)
@@ -236,25 +177,20 @@ module _ (choose : ℤ → ℤ → ℤ) (beyond : ℤ → ℤ → Bool) (d : IsD
   -- the old extreme and the row's, at each way through the code
   module _ (ps : List (ℕ × ℕ)) (old : Located) (same : old ≡ located choose f ps) where
     same_value : old.value ≡ chosen choose (samples f ps)
-    unfolding samples
     same_value = ap (λ (l : Located). l.value) same
 
     same_count : old.count ≡ count_of (chosen choose (samples f ps)) (samples f ps)
-    unfolding samples
     same_count = ap (λ (l : Located). l.count) same
 
     same_place : old.at ≡ first_of f (chosen choose (samples f ps)) ps
-    unfolding samples
     same_place = ap (λ (l : Located). l.at) same
 
     pub joins_first : old.count ≡ 0 → (m i : ℕ) → m ≡ count_of v ws → i < n → get_or ws i (pos 0) ≡ v → count_of v (take i ws) ≡ 0 → parts v m (x + i, y) ≡ located choose f (ps ++ row_places x n y)
-    unfolding next
     joins_first none m i =
         let empty : samples f ps ≡ [] = nothing_counted choose beyond d (samples f ps) (sym same_count ∙ none) in
         row_taken ps m i (is ∙ sym (ap (chosen choose) (next_samples ps ∙ ap (λ l. l ++ ws) empty))) (ap (count_of v) empty)
 
     pub joins_beyond : beyond v old.value ≡ true → (m i : ℕ) → m ≡ count_of v ws → i < n → get_or ws i (pos 0) ≡ v → count_of v (take i ws) ≡ 0 → parts v m (x + i, y) ≡ located choose f (ps ++ row_places x n y)
-    unfolding next
     joins_beyond above m i =
         let zs = samples f ps in
         let here : beyond v (chosen choose zs) ≡ true = ap (beyond v) (sym same_value) ∙ above in
@@ -263,7 +199,6 @@ module _ (choose : ℤ → ℤ → ℤ) (beyond : ℤ → ℤ → Bool) (d : IsD
         (count_beyond choose beyond d (chosen choose zs) v zs here (none_beyond choose beyond d zs))
 
     joins_kept : (m : ℕ) → 0 < old.count → beyond v old.value ≡ false → m ≡ old.count + count_of old.value ws → parts old.value m old.at ≡ located choose f (ps ++ row_places x n y)
-    unfolding next
     joins_kept m among below count =
         ap (λ q. parts old.value m q) same_place
         ∙ ap (λ w. parts w m (first_of f (chosen choose (samples f ps)) ps)) same_value
@@ -281,11 +216,8 @@ module _ (choose : ℤ → ℤ → ℤ) (beyond : ℤ → ℤ → Bool) (d : IsD
         joins_kept old.count among below (omega (arith, count_beyond choose beyond d (chosen choose ws) old.value ws above (none_beyond choose beyond d ws)))
 
 -- no count is above the number of places
-pub least_at_most : (f : ℕ → ℕ → ℤ) (ps : List (ℕ × ℕ)) → (found_in f ps).least.count ≤ length ps
-least_at_most f ps = omega (arith, count_by-le-length (λ s. int_eq s (chosen int_min (map (λ p. f p.0 p.1) ps))) (map (λ p. f p.0 p.1) ps), length-map ps (λ p. f p.0 p.1))
-
-pub greatest_at_most : (f : ℕ → ℕ → ℤ) (ps : List (ℕ × ℕ)) → (found_in f ps).greatest.count ≤ length ps
-greatest_at_most f ps = omega (arith, count_by-le-length (λ s. int_eq s (chosen int_max (map (λ p. f p.0 p.1) ps))) (map (λ p. f p.0 p.1) ps), length-map ps (λ p. f p.0 p.1))
+pub at_most : (choose : ℤ → ℤ → ℤ) (f : ℕ → ℕ → ℤ) (ps : List (ℕ × ℕ)) → (located choose f ps).count ≤ length ps
+at_most choose f ps = omega (arith, count_by-le-length (λ s. int_eq s (chosen choose (samples f ps))) (samples f ps), length-map ps (λ p. f p.0 p.1))
 
 -- one more row
 pub next_found : (image : ImageValue) (part : Part) → IsValidPart image part → (y n : ℕ) (row : List ℤ) (old new : Found) → part.top ≤ y → n ≡ part.count → row ≡ run part.x part.count (λ k. at image k y)

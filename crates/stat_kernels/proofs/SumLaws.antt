@@ -6,7 +6,7 @@ use Rattle.std.proofs.Math.Seq.{take-append_seam, take-append-add, drop-append_s
 use Rattle.std.proofs.lemmas.Simd.{length-chunk}
 use Rattle.std.proofs.lemmas.Bool.{cases_lt}
 use Rattle.std.proofs.lemmas.Bool.Decides.{nat_tests}
-use Rattle.std.proofs.lemmas.List.{take-map, ext_get_or, get_or-map, length-map, map-append, get_or-replicate, get_or_past, length-replicate, length-append, drop-take, take-take}
+use Rattle.std.proofs.lemmas.List.{take-map, ext_get_or, get_or-map, length-map, map-append, get_or_past, length-append, drop-take, take-take}
 use Rattle.std.proofs.lemmas.List.FromFn.{take-map-range_with_len}
 use Rattle.std.proofs.lemmas.List.Sums.{sum_by-append, sum_by-cons, sum_by_more}
 use Rattle.vx_base.specs.Rectangle.{Rectangle, whole, meet_of}
@@ -19,6 +19,7 @@ use Rattle.stat_kernels.specs.Part.{IsValidPart}
 use Rattle.stat_kernels.proofs.Rows.{above}
 use Rattle.stat_kernels.specs.Sums.{corner, sum_before, sum_below, AreSums, AreAbove, last_row}
 use Rattle.stat_kernels.proofs.PlaceLaws.{samples_none, samples_more}
+use Rattle.stat_kernels.proofs.TallyLaws.{zero_at}
 
 -- the sum of the first bytes
 pub bytes_at_most : (row : List ℕ) (k : ℕ) → ((i : ℕ) → get_or row i 0 < 256) → k ≤ length row → sum (take k row) ≤ 255 * k
@@ -54,11 +55,10 @@ sum_at image x y a b d e = ap (λ r. pos (sum_by unsigned_abs (samples_in r imag
 
 -- how much a row adds
 pub added_at_most : (old sums row : List ℕ) (k : ℕ) → length sums ≡ length row → ((i : ℕ) → get_or row i 0 < 256) → ((j : ℕ) → j < length row → get_or sums j 0 ≡ sum_below old row j) → get_or sums k 0 ≤ get_or old k 0 + 255 * length row
-added_at_most old sums row k long small more = cases (cases_lt k (length row))
-  where
-    cases : (k < length row) ⊎ (length row ≤ k) → get_or sums k 0 ≤ get_or old k 0 + 255 * length row
-    cases (inl below) = omega (arith, more k below, bytes_at_most row (k + 1) small (omega (arith, below)))
-    cases (inr past) = omega (arith, get_or_past sums k 0 (omega (arith, long, past)))
+added_at_most old sums row k long small more = elim (cases_lt k (length row)) [
+  | inl below ↦ omega (arith, more k below, bytes_at_most row (k + 1) small (omega (arith, below)))
+  | inr past ↦ omega (arith, get_or_past sums k 0 (omega (arith, long, past)))
+]
 
 -- ---- a row of the integral image
 
@@ -72,11 +72,8 @@ map-zeros n = map-replicate pos n 0
 -- a row beside the valid part
 pub row_of_zeros : (image : ImageValue) (part : Part) → IsValidPart image part → (y : ℕ) (out : List ℕ) → ((y < part.top) ⊎ (part.bottom ≤ y)) → out ≡ replicate image.width 0 → map pos out ≡ run 0 image.width (λ x. within image.valid (sum_to image) x y)
 row_of_zeros image part is y out beside zeros =
-    ap (map pos) zeros ∙ map-zeros image.width ∙ sym (row_outside image.valid (sum_to image) image.width y (at_rows beside))
-  where
-    at_rows : (y < part.top) ⊎ (part.bottom ≤ y) → (y < image.valid.y0) ⊎ (image.valid.y1 ≤ y)
-    at_rows (inl before) = inl (omega (arith, is.top))
-    at_rows (inr after) = inr (omega (arith, is.bottom))
+    let at_rows : (y < image.valid.y0) ⊎ (image.valid.y1 ≤ y) = elim beside [ inl before ↦ inl (omega (arith, is.top)) | inr after ↦ inr (omega (arith, is.bottom)) ] in
+    ap (map pos) zeros ∙ map-zeros image.width ∙ sym (row_outside image.valid (sum_to image) image.width y at_rows)
 
 run_of_sums : (sums : List ℕ) (x n : ℕ) (f : ℕ → ℤ) → length sums ≡ n → ((k : ℕ) → k < n → pos (get_or sums k 0) ≡ f (x + k)) → map pos sums ≡ run x n f
 run_of_sums sums x n f long same =
@@ -143,16 +140,9 @@ module _ (image : ImageValue) (part : Part) (is : IsValidPart image part) (y : �
 -- before the first row
 zero_sums : (image : ImageValue) (count y : ℕ) → y ≡ image.valid.y0 → AreSums image y (replicate count 0)
 zero_sums image count y first = record {
-  value = λ k h. zero_at k ∙ sym (ap (sum_before image (image.valid.x0 + k + 1)) first ∙ sum_none image (image.valid.x0 + k + 1));
-  bound = λ k. omega (arith, zero_at k);
+  value = λ k h. zero_at count k ∙ sym (ap (sum_before image (image.valid.x0 + k + 1)) first ∙ sum_none image (image.valid.x0 + k + 1));
+  bound = λ k. omega (arith, zero_at count k);
 }
-  where
-    zero_at : (k : ℕ) → get_or (replicate {A = ℕ} count 0) k 0 ≡ 0
-    zero_at k = zero_in (cases_lt k count)
-      where
-        zero_in : (k < count) ⊎ (count ≤ k) → get_or (replicate {A = ℕ} count 0) k 0 ≡ 0
-        zero_in (inl below) = get_or-replicate {A = ℕ} count k 0 0 below
-        zero_in (inr past) = get_or_past (replicate {A = ℕ} count 0) k 0 (omega (arith, length-replicate {A = ℕ} count 0))
 
 -- ---- the row above
 

@@ -12,7 +12,7 @@ use Rattle.vx_base.specs.Statistics.{BinsValue, bin_of, is_bin, tallies}
 use Rattle.stat_kernels.specs.Counts.{count_at, count_in_all}
 
 -- of these samples how many are below v and fall into bin k
-count_below : BinsValue → ℕ → List ℤ → ℕ → ℕ
+abbrev count_below : BinsValue → ℕ → List ℤ → ℕ → ℕ
 count_below b v zs k = count_by (λ z. nat_lt (unsigned_abs z) v && is_bin k (bin_of b (unsigned_abs z))) zs
 
 -- of the samples below v how many fall into each bin
@@ -29,16 +29,8 @@ length-tallies b v zs = length-map-range_with_len (count_below b v zs) 0 b.bins
 
 -- nothing is counted yet
 none_below : (b : BinsValue) (zs : List ℤ) (k : ℕ) → count_below b 0 zs k ≡ 0
-unfolding count_below
 none_below b [] k = refl
-none_below b (z ∷ zs) k =
-    let not : nat_lt (unsigned_abs z) 0 ≡ false = grind (arith, nat_tests) in
-    omega (
-      arith,
-      sum_by-cons (λ s. cond (nat_lt (unsigned_abs s) 0 && is_bin k (bin_of b (unsigned_abs s))) 1 0) z zs,
-      ap (λ t. let m : ℕ = cond (t && is_bin k (bin_of b (unsigned_abs z))) 1 0 in m) not,
-      none_below b zs k,
-    )
+none_below b (z ∷ zs) k = grind (arith, nat_tests, sum_by-cons, none_below b zs k)
 
 pub tallies_none : (b : BinsValue) (zs : List ℤ) (n : ℕ) → n ≡ b.bins → replicate n 0 ≡ tallies_below b 0 zs
 tallies_none b zs n size =
@@ -52,52 +44,25 @@ module _ (q : ℕ → Bool) (v : ℕ) where
   item v x = cond (nat_lt x v && q x) 1 0
 
   item_more : (x : ℕ) → q v ≡ true → item (v + 1) x ≡ item v x + cond (x == v) 1 0
-  item_more x is = cases (cases_eq x v)
-    where
-      cases : (x ≡ v) ⊎ (x ≢ v) → item (v + 1) x ≡ item v x + cond (x == v) 1 0
-      cases (inl same) = grind (arith, nat_tests, same, ap q same ∙ is)
-      cases (inr other) = cases_lt_of (cases_lt x v)
-        where
-          cases_lt_of : (x < v) ⊎ (v ≤ x) → item (v + 1) x ≡ item v x + cond (x == v) 1 0
-          cases_lt_of (inl below) = grind (arith, nat_tests)
-          cases_lt_of (inr past) = grind (arith, nat_tests)
+  item_more x is = grind (arith, nat_tests, cases_eq x v, cases_lt x v)
 
   item_same : (x : ℕ) → q v ≡ false → item (v + 1) x ≡ item v x
-  item_same x not = cases (cases_eq x v)
-    where
-      cases : (x ≡ v) ⊎ (x ≢ v) → item (v + 1) x ≡ item v x
-      cases (inl same) = grind (arith, nat_tests, same, ap q same ∙ not)
-      cases (inr other) = cases_lt_of (cases_lt x v)
-        where
-          cases_lt_of : (x < v) ⊎ (v ≤ x) → item (v + 1) x ≡ item v x
-          cases_lt_of (inl below) = grind (arith, nat_tests)
-          cases_lt_of (inr past) = grind (arith, nat_tests)
+  item_same x not = grind (arith, nat_tests, cases_eq x v, cases_lt x v)
+
+count_below-cons : (b : BinsValue) (v k : ℕ) (z : ℤ) (zs : List ℤ) → count_below b v (z ∷ zs) k ≡ cond (nat_lt (unsigned_abs z) v && is_bin k (bin_of b (unsigned_abs z))) 1 0 + count_below b v zs k
+count_below-cons b v k z zs = sum_by-cons (λ s. cond (nat_lt (unsigned_abs s) v && is_bin k (bin_of b (unsigned_abs s))) 1 0) z zs
 
 -- the samples of one more value fall into a bin, or into none
 count_more : (b : BinsValue) (v k : ℕ) (zs : List ℤ) → is_bin k (bin_of b v) ≡ true → count_below b (v + 1) zs k ≡ count_below b v zs k + count_at v zs
-unfolding count_below
 count_more b v k [] is = refl
 count_more b v k (z ∷ zs) is =
-    omega (
-      arith,
-      sum_by-cons (λ s. cond (nat_lt (unsigned_abs s) (v + 1) && is_bin k (bin_of b (unsigned_abs s))) 1 0) z zs,
-      sum_by-cons (λ s. cond (nat_lt (unsigned_abs s) v && is_bin k (bin_of b (unsigned_abs s))) 1 0) z zs,
-      sum_by-cons (λ s. cond (unsigned_abs s == v) 1 0) z zs,
-      item_more (λ x. is_bin k (bin_of b x)) v (unsigned_abs z) is,
-      count_more b v k zs is,
-    )
+    let here = item_more (λ x. is_bin k (bin_of b x)) v (unsigned_abs z) is in
+    omega (arith, here, count_below-cons b (v + 1) k z zs, count_below-cons b v k z zs, sum_by-cons (λ s. cond (unsigned_abs s == v) 1 0) z zs, count_more b v k zs is)
 
 count_same : (b : BinsValue) (v k : ℕ) (zs : List ℤ) → is_bin k (bin_of b v) ≡ false → count_below b (v + 1) zs k ≡ count_below b v zs k
-unfolding count_below
 count_same b v k [] not = refl
 count_same b v k (z ∷ zs) not =
-    omega (
-      arith,
-      sum_by-cons (λ s. cond (nat_lt (unsigned_abs s) (v + 1) && is_bin k (bin_of b (unsigned_abs s))) 1 0) z zs,
-      sum_by-cons (λ s. cond (nat_lt (unsigned_abs s) v && is_bin k (bin_of b (unsigned_abs s))) 1 0) z zs,
-      item_same (λ x. is_bin k (bin_of b x)) v (unsigned_abs z) not,
-      count_same b v k zs not,
-    )
+    omega (arith, count_below-cons b (v + 1) k z zs, count_below-cons b v k z zs, item_same (λ x. is_bin k (bin_of b x)) v (unsigned_abs z) not, count_same b v k zs not)
 
 -- one more value, whose samples fall into no bin
 pub tallies_same : (b : BinsValue) (v : ℕ) (zs : List ℤ) → bin_of b v ≡ None → tallies_below b v zs ≡ tallies_below b (v + 1) zs
@@ -109,38 +74,29 @@ tallies_same b v zs outside =
 -- one more value, whose samples fall into a bin
 pub tallies_more : (b : BinsValue) (v : ℕ) (zs : List ℤ) (bin : ℕ) → bin_of b v ≡ Some bin → bin < b.bins → set (tallies_below b v zs) bin (get_or (tallies_below b v zs) bin 0 + count_at v zs) ≡ tallies_below b (v + 1) zs
 tallies_more b v zs bin is room =
-    same_lists (set (tallies_below b v zs) bin (get_or (tallies_below b v zs) bin 0 + count_at v zs)) (tallies_below b (v + 1) zs)
-    (length-set (tallies_below b v zs) bin (get_or (tallies_below b v zs) bin 0 + count_at v zs) ∙ length-tallies b v zs ∙ sym (length-tallies b (v + 1) zs))
-    (λ k d h. let below : k < b.bins = omega (arith, length-tallies b v zs, length-set (tallies_below b v zs) bin (get_or (tallies_below b v zs) bin 0 + count_at v zs)) in
+    let was = tallies_below b v zs in
+    let n = get_or was bin 0 + count_at v zs in
+    same_lists (set was bin n) (tallies_below b (v + 1) zs) (length-set was bin n ∙ length-tallies b v zs ∙ sym (length-tallies b (v + 1) zs))
+    (λ k d h. let below : k < b.bins = omega (arith, length-tallies b v zs, length-set was bin n) in
     at k d below (cases_eq bin k) ∙ sym (tally_at b (v + 1) zs k d below))
   where
     at : (k d : ℕ) → k < b.bins → (bin ≡ k) ⊎ (bin ≢ k) → get_or (set (tallies_below b v zs) bin (get_or (tallies_below b v zs) bin 0 + count_at v zs)) k d ≡ count_below b (v + 1) zs k
-    at k d below (inl same) =
-        ap (λ j. get_or (set (tallies_below b v zs) bin (get_or (tallies_below b v zs) bin 0 + count_at v zs)) j d) (sym same)
-        ∙ get_or-set_same (tallies_below b v zs) bin (get_or (tallies_below b v zs) bin 0 + count_at v zs) d (omega (arith, length-tallies b v zs))
-        ∙ ap (λ n. n + count_at v zs) (tally_at b v zs bin 0 room)
-        ∙ sym (count_more b v bin zs (ap (is_bin bin) is ∙ grind (arith, nat_tests)))
-        ∙ ap (count_below b (v + 1) zs) same
+    at k d below (inl same) = rw (← same) (
+        get_or-set_same (tallies_below b v zs) bin (get_or (tallies_below b v zs) bin 0 + count_at v zs) d (omega (arith, length-tallies b v zs))
+        ∙ ap (λ n. n + count_at v zs) (tally_at b v zs bin 0 room) ∙ sym (count_more b v bin zs (ap (is_bin bin) is ∙ grind (arith, nat_tests))))
     at k d below (inr other) =
         get_or-set_other (tallies_below b v zs) bin k (get_or (tallies_below b v zs) bin 0 + count_at v zs) d (λ e. other (sym e))
-        ∙ tally_at b v zs k d below
-        ∙ sym (count_same b v k zs (ap (is_bin k) is ∙ grind (arith, nat_tests, other)))
+        ∙ tally_at b v zs k d below ∙ sym (count_same b v k zs (ap (is_bin k) is ∙ grind (arith, nat_tests, other)))
 
 -- one more value, at each way through the code
 pub value_some : (b : BinsValue) (v : ℕ) (zs : List ℤ) (counts next : List ℕ) (i bin total : ℕ) → counts ≡ tallies_below b v zs → next ≡ set counts i (get_or counts i 0 + total) → i ≡ bin → bin_of b v ≡ Some bin → bin < b.bins → total ≡ count_at v zs → next ≡ tallies_below b (v + 1) zs
-value_some b v zs counts next i bin total are is at falls below counted =
-    is
-    ∙ ap (λ j. set counts j (get_or counts j 0 + total)) at
-    ∙ ap (λ l. set l bin (get_or l bin 0 + total)) are
-    ∙ ap (λ n. set (tallies_below b v zs) bin (get_or (tallies_below b v zs) bin 0 + n)) counted
-    ∙ tallies_more b v zs bin falls below
+value_some b v zs counts next i bin total are is at falls below counted = rw (is, at, are, counted) (tallies_more b v zs bin falls below)
 
 pub value_none : (b : BinsValue) (v : ℕ) (zs : List ℤ) (counts next : List ℕ) → counts ≡ tallies_below b v zs → next ≡ counts → bin_of b v ≡ None → next ≡ tallies_below b (v + 1) zs
 value_none b v zs counts next are is outside = is ∙ are ∙ tallies_same b v zs outside
 
 -- no count is above the number of samples
 pub tallies_at_most : (b : BinsValue) (v : ℕ) (zs : List ℤ) (bin : ℕ) → bin_of b v ≡ Some bin → bin < b.bins → get_or (tallies_below b v zs) bin 0 + count_at v zs ≤ length zs
-unfolding count_below
 tallies_at_most b v zs bin is room =
     omega (
       arith,
@@ -151,14 +107,12 @@ tallies_at_most b v zs bin is room =
 
 -- all values are counted
 all_below : (b : BinsValue) (k : ℕ) (zs : List ℤ) → All (λ z. unsigned_abs z < 256) zs → count_below b 256 zs k ≡ count_by (λ z. is_bin k (bin_of b (unsigned_abs z))) zs
-unfolding count_below
 all_below b k [] small = refl
 all_below b k (z ∷ zs) small =
     let here : nat_lt (unsigned_abs z) 256 ≡ true = grind (arith, nat_tests, All-head (λ z. unsigned_abs z < 256) z zs small) in
-    sum_by-cons (λ s. cond (nat_lt (unsigned_abs s) 256 && is_bin k (bin_of b (unsigned_abs s))) 1 0) z zs
-    ∙ ap (λ t. cond (t && is_bin k (bin_of b (unsigned_abs z))) 1 0 + count_below b 256 zs k) here
-    ∙ ap (λ n. cond (is_bin k (bin_of b (unsigned_abs z))) 1 0 + n) (all_below b k zs (All-tail (λ z. unsigned_abs z < 256) z zs small))
-    ∙ sym (sum_by-cons (λ s. cond (is_bin k (bin_of b (unsigned_abs s))) 1 0) z zs)
+    let counts = ap (λ t. let m : ℕ = cond (t && is_bin k (bin_of b (unsigned_abs z))) 1 0 in m) here in
+    let rest = all_below b k zs (All-tail (λ z. unsigned_abs z < 256) z zs small) in
+    omega (arith, counts, rest, count_below-cons b 256 k z zs, sum_by-cons (λ s. cond (is_bin k (bin_of b (unsigned_abs s))) 1 0) z zs)
 
 pub tallies_all : (b : BinsValue) (zs : List ℤ) → All (λ z. unsigned_abs z < 256) zs → tallies_below b 256 zs ≡ tallies b zs
 unfolding tallies_below
@@ -170,12 +124,8 @@ tallies_all b zs small = map-same (count_below b 256 zs) (λ k. count_by (λ z. 
 
 -- ---- four tables
 
-zero_at : (n v : ℕ) → get_or (replicate {A = ℕ} n 0) v 0 ≡ 0
-zero_at n v = cases (cases_lt v n)
-  where
-    cases : (v < n) ⊎ (n ≤ v) → get_or (replicate {A = ℕ} n 0) v 0 ≡ 0
-    cases (inl below) = get_or-replicate {A = ℕ} n v 0 0 below
-    cases (inr past) = get_or_past (replicate {A = ℕ} n 0) v 0 (omega (arith, length-replicate {A = ℕ} n 0))
+pub zero_at : (n v : ℕ) → get_or (replicate {A = ℕ} n 0) v 0 ≡ 0
+zero_at n v = grind (arith, cases_lt v n, get_or-replicate {A = ℕ} n v 0 0, get_or_past (replicate {A = ℕ} n 0) v 0, length-replicate {A = ℕ} n 0)
 
 -- nothing is counted yet
 pub zeros_counted : (v : ℕ) → count_in_all (replicate 256 0) (replicate 256 0) (replicate 256 0) (replicate 256 0) v ≡ 0

@@ -6,29 +6,21 @@ use Rattle.stat_kernels.proofs.counts.count_row.Goals as goal
 
 pub count_one-requires-in-loop-k : goal.count_one-requires-in-loop-k
 count_one-requires-in-loop-k c =
-    let row = c.args.row.now in
-    let k = c.loop-k.k in
-    let v = get_or row (4 * k + 1) 0 in
-    omega (arith, c.loop-k.invariant v, c.requires.room v, few_of_first v row (4 * k) (omega (arith, c.loop-k-test.true)), c.loop-k-test.true)
+    let v = get_or c.args.row.now (4 * c.loop-k.k + 1) 0 in
+    omega (arith, c.loop-k.invariant v, c.requires.room v, few_of_first v c.args.row.now (4 * c.loop-k.k) (omega (arith, c.loop-k-test.true)), c.loop-k-test.true)
 
 pub count_one-requires-in-loop-k-2 : goal.count_one-requires-in-loop-k-2
 count_one-requires-in-loop-k-2 c =
-    let row = c.args.row.now in
-    let k = c.loop-k.k in
-    let v = get_or row (4 * k + 2) 0 in
-    omega (arith, c.loop-k.invariant v, c.requires.room v, few_of_first v row (4 * k) (omega (arith, c.loop-k-test.true)), c.loop-k-test.true)
+    let v = get_or c.args.row.now (4 * c.loop-k.k + 2) 0 in
+    omega (arith, c.loop-k.invariant v, c.requires.room v, few_of_first v c.args.row.now (4 * c.loop-k.k) (omega (arith, c.loop-k-test.true)), c.loop-k-test.true)
 
 pub count_one-requires-in-loop-k-3 : goal.count_one-requires-in-loop-k-3
 count_one-requires-in-loop-k-3 c =
-    let row = c.args.row.now in
-    let k = c.loop-k.k in
-    let v = get_or row (4 * k + 3) 0 in
-    omega (arith, c.loop-k.invariant v, c.requires.room v, few_of_first v row (4 * k) (omega (arith, c.loop-k-test.true)), c.loop-k-test.true)
+    let v = get_or c.args.row.now (4 * c.loop-k.k + 3) 0 in
+    omega (arith, c.loop-k.invariant v, c.requires.room v, few_of_first v c.args.row.now (4 * c.loop-k.k) (omega (arith, c.loop-k-test.true)), c.loop-k-test.true)
 
 pub loop-k-preserved : goal.loop-k-preserved
 loop-k-preserved c v =
-    let row = c.args.row.now in
-    let k = c.loop-k.k in
     omega (
       arith,
       c.loop-k.invariant v,
@@ -36,15 +28,13 @@ loop-k-preserved c v =
       c.count_one-in-loop-k.ensures v,
       c.count_one-in-loop-k-2.ensures v,
       c.count_one-in-loop-k-3.ensures v,
-      four_more v row k (omega (arith, c.loop-k-test.true)),
+      four_more v c.args.row.now c.loop-k.k (omega (arith, c.loop-k-test.true)),
     )
 
 pub count_one-requires-in-loop-i : goal.count_one-requires-in-loop-i
 count_one-requires-in-loop-i c =
-    let row = c.args.row.now in
-    let i = c.loop-i.i in
-    let v = get_or row i 0 in
-    omega (arith, c.loop-i.invariant v, c.requires.room v, few_of_first v row i (omega (arith, c.loop-i-test.true)), c.loop-i-test.true)
+    let v = get_or c.args.row.now c.loop-i.i 0 in
+    omega (arith, c.loop-i.invariant v, c.requires.room v, few_of_first v c.args.row.now c.loop-i.i (omega (arith, c.loop-i-test.true)), c.loop-i-test.true)
 
 pub loop-i-preserved : goal.loop-i-preserved
 loop-i-preserved c v =

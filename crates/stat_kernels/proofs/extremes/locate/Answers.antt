@@ -1,11 +1,12 @@
 use Rattle.std.proofs.Common.{◌≡◌, ◌∙◌, sym, ap, map, length, arith}
+use Rattle.std.specs.Int.{int_min, int_max}
 use Rattle.vx_base.specs.Image.{at}
 use Rattle.vx_base.specs.Statistics.{places}
 use Rattle.stat_kernels.specs.declared.located.Found.{Found}
 use Rattle.stat_kernels.specs.Located.{found_in}
 use Rattle.stat_kernels.proofs.Rows.{above}
 use Rattle.stat_kernels.proofs.PlaceLaws.{places_none, places_fit}
-use Rattle.stat_kernels.proofs.LocatedLaws.{least_at_most, greatest_at_most, next_found}
+use Rattle.stat_kernels.proofs.LocatedLaws.{at_most, next_found}
 use Rattle.stat_kernels.proofs.extremes.locate.Goals as goal
 
 pub loop-y-init : goal.loop-y-init
@@ -20,7 +21,7 @@ joined-found-requires-clause-least_room g c =
     omega (
       arith,
       ap (λ (f : Found). f.least.count) c.loop-y.invariant,
-      least_at_most (at image) (places (above image.valid c.loop-y.y)),
+      at_most int_min (at image) (places (above image.valid c.loop-y.y)),
       places_fit image c.of-part.result c.of-part.ensures c.loop-y.y c.loop-y.auto.y c.loop-y-test.true,
       c.part_of_row-row.ensures.len,
     )
@@ -31,7 +32,7 @@ joined-found-requires-clause-greatest_room g c =
     omega (
       arith,
       ap (λ (f : Found). f.greatest.count) c.loop-y.invariant,
-      greatest_at_most (at image) (places (above image.valid c.loop-y.y)),
+      at_most int_max (at image) (places (above image.valid c.loop-y.y)),
       places_fit image c.of-part.result c.of-part.ensures c.loop-y.y c.loop-y.auto.y c.loop-y-test.true,
       c.part_of_row-row.ensures.len,
     )

@@ -1,16 +1,13 @@
 use Rattle.buffer_plan.specs.declared.plan.Plan.{Plan}
-use Rattle.buffer_plan.specs.Places.{IsPlacedFor, places_in}
-use Rattle.buffer_plan.proofs.VerifiedLemmas.{of_each, planned, slots_of}
+use Rattle.buffer_plan.proofs.VerifiedLemmas.{planned, slots_of}
 use Rattle.buffer_plan.proofs.plan.Plan.new.Goals as goal
 
 pub returns-clause-plan : goal.returns-clause-plan
 returns-clause-plan c =
     let p : Plan = record { u8s = c.in_ok-places_of.field-0; s16s = c.in_ok-places_of-2.field-0; u32s = c.in_ok-places_of-3.field-0 } in
-    planned c.args.verified.now p
-    (of_each (λ f. IsPlacedFor c.args.verified.now.steps.items c.args.verified.now.virtual_outputs.items f (places_in p f)) c.in_ok-places_of.ensures c.in_ok-places_of-2.ensures c.in_ok-places_of-3.ensures)
+    planned c.args.verified.now p c.in_ok-places_of.ensures c.in_ok-places_of-2.ensures c.in_ok-places_of-3.ensures
 
 pub returns-clause-images : goal.returns-clause-images
 returns-clause-images c =
     let p : Plan = record { u8s = c.in_ok-places_of.field-0; s16s = c.in_ok-places_of-2.field-0; u32s = c.in_ok-places_of-3.field-0 } in
-    slots_of c.args.verified.now p
-    (of_each (λ f. IsPlacedFor c.args.verified.now.steps.items c.args.verified.now.virtual_outputs.items f (places_in p f)) c.in_ok-places_of.ensures c.in_ok-places_of-2.ensures c.in_ok-places_of-3.ensures)
+    slots_of c.args.verified.now p c.in_ok-places_of.ensures c.in_ok-places_of-2.ensures c.in_ok-places_of-3.ensures

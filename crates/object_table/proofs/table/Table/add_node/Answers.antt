@@ -45,10 +45,9 @@ returns-in_err-number c =
 
 pub begin_uses-requires : goal.begin_uses-requires
 begin_uses-requires c =
-    let s = c.self.inside in
     let new = record c.in-Some.entry.now { object = c.add_node.new.self } in
     subst (All (λ (e : ℕ × Entry). e.1.uses ≤ 1048576)) (sym (c.get_mut.follows.holds new).0)
-    (few-uses s.next s.charge s.entries.entries c.self.invariant c.args.graph c.in-Some.entry.now new (sym c.in-Some.ensures.value) refl)
+    (few-uses _ _ _ c.self.invariant c.args.graph c.in-Some.entry.now new (sym c.in-Some.ensures.value) refl)
 
 -- the entries, once the node's uses have begun
 begun : (c : After-begin_uses) → c.begin_uses.new.entries.entries ≡ used_more (used_names c.args.node) (set_value (is_at (nat_cmp c.args.graph)) c.self.inside.entries.entries (let old : Entry = c.in-Some.entry.now in record old { object = c.add_node.new.self }))
@@ -70,8 +69,7 @@ invariant_of-self-2 c =
 
 pub returns-clause-number : goal.returns-clause-number
 returns-clause-number c =
-    let s = c.self.inside in
-    c.in_ok-number.ensures.number ∙ ap (λ (o : ObjectValue). (graph_value o).next) (sym (under_is c.args.self.now s.next s.entries.entries c.self.view_is c.args.graph c.in-Some.entry.now (sym c.in-Some.ensures.value)))
+    c.in_ok-number.ensures.number ∙ ap (λ (o : ObjectValue). (graph_value o).next) (sym (under_is _ _ _ c.self.view_is c.args.graph _ (sym c.in-Some.ensures.value)))
 
 pub returns-clause-ok : goal.returns-clause-ok
 returns-clause-ok c =
@@ -83,5 +81,4 @@ returns-clause-ok c =
 
 pub returns-clause-room : goal.returns-clause-room
 returns-clause-room c =
-    let s = c.self.inside in
-    subst (λ (o : ObjectValue). IsTrue (can_add (graph_value o))) (sym (under_is c.args.self.now s.next s.entries.entries c.self.view_is c.args.graph c.in-Some.entry.now (sym c.in-Some.ensures.value))) c.in_ok-number.ensures.room
+    subst (λ (o : ObjectValue). IsTrue (can_add (graph_value o))) (sym (under_is _ _ _ c.self.view_is c.args.graph _ (sym c.in-Some.ensures.value))) c.in_ok-number.ensures.room

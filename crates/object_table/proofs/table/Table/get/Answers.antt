@@ -14,8 +14,7 @@ returns-in-Some-clause-ok c =
 
 pub returns-in-Some-clause-held : goal.returns-in-Some-clause-held
 returns-in-Some-clause-held c =
-    let s = c.self.inside in
-    held_under c.args.self.now s.next s.entries.entries c.self.view_is c.args.name c.in-Some.entry.now (sym c.in-Some.ensures.value)
+    held_under _ _ _ c.self.view_is c.args.name _ (sym c.in-Some.ensures.value)
 
 pub returns-in_default-clause-err : goal.returns-in_default-clause-err
 returns-in_default-clause-err c =

@@ -20,24 +20,21 @@ use Rattle.object_table.proofs.table.Table.release.Goals.{Joined-kind, in-Graph,
 
 pub returns-in_default-clause-result : goal.returns-in_default-clause-result
 returns-in_default-clause-result c =
-    let s = c.self.inside in
-    let none : object_named c.args.self.now.objects c.args.name ≡ None = none_there c.args.self.now s.next s.charge s.entries.entries c.self.view_is c.self.invariant c.args.name (sym c.in_default.ensures.value) in
+    let none : object_named c.args.self.now.objects c.args.name ≡ None = none_there _ _ _ _ c.self.view_is c.self.invariant c.args.name (sym c.in_default.ensures.value) in
     rw none refl
 
 pub returns-then-not-entry-clause-result : goal.returns-then-not-entry-clause-result
 returns-then-not-entry-clause-result c =
-    let s = c.self.inside in
     let old = c.in-Some.entry.now in
     let none : object_named c.args.self.now.objects c.args.name ≡ None =
-    named_there c.args.self.now s.next s.charge s.entries.entries c.self.view_is c.self.invariant c.args.name old (sym c.in-Some.ensures.value) ∙ ap (λ b. cond b (Some old.object) None) c.if-not-entry.true in
+    named_there _ _ _ _ c.self.view_is c.self.invariant c.args.name old (sym c.in-Some.ensures.value) ∙ ap (λ b. cond b (Some old.object) None) c.if-not-entry.true in
     rw none refl
 
 pub returns-clause-result : goal.returns-clause-result
 returns-clause-result c =
-    let s = c.self.inside in
     let old = c.in-Some.entry.now in
     let there : object_named c.args.self.now.objects c.args.name ≡ Some old.object =
-    named_there c.args.self.now s.next s.charge s.entries.entries c.self.view_is c.self.invariant c.args.name old (sym c.in-Some.ensures.value) ∙ ap (λ b. cond b (Some old.object) None) c.if-not-entry.false in
+    named_there _ _ _ _ c.self.view_is c.self.invariant c.args.name old (sym c.in-Some.ensures.value) ∙ ap (λ b. cond b (Some old.object) None) c.if-not-entry.false in
     rw there refl
 
 -- the entries, once the graph's nodes have ended their uses
@@ -73,9 +70,8 @@ left_is c then is =
 
 are_left : (c : Joined-kind) → AreLeft c.self.inside.next (changed c) (used_less (names_in c.in-Some.entry.now.object) (changed c))
 are_left c =
-    let s = c.self.inside in
     let old = c.in-Some.entry.now in
-    released-left s.next s.charge s.entries.entries c.self.invariant c.args.name old (sym c.in-Some.ensures.value) c.if-not-entry.false (used_less (names_in old.object) (changed c)) refl
+    released-left _ _ _ c.self.invariant c.args.name old (sym c.in-Some.ensures.value) c.if-not-entry.false (used_less (names_in old.object) (changed c)) refl
 
 pub end_name-self-inside-requires-clause-held : goal.end_name-self-inside-requires-clause-held
 end_name-self-inside-requires-clause-held c =

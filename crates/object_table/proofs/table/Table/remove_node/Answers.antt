@@ -48,17 +48,13 @@ returns-in_err-node-clause-err c =
 
 pub end_uses-self-inside-requires-clause-held : goal.end_uses-self-inside-requires-clause-held
 end_uses-self-inside-requires-clause-held c =
-    let s = c.self.inside in
-    let old = c.in-Some.entry.now in
-    let new = record old { object = c.remove_node.new.self } in
-    subst (λ (l : List (ℕ × Entry)). All (λ e. IsTrue (is_kept e)) l) (sym (c.get_mut.follows.holds new).0) (held-after s.next s.charge s.entries.entries c.self.invariant c.args.graph old new (sym c.in-Some.ensures.value) refl refl)
+    let new = record c.in-Some.entry.now { object = c.remove_node.new.self } in
+    subst (λ (l : List (ℕ × Entry)). All (λ e. IsTrue (is_kept e)) l) (sym (c.get_mut.follows.holds new).0) (held-after _ _ _ c.self.invariant c.args.graph _ new (sym c.in-Some.ensures.value) refl refl)
 
 pub end_uses-self-inside-requires-clause-charge : goal.end_uses-self-inside-requires-clause-charge
 end_uses-self-inside-requires-clause-charge c =
-    let s = c.self.inside in
-    let old = c.in-Some.entry.now in
-    let new = record old { object = c.remove_node.new.self } in
-    charged-after s.next s.charge s.entries.entries c.self.invariant c.args.graph old new (sym c.in-Some.ensures.value) refl c.remove_node.ensures.bytes
+    let new = record c.in-Some.entry.now { object = c.remove_node.new.self } in
+    charged-after _ _ _ c.self.invariant c.args.graph _ new (sym c.in-Some.ensures.value) refl c.remove_node.ensures.bytes
     ∙ ap (λ (l : List (ℕ × Entry)). charge_of (map named l)) (sym (c.get_mut.follows.holds new).0)
 
 -- the graph's entry, without the node
@@ -77,10 +73,9 @@ of_graph c = kind_under _ _ _ c.self.view_is _ c.args.graph _ (sym c.in-Some.ens
 
 are_left : (c : In_ok-node) → AreLeft c.self.inside.next (changed c) (less c)
 are_left c =
-    let s = c.self.inside in
     let old = c.in-Some.entry.now in
     let found = sym c.in-Some.ensures.value in
-    removed-left s.next s.charge s.entries.entries c.self.invariant c.args.graph old found
+    removed-left _ _ _ c.self.invariant c.args.graph old found
     (live_there _ _ _ _ c.self.view_is c.self.invariant c.args.graph old found c.requires.live) (less c)
     c.remove_node.new.self c.remove_node.ensures.bytes (of_graph c)
     c.in_ok-node.node c.args.number c.remove_node.ensures.graph c.in_ok-node.ensures.removed c.in_ok-node.ensures.ok refl
@@ -110,32 +105,25 @@ returns-clause-ok c =
 
 pub returns-clause-missing : goal.returns-clause-missing
 returns-clause-missing c =
-    let s = c.self.inside in
-    let under = under_is c.args.self.now s.next s.entries.entries c.self.view_is c.args.graph c.in-Some.entry.now (sym c.in-Some.ensures.value) in
-    c.in_ok-node.ensures.missing ∙ ap (λ (o : ObjectValue). not (has_node (graph_value o) c.args.number)) (sym under)
+    c.in_ok-node.ensures.missing ∙ ap (λ (o : ObjectValue). not (has_node (graph_value o) c.args.number)) (sym (under_is _ _ _ c.self.view_is c.args.graph _ (sym c.in-Some.ensures.value)))
 
 pub returns-in_err-node-clause-balances : goal.returns-in_err-node-clause-balances
 returns-in_err-node-clause-balances c =
-    let s = c.self.inside in
-    let old = c.in-Some.entry.now in
-    let new = record old { object = c.remove_node.new.self } in
-    let written = c.get_mut.follows.holds new in
+    let new = record c.in-Some.entry.now { object = c.remove_node.new.self } in
     subst (λ (t : Context). Balances c.args.pool.now c.args.pool.now t.objects (map named (c.get_mut.follows.lender new).entries)) c.self.view_is
-    (Balances-written s.entries.entries c.args.graph old new (sym c.in-Some.ensures.value) (λ format. ap (λ o. object_blocks o format) c.in_err-node.ensures.err) (c.get_mut.follows.lender new).entries written.0
+    (Balances-written c.self.inside.entries.entries c.args.graph _ new (sym c.in-Some.ensures.value) (λ format. ap (λ o. object_blocks o format) c.in_err-node.ensures.err) (c.get_mut.follows.lender new).entries (c.get_mut.follows.holds new).0
     c.args.pool.now)
 
 pub end_uses-self-inside-requires-clause-owns : goal.end_uses-self-inside-requires-clause-owns
 end_uses-self-inside-requires-clause-owns c =
     let at = (goal.at.end_uses-self-inside-requires-clause-owns c).In_ok-node in
-    let written = c.get_mut.follows.holds (new at) in
-    owns-written c.self.inside.entries.entries c.args.graph c.in-Some.entry.now (new at) (sym c.in-Some.ensures.value) (same_blocks at) (c.get_mut.follows.lender (new at)).entries written.0 c.args.pool.now
+    owns-written c.self.inside.entries.entries c.args.graph c.in-Some.entry.now (new at) (sym c.in-Some.ensures.value) (same_blocks at) (c.get_mut.follows.lender (new at)).entries (c.get_mut.follows.holds (new at)).0 c.args.pool.now
     (subst (λ (t : Context). LendsAtLeast c.args.pool.now (blocks_in t.objects)) (sym c.self.view_is) c.requires.owns)
 
 pub returns-clause-balances : goal.returns-clause-balances
 returns-clause-balances c =
     let at = (goal.at.returns-clause-balances c).In_ok-node in
-    let written = c.get_mut.follows.holds (new at) in
     let left = c.end_uses-self-inside.new.entries.entries in
     subst (λ (t : Context). Balances c.args.pool.now c.end_uses-self-inside.new.pool t.objects (map named left)) c.self.view_is
-    (Balances-written_then c.self.inside.entries.entries c.args.graph c.in-Some.entry.now (new at) (sym c.in-Some.ensures.value) (same_blocks at) (c.get_mut.follows.lender (new at)).entries written.0
+    (Balances-written_then c.self.inside.entries.entries c.args.graph c.in-Some.entry.now (new at) (sym c.in-Some.ensures.value) (same_blocks at) (c.get_mut.follows.lender (new at)).entries (c.get_mut.follows.holds (new at)).0
     c.args.pool.now c.end_uses-self-inside.new.pool left c.end_uses-self-inside.ensures.balances)

@@ -26,16 +26,14 @@ returns-then-entry-gt0-clause-entries c =
 
 pub returns-then-entry-gt0-clause-charge : goal.returns-then-entry-gt0-clause-charge
 returns-then-entry-gt0-clause-charge c =
-    let old = c.in-Some.entry.now in
-    let new = record old { live = false } in
-    c.requires.charge ∙ charge-written c.args.entries.now.entries c.args.name old new (sym c.in-Some.ensures.value) refl
+    let new = record c.in-Some.entry.now { live = false } in
+    c.requires.charge ∙ charge-written c.args.entries.now.entries c.args.name _ new (sym c.in-Some.ensures.value) refl
     ∙ ap (λ l. charge_of (map named l)) (sym (c.get_mut.follows.holds new).0)
 
 pub end_entry-requires-clause-charge : goal.end_entry-requires-clause-charge
 end_entry-requires-clause-charge c =
-    let old = c.in-Some.entry.now in
-    let new = record old { live = false } in
-    c.requires.charge ∙ charge-written c.args.entries.now.entries c.args.name old new (sym c.in-Some.ensures.value) refl
+    let new = record c.in-Some.entry.now { live = false } in
+    c.requires.charge ∙ charge-written c.args.entries.now.entries c.args.name _ new (sym c.in-Some.ensures.value) refl
     ∙ ap (λ l. charge_of (map named l)) (sym (c.get_mut.follows.holds new).0)
 
 pub returns-clause-entries : goal.returns-clause-entries
@@ -51,22 +49,15 @@ returns-clause-entries c =
 
 pub returns-then-entry-gt0-clause-balances : goal.returns-then-entry-gt0-clause-balances
 returns-then-entry-gt0-clause-balances c =
-    let old = c.in-Some.entry.now in
-    let new = record old { live = false } in
-    let written = c.get_mut.follows.holds new in
-    Balances-written c.args.entries.now.entries c.args.name old new (sym c.in-Some.ensures.value) (λ format. refl) (c.get_mut.follows.lender new).entries written.0 c.args.pool.now
+    let new = record c.in-Some.entry.now { live = false } in
+    Balances-written c.args.entries.now.entries c.args.name _ new (sym c.in-Some.ensures.value) (λ format. refl) _ (c.get_mut.follows.holds new).0 c.args.pool.now
 
 pub end_entry-requires-clause-owns : goal.end_entry-requires-clause-owns
 end_entry-requires-clause-owns c =
-    let old = c.in-Some.entry.now in
-    let new = record old { live = false } in
-    let written = c.get_mut.follows.holds new in
-    owns-written c.args.entries.now.entries c.args.name old new (sym c.in-Some.ensures.value) (λ format. refl) (c.get_mut.follows.lender new).entries written.0 c.args.pool.now c.requires.owns
+    let new = record c.in-Some.entry.now { live = false } in
+    owns-written c.args.entries.now.entries c.args.name _ new (sym c.in-Some.ensures.value) (λ format. refl) _ (c.get_mut.follows.holds new).0 c.args.pool.now c.requires.owns
 
 pub returns-clause-balances : goal.returns-clause-balances
 returns-clause-balances c =
-    let old = c.in-Some.entry.now in
-    let new = record old { live = false } in
-    let written = c.get_mut.follows.holds new in
-    Balances-written_then c.args.entries.now.entries c.args.name old new (sym c.in-Some.ensures.value) (λ format. refl) (c.get_mut.follows.lender new).entries written.0
-    c.args.pool.now c.end_entry.new.pool c.end_entry.new.entries.entries c.end_entry.ensures.balances
+    let new = record c.in-Some.entry.now { live = false } in
+    Balances-written_then c.args.entries.now.entries c.args.name _ new (sym c.in-Some.ensures.value) (λ format. refl) _ (c.get_mut.follows.holds new).0 c.args.pool.now c.end_entry.new.pool c.end_entry.new.entries.entries c.end_entry.ensures.balances

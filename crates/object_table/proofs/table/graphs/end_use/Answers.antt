@@ -54,16 +54,14 @@ returns-then-entry-clause-entries c =
 
 pub returns-then-entry-clause-charge : goal.returns-then-entry-clause-charge
 returns-then-entry-clause-charge c =
-    let old = c.in-Some-get_mut.entry.now in
-    let new = with_uses old c.saturating_sub-entry.result in
-    c.requires.charge ∙ charge-written c.args.entries.now.entries c.name-name.result old new (sym c.in-Some-get_mut.ensures.value) refl
+    let new = with_uses c.in-Some-get_mut.entry.now c.saturating_sub-entry.result in
+    c.requires.charge ∙ charge-written c.args.entries.now.entries c.name-name.result _ new (sym c.in-Some-get_mut.ensures.value) refl
     ∙ ap (λ l. charge_of (map named l)) (sym (then_is c))
 
 pub end_entry-requires-clause-charge : goal.end_entry-requires-clause-charge
 end_entry-requires-clause-charge c =
-    let old = c.in-Some-get_mut.entry.now in
-    let new = with_uses old c.saturating_sub-entry.result in
-    c.requires.charge ∙ charge-written c.args.entries.now.entries c.name-name.result old new (sym c.in-Some-get_mut.ensures.value) refl
+    let new = with_uses c.in-Some-get_mut.entry.now c.saturating_sub-entry.result in
+    c.requires.charge ∙ charge-written c.args.entries.now.entries c.name-name.result _ new (sym c.in-Some-get_mut.ensures.value) refl
     ∙ ap (λ l. charge_of (map named l)) (sym (c.get_mut.follows.holds new).0)
 
 pub returns-clause-entries : goal.returns-clause-entries
@@ -83,21 +81,15 @@ returns-clause-entries c =
 
 pub returns-then-entry-clause-balances : goal.returns-then-entry-clause-balances
 returns-then-entry-clause-balances c =
-    let old = c.in-Some-get_mut.entry.now in
-    let new = with_uses old c.saturating_sub-entry.result in
-    Balances-written c.args.entries.now.entries c.name-name.result old new (sym c.in-Some-get_mut.ensures.value) (λ format. refl) c.then-entry.entries.entries (then_is c) c.args.pool.now
+    let new = with_uses c.in-Some-get_mut.entry.now c.saturating_sub-entry.result in
+    Balances-written c.args.entries.now.entries c.name-name.result _ new (sym c.in-Some-get_mut.ensures.value) (λ format. refl) _ (then_is c) c.args.pool.now
 
 pub end_entry-requires-clause-owns : goal.end_entry-requires-clause-owns
 end_entry-requires-clause-owns c =
-    let old = c.in-Some-get_mut.entry.now in
-    let new = with_uses old c.saturating_sub-entry.result in
-    let written = c.get_mut.follows.holds new in
-    owns-written c.args.entries.now.entries c.name-name.result old new (sym c.in-Some-get_mut.ensures.value) (λ format. refl) (c.get_mut.follows.lender new).entries written.0 c.args.pool.now c.requires.owns
+    let new = with_uses c.in-Some-get_mut.entry.now c.saturating_sub-entry.result in
+    owns-written c.args.entries.now.entries c.name-name.result _ new (sym c.in-Some-get_mut.ensures.value) (λ format. refl) _ (c.get_mut.follows.holds new).0 c.args.pool.now c.requires.owns
 
 pub returns-clause-balances : goal.returns-clause-balances
 returns-clause-balances c =
-    let old = c.in-Some-get_mut.entry.now in
-    let new = with_uses old c.saturating_sub-entry.result in
-    let written = c.get_mut.follows.holds new in
-    Balances-written_then c.args.entries.now.entries c.name-name.result old new (sym c.in-Some-get_mut.ensures.value) (λ format. refl) (c.get_mut.follows.lender new).entries written.0
-    c.args.pool.now c.end_entry.new.pool c.end_entry.new.entries.entries c.end_entry.ensures.balances
+    let new = with_uses c.in-Some-get_mut.entry.now c.saturating_sub-entry.result in
+    Balances-written_then c.args.entries.now.entries c.name-name.result _ new (sym c.in-Some-get_mut.ensures.value) (λ format. refl) _ (c.get_mut.follows.holds new).0 c.args.pool.now c.end_entry.new.pool c.end_entry.new.entries.entries c.end_entry.ensures.balances
