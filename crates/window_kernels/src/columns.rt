@@ -59,8 +59,9 @@ fn write_both_down<S: Number, R: Number, C: OfColumn<S>, D: OfColumn<R>>(
         (column_in (D.gives second.now) above.now here.now below.now) }
 {
     for (i, item) in out.iter_mut().enumerate() {
-        *item = first.of_column(above[i], here[i], below[i]);
-        other[i] = second.of_column(above[i], here[i], below[i]);
+        let (a, b, c) = (above[i], here[i], below[i]);
+        *item = first.of_column(a, b, c);
+        other[i] = second.of_column(a, b, c);
     }
 }
 
