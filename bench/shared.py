@@ -10,7 +10,6 @@ import time
 HERE = os.path.dirname(os.path.abspath(__file__))
 sys.path.insert(0, os.path.join(HERE, "..", "clients", "python"))
 from feqyldan import wire  # noqa: E402
-from feqyldan.environment import environment  # noqa: E402
 
 CLIENT = 7
 ROUNDS = 5
@@ -22,8 +21,7 @@ class Server:
 
     def __init__(self, program):
         command = [program, "serve", "--quota", str(2**30)]
-        self.process = subprocess.Popen(command, stdin=subprocess.PIPE, stdout=subprocess.PIPE,
-                                        env=environment())
+        self.process = subprocess.Popen(command, stdin=subprocess.PIPE, stdout=subprocess.PIPE)
         self.run([wire.open_context(CLIENT)])
 
     def run(self, requests):

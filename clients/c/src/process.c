@@ -20,11 +20,6 @@ extern char **environ;
 /* How long a server may take to end once its input has, in milliseconds. */
 enum { PATIENCE = 10000 };
 
-/* What the C library of the server keeps of freed memory, unless the environment says: by itself it
-   gives each large block back at once, so that a picture comes to stand in pages that fault. */
-static char KEEPS_MEMORY[] =
-    "GLIBC_TUNABLES=glibc.malloc.mmap_threshold=33554432:glibc.malloc.trim_threshold=268435456";
-
 static bool no_server(char *why, size_t room, const char *what, const char *path, int error) {
     snprintf(why, room, "%s %s: %s", what, path, strerror(error));
     return false;
@@ -50,23 +45,8 @@ static bool reach_socket(struct connection *connection, const char *path, char *
     return true;
 }
 
-/* This program's environment, and before it what has the server keep memory; NULL where there is no
-   memory. The caller frees it. */
-static char **server_environment(void) {
-    size_t count = 0;
-    while (environ[count] != NULL)
-        count++;
-    char **made = malloc((count + 2) * sizeof *made);
-    if (made == NULL)
-        return NULL;
-    size_t more = getenv("GLIBC_TUNABLES") == NULL ? 1 : 0;
-    made[0] = KEEPS_MEMORY;
-    memcpy(made + more, environ, (count + 1) * sizeof *made);
-    return made;
-}
-
 /* In a session of its own, so that Ctrl-C doesn't end it, and with signals as by default. */
-static int spawn(const char *program, int theirs, int said, pid_t *process, char **with) {
+static int spawn(const char *program, int theirs, int said, pid_t *process) {
     posix_spawn_file_actions_t actions;
     posix_spawnattr_t attributes;
     sigset_t none, all;
@@ -88,19 +68,19 @@ static int spawn(const char *program, int theirs, int said, pid_t *process, char
     posix_spawnattr_setflags(
         &attributes, POSIX_SPAWN_SETSID | POSIX_SPAWN_SETSIGMASK | POSIX_SPAWN_SETSIGDEF);
     char *words[] = {(char *)program, "serve", NULL};
-    error = error ? error : posix_spawnp(process, program, &actions, &attributes, words, with);
+    error = error ? error : posix_spawnp(process, program, &actions, &attributes, words, environ);
     posix_spawnattr_destroy(&attributes);
     posix_spawn_file_actions_destroy(&actions);
     return error;
 }
 
 /* The first program of those that may be meant which can be started. */
-static int spawn_found(int theirs, int said, pid_t *process, char **with) {
+static int spawn_found(int theirs, int said, pid_t *process) {
     const char *told = getenv("FEQYLDAN_PROGRAM");
     if (told != NULL && *told != '\0')
-        return spawn(told, theirs, said, process, with);
-    int error = spawn("feqyldan", theirs, said, process, with);
-    return error == 0 ? 0 : spawn("vx_main", theirs, said, process, with);
+        return spawn(told, theirs, said, process);
+    int error = spawn("feqyldan", theirs, said, process);
+    return error == 0 ? 0 : spawn("vx_main", theirs, said, process);
 }
 
 static bool start(struct connection *connection, char *why, size_t room) {
@@ -108,13 +88,11 @@ static bool start(struct connection *connection, char *why, size_t room) {
     if (socketpair(AF_UNIX, SOCK_STREAM | SOCK_CLOEXEC, 0, ends) != 0)
         return no_server(why, room, "start", "a server", errno);
     connection->said = tmpfile();
-    char **with = server_environment();
     int error = ENOMEM;
-    if (connection->said != NULL && with != NULL) {
+    if (connection->said != NULL) {
         fcntl(fileno(connection->said), F_SETFD, FD_CLOEXEC);
-        error = spawn_found(ends[1], fileno(connection->said), &connection->process, with);
+        error = spawn_found(ends[1], fileno(connection->said), &connection->process);
     }
-    free(with);
     close(ends[1]);
     if (error == 0) {
         connection->stream = ends[0];

@@ -14,10 +14,10 @@ from typing import Dict, List, Optional, Sequence, Set, Type, Union
 
 from .connection import Connection
 from .context import Context
-from .environment import enlarge, environment
 from .errors import Closed, FeqyldanError, Refused, ServerEnded, TimedOut
 from .forks import FORKED, HELD, OPENING, Forked
 from .pictures import Path
+from .pipes import enlarge
 from .program import find
 from .uncopied import Uncopied
 from .whole import whole
@@ -44,8 +44,7 @@ class Server(Forked, Uncopied):
     context of its own.
 
     The server is in a session of its own, so that Ctrl-C interrupts this program alone. In a
-    process that is forked from this one it is closed. It keeps up to 2^28 bytes of memory that is
-    free, for its next requests; GLIBC_TUNABLES in the environment says otherwise.
+    process that is forked from this one it is closed.
     """
 
     def __init__(self, program: Union[Path, Sequence[str], None] = None, *,
@@ -72,7 +71,7 @@ class Server(Forked, Uncopied):
         try:
             self._process = subprocess.Popen(words, stdin=subprocess.PIPE, stdout=subprocess.PIPE,
                                              stderr=self._said,
-                                             bufsize=0, env=environment(), start_new_session=True)
+                                             bufsize=0, start_new_session=True)
         except BaseException:
             self._said.close()
             raise

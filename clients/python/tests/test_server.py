@@ -7,10 +7,8 @@ import subprocess
 import tempfile
 import threading
 import unittest
-from unittest import mock
 
 from program import PROGRAM, ProgramTest, needs_program, vx
-from feqyldan.environment import KEEPS_MEMORY
 
 
 class TestServers(ProgramTest):
@@ -69,15 +67,6 @@ class TestServers(ProgramTest):
             with vx.Server(["env", "sh", "-c", "echo usage >&2; exit 2"], quota=1) as server:
                 server.context()
         self.assertEqual((caught.exception.status, caught.exception.said), (2, "usage"))
-
-    def test_freed_memory_is_kept_unless_told_otherwise(self):
-        others = {name: value for name, value in os.environ.items() if name != "GLIBC_TUNABLES"}
-        for told in ({}, {"GLIBC_TUNABLES": "glibc.malloc.arena_max=1"}):
-            with mock.patch.dict(os.environ, {**others, **told}, clear=True):
-                with self.assertRaises(vx.ServerEnded) as caught:
-                    with vx.Server(["sh", "-c", 'echo "$GLIBC_TUNABLES" >&2; exit 2']) as server:
-                        server.context()
-            self.assertEqual(caught.exception.said, told.get("GLIBC_TUNABLES", KEEPS_MEMORY))
 
 
 @needs_program

@@ -11,7 +11,7 @@ import subprocess
 from collections import deque
 from typing import Deque, Iterator, List, NamedTuple, Optional, Set, Tuple
 
-from ..environment import enlarge, environment
+from ..pipes import enlarge
 from .connection import TURN_SECONDS, Connection
 from .counts import Counts
 from .incoming import AHEAD, CHUNK, CLIENT, Frames
@@ -107,7 +107,7 @@ class Server:
         # input alone.
         self.process = subprocess.Popen(
             command, stdin=subprocess.PIPE, stdout=subprocess.PIPE, bufsize=0,
-            start_new_session=True, env=environment())
+            start_new_session=True)
         if memory is not None:
             limit_memory(self.process.pid, memory)
         assert self.process.stdin is not None and self.process.stdout is not None
