@@ -25,7 +25,8 @@ pub trait RowFormula<T: Number, S> {
     /// Writes the samples of row y from column x on.
     fn fill(&self, x: u16, y: u16, scratch: &mut [S], out: &mut [T])
         requires in_rows { ((area self.now).y0 ≤ y) × (y < (area self.now).y1) }
-        requires in_columns { ((area self.now).x0 ≤ x) × (x + length out.old ≤ (area self.now).x1) }
+        requires in_columns { ((area self.now).x0 ≤ x) ×
+            (x + length out.old ≤ (area self.now).x1) }
         requires scratch { room self.now ≤ length scratch.old }
         ensures { map T.value out.new ≡ run x (length out.old) (λ k. at self.now k y) };
 }
@@ -58,7 +59,8 @@ pub trait TwoRowFormulas<T: Number, S, R> {
         other: &mut [T],
     )
         requires in_rows { ((area self.now).y0 ≤ y) × (y < (area self.now).y1) }
-        requires in_columns { ((area self.now).x0 ≤ x) × (x + length out.old ≤ (area self.now).x1) }
+        requires in_columns { ((area self.now).x0 ≤ x) ×
+            (x + length out.old ≤ (area self.now).x1) }
         requires as_long { length other.old ≡ length out.old }
         requires scratch { room self.now ≤ length scratch.old }
         requires more { room self.now ≤ length more.old }

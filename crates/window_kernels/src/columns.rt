@@ -1,11 +1,10 @@
 //! Columns of three samples.
-ghost use Rattle.std.specs.Prelude.{◌≡◌, ◌+◌, ◌-◌, ◌<◌, ◌≤◌, ◌++◌, ℕ, ℤ, pos, ◌-ℤ◌, map, length};
-ghost use Rattle.std.specs.Prelude.{replicate, slice_index};
+ghost use Rattle.std.specs.Prelude.{◌≡◌, ◌+◌, ◌<◌, ◌≤◌, ℕ, ℤ, pos, ◌-ℤ◌, map, length, replicate};
 ghost use Rattle.vx_base.specs.declared.format.Format.TheVariants.{U8};
 ghost use Rattle.vx_base.specs.Image.{run};
 ghost use Rattle.vx_base.specs.Window.{look};
 ghost use Rattle.border_rows.specs.Seen.{value_beside};
-ghost use Rattle.window_kernels.specs.Nine.{column_in, column_beside, column_seen};
+ghost use Rattle.window_kernels.specs.Nine.{column_in, column_beside, columns_between, column_seen};
 
 use border_rows::{row_in_place, value_beside};
 use image_core::{Image, Number, set_all};
@@ -97,10 +96,8 @@ fn write_around<S: Number, C: OfColumn<S>>(
     requires here { length here.now ≡ length above.now }
     requires below { length below.now ≡ length above.now }
     requires room { before + length above.now ≤ length out.old }
-    ensures { map S.value out.new ≡
-        replicate before (column_beside (C.gives column.now) border (slice_index above.now 0) (slice_index here.now 0) (slice_index below.now 0))
-        ++ (run 0 (length above.now) (column_in (C.gives column.now) above.now here.now below.now)
-        ++ replicate (length out.old - (before + length above.now)) (column_beside (C.gives column.now) border (slice_index above.now (length above.now - 1)) (slice_index here.now (length above.now - 1)) (slice_index below.now (length above.now - 1)))) }
+    ensures { map S.value out.new ≡ columns_between (C.gives column.now) border before
+        (length out.old) above.now here.now below.now }
 {
     let last = above.len() - 1;
     let (left, others) = out.split_at_mut(before);
@@ -130,14 +127,10 @@ fn write_both_around<S: Number, R: Number, C: OfColumn<S>, D: OfColumn<R>>(
     requires below { length below.now ≡ length above.now }
     requires room { before + length above.now ≤ length out.old }
     requires as_long { length other.old ≡ length out.old }
-    ensures first { map S.value out.new ≡
-        replicate before (column_beside (C.gives first.now) border (slice_index above.now 0) (slice_index here.now 0) (slice_index below.now 0))
-        ++ (run 0 (length above.now) (column_in (C.gives first.now) above.now here.now below.now)
-        ++ replicate (length out.old - (before + length above.now)) (column_beside (C.gives first.now) border (slice_index above.now (length above.now - 1)) (slice_index here.now (length above.now - 1)) (slice_index below.now (length above.now - 1)))) }
-    ensures second { map R.value other.new ≡
-        replicate before (column_beside (D.gives second.now) border (slice_index above.now 0) (slice_index here.now 0) (slice_index below.now 0))
-        ++ (run 0 (length above.now) (column_in (D.gives second.now) above.now here.now below.now)
-        ++ replicate (length other.old - (before + length above.now)) (column_beside (D.gives second.now) border (slice_index above.now (length above.now - 1)) (slice_index here.now (length above.now - 1)) (slice_index below.now (length above.now - 1)))) }
+    ensures first { map S.value out.new ≡ columns_between (C.gives first.now) border before
+        (length out.old) above.now here.now below.now }
+    ensures second { map R.value other.new ≡ columns_between (D.gives second.now) border before
+        (length other.old) above.now here.now below.now }
 {
     let last = above.len() - 1;
     let (left, others) = out.split_at_mut(before);
