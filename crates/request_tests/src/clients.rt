@@ -44,6 +44,35 @@ pub fn reply(alloc: Global, runtime: &mut Runtime, request: &Request) -> Result<
     Ok(runtime.apply(alloc, 1, request).ok().ok_or("no memory")?)
 }
 
+/// The name that client 1's request gives to what it creates.
+pub fn create(alloc: Global, runtime: &mut Runtime, request: &Request) -> Result<u32, Fail> {
+    match reply(alloc, runtime, request)? {
+        Reply::Name(name) => Ok(name),
+        _ => Err("no name".into()),
+    }
+}
+
+/// Client 1's request, which succeeds and tells nothing.
+pub fn succeed(alloc: Global, runtime: &mut Runtime, request: &Request) -> Result<(), Fail> {
+    match reply(alloc, runtime, request)? {
+        Reply::Empty => Ok(()),
+        _ => Err("it tells more, or is refused".into()),
+    }
+}
+
+/// Whether client 1's request is refused with this code.
+fn is_refused(
+    alloc: Global,
+    runtime: &mut Runtime,
+    request: &Request,
+    code: Code,
+) -> Result<bool, Fail> {
+    Ok(match reply(alloc, runtime, request)? {
+        Reply::Refused(refused) => refused == code,
+        _ => false,
+    })
+}
+
 #[test]
 fn what_is_released_leaves_room(rt: HostRuntime) -> Result<(), Fail> {
     let alloc = rt.alloc();
@@ -51,39 +80,28 @@ fn what_is_released_leaves_room(rt: HostRuntime) -> Result<(), Fail> {
     let desc = Desc::new(2, 2, Format::U8).ok_or("within the limits")?;
     let mut runtime = Runtime::new(alloc, limits);
     assert!(rt; images_made(alloc, &mut runtime, 1, desc) == Some(2));
-    let released = reply(alloc, &mut runtime, &Request::Release(1))?;
-    assert!(rt; matches!(released, Reply::Empty));
-    let made = reply(alloc, &mut runtime, &Request::CreateImage(desc))?;
-    assert!(rt; matches!(made, Reply::Name(3)));
-    let closed = reply(alloc, &mut runtime, &Request::ReleaseContext)?;
-    assert!(rt; matches!(closed, Reply::Empty));
+    succeed(alloc, &mut runtime, &Request::Release(1))?;
+    assert!(rt; create(alloc, &mut runtime, &Request::CreateImage(desc))? == 3);
+    succeed(alloc, &mut runtime, &Request::ReleaseContext)?;
     assert!(rt; images_made(alloc, &mut runtime, 1, desc) == Some(2));
     Ok(())
 }
 
-/// What the tests of graphs make: images 1 and 2 of one sample, graph 3 and its virtual image 4.
-pub fn makes_a_graph(alloc: Global, runtime: &mut Runtime) -> Result<bool, Fail> {
+/// A runtime in which client 1 has images 1 and 2 of one sample, graph 3 and its virtual image 4.
+pub fn with_a_graph(alloc: Global, limits: Limits) -> Result<Runtime, Fail> {
     let desc = Desc::new(1, 1, Format::U8).ok_or("within the limits")?;
     let open = Outline::new(None, None, None).ok_or("nothing is declared")?;
-    let opened = reply(alloc, runtime, &Request::OpenContext)?;
-    let first = reply(alloc, runtime, &Request::CreateImage(desc))?;
-    let second = reply(alloc, runtime, &Request::CreateImage(desc))?;
-    let graph = reply(alloc, runtime, &Request::CreateGraph)?;
-    let through = reply(alloc, runtime, &Request::CreateVirtualImage(3, open))?;
-    Ok(
-        matches!(opened, Reply::Empty)
-            && matches!((first, second), (Reply::Name(1), Reply::Name(2)))
-            && matches!((graph, through), (Reply::Name(3), Reply::Name(4))),
-    )
+    let mut runtime = Runtime::new(alloc, limits);
+    succeed(alloc, &mut runtime, &Request::OpenContext)?;
+    create(alloc, &mut runtime, &Request::CreateImage(desc))?;
+    create(alloc, &mut runtime, &Request::CreateImage(desc))?;
+    create(alloc, &mut runtime, &Request::CreateGraph)?;
+    create(alloc, &mut runtime, &Request::CreateVirtualImage(3, open))?;
+    Ok(runtime)
 }
 
-/// Adds Not of an image to another to graph 3.
-pub fn add_not(
-    alloc: Global,
-    runtime: &mut Runtime,
-    input: u32,
-    output: u32,
-) -> Result<Reply, Fail> {
+/// The request that adds Not of an image to another to graph 3.
+fn adding_not(input: u32, output: u32) -> Result<Request, Fail> {
     let node = NodeSpec::new(Node {
         function: Function::NotBits,
         border: Border::Undefined,
@@ -95,15 +113,23 @@ pub fn add_not(
         out2: None,
     })
     .ok_or("a node")?;
-    reply(alloc, runtime, &Request::AddNode(3, node))
+    Ok(Request::AddNode(3, node))
+}
+
+/// Adds such a node, and gives its number.
+pub fn add_not(alloc: Global, runtime: &mut Runtime, input: u32, output: u32) -> Result<u32, Fail> {
+    match reply(alloc, runtime, &adding_not(input, output)?)? {
+        Reply::Node(number) => Ok(number),
+        _ => Err("no node".into()),
+    }
 }
 
 /// Writes a sample to image 1.
-pub fn write_sample(alloc: Global, runtime: &mut Runtime, sample: u8) -> Result<Reply, Fail> {
+pub fn write_sample(alloc: Global, runtime: &mut Runtime, sample: u8) -> Result<(), Fail> {
     let desc = Desc::new(1, 1, Format::U8).ok_or("within the limits")?;
     let samples = Vec::from_slice(alloc, &[sample]).ok().ok_or("no memory")?;
     let picture = Picture::new(desc, Samples::U8(samples));
-    reply(
+    succeed(
         alloc,
         runtime,
         &Request::WriteImage(ObjRef::new(1, None), picture),
@@ -127,24 +153,29 @@ pub fn holds(alloc: Global, runtime: &mut Runtime, sample: u8) -> Result<bool, F
 fn a_graph_runs(rt: HostRuntime) -> Result<(), Fail> {
     let alloc = rt.alloc();
     let limits = Limits::new(8, 1).ok_or("within the limits")?;
-    let mut runtime = Runtime::new(alloc, limits);
-    assert!(rt; makes_a_graph(alloc, &mut runtime)?);
+    let mut runtime = with_a_graph(alloc, limits)?;
+    let verify = Request::VerifyGraph(3);
     // The second node of the run is added first.
-    let node = add_not(alloc, &mut runtime, 4, 2)?;
-    assert!(rt; matches!(node, Reply::Node(1)));
-    let verdict = reply(alloc, &mut runtime, &Request::VerifyGraph(3))?;
-    assert!(rt; matches!(verdict, Reply::Refused(Code::InvalidLink)));
-    let node = add_not(alloc, &mut runtime, 1, 4)?;
-    assert!(rt; matches!(node, Reply::Node(2)));
-    let written = write_sample(alloc, &mut runtime, 10)?;
-    assert!(rt; matches!(written, Reply::Empty));
-    let verdict = reply(alloc, &mut runtime, &Request::VerifyGraph(3))?;
-    assert!(rt; matches!(verdict, Reply::Empty));
+    assert!(rt; add_not(alloc, &mut runtime, 4, 2)? == 1);
+    assert!(rt; is_refused(alloc, &mut runtime, &verify, Code::InvalidLink)?);
+    assert!(rt; add_not(alloc, &mut runtime, 1, 4)? == 2);
+    write_sample(alloc, &mut runtime, 10)?;
+    succeed(alloc, &mut runtime, &verify)?;
     assert!(rt; holds(alloc, &mut runtime, 0)?);
-    let run = reply(alloc, &mut runtime, &Request::ProcessGraph(3))?;
-    assert!(rt; matches!(run, Reply::Empty));
+    succeed(alloc, &mut runtime, &Request::ProcessGraph(3))?;
     assert!(rt; holds(alloc, &mut runtime, 10)?);
     Ok(())
+}
+
+/// Whether image 1, which a node of graph 3 uses, is released in name alone: no new node can use it,
+/// what it is charged is charged still, and the graph runs on it.
+fn is_held(alloc: Global, runtime: &mut Runtime, making: &Request) -> Result<bool, Fail> {
+    succeed(alloc, runtime, &Request::Release(1))?;
+    let adding = adding_not(1, 4)?;
+    let is_gone = is_refused(alloc, runtime, &adding, Code::InvalidReference)?;
+    let is_charged = is_refused(alloc, runtime, making, Code::NoResources)?;
+    succeed(alloc, runtime, &Request::ProcessGraph(3))?;
+    Ok(is_gone && is_charged && holds(alloc, runtime, 255)?)
 }
 
 #[test]
@@ -152,23 +183,11 @@ fn what_a_node_uses_is_held(rt: HostRuntime) -> Result<(), Fail> {
     let alloc = rt.alloc();
     let limits = Limits::new(2, 1).ok_or("within the limits")?;
     let desc = Desc::new(1, 1, Format::U8).ok_or("within the limits")?;
-    let mut runtime = Runtime::new(alloc, limits);
-    assert!(rt; makes_a_graph(alloc, &mut runtime)?);
-    let node = add_not(alloc, &mut runtime, 1, 2)?;
-    assert!(rt; matches!(node, Reply::Node(1)));
-    let released = reply(alloc, &mut runtime, &Request::Release(1))?;
-    assert!(rt; matches!(released, Reply::Empty));
-    // Its name is gone, and its charge isn't.
-    let node = add_not(alloc, &mut runtime, 1, 4)?;
-    assert!(rt; matches!(node, Reply::Refused(Code::InvalidReference)));
-    let made = reply(alloc, &mut runtime, &Request::CreateImage(desc))?;
-    assert!(rt; matches!(made, Reply::Refused(Code::NoResources)));
-    let run = reply(alloc, &mut runtime, &Request::ProcessGraph(3))?;
-    assert!(rt; matches!(run, Reply::Empty));
-    assert!(rt; holds(alloc, &mut runtime, 255)?);
-    let removed = reply(alloc, &mut runtime, &Request::RemoveNode(3, 1))?;
-    assert!(rt; matches!(removed, Reply::Empty));
-    let made = reply(alloc, &mut runtime, &Request::CreateImage(desc))?;
-    assert!(rt; matches!(made, Reply::Name(5)));
+    let making = Request::CreateImage(desc);
+    let mut runtime = with_a_graph(alloc, limits)?;
+    assert!(rt; add_not(alloc, &mut runtime, 1, 2)? == 1);
+    assert!(rt; is_held(alloc, &mut runtime, &making)?);
+    succeed(alloc, &mut runtime, &Request::RemoveNode(3, 1))?;
+    assert!(rt; create(alloc, &mut runtime, &making)? == 5);
     Ok(())
 }

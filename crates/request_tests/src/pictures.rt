@@ -115,29 +115,79 @@ fn holds(alloc: Global, runtime: &mut Runtime, writing: &[u8]) -> Result<bool, F
     Ok(replies.len() > 8 && replies[7] == 0 && &replies[8..] == read(writing))
 }
 
+/// Whether a picture that goes in by these pieces, and out by these, comes back.
+fn comes_back(
+    alloc: Global,
+    desc: Desc,
+    source_piece: usize,
+    sink_piece: usize,
+) -> Result<bool, Fail> {
+    let devices = Devices {
+        source_piece,
+        sink_piece,
+        ..ALL_AT_ONCE
+    };
+    let mut runtime = opened(alloc, desc)?;
+    let picture = writing(alloc, desc, 1)?;
+    let mut stream = picture.as_slice().to_vec(alloc)?;
+    stream.extend_from_slice(frame(alloc, &Request::ReadImage(image()))?.as_slice())?;
+    let served = serve_bytes(alloc, &mut runtime, stream.as_slice(), devices);
+    let replies = served.written.as_slice();
+    Ok(
+        served.result.is_ok()
+            && replies.len() > 16
+            && &replies[..8] == b"\0\0\0\x04\0\x01\x05\0".as_slice()
+            && &replies[16..] == read(picture.as_slice()),
+    )
+}
+
 #[test]
 fn pictures_in_pieces(rt: HostRuntime) -> Result<(), Fail> {
-    let alloc = rt.alloc();
     for (format, width, height) in PICTURES {
         let desc = Desc::new(width, height, format).ok_or("within the limits")?;
         for (source_piece, sink_piece) in [(1_000_000, 1_000_000), (1000, 999), (7, 3)] {
-            let devices = Devices {
-                source_piece,
-                sink_piece,
-                ..ALL_AT_ONCE
-            };
-            let mut runtime = opened(alloc, desc)?;
-            let mut stream = writing(alloc, desc, 1)?;
-            let written = stream.len();
-            stream.extend_from_slice(frame(alloc, &Request::ReadImage(image()))?.as_slice())?;
-            let served = serve_bytes(alloc, &mut runtime, stream.as_slice(), devices);
-            assert!(rt; served.result.is_ok());
-            assert!(rt; written < stream.len() && served.written.len() > 16);
-            assert!(rt; &served.written[..8] == b"\0\0\0\x04\0\x01\x05\0".as_slice());
-            assert!(rt; &served.written[16..] == read(&stream[..written]));
+            assert!(rt; comes_back(rt.alloc(), desc, source_piece, sink_piece)?);
         }
     }
     Ok(())
+}
+
+/// Whether the image is as it was written first after a part of the frame that writes the next
+/// picture, and after a read of that frame that fails.
+fn stays(
+    alloc: Global,
+    runtime: &mut Runtime,
+    first: &[u8],
+    part: &[u8],
+    fails: Devices,
+) -> Result<bool, Fail> {
+    let short = serve_bytes(alloc, runtime, part, ALL_AT_ONCE);
+    let stays = holds(alloc, runtime, first)?;
+    let failed = serve_bytes(alloc, runtime, part, fails);
+    let ended = short.result == Err(StreamFault::Truncated)
+        && failed.result == Err(StreamFault::ReadFailed);
+    Ok(ended && stays && holds(alloc, runtime, first)?)
+}
+
+/// Whether it stays so after each of 23 parts.
+fn stays_after_parts(
+    alloc: Global,
+    runtime: &mut Runtime,
+    first: &[u8],
+    next: &[u8],
+) -> Result<bool, Fail> {
+    for parts in 1..24 {
+        let count = next.len() / 24 * parts;
+        let fails = Devices {
+            source_piece: next.len() / 32,
+            good_reads: parts as u64,
+            ..ALL_AT_ONCE
+        };
+        if !stays(alloc, runtime, first, &next[..count], fails)? {
+            return Ok(false);
+        }
+    }
+    Ok(true)
 }
 
 /// An image is as it was where the stream ends within the frame that writes it, or a read fails.
@@ -149,25 +199,26 @@ fn pictures_cut_short(rt: HostRuntime) -> Result<(), Fail> {
         let (first, next) = (writing(alloc, desc, 1)?, writing(alloc, desc, 2)?);
         let mut runtime = opened(alloc, desc)?;
         ask(alloc, &mut runtime, first.as_slice())?;
-        for parts in 1..24 {
-            let count = next.len() / 24 * parts;
-            assert!(rt; count < next.len());
-            let served = serve_bytes(alloc, &mut runtime, &next.as_slice()[..count], ALL_AT_ONCE);
-            assert!(rt; served.result == Err(StreamFault::Truncated));
-            assert!(rt; holds(alloc, &mut runtime, first.as_slice())?);
-            let fails = Devices {
-                source_piece: next.len() / 32,
-                good_reads: parts as u64,
-                ..ALL_AT_ONCE
-            };
-            let served = serve_bytes(alloc, &mut runtime, next.as_slice(), fails);
-            assert!(rt; served.result == Err(StreamFault::ReadFailed));
-            assert!(rt; holds(alloc, &mut runtime, first.as_slice())?);
-        }
+        assert!(rt; stays_after_parts(alloc, &mut runtime, first.as_slice(), next.as_slice())?);
         ask(alloc, &mut runtime, next.as_slice())?;
         assert!(rt; holds(alloc, &mut runtime, next.as_slice())?);
     }
     Ok(())
+}
+
+/// Whether a picture of another description is refused with this code, and the image is as it was
+/// written first.
+fn is_refused(
+    alloc: Global,
+    runtime: &mut Runtime,
+    other: Desc,
+    code: u8,
+    first: &[u8],
+) -> Result<bool, Fail> {
+    let mut stream = writing(alloc, other, 3)?;
+    stream.extend_from_slice(frame(alloc, &Request::ReadImage(image()))?.as_slice())?;
+    let replies = ask(alloc, runtime, stream.as_slice())?;
+    Ok(replies.len() > 16 && replies[7] == code && &replies[16..] == read(first))
 }
 
 /// A refused picture is read past, and the next one is written.
@@ -185,12 +236,7 @@ fn pictures_refused(rt: HostRuntime) -> Result<(), Fail> {
         (Format::U32, 40, 30, 5),
     ] {
         let other = Desc::new(width, height, format).ok_or("within the limits")?;
-        let mut stream = writing(alloc, other, 3)?;
-        stream.extend_from_slice(frame(alloc, &Request::ReadImage(image()))?.as_slice())?;
-        let replies = ask(alloc, &mut runtime, stream.as_slice())?;
-        assert!(rt; replies.len() > 16);
-        assert!(rt; replies[7] == code);
-        assert!(rt; &replies[16..] == read(first.as_slice()));
+        assert!(rt; is_refused(alloc, &mut runtime, other, code, first.as_slice())?);
     }
     ask(alloc, &mut runtime, next.as_slice())?;
     assert!(rt; holds(alloc, &mut runtime, next.as_slice())?);

@@ -1,50 +1,31 @@
 //! The blocks in which the clients' images have their samples: that they are used again and given
 //! back, and that no samples come to who is next.
-use crate::clients::{add_not, holds, makes_a_graph, reply, write_sample};
+use crate::clients::{add_not, create, holds, reply, succeed, with_a_graph, write_sample};
 use client_contexts::Runtime;
 use client_model::{Limits, Reply, Request};
 use std::alloc::Global;
 use std::test::Fail;
 use vx_base::{Desc, Format, ObjRef, Outline, Picture, Samples, SlotCount};
 
-/// How many blocks of U8, of S16 and of U32 are lent.
-fn lent(runtime: &Runtime) -> [usize; 3] {
-    [
-        runtime.lent(Format::U8),
-        runtime.lent(Format::S16),
-        runtime.lent(Format::U32),
-    ]
-}
-
-/// How many blocks there are of U8, of S16 and of U32.
-fn blocks(runtime: &Runtime) -> [usize; 3] {
-    [
-        runtime.blocks(Format::U8),
-        runtime.blocks(Format::S16),
-        runtime.blocks(Format::U32),
-    ]
-}
-
-/// Client 1's request, which names what it creates.
-fn create(alloc: Global, runtime: &mut Runtime, request: &Request) -> Result<u32, Fail> {
-    match reply(alloc, runtime, request)? {
-        Reply::Name(name) => Ok(name),
-        _ => Err("no name".into()),
-    }
-}
-
-/// Client 1's request, which succeeds and tells nothing.
-fn ask(alloc: Global, runtime: &mut Runtime, request: &Request) -> Result<(), Fail> {
-    match reply(alloc, runtime, request)? {
-        Reply::Empty => Ok(()),
-        _ => Err("it tells more, or is refused".into()),
-    }
+/// Whether so many blocks of U8, of S16 and of U32 are lent, of so many that there are.
+fn has(runtime: &Runtime, lent: [usize; 3], blocks: [usize; 3]) -> bool {
+    let [bytes, shorts, words] = [Format::U8, Format::S16, Format::U32];
+    lent == [
+        runtime.lent(bytes),
+        runtime.lent(shorts),
+        runtime.lent(words),
+    ] && blocks
+        == [
+            runtime.blocks(bytes),
+            runtime.blocks(shorts),
+            runtime.blocks(words),
+        ]
 }
 
 /// A runtime in which client 1 has a context.
 fn opened(alloc: Global) -> Result<Runtime, Fail> {
     let mut runtime = Runtime::new(alloc, Limits::default());
-    ask(alloc, &mut runtime, &Request::OpenContext)?;
+    succeed(alloc, &mut runtime, &Request::OpenContext)?;
     Ok(runtime)
 }
 
@@ -64,7 +45,7 @@ fn fill(alloc: Global, runtime: &mut Runtime, cell: ObjRef, desc: Desc) -> Resul
         return Err("so many of the format".into());
     }
     let picture = Picture::new(desc, samples);
-    ask(alloc, runtime, &Request::WriteImage(cell, picture))
+    succeed(alloc, runtime, &Request::WriteImage(cell, picture))
 }
 
 /// Whether a cell holds 0 everywhere.
@@ -79,6 +60,18 @@ fn is_cleared(alloc: Global, runtime: &mut Runtime, cell: ObjRef) -> Result<bool
     }
 }
 
+/// Whether a cell held 0 everywhere, where it holds no 0 now.
+fn was_cleared(
+    alloc: Global,
+    runtime: &mut Runtime,
+    cell: ObjRef,
+    desc: Desc,
+) -> Result<bool, Fail> {
+    let was_cleared = is_cleared(alloc, runtime, cell)?;
+    fill(alloc, runtime, cell, desc)?;
+    Ok(was_cleared && !is_cleared(alloc, runtime, cell)?)
+}
+
 /// Each format, and the blocks of an image of it: of U8, of S16 and of U32.
 const FORMATS: [(Format, [usize; 3]); 3] = [
     (Format::U8, [1, 0, 0]),
@@ -86,27 +79,52 @@ const FORMATS: [(Format, [usize; 3]); 3] = [
     (Format::U32, [0, 0, 1]),
 ];
 
+/// Whether three images one after the other are cleared, in one block.
+fn images_use_one_block(alloc: Global, format: Format, one: [usize; 3]) -> Result<bool, Fail> {
+    let desc = Desc::new(5, 7, format).ok_or("within the limits")?;
+    let mut runtime = opened(alloc)?;
+    let mut is_so = true;
+    for _ in 0..3 {
+        let name = create(alloc, &mut runtime, &Request::CreateImage(desc))?;
+        is_so &= was_cleared(alloc, &mut runtime, ObjRef::new(name, None), desc)?;
+        is_so &= has(&runtime, one, one);
+        succeed(alloc, &mut runtime, &Request::Release(name))?;
+        is_so &= has(&runtime, [0; 3], one);
+    }
+    Ok(is_so)
+}
+
 #[test]
 fn a_new_image_is_cleared_and_uses_the_block_of_a_released_one(
     rt: HostRuntime,
 ) -> Result<(), Fail> {
-    let alloc = rt.alloc();
     for (format, one) in FORMATS {
-        let desc = Desc::new(5, 7, format).ok_or("within the limits")?;
-        let mut runtime = opened(alloc)?;
-        for name in 1..4 {
-            let created = create(alloc, &mut runtime, &Request::CreateImage(desc))?;
-            assert!(rt; created == name);
-            let cell = ObjRef::new(name, None);
-            assert!(rt; is_cleared(alloc, &mut runtime, cell)?, "{name}");
-            fill(alloc, &mut runtime, cell, desc)?;
-            assert!(rt; !is_cleared(alloc, &mut runtime, cell)?, "{name}");
-            assert!(rt; (lent(&runtime), blocks(&runtime)) == (one, one));
-            ask(alloc, &mut runtime, &Request::Release(name))?;
-            assert!(rt; (lent(&runtime), blocks(&runtime)) == ([0; 3], one));
-        }
+        assert!(rt;
+            images_use_one_block(rt.alloc(), format, one)?,
+            "{format:?}"
+        );
     }
     Ok(())
+}
+
+/// Whether all slots of a new delay of image 1, which is of this description, are cleared. It is
+/// aged and released.
+fn slots_are_cleared(
+    alloc: Global,
+    runtime: &mut Runtime,
+    slots: SlotCount,
+    desc: Desc,
+) -> Result<bool, Fail> {
+    let exemplar = ObjRef::new(1, None);
+    let name = create(alloc, runtime, &Request::CreateDelay(exemplar, slots))?;
+    let mut is_so = true;
+    for slot in 0..3 {
+        is_so &= was_cleared(alloc, runtime, ObjRef::new(name, Some(slot)), desc)?;
+    }
+    succeed(alloc, runtime, &Request::AgeDelay(name))?;
+    is_so &= has(runtime, [0, 4, 0], [0, 4, 0]);
+    succeed(alloc, runtime, &Request::Release(name))?;
+    Ok(is_so)
 }
 
 #[test]
@@ -118,20 +136,24 @@ fn a_new_delay_is_cleared_and_uses_the_blocks_of_a_released_one(
     let slots = SlotCount::new(3).ok_or("within the limits")?;
     let mut runtime = opened(alloc)?;
     create(alloc, &mut runtime, &Request::CreateImage(desc))?;
-    let exemplar = ObjRef::new(1, None);
-    for name in 2..5 {
-        let created = create(alloc, &mut runtime, &Request::CreateDelay(exemplar, slots))?;
-        assert!(rt; created == name);
-        for slot in 0..3 {
-            let cell = ObjRef::new(name, Some(slot));
-            assert!(rt; is_cleared(alloc, &mut runtime, cell)?, "{name} {slot}");
-            fill(alloc, &mut runtime, cell, desc)?;
-        }
-        ask(alloc, &mut runtime, &Request::AgeDelay(name))?;
-        assert!(rt; (lent(&runtime), blocks(&runtime)) == ([0, 4, 0], [0, 4, 0]));
-        ask(alloc, &mut runtime, &Request::Release(name))?;
-        assert!(rt; (lent(&runtime), blocks(&runtime)) == ([0, 1, 0], [0, 4, 0]));
+    for _ in 0..3 {
+        assert!(rt; slots_are_cleared(alloc, &mut runtime, slots, desc)?);
+        assert!(rt; has(&runtime, [0, 1, 0], [0, 4, 0]));
     }
+    Ok(())
+}
+
+/// Creates an image of four samples and a delay of so many like it.
+fn create_many(
+    alloc: Global,
+    runtime: &mut Runtime,
+    format: Format,
+    slots: SlotCount,
+) -> Result<(), Fail> {
+    let desc = Desc::new(2, 2, format).ok_or("within the limits")?;
+    let name = create(alloc, runtime, &Request::CreateImage(desc))?;
+    let exemplar = ObjRef::new(name, None);
+    create(alloc, runtime, &Request::CreateDelay(exemplar, slots))?;
     Ok(())
 }
 
@@ -141,37 +163,38 @@ fn a_released_context_has_given_all_blocks_back(rt: HostRuntime) -> Result<(), F
     let slots = SlotCount::new(16).ok_or("within the limits")?;
     let mut runtime = opened(alloc)?;
     for (format, _) in FORMATS {
-        let desc = Desc::new(2, 2, format).ok_or("within the limits")?;
-        let name = create(alloc, &mut runtime, &Request::CreateImage(desc))?;
-        let exemplar = ObjRef::new(name, None);
-        create(alloc, &mut runtime, &Request::CreateDelay(exemplar, slots))?;
+        create_many(alloc, &mut runtime, format, slots)?;
     }
     create(alloc, &mut runtime, &Request::CreateMinMax)?;
-    assert!(rt; lent(&runtime) == [17; 3]);
-    ask(alloc, &mut runtime, &Request::ReleaseContext)?;
-    assert!(rt; (lent(&runtime), blocks(&runtime)) == ([0; 3], [17; 3]));
+    assert!(rt; has(&runtime, [17; 3], [17; 3]));
+    succeed(alloc, &mut runtime, &Request::ReleaseContext)?;
+    assert!(rt; has(&runtime, [0; 3], [17; 3]));
+    Ok(())
+}
+
+/// Links images 1 and 2 of graph 3 by a chain of nodes through five virtual images.
+fn add_chain(alloc: Global, runtime: &mut Runtime) -> Result<(), Fail> {
+    let open = Outline::new(None, None, None).ok_or("nothing is declared")?;
+    for _ in 5..9 {
+        create(alloc, runtime, &Request::CreateVirtualImage(3, open))?;
+    }
+    for (input, output) in [(1, 4), (4, 5), (5, 6), (6, 7), (7, 8), (8, 2)] {
+        add_not(alloc, runtime, input, output)?;
+    }
     Ok(())
 }
 
 #[test]
 fn a_chain_runs_through_two_blocks_and_gives_them_back(rt: HostRuntime) -> Result<(), Fail> {
     let alloc = rt.alloc();
-    let mut runtime = Runtime::new(alloc, Limits::default());
-    assert!(rt; makes_a_graph(alloc, &mut runtime)?);
-    let open = Outline::new(None, None, None).ok_or("nothing is declared")?;
-    for name in 5..9 {
-        let created = create(alloc, &mut runtime, &Request::CreateVirtualImage(3, open))?;
-        assert!(rt; created == name);
-    }
-    for (input, output) in [(1, 4), (4, 5), (5, 6), (6, 7), (7, 8), (8, 2)] {
-        add_not(alloc, &mut runtime, input, output)?;
-    }
-    assert!(rt; (lent(&runtime), blocks(&runtime)) == ([2, 0, 0], [2, 0, 0]));
+    let mut runtime = with_a_graph(alloc, Limits::default())?;
+    add_chain(alloc, &mut runtime)?;
+    assert!(rt; has(&runtime, [2, 0, 0], [2, 0, 0]));
     for sample in [10, 20] {
         write_sample(alloc, &mut runtime, sample)?;
-        ask(alloc, &mut runtime, &Request::ProcessGraph(3))?;
+        succeed(alloc, &mut runtime, &Request::ProcessGraph(3))?;
         assert!(rt; holds(alloc, &mut runtime, sample)?);
-        assert!(rt; (lent(&runtime), blocks(&runtime)) == ([2, 0, 0], [4, 0, 0]));
+        assert!(rt; has(&runtime, [2, 0, 0], [4, 0, 0]));
     }
     Ok(())
 }
@@ -183,11 +206,11 @@ fn images_in_turn_use_one_block(rt: HostRuntime) -> Result<(), Fail> {
     for side in 1..65 {
         let desc = Desc::new(side, 65 - side, Format::U32).ok_or("within the limits")?;
         let name = create(alloc, &mut runtime, &Request::CreateImage(desc))?;
-        assert!(rt; (lent(&runtime), blocks(&runtime)) == ([0, 0, 1], [0, 0, 1]));
-        ask(alloc, &mut runtime, &Request::Release(name))?;
+        assert!(rt; has(&runtime, [0, 0, 1], [0, 0, 1]));
+        succeed(alloc, &mut runtime, &Request::Release(name))?;
     }
-    assert!(rt; (lent(&runtime), blocks(&runtime)) == ([0; 3], [0, 0, 1]));
+    assert!(rt; has(&runtime, [0; 3], [0, 0, 1]));
     runtime.drop_free();
-    assert!(rt; (lent(&runtime), blocks(&runtime)) == ([0; 3], [0; 3]));
+    assert!(rt; has(&runtime, [0; 3], [0; 3]));
     Ok(())
 }

@@ -34,39 +34,79 @@ fn reading(alloc: Global) -> Result<Vec<u8>, Fail> {
     frame(alloc, &Request::ReadImagePgm(image()))
 }
 
+/// The frame in which client 1 is answered with a text.
+fn answer(alloc: Global, text: &[u8]) -> Result<Vec<u8>, Fail> {
+    let length = (text.len() as u64 + 4).to_be_bytes();
+    let mut reply = length[4..].to_vec(alloc)?;
+    reply.extend_from_slice(b"\0\x01\x08\0")?;
+    reply.extend_from_slice(text)?;
+    Ok(reply)
+}
+
 /// Whether the image is read as this text.
 fn holds(alloc: Global, runtime: &mut Runtime, text: &[u8]) -> Result<bool, Fail> {
     let replies = ask(alloc, runtime, reading(alloc)?.as_slice())?;
-    Ok(replies.len() > 8 && replies[7] == 0 && &replies[8..] == text)
+    Ok(replies.as_slice() == answer(alloc, text)?.as_slice())
+}
+
+/// The reply to a frame that writes, which has eight bytes, and those that follow it.
+fn split_reply(replies: &[u8]) -> (&[u8], &[u8]) {
+    replies.split_at(replies.len().min(8))
+}
+
+/// Whether a text that goes in by these pieces, and out by these, comes back.
+fn comes_back(
+    alloc: Global,
+    desc: Desc,
+    source_piece: usize,
+    sink_piece: usize,
+) -> Result<bool, Fail> {
+    let devices = Devices {
+        source_piece,
+        sink_piece,
+        ..ALL_AT_ONCE
+    };
+    let mut runtime = opened(alloc, desc)?;
+    let text = text(alloc, desc.width(), desc.height(), 255, 1)?;
+    let mut stream = writing(alloc, text.as_slice())?;
+    stream.extend_from_slice(reading(alloc)?.as_slice())?;
+    let served = serve_bytes(alloc, &mut runtime, stream.as_slice(), devices);
+    let (written, read) = split_reply(served.written.as_slice());
+    Ok(
+        served.result.is_ok()
+            && written == b"\0\0\0\x04\0\x01\x06\0".as_slice()
+            && read == answer(alloc, text.as_slice())?.as_slice(),
+    )
 }
 
 /// What is written is read again, byte for byte.
 #[test]
 fn texts_in_pieces(rt: HostRuntime) -> Result<(), Fail> {
-    let alloc = rt.alloc();
     for (width, height) in SIDES {
         let desc = Desc::new(width, height, Format::U8).ok_or("within the limits")?;
-        let text = text(alloc, width, height, 255, 1)?;
         for (source_piece, sink_piece) in [(1_000_000, 1_000_000), (100, 9), (7, 3)] {
-            let devices = Devices {
-                source_piece,
-                sink_piece,
-                ..ALL_AT_ONCE
-            };
-            let mut runtime = opened(alloc, desc)?;
-            let mut stream = writing(alloc, text.as_slice())?;
-            stream.extend_from_slice(reading(alloc)?.as_slice())?;
-            let served = serve_bytes(alloc, &mut runtime, stream.as_slice(), devices);
-            assert!(rt; served.result.is_ok());
-            assert!(rt; served.written.len() > 16);
-            assert!(rt; &served.written[..8] == b"\0\0\0\x04\0\x01\x06\0".as_slice());
-            let length = (text.len() as u64 + 4).to_be_bytes();
-            assert!(rt; &served.written[8..12] == &length[4..]);
-            assert!(rt; &served.written[12..16] == b"\0\x01\x08\0".as_slice());
-            assert!(rt; &served.written[16..] == text.as_slice());
+            assert!(rt; comes_back(rt.alloc(), desc, source_piece, sink_piece)?);
         }
     }
     Ok(())
+}
+
+/// Whether the image holds the first text after each of 23 parts of the frame that writes the next.
+fn stays_after_parts(
+    alloc: Global,
+    runtime: &mut Runtime,
+    first: &[u8],
+    stream: &[u8],
+) -> Result<bool, Fail> {
+    for parts in 1..24 {
+        let count = stream.len() / 24 * parts;
+        let served = serve_bytes(alloc, runtime, &stream[..count], ALL_AT_ONCE);
+        let is_short = 0 < count && served.result == Err(StreamFault::Truncated);
+        if !is_short || !holds(alloc, runtime, first)? {
+            return Ok(false);
+        }
+    }
+    Ok(true)
 }
 
 /// An image is as it was where the stream ends within the frame that writes it.
@@ -84,22 +124,24 @@ fn texts_cut_short(rt: HostRuntime) -> Result<(), Fail> {
             writing(alloc, first.as_slice())?.as_slice(),
         )?;
         let stream = writing(alloc, next.as_slice())?;
-        for parts in 1..24 {
-            let count = stream.len() / 24 * parts;
-            assert!(rt; 0 < count && count < stream.len());
-            let served = serve_bytes(
-                alloc,
-                &mut runtime,
-                &stream.as_slice()[..count],
-                ALL_AT_ONCE,
-            );
-            assert!(rt; served.result == Err(StreamFault::Truncated));
-            assert!(rt; holds(alloc, &mut runtime, first.as_slice())?);
-        }
+        assert!(rt; stays_after_parts(alloc, &mut runtime, first.as_slice(), stream.as_slice())?);
         ask(alloc, &mut runtime, stream.as_slice())?;
         assert!(rt; holds(alloc, &mut runtime, next.as_slice())?);
     }
     Ok(())
+}
+
+/// Whether a text is refused with this code, and the image holds the first one.
+fn is_refused(
+    alloc: Global,
+    runtime: &mut Runtime,
+    text: &[u8],
+    code: u8,
+    first: &[u8],
+) -> Result<bool, Fail> {
+    let replies = ask(alloc, runtime, writing(alloc, text)?.as_slice())?;
+    let is_refused = replies.as_slice() == [0, 0, 0, 4, 0, 1, 6, code].as_slice();
+    Ok(is_refused && holds(alloc, runtime, first)?)
 }
 
 /// A text's own fault comes before what the image says, and leaves the image as it was.
@@ -125,22 +167,31 @@ fn texts_refused(rt: HostRuntime) -> Result<(), Fail> {
         (40, 3, 0, 0, 5),
     ] {
         let other = text(alloc, width, height, maxval, 3)?;
-        assert!(rt; short < other.len());
-        let mut stream = writing(alloc, &other.as_slice()[..other.len() - short])?;
-        stream.extend_from_slice(reading(alloc)?.as_slice())?;
-        let replies = ask(alloc, &mut runtime, stream.as_slice())?;
-        assert!(rt; replies.len() > 16);
-        assert!(rt; replies[7] == code);
-        assert!(rt; &replies[16..] == first.as_slice());
+        let count = other.len().saturating_sub(short);
+        let part = &other.as_slice()[..count];
+        assert!(rt; is_refused(alloc, &mut runtime, part, code, first.as_slice())?);
     }
-    for (text, code) in [
+    Ok(())
+}
+
+/// Raw texts of two bytes a sample, and of one, that an image of U8 doesn't take.
+#[test]
+fn texts_of_two_bytes_refused(rt: HostRuntime) -> Result<(), Fail> {
+    let alloc = rt.alloc();
+    let desc = Desc::new(40, 3, Format::U8).ok_or("within the limits")?;
+    let first = text(alloc, 40, 3, 255, 1)?;
+    let mut runtime = opened(alloc, desc)?;
+    ask(
+        alloc,
+        &mut runtime,
+        writing(alloc, first.as_slice())?.as_slice(),
+    )?;
+    for (other, code) in [
         (b"P5 1 1 300\n\x01\x2c".as_slice(), 5),
         (b"P5 1 1 300\n\x01\x2d".as_slice(), 7),
         (b"P5 1 1 255\n\x01".as_slice(), 6),
     ] {
-        let replies = ask(alloc, &mut runtime, writing(alloc, text)?.as_slice())?;
-        assert!(rt; replies.len() == 8 && replies[7] == code);
-        assert!(rt; holds(alloc, &mut runtime, first.as_slice())?);
+        assert!(rt; is_refused(alloc, &mut runtime, other, code, first.as_slice())?);
     }
     Ok(())
 }
