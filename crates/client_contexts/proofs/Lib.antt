@@ -2,6 +2,7 @@ mod LookupLemmas
 mod ScopeLemmas
 mod StandLemmas
 mod ReadyLemmas
+mod RegisterLemmas
 mod AddLemmas
 mod KeptLemmas
 mod ForgetLemmas

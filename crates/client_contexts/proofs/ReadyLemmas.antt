@@ -1,6 +1,11 @@
 -- What is kept of a graph: what it says of the graph's verdict and run, and that it is so once the graph is verified.
+use Rattle.client_laws.proofs.RunLaws.{graph_stays}
+use Rattle.object_table.specs.Table.{graph_under}
+use Rattle.object_table.specs.Ageing.{aged_under}
+use Rattle.vx_base.specs.declared.format.Format.TheVariants.{U8}
+use Rattle.vx_base.specs.Image.{new_image}
 use Rattle.std.proofs.Common.{◌≡◌, ℕ, ◌<◌, ◌^◌, List, [], ◌∷◌, Option, Some, None, Result, Ok, Err, Ordering, Less, Equal, Greater, IfSome, refl, sym, ap, subst, ◌∙◌}
-use Rattle.std.specs.Prelude.{All}
+use Rattle.std.specs.Prelude.{All, unwrap_or}
 use Rattle.std.specs.BTreeMap.{insert_entry, is_at}
 use Rattle.std.specs.Map.{lookup}
 use Rattle.std.specs.Option.{option_map}
@@ -10,7 +15,7 @@ use Rattle.std.proofs.lemmas.Map.Lookups.{exact_unsigned}
 use Rattle.std.proofs.lemmas.Map.Views.{Contains-from_lookup, tells_apart}
 use Rattle.vx_base.specs.declared.kind.Kind.TheVariants as kind
 use Rattle.vx_base.specs.Graph.{GraphValue, nodes_of}
-use Rattle.vx_base.specs.Object.{ObjectValue, GraphObject}
+use Rattle.vx_base.specs.Object.{ObjectValue, GraphObject, ImageObject}
 use Rattle.object_table.specs.Context.{Context, with_objects}
 use Rattle.object_table.specs.Named.{object_held}
 use Rattle.object_table.specs.Object.{graph_value}
@@ -151,12 +156,28 @@ module _ (limits : Allowance) (c : Context) (name : ℕ) where
 
   -- its run leaves this
   pub runs_to : (graph : GraphValue) (after : Context) → graph_named c.objects name ≡ Ok graph → graph_verdict limits c.objects graph ≡ None
-      → after ≡ with_objects c (run_of_graph (resolved (operand_held c.objects) (nodes_of graph)) (nodes_of graph) c.objects)
+      → after ≡ with_objects c (aged_under graph.delays (run_of_graph (resolved (operand_held c.objects) (nodes_of graph)) (nodes_of graph) c.objects))
       → process_graph limits c name ≡ Ok (Empty, Some after)
   runs_to graph after is allowed e =
       ap (λ g. process_found g limits c) is
-      ∙ ap (λ o. unless (option_map Rejected o) Empty (with_objects c (run_of_graph (resolved (operand_held c.objects) (nodes_of graph)) (nodes_of graph) c.objects))) allowed
+      ∙ ap (λ o. unless (option_map Rejected o) Empty (with_objects c (aged_under graph.delays (run_of_graph (resolved (operand_held c.objects) (nodes_of graph)) (nodes_of graph) c.objects)))) allowed
       ∙ ap (λ (k : Context). let r : Outcome = Ok (Empty, Some k) in r) (sym e)
+
+  -- the graph is as it was as its run ends
+  pub graph_left : KeepsLimits limits c → (graph : GraphValue) (ran : Context) → graph_named c.objects name ≡ Ok graph → graph_verdict limits c.objects graph ≡ None
+      → ran ≡ with_objects c (run_of_graph (resolved (operand_held c.objects) (nodes_of graph)) (nodes_of graph) c.objects) → object_held ran.objects name ≡ Some (GraphObject graph)
+  graph_left h graph ran is allowed e = ap (λ (k : Context). object_held k.objects name) e ∙ graph_stays limits c name graph h is allowed
+
+  -- and then each delay ages that is registered with it
+  pub aged_to : KeepsLimits limits c → (graph : GraphValue) (ran after : Context) → graph_named c.objects name ≡ Ok graph → graph_verdict limits c.objects graph ≡ None
+      → ran ≡ with_objects c (run_of_graph (resolved (operand_held c.objects) (nodes_of graph)) (nodes_of graph) c.objects)
+      → after ≡ with_objects ran (aged_under (graph_under ran.objects name).delays ran.objects) → process_graph limits c name ≡ Ok (Empty, Some after)
+  aged_to h graph ran after is allowed e aged =
+      let left = graph_left h graph ran is allowed e in
+      runs_to graph after is allowed
+      (aged
+      ∙ ap (λ (o : Option ObjectValue). with_objects ran (aged_under (graph_value (unwrap_or o (ImageObject (new_image 0 0 U8)))).delays ran.objects)) left
+      ∙ ap (λ (k : Context). with_objects k (aged_under graph.delays k.objects)) e)
 
   -- what is kept of a graph that is verified runs its nodes
   pub kept_runs : KeepsLimits limits c → (done : Reply × Option Context) → verify_graph limits c name ≡ Ok done → (k : Kept) (entries : List (ℕ × Kept)) → AreKept c entries

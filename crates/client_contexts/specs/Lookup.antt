@@ -27,6 +27,14 @@ pub record IsNamed (objects : List Named) (name : ℕ) (wanted : Kind) (object :
   pub held : object_held objects name ≡ Some object
   pub kind : object_kind object ≡ wanted
 
+-- a graph and a delay have these live names
+pub record NameGraphAndDelay (objects : List Named) (graph delay : ℕ) : Type 0 where
+  pub first : ObjectValue
+  pub second : ObjectValue
+  pub graph : IsNamed objects graph kind.Graph first
+  pub delay : object_named objects delay ≡ Some second
+  pub kind : object_kind second ≡ kind.Delay
+
 -- the image that a reference names
 pub record IsImageOf (objects : List Named) (cell : Cell) (is : ImageValue) : Type 0 where
   pub there : HoldsImage objects cell

@@ -18,7 +18,7 @@ ghost use Rattle.client_contexts.specs.Kept.{runs_graph};
 ghost use Rattle.client_contexts.specs.Lookup.{IsImageFor, refusal_for};
 ghost use Rattle.client_contexts.specs.Steps.{ComesTo, MayComeTo, WantsMemory, IsContext, Keeps};
 
-use crate::delays::{age_delay, create_delay};
+use crate::delays::{age_delay, create_delay, register_auto_aging};
 use crate::fault::RequestFault;
 use crate::graphs::{
     add_node, create_graph, create_virtual_image, process_graph, remove_node, verify_graph,
@@ -241,5 +241,6 @@ fn answer(
             create_delay(table, pool, limits, *exemplar, *slots)
         }
         Request::AgeDelay(name) => Ok(age_delay(table, *name)?),
+        Request::RegisterAutoAging(graph, delay) => register_auto_aging(table, *graph, *delay),
     }
 }

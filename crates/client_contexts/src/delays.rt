@@ -1,7 +1,9 @@
-//! Requests on delays: creating and ageing them.
-ghost use Rattle.client_model.specs.Delays.{create_delay, age_delay};
+//! Requests on delays: creating and ageing them, and registering those that age with a graph.
+ghost use Rattle.std.specs.Prelude.{◌≡◌, Err, IfErr, OnOk};
+ghost use Rattle.client_model.specs.Delays.{create_delay, age_delay, register_auto_aging};
 ghost use Rattle.client_model.specs.States.{KeepsLimits};
 ghost use Rattle.object_table.specs.Blocks.{Balances, KeepsBlocks};
+ghost use Rattle.client_contexts.specs.Lookup.{NameGraphAndDelay};
 ghost use Rattle.client_contexts.specs.Steps.{ComesTo, MayComeTo, IsContext, Keeps};
 
 use crate::fault::RequestFault;
@@ -41,4 +43,39 @@ pub fn age_delay(table: &mut Table, name: u32) -> Result<Reply, Refusal>
     find_named(table, name, Kind::Delay)?;
     table.age(name);
     Ok(Reply::Empty)
+}
+
+/// Registers a delay with a graph, after each of whose runs it ages from then on.
+pub fn register_auto_aging(
+    table: &mut Table,
+    graph: u32,
+    delay: u32,
+) -> Result<Reply, RequestFault>
+    requires { IsContext table.old }
+    ensures comes { MayComeTo (register_auto_aging table.old graph delay)
+        table.old table.new result }
+    ensures kept { Keeps table.old table.new }
+    ensures blocks { KeepsBlocks table.old.objects table.new.objects }
+{
+    find_graph_and_delay(table, graph, delay)?;
+    table.register(graph, delay)?;
+    Ok(Reply::Empty)
+}
+
+/// Whether these are the names of a graph and of a delay, or why they aren't: both names come before
+/// both kinds.
+fn find_graph_and_delay(table: &Table, graph: u32, delay: u32) -> Result<(), Refusal>
+    ensures ok { OnOk result (NameGraphAndDelay table.now.objects graph delay) }
+    ensures err { IfErr result (λ refusal.
+        register_auto_aging table.now graph delay ≡ Err refusal) }
+{
+    let Ok(second) = table.get(delay) else {
+        return Err(Refusal::InvalidReference);
+    };
+    find_named(table, graph, Kind::Graph)?;
+    if second.kind() == Kind::Delay {
+        Ok(())
+    } else {
+        Err(Refusal::InvalidType)
+    }
 }

@@ -137,7 +137,7 @@ fn is_kept(kept: &BTreeMap<u32, Kept>, graph: u32, work: u64) -> bool
 }
 
 /// Runs the graph with this name if it can run: its nodes in an order in which they can, each once.
-/// Otherwise says why not, as `verify_graph` does.
+/// Then each delay ages that is registered with it. Otherwise says why not, as `verify_graph` does.
 pub fn process_graph(
     table: &mut Table,
     kept: &mut BTreeMap<u32, Kept>,
@@ -158,5 +158,6 @@ pub fn process_graph(
         unreachable!()
     };
     run(alloc, &kept.verified, &kept.plan, table, pool)?;
+    table.age_registered(graph);
     Ok(Reply::Empty)
 }

@@ -7,5 +7,5 @@ pub mod StandLaws
 mod VerdictLaws
 pub mod StayLaws
 mod InTurnLaws
-mod RunLaws
+pub mod RunLaws
 mod OrderLaws

@@ -13,6 +13,7 @@ use Rattle.vx_base.specs.declared.node.Node.{Node}
 use Rattle.vx_base.specs.Cell.{Cell}
 use Rattle.vx_base.specs.Graph.{GraphValue, nodes_of}
 use Rattle.vx_base.specs.Node.{inputs, outputs}
+use Rattle.object_table.specs.Ageing.{aged_under}
 use Rattle.object_table.specs.Context.{Context, with_objects}
 use Rattle.object_table.specs.Named.{Named}
 use Rattle.graph_verify.specs.declared.operand.Operand.{Operand}
@@ -117,9 +118,9 @@ module _ (work : ℕ) (is : Cell → Operand) (nodes others : List Node) (same :
 -- ---- graphs
 
 -- a graph with the same nodes in another order leaves the same
-pub same_run : (limits : Allowance) (c later : Context) (name : ℕ) (graph other : GraphValue) → KeepsLimits limits c → graph_named c.objects name ≡ Ok graph → IsPermutation (nodes_of graph) (nodes_of other)
+pub same_run : (limits : Allowance) (c later : Context) (name : ℕ) (graph other : GraphValue) → KeepsLimits limits c → graph_named c.objects name ≡ Ok graph → IsPermutation (nodes_of graph) (nodes_of other) → graph.delays ≡ other.delays
     → process_found (Ok graph) limits c ≡ Ok (Empty, Some later) → process_found (Ok other) limits c ≡ Ok (Empty, Some later)
-same_run limits c later name graph other h is_graph same done = of_verdict (graph_verdict limits c.objects graph) refl done
+same_run limits c later name graph other h is_graph same delays done = of_verdict (graph_verdict limits c.objects graph) refl done
   where
     nodes : List Node
     nodes = nodes_of graph
@@ -130,20 +131,21 @@ same_run limits c later name graph other h is_graph same done = of_verdict (grap
     is : Cell → Operand
     is = operand_held c.objects
 
-    of_verdict : (v : Option Verdict) → graph_verdict limits c.objects graph ≡ v → unless (option_map Rejected v) Empty (with_objects c (run_of_graph (resolved is nodes) nodes c.objects)) ≡ Ok (Empty, Some later)
+    of_verdict : (v : Option Verdict) → graph_verdict limits c.objects graph ≡ v → unless (option_map Rejected v) Empty (with_objects c (aged_under graph.delays (run_of_graph (resolved is nodes) nodes c.objects))) ≡ Ok (Empty, Some later)
         → process_found (Ok other) limits c ≡ Ok (Empty, Some later)
     of_verdict None allowed e =
         let run : run_of_graph (resolved is nodes) nodes c.objects ≡ run_of_graph (resolved is others) others c.objects =
         same_graph is nodes others c.objects same (can_run limits.work is nodes allowed).one_writer (pairs_of c.objects h.names)
         (no_delay is nodes c.objects (cells_stand c.objects name nodes (graph_stood limits c name graph h is_graph))) in
-        ap (λ (o : Option Verdict). unless (option_map Rejected o) Empty (with_objects c (run_of_graph (resolved is others) others c.objects))) (others_run limits.work is nodes others same allowed)
-        ∙ ap (λ (objects : List Named). let r : Outcome = Ok (Empty, Some (with_objects c objects)) in r) (sym run)
+        ap (λ (o : Option Verdict). unless (option_map Rejected o) Empty (with_objects c (aged_under other.delays (run_of_graph (resolved is others) others c.objects)))) (others_run limits.work is nodes others same allowed)
+        ∙ ap (λ (objects : List Named). let r : Outcome = Ok (Empty, Some (with_objects c (aged_under other.delays objects))) in r) (sym run)
+        ∙ ap (λ (names : List ℕ). let r : Outcome = Ok (Empty, Some (with_objects c (aged_under names (run_of_graph (resolved is nodes) nodes c.objects)))) in r) (sym delays)
         ∙ e
     of_verdict (Some v) refused e = absurd (cc)
 
 -- of requests on two graphs of one client
 pub same_answer : (limits : Allowance) (c later : Context) (one two : ℕ) (graph other : GraphValue) → KeepsLimits limits c → graph_named c.objects one ≡ Ok graph → graph_named c.objects two ≡ Ok other
-    → IsPermutation (nodes_of graph) (nodes_of other) → answer_to limits (Some c) (ProcessGraph one) ≡ (Empty, Some later) → answer_to limits (Some c) (ProcessGraph two) ≡ (Empty, Some later)
-same_answer limits c later one two graph other h is_graph is_other same done =
+    → IsPermutation (nodes_of graph) (nodes_of other) → graph.delays ≡ other.delays → answer_to limits (Some c) (ProcessGraph one) ≡ (Empty, Some later) → answer_to limits (Some c) (ProcessGraph two) ≡ (Empty, Some later)
+same_answer limits c later one two graph other h is_graph is_other same delays done =
     ap (λ found. answered c (process_found found limits c)) is_other
-    ∙ ap (answered c) (same_run limits c later one graph other h is_graph same (outcome_is c later (process_found (Ok graph) limits c) (ap (λ found. answered c (process_found found limits c)) (sym is_graph) ∙ done)))
+    ∙ ap (answered c) (same_run limits c later one graph other h is_graph same delays (outcome_is c later (process_found (Ok graph) limits c) (ap (λ found. answered c (process_found found limits c)) (sym is_graph) ∙ done)))

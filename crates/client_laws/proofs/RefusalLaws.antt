@@ -18,7 +18,7 @@ use Rattle.object_table.specs.Context.{Context, object_named, with_objects, with
 use Rattle.object_table.specs.Holds.{still_held, unnamed}
 use Rattle.graph_verify.specs.declared.verdict.Verdict.TheVariants.{MultipleWriters}
 use Rattle.client_model.specs.declared.request.Request.{Request}
-use Rattle.client_model.specs.declared.request.Request.TheVariants.{OpenContext, ReleaseContext, CreateImage, QueryImage, WriteImage, WriteImagePgm, ReadImage, ReadImagePgm, SetValid, Release, CreateLut, CreateThreshold, CreateConvolution, CreateDistribution, ReadDistribution, CreateMinMax, ReadMinMax, CreateGraph, CreateVirtualImage, AddNode, RemoveNode, VerifyGraph, ProcessGraph, Immediate, CreateDelay, AgeDelay}
+use Rattle.client_model.specs.declared.request.Request.TheVariants.{OpenContext, ReleaseContext, CreateImage, QueryImage, WriteImage, WriteImagePgm, ReadImage, ReadImagePgm, SetValid, Release, CreateLut, CreateThreshold, CreateConvolution, CreateDistribution, ReadDistribution, CreateMinMax, ReadMinMax, CreateGraph, CreateVirtualImage, AddNode, RemoveNode, VerifyGraph, ProcessGraph, Immediate, CreateDelay, AgeDelay, RegisterAutoAging}
 use Rattle.client_model.specs.declared.refusal.Refusal.{Refusal}
 use Rattle.client_model.specs.declared.refusal.Refusal.TheVariants.{InvalidReference, NoResources, Rejected}
 use Rattle.client_model.specs.declared.reply.Described.{Described}
@@ -37,7 +37,7 @@ use Rattle.pgm_images.specs.Reading.{reading}
 use Rattle.client_model.specs.Statistics.{counts_of, extremes_of}
 use Rattle.client_model.specs.Graphs.{graph_named, create_virtual_in, add_to, remove_from, graph_verdict, verify_found, process_found}
 use Rattle.client_model.specs.Immediate.{node_refusal}
-use Rattle.client_model.specs.Delays.{create_like, age_named}
+use Rattle.client_model.specs.Delays.{create_like, age_named, register_named}
 use Rattle.client_model.specs.Answer.{outcome_of, answered, answer_to}
 
 -- ---- what is done is no refusal
@@ -156,6 +156,14 @@ age_told c name None = tt
 age_told c name (Some (DelayObject images)) = λ code e. cc
 age_told c name (Some other) = tt
 
+register_told : (c : Context) (graph delay : ℕ) (first second : Option ObjectValue) → IsTold (register_named c graph delay first second)
+register_told c graph delay None second = tt
+register_told c graph delay (Some (GraphObject found)) None = tt
+register_told c graph delay (Some (GraphObject found)) (Some (DelayObject images)) = λ code e. cc
+register_told c graph delay (Some (GraphObject found)) (Some other) = tt
+register_told c graph delay (Some other) None = tt
+register_told c graph delay (Some other) (Some second) = tt
+
 -- each request that is done is answered by no refusal
 pub outcome_told : (limits : Allowance) (c : Context) (request : Request) → IsTold (outcome_of limits c request)
 outcome_told limits c OpenContext = tt
@@ -185,6 +193,7 @@ outcome_told limits c (ProcessGraph graph) = process_told (graph_named c.objects
 outcome_told limits c (Immediate n) = unless_told (node_refusal c.objects n) Empty _ (λ code e. cc)
 outcome_told limits c (CreateDelay cell slots) = create_like_told limits c (image_of c.objects cell) slots
 outcome_told limits c (AgeDelay name) = age_told c name (object_named c.objects name)
+outcome_told limits c (RegisterAutoAging graph delay) = register_told c graph delay (object_named c.objects graph) (object_named c.objects delay)
 
 -- ---- what a refusal says
 

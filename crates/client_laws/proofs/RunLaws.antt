@@ -1,7 +1,11 @@
 -- What a graph leaves that runs: its only solution.
+use Rattle.object_table.proofs.AgeLemmas.{held_aged}
+use Rattle.object_table.specs.Object.{aged_object}
+use Rattle.object_table.specs.Ageing.{aged_under}
+use Rattle.std.proofs.lemmas.Bool.Decides.{nat_tests}
 use Rattle.std.proofs.Common.{◌≡◌, ◌≢◌, ℕ, ◌<◌, Bool, true, false, eqb, List, [], ◌∷◌, length, map, Option, Some, None, Result, Ok, Err, IsTrue, IfSome, refl, sym, ap, subst, ◌∙◌, arith}
-use Rattle.std.specs.Prelude.{All, slice_get, unwrap_or}
-use Rattle.std.specs.List.{AllPairs}
+use Rattle.std.specs.Prelude.{All, slice_get, unwrap_or, ◌==◌, if◌then◌else◌}
+use Rattle.std.specs.List.{AllPairs, list_any}
 use Rattle.std.specs.List.Sorted.{IsStrictlyIncreasing}
 use Rattle.std.specs.Option.{option_map, option_and_then}
 use Rattle.std.proofs.Math.ListN.{get_or-map as get_or-map_default}
@@ -13,10 +17,10 @@ use Rattle.vx_base.specs.declared.function.Function.{Function}
 use Rattle.vx_base.specs.declared.kind.Kind.{Kind}
 use Rattle.vx_base.specs.declared.kind.Kind.TheVariants as kind
 use Rattle.vx_base.specs.declared.node.Node.{Node}
-use Rattle.vx_base.specs.Cell.{Cell}
-use Rattle.vx_base.specs.Graph.{GraphValue, nodes_of}
+use Rattle.vx_base.specs.Cell.{Cell, cell_of}
+use Rattle.vx_base.specs.Graph.{GraphValue, nodes_of, is_registered}
 use Rattle.vx_base.specs.Image.{ImageValue}
-use Rattle.vx_base.specs.Object.{ObjectValue, ImageObject, DelayObject, VirtualObject, object_kind}
+use Rattle.vx_base.specs.Object.{ObjectValue, ImageObject, DelayObject, GraphObject, VirtualObject, object_kind}
 use Rattle.vx_base.specs.Outline.{Outline}
 use Rattle.vx_base.specs.Outputs.{written_by}
 use Rattle.object_table.specs.Context.{Context, with_objects}
@@ -37,7 +41,7 @@ use Rattle.graph_verify.proofs.MemberLemmas.{In-left, In-right}
 use Rattle.graph_verify.proofs.VerdictLemmas.{CanRun, can_run}
 use Rattle.graph_run.specs.Graph.{rounds_of_nodes, is_virtual_object, forgotten, run_of_graph}
 use Rattle.graph_run.specs.Operands.{CellsStand, names_cell, operand_held}
-use Rattle.graph_run.specs.Solution.{WritesNo, ReadImages, kind_in, label_of}
+use Rattle.graph_run.specs.Solution.{WritesNo, ReadImages, form_of, kind_in, label_of}
 use Rattle.graph_run.proofs.BegunLaws.{begun_under, object_held-begun, labels-begun, begun_stays}
 use Rattle.graph_run.proofs.LinkLaws.{All-from_In, In-from_All, reads_first}
 use Rattle.graph_run.proofs.NameLaws.{Rising, rising}
@@ -203,6 +207,25 @@ module _ (nodes : List Node) (before later : List Named) (run : IsTheRun nodes b
       by (Some false) e = other (λ is. cc)
       by None e = other (λ is. cc)
 
+-- a graph is as it was
+graph_again : (nodes : List Node) (before later : List Named) → IsTheRun nodes before later → (name : ℕ) (graph : GraphValue) → object_held before name ≡ Some (GraphObject graph) → object_held later name ≡ Some (GraphObject graph)
+graph_again nodes before later run name graph is =
+    let cell = cell_of name in
+    let real : option_map is_virtual_object (object_held before name) ≢ Some true = λ e. let told = ap (option_map is_virtual_object) (sym is) ∙ e in cc in
+    let begins : held (at_begin nodes before) cell ≡ Some (GraphObject graph) = real_begins nodes before later run cell real ∙ held_whole (object_held before name) ∙ is in
+    sym (held_whole (object_held later name))
+    ∙ as_at_end nodes before later run cell real
+    ∙ of_form (held run.at_end cell) (run.solves.forms cell ∙ ap (option_map form_of) begins)
+  where
+    held_whole : (o : Option ObjectValue) → option_and_then (in_slot None) o ≡ o
+    held_whole None = refl
+    held_whole (Some object) = refl
+
+    of_form : (o : Option ObjectValue) → option_map form_of o ≡ Some (GraphObject graph) → o ≡ Some (GraphObject graph)
+    of_form None e = absurd (cc)
+    of_form (Some (GraphObject other)) e = e
+    of_form (Some other) e = absurd (cc)
+
 -- what a node writes depends on the cells that it names
 written_alike : (n : Node) (one other : Cell → Option ObjectValue) → ((cell : Cell) → names_cell n cell ≡ true → one cell ≡ other cell) → written_by n one ≡ written_by n other
 written_alike n one other same = grind (arith, named_by_input, named_by_output, In-left, In-right)
@@ -215,13 +238,18 @@ no_virtual None (Some (VirtualObject image)) operand there real e = real refl
 no_virtual (Some k) (Some (VirtualObject image)) operand there real e = cc
 no_virtual slot (Some other) operand there real e = cc
 
+-- where as much is held by the cells that a node names, it finds what it gives as before
+written_again : (n : Node) (one other : List Named) → ((cell : Cell) → names_cell n cell ≡ true → held other cell ≡ held one cell) → All (λ w. held one w.0 ≡ Some w.1) (written_by n (held one))
+    → All (λ w. held other w.0 ≡ Some w.1) (written_by n (held other))
+written_again n one other same found =
+    subst (All (λ (w : Cell × ObjectValue). held other w.0 ≡ Some w.1)) (sym (written_alike n (held other) (held one) same))
+    (All-from_In (λ (w : Cell × ObjectValue). held other w.0 ≡ Some w.1) (written_by n (held one))
+    (λ w j. same w.0 (or_right (reads n w.0) (writes n w.0) (written_held n (held one) w j).0) ∙ In-from_All (λ (v : Cell × ObjectValue). held one v.0 ≡ Some v.1) (written_by n (held one)) found w j))
+
 module _ (nodes : List Node) (before later : List Named) (run : IsTheRun nodes before later) (stand : CellsStand (operand_held before) nodes before) (n : Node) (i : In n nodes) where
   -- a node that names no virtual image finds what it gives
   found_again : ((cell : Cell) → names_cell n cell ≡ true → kind_in before cell ≢ Some kind.VirtualImage) → All (λ w. held later w.0 ≡ Some w.1) (written_by n (held later))
-  found_again real =
-      subst (All (λ (w : Cell × ObjectValue). held later w.0 ≡ Some w.1)) (sym (written_alike n (held later) (held at_end) as_then))
-      (All-from_In (λ (w : Cell × ObjectValue). held later w.0 ≡ Some w.1) (written_by n (held at_end))
-      (λ w j. as_then w.0 (or_right (reads n w.0) (writes n w.0) (written_held n (held at_end) w j).0) ∙ In-from_All (λ (v : Cell × ObjectValue). held at_end v.0 ≡ Some v.1) (written_by n (held at_end)) solved w j))
+  found_again real = written_again n at_end later as_then solved
     where
       at_end : List Named
       at_end = run.at_end
@@ -246,6 +274,35 @@ virtual_held (Some k) (Some (DelayObject images)) e = of_image (slice_get images
     of_image (Some image) f = absurd (cc)
 virtual_held (Some k) (Some other) e = absurd (cc)
 
+-- ---- delays that age then
+
+-- a name is registered, whichever way the two are compared
+registered_as : (names : List ℕ) (name : ℕ) → list_any (λ n. n == name) names ≡ list_any (λ n. name == n) names
+registered_as [] name = refl
+registered_as (n ∷ names) name = grind (arith, registered_as names name, nat_tests)
+
+-- what isn't under one of the names is held still
+unregistered_stays : (graph : GraphValue) (objects : List Named) (cell : Cell) → is_registered graph cell.name ≡ false → held (aged_under graph.delays objects) cell ≡ held objects cell
+unregistered_stays graph objects cell apart =
+    let test : list_any (λ n. cell.name == n) graph.delays ≡ false = sym (registered_as graph.delays cell.name) ∙ apart in
+    ap (option_and_then (in_slot cell.slot))
+    (held_aged graph.delays objects cell.name ∙ ap (λ b. option_map (λ object. if b then aged_object object else object) (object_held objects cell.name)) test ∙ as_it_is (object_held objects cell.name))
+  where
+    as_it_is : (o : Option ObjectValue) → option_map (λ object. if false then aged_object object else object) o ≡ o
+    as_it_is None = refl
+    as_it_is (Some object) = refl
+
+-- and so is a virtual image
+virtual_unaged : (names : List ℕ) (objects : List Named) (cell : Cell) → option_map is_virtual_object (object_held objects cell.name) ≡ Some true → held (aged_under names objects) cell ≡ held objects cell
+virtual_unaged names objects cell virtual =
+    ap (option_and_then (in_slot cell.slot)) (held_aged names objects cell.name ∙ as_it_is (list_any (λ n. cell.name == n) names) (object_held objects cell.name) virtual)
+  where
+    as_it_is : (b : Bool) (o : Option ObjectValue) → option_map is_virtual_object o ≡ Some true → option_map (λ object. if b then aged_object object else object) o ≡ o
+    as_it_is b None e = cc
+    as_it_is true (Some (VirtualObject image)) e = refl
+    as_it_is true (Some other) e = absurd (cc)
+    as_it_is false (Some object) e = refl
+
 -- ---- requests
 
 -- a request that succeeds is done
@@ -266,8 +323,14 @@ run_is limits c later name h done = of_graph (graph_named c.objects name) refl (
     of_graph (Err refusal) is_graph e = absurd (cc)
     of_graph (Ok graph) is_graph e =
         let left : List Named = run_of_graph (resolved (operand_held c.objects) (nodes_of graph)) (nodes_of graph) c.objects in
-        let ran = done_is (graph_verdict limits c.objects graph) (with_objects c left) later e in
-        subst (IsRunOf name c) ran.1 (record { graph = graph; named = is_graph; run = the_run limits c name graph h is_graph ran.0; next = refl })
+        let ran = done_is (graph_verdict limits c.objects graph) (with_objects c (aged_under graph.delays left)) later e in
+        subst (IsRunOf name c) ran.1 (record { graph = graph; named = is_graph; left = left; run = the_run limits c name graph h is_graph ran.0; aged = refl; next = refl })
+
+-- a graph that runs is as it was, and so are the delays that age with it
+pub graph_stays : (limits : Allowance) (c : Context) (name : ℕ) (graph : GraphValue) → KeepsLimits limits c → graph_named c.objects name ≡ Ok graph → graph_verdict limits c.objects graph ≡ None
+    → object_held (run_of_graph (resolved (operand_held c.objects) (nodes_of graph)) (nodes_of graph) c.objects) name ≡ Some (GraphObject graph)
+graph_stays limits c name graph h is_graph allowed =
+    graph_again (nodes_of graph) c.objects _ (the_run limits c name graph h is_graph allowed) name graph (graph_held limits c name h graph is_graph)
 
 -- a graph of a name is one
 one_graph : (objects : List Named) (name : ℕ) (graph other : GraphValue) → graph_named objects name ≡ Ok graph → graph_named objects name ≡ Ok other → graph ≡ other
@@ -276,27 +339,36 @@ one_graph objects name graph other a b = let same : ◌≡◌ {A = Result GraphV
 -- so each node that names no virtual image finds what it gives
 pub written_stay : (limits : Allowance) (c later : Context) (name : ℕ) (graph : GraphValue) (n : Node) → KeepsLimits limits c → answer_to limits (Some c) (ProcessGraph name) ≡ (Empty, Some later)
     → graph_named c.objects name ≡ Ok graph → In n (nodes_of graph) → ((cell : Cell) → names_cell n cell ≡ true → kind_in c.objects cell ≢ Some kind.VirtualImage)
-    → All (λ w. held later.objects w.0 ≡ Some w.1) (written_by n (held later.objects))
-written_stay limits c later name graph n h done is_graph i real =
+    → ((cell : Cell) → names_cell n cell ≡ true → is_registered graph cell.name ≡ false) → All (λ w. held later.objects w.0 ≡ Some w.1) (written_by n (held later.objects))
+written_stay limits c later name graph n h done is_graph i real apart =
     let ran = run_is limits c later name h done in
     let same = one_graph c.objects name graph ran.graph is_graph ran.named in
     let nodes = nodes_of ran.graph in
-    found_again nodes c.objects later.objects ran.run (cells_stand c.objects name nodes (graph_stood limits c name ran.graph h ran.named)) n (subst (λ (g : GraphValue). In n (nodes_of g)) same i) real
+    subst (λ (objects : List Named). All (λ (w : Cell × ObjectValue). held objects w.0 ≡ Some w.1) (written_by n (held objects))) (sym ran.aged)
+    (written_again n ran.left (aged_under ran.graph.delays ran.left)
+    (λ cell named_there. unregistered_stays ran.graph ran.left cell (ap (λ g. is_registered g cell.name) (sym same) ∙ apart cell named_there))
+    (found_again nodes c.objects ran.left ran.run (cells_stand c.objects name nodes (graph_stood limits c name ran.graph h ran.named)) n (subst (λ (g : GraphValue). In n (nodes_of g)) same i) real))
 
 -- each cell that no node writes holds what it held
 pub others_stay : (limits : Allowance) (c later : Context) (name : ℕ) (graph : GraphValue) (cell : Cell) → KeepsLimits limits c → answer_to limits (Some c) (ProcessGraph name) ≡ (Empty, Some later)
-    → graph_named c.objects name ≡ Ok graph → is_written (nodes_of graph) cell ≡ false → kind_in c.objects cell ≢ Some kind.Delay → held later.objects cell ≡ held c.objects cell
-others_stay limits c later name graph cell h done is_graph free plain =
+    → graph_named c.objects name ≡ Ok graph → is_written (nodes_of graph) cell ≡ false → kind_in c.objects cell ≢ Some kind.Delay
+    → is_registered graph cell.name ≡ false → held later.objects cell ≡ held c.objects cell
+others_stay limits c later name graph cell h done is_graph free plain apart =
     let ran = run_is limits c later name h done in
     let same = one_graph c.objects name graph ran.graph is_graph ran.named in
-    unwritten_stays (nodes_of ran.graph) c.objects later.objects ran.run cell (ap (λ (g : GraphValue). is_written (nodes_of g) cell) (sym same) ∙ free) plain
+    ap (λ objects. held objects cell) ran.aged
+    ∙ unregistered_stays ran.graph ran.left cell (ap (λ g. is_registered g cell.name) (sym same) ∙ apart)
+    ∙ unwritten_stays (nodes_of ran.graph) c.objects ran.left ran.run cell (ap (λ (g : GraphValue). is_written (nodes_of g) cell) (sym same) ∙ free) plain
 
 -- and so does each that holds a virtual image
 pub virtual_images_stay : (limits : Allowance) (c later : Context) (name : ℕ) (cell : Cell) → KeepsLimits limits c → answer_to limits (Some c) (ProcessGraph name) ≡ (Empty, Some later)
     → kind_in c.objects cell ≡ Some kind.VirtualImage → held later.objects cell ≡ held c.objects cell
 virtual_images_stay limits c later name cell h done virtual =
     let ran = run_is limits c later name h done in
-    virtual_stays (nodes_of ran.graph) c.objects later.objects ran.run cell (virtual_held cell.slot (object_held c.objects cell.name) virtual)
+    let stays = virtual_stays (nodes_of ran.graph) c.objects ran.left ran.run cell (virtual_held cell.slot (object_held c.objects cell.name) virtual) in
+    ap (λ objects. held objects cell) ran.aged
+    ∙ virtual_unaged ran.graph.delays ran.left cell (virtual_held cell.slot (object_held ran.left cell.name) (ap (option_map object_kind) stays ∙ virtual))
+    ∙ stays
 
 -- ProcessGraph is answered what VerifyGraph is
 pub same_reply : (limits : Allowance) (state : State) (name : ℕ) → (answer_to limits state (ProcessGraph name)).0 ≡ (answer_to limits state (VerifyGraph name)).0

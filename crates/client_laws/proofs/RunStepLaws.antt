@@ -18,6 +18,7 @@ use Rattle.vx_base.specs.Graph.{nodes_of}
 use Rattle.vx_base.specs.Node.{IsNode, given, inputs, operands, second_kind}
 use Rattle.vx_base.specs.Object.{ObjectValue, GraphObject, IsObject, object_kind}
 use Rattle.object_table.specs.Delay.{in_slot}
+use Rattle.object_table.specs.Ageing.{aged_under}
 use Rattle.object_table.specs.Named.{Named, object_held, held}
 use Rattle.object_table.specs.Context.{Context, object_named, with_objects}
 use Rattle.object_table.specs.Uses.{nodes_in}
@@ -47,6 +48,7 @@ use Rattle.graph_verify.proofs.SuitLemmas.{Suits, no_fault_suits}
 use Rattle.client_model.proofs.NodeStepLaws.{CanGive, CanGiveTo, CanRunOn, neither, second_there, not_rejected}
 use Rattle.graph_run.proofs.FoundLemmas.{of_operands}
 use Rattle.client_model.proofs.OutcomeLaws.{Keeps, unless_keeps}
+use Rattle.client_model.proofs.DelayStepLaws.{aged_under_last}
 use Rattle.client_model.proofs.GraphStepLaws.{graph_is, graph_stands}
 use Rattle.client_laws.proofs.RoundLaws.{rounds_last}
 use Rattle.client_model.proofs.BegunLaws.{IsSmall, object_small, rounds_small, begun_is_object, slot_as_begun, image_as_begun, Taken, taken_as_begun, kind_as_begun, SecondTaken, give_as_taken}
@@ -277,7 +279,8 @@ process_found_keeps limits c name (Some (GraphObject graph)) h is stood =
     let operand = operand_held objects in
     let known = resolved operand nodes in
     let begin : List Named = map (begun known nodes) objects in
-    unless_keeps limits c (option_map Rejected (graph_verdict limits objects graph)) Empty (with_objects c (run_of_graph known nodes objects))
+    let run : List Named = run_of_graph known nodes objects in
+    unless_keeps limits c (option_map Rejected (graph_verdict limits objects graph)) Empty (with_objects c (aged_under graph.delays run))
     (λ allowed.
     let runs = can_run limits.work operand nodes (not_rejected (graph_verdict limits objects graph) allowed) in
     let are_nodes : All IsNode nodes = All-map IsNode (λ (n : Numbered). n.node) graph.nodes is.nodes in
@@ -288,8 +291,9 @@ process_found_keeps limits c name (Some (GraphObject graph)) h is stood =
     (λ cell writes_it. list_any_at (λ n. writes n cell) nodes k d below writes_it) in
     let ran = rounds_last nodes (length nodes) begin (begin_is objects nodes h.objects h.names) (begin_increases objects nodes h.objects h.names) can in
     let left : List Named = rounds_of_nodes nodes (length nodes) begin in
-    alike_leaves limits (λ name. false) c h (run_of_graph known nodes objects)
-    (record { objects = forgotten_are objects left h.objects ran.objects; lasting = forgotten_last known nodes objects left ran.lasting }))
+    let aged = aged_under_last graph.delays run (forgotten_are objects left h.objects ran.objects) in
+    alike_leaves limits (λ name. false) c h (aged_under graph.delays run)
+    (record { objects = aged.objects; lasting = aged.lasting ∙ forgotten_last known nodes objects left ran.lasting }))
 process_found_keeps limits c name (Some other) h is stood = tt
 
 -- a graph that runs keeps the limits, and what is held

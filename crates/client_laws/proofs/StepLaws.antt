@@ -8,7 +8,7 @@ use Rattle.vx_base.specs.Object.{GraphObject, ImageObject, LutObject, ThresholdO
 use Rattle.vx_base.proofs.ImageLaws.{new_image_is}
 use Rattle.vx_base.proofs.PictureLaws.{side}
 use Rattle.client_model.specs.declared.request.Request.{Request}
-use Rattle.client_model.specs.declared.request.Request.TheVariants.{OpenContext, ReleaseContext, CreateImage, QueryImage, WriteImage, WriteImagePgm, ReadImage, ReadImagePgm, SetValid, Release, CreateLut, CreateThreshold, CreateConvolution, CreateDistribution, ReadDistribution, CreateMinMax, ReadMinMax, CreateGraph, CreateVirtualImage, AddNode, RemoveNode, VerifyGraph, ProcessGraph, Immediate, CreateDelay, AgeDelay}
+use Rattle.client_model.specs.declared.request.Request.TheVariants.{OpenContext, ReleaseContext, CreateImage, QueryImage, WriteImage, WriteImagePgm, ReadImage, ReadImagePgm, SetValid, Release, CreateLut, CreateThreshold, CreateConvolution, CreateDistribution, ReadDistribution, CreateMinMax, ReadMinMax, CreateGraph, CreateVirtualImage, AddNode, RemoveNode, VerifyGraph, ProcessGraph, Immediate, CreateDelay, AgeDelay, RegisterAutoAging}
 use Rattle.client_model.specs.Allowance.{Allowance}
 use Rattle.object_table.specs.Context.{Context}
 use Rattle.client_model.specs.Context.{State}
@@ -20,7 +20,7 @@ use Rattle.client_model.proofs.StateLaws.{Leaves, new_context_keeps, same_leaves
 use Rattle.client_model.proofs.OutcomeLaws.{StateKeeps, KeepsBut, create_keeps}
 use Rattle.client_model.proofs.ImageStepLaws.{query_image_keeps, write_image_keeps, write_text_keeps, read_image_keeps, read_text_keeps, set_valid_keeps}
 use Rattle.client_laws.proofs.StatisticStepLaws.{new_distribution_is, read_distribution_keeps, read_min_max_keeps}
-use Rattle.client_model.proofs.DelayStepLaws.{create_delay_keeps, age_delay_keeps}
+use Rattle.client_model.proofs.DelayStepLaws.{create_delay_keeps, age_delay_keeps, register_keeps}
 use Rattle.client_model.proofs.NodeStepLaws.{immediate_keeps}
 use Rattle.client_model.proofs.GraphStepLaws.{new_graph_is, create_virtual_image_keeps, add_node_keeps, remove_node_keeps, verify_graph_keeps, release_keeps}
 use Rattle.client_laws.proofs.RunStepLaws.{process_graph_keeps}
@@ -53,6 +53,7 @@ outcome_keeps limits c (ProcessGraph graph) stays h is = process_graph_keeps lim
 outcome_keeps limits c (Immediate n) stays h is = immediate_keeps limits c n h is
 outcome_keeps limits c (CreateDelay cell slots) stays h is = create_delay_keeps limits c cell slots h is.1
 outcome_keeps limits c (AgeDelay name) stays h is = age_delay_keeps limits c name h
+outcome_keeps limits c (RegisterAutoAging graph delay) stays h is = register_keeps limits c graph delay h
 
 -- the context after an outcome
 answered_keeps : (changes : ℕ → Bool) (limits : Allowance) (c : Context) (outcome : Outcome) → KeepsLimits limits c → KeepsBut changes limits c outcome → MatchOption (answered c outcome).1 ⊥ (Leaves limits changes c)

@@ -2,6 +2,7 @@
 use Rattle.std.specs.Prelude.{ℕ, ◌≡◌, List, map, Ok}
 use Rattle.vx_base.specs.declared.node.Node.{Node}
 use Rattle.vx_base.specs.Graph.{GraphValue, nodes_of}
+use Rattle.object_table.specs.Ageing.{aged_under}
 use Rattle.object_table.specs.Context.{Context}
 use Rattle.object_table.specs.Named.{Named}
 use Rattle.graph_verify.specs.Links.{feeds}
@@ -28,9 +29,12 @@ pub record IsTheRun (nodes : List Node) (before later : List Named) : Type 0 whe
   pub in_order : (steps : List Node) → IsOrder feeds nodes steps → one_by_one steps (at_begin nodes before) ≡ at_end
   pub left : later ≡ forgotten before at_end
 
--- what the run of the graph of this name leaves of a context; no name is given by it
+-- what the run of the graph of this name leaves of a context, in which then each delay is aged that ages with the graph; no name is
+-- given by it
 pub record IsRunOf (name : ℕ) (c later : Context) : Type 0 where
   pub graph : GraphValue
   pub named : graph_named c.objects name ≡ Ok graph
-  pub run : IsTheRun (nodes_of graph) c.objects later.objects
+  pub left : List Named
+  pub run : IsTheRun (nodes_of graph) c.objects left
+  pub aged : later.objects ≡ aged_under graph.delays left
   pub next : later.next ≡ c.next

@@ -4,7 +4,7 @@ ghost use Rattle.std.specs.List.Sorted.{IsPermutation};
 ghost use Rattle.vx_base.specs.declared.kind.Kind.TheVariants as kind;
 ghost use Rattle.vx_base.specs.declared.node.Node.{Node};
 ghost use Rattle.vx_base.specs.Cell.{Cell};
-ghost use Rattle.vx_base.specs.Graph.{GraphValue, nodes_of};
+ghost use Rattle.vx_base.specs.Graph.{GraphValue, nodes_of, is_registered};
 ghost use Rattle.vx_base.specs.Outputs.{written_by};
 ghost use Rattle.object_table.specs.Context.{Context};
 ghost use Rattle.object_table.specs.Named.{held};
@@ -32,16 +32,18 @@ pub fn what_verifies_runs()
 /// Where ProcessGraph succeeds, what it leaves is the only solution of the graph: at the end of the
 /// run each image, distribution and extremes that a node writes, virtual images among them, is what
 /// the node's function gives of its inputs as they are then, and everything else is as it was.
-/// Virtual images are then virtual again.
+/// Virtual images are then virtual again, and the delays that are registered with the graph are
+/// aged.
 pub fn a_run_is_the_only_solution()
     ensures { (limits : Allowance) (c later : Context) (name : ℕ) → KeepsLimits limits c →
         answer_to limits (Some c) (ProcessGraph name) ≡ (Empty, Some later) →
         IsRunOf name c later }
 {}
 
-/// What is then left of each cell. Each node that names no virtual image finds in its outputs what
-/// it gives of what its cells hold. A cell that no node writes holds what it held, and so does one
-/// that holds a virtual image; a delay's images are in its slots.
+/// What is then left of each cell. Each node that names no virtual image, and no delay that ages
+/// with the graph, finds in its outputs what it gives of what its cells hold. A cell that no node
+/// writes holds what it held, and so does one that holds a virtual image; a delay's images are in
+/// its slots, and move where it ages with the graph.
 pub fn what_a_run_leaves()
     ensures written { (limits : Allowance) (c later : Context) (name : ℕ) (graph : GraphValue)
         (n : Node) → KeepsLimits limits c →
@@ -49,12 +51,13 @@ pub fn what_a_run_leaves()
         graph_named c.objects name ≡ Ok graph → In n (nodes_of graph) →
         ((cell : Cell) → names_cell n cell ≡ true →
         kind_in c.objects cell ≢ Some kind.VirtualImage) →
+        ((cell : Cell) → names_cell n cell ≡ true → is_registered graph cell.name ≡ false) →
         All (λ w. held later.objects w.0 ≡ Some w.1) (written_by n (held later.objects)) }
     ensures others { (limits : Allowance) (c later : Context) (name : ℕ) (graph : GraphValue)
         (cell : Cell) → KeepsLimits limits c →
         answer_to limits (Some c) (ProcessGraph name) ≡ (Empty, Some later) →
         graph_named c.objects name ≡ Ok graph → is_written (nodes_of graph) cell ≡ false →
-        kind_in c.objects cell ≢ Some kind.Delay →
+        kind_in c.objects cell ≢ Some kind.Delay → is_registered graph cell.name ≡ false →
         held later.objects cell ≡ held c.objects cell }
     ensures virtual_images { (limits : Allowance) (c later : Context) (name : ℕ) (cell : Cell) →
         KeepsLimits limits c →
@@ -64,17 +67,17 @@ pub fn what_a_run_leaves()
 {}
 
 /// Had the nodes of a graph been added in any other order, it would run too, and leave the same. So
-/// do two graphs that have the same nodes.
+/// do two graphs that have the same nodes, and with which the same delays age.
 pub fn nodes_in_any_order()
     ensures had { (limits : Allowance) (c later : Context) (name : ℕ) (graph other : GraphValue) →
         KeepsLimits limits c → graph_named c.objects name ≡ Ok graph →
-        IsPermutation (nodes_of graph) (nodes_of other) →
+        IsPermutation (nodes_of graph) (nodes_of other) → graph.delays ≡ other.delays →
         process_found (Ok graph) limits c ≡ Ok (Empty, Some later) →
         process_found (Ok other) limits c ≡ Ok (Empty, Some later) }
     ensures graphs { (limits : Allowance) (c later : Context) (one two : ℕ)
         (graph other : GraphValue) → KeepsLimits limits c →
         graph_named c.objects one ≡ Ok graph → graph_named c.objects two ≡ Ok other →
-        IsPermutation (nodes_of graph) (nodes_of other) →
+        IsPermutation (nodes_of graph) (nodes_of other) → graph.delays ≡ other.delays →
         answer_to limits (Some c) (ProcessGraph one) ≡ (Empty, Some later) →
         answer_to limits (Some c) (ProcessGraph two) ≡ (Empty, Some later) }
 {}

@@ -1,32 +1,37 @@
--- A new delay, and one whose images come one step later, keep the limits, and what is held.
+-- A new delay, one whose images come one step later, and one that ages with a graph, keep the limits, and what is held.
 use Rattle.std.proofs.Common.{◌≡◌, ◌⊎◌, inl, inr, ℕ, ◌<◌, ◌≤◌, false, IfOk, IsTrue, List, [], ◌∷◌, length, map, get_or, replicate, refl, sym, ap, ◌∙◌, arith, Option, Some, None, IfSome, Result, Ok, Err, rules}
-use Rattle.std.specs.Prelude.{All}
+use Rattle.std.specs.Prelude.{All, ◌==◌, Bool, true, if◌then◌else◌}
+use Rattle.std.specs.List.{list_any}
 use Rattle.std.specs.Option.{option_map, option_and_then}
 use Rattle.std.proofs.lemmas.Bool.{cases_lt}
 use Rattle.std.proofs.lemmas.List.{length-map, length-take, length-drop, length-append, get_or-map}
-use Rattle.std.proofs.lemmas.List.Elements.{All-head, All-tail, All-append, All-take, All-drop}
+use Rattle.std.proofs.lemmas.List.Elements.{All-head, All-tail, All-cons, All-append, All-take, All-drop}
 use Rattle.vx_base.specs.declared.format.Format.TheVariants.{U8}
 use Rattle.vx_base.specs.declared.node.Node.{Node}
 use Rattle.vx_base.specs.Cell.{Cell, cell_of}
 use Rattle.vx_base.specs.Description.{Description}
 use Rattle.vx_base.specs.Image.{ImageValue, IsImage, new_image, image_over, description_of}
-use Rattle.vx_base.specs.Object.{ObjectValue, DelayObject, IsObject, IsDelay}
+use Rattle.vx_base.specs.Graph.{is_registered}
+use Rattle.vx_base.specs.Object.{ObjectValue, DelayObject, GraphObject, IsObject, IsDelay}
 use Rattle.vx_base.specs.Rectangle.{empty}
 use Rattle.vx_base.specs.Slots.{is_slot_count}
 use Rattle.object_table.specs.Delay.{in_slot, new_delay, aged}
-use Rattle.object_table.specs.Named.{object_held}
-use Rattle.object_table.specs.Context.{Context, object_named}
+use Rattle.object_table.specs.Ageing.{is_there, one_more, aged_if, aged_under}
+use Rattle.object_table.specs.Named.{Named, object_held}
+use Rattle.object_table.specs.Object.{aged_object}
+use Rattle.object_table.specs.Context.{Context, object_named, with_objects, with_graph}
+use Rattle.object_table.proofs.AgeLemmas.{apart_and}
 use Rattle.object_table.proofs.DelayLemmas.{alike, count_is, new_delay_is}
 use Rattle.client_model.specs.declared.refusal.Refusal.{Refusal}
 use Rattle.client_model.specs.Allowance.{Allowance}
 use Rattle.client_model.specs.Operands.{image_of}
-use Rattle.client_model.specs.Delays.{create_like, create_delay, age_named, age_delay}
+use Rattle.client_model.specs.Delays.{create_like, create_delay, age_named, age_delay, register_named, register_auto_aging}
 use Rattle.client_model.specs.States.{KeepsLimits}
 use Rattle.object_table.specs.Skeleton.{image_skeleton}
-use Rattle.graph_run.specs.Lasting.{lasting}
+use Rattle.graph_run.specs.Lasting.{lasting, lasting_named, Lasts}
 use Rattle.client_model.proofs.NamedLaws.{held_if_live, live_has}
 use Rattle.object_table.proofs.HeldLemmas.{object_held_has}
-use Rattle.client_model.proofs.StateLaws.{with_object_leaves}
+use Rattle.client_model.proofs.StateLaws.{Leaves, same_leaves, with_object_leaves}
 use Rattle.client_model.proofs.OutcomeLaws.{Keeps, create_keeps}
 use Rattle.client_model.proofs.ImageStepLaws.{image_of_is}
 
@@ -101,3 +106,57 @@ pub age_delay_keeps : (limits : Allowance) (c : Context) (name : ℕ) → KeepsL
 age_delay_keeps limits c name h =
     age_named_keeps limits c name (object_named c.objects name) h
     (live_has c.objects name IsObject h.names (object_held_has IsObject c.objects name h.objects)) (held_if_live c.objects name h.names)
+
+-- ---- delays that age with a graph
+
+-- of an object of which a delay is one step later as much lasts
+aged_object_lasts : (object : ObjectValue) → IsObject object → IsObject (aged_object object) × (lasting (aged_object object) ≡ lasting object)
+aged_object_lasts (DelayObject images) is = (aged_is images is, aged_lasts images is)
+aged_object_lasts other is = (is, refl)
+
+aged_if_lasts : (names : List ℕ) (o : Named) → IsObject o.object → IsObject (aged_if names o).object × (lasting_named (aged_if names o) ≡ lasting_named o)
+aged_if_lasts names o is = by_test (list_any (λ name. o.name == name) names)
+  where
+    by_test : (b : Bool) → (λ (p : Named). IsObject p.object × (lasting_named p ≡ lasting_named o)) (if b then record o { object = aged_object o.object } else o)
+    by_test true =
+        let aged = aged_object_lasts o.object is in
+        (aged.0, ap (λ (left : ObjectValue × List Node). let l : Named × List Node = (record o { object = left.0 }, left.1) in l) aged.1)
+    by_test false = (is, refl)
+
+-- once delays of some names are aged, as much lasts of the objects
+pub aged_under_last : (names : List ℕ) (objects : List Named) → All (λ o. IsObject o.object) objects → Lasts objects (aged_under names objects)
+aged_under_last names [] is = record { objects = is; lasting = refl }
+aged_under_last names (o ∷ objects) is =
+    let first = aged_if_lasts names o (All-head (λ p. IsObject p.object) o objects is) in
+    let rest = aged_under_last names objects (All-tail (λ p. IsObject p.object) o objects is) in
+    record {
+      objects = All-cons (λ p. IsObject p.object) (aged_if names o) (aged_under names objects) first.0 rest.objects;
+      lasting = ap (λ l. l ∷ map lasting_named (aged_under names objects)) first.1 ∙ ap (λ l. lasting_named o ∷ l) rest.lasting;
+    }
+
+-- a delay that is registered keeps the limits, and what is held
+register_named_keeps : (limits : Allowance) (c : Context) (graph delay : ℕ) (first second : Option ObjectValue) → KeepsLimits limits c → IfSome first IsObject → IfSome first (λ x. object_held c.objects graph ≡ Some x)
+    → Keeps limits c (register_named c graph delay first second)
+register_named_keeps limits c graph delay None second h is held = tt
+register_named_keeps limits c graph delay (Some (GraphObject found)) None h is held = tt
+register_named_keeps limits c graph delay (Some (GraphObject found)) (Some (DelayObject images)) h is held = by_test (is_registered found delay) refl
+  where
+    more : List Named
+    more = with_graph c.objects graph (one_more c.objects found delay)
+
+    by_test : (b : Bool) → is_registered found delay ≡ b → Leaves limits (λ name. false) c (with_objects c (if b then c.objects else more))
+    by_test true there = same_leaves limits (λ name. false) c h
+    by_test false new =
+        with_object_leaves limits (λ name. false) c h (cell_of graph, GraphObject (one_more c.objects found delay))
+        (record {
+          is_object = record is { delays = apart_and found.delays (is_there c.objects) delay is.delays new };
+          lasts = ap (λ o. option_map lasting (option_and_then (in_slot None) o)) held;
+        })
+register_named_keeps limits c graph delay (Some (GraphObject found)) (Some other) h is held = tt
+register_named_keeps limits c graph delay (Some other) None h is held = tt
+register_named_keeps limits c graph delay (Some other) (Some second) h is held = tt
+
+pub register_keeps : (limits : Allowance) (c : Context) (graph delay : ℕ) → KeepsLimits limits c → Keeps limits c (register_auto_aging c graph delay)
+register_keeps limits c graph delay h =
+    register_named_keeps limits c graph delay (object_named c.objects graph) (object_named c.objects delay) h
+    (live_has c.objects graph IsObject h.names (object_held_has IsObject c.objects graph h.objects)) (held_if_live c.objects graph h.names)

@@ -4,7 +4,7 @@ use Rattle.vx_base.specs.declared.code.Code.TheVariants as code
 use Rattle.vx_base.specs.Object.{LutObject, ThresholdObject, ConvolutionObject, DistributionObject, ExtremesObject, GraphObject, new_distribution, no_extremes}
 use Rattle.vx_base.specs.Graph.{new_graph}
 use Rattle.client_model.specs.declared.request.Request.{Request}
-use Rattle.client_model.specs.declared.request.Request.TheVariants.{OpenContext, ReleaseContext, CreateImage, QueryImage, WriteImage, WriteImagePgm, ReadImage, ReadImagePgm, SetValid, Release, CreateLut, CreateThreshold, CreateConvolution, CreateDistribution, ReadDistribution, CreateMinMax, ReadMinMax, CreateGraph, CreateVirtualImage, AddNode, RemoveNode, VerifyGraph, ProcessGraph, Immediate, CreateDelay, AgeDelay}
+use Rattle.client_model.specs.declared.request.Request.TheVariants.{OpenContext, ReleaseContext, CreateImage, QueryImage, WriteImage, WriteImagePgm, ReadImage, ReadImagePgm, SetValid, Release, CreateLut, CreateThreshold, CreateConvolution, CreateDistribution, ReadDistribution, CreateMinMax, ReadMinMax, CreateGraph, CreateVirtualImage, AddNode, RemoveNode, VerifyGraph, ProcessGraph, Immediate, CreateDelay, AgeDelay, RegisterAutoAging}
 use Rattle.client_model.specs.declared.refusal.Refusal.TheVariants.{InvalidValue}
 use Rattle.client_model.specs.declared.reply.Reply.{Reply}
 use Rattle.client_model.specs.declared.reply.Reply.TheVariants.{Refused, Empty}
@@ -17,7 +17,7 @@ use Rattle.client_model.specs.Objects.{release}
 use Rattle.client_model.specs.Statistics.{read_distribution, read_min_max}
 use Rattle.client_model.specs.Graphs.{create_virtual_image, add_node, remove_node, verify_graph, process_graph}
 use Rattle.client_model.specs.Immediate.{immediate}
-use Rattle.client_model.specs.Delays.{create_delay, age_delay}
+use Rattle.client_model.specs.Delays.{create_delay, age_delay, register_auto_aging}
 
 -- what a request comes to in the client's context
 abbrev pub outcome_of : Allowance → Context → Request → Outcome
@@ -47,6 +47,7 @@ outcome_of limits c (ProcessGraph graph) = process_graph limits c graph
 outcome_of limits c (Immediate n) = immediate c n
 outcome_of limits c (CreateDelay cell slots) = create_delay limits c cell slots
 outcome_of limits c (AgeDelay name) = age_delay c name
+outcome_of limits c (RegisterAutoAging graph delay) = register_auto_aging c graph delay
 
 -- the reply to a client with a context, and its new state, which a refusal leaves as it is
 abbrev pub answered : Context → Outcome → Reply × State

@@ -1,8 +1,9 @@
--- Requests on delays. OpenVX 1.3, "Object: Delay", vxCreateDelay and vxAgeDelay.
+-- Requests on delays. OpenVX 1.3, "Object: Delay", vxCreateDelay, vxAgeDelay and vxRegisterAutoAging.
 use Rattle.std.specs.Prelude.{ℕ, Option, Some, None, Result, Ok, Err}
 use Rattle.vx_base.specs.Cell.{Cell}
 use Rattle.vx_base.specs.Image.{ImageValue, description_of}
-use Rattle.vx_base.specs.Object.{ObjectValue, DelayObject}
+use Rattle.vx_base.specs.Object.{ObjectValue, DelayObject, GraphObject}
+use Rattle.object_table.specs.Ageing.{registered}
 use Rattle.object_table.specs.Delay.{new_delay, aged}
 use Rattle.object_table.specs.Context.{Context, object_named, with_objects}
 use Rattle.client_model.specs.declared.refusal.Refusal.{Refusal}
@@ -30,3 +31,12 @@ age_named c name (Some other) = Err InvalidType
 
 abbrev pub age_delay : Context → ℕ → Outcome
 age_delay c name = age_named c name (object_named c.objects name)
+
+-- RegisterAutoAging: after each run of the graph the delay is aged; both names are live before their kinds count
+abbrev pub register_named : Context → ℕ → ℕ → Option ObjectValue → Option ObjectValue → Outcome
+register_named c graph delay (Some (GraphObject found)) (Some (DelayObject images)) = Ok (Empty, Some (with_objects c (registered c.objects graph found delay)))
+register_named c graph delay (Some first) (Some second) = Err InvalidType
+register_named c graph delay first second = Err InvalidReference
+
+abbrev pub register_auto_aging : Context → ℕ → ℕ → Outcome
+register_auto_aging c graph delay = register_named c graph delay (object_named c.objects graph) (object_named c.objects delay)

@@ -8,8 +8,10 @@ use Rattle.vx_base.specs.Graph.{GraphValue, nodes_of, can_add, with_node, has_no
 use Rattle.vx_base.specs.Node.{operands}
 use Rattle.vx_base.specs.Object.{ObjectValue, GraphObject, VirtualObject}
 use Rattle.vx_base.specs.Outline.{Outline}
+use Rattle.object_table.specs.Ageing.{aged_under}
 use Rattle.object_table.specs.Named.{Named}
 use Rattle.vx_base.specs.Cell.{cell_of}
+use Rattle.object_table.specs.Ageing.{aged_under}
 use Rattle.object_table.specs.Context.{Context, object_named, with_objects, with_graph}
 use Rattle.object_table.specs.Holds.{still_held}
 use Rattle.graph_verify.specs.declared.verdict.Verdict.{Verdict}
@@ -74,13 +76,13 @@ verify_found (Ok graph) limits c = unless (option_map Rejected (graph_verdict li
 abbrev pub verify_graph : Allowance → Context → ℕ → Outcome
 verify_graph limits c name = verify_found (graph_named c.objects name) limits c
 
--- ProcessGraph: the verdict, and a run where the graph can run
+-- ProcessGraph: the verdict, and where the graph can run a run; then each delay that ages with the graph is aged
 abbrev pub process_found : Result GraphValue Refusal → Allowance → Context → Outcome
 process_found (Err refusal) limits c = Err refusal
 process_found (Ok graph) limits c =
     let nodes = nodes_of graph in
     unless (option_map Rejected (graph_verdict limits c.objects graph)) Empty
-    (with_objects c (run_of_graph (resolved (operand_held c.objects) nodes) nodes c.objects))
+    (with_objects c (aged_under graph.delays (run_of_graph (resolved (operand_held c.objects) nodes) nodes c.objects)))
 
 abbrev pub process_graph : Allowance → Context → ℕ → Outcome
 process_graph limits c name = process_found (graph_named c.objects name) limits c

@@ -12,7 +12,7 @@ use Rattle.vx_base.specs.Statistics.{are_bins}
 use Rattle.vx_base.specs.Threshold.{IsThreshold}
 use Rattle.vx_base.specs.Slots.{is_slot_count}
 use Rattle.client_model.specs.declared.request.Request.{Request}
-use Rattle.client_model.specs.declared.request.Request.TheVariants.{OpenContext, ReleaseContext, CreateImage, QueryImage, WriteImage, WriteImagePgm, ReadImage, ReadImagePgm, SetValid, Release, CreateLut, CreateThreshold, CreateConvolution, CreateDistribution, ReadDistribution, CreateMinMax, ReadMinMax, CreateGraph, CreateVirtualImage, AddNode, RemoveNode, VerifyGraph, ProcessGraph, Immediate, CreateDelay, AgeDelay}
+use Rattle.client_model.specs.declared.request.Request.TheVariants.{OpenContext, ReleaseContext, CreateImage, QueryImage, WriteImage, WriteImagePgm, ReadImage, ReadImagePgm, SetValid, Release, CreateLut, CreateThreshold, CreateConvolution, CreateDistribution, ReadDistribution, CreateMinMax, ReadMinMax, CreateGraph, CreateVirtualImage, AddNode, RemoveNode, VerifyGraph, ProcessGraph, Immediate, CreateDelay, AgeDelay, RegisterAutoAging}
 
 -- a request of values that their types allow
 abbrev pub IsRequest : Request → Type 0
@@ -42,6 +42,7 @@ IsRequest (ProcessGraph graph) = graph < 2 ^ 32
 IsRequest (Immediate node) = IsNode node
 IsRequest (CreateDelay cell slots) = IsCell cell × IsTrue (is_slot_count slots)
 IsRequest (AgeDelay name) = name < 2 ^ 32
+IsRequest (RegisterAutoAging graph delay) = (graph < 2 ^ 32) × (delay < 2 ^ 32)
 
 -- the requests that may take memory, and may find none
 abbrev pub TakesMemory : Request → Type 0
@@ -71,3 +72,4 @@ TakesMemory (ProcessGraph graph) = ⊤
 TakesMemory (Immediate node) = ⊥
 TakesMemory (CreateDelay cell slots) = ⊤
 TakesMemory (AgeDelay name) = ⊥
+TakesMemory (RegisterAutoAging graph delay) = ⊤

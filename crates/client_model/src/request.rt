@@ -63,6 +63,8 @@ pub enum Request {
     CreateDelay(ObjRef, SlotCount),
     /// Ages the delay with this name: each image comes to the next slot, the last to the first.
     AgeDelay(u32),
+    /// Registers with the graph with this name a delay, which ages after each of its runs.
+    RegisterAutoAging(u32, u32),
 }
 
 impl Request {
@@ -128,6 +130,9 @@ impl Request {
             }
             Request::AgeDelay(name) => {
                 let _name = *name;
+            }
+            Request::RegisterAutoAging(graph, delay) => {
+                let _names = (*graph, *delay);
             }
         }
     }

@@ -107,7 +107,7 @@ abbrev added_next : Numbered
 added_next = record { number = 2; node = not_to 1 4 }
 
 abbrev pub two_nots : GraphValue
-two_nots = record { next = 3; nodes = added_first ∷ added_next ∷ [] }
+two_nots = record { next = 3; nodes = added_first ∷ added_next ∷ []; delays = [] }
 
 -- two images, the graph, and the virtual image
 abbrev pub linked : ImageValue → ImageValue → Outline → List Named

@@ -55,6 +55,7 @@ IsGraph-with_node g n h room is =
       numbers = all_pairs_push (λ a b. a.number < b.number) g.nodes new h.numbers h.below;
       below = All-push (λ k. k.number < g.next + 1) g.nodes new (All-weaker (λ k. k.number < g.next) (λ k. k.number < g.next + 1) (λ k less. omega (arith, less)) g.nodes h.below) (omega arith);
       nodes = All-push (λ k. IsNode k.node) g.nodes new h.nodes is;
+      delays = h.delays;
     }
 
 -- one less
@@ -68,4 +69,5 @@ IsGraph-without_node g number h =
       numbers = AllPairs-filter (λ a b. a.number < b.number) keeps g.nodes h.numbers;
       below = All-filter keeps (λ n. n.number < g.next) g.nodes h.below;
       nodes = All-filter keeps (λ n. IsNode n.node) g.nodes h.nodes;
+      delays = h.delays;
     }

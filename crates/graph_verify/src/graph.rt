@@ -1,9 +1,11 @@
 //! Graphs: nodes and their numbers.
 ghost use Rattle.std.specs.Prelude.{◌≡◌, ◌==◌, ◌≤◌, not, if◌then◌else◌, IsTrue, length, find};
 ghost use Rattle.std.specs.Prelude.{filter, IfOk, IfErr, OnOk, OnErr, Some};
+ghost use Rattle.std.specs.Prelude.{◌≢◌};
+ghost use Rattle.std.specs.List.{AllPairs};
 ghost use Rattle.std.specs.Result.{is_err};
 ghost use Rattle.vx_base.specs.Graph.{new_graph, can_add, with_node, has_node, without_node};
-ghost use Rattle.vx_base.specs.Graph.{IsGraph};
+ghost use Rattle.vx_base.specs.Graph.{IsGraph, is_registered, with_delays};
 ghost use Rattle.graph_verify.specs.declared.fault.GraphFault.TheVariants.{NoMemory, NoResources};
 ghost use Rattle.graph_verify.specs.declared.fault.GraphFault.TheVariants.{InvalidReference};
 ghost use Rattle.vx_base.specs.declared.node.TheConstants.{GREATEST_NODES};
@@ -16,12 +18,14 @@ use vx_base::{GREATEST_NODES, NodeSpec, Numbered};
 /// Each number is below this: 2^32.
 const END_OF_NUMBERS: u64 = 4_294_967_296;
 
-/// A graph (OpenVX 1.3, "Object: Graph"): its nodes in the order of adding, and the number that
-/// comes next. Numbers count up from 1 and are never given again.
+/// A graph (OpenVX 1.3, "Object: Graph"): its nodes in the order of adding, the number that comes
+/// next, and the names of the delays that age with it. Numbers count up from 1 and are never given
+/// again.
 #[derive(Drop)]
 pub struct Graph {
     next: u64,
     nodes: Vec<Numbered>,
+    delays: Vec<u32>,
 }
 
 impl Model for Graph {
@@ -29,13 +33,15 @@ impl Model for Graph {
 
     ghost Value = { GraphValue };
 
-    ghost view = { λ g. record { next = g.next; nodes = g.nodes.items } };
+    ghost view = { λ g. record {
+        next = g.next; nodes = g.nodes.items; delays = g.delays.items } };
 
-    ghost invariant = { λ g. IsGraph (record { next = g.next; nodes = g.nodes.items }) };
+    ghost invariant = { λ g. IsGraph (record {
+        next = g.next; nodes = g.nodes.items; delays = g.delays.items }) };
 }
 
 impl Graph {
-    /// A graph without nodes. Number 1 comes next.
+    /// A graph without nodes, with which no delay ages. Number 1 comes next.
     pub fn new(alloc: Global) -> Graph
         ensures value { result ≡ new_graph }
         ensures graph { IsGraph result }
@@ -43,6 +49,7 @@ impl Graph {
         Graph {
             next: 1,
             nodes: Vec::new(alloc),
+            delays: Vec::new(alloc),
         }
     }
 
@@ -100,6 +107,29 @@ impl Graph {
                 Ok(found.node)
             }
         }
+    }
+
+    /// The names of the delays that age with the graph, each once.
+    pub fn delays(&self) -> &[u32]
+        ensures delays { result.now ≡ self.now.delays }
+        ensures distinct { AllPairs (λ a b. a ≢ b) result.now }
+    {
+        &self.delays
+    }
+
+    /// Whether a delay of this name ages with the graph.
+    pub fn is_registered(&self, name: u32) -> bool
+        ensures { result ≡ is_registered self.now name }
+    {
+        self.delays.iter().any(|delay| *delay == name)
+    }
+
+    /// Makes delays of these names, each of which stands there once, those that age with the graph.
+    pub fn set_delays(&mut self, delays: Vec<u32>)
+        requires { AllPairs (λ a b. a ≢ b) delays.items }
+        ensures { self.new ≡ with_delays self.old delays.items }
+    {
+        self.delays = delays;
     }
 
     /// The node of this number.

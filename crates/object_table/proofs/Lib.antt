@@ -2,6 +2,7 @@ mod StoredLemmas
 pub mod DelayLemmas
 pub mod SlotLemmas
 pub mod SkeletonLaws
+pub mod AgeLemmas
 pub mod BlockLaws
 pub mod BlockLemmas
 pub mod HeldLemmas

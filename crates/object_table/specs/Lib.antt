@@ -6,4 +6,5 @@ pub mod Context
 pub mod Holds
 pub mod Uses
 pub mod Table
+pub mod Ageing
 pub mod Blocks

@@ -5,7 +5,10 @@ ghost use Rattle.std.specs.Result.{is_err};
 ghost use Rattle.vx_base.specs.declared.kind.Kind.TheVariants as kind;
 ghost use Rattle.vx_base.specs.Rectangle.{IsWithin};
 ghost use Rattle.vx_base.specs.Image.{IsImage, description_of, with_valid};
+ghost use Rattle.std.specs.Prelude.{◌≢◌};
+ghost use Rattle.std.specs.List.{AllPairs};
 ghost use Rattle.vx_base.specs.Graph.{IsGraph, can_add, with_node, has_node, without_node};
+ghost use Rattle.vx_base.specs.Graph.{with_delays};
 ghost use Rattle.vx_base.specs.Object.{ImageObject, DelayObject, ExtremesObject, GraphObject};
 ghost use Rattle.vx_base.specs.Object.{IsObject, object_bytes, object_kind};
 ghost use Rattle.vx_base.specs.Picture.{values, samples_format, pictured};
@@ -213,15 +216,14 @@ impl Object {
         }
     }
 
-    /// Ages the delay that the object is. It takes no memory.
+    /// Ages the object if it is a delay. It takes no memory.
     pub fn age(&mut self)
-        requires { object_kind self.old ≡ kind.Delay }
         ensures value { self.new ≡ aged_object self.old }
         ensures bytes { object_bytes self.new ≡ object_bytes self.old }
     {
         match &mut self.content {
             Content::Delay(delay) => delay.age(),
-            _ => unreachable!(),
+            _ => {}
         }
     }
 
@@ -297,6 +299,20 @@ impl Object {
     {
         match &mut self.content {
             Content::Graph(graph) => graph.remove_node(number),
+            _ => unreachable!(),
+        }
+    }
+
+    /// Makes delays of these names, each of which stands there once, those that age with the graph
+    /// that the object is.
+    pub fn set_delays(&mut self, delays: Vec<u32>)
+        requires kind { object_kind self.old ≡ kind.Graph }
+        requires distinct { AllPairs (λ a b. a ≢ b) delays.items }
+        ensures value { self.new ≡ GraphObject (with_delays (graph_value self.old) delays.items) }
+        ensures bytes { object_bytes self.new ≡ object_bytes self.old }
+    {
+        match &mut self.content {
+            Content::Graph(graph) => graph.set_delays(delays),
             _ => unreachable!(),
         }
     }

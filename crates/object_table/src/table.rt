@@ -22,6 +22,7 @@ ghost use Rattle.object_table.specs.Uses.{nodes_in};
 ghost use Rattle.vx_base.specs.declared.desc.TheConstants.{GREATEST_BYTES};
 ghost use Rattle.vx_base.specs.declared.slots.TheConstants.{GREATEST_SLOTS};
 
+mod ageing;
 mod graphs;
 
 use crate::fault::{InsertFault, TableFault};

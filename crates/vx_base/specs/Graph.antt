@@ -1,19 +1,21 @@
 -- Graphs. OpenVX 1.3, "Object: Graph".
-use Rattle.std.specs.Prelude.{ℕ, ◌+◌, ◌<◌, ◌≤◌, ◌==◌, Bool, not, ◌&&◌, nat_lt, List, [], ◌∷◌, ◌++◌, length, map, filter, All}
+use Rattle.std.specs.Prelude.{ℕ, ◌≢◌, ◌+◌, ◌<◌, ◌≤◌, ◌==◌, Bool, not, ◌&&◌, nat_lt, List, [], ◌∷◌, ◌++◌, length, map, filter, All}
 use Rattle.std.specs.List.{AllPairs, list_any}
 use Rattle.vx_base.specs.declared.node.Node.{Node}
 use Rattle.vx_base.specs.declared.numbered.Numbered.{Numbered}
 use Rattle.vx_base.specs.Node.{IsNode}
 use Rattle.vx_base.specs.declared.node.TheConstants.{GREATEST_NODES}
 
--- the nodes in the order of adding, each with its number, and the number that comes next
+-- the nodes in the order of adding, each with its number, the number that comes next, and the names of the delays that age with the
+-- graph (vxRegisterAutoAging)
 pub record GraphValue : Type 0 where
   pub next : ℕ
   pub nodes : List Numbered
+  pub delays : List ℕ
 
 -- a graph without nodes, and number 1 next
 abbrev pub new_graph : GraphValue
-new_graph = record { next = 1; nodes = [] }
+new_graph = record { next = 1; nodes = []; delays = [] }
 
 -- the nodes without their numbers
 abbrev pub nodes_of : GraphValue → List Node
@@ -25,7 +27,7 @@ can_add g = nat_lt g.next 4294967296 && nat_lt (length g.nodes) GREATEST_NODES
 
 -- the graph with one more node, under the next number
 abbrev pub with_node : GraphValue → Node → GraphValue
-with_node g n = record { next = g.next + 1; nodes = g.nodes ++ record { number = g.next; node = n } ∷ [] }
+with_node g n = record g { next = g.next + 1; nodes = g.nodes ++ record { number = g.next; node = n } ∷ [] }
 
 -- whether a node of the graph has this number
 abbrev pub has_node : GraphValue → ℕ → Bool
@@ -33,12 +35,21 @@ has_node g number = list_any (λ n. n.number == number) g.nodes
 
 -- the graph without the node of this number, which no other node takes
 abbrev pub without_node : GraphValue → ℕ → GraphValue
-without_node g number = record { next = g.next; nodes = filter (λ n. not (n.number == number)) g.nodes }
+without_node g number = record g { nodes = filter (λ n. not (n.number == number)) g.nodes }
 
--- numbers in their order, below the next, of no more nodes than it may have
+-- whether a delay of this name ages with the graph
+abbrev pub is_registered : GraphValue → ℕ → Bool
+is_registered g name = list_any (λ delay. delay == name) g.delays
+
+-- the graph, with which delays of these names age
+abbrev pub with_delays : GraphValue → List ℕ → GraphValue
+with_delays g names = record g { delays = names }
+
+-- numbers in their order, below the next, of no more nodes than it may have; each delay once
 pub record IsGraph (g : GraphValue) : Type 0 where
   pub left : g.next ≤ 4294967296
   pub count : length g.nodes ≤ GREATEST_NODES
   pub numbers : AllPairs (λ a b. a.number < b.number) g.nodes
   pub below : All (λ n. n.number < g.next) g.nodes
   pub nodes : All (λ n. IsNode n.node) g.nodes
+  pub delays : AllPairs (λ a b. a ≢ b) g.delays

@@ -298,8 +298,8 @@ pub fn outlines()
 pub fn numbers_of_nodes()
     ensures first { (n : Node) → nodes_of (with_node new_graph n) ≡ n ∷ [] }
     ensures removed { (n : Node) → without_node (with_node new_graph n) 1
-        ≡ record { next = 2; nodes = [] } }
+        ≡ record { next = 2; nodes = []; delays = [] } }
     ensures second { (m n : Node) → (with_node (without_node (with_node new_graph m) 1) n).nodes
         ≡ record { number = 2; node = n } ∷ [] }
-    ensures full { can_add (record { next = 4294967296; nodes = [] }) ≡ false }
+    ensures full { can_add (record { next = 4294967296; nodes = []; delays = [] }) ≡ false }
 {}

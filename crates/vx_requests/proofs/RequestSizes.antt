@@ -2,7 +2,7 @@
 use Rattle.std.proofs.Common.{ℕ, ◌<◌, ◌≤◌, ◌^◌, length, IsTrue, arith, refl}
 use Rattle.std.proofs.lemmas.Bool.{leb-true, le-leb}
 use Rattle.client_model.specs.declared.request.Request.{Request}
-use Rattle.client_model.specs.declared.request.Request.TheVariants.{OpenContext, ReleaseContext, CreateImage, QueryImage, WriteImage, WriteImagePgm, ReadImage, ReadImagePgm, SetValid, Release, CreateLut, CreateThreshold, CreateConvolution, CreateDistribution, ReadDistribution, CreateMinMax, ReadMinMax, CreateGraph, CreateVirtualImage, AddNode, RemoveNode, VerifyGraph, ProcessGraph, Immediate, CreateDelay, AgeDelay}
+use Rattle.client_model.specs.declared.request.Request.TheVariants.{OpenContext, ReleaseContext, CreateImage, QueryImage, WriteImage, WriteImagePgm, ReadImage, ReadImagePgm, SetValid, Release, CreateLut, CreateThreshold, CreateConvolution, CreateDistribution, ReadDistribution, CreateMinMax, ReadMinMax, CreateGraph, CreateVirtualImage, AddNode, RemoveNode, VerifyGraph, ProcessGraph, Immediate, CreateDelay, AgeDelay, RegisterAutoAging}
 use Rattle.client_model.specs.Request.{IsRequest}
 use Rattle.vx_wire.proofs.SpelledBytes.{body_is}
 use Rattle.vx_wire.proofs.SpelledSizes.{spelled_most, entries_most, threshold_most, convolution_most, length-node_bytes}
@@ -35,6 +35,7 @@ fits client (ProcessGraph graph) below is fit = record { client = below; op = om
 fits client (Immediate node) below is fit = record { client = below; op = omega arith; bytes = body_is (Immediate node) is; len = omega (arith, length-node_bytes node) }
 fits client (CreateDelay cell slots) below is fit = record { client = below; op = omega arith; bytes = body_is (CreateDelay cell slots) is; len = omega arith }
 fits client (AgeDelay name) below is fit = record { client = below; op = omega arith; bytes = body_is (AgeDelay name) is; len = omega arith }
+fits client (RegisterAutoAging graph delay) below is fit = record { client = below; op = omega arith; bytes = body_is (RegisterAutoAging graph delay) is; len = omega arith }
 
 -- what has room in a frame fits one
 pub no_other : (client : ℕ) (request : Request) → IsFrame (request_frame client request) → IsTrue (fits_a_frame request)

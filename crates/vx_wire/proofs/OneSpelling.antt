@@ -2,7 +2,7 @@
 use Rattle.std.proofs.Common.{◌≡◌, ℕ, List, [], ◌∷◌, ◌++◌, Option, Some, None, Result, Ok, refl, sym, ap, subst, ◌∙◌, append-nil}
 use Rattle.vx_base.specs.Cell.{Cell}
 use Rattle.client_model.specs.declared.request.Request.{Request}
-use Rattle.client_model.specs.declared.request.Request.TheVariants.{OpenContext, ReleaseContext, CreateImage, QueryImage, WriteImage, WriteImagePgm, ReadImage, ReadImagePgm, SetValid, Release, CreateLut, CreateThreshold, CreateConvolution, CreateDistribution, ReadDistribution, CreateMinMax, ReadMinMax, CreateGraph, CreateVirtualImage, AddNode, RemoveNode, VerifyGraph, ProcessGraph, Immediate, CreateDelay, AgeDelay}
+use Rattle.client_model.specs.declared.request.Request.TheVariants.{OpenContext, ReleaseContext, CreateImage, QueryImage, WriteImage, WriteImagePgm, ReadImage, ReadImagePgm, SetValid, Release, CreateLut, CreateThreshold, CreateConvolution, CreateDistribution, ReadDistribution, CreateMinMax, ReadMinMax, CreateGraph, CreateVirtualImage, AddNode, RemoveNode, VerifyGraph, ProcessGraph, Immediate, CreateDelay, AgeDelay, RegisterAutoAging}
 use Rattle.vx_wire.specs.declared.body_fault.BodyFault.{BodyFault}
 use Rattle.vx_wire.specs.declared.op.Op.{Op}
 use Rattle.vx_wire.specs.declared.op.Op.TheVariants as kinds
@@ -95,6 +95,7 @@ with_op kinds.ProcessGraph body request is e = one_of long_reads ProcessGraph (�
 with_op kinds.Immediate body request is e = one_of node_reads Immediate (λ x within. record { op_is = refl; body_is = refl; within = within }) body request is e
 with_op kinds.CreateDelay body request is e = two_of cell_reads slots_reads CreateDelay (λ x y first second. record { op_is = refl; body_is = refl; within = (first, second) }) body request is e
 with_op kinds.AgeDelay body request is e = one_of long_reads AgeDelay (λ x within. record { op_is = refl; body_is = refl; within = within }) body request is e
+with_op kinds.RegisterAutoAging body request is e = two_of long_reads long_reads RegisterAutoAging (λ x y first second. record { op_is = refl; body_is = refl; within = (first, second) }) body request is e
 
 -- there is such an op
 known_op : (known : Option Op) (body : List ℕ) (request : Request) → request_with_known known body ≡ Ok request → (op : Op) × (known ≡ Some op) × (request_with op body ≡ Ok request)

@@ -2,7 +2,7 @@
 use Rattle.std.proofs.Common.{◌≡◌, List, [], ◌∷◌, ◌++◌, ℕ, Ok, refl, sym, ap, ◌∙◌, append-nil}
 use Rattle.std.specs.Int.{w32, to_be_bytes}
 use Rattle.client_model.specs.declared.request.Request.{Request}
-use Rattle.client_model.specs.declared.request.Request.TheVariants.{OpenContext, ReleaseContext, CreateImage, QueryImage, WriteImage, WriteImagePgm, ReadImage, ReadImagePgm, SetValid, Release, CreateLut, CreateThreshold, CreateConvolution, CreateDistribution, ReadDistribution, CreateMinMax, ReadMinMax, CreateGraph, CreateVirtualImage, AddNode, RemoveNode, VerifyGraph, ProcessGraph, Immediate, CreateDelay, AgeDelay}
+use Rattle.client_model.specs.declared.request.Request.TheVariants.{OpenContext, ReleaseContext, CreateImage, QueryImage, WriteImage, WriteImagePgm, ReadImage, ReadImagePgm, SetValid, Release, CreateLut, CreateThreshold, CreateConvolution, CreateDistribution, ReadDistribution, CreateMinMax, ReadMinMax, CreateGraph, CreateVirtualImage, AddNode, RemoveNode, VerifyGraph, ProcessGraph, Immediate, CreateDelay, AgeDelay, RegisterAutoAging}
 use Rattle.vx_wire.specs.Op.{op_number, op_of}
 use Rattle.vx_wire.specs.Fields.{Taken, at_end, one_field, two_fields, take_long}
 use Rattle.vx_wire.specs.Requests.{request_of, body_of}
@@ -69,3 +69,6 @@ read_back (Immediate node) is = one_back take_node Immediate (node_bytes node) n
 read_back (CreateDelay cell n) is =
     two_back take_reference take_slots CreateDelay (reference_bytes cell) (n ∷ []) cell n (cell_back cell (n ∷ []) is.0) (slots_back n [] is.1)
 read_back (AgeDelay name) is = one_back take_long AgeDelay (to_be_bytes w32 name) name (long_back name [] is)
+read_back (RegisterAutoAging graph delay) is =
+    let bytes = to_be_bytes w32 delay in
+    two_back take_long take_long RegisterAutoAging (to_be_bytes w32 graph) bytes graph delay (long_back graph bytes is.0) (long_back delay [] is.1)

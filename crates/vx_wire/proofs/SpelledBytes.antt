@@ -30,7 +30,7 @@ use Rattle.vx_base.specs.Slots.{is_slot_count}
 use Rattle.vx_base.specs.Statistics.{BinsValue}
 use Rattle.vx_base.specs.Threshold.{ThresholdValue, IsThreshold}
 use Rattle.client_model.specs.declared.request.Request.{Request}
-use Rattle.client_model.specs.declared.request.Request.TheVariants.{OpenContext, ReleaseContext, CreateImage, QueryImage, WriteImage, WriteImagePgm, ReadImage, ReadImagePgm, SetValid, Release, CreateLut, CreateThreshold, CreateConvolution, CreateDistribution, ReadDistribution, CreateMinMax, ReadMinMax, CreateGraph, CreateVirtualImage, AddNode, RemoveNode, VerifyGraph, ProcessGraph, Immediate, CreateDelay, AgeDelay}
+use Rattle.client_model.specs.declared.request.Request.TheVariants.{OpenContext, ReleaseContext, CreateImage, QueryImage, WriteImage, WriteImagePgm, ReadImage, ReadImagePgm, SetValid, Release, CreateLut, CreateThreshold, CreateConvolution, CreateDistribution, ReadDistribution, CreateMinMax, ReadMinMax, CreateGraph, CreateVirtualImage, AddNode, RemoveNode, VerifyGraph, ProcessGraph, Immediate, CreateDelay, AgeDelay, RegisterAutoAging}
 use Rattle.client_model.specs.Request.{IsRequest}
 use Rattle.vx_wire.specs.Format.{format_number, open_format_number}
 use Rattle.vx_wire.specs.Description.{description_bytes}
@@ -202,6 +202,7 @@ body (ProcessGraph graph) is = number w32 graph
 body (Immediate n) is = node n is
 body (CreateDelay exemplar slots) is = joined _ _ (reference exemplar is.0) (more slots [] (slots_byte slots is.1) none)
 body (AgeDelay name) is = number w32 name
+body (RegisterAutoAging graph delay) is = joined _ _ (number w32 graph) (number w32 delay)
 
 -- what a request is spelled by
 pub body_is : (request : Request) → IsRequest request → All (λ b. b < 2 ^ 8) (body_of request)

@@ -1,7 +1,7 @@
 -- The bodies of requests about delays.
 use Rattle.std.specs.Prelude.{ℕ, List, Result}
 use Rattle.client_model.specs.declared.request.Request.{Request}
-use Rattle.client_model.specs.declared.request.Request.TheVariants.{CreateDelay, AgeDelay}
+use Rattle.client_model.specs.declared.request.Request.TheVariants.{CreateDelay, AgeDelay, RegisterAutoAging}
 use Rattle.vx_wire.specs.declared.body_fault.BodyFault.{BodyFault}
 use Rattle.vx_wire.specs.Fields.{one_field, two_fields, take_long}
 use Rattle.vx_wire.specs.Reference.{take_reference}
@@ -12,3 +12,6 @@ create_delay_in body = two_fields take_reference take_slots CreateDelay body
 
 abbrev pub age_delay_in : List ℕ → Result Request BodyFault
 age_delay_in body = one_field take_long AgeDelay body
+
+abbrev pub register_auto_aging_in : List ℕ → Result Request BodyFault
+register_auto_aging_in body = two_fields take_long take_long RegisterAutoAging body

@@ -4,7 +4,7 @@ use Rattle.client_model.specs.declared.request.Request.{Request}
 use Rattle.client_model.specs.declared.request.Request.TheVariants as requests
 use Rattle.vx_wire.specs.Numbered.{numbered}
 use Rattle.vx_wire.specs.declared.op.Op.{Op}
-use Rattle.vx_wire.specs.declared.op.Op.TheVariants.{OpenContext, ReleaseContext, CreateImage, QueryImage, WriteImage, WriteImagePgm, ReadImage, ReadImagePgm, SetValid, Release, CreateLut, CreateThreshold, CreateConvolution, CreateDistribution, ReadDistribution, CreateMinMax, ReadMinMax, CreateGraph, CreateVirtualImage, AddNode, RemoveNode, VerifyGraph, ProcessGraph, Immediate, CreateDelay, AgeDelay}
+use Rattle.vx_wire.specs.declared.op.Op.TheVariants.{OpenContext, ReleaseContext, CreateImage, QueryImage, WriteImage, WriteImagePgm, ReadImage, ReadImagePgm, SetValid, Release, CreateLut, CreateThreshold, CreateConvolution, CreateDistribution, ReadDistribution, CreateMinMax, ReadMinMax, CreateGraph, CreateVirtualImage, AddNode, RemoveNode, VerifyGraph, ProcessGraph, Immediate, CreateDelay, AgeDelay, RegisterAutoAging}
 
 -- the number of this project's that stands for the op
 abbrev pub op_number : Op → ℕ
@@ -34,12 +34,13 @@ op_number ProcessGraph = 23
 op_number Immediate = 24
 op_number CreateDelay = 25
 op_number AgeDelay = 26
+op_number RegisterAutoAging = 27
 
 abbrev pub ops : List Op
 ops =
     OpenContext ∷ ReleaseContext ∷ CreateImage ∷ QueryImage ∷ WriteImage ∷ WriteImagePgm ∷ ReadImage ∷ ReadImagePgm ∷ SetValid ∷ Release ∷ CreateLut ∷ CreateThreshold
     ∷ CreateConvolution ∷ CreateDistribution ∷ ReadDistribution ∷ CreateMinMax ∷ ReadMinMax ∷ CreateGraph ∷ CreateVirtualImage ∷ AddNode ∷ RemoveNode ∷ VerifyGraph ∷ ProcessGraph
-    ∷ Immediate ∷ CreateDelay ∷ AgeDelay ∷ []
+    ∷ Immediate ∷ CreateDelay ∷ AgeDelay ∷ RegisterAutoAging ∷ []
 
 -- the op with this number
 abbrev pub op_numbered : ℕ → Option Op
@@ -73,3 +74,4 @@ op_of (requests.ProcessGraph graph) = ProcessGraph
 op_of (requests.Immediate node) = Immediate
 op_of (requests.CreateDelay exemplar slots) = CreateDelay
 op_of (requests.AgeDelay name) = AgeDelay
+op_of (requests.RegisterAutoAging graph delay) = RegisterAutoAging

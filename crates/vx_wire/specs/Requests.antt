@@ -3,7 +3,7 @@
 use Rattle.std.specs.Prelude.{ℕ, ⊤, List, [], ◌∷◌, ◌++◌, Option, Some, None, Result, Err}
 use Rattle.std.specs.Int.{w32, to_be_bytes}
 use Rattle.client_model.specs.declared.request.Request.{Request}
-use Rattle.client_model.specs.declared.request.Request.TheVariants.{OpenContext, ReleaseContext, CreateImage, QueryImage, WriteImage, WriteImagePgm, ReadImage, ReadImagePgm, SetValid, Release, CreateLut, CreateThreshold, CreateConvolution, CreateDistribution, ReadDistribution, CreateMinMax, ReadMinMax, CreateGraph, CreateVirtualImage, AddNode, RemoveNode, VerifyGraph, ProcessGraph, Immediate, CreateDelay, AgeDelay}
+use Rattle.client_model.specs.declared.request.Request.TheVariants.{OpenContext, ReleaseContext, CreateImage, QueryImage, WriteImage, WriteImagePgm, ReadImage, ReadImagePgm, SetValid, Release, CreateLut, CreateThreshold, CreateConvolution, CreateDistribution, ReadDistribution, CreateMinMax, ReadMinMax, CreateGraph, CreateVirtualImage, AddNode, RemoveNode, VerifyGraph, ProcessGraph, Immediate, CreateDelay, AgeDelay, RegisterAutoAging}
 use Rattle.vx_wire.specs.declared.body_fault.BodyFault.{BodyFault}
 use Rattle.vx_wire.specs.declared.body_fault.BodyFault.TheVariants.{InvalidParameters}
 use Rattle.vx_wire.specs.declared.op.Op.{Op}
@@ -26,7 +26,7 @@ use Rattle.vx_wire.specs.Tables.{create_lut_in, create_threshold_in, create_conv
 use Rattle.vx_wire.specs.Statistics.{create_distribution_in, read_distribution_in, create_min_max_in, read_min_max_in}
 use Rattle.vx_wire.specs.Graphs.{create_graph_in, create_virtual_image_in, add_node_in, remove_node_in, verify_graph_in, process_graph_in}
 use Rattle.vx_wire.specs.Immediate.{immediate_in}
-use Rattle.vx_wire.specs.Delays.{create_delay_in, age_delay_in}
+use Rattle.vx_wire.specs.Delays.{create_delay_in, age_delay_in, register_auto_aging_in}
 
 -- the request that a body of this op spells
 abbrev pub request_with : Op → List ℕ → Result Request BodyFault
@@ -56,6 +56,7 @@ request_with ops.ProcessGraph body = process_graph_in body
 request_with ops.Immediate body = immediate_in body
 request_with ops.CreateDelay body = create_delay_in body
 request_with ops.AgeDelay body = age_delay_in body
+request_with ops.RegisterAutoAging body = register_auto_aging_in body
 
 -- without an op it spells none
 abbrev pub request_with_known : Option Op → List ℕ → Result Request BodyFault
@@ -94,6 +95,7 @@ body_of (ProcessGraph graph) = to_be_bytes w32 graph
 body_of (Immediate node) = node_bytes node
 body_of (CreateDelay exemplar slots) = reference_bytes exemplar ++ slots ∷ []
 body_of (AgeDelay name) = to_be_bytes w32 name
+body_of (RegisterAutoAging graph delay) = to_be_bytes w32 graph ++ to_be_bytes w32 delay
 
 -- a request whose body holds samples, entries or a text, for which parsing takes memory
 abbrev pub HoldsSamples : Request → Type 0
@@ -123,3 +125,4 @@ HoldsSamples (ProcessGraph graph) = ⊥
 HoldsSamples (Immediate node) = ⊥
 HoldsSamples (CreateDelay exemplar slots) = ⊥
 HoldsSamples (AgeDelay name) = ⊥
+HoldsSamples (RegisterAutoAging graph delay) = ⊥

@@ -21,7 +21,7 @@ ghost use Rattle.client_model.specs.declared.request.Request.TheVariants.{Create
 ghost use Rattle.client_model.specs.declared.request.Request.TheVariants.{AddNode, RemoveNode};
 ghost use Rattle.client_model.specs.declared.request.Request.TheVariants.{VerifyGraph};
 ghost use Rattle.client_model.specs.declared.request.Request.TheVariants.{ProcessGraph, Immediate};
-ghost use Rattle.client_model.specs.declared.request.Request.TheVariants.{CreateDelay, AgeDelay};
+ghost use Rattle.client_model.specs.declared.request.Request.TheVariants.{CreateDelay, AgeDelay, RegisterAutoAging};
 ghost use Rattle.vx_wire.specs.declared.body_fault.BodyFault.TheVariants.{InvalidParameters};
 ghost use Rattle.vx_wire.specs.declared.body_fault.BodyFault.TheVariants.{InvalidFormat};
 ghost use Rattle.vx_wire.specs.declared.body_fault.BodyFault.TheVariants.{InvalidDimension};
@@ -452,6 +452,13 @@ pub fn delays_aged()
     ensures aged { request_of 26 (0 ∷ 0 ∷ 0 ∷ 2 ∷ []) ≡ Ok (AgeDelay 2) }
     ensures cut { request_of 26 (0 ∷ 0 ∷ 0 ∷ []) ≡ Err InvalidParameters }
     ensures with_a_slot { request_of 26 (0 ∷ 0 ∷ 0 ∷ 2 ∷ 255 ∷ []) ≡ Err InvalidParameters }
+{}
+
+/// Delay 2 that is registered with graph 3, and a name that is cut short.
+pub fn delays_registered()
+    ensures registered { request_of 27 (0 ∷ 0 ∷ 0 ∷ 3 ∷ 0 ∷ 0 ∷ 0 ∷ 2 ∷ [])
+        ≡ Ok (RegisterAutoAging 3 2) }
+    ensures cut { request_of 27 (0 ∷ 0 ∷ 0 ∷ 3 ∷ 0 ∷ 0 ∷ 0 ∷ []) ≡ Err InvalidParameters }
 {}
 
 /// The spellings of a picture, of a text, of a rectangle, of a threshold, of a convolution, of

@@ -34,6 +34,7 @@ pub enum Op {
     Immediate,
     CreateDelay,
     AgeDelay,
+    RegisterAutoAging,
 }
 
 impl Op {
@@ -68,6 +69,7 @@ impl Op {
             Op::Immediate => 24,
             Op::CreateDelay => 25,
             Op::AgeDelay => 26,
+            Op::RegisterAutoAging => 27,
         }
     }
 
@@ -103,6 +105,7 @@ impl Op {
             24 => Some(Op::Immediate),
             25 => Some(Op::CreateDelay),
             26 => Some(Op::AgeDelay),
+            27 => Some(Op::RegisterAutoAging),
             _ => None,
         }
     }
@@ -138,6 +141,7 @@ impl Op {
             Request::Immediate(_) => Op::Immediate,
             Request::CreateDelay(_, _) => Op::CreateDelay,
             Request::AgeDelay(_) => Op::AgeDelay,
+            Request::RegisterAutoAging(_, _) => Op::RegisterAutoAging,
         }
     }
 }

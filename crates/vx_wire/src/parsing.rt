@@ -6,7 +6,7 @@ ghost use Rattle.vx_wire.specs.Requests.{request_of};
 use crate::op::Op;
 use crate::parse_fault::ParseFault;
 use crate::requests::contexts::{open_context, release_context};
-use crate::requests::delays::{age_delay, create_delay};
+use crate::requests::delays::{age_delay, create_delay, register_auto_aging};
 use crate::requests::graphs::{
     add_node, create_graph, create_virtual_image, process_graph, remove_node, verify_graph,
 };
@@ -60,5 +60,6 @@ pub fn parse(alloc: Global, op: u8, body: &[u8]) -> Result<Request, ParseFault>
         Some(Op::Immediate) => Ok(immediate(body)?),
         Some(Op::CreateDelay) => Ok(create_delay(body)?),
         Some(Op::AgeDelay) => Ok(age_delay(body)?),
+        Some(Op::RegisterAutoAging) => Ok(register_auto_aging(body)?),
     }
 }

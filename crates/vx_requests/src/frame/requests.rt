@@ -119,6 +119,10 @@ fn write_frame<K: Sink>(sink: &mut K, client: u16, request: &Request) -> Result<
             write_create_delay(sink, client, *exemplar, *slots)
         }
         Request::AgeDelay(name) => write_name(sink, client, Op::AgeDelay, *name),
+        Request::RegisterAutoAging(graph, delay) => {
+            let delay = delay.to_be_bytes();
+            write_named(sink, client, Op::RegisterAutoAging, *graph, &delay)
+        }
     }
 }
 

@@ -1,6 +1,6 @@
 //! The bodies of requests about delays.
 ghost use Rattle.std.specs.Prelude.{◌≡◌};
-ghost use Rattle.vx_wire.specs.Delays.{create_delay_in, age_delay_in};
+ghost use Rattle.vx_wire.specs.Delays.{create_delay_in, age_delay_in, register_auto_aging_in};
 
 use crate::body_fault::BodyFault;
 use crate::fields::Fields;
@@ -25,4 +25,15 @@ pub fn age_delay(body: &[u8]) -> Result<Request, BodyFault>
     ensures { result ≡ age_delay_in body.now }
 {
     Ok(Request::AgeDelay(name_alone(body)?))
+}
+
+/// The name of a graph, and that of a delay.
+pub fn register_auto_aging(body: &[u8]) -> Result<Request, BodyFault>
+    ensures { result ≡ register_auto_aging_in body.now }
+{
+    let mut fields = Fields::new(body);
+    let graph = fields.long()?;
+    let delay = fields.long()?;
+    fields.end()?;
+    Ok(Request::RegisterAutoAging(graph, delay))
 }

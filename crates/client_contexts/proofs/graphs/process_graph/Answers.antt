@@ -1,9 +1,15 @@
-use Rattle.std.proofs.Common.{◌≡◌, Some, Err, rules, arith, subst, sym}
+use Rattle.std.proofs.Common.{◌≡◌, Some, Err, rules, arith, subst, sym, ap}
+use Rattle.std.specs.Option.{option_map}
 use Rattle.vx_base.specs.Graph.{nodes_of}
+use Rattle.vx_base.specs.Object.{object_kind}
+use Rattle.object_table.specs.Blocks.{blocks_in}
+use Rattle.object_table.specs.Context.{Context}
+use Rattle.object_table.specs.Table.{graph_under}
+use Rattle.client_model.proofs.DelayStepLaws.{aged_under_last}
 use Rattle.client_model.proofs.OutcomeLaws.{Keeps}
 use Rattle.client_laws.proofs.RunStepLaws.{process_graph_keeps}
 use Rattle.client_contexts.proofs.BlockLemmas.{lasting_blocks}
-use Rattle.client_contexts.proofs.ReadyLemmas.{fails_to_run, runs_to, kept_runs, kept_plan, kept_after_run}
+use Rattle.client_contexts.proofs.ReadyLemmas.{fails_to_run, graph_left, aged_to, kept_runs, kept_plan, kept_after_run}
 use Rattle.client_contexts.proofs.graphs.process_graph.Goals as goal
 
 pub returns-in_err-verify_graph-clause-comes : goal.returns-in_err-verify_graph-clause-comes
@@ -23,6 +29,14 @@ pub run-requires-clause-plan : goal.run-requires-clause-plan
 run-requires-clause-plan c =
     kept_plan c.args.table.now c.args.graph c.in-Some.kept.now c.verify_graph.new.kept.entries c.verify_graph.ensures.kept (sym c.in-Some.ensures.value)
 
+pub age_registered-requires : goal.age_registered-requires
+age_registered-requires c =
+    let t = c.args.table.now in
+    let graph =
+    kept_runs c.args.limits t c.args.graph c.requires.context (c.in_ok-verify_graph.field-0, Some t) c.in_ok-verify_graph.ensures.comes.done c.in-Some.kept.now
+    c.verify_graph.new.kept.entries c.verify_graph.ensures.kept (sym c.in-Some.ensures.value) in
+    ap (option_map object_kind) (graph_left c.args.limits t c.args.graph c.requires.context graph.0 c.run.new.table graph.1 graph.2 (c.in_ok-run.ensures.value (nodes_of graph.0) graph.3))
+
 pub returns-clause-comes : goal.returns-clause-comes
 returns-clause-comes c =
     let t = c.args.table.now in
@@ -30,7 +44,9 @@ returns-clause-comes c =
     kept_runs c.args.limits t c.args.graph c.requires.context (c.in_ok-verify_graph.field-0, Some t) c.in_ok-verify_graph.ensures.comes.done c.in-Some.kept.now
     c.verify_graph.new.kept.entries c.verify_graph.ensures.kept (sym c.in-Some.ensures.value) in
     record {
-      done = runs_to c.args.limits t c.args.graph graph.0 c.run.new.table graph.1 graph.2 (c.in_ok-run.ensures.value (nodes_of graph.0) graph.3);
+      done =
+          aged_to c.args.limits t c.args.graph c.requires.context graph.0 c.run.new.table c.age_registered.new.self graph.1 graph.2 (c.in_ok-run.ensures.value (nodes_of graph.0) graph.3)
+          c.age_registered.ensures;
       refused = tt;
       kept = tt;
     }
@@ -41,9 +57,17 @@ returns-clause-limits c =
 
 pub returns-clause-balances : goal.returns-clause-balances
 returns-clause-balances c = λ format.
-    omega (arith, c.in_ok-run.ensures.lent format, lasting_blocks c.args.table.now.objects c.run.new.table.objects c.in_ok-run.ensures.lasts format)
+    let lasts = c.in_ok-run.ensures.lasts in
+    let ran = c.run.new.table.objects in
+    omega (
+      arith,
+      c.in_ok-run.ensures.lent format,
+      lasting_blocks c.args.table.now.objects ran lasts format,
+      ap (λ (t : Context). blocks_in t.objects format) c.age_registered.ensures,
+      lasting_blocks ran _ (aged_under_last (graph_under ran c.args.graph).delays ran lasts.objects) format
+    )
 
 pub returns-clause-kept : goal.returns-clause-kept
 returns-clause-kept c =
-    kept_after_run c.args.limits c.args.table.now c.run.new.table c.args.graph c.requires.context c.ranges.graph.fits (returns-clause-comes c).done c.verify_graph.new.kept.entries
+    kept_after_run c.args.limits c.args.table.now c.age_registered.new.self c.args.graph c.requires.context c.ranges.graph.fits (returns-clause-comes c).done c.verify_graph.new.kept.entries
     c.verify_graph.ensures.kept

@@ -1,14 +1,11 @@
 use Rattle.std.proofs.Common.{refl, sym, ap, ◌∙◌}
 use Rattle.object_table.specs.Object.{aged_object}
 use Rattle.object_table.specs.Uses.{nodes_in}
-use Rattle.object_table.proofs.EntryLemmas.{nothing_under, kind_under, shown_name, IsTable-written, aged_nodes}
+use Rattle.object_table.proofs.EntryLemmas.{nothing_under, shown_name, IsTable-written, aged_nodes}
 use Rattle.object_table.proofs.table.Table.age.Goals as goal
 
 pub unreachable-requires : goal.unreachable-requires
 unreachable-requires c = nothing_under _ _ _ c.self.view_is _ c.args.name (sym c.in_default.ensures.value) c.requires
-
-pub age-requires : goal.age-requires
-age-requires c = kind_under _ _ _ c.self.view_is _ c.args.name _ (sym c.in-Some.ensures.value) c.requires
 
 pub invariant_of-self : goal.invariant_of-self
 invariant_of-self c =

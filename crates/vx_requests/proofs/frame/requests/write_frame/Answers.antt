@@ -47,3 +47,6 @@ returns-in-Immediate g c = rw c.in-Immediate.is (rw (c.number-in-Immediate.ensur
 
 pub returns-in-CreateDelay : goal.returns-in-CreateDelay
 returns-in-CreateDelay g c = rw c.in-CreateDelay.is c.write_create_delay.ensures
+
+pub returns-in-RegisterAutoAging : goal.returns-in-RegisterAutoAging
+returns-in-RegisterAutoAging g c = rw c.in-RegisterAutoAging.is (rw c.to_be_bytes-delay.ensures at c.write_named-in-RegisterAutoAging.ensures)

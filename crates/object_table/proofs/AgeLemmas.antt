@@ -1,0 +1,117 @@
+-- Delays that age with graphs.
+use Rattle.std.proofs.Common.{◌≡◌, ◌≢◌, ℕ, ◌+◌, ◌<◌, Bool, true, false, ◌||◌, List, [], ◌∷◌, ◌++◌, length, map, take, get_or, Option, Some, None, refl, sym, ap, ◌∙◌, arith}
+use Rattle.std.specs.Prelude.{All, ◌==◌, if◌then◌else◌, filter, is_some}
+use Rattle.std.specs.List.{list_any, AllPairs}
+use Rattle.std.specs.Map.{keys_of, lookup, set_value}
+use Rattle.std.specs.BTreeMap.{is_at}
+use Rattle.std.specs.Option.{option_map}
+use Rattle.std.specs.Ordering.{nat_cmp}
+use Rattle.std.proofs.lemmas.Bool.{eqb-true, eqb-false, ne_eqb}
+use Rattle.std.proofs.lemmas.List.{length-take, get_or-take, get_or_default}
+use Rattle.std.proofs.lemmas.List.Elements.{All-nil, All-cons, All-filter}
+use Rattle.std.proofs.lemmas.List.Folds.{list_any_more, list_any_none}
+use Rattle.std.proofs.lemmas.List.Kept.{AllPairs-filter}
+use Rattle.std.proofs.lemmas.List.Quantifiers.{all_pairs_push}
+use Rattle.std.proofs.lemmas.Map.Keys.{sorted_tail}
+use Rattle.vx_base.specs.declared.kind.Kind.{Kind}
+use Rattle.vx_base.specs.declared.kind.Kind.TheVariants as kind
+use Rattle.vx_base.specs.Graph.{with_delays}
+use Rattle.vx_base.specs.Object.{ObjectValue, DelayObject, GraphObject, object_kind}
+use Rattle.object_table.specs.declared.table.Entry.{Entry}
+use Rattle.object_table.specs.Ageing.{is_there, aged_if, aged_under}
+use Rattle.object_table.specs.Context.{Context, with_objects}
+use Rattle.object_table.specs.Named.{Named, object_held}
+use Rattle.object_table.specs.Object.{aged_object, graph_value}
+use Rattle.object_table.specs.Table.{IsUnder, graph_under, named}
+use Rattle.object_table.specs.Uses.{nodes_in}
+use Rattle.object_table.proofs.EntryLemmas.{InOrder, same_name, past_head, held_is, objects_are}
+
+-- ---- one name
+
+none_aged : (entries : List (ℕ × Entry)) (name : ℕ) → lookup (is_at (nat_cmp name)) entries ≡ None → aged_under (name ∷ []) (map named entries) ≡ map named entries
+none_aged [] name none = refl
+none_aged (e ∷ entries) name none = grind (arith, none_aged entries name, same_name name e.0)
+
+pub aged_written : (entries : List (ℕ × Entry)) (name : ℕ) (old new : Entry) → InOrder entries → lookup (is_at (nat_cmp name)) entries ≡ Some old → new.live ≡ old.live → new.object ≡ aged_object old.object
+    → map named (set_value (is_at (nat_cmp name)) entries new) ≡ aged_under (name ∷ []) (map named entries)
+aged_written [] name old new order found live is = cc
+aged_written (e ∷ entries) name old new order found live is =
+    grind (arith, aged_written entries name old new (sorted_tail nat_cmp e.0 (keys_of entries) order), none_aged entries name, past_head e entries name order, same_name name e.0)
+
+module _ (t : Context) (next : ℕ) (entries : List (ℕ × Entry)) (view : ◌≡◌ {A = Context} (record { next = next; objects = map named entries }) t) (name : ℕ) where
+  -- whether something is held under the name
+  pub there_is : is_some (lookup (is_at (nat_cmp name)) entries) ≡ is_there t.objects name
+  there_is = grind (arith, held_is entries name, objects_are t next entries view)
+
+  -- where nothing is held under the name, nothing ages
+  pub none_to_age : lookup (is_at (nat_cmp name)) entries ≡ None → t ≡ with_objects t (aged_under (name ∷ []) t.objects)
+  none_to_age none = ap (with_objects t) (sym (objects_are t next entries view) ∙ sym (none_aged entries name none) ∙ ap (aged_under (name ∷ [])) (objects_are t next entries view))
+
+  -- what ages shows
+  pub shown_aged : (old new : Entry) (after : List (ℕ × Entry)) → lookup (is_at (nat_cmp name)) entries ≡ Some old → InOrder entries → new.live ≡ old.live → new.object ≡ aged_object old.object
+      → after ≡ set_value (is_at (nat_cmp name)) entries new → ◌≡◌ {A = Context} (record { next = next; objects = map named after }) (with_objects t (aged_under (name ∷ []) t.objects))
+  shown_aged old new after found order live is after_is = grind (arith, aged_written entries name old new order found live is, objects_are t next entries view)
+
+-- ---- several names, one after the other
+
+-- a name that stands nowhere among those before
+pub aged_more : (names : List ℕ) (k d : ℕ) (objects : List Named) → AllPairs (λ a b. a ≢ b) names → k < length names → aged_under (get_or names k d ∷ []) (aged_under (take k names) objects) ≡ aged_under (take (k + 1) names) objects
+aged_more names k d [] apart there = refl
+aged_more names k d (o ∷ objects) apart there =
+    ap (λ (p : Named). p ∷ aged_under (get_or names k d ∷ []) (aged_under (take k names) objects)) (one (o.name == get_or names k d) refl)
+    ∙ ap (λ l. aged_if (take (k + 1) names) o ∷ l) (aged_more names k d objects apart there)
+  where
+    is_it : ℕ → Bool
+    is_it = λ n. o.name == n
+    before : (i e : ℕ) → i < length (take k names) → get_or names k d ≡ o.name → is_it (get_or (take k names) i e) ≡ false
+    before i e less same =
+        let below : i < k = omega (arith, less, length-take k names) in
+        ne_eqb o.name (get_or (take k names) i e) (λ equal. apart i k d below there (get_or_default names i d e (omega (arith, below, there)) ∙ sym (get_or-take k names i e below) ∙ sym equal ∙ sym same))
+    one : (b : Bool) → (o.name == get_or names k d) ≡ b → aged_if (get_or names k d ∷ []) (aged_if (take k names) o) ≡ aged_if (take (k + 1) names) o
+    one true same =
+        let here : o.name ≡ get_or names k d = eqb-true o.name (get_or names k d) same in
+        grind (arith, list_any_more is_it names k d there, list_any_none is_it (take k names) (λ i e less. before i e less (sym here)))
+    one false other = grind (arith, list_any_more is_it names k d there, other)
+
+-- no name
+pub aged_none : (objects : List Named) → aged_under [] objects ≡ objects
+aged_none [] = refl
+aged_none (o ∷ objects) = ap (λ l. o ∷ l) (aged_none objects)
+
+-- ---- what is held then
+
+pub held_aged : (names : List ℕ) (objects : List Named) (name : ℕ)
+    → object_held (aged_under names objects) name ≡ option_map (λ object. if list_any (λ n. name == n) names then aged_object object else object) (object_held objects name)
+held_aged names [] name = refl
+held_aged names (o ∷ objects) name = grind (arith, held_aged names objects name, eqb-true o.name name)
+
+aged_kind : (object : ObjectValue) → object_kind (aged_object object) ≡ object_kind object
+aged_kind (DelayObject images) = refl
+aged_kind other = refl
+
+aged_graph : (object : ObjectValue) → graph_value (aged_object object) ≡ graph_value object
+aged_graph (DelayObject images) = refl
+aged_graph other = refl
+
+pub kind_aged : (names : List ℕ) (objects : List Named) (wanted : Kind) (name : ℕ) → IsUnder objects wanted name → IsUnder (aged_under names objects) wanted name
+kind_aged names objects wanted name h = grind (arith, held_aged names objects name, aged_kind)
+
+pub graph_aged : (names : List ℕ) (objects : List Named) (name : ℕ) → graph_under (aged_under names objects) name ≡ graph_under objects name
+graph_aged names objects name = grind (arith, held_aged names objects name, aged_graph)
+
+-- ---- one more delay
+
+-- names apart, of which some are left out, and one more
+pub apart_and : (names : List ℕ) (p : ℕ → Bool) (name : ℕ) → AllPairs (λ a b. a ≢ b) names → list_any (λ n. n == name) names ≡ false → AllPairs (λ a b. a ≢ b) (filter p names ++ name ∷ [])
+apart_and names p name apart none =
+    all_pairs_push (λ a b. a ≢ b) (filter p names) name (AllPairs-filter (λ a b. a ≢ b) p names apart)
+    (All-filter p (λ n. n ≢ name) names (others names none))
+  where
+    others : (l : List ℕ) → list_any (λ n. n == name) l ≡ false → All (λ n. n ≢ name) l
+    others [] h = All-nil (λ n. n ≢ name)
+    others (n ∷ l) h = All-cons (λ m. m ≢ name) n l (eqb-false n name (grind arith)) (others l (grind arith))
+
+-- a graph has the nodes that it had
+pub graph_nodes : (object : ObjectValue) (delays : List ℕ) → object_kind object ≡ kind.Graph → nodes_in (GraphObject (with_delays (graph_value object) delays)) ≡ nodes_in object
+graph_nodes (GraphObject graph) delays is = refl
+graph_nodes other delays is = absurd (cc)

@@ -1,0 +1,22 @@
+use Rattle.std.proofs.Common.{refl, sym, ap, ◌∙◌}
+use Rattle.object_table.specs.Uses.{nodes_in}
+use Rattle.object_table.proofs.AgeLemmas.{none_to_age, shown_aged}
+use Rattle.object_table.proofs.EntryLemmas.{IsTable-written, aged_nodes}
+use Rattle.object_table.proofs.table.Table.age_if_held.Goals as goal
+
+pub invariant_of-self : goal.invariant_of-self
+invariant_of-self c = rw c.get_mut.follows.holds-at-none c.self.invariant
+
+pub returns-in_default : goal.returns-in_default
+returns-in_default c = rw c.get_mut.follows.holds-at-none (c.self.view_is ∙ none_to_age _ _ _ c.self.view_is c.args.name (sym c.in_default.ensures.value))
+
+pub invariant_of-self-2 : goal.invariant_of-self-2
+invariant_of-self-2 c =
+    let new = record c.in-Some.entry.now { object = c.age.new.self } in
+    IsTable-written _ _ _ _ _ new _ c.self.invariant (sym c.in-Some.ensures.value) refl refl
+    (ap nodes_in c.age.ensures.value ∙ aged_nodes _) c.age.ensures.bytes (c.get_mut.follows.holds new).0
+
+pub returns : goal.returns
+returns c =
+    let new = record c.in-Some.entry.now { object = c.age.new.self } in
+    shown_aged _ _ _ c.self.view_is c.args.name _ new _ (sym c.in-Some.ensures.value) c.get_mut.ensures.ordered refl c.age.ensures.value (c.get_mut.follows.holds new).0

@@ -1,0 +1,57 @@
+use Rattle.std.proofs.Common.{◌≡◌, ◌≢◌, ◌≤◌, ◌<◌, ℕ, List, ◌∷◌, [], length, take, get_or, sym, ap, subst, ◌∙◌, arith}
+use Rattle.std.specs.List.{AllPairs}
+use Rattle.std.proofs.lemmas.List.{take_all}
+use Rattle.vx_base.specs.Graph.{GraphValue}
+use Rattle.object_table.specs.Ageing.{aged_under}
+use Rattle.object_table.specs.Context.{Context, with_objects}
+use Rattle.object_table.specs.Table.{graph_under}
+use Rattle.object_table.proofs.AgeLemmas.{aged_none, aged_more, kind_aged, graph_aged}
+use Rattle.object_table.proofs.table.Table.age_registered.Goals as goal
+use Rattle.object_table.proofs.table.Table.age_registered.Goals.{After-delays}
+
+-- the delays are those that were registered first
+same : (c : After-delays) → c.delays.result.now ≡ (graph_under c.args.self.now.objects c.args.graph).delays
+same c =
+    let old = c.args.self.now in
+    let now : graph_under c.loop-k.self.objects c.args.graph ≡ graph_under old.objects c.args.graph =
+        ap (λ (t : Context). graph_under t.objects c.args.graph) c.loop-k.invariant
+        ∙ graph_aged (take c.loop-k.k (graph_under old.objects c.args.graph).delays) old.objects c.args.graph in
+    c.delays.ensures.delays ∙ ap (λ (g : GraphValue). g.delays) (c.graph-in-loop-k.ensures ∙ now)
+
+there : (c : After-delays) → c.loop-k.k < length (graph_under c.args.self.now.objects c.args.graph).delays
+there c =
+    let first = c.delays-count.ensures.delays ∙ ap (λ (g : GraphValue). g.delays) c.graph.ensures in
+    omega (arith, ap length first, c.loop-k-test.true)
+
+pub loop-k-init : goal.loop-k-init
+loop-k-init c = ap (with_objects c.args.self.now) (sym (aged_none c.args.self.now.objects))
+
+pub graph-requires-in-loop-k : goal.graph-requires-in-loop-k
+graph-requires-in-loop-k c =
+    let old = c.args.self.now in
+    let ages = take c.loop-k.k (graph_under old.objects c.args.graph).delays in
+    rw c.loop-k.invariant (kind_aged ages old.objects _ c.args.graph c.requires)
+
+pub bounds-delays-k : goal.bounds-delays-k
+bounds-delays-k c =
+    let at = (goal.at.bounds-delays-k c).After-delays in
+    omega (arith, ap length (same at), there at)
+
+pub loop-k-preserved : goal.loop-k-preserved
+loop-k-preserved c =
+    let at = (goal.at.loop-k-preserved c).After-delays in
+    let old = c.args.self.now in
+    let k = c.loop-k.k in
+    let names = (graph_under old.objects c.args.graph).delays in
+    let apart : AllPairs (λ (a : ℕ) (b : ℕ). a ≢ b) names = subst (AllPairs (λ (a : ℕ) (b : ℕ). a ≢ b)) (same at) c.delays.ensures.distinct in
+    c.age_if_held.ensures
+    ∙ ap (λ (t : Context). with_objects t (aged_under (get_or c.delays.result.now k 0 ∷ []) t.objects)) c.loop-k.invariant
+    ∙ ap (λ (l : List ℕ). with_objects old (aged_under (get_or l k 0 ∷ []) (aged_under (take k names) old.objects))) (same at)
+    ∙ ap (with_objects old) (aged_more names k 0 old.objects apart (there at))
+
+pub returns : goal.returns
+returns c =
+    let first = c.delays-count.ensures.delays ∙ ap (λ (g : GraphValue). g.delays) c.graph.ensures in
+    let names = (graph_under c.args.self.now.objects c.args.graph).delays in
+    let past : length names ≤ c.loop-k.k = omega (arith, ap length first, c.loop-k-test.false) in
+    c.loop-k.invariant ∙ ap (λ l. with_objects c.args.self.now (aged_under l c.args.self.now.objects)) (take_all c.loop-k.k names past)

@@ -1,0 +1,57 @@
+use Rattle.std.proofs.Common.{◌≡◌, ◌≢◌, ℕ, Bool, true, false, List, [], ◌∷◌, ◌++◌, refl, sym, ap, subst, ◌∙◌, arith}
+use Rattle.std.specs.Prelude.{if◌then◌else◌, filter, ◌==◌}
+use Rattle.std.specs.List.{AllPairs, list_any}
+use Rattle.vx_base.specs.Graph.{GraphValue, is_registered, with_delays}
+use Rattle.vx_base.specs.Object.{ObjectValue, GraphObject}
+use Rattle.object_table.specs.Ageing.{is_there, one_more}
+use Rattle.object_table.specs.Context.{with_objects, with_graph}
+use Rattle.object_table.specs.Object.{graph_value}
+use Rattle.object_table.specs.Table.{graph_under}
+use Rattle.object_table.specs.Uses.{nodes_in}
+use Rattle.object_table.proofs.AgeLemmas.{apart_and, graph_nodes}
+use Rattle.object_table.proofs.EntryLemmas.{nothing_under, kind_under, under_is, shown_name, IsTable-written}
+use Rattle.object_table.proofs.table.Table.register.Goals as goal
+
+pub returns-then-is_registered-clause-ok : goal.returns-then-is_registered-clause-ok
+returns-then-is_registered-clause-ok c =
+    let now = c.args.self.now in
+    let there : is_registered (graph_under now.objects c.args.graph) c.args.delay ≡ true =
+        ap (λ g. is_registered g c.args.delay) (sym c.graph-found.ensures) ∙ sym c.if-is_registered.ensures in
+    ap (λ b. with_objects now (if b then now.objects else with_graph now.objects c.args.graph (one_more now.objects (graph_under now.objects c.args.graph) c.args.delay))) (sym there)
+
+pub unreachable-requires : goal.unreachable-requires
+unreachable-requires c = nothing_under _ _ _ c.self.view_is _ c.args.graph (sym c.in_default.ensures.value) c.requires
+
+pub set_delays-requires-clause-kind : goal.set_delays-requires-clause-kind
+set_delays-requires-clause-kind c = kind_under _ _ _ c.self.view_is _ c.args.graph _ (sym c.in-Some.ensures.value) c.requires
+
+pub set_delays-requires-clause-distinct : goal.set_delays-requires-clause-distinct
+set_delays-requires-clause-distinct c =
+    subst (AllPairs (λ (a : ℕ) (b : ℕ). a ≢ b)) (sym c.in_ok-delays.ensures.value)
+    (apart_and c.delays.result.now (is_there c.args.self.now.objects) c.args.delay c.delays.ensures.distinct
+    (ap (λ l. list_any (λ n. n == c.args.delay) l) c.delays.ensures.delays ∙ sym c.is_registered.ensures ∙ c.if-is_registered.false))
+
+pub invariant_of-self : goal.invariant_of-self
+invariant_of-self c =
+    let new = record c.in-Some.entry.now { object = c.set_delays.new.self } in
+    IsTable-written _ _ _ _ _ new _ c.self.invariant (sym c.in-Some.ensures.value) refl refl
+    (ap nodes_in c.set_delays.ensures.value
+    ∙ graph_nodes c.in-Some.entry.now.object c.in_ok-delays.delays.items (kind_under _ _ _ c.self.view_is _ c.args.graph _ (sym c.in-Some.ensures.value) c.requires))
+    c.set_delays.ensures.bytes (c.get_mut.follows.holds new).0
+
+pub returns-clause-ok : goal.returns-clause-ok
+returns-clause-ok c =
+    let now = c.args.self.now in
+    let old = c.in-Some.entry.now.object in
+    let new = record c.in-Some.entry.now { object = c.set_delays.new.self } in
+    let under : graph_under now.objects c.args.graph ≡ graph_value old = ap graph_value (under_is _ _ _ c.self.view_is c.args.graph _ (sym c.in-Some.ensures.value)) in
+    let delays = c.delays.ensures.delays ∙ ap (λ (g : GraphValue). g.delays) (c.graph-found.ensures ∙ under) in
+    let apart : is_registered (graph_under now.objects c.args.graph) c.args.delay ≡ false =
+        ap (λ g. is_registered g c.args.delay) (sym c.graph-found.ensures) ∙ sym c.is_registered.ensures ∙ c.if-is_registered.false in
+    let value : c.set_delays.new.self ≡ GraphObject (one_more now.objects (graph_value old) c.args.delay) =
+        c.set_delays.ensures.value
+        ∙ ap (λ l. GraphObject (with_delays (graph_value old) l))
+          (c.in_ok-delays.ensures.value ∙ ap (λ l. filter (is_there now.objects) l ++ c.args.delay ∷ []) delays) in
+    shown_name _ _ _ c.self.view_is c.args.graph _ (sym c.in-Some.ensures.value) (λ o. GraphObject (one_more now.objects (graph_value o) c.args.delay)) new _ c.get_mut.ensures.ordered refl
+    value (c.get_mut.follows.holds new).0
+    ∙ ap (λ b. with_objects now (if b then now.objects else with_graph now.objects c.args.graph (one_more now.objects (graph_under now.objects c.args.graph) c.args.delay))) (sym apart)
