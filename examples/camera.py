@@ -5,10 +5,11 @@
 
 makes a graph of a delay's slots: it smooths a picture into slot 0, takes the difference to slot -1,
 where the picture before stands smoothed, keeps what differs by more than 24, widens that by a
-pixel, and finds the rectangle around it. The delay ages by itself after each run. The virtual
-images between the graph's nodes can be read by nobody, and are forgotten after each run. Pictures of a ball that flies past a lamp in a noisy room
-are sent ahead of the replies. It prints within which rectangle something moved, and writes
-FOLDER/camera.png: the pictures with that rectangle, and below each what moved since the one before.
+pixel, and finds the rectangle around it. The delay is registered with the graph, so that each run
+ages it. The virtual images between the nodes can be read by nobody, and are forgotten after each
+run. Pictures of a ball that flies past a lamp in a noisy room are sent ahead of the replies. It
+prints within which rectangle something moved, and writes FOLDER/camera.png: the pictures with that
+rectangle, and below each what moved since the one before.
 """
 
 import random

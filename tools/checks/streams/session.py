@@ -107,9 +107,10 @@ class Session:
         return {cell.name for node in self.nodes() for cell in cells_of(node)}
 
     def delays(self):
-        """Those that its nodes use; where there are none, and now and then, all."""
-        used, delays = self.used(), [name for name, _ in self.draw.objects(model.Delay)]
-        those = [] if self.draw.chance(0.15) else [name for name in delays if name in used]
+        """Those that its nodes read; where there are none, and now and then, all."""
+        read = {cell.name for cell in cells_read(self.nodes())}
+        delays = [name for name, _ in self.draw.objects(model.Delay)]
+        those = [] if self.draw.chance(0.15) else [name for name in delays if name in read]
         return those or delays
 
     def age(self):

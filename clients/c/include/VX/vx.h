@@ -616,9 +616,9 @@ VX_API_ENTRY vx_status VX_API_CALL vxReleaseArray(vx_array *array);
 VX_API_ENTRY vx_delay VX_API_CALL vxCreateDelay(vx_context context, vx_reference exemplar,
                                                 vx_size num_slots);
 
-/* The image that is in a slot when it is used: once the delay has aged that is another one. The index
-   is 0 for the newest, and down to 1 - slots. The reference is the delay's, and isn't released.
-   VX_ERROR_INVALID_PARAMETERS, no such slot. */
+/* The image that is in a slot when it is used: once the delay has aged that is another one. The
+   index is 0 for the newest, and down to 1 - slots. The reference is the delay's, and isn't
+   released. VX_ERROR_INVALID_PARAMETERS, no such slot. */
 VX_API_ENTRY vx_reference VX_API_CALL vxGetReferenceFromDelay(vx_delay delay, vx_int32 index);
 
 /* Moves each image on by one slot, and the last one to slot 0. */
