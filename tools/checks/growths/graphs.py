@@ -96,8 +96,8 @@ def nodes() -> List[bytes]:
 
 
 def registrations() -> List[bytes]:
-    """The second graph ages the delay and others, some of which are gone then: the first of each
-    size at which what it has of them grows may be lost."""
+    """The second graph ages the delay, and others, so many that what it keeps of them grows more
+    than once; some of them are gone when the last is registered."""
     return [
         wire.register_auto_aging(3, 12, 5),
         wire.register_auto_aging(3, 12, 5),
