@@ -89,7 +89,7 @@ def released_after_a_run():
 
 def refusals_of_registrations():
     """Both names before both kinds. What is refused registers nothing."""
-    no_delays = (A, D, *(of for of in NO_GRAPHS if of != DELAY), V, G, H)
+    no_delays = (*(of for of in NO_GRAPHS if of != DELAY), G, H)
     rows = [*TWO_GRAPHS, added(G, 1, inverse(A, B))]
     rows += [registered(of, DELAY, INVALID_REFERENCE) for of in UNKNOWN]
     rows += [registered(G, of, INVALID_REFERENCE) for of in UNKNOWN]
