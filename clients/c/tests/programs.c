@@ -77,26 +77,39 @@ static void use_delay(vx_context context) {
     EXPECT(VX_SUCCESS, vxReleaseImage(&picture));
 }
 
+static void fill(vx_image image, vx_uint8 sample) {
+    vx_uint8 samples[COUNT];
+    memset(samples, sample, COUNT);
+    EXPECT(VX_SUCCESS, copy_whole(image, WIDTH, HEIGHT, 1, samples, VX_WRITE_ONLY));
+}
+
 static vx_uint8 first_sample(vx_image image) {
     vx_uint8 found[COUNT];
     EXPECT(VX_SUCCESS, copy_whole(image, WIDTH, HEIGHT, 1, found, VX_READ_ONLY));
     return found[0];
 }
 
-/* Runs that age a delay by themselves, by either call. */
+/* A delay that was released ages as long as a node uses it; its slot -1 holds a sample. */
+static void age_released(vx_graph graph, vx_delay *delay, vx_image copy, vx_uint8 sample) {
+    vx_image before = (vx_image)vxGetReferenceFromDelay(*delay, -1);
+    EXPECT(VX_SUCCESS, STATUS(vxNotNode(graph, before, copy)));
+    EXPECT(VX_SUCCESS, vxReleaseDelay(delay));
+    for (int turn = 0; turn < 4; turn++) {
+        EXPECT(VX_SUCCESS, vxProcessGraph(graph));
+        CHECK(first_sample(copy) == (turn % 2 ? sample : 255 - sample));
+    }
+}
+
+/* Runs that age a delay by themselves, by either call, and by a graph without nodes. */
 static void age_after_runs(vx_context context) {
-    vx_uint8 samples[COUNT];
-    vx_image picture = vxCreateImage(context, WIDTH, HEIGHT, VX_DF_IMAGE_U8);
     vx_image copy = vxCreateImage(context, WIDTH, HEIGHT, VX_DF_IMAGE_U8);
-    vx_delay delay = vxCreateDelay(context, (vx_reference)picture, 2);
+    vx_delay delay = vxCreateDelay(context, (vx_reference)copy, 2);
     vx_image now = (vx_image)vxGetReferenceFromDelay(delay, 0);
     vx_image before = (vx_image)vxGetReferenceFromDelay(delay, -1);
     vx_graph graph = vxCreateGraph(context), other = vxCreateGraph(context);
     vx_node node = vxNotNode(graph, before, now);
-    memset(samples, 10, COUNT);
-    EXPECT(VX_SUCCESS, copy_whole(now, WIDTH, HEIGHT, 1, samples, VX_WRITE_ONLY));
-    memset(samples, 20, COUNT);
-    EXPECT(VX_SUCCESS, copy_whole(before, WIDTH, HEIGHT, 1, samples, VX_WRITE_ONLY));
+    fill(now, 10);
+    fill(before, 20);
     EXPECT(VX_SUCCESS, vxVerifyGraph(graph));
     EXPECT(VX_SUCCESS, vxRegisterAutoAging(graph, delay));
     EXPECT(VX_SUCCESS, vxRegisterAutoAging(graph, delay));
@@ -107,20 +120,13 @@ static void age_after_runs(vx_context context) {
     EXPECT(VX_SUCCESS, vxWaitGraph(graph));
     CHECK(first_sample(now) == 235 && first_sample(before) == 20);
     EXPECT(VX_SUCCESS, vxRemoveNode(&node));
-    /* A graph without nodes ages it too. What was released ages as long as a node uses it. */
     EXPECT(VX_SUCCESS, vxRegisterAutoAging(other, delay));
     EXPECT(VX_SUCCESS, vxProcessGraph(other));
     CHECK(first_sample(now) == 20 && first_sample(before) == 235);
-    EXPECT(VX_SUCCESS, STATUS(vxNotNode(graph, before, copy)));
-    EXPECT(VX_SUCCESS, vxReleaseDelay(&delay));
-    for (int turn = 0; turn < 4; turn++) {
-        EXPECT(VX_SUCCESS, vxProcessGraph(graph));
-        CHECK(first_sample(copy) == (turn % 2 ? 235 : 20));
-    }
+    age_released(graph, &delay, copy, 235);
     EXPECT(VX_SUCCESS, vxReleaseGraph(&graph));
     EXPECT(VX_SUCCESS, vxProcessGraph(other));
     EXPECT(VX_SUCCESS, vxReleaseGraph(&other));
-    EXPECT(VX_SUCCESS, vxReleaseImage(&picture));
     EXPECT(VX_SUCCESS, vxReleaseImage(&copy));
 }
 
