@@ -5,10 +5,11 @@
 
 makes a graph of a delay's slots: it smooths a picture into slot 0, takes the difference to slot -1,
 where the picture before stands smoothed, keeps what differs by more than 24, widens that by a
-pixel, and finds the rectangle around it. The virtual images between its nodes can be read by
-nobody, and are forgotten after each run. Pictures of a ball that flies past a lamp in a noisy room
-are sent ahead of the replies. It prints within which rectangle something moved, and writes
-FOLDER/camera.png: the pictures with that rectangle, and below each what moved since the one before.
+pixel, and finds the rectangle around it. The delay is registered with the graph, so that each run
+ages it. The virtual images between the nodes can be read by nobody, and are forgotten after each
+run. Pictures of a ball that flies past a lamp in a noisy room are sent ahead of the replies. It
+prints within which rectangle something moved, and writes FOLDER/camera.png: the pictures with that
+rectangle, and below each what moved since the one before.
 """
 
 import random
@@ -55,6 +56,7 @@ def watch(context: vx.Context) -> List[Seen]:
     graph.threshold(difference, context.threshold(vx.U8, above=24), moved)
     graph.dilate3x3(moved, found, border=vx.REPLICATE)
     bounds = add_bounds(graph, found, WIDTH, HEIGHT)
+    graph.register_auto_aging(smooth)
     graph.verify()
     asked = []
     with context.pipeline() as ahead:
@@ -63,7 +65,6 @@ def watch(context: vx.Context) -> List[Seen]:
             graph.process()
             asked.append((ahead.read(camera), ahead.read(found),
                           [ahead.read(extremes) for extremes in bounds]))
-            smooth.age()
     return [Seen(picture.value(), marks.value(),
                  rectangle_of([found.value() for found in extremes], WIDTH))
             for picture, marks, extremes in asked]

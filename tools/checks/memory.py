@@ -34,6 +34,10 @@ QUOTA = 256 * MIB
 LONGEST_SIDE = 512
 # How many images and delays a client holds, about.
 HELD = 24
+# How many delays are registered with one graph, each of which is gone before the next; and what the
+# server may take for that.
+REGISTERED = 60_000
+FOR_REGISTERED = 128 * 1024
 # What the server has beside samples: itself, the frame and the reply that it is at, objects, and
 # what the allocator doesn't give back.
 BESIDE = 16 * MIB
@@ -153,6 +157,26 @@ def rising(program: str) -> str:
     bound = KEPT * sum(SAMPLE_BYTES.values()) + BESIDE
     told = f"{in_mib(taken)} after images of rising sizes, at most {in_mib(bound)}"
     check(taken <= bound, told)
+    return told
+
+
+def registered(program: str) -> str:
+    """Delays that were registered with a graph and are gone."""
+    with serving(program, QUOTA) as server:
+        server.ask(wire.open_context(1))
+        image = server.create(wire.create_image(1, wire.U8, 1, 1))
+        graph = server.create(wire.create_graph(1))
+        at_first = 0
+        for at in range(REGISTERED):
+            delay = server.create(wire.create_delay(1, image, 1))
+            server.ask(wire.register_auto_aging(1, graph, delay))
+            server.ask(wire.release(1, delay))
+            at_first = server.memory("VmRSS") if at == 100 else at_first
+        server.ask(wire.process_graph(1, graph))
+        taken = server.memory("VmRSS") - at_first
+    told = (f"{in_mib(taken)} for {REGISTERED} registered delays that are gone, at most "
+            f"{in_mib(FOR_REGISTERED)}")
+    check(taken <= FOR_REGISTERED, told)
     return told
 
 
@@ -295,4 +319,5 @@ def soak(program: str) -> str:
 def main() -> None:
     check(len(sys.argv) == 2, "usage: tools/check_memory PROGRAM")
     program = os.path.abspath(sys.argv[1])
-    print(f"check_memory: {small_in_great(program)}; {rising(program)}; {soak(program)}")
+    print(f"check_memory: {small_in_great(program)}; {rising(program)}; {registered(program)}; "
+          f"{soak(program)}")

@@ -39,7 +39,8 @@ static const char *const OP_NAMES[] = {[OPEN_CONTEXT] = "OpenContext",
                                        [PROCESS_GRAPH] = "ProcessGraph",
                                        [IMMEDIATE] = "Immediate",
                                        [CREATE_DELAY] = "CreateDelay",
-                                       [AGE_DELAY] = "AgeDelay"};
+                                       [AGE_DELAY] = "AgeDelay",
+                                       [REGISTER_AUTO_AGING] = "RegisterAutoAging"};
 
 vx_status lost(vx_context context) {
     char words[VX_MAX_LOG_MESSAGE_LEN];

@@ -81,6 +81,19 @@ PUBLIC vx_status VX_API_CALL vxAgeDelay(vx_delay delay) {
     return leave(context, ask_named(context, AGE_DELAY, delay->base.name));
 }
 
+PUBLIC vx_status VX_API_CALL vxRegisterAutoAging(vx_graph graph, vx_delay delay) {
+    uint8_t body[8];
+    vx_context context = enter(graph, VX_TYPE_GRAPH);
+    if (context == NULL)
+        return VX_ERROR_INVALID_REFERENCE;
+    vx_status status = check(context, delay, VX_TYPE_DELAY);
+    if (status == VX_SUCCESS) {
+        put32(put32(body, graph->base.name), delay->base.name);
+        status = ask(context, REGISTER_AUTO_AGING, body, sizeof body, NULL, 0);
+    }
+    return leave(context, status);
+}
+
 PUBLIC vx_status VX_API_CALL vxQueryDelay(vx_delay delay, vx_enum attribute, void *ptr,
                                           vx_size size) {
     const vx_enum item = VX_TYPE_IMAGE;

@@ -39,7 +39,8 @@ enum op {
     PROCESS_GRAPH = 23,
     IMMEDIATE = 24,
     CREATE_DELAY = 25,
-    AGE_DELAY = 26
+    AGE_DELAY = 26,
+    REGISTER_AUTO_AGING = 27
 };
 
 /* ---- connection.c: requests and replies ---- */

@@ -126,6 +126,7 @@ static void fail_after_the_end(void) {
     FAILS(vxCopyDistribution(distribution, counts, VX_READ_ONLY, VX_MEMORY_TYPE_HOST));
     FAILS(vxuHistogram(context, a, distribution));
     FAILS(vxAgeDelay(delay));
+    FAILS(vxRegisterAutoAging(graph, delay));
     FAILS(vxVerifyGraph(graph));
     FAILS(vxProcessGraph(graph));
     FAILS(vxScheduleGraph(graph));

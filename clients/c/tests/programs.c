@@ -77,6 +77,59 @@ static void use_delay(vx_context context) {
     EXPECT(VX_SUCCESS, vxReleaseImage(&picture));
 }
 
+static void fill(vx_image image, vx_uint8 sample) {
+    vx_uint8 samples[COUNT];
+    memset(samples, sample, COUNT);
+    EXPECT(VX_SUCCESS, copy_whole(image, WIDTH, HEIGHT, 1, samples, VX_WRITE_ONLY));
+}
+
+static vx_uint8 first_sample(vx_image image) {
+    vx_uint8 found[COUNT];
+    EXPECT(VX_SUCCESS, copy_whole(image, WIDTH, HEIGHT, 1, found, VX_READ_ONLY));
+    return found[0];
+}
+
+/* A delay that was released ages as long as a node uses it; its slot -1 holds a sample. */
+static void age_released(vx_graph graph, vx_delay *delay, vx_image copy, vx_uint8 sample) {
+    vx_image before = (vx_image)vxGetReferenceFromDelay(*delay, -1);
+    EXPECT(VX_SUCCESS, STATUS(vxNotNode(graph, before, copy)));
+    EXPECT(VX_SUCCESS, vxReleaseDelay(delay));
+    for (int turn = 0; turn < 4; turn++) {
+        EXPECT(VX_SUCCESS, vxProcessGraph(graph));
+        CHECK(first_sample(copy) == (turn % 2 ? sample : 255 - sample));
+    }
+}
+
+/* Runs that age a delay by themselves, by either call, and by a graph without nodes. */
+static void age_after_runs(vx_context context) {
+    vx_image copy = vxCreateImage(context, WIDTH, HEIGHT, VX_DF_IMAGE_U8);
+    vx_delay delay = vxCreateDelay(context, (vx_reference)copy, 2);
+    vx_image now = (vx_image)vxGetReferenceFromDelay(delay, 0);
+    vx_image before = (vx_image)vxGetReferenceFromDelay(delay, -1);
+    vx_graph graph = vxCreateGraph(context), other = vxCreateGraph(context);
+    vx_node node = vxNotNode(graph, before, now);
+    fill(now, 10);
+    fill(before, 20);
+    EXPECT(VX_SUCCESS, vxVerifyGraph(graph));
+    EXPECT(VX_SUCCESS, vxRegisterAutoAging(graph, delay));
+    EXPECT(VX_SUCCESS, vxRegisterAutoAging(graph, delay));
+    CHECK(vxIsGraphVerified(graph));
+    EXPECT(VX_SUCCESS, vxProcessGraph(graph));
+    CHECK(first_sample(now) == 20 && first_sample(before) == 235);
+    EXPECT(VX_SUCCESS, vxScheduleGraph(graph));
+    EXPECT(VX_SUCCESS, vxWaitGraph(graph));
+    CHECK(first_sample(now) == 235 && first_sample(before) == 20);
+    EXPECT(VX_SUCCESS, vxRemoveNode(&node));
+    EXPECT(VX_SUCCESS, vxRegisterAutoAging(other, delay));
+    EXPECT(VX_SUCCESS, vxProcessGraph(other));
+    CHECK(first_sample(now) == 20 && first_sample(before) == 235);
+    age_released(graph, &delay, copy, 235);
+    EXPECT(VX_SUCCESS, vxReleaseGraph(&graph));
+    EXPECT(VX_SUCCESS, vxProcessGraph(other));
+    EXPECT(VX_SUCCESS, vxReleaseGraph(&other));
+    EXPECT(VX_SUCCESS, vxReleaseImage(&copy));
+}
+
 /* Maps a part to write, and reads it with room between the samples; and U32 sums. */
 static void map_parts(vx_context context) {
     vx_image image = vxCreateImage(context, WIDTH, HEIGHT, VX_DF_IMAGE_S16);
@@ -179,6 +232,7 @@ int main(void) {
     EXPECT(VX_SUCCESS, STATUS(context));
     find_edge(context);
     use_delay(context);
+    age_after_runs(context);
     map_parts(context);
     use_large_pictures(context);
     run_many_ahead(context);

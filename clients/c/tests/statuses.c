@@ -75,11 +75,30 @@ static void refuse_functions(void) {
     CHECK(lower.U8 == 255 && upper.U8 == 0);
 }
 
+static void refuse_registrations(vx_graph graph) {
+    vx_delay delay = vxCreateDelay(context, (vx_reference)u8, 2);
+    vx_delay stranger = vxCreateDelay(foreign, (vx_reference)wanderer, 2);
+    vx_delay gone = delay;
+    EXPECT(VX_SUCCESS, vxRegisterAutoAging(graph, delay));
+    EXPECT(VX_SUCCESS, vxRegisterAutoAging(graph, delay));
+    EXPECT(VX_ERROR_INVALID_REFERENCE, vxRegisterAutoAging(NULL, delay));
+    EXPECT(VX_ERROR_INVALID_REFERENCE, vxRegisterAutoAging(graph, NULL));
+    EXPECT(VX_ERROR_INVALID_REFERENCE, vxRegisterAutoAging((vx_graph)delay, delay));
+    EXPECT(VX_ERROR_INVALID_REFERENCE, vxRegisterAutoAging(graph, (vx_delay)graph));
+    EXPECT(VX_ERROR_INVALID_REFERENCE, vxRegisterAutoAging(graph, (vx_delay)u8));
+    EXPECT(VX_ERROR_INVALID_SCOPE, vxRegisterAutoAging(graph, stranger));
+    EXPECT(VX_SUCCESS, vxReleaseDelay(&delay));
+    EXPECT(VX_ERROR_INVALID_REFERENCE, vxRegisterAutoAging(graph, gone));
+    EXPECT(VX_SUCCESS, vxReleaseDelay(&stranger));
+    EXPECT(VX_SUCCESS, vxProcessGraph(graph));
+}
+
 static void refuse_graphs(void) {
     vx_graph graph = vxCreateGraph(context), other = vxCreateGraph(context);
     vx_image virtual_image = vxCreateVirtualImage(graph, 0, 0, VX_DF_IMAGE_VIRT);
     vx_rectangle_t rect;
     vx_df_image format;
+    refuse_registrations(graph);
     EXPECT(VX_SUCCESS, vxQueryImage(virtual_image, VX_IMAGE_FORMAT, &format, sizeof format));
     CHECK(format == VX_DF_IMAGE_VIRT);
     EXPECT(VX_ERROR_OPTIMIZED_AWAY, vxGetValidRegionImage(virtual_image, &rect));

@@ -153,7 +153,7 @@ static vx_status use_object(void) {
     vx_imagepatch_addressing_t mapped;
     vx_map_id map = below(3);
     void *where;
-    switch (below(14)) {
+    switch (below(15)) {
     case 0:
         return vxCopyImagePatch(image(), below(9) ? &rect : NULL, 0, &addr, memory,
                                 any_enum(), VX_MEMORY_TYPE_HOST);
@@ -176,6 +176,8 @@ static vx_status use_object(void) {
         return vxWaitGraph(graph());
     case 9:
         return vxAgeDelay(delay());
+    case 13:
+        return vxRegisterAutoAging(graph(), delay());
     case 10:
         return vxSetNodeAttribute(node(), any_enum(), memory, sizeof(vx_border_t));
     case 11:

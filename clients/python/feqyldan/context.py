@@ -176,7 +176,7 @@ class Context(Uncopied):
     def delay(self, exemplar: AnyImage, slots: int) -> Delay:
         """From 1 to 16 slots of new images, of the format and the size of this one, whose samples
         aren't used."""
-        self._look_at("delay", exemplar)
+        self.look_at("delay", exemplar)
         count = within(slots, "the number of a delay's slots", BYTE, "a whole number from 1 to 16")
         words = f"create a delay of {count} slots like {exemplar}"
         return Delay(self, self.create(words, wire.create_delay, exemplar.reference, count),
@@ -247,10 +247,10 @@ class Context(Uncopied):
 
     def references_of(self, call: Call) -> List[Optional[bytes]]:
         """By which a frame names the operands of a call, each None where it is absent."""
-        self._look_at(call.name, *call.operands, words=call)
+        self.look_at(call.name, *call.operands, words=call)
         return [None if operand is None else operand.reference for operand in call.operands]
 
-    def _look_at(self, what: str, *operands: Any, words: object = None) -> None:
+    def look_at(self, what: str, *operands: Any, words: object = None) -> None:
         """Refuses what is no object, and objects of another context."""
         for operand in operands:
             if not isinstance(operand, (AnyImage, Named, type(None))):

@@ -8,7 +8,7 @@ from typing import TYPE_CHECKING, Callable, Optional, Tuple
 from . import wire
 from .errors import Refused
 from .functions import Call, Functions
-from .objects import Asked, Description, Named, Rectangle, description_of, in_words
+from .objects import Asked, Delay, Description, Named, Rectangle, description_of, in_words
 from .samples import format_of
 from .uncopied import Uncopied
 from .verdicts import Member, explained, member_of
@@ -104,6 +104,19 @@ class Graph(Named, Functions[Node]):
         """Runs each node once, after those whose outputs it reads. Where one is refused, nothing
         has run."""
         self._judge("process", wire.process_graph)
+
+    def register_auto_aging(self, delay: Delay) -> None:
+        """
+        From then on each process() that succeeds ages the delay once, after the run; registered
+        again it is still aged once. A delay may be registered with several graphs, each of which
+        ages it. The graph doesn't keep the delay: one that was closed, or that Python forgets, goes
+        on ageing as long as a node uses it.
+        """
+        if not isinstance(delay, Delay):
+            raise TypeError(f"register_auto_aging takes a delay, and no {type(delay).__name__}")
+        words = f"register {delay} for auto-aging with {self}"
+        self.context.look_at(words, delay)
+        self.context.tell(words, wire.register_auto_aging, self.name, delay.name)
 
     def remove(self, node: Node) -> None:
         """Takes a node out, as Node.remove() does."""

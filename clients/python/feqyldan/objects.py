@@ -279,7 +279,8 @@ class Delay(Named):
         return (Slot(self, -k) for k in range(self._slots))
 
     def age(self) -> None:
-        """Moves each image on by one slot: slot 0 to -1, and so on, and the last one to 0."""
+        """Moves each image on by one slot: slot 0 to -1, and so on, and the last one to 0.
+        Graph.register_auto_aging() has that done after each run of a graph."""
         self.context.tell(f"age {self}", wire.age_delay, self.name)
 
 

@@ -45,6 +45,7 @@ class Op(IntEnum):
     IMMEDIATE = 24
     CREATE_DELAY = 25
     AGE_DELAY = 26
+    REGISTER_AUTO_AGING = 27
 
 
 class Function(IntEnum):
@@ -150,6 +151,7 @@ PROCESS_GRAPH = Op.PROCESS_GRAPH
 IMMEDIATE = Op.IMMEDIATE
 CREATE_DELAY = Op.CREATE_DELAY
 AGE_DELAY = Op.AGE_DELAY
+REGISTER_AUTO_AGING = Op.REGISTER_AUTO_AGING
 AND_BITS = Function.AND_BITS
 OR_BITS = Function.OR_BITS
 XOR_BITS = Function.XOR_BITS
@@ -359,6 +361,11 @@ def create_delay(client: int, exemplar: Reference, slots: int) -> bytes:
 
 def age_delay(client: int, name: int) -> bytes:
     return frame(client, AGE_DELAY, struct.pack(">I", name))
+
+
+def register_auto_aging(client: int, graph: int, delay: int) -> bytes:
+    """From then on each successful run of the graph ages the delay."""
+    return frame(client, REGISTER_AUTO_AGING, struct.pack(">II", graph, delay))
 
 
 def node(

@@ -87,6 +87,71 @@ class TestGraphs(ProgramTest):
             self.holds(self.target, [[wanted] * 6])
             camera.age()
 
+    def slots_hold(self, delay, *samples):
+        self.assertEqual([slot.read().tolist() for slot in delay],
+                         [[[sample] * slot.width] for slot, sample in zip(delay, samples)])
+
+    def test_delays_that_age_by_themselves(self):
+        delay = self.context.delay(self.context.image(U8, 1, 1), 2)
+        for slot, sample in zip(delay, (10, 20)):
+            slot.write([[sample]])
+        self.graph.not_(delay[-1], delay[0])
+        self.graph.verify()
+        for _ in range(2):
+            self.graph.register_auto_aging(delay)
+        self.slots_hold(delay, 10, 20)
+        self.graph.process()
+        self.slots_hold(delay, 20, 235)
+        self.graph.process()
+        self.slots_hold(delay, 235, 20)
+        self.graph.not_(delay[0], delay[-1])
+        self.assertRaises(vx.InvalidGraph, self.graph.process)
+        self.assertRaises(vx.InvalidGraph, self.graph.verify)
+        self.slots_hold(delay, 235, 20)
+
+    def test_a_delay_ages_by_several_graphs(self):
+        delay = self.context.delay(self.context.image(U8, 1, 1), 3)
+        for slot, sample in zip(delay, (1, 2, 3)):
+            slot.write([[sample]])
+        graphs = self.graph, self.context.graph()
+        with self.context.pipeline():
+            for graph in graphs:
+                graph.register_auto_aging(delay)
+            for graph in graphs:
+                graph.process()
+        self.slots_hold(delay, 2, 3, 1)
+        graphs[1].close()
+        graphs[0].process()
+        self.slots_hold(delay, 1, 2, 3)
+
+    def test_a_delay_that_python_forgets_ages_as_long_as_a_node_uses_it(self):
+        delay = self.context.delay(self.source, 3)
+        for slot, sample in zip(delay, (1, 2, 3)):
+            slot.write([[sample] * 6])
+        self.graph.not_(delay[-1], self.target)
+        self.graph.register_auto_aging(delay)
+        self.graph.register_auto_aging(self.context.delay(self.source, 2))
+        del delay, slot
+        gc.collect()
+        for wanted in (253, 254, 252, 253):
+            self.graph.process()
+            self.holds(self.target, [[wanted] * 6])
+
+    def test_what_isnt_registered(self):
+        delay = self.context.delay(self.source, 2)
+        for wrong in (self.source, delay[0], self.graph, 3, None):
+            with self.assertRaisesRegex(TypeError, "register_auto_aging takes a delay, and no"):
+                self.graph.register_auto_aging(wrong)
+        with self.server.context() as other:
+            foreign = other.delay(other.image(U8, 1, 1), 2)
+            with self.assertRaisesRegex(vx.InvalidScope, "register .* is of another context"):
+                self.graph.register_auto_aging(foreign)
+        delay.close()
+        with self.assertRaises(vx.InvalidReference) as caught:
+            self.graph.register_auto_aging(delay)
+        self.assertEqual(caught.exception.request,
+                         "register closed delay 4 (U8, 6 by 1) for auto-aging with graph 3")
+
     def test_close(self):
         for _ in range(600):
             with self.context.graph() as graph:

@@ -76,6 +76,7 @@ fn request_on_graphs(number: u8) -> Option<Request> {
         23 => Some(Request::RemoveNode(3, 258)),
         24 => Some(Request::VerifyGraph(258)),
         25 => Some(Request::ProcessGraph(16_777_216)),
+        26 => Some(Request::RegisterAutoAging(258, 65_536)),
         _ => None,
     }
 }
@@ -98,7 +99,7 @@ fn node() -> Option<NodeSpec> {
     })
 }
 
-const FRAMES: [&[u8]; 26] = [
+const FRAMES: [&[u8]; 27] = [
     b"\0\0\0\x03\x01\x02\x01",
     b"\0\0\0\x08\x01\x02\x03\x03\x10\0\0\x02",
     b"\0\0\0\x08\x01\x02\x07\0\0\0\x07\xfe",
@@ -127,6 +128,7 @@ const FRAMES: [&[u8]; 26] = [
     b"\0\0\0\x0b\x01\x02\x15\0\0\0\x03\0\0\x01\x02",
     b"\0\0\0\x07\x01\x02\x16\0\0\x01\x02",
     b"\0\0\0\x07\x01\x02\x17\x01\0\0\0",
+    b"\0\0\0\x0b\x01\x02\x1b\0\0\x01\x02\0\x01\0\0",
 ];
 
 /// Whether a request is written to these bytes.

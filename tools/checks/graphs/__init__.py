@@ -1,6 +1,9 @@
 """Sessions on graphs and virtual images, written from docs/wire.md."""
 
 from feqyldan.wire import ADD, NO_RESOURCES, U8, node
+from checks.graphs.ageing import (
+    refusals_of_registrations, registrations, registrations_in_rows, registrations_of_clients,
+    registrations_of_several, registrations_of_the_released, released_after_a_run)
 from checks.graphs.cast import inverse
 from checks.graphs.held import (
     graphs_of_clients, places_of_objects, released_graphs, released_objects)
@@ -48,6 +51,13 @@ def sessions():
     yield "valid rectangles in graphs", valid_in_graphs()
     yield "details", details()
     yield "graphs on delays", graphs_on_delays()
+    yield "delays that age by themselves", registrations()
+    yield "delays that age by several graphs", registrations_of_several()
+    yield "delays of rows that age by themselves", registrations_in_rows()
+    yield "released delays that age by themselves", released_after_a_run()
+    yield "refusals of delays that age by themselves", refusals_of_registrations()
+    yield "delays of clients that age by themselves", registrations_of_clients()
+    yield "1,024 objects, and delays that age by themselves", registrations_of_the_released()
     yield "graphs in reused buffers", reused_buffers()
     yield "an image that is read twice", image_read_twice()
     yield "nodes that are removed", removed_nodes()

@@ -7,6 +7,7 @@ import tempfile
 from typing import Iterator, List, Set, Tuple
 
 from feqyldan import wire
+from checks.graphs.ageing import aged_after_each_run
 from checks.graphs.limits import under_quotas
 from checks.graphs.worked import (
     graph_before_and_after_ageing, image_read_twice, reused_buffers)
@@ -30,6 +31,7 @@ def streams() -> Iterator[Tuple[str, int, List[bytes]]]:
     quota, rows = next(under_quotas())
     for words, limit, of in (
         ("with a graph on a delay", DEFAULT, graph_before_and_after_ageing()),
+        ("with a delay that ages by itself", DEFAULT, aged_after_each_run()),
         ("with an image that is read twice", DEFAULT, image_read_twice()),
         ("with reused buffers", DEFAULT, reused_buffers()), ("under a small quota", quota, rows),
         ("of nodes by themselves", DEFAULT, nodes_that_run()),
@@ -56,7 +58,8 @@ def main() -> None:
             told.append(f"{words} {first} growths before the stream, {len(lost)} in it, which "
                         f"lose {len(set(lost))} of {len(stream)} frames in turn, and {without} "
                         "that it does without")
-        unlost = {int(wire.ADD_NODE), int(wire.VERIFY_GRAPH), int(wire.PROCESS_GRAPH)} - ops
+        unlost = {int(wire.ADD_NODE), int(wire.VERIFY_GRAPH), int(wire.PROCESS_GRAPH),
+                  int(wire.REGISTER_AUTO_AGING)} - ops
         check(not unlost, f"no frame of op {unlost} was lost")
         applied, without = refuse_in_apply(program, shim, count_file)
     print(f"refused_growths: {'; '.join(told)}; {applied} of apply, which does without {without}")

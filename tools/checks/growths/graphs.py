@@ -28,7 +28,7 @@ RUNS = [
 
 def graphs() -> List[bytes]:
     """A client with two graphs, which run through virtual images and slots to two outputs, counts
-    and extremes."""
+    and extremes, and age delays."""
     return [
         *objects(),
         *nodes(),
@@ -46,6 +46,7 @@ def graphs() -> List[bytes]:
         wire.verify_graph(3, 8),
         *RUNS,
         *another_graph(),
+        *registrations(),
         wire.create_graph(3),
         wire.create_image(3, wire.U8, 16, 4),
         *READS,
@@ -91,6 +92,25 @@ def nodes() -> List[bytes]:
         wire.add_node(3, 8, wire.MIN_MAX_LOCATION, 10, None, 7),
         wire.add_node(3, 8, wire.NOT_BITS, 99, None, 4),
         wire.add_node(3, 8, wire.NOT_BITS, 4, None, 8),
+    ]
+
+
+def registrations() -> List[bytes]:
+    """The second graph ages the delay, and others, so many that what it keeps of them grows more
+    than once; some of them are gone when the last is registered."""
+    return [
+        wire.register_auto_aging(3, 12, 5),
+        wire.register_auto_aging(3, 12, 5),
+        wire.process_graph(3, 12),
+        *READS,
+        *(request for name in range(14, 26) for request in (
+            wire.create_delay(3, 2, 1), wire.register_auto_aging(3, 12, name))),
+        wire.process_graph(3, 12),
+        *(wire.release(3, name) for name in range(14, 20)),
+        wire.create_delay(3, 2, 1),
+        wire.register_auto_aging(3, 12, 26),
+        wire.process_graph(3, 12),
+        *READS,
     ]
 
 

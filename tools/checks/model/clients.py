@@ -17,14 +17,14 @@ from checks.model.requests import (
     add_node, age_delay, create_convolution, create_delay, create_distribution, create_graph,
     create_image, create_lut, create_min_max, create_threshold, create_virtual_image, immediate,
     open_context, process_graph, query_image, read_distribution, read_image, read_image_pgm,
-    read_min_max, release, release_context, remove_node, set_valid, take_node, verify_graph,
-    write_image, write_image_pgm)
+    read_min_max, register_auto_aging, release, release_context, remove_node, set_valid, take_node,
+    verify_graph, write_image, write_image_pgm)
 from checks.model.state import (
     ADD_NODE, AGE_DELAY, CREATE_CONVOLUTION, CREATE_DELAY, CREATE_DISTRIBUTION, CREATE_GRAPH,
     CREATE_IMAGE, CREATE_LUT, CREATE_MIN_MAX, CREATE_THRESHOLD, CREATE_VIRTUAL_IMAGE, IMMEDIATE,
     LIMITS, OPEN_CONTEXT, PROCESS_GRAPH, QUERY_IMAGE, READ_DISTRIBUTION, READ_IMAGE, READ_IMAGE_PGM,
-    READ_MIN_MAX, RELEASE, RELEASE_CONTEXT, REMOVE_NODE, SET_VALID, STANDING, VERIFY_GRAPH,
-    WRITE_IMAGE, WRITE_IMAGE_PGM, Refused, State, refuse_if)
+    READ_MIN_MAX, REGISTER_AUTO_AGING, RELEASE, RELEASE_CONTEXT, REMOVE_NODE, SET_VALID, STANDING,
+    VERIFY_GRAPH, WRITE_IMAGE, WRITE_IMAGE_PGM, Refused, State, refuse_if)
 
 # What takes the values of a body's fields; what the request comes to, of the limits, the client's
 # state and these values; and the codes that it can be answered with.
@@ -79,6 +79,7 @@ REQUESTS = {
                        PICTURE_CODES | {MULTIPLE_WRITERS, INVALID_GRAPH}),
     CREATE_DELAY: Request(each(take_cell, take_slots), create_delay, IMAGE_CODES | {NO_RESOURCES}),
     AGE_DELAY: Request(each(take_name), age_delay, TYPE_CODES),
+    REGISTER_AUTO_AGING: Request(each(take_name, take_name), register_auto_aging, TYPE_CODES),
 }
 
 

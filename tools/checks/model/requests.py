@@ -253,9 +253,10 @@ def add_node(limits, state, name, node):
     context, cell = state.context, Cell(name, NO_SLOT)
     refuse_first(ADD_NODE_REFUSALS,
                  [Operand(cell, found(context, cell), Graph), *operands_of(context, node)])
-    number, nodes = held(context, cell)
+    graph = held(context, cell)
+    number, nodes = graph.next_number, graph.nodes
     refuse_if(len(nodes) >= limits.nodes or number > limits.numbers, NO_RESOURCES)
-    put(context, cell, Graph(number + 1, {**nodes, number: node}))
+    put(context, cell, graph._replace(next_number=number + 1, nodes={**nodes, number: node}))
     return struct.pack(">I", number)
 
 
@@ -294,7 +295,9 @@ def verify_graph(limits, state, name):
 
 
 def process_graph(limits, state, name):
-    return run_nodes(limits, state.context, nodes_of(state, name))
+    body = run_nodes(limits, state.context, nodes_of(state, name))
+    age_registered(state.context, name)
+    return body
 
 
 def immediate(limits, state, node):
@@ -312,3 +315,23 @@ def create_delay(limits, state, cell, slots):
 def age_delay(_, state, name):
     state.context.objects[name] = aged(object_of(state.context, name, Delay))
     return b""
+
+
+REGISTER_REFUSALS = ((names_nothing, INVALID_REFERENCE), (is_of_other_kind, INVALID_TYPE))
+
+
+def register_auto_aging(_, state, name, delay):
+    context, cell = state.context, Cell(name, NO_SLOT)
+    refuse_first(REGISTER_REFUSALS,
+                 [Operand(of, found(context, of), kind)
+                  for of, kind in ((cell, Graph), (Cell(delay, NO_SLOT), Delay))])
+    graph = held(context, cell)
+    put(context, cell, graph._replace(delays=graph.delays | {delay}))
+    return b""
+
+
+def age_registered(context, name):
+    """After a run of the graph of that name: each of its delays that is still held ages once."""
+    for delay in context.objects[name].delays:
+        if delay in context.objects:
+            context.objects[delay] = aged(context.objects[delay])

@@ -7,7 +7,7 @@ from checks.model.graphs import cells_of
 
 # The ops that the program knows. Every other is answered INVALID_PARAMETERS, also where it has a
 # row in REQUESTS.
-STANDING = {*range(1, 27)}
+STANDING = {*range(1, 28)}
 
 OPEN_CONTEXT, RELEASE_CONTEXT, CREATE_IMAGE, QUERY_IMAGE, WRITE_IMAGE = 1, 2, 3, 4, 5
 WRITE_IMAGE_PGM = 6
@@ -16,7 +16,7 @@ CREATE_CONVOLUTION, CREATE_DISTRIBUTION, READ_DISTRIBUTION = 13, 14, 15
 CREATE_MIN_MAX, READ_MIN_MAX = 16, 17
 CREATE_GRAPH, CREATE_VIRTUAL_IMAGE, ADD_NODE, REMOVE_NODE = 18, 19, 20, 21
 VERIFY_GRAPH, PROCESS_GRAPH = 22, 23
-IMMEDIATE, CREATE_DELAY, AGE_DELAY = 24, 25, 26
+IMMEDIATE, CREATE_DELAY, AGE_DELAY, REGISTER_AUTO_AGING = 24, 25, 26, 27
 
 # What one client may hold: sample bytes of its images and its delays, objects and graphs, and the
 # greatest name. What one graph may have: sample bytes of the virtual images that it writes, nodes,
@@ -44,9 +44,10 @@ def refuse_if(applies, code):
 Cell = namedtuple("Cell", "name slot")
 NO_SLOT = 255
 
-# The nodes by their numbers, in the order of adding.
-Graph = namedtuple("Graph", "next_number nodes")
-NO_NODES = Graph(1, {})
+# The nodes by their numbers, in the order of adding; and the names of the delays that were
+# registered to age after its runs, some of which may be gone.
+Graph = namedtuple("Graph", "next_number nodes delays")
+NO_NODES = Graph(1, {}, frozenset())
 
 
 class Context:

@@ -6,7 +6,7 @@ from feqyldan.wire import (
     SOBEL, U8)
 from checks.sessions.rows import (
     CLIENT, CREATES, EXTREMES, NOTHING_FOUND, SAME, THIRDS, closed, confined, counted, delayed,
-    found, holds, made, name, on_graph, on_image, opened, ran, wrote)
+    found, graph, holds, made, name, on_graph, on_image, opened, ran, registered, wrote)
 
 
 def on_objects():
@@ -14,7 +14,7 @@ def on_objects():
     return (*on_image(1), *on_graph(1), wire.bitwise_not(CLIENT, 1, 2),
             wire.immediate(CLIENT, SOBEL, 1, None, None, out2=2), wire.release(CLIENT, 1),
             wire.read_distribution(CLIENT, 1), wire.read_min_max(CLIENT, 1),
-            wire.age_delay(CLIENT, 1))
+            wire.age_delay(CLIENT, 1), wire.register_auto_aging(CLIENT, 2, 1))
 
 
 def clients_have_their_own():
@@ -56,10 +56,12 @@ def contexts_released():
     clients keep theirs."""
     return [
         closed(8, INVALID_REFERENCE), opened(), opened(8), made(1, U8), made(2, S16),
-        delayed(3, 1, 2), made(1, U8, client=8), wrote(1, U8, [20], client=8),
+        delayed(3, 1, 2), graph(4), registered(4, 3), made(1, U8, client=8),
+        wrote(1, U8, [20], client=8),
         closed(), closed(wanted=INVALID_REFERENCE),
         *((request, INVALID_REFERENCE)
-          for request in (*CREATES, *on_objects(), wire.age_delay(CLIENT, 3))),
+          for request in (*CREATES, *on_objects(), wire.age_delay(CLIENT, 3),
+                          wire.register_auto_aging(CLIENT, 4, 3))),
         holds(1, U8, [20], client=8),
         opened(), (wire.read_image(CLIENT, 1), INVALID_REFERENCE),
         (wire.open_context(CLIENT), INVALID_VALUE), made(1, S16), holds(1, S16, [0]),

@@ -108,6 +108,11 @@ def aged(number: int, wanted: Wanted = b"", client: int = CLIENT) -> Row:
     return (wire.age_delay(client, number), wanted)
 
 
+def registered(of: int, delay: int, wanted: Wanted = b"", client: int = CLIENT) -> Row:
+    """A delay that ages after the runs of a graph."""
+    return (wire.register_auto_aging(client, of, delay), wanted)
+
+
 def in_slots(row: Callable[..., Row], number: int, fmt: int, samples: Sequence[int],
              client: int = CLIENT) -> List[Row]:
     """The row for each slot of a delay of images of one sample, from slot 0 on."""
@@ -216,8 +221,8 @@ def on_image(named: Reference) -> Tuple[bytes, ...]:
 
 
 def on_graph(of: int) -> Tuple[bytes, ...]:
-    """Requests that name a graph, and but AddNode nothing else."""
+    """Requests that name a graph, and but AddNode and RegisterAutoAging nothing else."""
     return (
         wire.create_virtual_image(CLIENT, of), wire.add_node(CLIENT, of, wire.NOT_BITS, 1, None, 2),
         wire.remove_node(CLIENT, of, 1), wire.verify_graph(CLIENT, of),
-        wire.process_graph(CLIENT, of))
+        wire.process_graph(CLIENT, of), wire.register_auto_aging(CLIENT, of, 1))

@@ -314,6 +314,14 @@ def age_delay(draw):
     return [long(draw.name(model.Delay))]
 
 
+def register_auto_aging(draw):
+    """Mostly a graph and a delay; else with something else in the place of one of them or both."""
+    kinds = draw.pick([(model.Graph, model.Delay)] * 6 + [
+        (model.Delay, model.Graph), (object, model.Delay), (model.Graph, object),
+        (object, object)])
+    return [long(draw.no_name() if draw.chance(0.12) else draw.name(kind)) for kind in kinds]
+
+
 def create_virtual_image(draw):
     return [long(draw.name(model.Graph)), *draw.declared()]
 
@@ -322,7 +330,8 @@ def remove_node(draw):
     """Mostly a node that is in the graph; else one that isn't any more, or not yet."""
     name = draw.name(model.Graph)
     graph = draw.live().get(name)
-    following, nodes = graph if isinstance(graph, model.Graph) else model.NO_NODES
+    graph = graph if isinstance(graph, model.Graph) else model.NO_NODES
+    following, nodes = graph.next_number, graph.nodes
     others = 0, 2**32 - 1, following, following + 1, draw.rng.randint(1, following)
     return [long(name), long(draw.pick(nodes) if nodes and draw.chance(0.7) else draw.pick(others))]
 

@@ -87,6 +87,11 @@ class Draw:
         cells = [pair for name, thing in self.objects() for pair in cells_of(name, thing)]
         return [(cell, thing) for cell, thing in cells if isinstance(thing, kind)]
 
+    def slots_of(self, names):
+        """The cells of the slots of delays by these names."""
+        return [cell for cell, _ in self.cells(model.Image)
+                if cell.name in names and cell.slot != model.NO_SLOT]
+
     def fmt(self, allowed=(U8, S16, U32)):
         if self.chance(0.03):
             return self.pick((0, 3, 4, 255))

@@ -7,7 +7,7 @@ from feqyldan.wire import S16, U32, U8
 from checks import model
 from checks.model.state import (
     ADD_NODE, CREATE_CONVOLUTION, CREATE_DELAY, CREATE_GRAPH, CREATE_IMAGE, CREATE_VIRTUAL_IMAGE,
-    IMMEDIATE, OPEN_CONTEXT, PROCESS_GRAPH, RELEASE, REMOVE_NODE, WRITE_IMAGE)
+    IMMEDIATE, OPEN_CONTEXT, PROCESS_GRAPH, REGISTER_AUTO_AGING, RELEASE, REMOVE_NODE, WRITE_IMAGE)
 from checks.streams import nodes as random_nodes
 from checks.streams.draw import byte, is_large, long
 from checks.streams.requests import FEW, MANY
@@ -28,7 +28,8 @@ def mixed(stream):
 
 
 def hold_by_graphs(stream, client):
-    """Images and a virtual image that some graphs hold, and nothing else does."""
+    """Images and a virtual image that some graphs hold, and nothing else does; and delays that are
+    gone, though they were registered with these graphs."""
     for _ in range(3):
         for op, body in ((CREATE_IMAGE, struct.pack(">BHH", U8, 2, 1)),
                          (CREATE_IMAGE, struct.pack(">BHH", U8, 2, 1)),
@@ -39,7 +40,9 @@ def hold_by_graphs(stream, client):
         for cells in ((graph - 2, graph + 1), (graph + 1, graph - 1)):
             stream.ask(client, ADD_NODE,
                        long(graph) + wire.node(wire.NOT_BITS, cells[0], None, cells[1]))
-        for name in (graph - 2, graph + 1):
+        stream.ask(client, CREATE_DELAY, wire.reference(graph - 2) + byte(2))
+        stream.ask(client, REGISTER_AUTO_AGING, long(graph) + long(graph + 2))
+        for name in (graph - 2, graph + 1, graph + 2):
             stream.ask(client, RELEASE, long(name))
 
 

@@ -5,8 +5,8 @@ from checks.model.state import (
     ADD_NODE, AGE_DELAY, CREATE_CONVOLUTION, CREATE_DELAY, CREATE_DISTRIBUTION, CREATE_GRAPH,
     CREATE_IMAGE, CREATE_LUT, CREATE_MIN_MAX, CREATE_THRESHOLD, CREATE_VIRTUAL_IMAGE, IMMEDIATE,
     OPEN_CONTEXT, PROCESS_GRAPH, QUERY_IMAGE, READ_DISTRIBUTION, READ_IMAGE, READ_IMAGE_PGM,
-    READ_MIN_MAX, RELEASE, RELEASE_CONTEXT, REMOVE_NODE, SET_VALID, VERIFY_GRAPH, WRITE_IMAGE,
-    WRITE_IMAGE_PGM)
+    READ_MIN_MAX, REGISTER_AUTO_AGING, RELEASE, RELEASE_CONTEXT, REMOVE_NODE, SET_VALID,
+    VERIFY_GRAPH, WRITE_IMAGE, WRITE_IMAGE_PGM)
 from checks.streams import bodies
 from checks.streams import nodes as random_nodes
 
@@ -37,6 +37,7 @@ BODIES = {
     IMMEDIATE: random_nodes.immediate,
     CREATE_DELAY: bodies.create_delay,
     AGE_DELAY: bodies.age_delay,
+    REGISTER_AUTO_AGING: bodies.register_auto_aging,
 }
 
 # The creates, with how often each is asked for by a client that has few objects, and by one that is
@@ -57,7 +58,7 @@ NAMES_AT = {
     READ_IMAGE_PGM: (0,), SET_VALID: (0,), RELEASE: (0,), READ_DISTRIBUTION: (0,),
     READ_MIN_MAX: (0,), IMMEDIATE: (5, 10, 15, 20), CREATE_DELAY: (0,), AGE_DELAY: (0,),
     CREATE_VIRTUAL_IMAGE: (0,), ADD_NODE: (0, 9, 14, 19, 24), REMOVE_NODE: (0,),
-    VERIFY_GRAPH: (0,), PROCESS_GRAPH: (0,)}
+    VERIFY_GRAPH: (0,), PROCESS_GRAPH: (0,), REGISTER_AUTO_AGING: (0, 4)}
 WRITTEN_AT = {WRITE_IMAGE: (0,), WRITE_IMAGE_PGM: (0,), SET_VALID: (0,), IMMEDIATE: (15, 20)}
 # Where the operands stand that a node reads.
 INPUTS_AT = (5, 10)
@@ -66,8 +67,6 @@ INPUTS_AT = (5, 10)
 QUESTIONS = {
     model.Image: (QUERY_IMAGE, READ_IMAGE), model.VirtualImage: (QUERY_IMAGE,),
     model.Distribution: (READ_DISTRIBUTION,), model.Extremes: (READ_MIN_MAX,)}
-
-# What isn't an op: an op that isn't known, and the first request of many about a graph.
 
 # What isn't an op: an op that isn't known, and the first request of many about a graph.
 UNKNOWN, GRAPH = None, "graph"
@@ -104,6 +103,7 @@ WEIGHTS = {
     IMMEDIATE: 120,
     CREATE_DELAY: 3,
     AGE_DELAY: 8,
+    REGISTER_AUTO_AGING: 8,
     UNKNOWN: 2,
     GRAPH: 25,
 }

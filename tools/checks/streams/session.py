@@ -5,8 +5,8 @@ from feqyldan.wire import SUCCESS
 from checks import model
 from checks.model.graphs import cells_of, cells_read, cells_written
 from checks.model.state import (
-    ADD_NODE, AGE_DELAY, CREATE_GRAPH, CREATE_VIRTUAL_IMAGE, PROCESS_GRAPH, RELEASE, REMOVE_NODE,
-    VERIFY_GRAPH, WRITE_IMAGE)
+    ADD_NODE, AGE_DELAY, CREATE_GRAPH, CREATE_VIRTUAL_IMAGE, PROCESS_GRAPH, REGISTER_AUTO_AGING,
+    RELEASE, REMOVE_NODE, VERIFY_GRAPH, WRITE_IMAGE)
 from checks.streams import nodes as random_nodes
 from checks.streams.bodies import spoiled
 from checks.streams.draw import cell_bytes, long
@@ -42,7 +42,8 @@ class Session:
         if self.stream.ask_any(self.client, CREATE_GRAPH) != SUCCESS:
             return
         self.name = max(self.draw.live())
-        steps = [Session.make, Session.run, *[Session.change] * self.draw.pick((0, 1, 2, 4, 7))]
+        begin = [Session.make, *[Session.register] * self.draw.chance(0.2), Session.run]
+        steps = [*begin, *[Session.change] * self.draw.pick((0, 1, 2, 4, 7))]
         for step in steps:
             yield
             if self.graph() is None:
@@ -98,17 +99,57 @@ class Session:
             yield
 
     def ask_about_outputs(self, share):
-        written = [cell_bytes(cell) for cell in cells_written(self.nodes())]
-        self.stream.ask_about(self.client, written, share)
+        written = [*cells_written(self.nodes()), *self.draw.slots_of(self.graph().delays)]
+        self.stream.ask_about(self.client, [cell_bytes(cell) for cell in written], share)
+
+    def used(self):
+        """The names that its nodes have."""
+        return {cell.name for node in self.nodes() for cell in cells_of(node)}
+
+    def delays(self):
+        """Those that its nodes read; where there are none, and now and then, all."""
+        read = {cell.name for cell in cells_read(self.nodes())}
+        delays = [name for name, _ in self.draw.objects(model.Delay)]
+        those = [] if self.draw.chance(0.15) else [name for name in delays if name in read]
+        return those or delays
 
     def age(self):
-        used = {cell.name for node in self.nodes() for cell in cells_of(node)}
-        delays = [name for name, _ in self.draw.objects(model.Delay)]
-        delays = [name for name in delays if name in used] or delays
+        delays = self.delays()
         if delays:
             self.ask(AGE_DELAY, long(self.draw.pick(delays)))
             yield
             yield from self.run_again()
+
+    def register(self):
+        """Delays that age after each run from then on; now and then one of them twice, or with
+        another graph too, or it is released after that."""
+        delays, graphs = self.delays(), [name for name, _ in self.draw.objects(model.Graph)]
+        count = self.draw.pick((1, 1, 2, 3)) if delays else 0
+        for delay in self.draw.rng.choices(delays, k=count):
+            self.ask(REGISTER_AUTO_AGING, long(self.name), long(delay))
+            if self.draw.chance(0.3):
+                self.ask(REGISTER_AUTO_AGING, long(self.draw.pick(graphs)), long(delay))
+            yield
+        yield from self.run_again()
+        if delays and self.graph() is not None and self.draw.chance(0.4):
+            self.ask(RELEASE, long(delay))
+            for _ in range(3):
+                yield
+                yield from self.run_again()
+
+    def release_registered(self):
+        """What is registered, and used by no node, is gone."""
+        used = self.used()
+        delays = [(name, thing)
+                  for name, thing in self.draw.objects(model.Delay) if name not in used]
+        if not delays or not self.stream.use_up_quota(self.client):
+            return
+        name, thing = self.draw.pick(delays)
+        self.ask(REGISTER_AUTO_AGING, long(self.name), long(name))
+        self.ask(RELEASE, long(name))
+        self.stream.ask_for_bytes(self.client, model.object_bytes(thing))
+        yield
+        yield from self.run_again()
 
     def write(self):
         """An image that is read becomes another one, or valid in another part."""
@@ -126,8 +167,7 @@ class Session:
 
     def release(self):
         """What a node uses: others can't name it, and it is still there for the node."""
-        used = [cell.name for node in self.nodes() for cell in cells_of(node)]
-        used = [name for name in used if name in self.draw.live()]
+        used = [name for name in sorted(self.used()) if name in self.draw.live()]
         if used:
             self.ask(RELEASE, long(self.draw.pick(used)))
             yield
@@ -136,7 +176,7 @@ class Session:
 
     def release_at_quota(self):
         """It is charged, and counted, until no node uses it."""
-        used = [cell.name for node in self.nodes() for cell in cells_of(node)]
+        used = self.used()
         used = [(name, thing)
                 for name, thing in self.draw.objects() if name in used
                 and model.object_bytes(thing)]
@@ -193,5 +233,6 @@ class Session:
 
 
 CHANGES = {
-    Session.age: 5, Session.write: 4, Session.release: 5, Session.release_at_quota: 3,
-    Session.remove: 7, Session.add_another: 6, Session.run: 1, Session.end: 2}
+    Session.age: 5, Session.register: 5, Session.write: 4, Session.release: 5,
+    Session.release_at_quota: 3, Session.release_registered: 3, Session.remove: 7,
+    Session.add_another: 6, Session.run: 1, Session.end: 2}

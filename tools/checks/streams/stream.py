@@ -79,12 +79,12 @@ class Stream:
         if code == SUCCESS and op in WRITTEN_AT:
             self.ask_about(client, [body[at : at + 5] for at in WRITTEN_AT[op]])
         if code == SUCCESS and op == PROCESS_GRAPH:
-            written = cells_written(self.graph_of(client, body).nodes.values())
+            graph = self.graph_of(client, body)
+            written = [*cells_written(graph.nodes.values()), *draw.slots_of(graph.delays)]
             self.ask_about(client, [cell_bytes(cell) for cell in written])
         if code == SUCCESS and op == AGE_DELAY:
-            self.ask_about(client,
-                           [cell_bytes(cell)
-                            for cell, _ in draw.cells(model.Image) if long(cell.name) == body])
+            names = [int.from_bytes(body, "big")]
+            self.ask_about(client, [cell_bytes(cell) for cell in draw.slots_of(names)])
         return code
 
     def ask_about(self, client, references, share=0.5):

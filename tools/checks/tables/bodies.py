@@ -87,6 +87,9 @@ WHOLE = (
     ("CreateDelay after name 0", 25, "00 00 00 00 ff  02"),
     ("AgeDelay", 26, "00 00 00 02"),
     ("AgeDelay of the greatest number", 26, "ff ff ff ff"),
+    ("RegisterAutoAging", 27, "00 00 00 03  00 00 00 02"),
+    ("RegisterAutoAging of name 0", 27, "00 00 00 00  00 00 00 00"),
+    ("RegisterAutoAging of the greatest numbers", 27, "ff ff ff ff  ff ff ff ff"),
 )
 
 # The first field whose value isn't allowed decides, however much of what follows is cut or wrong.
@@ -218,7 +221,7 @@ FUNCTIONS = (
 )
 
 BORDERS = ((wire.UNDEFINED, 0), (wire.CONSTANT, 0), (wire.CONSTANT, 255), (wire.REPLICATE, 0))
-OPS = range(1, 27)
+OPS = range(1, 28)
 
 
 def function_rows() -> Iterator[Tuple[bytes, int]]:

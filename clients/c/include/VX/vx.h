@@ -616,13 +616,18 @@ VX_API_ENTRY vx_status VX_API_CALL vxReleaseArray(vx_array *array);
 VX_API_ENTRY vx_delay VX_API_CALL vxCreateDelay(vx_context context, vx_reference exemplar,
                                                 vx_size num_slots);
 
-/* The image that is in a slot when it is used: after vxAgeDelay that is another one. The index is
-   0 for the newest, and down to 1 - slots. The reference is the delay's, and isn't released.
-   VX_ERROR_INVALID_PARAMETERS, no such slot. */
+/* The image that is in a slot when it is used: once the delay has aged that is another one. The
+   index is 0 for the newest, and down to 1 - slots. The reference is the delay's, and isn't
+   released. VX_ERROR_INVALID_PARAMETERS, no such slot. */
 VX_API_ENTRY vx_reference VX_API_CALL vxGetReferenceFromDelay(vx_delay delay, vx_int32 index);
 
 /* Moves each image on by one slot, and the last one to slot 0. */
 VX_API_ENTRY vx_status VX_API_CALL vxAgeDelay(vx_delay delay);
+
+/* Has each successful run of the graph age the delay once, after the run, from the next
+   vxProcessGraph or vxScheduleGraph on; again it has no effect. Each of several graphs ages it. The
+   graph doesn't hold the delay: one that was released ages as long as a node uses a slot of it. */
+VX_API_ENTRY vx_status VX_API_CALL vxRegisterAutoAging(vx_graph graph, vx_delay delay);
 VX_API_ENTRY vx_status VX_API_CALL vxQueryDelay(vx_delay delay, vx_enum attribute, void *ptr,
                                                 vx_size size);
 VX_API_ENTRY vx_status VX_API_CALL vxReleaseDelay(vx_delay *delay);

@@ -26,7 +26,7 @@ for _op in (wire.OPEN_CONTEXT, wire.QUERY_IMAGE, wire.WRITE_IMAGE, wire.CREATE_L
             wire.CREATE_THRESHOLD,
             wire.CREATE_CONVOLUTION, wire.CREATE_DISTRIBUTION, wire.CREATE_MIN_MAX,
             wire.READ_MIN_MAX, wire.CREATE_GRAPH, wire.CREATE_VIRTUAL_IMAGE, wire.ADD_NODE,
-            wire.REMOVE_NODE, wire.AGE_DELAY):
+            wire.REMOVE_NODE, wire.AGE_DELAY, wire.REGISTER_AUTO_AGING):
     KINDS[_op] = LIGHT
 for _op in (wire.RELEASE_CONTEXT, wire.CREATE_IMAGE, wire.WRITE_IMAGE_PGM, wire.SET_VALID,
             wire.RELEASE,
