@@ -129,7 +129,7 @@ module _ (limits : Allowance) (c : Context) (name : ℕ) where
       of_graph : (g : Result GraphValue Refusal) → verify_found g limits c ≡ Err refusal → process_found g limits c ≡ Err refusal
       of_graph (Err other) e = e
       of_graph (Ok graph) e =
-          of_verdict (graph_verdict limits c.objects graph) (with_objects c (run_of_graph (resolved (operand_held c.objects) (nodes_of graph)) (nodes_of graph) c.objects)) e
+          of_verdict (graph_verdict limits c.objects graph) (with_objects c (aged_under graph.delays (run_of_graph (resolved (operand_held c.objects) (nodes_of graph)) (nodes_of graph) c.objects))) e
 
   pub fails_to_run : (fault : RequestFault) (result : Result Reply RequestFault) → MayComeTo (verify_graph limits c name) c c (Err fault) → result ≡ Err fault
       → MayComeTo (process_graph limits c name) c c result

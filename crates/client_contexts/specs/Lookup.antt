@@ -1,6 +1,7 @@
 -- What references, names and the operands of nodes find among the objects of a context.
 use Rattle.std.specs.Prelude.{ℕ, ◌≡◌, IsTrue, is_some, List, Option, Some, Result, Ok, Err}
 use Rattle.vx_base.specs.declared.kind.Kind.{Kind}
+use Rattle.vx_base.specs.declared.kind.Kind.TheVariants as kind
 use Rattle.vx_base.specs.Cell.{Cell}
 use Rattle.vx_base.specs.Description.{Description}
 use Rattle.vx_base.specs.Image.{ImageValue, description_of}
@@ -31,9 +32,9 @@ pub record IsNamed (objects : List Named) (name : ℕ) (wanted : Kind) (object :
 pub record NameGraphAndDelay (objects : List Named) (graph delay : ℕ) : Type 0 where
   pub first : ObjectValue
   pub second : ObjectValue
-  pub graph : IsNamed objects graph kind.Graph first
-  pub delay : object_named objects delay ≡ Some second
-  pub kind : object_kind second ≡ kind.Delay
+  pub is_graph : IsNamed objects graph kind.Graph first
+  pub live : object_named objects delay ≡ Some second
+  pub is_delay : object_kind second ≡ kind.Delay
 
 -- the image that a reference names
 pub record IsImageOf (objects : List Named) (cell : Cell) (is : ImageValue) : Type 0 where

@@ -46,11 +46,7 @@ pub fn age_delay(table: &mut Table, name: u32) -> Result<Reply, Refusal>
 }
 
 /// Registers a delay with a graph, after each of whose runs it ages from then on.
-pub fn register_auto_aging(
-    table: &mut Table,
-    graph: u32,
-    delay: u32,
-) -> Result<Reply, RequestFault>
+pub fn register_auto_aging(table: &mut Table, graph: u32, delay: u32) -> Result<Reply, RequestFault>
     requires { IsContext table.old }
     ensures comes { MayComeTo (register_auto_aging table.old graph delay)
         table.old table.new result }

@@ -51,6 +51,7 @@ new_graph_is =
       numbers = λ i j d less below. absurd (omega arith);
       below = All-nil (λ n. n.number < 1);
       nodes = All-nil (λ n. IsNode n.node);
+      delays = λ i j d less below. absurd (omega arith);
     }
 
 -- ---- charges

@@ -34,10 +34,16 @@ impl Model for Graph {
     ghost Value = { GraphValue };
 
     ghost view = { λ g. record {
-        next = g.next; nodes = g.nodes.items; delays = g.delays.items } };
+      next = g.next;
+      nodes = g.nodes.items;
+      delays = g.delays.items;
+    } };
 
     ghost invariant = { λ g. IsGraph (record {
-        next = g.next; nodes = g.nodes.items; delays = g.delays.items }) };
+      next = g.next;
+      nodes = g.nodes.items;
+      delays = g.delays.items;
+    }) };
 }
 
 impl Graph {

@@ -1,5 +1,5 @@
 -- Delays that age with graphs.
-use Rattle.std.proofs.Common.{◌≡◌, ◌≢◌, ℕ, ◌+◌, ◌<◌, Bool, true, false, ◌||◌, List, [], ◌∷◌, ◌++◌, length, map, take, get_or, Option, Some, None, refl, sym, ap, ◌∙◌, arith}
+use Rattle.std.proofs.Common.{◌≡◌, ◌≢◌, ℕ, ◌+◌, ◌<◌, Bool, true, false, List, [], ◌∷◌, ◌++◌, length, map, take, get_or, Some, None, refl, sym, ap, ◌∙◌, arith}
 use Rattle.std.specs.Prelude.{All, ◌==◌, if◌then◌else◌, filter, is_some}
 use Rattle.std.specs.List.{list_any, AllPairs}
 use Rattle.std.specs.Map.{keys_of, lookup, set_value}
@@ -63,10 +63,12 @@ aged_more names k d (o ∷ objects) apart there =
   where
     is_it : ℕ → Bool
     is_it = λ n. o.name == n
+
     before : (i e : ℕ) → i < length (take k names) → get_or names k d ≡ o.name → is_it (get_or (take k names) i e) ≡ false
     before i e less same =
         let below : i < k = omega (arith, less, length-take k names) in
         ne_eqb o.name (get_or (take k names) i e) (λ equal. apart i k d below there (get_or_default names i d e (omega (arith, below, there)) ∙ sym (get_or-take k names i e below) ∙ sym equal ∙ sym same))
+
     one : (b : Bool) → (o.name == get_or names k d) ≡ b → aged_if (get_or names k d ∷ []) (aged_if (take k names) o) ≡ aged_if (take (k + 1) names) o
     one true same =
         let here : o.name ≡ get_or names k d = eqb-true o.name (get_or names k d) same in

@@ -23,3 +23,6 @@ returns-in_ok-run_at_once-in-Immediate-clause-kept c = c.run_at_once.ensures.kep
 
 pub returns-in_ok-age_delay-in-AgeDelay-clause-kept : goal.returns-in_ok-age_delay-in-AgeDelay-clause-kept
 returns-in_ok-age_delay-in-AgeDelay-clause-kept c = c.age_delay.ensures.kept c.args.limits c.requires.keeps
+
+pub returns-in-RegisterAutoAging-clause-kept : goal.returns-in-RegisterAutoAging-clause-kept
+returns-in-RegisterAutoAging-clause-kept c = c.register_auto_aging.ensures.kept c.args.limits c.requires.keeps

@@ -64,7 +64,7 @@ returns-clause-balances c = λ format.
       c.in_ok-run.ensures.lent format,
       lasting_blocks c.args.table.now.objects ran lasts format,
       ap (λ (t : Context). blocks_in t.objects format) c.age_registered.ensures,
-      lasting_blocks ran _ (aged_under_last (graph_under ran c.args.graph).delays ran lasts.objects) format
+      lasting_blocks ran _ (aged_under_last (graph_under ran c.args.graph).delays ran lasts.objects) format,
     )
 
 pub returns-clause-kept : goal.returns-clause-kept

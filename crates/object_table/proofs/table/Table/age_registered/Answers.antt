@@ -14,8 +14,8 @@ same : (c : After-delays) → c.delays.result.now ≡ (graph_under c.args.self.n
 same c =
     let old = c.args.self.now in
     let now : graph_under c.loop-k.self.objects c.args.graph ≡ graph_under old.objects c.args.graph =
-        ap (λ (t : Context). graph_under t.objects c.args.graph) c.loop-k.invariant
-        ∙ graph_aged (take c.loop-k.k (graph_under old.objects c.args.graph).delays) old.objects c.args.graph in
+    ap (λ (t : Context). graph_under t.objects c.args.graph) c.loop-k.invariant
+    ∙ graph_aged (take c.loop-k.k (graph_under old.objects c.args.graph).delays) old.objects c.args.graph in
     c.delays.ensures.delays ∙ ap (λ (g : GraphValue). g.delays) (c.graph-in-loop-k.ensures ∙ now)
 
 there : (c : After-delays) → c.loop-k.k < length (graph_under c.args.self.now.objects c.args.graph).delays

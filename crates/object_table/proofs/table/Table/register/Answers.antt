@@ -1,8 +1,8 @@
-use Rattle.std.proofs.Common.{◌≡◌, ◌≢◌, ℕ, Bool, true, false, List, [], ◌∷◌, ◌++◌, refl, sym, ap, subst, ◌∙◌, arith}
+use Rattle.std.proofs.Common.{◌≡◌, ◌≢◌, ℕ, true, false, [], ◌∷◌, ◌++◌, refl, sym, ap, subst, ◌∙◌}
 use Rattle.std.specs.Prelude.{if◌then◌else◌, filter, ◌==◌}
 use Rattle.std.specs.List.{AllPairs, list_any}
 use Rattle.vx_base.specs.Graph.{GraphValue, is_registered, with_delays}
-use Rattle.vx_base.specs.Object.{ObjectValue, GraphObject}
+use Rattle.vx_base.specs.Object.{GraphObject}
 use Rattle.object_table.specs.Ageing.{is_there, one_more}
 use Rattle.object_table.specs.Context.{with_objects, with_graph}
 use Rattle.object_table.specs.Object.{graph_value}
@@ -16,7 +16,7 @@ pub returns-then-is_registered-clause-ok : goal.returns-then-is_registered-claus
 returns-then-is_registered-clause-ok c =
     let now = c.args.self.now in
     let there : is_registered (graph_under now.objects c.args.graph) c.args.delay ≡ true =
-        ap (λ g. is_registered g c.args.delay) (sym c.graph-found.ensures) ∙ sym c.if-is_registered.ensures in
+    ap (λ g. is_registered g c.args.delay) (sym c.graph-found.ensures) ∙ sym c.if-is_registered.ensures in
     ap (λ b. with_objects now (if b then now.objects else with_graph now.objects c.args.graph (one_more now.objects (graph_under now.objects c.args.graph) c.args.delay))) (sym there)
 
 pub unreachable-requires : goal.unreachable-requires
@@ -47,11 +47,11 @@ returns-clause-ok c =
     let under : graph_under now.objects c.args.graph ≡ graph_value old = ap graph_value (under_is _ _ _ c.self.view_is c.args.graph _ (sym c.in-Some.ensures.value)) in
     let delays = c.delays.ensures.delays ∙ ap (λ (g : GraphValue). g.delays) (c.graph-found.ensures ∙ under) in
     let apart : is_registered (graph_under now.objects c.args.graph) c.args.delay ≡ false =
-        ap (λ g. is_registered g c.args.delay) (sym c.graph-found.ensures) ∙ sym c.is_registered.ensures ∙ c.if-is_registered.false in
+    ap (λ g. is_registered g c.args.delay) (sym c.graph-found.ensures) ∙ sym c.is_registered.ensures ∙ c.if-is_registered.false in
     let value : c.set_delays.new.self ≡ GraphObject (one_more now.objects (graph_value old) c.args.delay) =
-        c.set_delays.ensures.value
-        ∙ ap (λ l. GraphObject (with_delays (graph_value old) l))
-          (c.in_ok-delays.ensures.value ∙ ap (λ l. filter (is_there now.objects) l ++ c.args.delay ∷ []) delays) in
+    c.set_delays.ensures.value
+    ∙ ap (λ l. GraphObject (with_delays (graph_value old) l))
+    (c.in_ok-delays.ensures.value ∙ ap (λ l. filter (is_there now.objects) l ++ c.args.delay ∷ []) delays) in
     shown_name _ _ _ c.self.view_is c.args.graph _ (sym c.in-Some.ensures.value) (λ o. GraphObject (one_more now.objects (graph_value o) c.args.delay)) new _ c.get_mut.ensures.ordered refl
     value (c.get_mut.follows.holds new).0
     ∙ ap (λ b. with_objects now (if b then now.objects else with_graph now.objects c.args.graph (one_more now.objects (graph_under now.objects c.args.graph) c.args.delay))) (sym apart)
