@@ -17,14 +17,14 @@ use std::test::Fail;
 use vx_base::{Desc, Format, Kind, ObjRef, Picture, Rect, Samples, SlotCount};
 
 /// Two columns of samples of U8, and one row.
-fn small() -> Result<Desc, Fail>
+pub fn small() -> Result<Desc, Fail>
     ensures { IfOk result (λ d. d ≡ record { width = 2; height = 1; format = U8 }) }
 {
     Ok(Desc::new(2, 1, Format::U8).ok_or("within the limits")?)
 }
 
 /// A picture of these samples.
-fn picture(alloc: Global, samples: [u8; 2]) -> Result<Picture, Fail>
+pub fn picture(alloc: Global, samples: [u8; 2]) -> Result<Picture, Fail>
     ensures { IfOk result (λ p.
         p.description ≡ record { width = 2; height = 1; format = U8 }) }
 {
@@ -33,7 +33,7 @@ fn picture(alloc: Global, samples: [u8; 2]) -> Result<Picture, Fail>
 }
 
 /// Whether these are the samples.
-fn are(samples: &Samples, wanted: [u8; 2]) -> bool {
+pub fn are(samples: &Samples, wanted: [u8; 2]) -> bool {
     match samples {
         Samples::U8(samples) => samples.as_slice() == wanted.as_slice(),
         _ => false,

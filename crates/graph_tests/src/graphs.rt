@@ -125,7 +125,7 @@ fn images_and_a_graph(alloc: Global) -> Result<Holdings, Fail> {
 }
 
 /// Whether the name is a graph's.
-fn is_graph(table: &Table, name: u32) -> bool
+pub fn is_graph(table: &Table, name: u32) -> bool
     ensures kind { result ≡ true → IsUnder table.now.objects kind.Graph name }
     ensures live { result ≡ true → IsTrue (is_some (object_named table.now.objects name)) }
 {

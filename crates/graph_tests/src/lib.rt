@@ -6,10 +6,13 @@
 //! - `tables`: names and the charge of a table, and objects that are set
 //! - `cells`: images and slots of delays in a table, which are read and written
 //! - `graphs`: graphs, the numbers of their nodes, and what these use in a table
+//! - `ageing`: delays that age with a graph
 //! - `plans`: the slots of virtual images, and the steps that need so many
 //! - `runs`: nodes and graphs that run in a table
 #![tactic(auto)]
 
+#[cfg(test)]
+mod ageing;
 #[cfg(test)]
 mod cells;
 #[cfg(test)]
