@@ -152,6 +152,7 @@ graph_is =
       numbers = search rules;
       below = all_two Below added_first added_next (omega arith) (omega arith);
       nodes = all_two Is added_first added_next (not_is 4 2 refl (omega arith) (omega arith)) (not_is 1 4 refl (omega arith) (omega arith));
+      delays = λ i j d less below. absurd (omega (arith, below));
     }
   where
     Below : Numbered → Type 0
