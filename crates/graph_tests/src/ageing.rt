@@ -6,12 +6,10 @@ ghost use Rattle.object_table.specs.Delay.{new_delay};
 
 use crate::cells::{are, picture, small};
 use crate::graphs::is_graph;
-use crate::holdings::Holdings;
 use crate::tables::hold;
 use graph_verify::Graph;
 use object_table::{Content, Delay, Table};
 use pixel_pool::Pool;
-use std::alloc::Global;
 use std::test::Fail;
 use vx_base::{ObjRef, Picture, SlotCount};
 
@@ -22,15 +20,6 @@ fn a_graph_has_delays(rt: HostRuntime) -> Result<(), Fail> {
     graph.set_delays(vec![in rt.alloc(); 7]?);
     assert!(rt; graph.is_registered(7) && !graph.is_registered(8));
     Ok(())
-}
-
-/// The names of the delays that are registered with the graph of a name.
-fn registered(table: &Table, graph: u32) -> &[u32] {
-    if is_graph(table, graph) {
-        table.graph(graph).delays()
-    } else {
-        &[]
-    }
 }
 
 /// Registers a delay with the graph of a name.
@@ -86,41 +75,10 @@ fn a_delay_ages_once_with_a_graph(rt: HostRuntime) -> Result<(), Fail> {
     hold(&mut table, Content::Graph(Graph::new(alloc)))?;
     age(&mut table, 2)?;
     assert!(rt; slot_holds(&table, 1, 0, [10, 20]));
+    assert!(rt; table.is_held(1) && !table.is_held(3));
     register(&mut table, 2, 1)?;
     register(&mut table, 2, 1)?;
     age(&mut table, 2)?;
     assert!(rt; slot_holds(&table, 1, 1, [10, 20]));
-    Ok(())
-}
-
-/// Holds a delay of two images under the next name.
-fn hold_delay(alloc: Global, holdings: &mut Holdings) -> Result<u32, Fail> {
-    let slots = SlotCount::new(2).ok_or("within the limits")?;
-    let delay = Delay::new(alloc, &mut holdings.pool, small()?, slots)?;
-    hold(&mut holdings.table, Content::Delay(delay))
-}
-
-/// Delays named 1 and 2, which are registered with a graph named 3.
-fn delays_and_a_graph(alloc: Global) -> Result<Holdings, Fail> {
-    let mut holdings = Holdings::new(alloc);
-    hold_delay(alloc, &mut holdings)?;
-    hold_delay(alloc, &mut holdings)?;
-    hold(&mut holdings.table, Content::Graph(Graph::new(alloc)))?;
-    register(&mut holdings.table, 3, 1)?;
-    register(&mut holdings.table, 3, 2)?;
-    Ok(holdings)
-}
-
-#[test]
-fn a_registration_holds_no_delay(rt: HostRuntime) -> Result<(), Fail> {
-    let mut holdings = delays_and_a_graph(rt.alloc())?;
-    assert!(rt; registered(&holdings.table, 3) == [1, 2].as_slice());
-    assert!(rt; holdings.table.is_held(1));
-    assert!(rt; holdings.release(1) == Ok(()));
-    assert!(rt; !holdings.table.is_held(1));
-    age(&mut holdings.table, 3)?;
-    assert!(rt; hold_delay(rt.alloc(), &mut holdings)? == 4);
-    register(&mut holdings.table, 3, 4)?;
-    assert!(rt; registered(&holdings.table, 3) == [2, 4].as_slice());
     Ok(())
 }
