@@ -58,8 +58,8 @@ pub fn register_auto_aging(table: &mut Table, graph: u32, delay: u32) -> Result<
     Ok(Reply::Empty)
 }
 
-/// Whether these are the names of a graph and of a delay, or why they aren't: both names come before
-/// both kinds.
+/// Whether these are the names of a graph and of a delay, or why they aren't: both names come
+/// before both kinds.
 fn find_graph_and_delay(table: &Table, graph: u32, delay: u32) -> Result<(), Refusal>
     ensures ok { OnOk result (NameGraphAndDelay table.now.objects graph delay) }
     ensures err { IfErr result (λ refusal.

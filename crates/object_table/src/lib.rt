@@ -3,8 +3,8 @@
 //! A `Table` gives each object that is inserted the next name, 1, 2, .., and never gives a name
 //! again. A name is live until it is released. An object is held while its name is live or a node
 //! uses it; at most 1,024 are held at a time, and a table knows what they are charged. Only
-//! `insert`, `add_node` and `register` take memory. The samples of images are blocks of a pool, which are given
-//! back when an image is no longer held.
+//! `insert`, `add_node` and `register` take memory. The samples of images are blocks of a pool,
+//! which are given back when an image is no longer held.
 //!
 //! - `stored`, `delay`: an image whose samples are a block of a pool, and such images in slots
 //! - `distribution`: bins, and the counts of a histogram

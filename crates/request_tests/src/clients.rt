@@ -167,8 +167,8 @@ fn a_graph_runs(rt: HostRuntime) -> Result<(), Fail> {
     Ok(())
 }
 
-/// Whether image 1, which a node of graph 3 uses, is released in name alone: no new node can use it,
-/// what it is charged is charged still, and the graph runs on it.
+/// Whether image 1, which a node of graph 3 uses, is released in name alone: no new node can use
+/// it, what it is charged is charged still, and the graph runs on it.
 fn is_held(alloc: Global, runtime: &mut Runtime, making: &Request) -> Result<bool, Fail> {
     succeed(alloc, runtime, &Request::Release(1))?;
     let adding = adding_not(1, 4)?;

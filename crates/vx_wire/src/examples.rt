@@ -21,7 +21,8 @@ ghost use Rattle.client_model.specs.declared.request.Request.TheVariants.{Create
 ghost use Rattle.client_model.specs.declared.request.Request.TheVariants.{AddNode, RemoveNode};
 ghost use Rattle.client_model.specs.declared.request.Request.TheVariants.{VerifyGraph};
 ghost use Rattle.client_model.specs.declared.request.Request.TheVariants.{ProcessGraph, Immediate};
-ghost use Rattle.client_model.specs.declared.request.Request.TheVariants.{CreateDelay, AgeDelay, RegisterAutoAging};
+ghost use Rattle.client_model.specs.declared.request.Request.TheVariants.{CreateDelay, AgeDelay};
+ghost use Rattle.client_model.specs.declared.request.Request.TheVariants.{RegisterAutoAging};
 ghost use Rattle.vx_wire.specs.declared.body_fault.BodyFault.TheVariants.{InvalidParameters};
 ghost use Rattle.vx_wire.specs.declared.body_fault.BodyFault.TheVariants.{InvalidFormat};
 ghost use Rattle.vx_wire.specs.declared.body_fault.BodyFault.TheVariants.{InvalidDimension};
