@@ -1,16 +1,19 @@
-use Rattle.std.proofs.Common.{◌≡◌, Some, Err, rules, arith, subst, sym, ap}
+use Rattle.std.proofs.Common.{◌≡◌, Some, None, Ok, Err, rules, arith, subst, sym, ap}
 use Rattle.std.specs.Option.{option_map}
-use Rattle.vx_base.specs.Graph.{nodes_of}
+use Rattle.vx_base.specs.Graph.{GraphValue, nodes_of}
 use Rattle.vx_base.specs.Object.{object_kind}
 use Rattle.object_table.specs.Blocks.{blocks_in}
 use Rattle.object_table.specs.Context.{Context}
 use Rattle.object_table.specs.Table.{graph_under}
+use Rattle.graph_run.specs.Operands.{IsReady}
+use Rattle.client_model.specs.Graphs.{graph_named, graph_verdict}
 use Rattle.client_model.proofs.DelayStepLaws.{aged_under_last}
 use Rattle.client_model.proofs.OutcomeLaws.{Keeps}
 use Rattle.client_laws.proofs.RunStepLaws.{process_graph_keeps}
 use Rattle.client_contexts.proofs.BlockLemmas.{lasting_blocks}
 use Rattle.client_contexts.proofs.ReadyLemmas.{fails_to_run, graph_left, aged_to, kept_runs, kept_plan, kept_after_run}
 use Rattle.client_contexts.proofs.graphs.process_graph.Goals as goal
+use Rattle.client_contexts.proofs.graphs.process_graph.Goals.{In-Some}
 
 pub returns-in_err-verify_graph-clause-comes : goal.returns-in_err-verify_graph-clause-comes
 returns-in_err-verify_graph-clause-comes c =
@@ -18,12 +21,17 @@ returns-in_err-verify_graph-clause-comes c =
     let same : c.from_residual.result ≡ Err fault = search rules in
     fails_to_run c.args.limits c.args.table.now c.args.graph fault c.from_residual.result c.in_err-verify_graph.ensures.comes same
 
-pub run-requires-clause-ready : goal.run-requires-clause-ready
-run-requires-clause-ready c =
+-- the graph of the name, whose nodes what is kept of it runs
+kept_graph : (c : In-Some)
+    → (graph : GraphValue) × (graph_named c.args.table.now.objects c.args.graph ≡ Ok graph) × (graph_verdict c.args.limits c.args.table.now.objects graph ≡ None)
+    × IsReady c.args.table.now.objects (nodes_of graph) c.in-Some.kept.now.verified
+kept_graph c =
     let t = c.args.table.now in
-    let graph =
     kept_runs c.args.limits t c.args.graph c.requires.context (c.in_ok-verify_graph.field-0, Some t) c.in_ok-verify_graph.ensures.comes.done c.in-Some.kept.now
-    c.verify_graph.new.kept.entries c.verify_graph.ensures.kept (sym c.in-Some.ensures.value) in (nodes_of graph.0, graph.3)
+    c.verify_graph.new.kept.entries c.verify_graph.ensures.kept (sym c.in-Some.ensures.value)
+
+pub run-requires-clause-ready : goal.run-requires-clause-ready
+run-requires-clause-ready c = let graph = kept_graph (goal.at.run-requires-clause-ready c).In-Some in (nodes_of graph.0, graph.3)
 
 pub run-requires-clause-plan : goal.run-requires-clause-plan
 run-requires-clause-plan c =
@@ -32,17 +40,13 @@ run-requires-clause-plan c =
 pub age_registered-requires : goal.age_registered-requires
 age_registered-requires c =
     let t = c.args.table.now in
-    let graph =
-    kept_runs c.args.limits t c.args.graph c.requires.context (c.in_ok-verify_graph.field-0, Some t) c.in_ok-verify_graph.ensures.comes.done c.in-Some.kept.now
-    c.verify_graph.new.kept.entries c.verify_graph.ensures.kept (sym c.in-Some.ensures.value) in
+    let graph = kept_graph (goal.at.age_registered-requires c).In-Some in
     ap (option_map object_kind) (graph_left c.args.limits t c.args.graph c.requires.context graph.0 c.run.new.table graph.1 graph.2 (c.in_ok-run.ensures.value (nodes_of graph.0) graph.3))
 
 pub returns-clause-comes : goal.returns-clause-comes
 returns-clause-comes c =
     let t = c.args.table.now in
-    let graph =
-    kept_runs c.args.limits t c.args.graph c.requires.context (c.in_ok-verify_graph.field-0, Some t) c.in_ok-verify_graph.ensures.comes.done c.in-Some.kept.now
-    c.verify_graph.new.kept.entries c.verify_graph.ensures.kept (sym c.in-Some.ensures.value) in
+    let graph = kept_graph (goal.at.returns-clause-comes c).In-Some in
     record {
       done =
           aged_to c.args.limits t c.args.graph c.requires.context graph.0 c.run.new.table c.age_registered.new.self graph.1 graph.2 (c.in_ok-run.ensures.value (nodes_of graph.0) graph.3)
