@@ -3,7 +3,7 @@ use Rattle.std.proofs.Common.{Option, Some, None, IsTrue, refl}
 use Rattle.vx_base.specs.declared.format.Format.{Format}
 use Rattle.vx_base.specs.declared.format.Format.TheVariants.{U8, S16, U32}
 use Rattle.vx_base.specs.declared.function.Function.{Function}
-use Rattle.vx_base.specs.declared.function.Function.TheVariants.{AndBits, OrBits, XorBits, NotBits, Add, Subtract, Multiply, AbsoluteDifference, MinPixel, MaxPixel, Threshold, TableLookup, ConvertDepth, Box, Gaussian, Median, Erode, Dilate, Sobel, Convolve, Histogram, Integral, MinMaxLoc}
+use Rattle.vx_base.specs.declared.function.Function.TheVariants.{AndBits, OrBits, XorBits, NotBits, Add, Subtract, Multiply, AbsoluteDifference, MinPixel, MaxPixel, Threshold, TableLookup, ConvertDepth, Box, Gaussian, Median, Erode, Dilate, Sobel, Convolve, Histogram, Integral, MinMaxLoc, Accumulate, AccumulateSquare}
 use Rattle.vx_base.specs.Formats.{are_bytes, are_equal, are_arithmetic, takes_formats, open_format}
 
 bytes : (a b g : Format) → IsTrue (are_bytes a b g) → IsTrue (are_bytes a b U8)
@@ -47,6 +47,8 @@ open_formats Dilate U8 g None is = refl
 open_formats Sobel U8 g None is = refl
 open_formats Convolve U8 g (Some S16) is = refl
 open_formats Integral U8 g None is = refl
+open_formats Accumulate U8 g None is = refl
+open_formats AccumulateSquare U8 g None is = refl
 open_formats function U8 g None is = cc
 open_formats function U8 g (Some U8) is = cc
 open_formats function U8 g (Some S16) is = cc
@@ -78,3 +80,5 @@ open_formats Convolve U32 g second is = cc
 open_formats Histogram U32 g second is = cc
 open_formats Integral U32 g second is = cc
 open_formats MinMaxLoc U32 g second is = cc
+open_formats Accumulate U32 g second is = cc
+open_formats AccumulateSquare U32 g second is = cc

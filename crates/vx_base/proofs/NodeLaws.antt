@@ -10,11 +10,11 @@ use Rattle.vx_base.specs.declared.format.Format.{Format}
 use Rattle.vx_base.specs.declared.format.Format.TheVariants.{U8, S16, U32}
 use Rattle.vx_base.specs.declared.node.Node.{Node}
 use Rattle.vx_base.specs.declared.function.Function.{Function}
-use Rattle.vx_base.specs.declared.function.Function.TheVariants.{AndBits, NotBits, Threshold, TableLookup, ConvertDepth, Box, Gaussian, Median, Erode, Dilate, Sobel, Convolve, Histogram, Integral, MinMaxLoc}
+use Rattle.vx_base.specs.declared.function.Function.TheVariants.{AndBits, NotBits, Threshold, TableLookup, ConvertDepth, Box, Gaussian, Median, Erode, Dilate, Sobel, Convolve, Histogram, Integral, MinMaxLoc, Accumulate, AccumulateSquare}
 use Rattle.vx_base.specs.declared.kind.Kind.{Kind}
 use Rattle.vx_base.specs.declared.kind.Kind.TheVariants as kind
 use Rattle.vx_base.specs.Sample.{IsSample, least}
-use Rattle.vx_base.specs.Function.{parameters}
+use Rattle.vx_base.specs.Function.{parameters, accumulates}
 use Rattle.vx_base.specs.Formats.{takes_formats}
 use Rattle.vx_base.specs.Node.{is_node, has_amount, IsNode}
 use Rattle.vx_base.specs.Image.{ImageValue, IsImage}
@@ -26,7 +26,7 @@ use Rattle.vx_base.specs.declared.output.Output.TheVariants.{First, Second}
 use Rattle.vx_base.specs.Window.{from_nine, formula_of_nine}
 use Rattle.vx_base.specs.Outputs.{node_image, image_of_one}
 use Rattle.vx_base.specs.Pixelwise.{from_one, looked_up, thresholded, formula_of_one, formula_of_two}
-use Rattle.vx_base.proofs.ResultLaws.{of_one, of_two, not_so, zero_sample}
+use Rattle.vx_base.proofs.ResultLaws.{of_one, of_two, accumulated_is, not_so, zero_sample}
 use Rattle.vx_base.proofs.PixelLaws.{from_one_is, from_two_is}
 use Rattle.vx_base.proofs.SumLaws.{sums_image}
 use Rattle.vx_base.proofs.WindowLaws.{box_sample, gaussian_sample, median_sample, least_sample, greatest_sample, gradient_x_sample, gradient_y_sample, nine_image, matrix_image}
@@ -96,7 +96,7 @@ threshold_format first second output h = not_so h
 
 -- ---- nodes
 
--- functions of the samples around each place
+-- functions of the samples around each place, and those that accumulate, which give 0 of an image alone
 abbrev is_window : Function → Bool
 is_window Box = true
 is_window Gaussian = true
@@ -104,6 +104,8 @@ is_window Median = true
 is_window Erode = true
 is_window Dilate = true
 is_window Sobel = true
+is_window Accumulate = true
+is_window AccumulateSquare = true
 is_window other = false
 
 abbrev GivesSamples : Format → (List ℤ → ℤ) → Type 0
@@ -117,6 +119,8 @@ nine_gives Erode output U8 U8 t = (refl, λ zs long s. least_sample zs s)
 nine_gives Dilate output U8 U8 t = (refl, λ zs long s. greatest_sample zs s)
 nine_gives Sobel First U8 S16 t = (refl, λ zs long s. gradient_x_sample zs s)
 nine_gives Sobel Second U8 S16 t = (refl, λ zs long s. gradient_y_sample zs s)
+nine_gives Accumulate output U8 S16 t = (refl, λ zs long s. zero_sample S16)
+nine_gives AccumulateSquare output U8 S16 t = (refl, λ zs long s. zero_sample S16)
 nine_gives function output first format t = not_so t
 
 -- functions that make no image of one image alone
@@ -185,6 +189,8 @@ module _ (n : Node) (format : Format) (a : ImageValue) (is : IsNode n) (image : 
   of_one_image Erode output h t = of_nine Erode output t
   of_one_image Dilate output h t = of_nine Dilate output t
   of_one_image Sobel output h t = of_nine Sobel output t
+  of_one_image Accumulate output h t = of_nine Accumulate output t
+  of_one_image AccumulateSquare output h t = of_nine AccumulateSquare output t
   of_one_image Convolve output h t = absurd (makes_no_image Convolve a.format format t)
   of_one_image Threshold output h t = absurd (makes_no_image Threshold a.format format t)
   of_one_image Histogram output h t = absurd (makes_no_image Histogram a.format format t)
@@ -203,3 +209,8 @@ module _ (n : Node) (format : Format) (a : ImageValue) (is : IsNode n) (image : 
   node_image_is output (Some (ExtremesObject extremes)) h k t = absurd (takes_no_extremes n.function k)
   node_image_is output (Some (GraphObject graph)) h k t = absurd (takes_no_graph n.function k)
   node_image_is output (Some (VirtualObject image)) h k t = absurd (takes_no_virtual n.function k)
+
+  -- what accumulates gives an image, whatever the output held
+  pub accumulated_image_is : (output : Output) (old : ImageValue) → accumulates n.function ≡ true → IsImage old → IsImage (node_image n output format a (Some (ImageObject old)))
+  accumulated_image_is output old h is_old =
+      from_two_is format (formula_of_two n.function format n.policy n.amount) a old image is_old (λ y z p q. accumulated_is n.function format n.policy n.amount y z h)

@@ -1,5 +1,5 @@
 -- What comes of samples is a sample.
-use Rattle.std.proofs.Common.{ℕ, ℤ, pos, negsuc, ◌+ℤ◌, ◌-ℤ◌, ◌*ℤ◌, ◌≤◌, ◌*◌, ◌^◌, arith, rules, false, IsTrue, Some, None}
+use Rattle.std.proofs.Common.{ℕ, ℤ, pos, negsuc, ◌+ℤ◌, ◌-ℤ◌, ◌*ℤ◌, ◌≤◌, ◌*◌, ◌^◌, arith, rules, ◌≡◌, true, false, IsTrue, Some, None}
 use Rattle.std.specs.Prelude.{int_div}
 use Rattle.std.specs.Int.{int_div_euclid}
 use Rattle.std.proofs.lemmas.Int.{ints}
@@ -10,9 +10,9 @@ use Rattle.vx_base.specs.declared.format.Format.TheVariants.{U8, S16}
 use Rattle.vx_base.specs.declared.policy.Policy.{Policy}
 use Rattle.vx_base.specs.declared.policy.Policy.TheVariants.{Wrap, Saturate}
 use Rattle.vx_base.specs.declared.function.Function.{Function}
-use Rattle.vx_base.specs.declared.function.Function.TheVariants.{AndBits, OrBits, XorBits, NotBits, Add, Subtract, Multiply, AbsoluteDifference, MinPixel, MaxPixel, Threshold, TableLookup, ConvertDepth, Box, Gaussian, Median, Erode, Dilate, Sobel, Convolve, Histogram, Integral, MinMaxLoc}
+use Rattle.vx_base.specs.declared.function.Function.TheVariants.{AndBits, OrBits, XorBits, NotBits, Add, Subtract, Multiply, AbsoluteDifference, MinPixel, MaxPixel, Threshold, TableLookup, ConvertDepth, Box, Gaussian, Median, Erode, Dilate, Sobel, Convolve, Histogram, Integral, MinMaxLoc, Accumulate, AccumulateSquare}
 use Rattle.vx_base.specs.Sample.{IsSample, wrap, clamp, narrow, distance}
-use Rattle.vx_base.specs.Function.{parameters}
+use Rattle.vx_base.specs.Function.{parameters, accumulates}
 use Rattle.vx_base.specs.Formats.{takes_formats}
 use Rattle.vx_base.specs.Node.{has_amount}
 use Rattle.vx_base.specs.Pixelwise.{and_bits, or_bits, xor_bits, smaller, greater, formula_of_one, formula_of_two}
@@ -82,6 +82,8 @@ of_one Integral first output policy n a t h s = zero_sample output
 of_one Histogram U8 output policy n a t h s = not_so t
 of_one MinMaxLoc U8 output policy n a t h s = not_so t
 of_one MinMaxLoc S16 output policy n a t h s = not_so t
+of_one Accumulate first output policy n a t h s = zero_sample output
+of_one AccumulateSquare first output policy n a t h s = zero_sample output
 of_one function first output policy n a t h s = not_so t
 
 pub of_two : (function : Function) (first second output : Format) (policy : Policy) (n : ℕ) (a b : ℤ) → IsTrue (takes_formats function first (Some second) (Some output)) → IsSample first a → IsSample second b → IsSample output (formula_of_two function output policy n a b)
@@ -110,4 +112,12 @@ of_two Convolve first second output policy n a b t p q = zero_sample output
 of_two Histogram first second output policy n a b t p q = zero_sample output
 of_two Integral first second output policy n a b t p q = zero_sample output
 of_two MinMaxLoc first second output policy n a b t p q = zero_sample output
+of_two Accumulate first second output policy n a b t p q = clamp_sample output (b +ℤ a)
+of_two AccumulateSquare first second output policy n a b t p q = clamp_sample output (b +ℤ int_div_euclid (a *ℤ a) (pos (2 ^ n)))
 of_two function first second output policy n a b t p q = not_so t
+
+-- whatever an output held
+pub accumulated_is : (function : Function) (format : Format) (policy : Policy) (n : ℕ) (a c : ℤ) → accumulates function ≡ true → IsSample format (formula_of_two function format policy n a c)
+accumulated_is Accumulate format policy n a c h = clamp_sample format (c +ℤ a)
+accumulated_is AccumulateSquare format policy n a c h = clamp_sample format (c +ℤ int_div_euclid (a *ℤ a) (pos (2 ^ n)))
+accumulated_is function format policy n a c h = absurd (cc h)

@@ -3,7 +3,7 @@ use Rattle.std.specs.Prelude.{Bool, true, false, Option, Some, None}
 use Rattle.vx_base.specs.declared.format.Format.{Format}
 use Rattle.vx_base.specs.declared.format.Format.TheVariants.{U8, S16, U32}
 use Rattle.vx_base.specs.declared.function.Function.{Function}
-use Rattle.vx_base.specs.declared.function.Function.TheVariants.{AndBits, OrBits, XorBits, NotBits, Add, Subtract, Multiply, AbsoluteDifference, MinPixel, MaxPixel, Threshold, TableLookup, ConvertDepth, Box, Gaussian, Median, Erode, Dilate, Sobel, Convolve, Histogram, Integral, MinMaxLoc}
+use Rattle.vx_base.specs.declared.function.Function.TheVariants.{AndBits, OrBits, XorBits, NotBits, Add, Subtract, Multiply, AbsoluteDifference, MinPixel, MaxPixel, Threshold, TableLookup, ConvertDepth, Box, Gaussian, Median, Erode, Dilate, Sobel, Convolve, Histogram, Integral, MinMaxLoc, Accumulate, AccumulateSquare}
 
 -- U8 and U8 to U8
 abbrev pub are_bytes : Format → Format → Format → Bool
@@ -55,6 +55,8 @@ takes_formats Histogram U8 None None = true
 takes_formats Integral U8 None (Some U32) = true
 takes_formats MinMaxLoc U8 None None = true
 takes_formats MinMaxLoc S16 None None = true
+takes_formats Accumulate U8 None (Some S16) = true
+takes_formats AccumulateSquare U8 None (Some S16) = true
 takes_formats function a second output = false
 
 -- the format of an image that a node writes and whose format is open, from that of the node's first input; a function that
@@ -72,4 +74,6 @@ open_format ConvertDepth first = S16
 open_format Sobel first = S16
 open_format Convolve first = S16
 open_format Integral first = U32
+open_format Accumulate first = S16
+open_format AccumulateSquare first = S16
 open_format function first = U8

@@ -1,7 +1,7 @@
 -- The vision functions: their numbers, and what a node of each has. OpenVX 1.3, "Vision Functions".
-use Rattle.std.specs.Prelude.{ℕ, ◌==◌, true, false, List, [], ◌∷◌, find, Option, Some, None}
+use Rattle.std.specs.Prelude.{ℕ, Bool, ◌==◌, true, false, List, [], ◌∷◌, find, Option, Some, None}
 use Rattle.vx_base.specs.declared.function.Function.{Function}
-use Rattle.vx_base.specs.declared.function.Function.TheVariants.{AndBits, OrBits, XorBits, NotBits, Add, Subtract, Multiply, AbsoluteDifference, MinPixel, MaxPixel, Threshold, TableLookup, ConvertDepth, Box, Gaussian, Median, Erode, Dilate, Sobel, Convolve, Histogram, Integral, MinMaxLoc}
+use Rattle.vx_base.specs.declared.function.Function.TheVariants.{AndBits, OrBits, XorBits, NotBits, Add, Subtract, Multiply, AbsoluteDifference, MinPixel, MaxPixel, Threshold, TableLookup, ConvertDepth, Box, Gaussian, Median, Erode, Dilate, Sobel, Convolve, Histogram, Integral, MinMaxLoc, Accumulate, AccumulateSquare}
 use Rattle.vx_base.specs.declared.function.Parameters.{Parameters}
 use Rattle.vx_base.specs.declared.kind.Kind.{Kind}
 use Rattle.vx_base.specs.declared.kind.Kind.TheVariants as kind
@@ -31,11 +31,13 @@ function_number Convolve = 20
 function_number Histogram = 21
 function_number Integral = 22
 function_number MinMaxLoc = 23
+function_number Accumulate = 24
+function_number AccumulateSquare = 25
 
 abbrev pub functions : List Function
 functions =
     AndBits ∷ OrBits ∷ XorBits ∷ NotBits ∷ Add ∷ Subtract ∷ Multiply ∷ AbsoluteDifference ∷ MinPixel ∷ MaxPixel ∷ Threshold ∷ TableLookup ∷ ConvertDepth
-    ∷ Box ∷ Gaussian ∷ Median ∷ Erode ∷ Dilate ∷ Sobel ∷ Convolve ∷ Histogram ∷ Integral ∷ MinMaxLoc ∷ []
+    ∷ Box ∷ Gaussian ∷ Median ∷ Erode ∷ Dilate ∷ Sobel ∷ Convolve ∷ Histogram ∷ Integral ∷ MinMaxLoc ∷ Accumulate ∷ AccumulateSquare ∷ []
 
 -- the function with this number
 abbrev pub function_numbered : ℕ → Option Function
@@ -79,3 +81,11 @@ parameters Convolve = of_two_operands kind.Convolution
 parameters Histogram = record of_one_image { output = kind.Distribution }
 parameters Integral = of_one_image
 parameters MinMaxLoc = record of_one_image { output = kind.Extremes }
+parameters Accumulate = of_one_image
+parameters AccumulateSquare = record of_one_image { greatest_amount = Some 15 }
+
+-- whether the function adds to the image that it writes: what that held as the graph's run began is an operand too
+abbrev pub accumulates : Function → Bool
+accumulates Accumulate = true
+accumulates AccumulateSquare = true
+accumulates other = false

@@ -6,7 +6,7 @@ use Rattle.vx_base.specs.declared.format.Format.{Format}
 use Rattle.vx_base.specs.declared.format.Format.TheVariants.{U8, S16, U32}
 use Rattle.vx_base.specs.declared.policy.Policy.{Policy}
 use Rattle.vx_base.specs.declared.function.Function.{Function}
-use Rattle.vx_base.specs.declared.function.Function.TheVariants.{AndBits, OrBits, XorBits, NotBits, Add, Subtract, Multiply, AbsoluteDifference, MinPixel, MaxPixel, ConvertDepth}
+use Rattle.vx_base.specs.declared.function.Function.TheVariants.{AndBits, OrBits, XorBits, NotBits, Add, Subtract, Multiply, AbsoluteDifference, MinPixel, MaxPixel, ConvertDepth, Accumulate, AccumulateSquare}
 use Rattle.vx_base.specs.Sample.{clamp, narrow, distance}
 use Rattle.vx_base.specs.Rectangle.{meet_of}
 use Rattle.vx_base.specs.Image.{ImageValue, at, made}
@@ -68,6 +68,14 @@ converted U8 policy n a = narrow U8 policy (int_div_euclid a (pos (2 ^ n)))
 converted S16 policy n a = a *ℤ pos (2 ^ n)
 converted U32 policy n a = a
 
+-- "Accumulate": the sample is added to what the output held there, c
+abbrev pub accumulated : Format → ℤ → ℤ → ℤ
+accumulated format a c = clamp format (c +ℤ a)
+
+-- "Accumulate Squared": its square over 2^n, rounded down, is
+abbrev pub accumulated_square : Format → ℕ → ℤ → ℤ → ℤ
+accumulated_square format n a c = clamp format (c +ℤ int_div_euclid (a *ℤ a) (pos (2 ^ n)))
+
 -- ---- images
 
 -- an image of one: a formula at each place, valid where the image is
@@ -78,7 +86,7 @@ from_one format f a = made a.width a.height format a.valid (λ x y. f (at a x y)
 abbrev pub from_two : Format → (ℤ → ℤ → ℤ) → ImageValue → ImageValue → ImageValue
 from_two format f a b = made a.width a.height format (meet_of a.valid b.valid) (λ x y. f (at a x y) (at b x y))
 
--- ---- the functions: the formula of each, where it has one input and where it has two images
+-- ---- the functions: the formula of each, where it has one input, and where it has two images or one and what its output held
 
 abbrev pub formula_of_one : Function → Format → Policy → ℕ → ℤ → ℤ
 formula_of_one NotBits format policy n a = not_bits a
@@ -95,4 +103,6 @@ formula_of_two Multiply format policy n a b = product format policy n a b
 formula_of_two AbsoluteDifference format policy n a b = absolute_difference format a b
 formula_of_two MinPixel format policy n a b = smaller a b
 formula_of_two MaxPixel format policy n a b = greater a b
+formula_of_two Accumulate format policy n a c = accumulated format a c
+formula_of_two AccumulateSquare format policy n a c = accumulated_square format n a c
 formula_of_two other format policy n a b = pos 0

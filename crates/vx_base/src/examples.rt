@@ -23,7 +23,7 @@ ghost use Rattle.vx_base.specs.Function.{parameters};
 ghost use Rattle.vx_base.specs.declared.kind.Kind.TheVariants.{Image};
 ghost use Rattle.vx_base.specs.Pixelwise.{and_bits, or_bits, xor_bits, not_bits, sum, difference};
 ghost use Rattle.vx_base.specs.Pixelwise.{product, absolute_difference, thresholded, converted};
-ghost use Rattle.vx_base.specs.Pixelwise.{from_one};
+ghost use Rattle.vx_base.specs.Pixelwise.{accumulated, accumulated_square, from_one, from_two};
 ghost use Rattle.vx_base.specs.declared.output.Output.TheVariants.{First};
 ghost use Rattle.vx_base.specs.Outputs.{node_image};
 ghost use Rattle.vx_base.specs.Code.{code_number, code_name};
@@ -122,6 +122,32 @@ pub fn products()
     ensures scaled_nearest { product S16 Saturate 15 (negsuc 32767) (negsuc 32767) ≡ pos 32767 }
     ensures scaled_wrapped { product S16 Wrap 15 (negsuc 32767) (negsuc 32767) ≡ negsuc 32767 }
     ensures to_zero { product S16 Saturate 1 (negsuc 2) (pos 1) ≡ negsuc 0 }
+{}
+
+/// 200 added to 400, 100 to 32700; and squares of 255, as they are, over 2 and over 32768.
+pub fn accumulations()
+    ensures added { accumulated S16 (pos 200) (pos 400) ≡ pos 600 }
+    ensures nearest { accumulated S16 (pos 100) (pos 32700) ≡ pos 32767 }
+    ensures nearest_square { accumulated_square S16 0 (pos 255) (pos 0) ≡ pos 32767 }
+    ensures half { accumulated_square S16 1 (pos 255) (pos 0) ≡ pos 32512 }
+    ensures rounded_down { accumulated_square S16 15 (pos 255) (negsuc 32767) ≡ negsuc 32766 }
+{}
+
+/// A row to which one is added that is valid in its left half alone.
+pub fn accumulated_row()
+    ensures { (from_two S16 (accumulated S16) (record {
+      width = 4;
+      height = 1;
+      format = U8;
+      valid = record { x0 = 0; y0 = 0; x1 = 2; y1 = 1 };
+      samples = pos 10 ∷ pos 20 ∷ pos 0 ∷ pos 0 ∷ [];
+    }) (record {
+      width = 4;
+      height = 1;
+      format = S16;
+      valid = record { x0 = 0; y0 = 0; x1 = 4; y1 = 1 };
+      samples = pos 1 ∷ pos 2 ∷ pos 3 ∷ pos 4 ∷ [];
+    })).samples ≡ pos 11 ∷ pos 22 ∷ pos 0 ∷ pos 0 ∷ [] }
 {}
 
 /// -1 over 2 to U8, and 255 times 128 to S16.

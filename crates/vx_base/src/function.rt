@@ -1,6 +1,7 @@
 //! The vision functions.
 ghost use Rattle.std.specs.Prelude.{◌≡◌, ◌↔◌, Some};
 ghost use Rattle.vx_base.specs.Function.{function_number, function_numbered, parameters};
+ghost use Rattle.vx_base.specs.Function.{accumulates};
 ghost use Rattle.vx_base.specs.Formats.{are_bytes, are_equal, are_arithmetic, takes_formats};
 ghost use Rattle.vx_base.specs.declared.function.Function.{Function as VisionFunction};
 
@@ -56,6 +57,10 @@ pub enum Function {
     Integral,
     /// "Min, Max Location".
     MinMaxLoc,
+    /// "Accumulate".
+    Accumulate,
+    /// "Accumulate Squared", where the square is over 2^n, n being the node's amount.
+    AccumulateSquare,
 }
 
 /// What a node of a function has, beside its first input, which is an image, and its border.
@@ -102,6 +107,8 @@ impl Function {
             Function::Histogram => 21,
             Function::Integral => 22,
             Function::MinMaxLoc => 23,
+            Function::Accumulate => 24,
+            Function::AccumulateSquare => 25,
         }
     }
 
@@ -135,6 +142,8 @@ impl Function {
             21 => Some(Function::Histogram),
             22 => Some(Function::Integral),
             23 => Some(Function::MinMaxLoc),
+            24 => Some(Function::Accumulate),
+            25 => Some(Function::AccumulateSquare),
             _ => None,
         }
     }
@@ -147,6 +156,7 @@ impl Function {
             Function::Add | Function::Subtract => (true, None),
             Function::Multiply => (true, Some(15)),
             Function::ConvertDepth => (true, Some(7)),
+            Function::AccumulateSquare => (false, Some(15)),
             _ => (false, None),
         };
         Parameters {
@@ -188,6 +198,14 @@ impl Function {
             Function::MinMaxLoc => Kind::Extremes,
             _ => Kind::Image,
         }
+    }
+
+    /// Whether the function adds to the image that it writes: what that held as the run began is an
+    /// operand too.
+    pub fn accumulates(self) -> bool
+        ensures { result ≡ accumulates self }
+    {
+        matches!(self, Function::Accumulate | Function::AccumulateSquare)
     }
 
     /// Whether the function takes these formats: of its first input; of its second, which is that
@@ -236,7 +254,9 @@ impl Function {
             | Function::Median
             | Function::Erode
             | Function::Dilate => (first, output) == (Format::U8, Format::U8),
-            Function::Sobel => (first, output) == (Format::U8, Format::S16),
+            Function::Sobel | Function::Accumulate | Function::AccumulateSquare => {
+                (first, output) == (Format::U8, Format::S16)
+            }
             Function::Integral => (first, output) == (Format::U8, Format::U32),
             _ => false,
         }
@@ -288,7 +308,9 @@ impl Function {
             | Function::Multiply
             | Function::ConvertDepth
             | Function::Sobel
-            | Function::Convolve => Format::S16,
+            | Function::Convolve
+            | Function::Accumulate
+            | Function::AccumulateSquare => Format::S16,
             Function::Integral => Format::U32,
             _ => Format::U8,
         }

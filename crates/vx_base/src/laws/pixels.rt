@@ -10,7 +10,7 @@ ghost use Rattle.vx_base.specs.declared.policy.Policy.{Policy};
 ghost use Rattle.vx_base.specs.declared.function.Function.{Function};
 ghost use Rattle.vx_base.specs.Sample.{IsSample, distance};
 ghost use Rattle.vx_base.specs.Rectangle.{inside};
-ghost use Rattle.vx_base.specs.Function.{parameters};
+ghost use Rattle.vx_base.specs.Function.{parameters, accumulates};
 ghost use Rattle.vx_base.specs.Formats.{takes_formats};
 ghost use Rattle.vx_base.specs.Node.{has_amount, IsNode};
 ghost use Rattle.vx_base.specs.Image.{ImageValue, IsImage, at};
@@ -19,7 +19,8 @@ ghost use Rattle.vx_base.specs.Threshold.{ThresholdValue};
 ghost use Rattle.vx_base.specs.declared.node.Node.{Node};
 ghost use Rattle.vx_base.specs.declared.output.Output.{Output};
 ghost use Rattle.vx_base.specs.Outputs.{node_image};
-ghost use Rattle.vx_base.specs.Object.{ObjectValue, IsObject, object_kind, object_format};
+ghost use Rattle.vx_base.specs.Object.{ObjectValue, ImageObject, IsObject, object_kind};
+ghost use Rattle.vx_base.specs.Object.{object_format};
 ghost use Rattle.vx_base.specs.Pixelwise.{and_bits, or_bits, xor_bits, not_bits};
 ghost use Rattle.vx_base.specs.Pixelwise.{absolute_difference, thresholded, looked_up};
 ghost use Rattle.vx_base.specs.Pixelwise.{formula_of_one, formula_of_two, from_one, from_two};
@@ -75,6 +76,9 @@ pub fn results_are_samples()
         IsTrue (takes_formats function first (Some second) (Some output)) →
         IsSample first a → IsSample second b →
         IsSample output (formula_of_two function output policy n a b) }
+    ensures accumulated { (function : Function) (output : Format) (policy : Policy) (n : ℕ)
+        (a c : ℤ) → accumulates function ≡ true →
+        IsSample output (formula_of_two function output policy n a c) }
     ensures looked_up { (lut : LutValue) (a : ℤ) → All (IsSample lut.format) lut.entries →
         IsSample lut.format (looked_up lut a) }
     ensures thresholded { (threshold : ThresholdValue) (a : ℤ) → threshold.true_value < 256 →
@@ -103,6 +107,13 @@ pub fn from_two_samples()
         IsImage a → IsImage b →
         inside a.valid x y ≡ true → inside b.valid x y ≡ true →
         at (from_two format f a b) x y ≡ f (at a x y) (at b x y) }
+{}
+
+/// What a node gives to an image to which it adds, is an image of its format.
+pub fn accumulated_images()
+    ensures { (n : Node) (output : Output) (a old : ImageValue) → IsNode n →
+        IsImage a → IsImage old → accumulates n.function ≡ true →
+        IsImage (node_image n output old.format a (Some (ImageObject old))) }
 {}
 
 /// What a node gives to an image, of operands of the formats and kinds that it takes, is an image
