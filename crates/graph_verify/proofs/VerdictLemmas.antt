@@ -11,13 +11,13 @@ use Rattle.graph_verify.specs.declared.verdict.Verdict.TheVariants.{InvalidLink,
 use Rattle.graph_verify.specs.Links.{feeds}
 use Rattle.graph_verify.specs.Cycle.{has_cycle}
 use Rattle.graph_verify.specs.Outlines.{resolved}
-use Rattle.graph_verify.specs.Verdict.{two_writers, reads_loose, first_fault, work_bytes, verdict}
+use Rattle.graph_verify.specs.Verdict.{two_writers, has_loose_end, first_fault, work_bytes, verdict}
 
 -- what is known of a graph that can run
 pub record CanRun (work : ℕ) (is : Cell → Operand) (nodes : List Node) : Type 0 where
   pub one_writer : two_writers nodes ≡ false
   pub no_cycle : has_cycle feeds nodes ≡ false
-  pub no_loose_end : reads_loose is nodes ≡ false
+  pub no_loose_end : has_loose_end is nodes ≡ false
   pub no_fault : first_fault (resolved is nodes) nodes ≡ None
   pub room : work_bytes is nodes ≤ work
 
@@ -31,13 +31,13 @@ abbrev pub where_room : ℕ → (Cell → Operand) → List Node → Option Verd
 where_room work is nodes = if nat_le (work_bytes is nodes) work then None else Some NoResources
 
 module _ (work : ℕ) (is : Cell → Operand) (nodes : List Node) (one : two_writers nodes ≡ false) (no_cycle : has_cycle feeds nodes ≡ false) where
-  from_links : (loose : Bool) → reads_loose is nodes ≡ loose → verdict work is nodes ≡ (if loose then Some InvalidLink else option_or (first_fault (resolved is nodes) nodes) (where_room work is nodes))
+  from_links : (loose : Bool) → has_loose_end is nodes ≡ loose → verdict work is nodes ≡ (if loose then Some InvalidLink else option_or (first_fault (resolved is nodes) nodes) (where_room work is nodes))
   from_links loose h = grind arith
 
-  pub loose_end : true ≡ reads_loose is nodes → verdict work is nodes ≡ Some InvalidLink
+  pub loose_end : true ≡ has_loose_end is nodes → verdict work is nodes ≡ Some InvalidLink
   loose_end loose = from_links true (sym loose)
 
-  pub by_fault : false ≡ reads_loose is nodes → (fault : Option Verdict) → fault ≡ first_fault (resolved is nodes) nodes → verdict work is nodes ≡ option_or fault (where_room work is nodes)
+  pub by_fault : false ≡ has_loose_end is nodes → (fault : Option Verdict) → fault ≡ first_fault (resolved is nodes) nodes → verdict work is nodes ≡ option_or fault (where_room work is nodes)
   by_fault no_loose_end fault h = from_links false (sym no_loose_end) ∙ ap (λ f. option_or f (where_room work is nodes)) (sym h)
 
 pub too_large : (work : ℕ) (is : Cell → Operand) (nodes : List Node) → work < work_bytes is nodes → where_room work is nodes ≡ Some NoResources

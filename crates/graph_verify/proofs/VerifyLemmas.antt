@@ -35,7 +35,7 @@ use Rattle.graph_verify.specs.Operand.{is_virtual, is_image, operand_format, vir
 use Rattle.graph_verify.specs.Order.{IsOrder}
 use Rattle.graph_verify.specs.Outlines.{operand_outline, given_outline, written_outline, outlines, virtual_or_image, as_known, resolved}
 use Rattle.graph_verify.specs.Rounds.{IsSolution}
-use Rattle.graph_verify.specs.Verdict.{two_writers, reads_loose, node_fault, first_fault, virtual_outputs, work_bytes, verdict}
+use Rattle.graph_verify.specs.Verdict.{two_writers, has_loose_end, node_fault, first_fault, virtual_outputs, work_bytes, verdict}
 use Rattle.graph_verify.specs.Verified.{IsVerified, written_description}
 use Rattle.graph_verify.proofs.KnownLemmas.{find_cases, learnt_from_known, operands_known}
 use Rattle.graph_verify.proofs.LinkLemmas.{two_writers-permutation, same-from_In, same_cell-true, same_cell-is, In-outputs}
@@ -191,7 +191,7 @@ module _ (nodes steps : List Linked) (one : two_writers (linked_nodes nodes) ≡
   nodes_no_cycle : has_cycle feeds (linked_nodes nodes) ≡ false
   nodes_no_cycle = no_cycle_from_order feeds (linked_nodes nodes) (linked_nodes steps) nodes_order
 
-  pub loose_end_found : (work : ℕ) (is : Cell → Operand) → true ≡ reads_loose is (linked_nodes nodes) → verdict work is (linked_nodes nodes) ≡ Some InvalidLink
+  pub loose_end_found : (work : ℕ) (is : Cell → Operand) → true ≡ has_loose_end is (linked_nodes nodes) → verdict work is (linked_nodes nodes) ≡ Some InvalidLink
   loose_end_found work is loose = loose_end work is (linked_nodes nodes) one nodes_no_cycle loose
 
   steps_operands : (is : Cell → Operand) → AreOperands is nodes → AreOperands is steps
@@ -216,7 +216,7 @@ module _ (nodes steps : List Linked) (one : two_writers (linked_nodes nodes) ≡
       ∙ ap (λ r. operands_of r l.node) (sym (same_resolved is)))
 
   pub verdict_found : (work : ℕ) (is : Cell → Operand) (known seen : List Known) (fault : Option Verdict) → AreOperands is nodes → Told known → seen ≡ known → Finds seen fault
-      → false ≡ reads_loose is (linked_nodes nodes) → verdict work is (linked_nodes nodes) ≡ option_or fault (where_room work is (linked_nodes nodes))
+      → false ≡ has_loose_end is (linked_nodes nodes) → verdict work is (linked_nodes nodes) ≡ option_or fault (where_room work is (linked_nodes nodes))
   verdict_found work is known seen fault operands told same finds no_loose_end = search (rules, by_fault, nodes_no_cycle, found_fault)
 
   pub bytes_found : (is : Cell → Operand) (known : List Known) (outputs : List VirtualOutput) → AreOperands is nodes → Told known → outputs ≡ filter_map closed_output known → sum_by (λ o. byte_count o.desc) outputs ≡ work_bytes is (linked_nodes nodes)

@@ -6,7 +6,7 @@ use Rattle.vx_base.specs.declared.policy.Policy.{Policy}
 use Rattle.vx_base.specs.declared.policy.Policy.TheVariants.{Wrap, Saturate}
 use Rattle.vx_base.specs.declared.border.Border.TheVariants.{Undefined}
 use Rattle.vx_base.specs.declared.function.Function.{Function}
-use Rattle.vx_base.specs.declared.function.Function.TheVariants.{AndBits, NotBits, Add, ConvertDepth}
+use Rattle.vx_base.specs.declared.function.Function.TheVariants.{AndBits, NotBits, Add, ConvertDepth, Accumulate}
 use Rattle.vx_base.specs.declared.node.Node.{Node}
 use Rattle.vx_base.specs.Cell.{Cell, cell_of}
 use Rattle.graph_verify.specs.declared.operand.Operand.{Operand}
@@ -26,7 +26,7 @@ node_to function policy input second output =
       out2 = None;
     }
 
--- Not of the image of one name to that of another, And and Add of two, and a conversion of depth
+-- Not of the image of one name to that of another, And and Add of two, a conversion of depth, and the sum of an image and an output
 abbrev pub not_to : ℕ → ℕ → Node
 not_to input output = node_to NotBits Wrap input None output
 
@@ -38,6 +38,9 @@ adds input second output = node_to Add Wrap input (Some (cell_of second)) output
 
 abbrev pub convert_to : ℕ → ℕ → Node
 convert_to input output = node_to ConvertDepth Saturate input None output
+
+abbrev pub accumulate_to : ℕ → ℕ → Node
+accumulate_to input output = node_to Accumulate Wrap input None output
 
 abbrev pub image_operand : ℕ → ℕ → Format → Operand
 image_operand width height format = Image (record { width = width; height = height; format = format })

@@ -1,7 +1,8 @@
 -- Nodes beside what their cells are.
-use Rattle.std.specs.Prelude.{◌≡◌, Bool, false, not, ◌&&◌, ◌||◌, List, map, All, Option, Some}
+use Rattle.std.specs.Prelude.{◌≡◌, Bool, false, not, ◌&&◌, ◌||◌, List, map, All, Option, Some, None}
 use Rattle.vx_base.specs.declared.node.Node.{Node}
 use Rattle.vx_base.specs.Cell.{Cell}
+use Rattle.vx_base.specs.Function.{accumulates}
 use Rattle.graph_verify.specs.declared.linked.Linked.{Linked}
 use Rattle.graph_verify.specs.declared.operand.Operand.{Operand}
 use Rattle.graph_verify.specs.Links.{is_written}
@@ -26,3 +27,11 @@ is_given_loose nodes cell operand = false
 -- whether a node reads such a cell
 abbrev pub has_loose_input : List Node → Linked → Bool
 has_loose_input nodes l = is_loose_end nodes l.node.in1 l.operands.in1 || is_given_loose nodes l.node.in2 l.operands.in2
+
+abbrev pub is_given_virtual : Option Operand → Bool
+is_given_virtual None = false
+is_given_virtual (Some operand) = is_virtual operand
+
+-- whether a node adds to a virtual image
+abbrev pub has_virtual_sum : Linked → Bool
+has_virtual_sum l = accumulates l.node.function && (is_given_virtual l.operands.out1 || is_given_virtual l.operands.out2)

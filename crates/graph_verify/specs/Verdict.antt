@@ -1,5 +1,5 @@
 -- Why a graph can't run. OpenVX 1.3, "Graphs", vxVerifyGraph.
-use Rattle.std.specs.Prelude.{ℕ, Bool, false, not, ◌&&◌, nat_le, sum_by, List, [], ◌∷◌, Option, Some, None, if◌then◌else◌}
+use Rattle.std.specs.Prelude.{ℕ, Bool, false, not, ◌&&◌, ◌||◌, nat_le, sum_by, List, [], ◌∷◌, Option, Some, None, if◌then◌else◌}
 use Rattle.std.specs.List.{list_any, list_all, filter, flat_map}
 use Rattle.std.specs.Option.{option_and_then, option_or}
 use Rattle.vx_base.specs.declared.format.Format.{Format}
@@ -8,6 +8,7 @@ use Rattle.vx_base.specs.declared.node.Node.{Node}
 use Rattle.vx_base.specs.declared.code.Code.{Code}
 use Rattle.vx_base.specs.declared.code.Code.TheVariants as code
 use Rattle.vx_base.specs.Cell.{Cell, same_cell}
+use Rattle.vx_base.specs.Function.{accumulates}
 use Rattle.vx_base.specs.Node.{inputs, outputs}
 use Rattle.vx_base.specs.Formats.{takes_formats}
 use Rattle.graph_verify.specs.declared.operand.Operand.{Operand}
@@ -63,12 +64,21 @@ verdict_on n o =
 abbrev pub two_writers : List Node → Bool
 two_writers nodes = has_twice (flat_map outputs nodes)
 
--- whether a node reads a virtual image that no node writes
+-- whether a cell is a virtual image that no node writes
 abbrev pub is_loose : (Cell → Operand) → List Node → Cell → Bool
 is_loose is nodes cell = is_virtual (is cell) && not (is_written nodes cell)
 
-abbrev pub reads_loose : (Cell → Operand) → List Node → Bool
-reads_loose is nodes = list_any (λ n. list_any (is_loose is nodes) (inputs n)) nodes
+-- whether a node reads one
+abbrev pub reads_loose : (Cell → Operand) → List Node → Node → Bool
+reads_loose is nodes n = list_any (is_loose is nodes) (inputs n)
+
+-- whether a node adds to a virtual image, which holds nothing as a run begins
+abbrev pub adds_to_virtual : (Cell → Operand) → Node → Bool
+adds_to_virtual is n = accumulates n.function && list_any (λ cell. is_virtual (is cell)) (outputs n)
+
+-- whether a node takes from a virtual image what nothing gives it
+abbrev pub has_loose_end : (Cell → Operand) → List Node → Bool
+has_loose_end is nodes = list_any (λ n. reads_loose is nodes n || adds_to_virtual is n) nodes
 
 -- the fault of the node that was added first among those that have one
 abbrev pub first_fault : (Cell → Operand) → List Node → Option Verdict
@@ -89,5 +99,5 @@ abbrev pub verdict : ℕ → (Cell → Operand) → List Node → Option Verdict
 verdict work is nodes =
     if two_writers nodes then Some MultipleWriters
     else (if has_cycle feeds nodes then Some InvalidGraph
-    else (if reads_loose is nodes then Some InvalidLink
+    else (if has_loose_end is nodes then Some InvalidLink
     else option_or (first_fault (resolved is nodes) nodes) (if nat_le (work_bytes is nodes) work then None else Some NoResources)))

@@ -16,7 +16,7 @@ ghost use Rattle.graph_verify.specs.Outlines.{resolved};
 ghost use Rattle.graph_verify.specs.Verdict.{verdict_on, node_fault, verdict};
 ghost use Rattle.vx_base.specs.Cell.{cell_of};
 ghost use Rattle.graph_verify.specs.Examples.{not_to, and_to, adds, convert_to, image_operand};
-ghost use Rattle.graph_verify.specs.Examples.{virtual_of, small, but_for};
+ghost use Rattle.graph_verify.specs.Examples.{accumulate_to, virtual_of, small, but_for};
 
 /// Not of an image to itself is a cycle, and two outputs are not one cell.
 pub fn cells()
@@ -123,6 +123,17 @@ pub fn graphs()
     ensures all { verdict 9 small (not_to 1 2 ∷ not_to 3 2 ∷ not_to 1 1 ∷ not_to 6 7 ∷ not_to 7 8
         ∷ not_to 8 6 ∷ not_to 6 2 ∷ not_to 4 2 ∷ and_to 1 5 2 ∷ []) ≡ Some MultipleWriters }
     ensures none { verdict 9 small [] ≡ None }
+{}
+
+/// Graphs that add to an image: what that held is no read, but nothing is added to what is virtual.
+pub fn sums()
+    ensures once { verdict 9 small (accumulate_to 1 4 ∷ []) ≡ None }
+    ensures read { verdict 9 small (convert_to 4 3 ∷ accumulate_to 1 4 ∷ []) ≡ None }
+    ensures twice { verdict 9 small (accumulate_to 1 4 ∷ accumulate_to 2 4 ∷ [])
+        ≡ Some MultipleWriters }
+    ensures itself { verdict 9 small (accumulate_to 4 4 ∷ []) ≡ Some InvalidGraph }
+    ensures to_virtual { verdict 9 small (accumulate_to 1 6 ∷ []) ≡ Some InvalidLink }
+    ensures to_bytes { verdict 9 small (accumulate_to 1 2 ∷ []) ≡ Some InvalidFormat }
 {}
 
 /// The fault that is told is that of the node that was added first, though it runs last.

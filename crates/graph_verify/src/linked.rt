@@ -7,7 +7,8 @@ ghost use Rattle.graph_verify.specs.Links.{writes, is_written};
 ghost use Rattle.graph_verify.specs.declared.operand.Operand.{Operand};
 ghost use Rattle.graph_verify.specs.Linked.{linked_nodes, AreOperands, is_loose_end};
 ghost use Rattle.graph_verify.specs.Linked.{is_given_loose, has_loose_input};
-ghost use Rattle.graph_verify.specs.Verdict.{two_writers, writes_twice, reads_loose};
+ghost use Rattle.graph_verify.specs.Linked.{is_given_virtual, has_virtual_sum};
+ghost use Rattle.graph_verify.specs.Verdict.{two_writers, writes_twice, has_loose_end};
 
 use crate::operand::{Operand, Operands};
 use vx_base::{Node, ObjRef};
@@ -104,10 +105,28 @@ fn has_loose_input(nodes: &[Linked], linked: &Linked) -> bool
     is_loose_end(nodes, node.in1, operands.in1) || is_given_loose(nodes, node.in2, operands.in2)
 }
 
-/// Whether a node reads a virtual image that no node writes.
-pub fn reads_loose(nodes: &[Linked]) -> bool
-    ensures { (is : Cell → Operand) → AreOperands is nodes.now →
-        result ≡ reads_loose is (linked_nodes nodes.now) }
+/// Whether an operand, if it is there, is a virtual image.
+fn is_given_virtual(operand: Option<Operand>) -> bool
+    ensures { result ≡ is_given_virtual operand }
 {
-    nodes.iter().any(|linked| has_loose_input(nodes, linked))
+    operand.is_some_and(Operand::is_virtual)
+}
+
+/// Whether a node adds to a virtual image, which holds nothing as a run begins.
+fn has_virtual_sum(linked: &Linked) -> bool
+    ensures { result ≡ has_virtual_sum linked.now }
+{
+    let Linked { node, operands } = linked;
+    node.function.accumulates()
+        && (is_given_virtual(operands.out1) || is_given_virtual(operands.out2))
+}
+
+/// Whether a node takes from a virtual image what nothing gives it.
+pub fn has_loose_end(nodes: &[Linked]) -> bool
+    ensures { (is : Cell → Operand) → AreOperands is nodes.now →
+        result ≡ has_loose_end is (linked_nodes nodes.now) }
+{
+    nodes
+        .iter()
+        .any(|linked| has_loose_input(nodes, linked) || has_virtual_sum(linked))
 }

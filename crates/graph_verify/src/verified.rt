@@ -16,7 +16,7 @@ ghost use Rattle.vx_base.specs.declared.node.TheConstants.{GREATEST_NODES};
 use crate::known::{
     Known, VirtualOutput, all_described, known_after, known_operands, sample_bytes,
 };
-use crate::linked::{Linked, has_two_writers, reads_loose};
+use crate::linked::{Linked, has_loose_end, has_two_writers};
 use crate::order::put_in_order;
 use crate::verdict::{Verdict, node_fault};
 use std::alloc::{AllocError, Global};
@@ -115,7 +115,7 @@ fn verify_ordered(
     ensures refused { IfErr result (λ fault. (is : Cell → Operand) → AreOperands is nodes.now →
         IfRefused fault (λ v. verdict work is (linked_nodes nodes.now) ≡ Some v)) }
 {
-    if reads_loose(nodes) {
+    if has_loose_end(nodes) {
         return Err(VerifyFault::Refused(Verdict::InvalidLink));
     }
     let known = known_after(alloc, steps)?;

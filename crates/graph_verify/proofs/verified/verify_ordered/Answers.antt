@@ -7,9 +7,9 @@ use Rattle.graph_verify.proofs.VerdictLemmas.{too_large, there_is_room}
 use Rattle.graph_verify.proofs.VerifyLemmas.{nodes_order, steps_one_writer, steps_images, loose_end_found, verdict_found, bytes_found, verified_found, few_outputs}
 use Rattle.graph_verify.proofs.verified.verify_ordered.Goals as goal
 
-pub returns-then-reads_loose-clause-refused : goal.returns-then-reads_loose-clause-refused
-returns-then-reads_loose-clause-refused c is operands =
-    loose_end_found c.args.nodes.now c.args.steps.now c.requires.one_writer c.requires.order c.args.work is (c.if-reads_loose.ensures is operands)
+pub returns-then-has_loose_end-clause-refused : goal.returns-then-has_loose_end-clause-refused
+returns-then-has_loose_end-clause-refused c is operands =
+    loose_end_found c.args.nodes.now c.args.steps.now c.requires.one_writer c.requires.order c.args.work is (c.if-has_loose_end.ensures is operands)
 
 pub known_after-requires-clause-one_writer : goal.known_after-requires-clause-one_writer
 known_after-requires-clause-one_writer c = steps_one_writer c.args.nodes.now c.args.steps.now c.requires.one_writer c.requires.order
@@ -23,7 +23,7 @@ known_after-requires-clause-images c = steps_images c.args.nodes.now c.args.step
 pub returns-in-Some-clause-refused : goal.returns-in-Some-clause-refused
 returns-in-Some-clause-refused c is operands =
     verdict_found c.args.nodes.now c.args.steps.now c.requires.one_writer c.requires.order c.args.work is c.in_ok-known.known.items c.deref.result.now (Some c.in-Some.fault) operands
-    c.in_ok-known.ensures.known c.deref.ensures.value c.in-Some.ensures (c.if-reads_loose.ensures is operands)
+    c.in_ok-known.ensures.known c.deref.ensures.value c.in-Some.ensures (c.if-has_loose_end.ensures is operands)
 
 pub sample_bytes-requires : goal.sample_bytes-requires
 sample_bytes-requires c =
@@ -35,7 +35,7 @@ returns-then-sample_bytes-work-clause-refused c is operands =
     let outputs = c.deref-3.ensures.value ∙ c.in_ok-virtual_outputs.ensures ∙ ap (filter_map closed_output) c.deref-2.ensures.value in
     let bytes = c.sample_bytes.ensures ∙ bytes_found c.args.nodes.now c.args.steps.now c.requires.one_writer c.requires.order is c.in_ok-known.known.items c.deref-3.result.now operands c.in_ok-known.ensures.known outputs in
     verdict_found c.args.nodes.now c.args.steps.now c.requires.one_writer c.requires.order c.args.work is c.in_ok-known.known.items c.deref.result.now None operands
-    c.in_ok-known.ensures.known c.deref.ensures.value c.in_default.ensures (c.if-reads_loose.ensures is operands)
+    c.in_ok-known.ensures.known c.deref.ensures.value c.in_default.ensures (c.if-has_loose_end.ensures is operands)
     ∙ too_large c.args.work is (linked_nodes c.args.nodes.now) (omega (arith, bytes, c.if-sample_bytes-work.true))
 
 pub returns-clause-verified : goal.returns-clause-verified
@@ -48,5 +48,5 @@ returns-clause-ok c is operands =
     let outputs = c.deref-3.ensures.value ∙ c.in_ok-virtual_outputs.ensures ∙ ap (filter_map closed_output) c.deref-2.ensures.value in
     let bytes = c.sample_bytes.ensures ∙ bytes_found c.args.nodes.now c.args.steps.now c.requires.one_writer c.requires.order is c.in_ok-known.known.items c.deref-3.result.now operands c.in_ok-known.ensures.known outputs in
     verdict_found c.args.nodes.now c.args.steps.now c.requires.one_writer c.requires.order c.args.work is c.in_ok-known.known.items c.deref.result.now None operands
-    c.in_ok-known.ensures.known c.deref.ensures.value c.in_default.ensures (c.if-reads_loose.ensures is operands)
+    c.in_ok-known.ensures.known c.deref.ensures.value c.in_default.ensures (c.if-has_loose_end.ensures is operands)
     ∙ there_is_room c.args.work is (linked_nodes c.args.nodes.now) (omega (arith, bytes, c.if-sample_bytes-work.false))

@@ -1,0 +1,12 @@
+use Rattle.std.proofs.Common.{◌∙◌, ◌||◌, rules, tests}
+use Rattle.std.proofs.lemmas.Iterator.{YieldsList-from_slice}
+use Rattle.std.proofs.lemmas.Iterator.Search.{any_from_yields_List}
+use Rattle.graph_verify.specs.Linked.{linked_nodes, has_loose_input, has_virtual_sum}
+use Rattle.graph_verify.proofs.LooseLemmas.{loose_end-linked}
+use Rattle.graph_verify.proofs.linked.has_loose_end.Goals as goal
+
+pub returns : goal.returns
+returns c is operands =
+    let nodes = c.args.nodes.now in
+    any_from_yields_List (λ l. has_loose_input (linked_nodes nodes) l || has_virtual_sum l) _ _ _ c.any.ensures.ran (YieldsList-from_slice nodes cc) (λ x b q k. search (rules, tests))
+    ∙ loose_end-linked is (linked_nodes nodes) nodes operands
