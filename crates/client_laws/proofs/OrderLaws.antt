@@ -1,6 +1,6 @@
 -- The order in which the nodes of a graph were added makes no difference to whether it runs, nor to what it leaves.
 use Rattle.std.proofs.Common.{◌≡◌, ℕ, ◌+◌, ◌≤◌, Bool, false, List, [], ◌∷◌, length, Option, Some, None, Ok, inl, inr, refl, sym, ap, ◌∙◌, arith}
-use Rattle.std.specs.Prelude.{◌&&◌, not, sum_by}
+use Rattle.std.specs.Prelude.{◌&&◌, ◌||◌, not, sum_by}
 use Rattle.std.specs.List.{list_any, filter, flat_map}
 use Rattle.std.specs.List.Sorted.{IsPermutation}
 use Rattle.std.specs.Option.{option_map, option_or}
@@ -24,7 +24,7 @@ use Rattle.graph_verify.specs.Members.{In, AllIn}
 use Rattle.graph_verify.specs.Operand.{is_virtual, operands_of, virtual_bytes}
 use Rattle.graph_verify.specs.Outlines.{operand_outline, written_outline, as_known, resolved}
 use Rattle.graph_verify.specs.Rounds.{rounds}
-use Rattle.graph_verify.specs.Verdict.{node_fault, is_loose, reads_loose, first_fault, virtual_outputs, work_bytes, verdict}
+use Rattle.graph_verify.specs.Verdict.{node_fault, reads_loose, adds_to_virtual, has_loose_end, first_fault, virtual_outputs, work_bytes, verdict}
 use Rattle.graph_verify.proofs.CycleLemmas.{has_cycle-from_cycle, cycle_from-has_cycle}
 use Rattle.graph_verify.proofs.LinkLemmas.{one_writer, two_writers-permutation}
 use Rattle.graph_verify.proofs.MemberLemmas.{AllIn-permutation, AllIn-permutation_back}
@@ -87,11 +87,11 @@ module _ (work : ℕ) (is : Cell → Operand) (nodes others : List Node) (same :
       let none = can.no_cycle in
       cc)
 
-  no_loose_end : reads_loose is others ≡ false
+  no_loose_end : has_loose_end is others ≡ false
   no_loose_end =
-      ap (λ (written : Cell → Bool). list_any (λ n. list_any (λ c. is_virtual (is c) && not (written c)) (inputs n)) others)
+      ap (λ (written : Cell → Bool). list_any (λ n. list_any (λ c. is_virtual (is c) && not (written c)) (inputs n) || adds_to_virtual is n) others)
       (fun_ext (λ c. sym (list_any-IsPermutation (λ n. writes n c) nodes others same)))
-      ∙ sym (list_any-IsPermutation (λ n. list_any (is_loose is nodes) (inputs n)) nodes others same)
+      ∙ sym (list_any-IsPermutation (λ n. reads_loose is nodes n || adds_to_virtual is n) nodes others same)
       ∙ can.no_loose_end
 
   none_at_fault : first_fault (resolved is others) others ≡ None

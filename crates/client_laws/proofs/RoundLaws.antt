@@ -6,27 +6,16 @@ use Rattle.std.specs.List.Sorted.{IsStrictlyIncreasing}
 use Rattle.std.proofs.Math.Path.{fun_ext}
 use Rattle.std.proofs.lemmas.List.Elements.{All-nil, All-head, All-tail, All-append, All-weaker}
 use Rattle.vx_base.specs.declared.node.Node.{Node}
-use Rattle.vx_base.specs.Cell.{Cell}
 use Rattle.vx_base.specs.Object.{IsObject}
-use Rattle.vx_base.specs.Outputs.{written_by}
+use Rattle.vx_base.specs.Outputs.{written_from}
 use Rattle.object_table.specs.Named.{Named, held, with_written}
-use Rattle.object_table.specs.Skeleton.{skeleton}
 use Rattle.object_table.proofs.HeldLemmas.{names_of}
-use Rattle.object_table.proofs.SkeletonLaws.{option_map-told}
-use Rattle.graph_verify.specs.Operand.{operand_of}
 use Rattle.graph_run.specs.Graph.{rounds_of_nodes}
-use Rattle.graph_run.specs.Lasting.{lasting_named, Lasts}
+use Rattle.graph_run.specs.Lasting.{Lasts}
 use Rattle.graph_run.proofs.CellLemmas.{IsReplacement, Lasts-with_written}
-use Rattle.graph_run.proofs.LastingLemmas.{skeletons-last, cell-lasts, Lasts-trans, Lasts-names}
-use Rattle.graph_run.proofs.OperandLaws.{operand-skeleton}
+use Rattle.graph_run.proofs.LastingLemmas.{Lasts-trans, Lasts-names}
 use Rattle.client_model.specs.Immediate.{operand_in}
-use Rattle.client_model.proofs.NodeStepLaws.{CanRunOn, written_by_fits}
-
--- among objects of which as much lasts, a cell holds the same as an operand
-operand_alike : (objects others : List Named) → map lasting_named others ≡ map lasting_named objects → (cell : Cell) → operand_in others cell ≡ operand_in objects cell
-operand_alike objects others same cell =
-    option_map-told skeleton operand_of operand_of operand-skeleton (held others cell) (held objects cell)
-    (skeletons-last (held others cell) (held objects cell) (cell-lasts objects others cell same))
+use Rattle.client_model.proofs.NodeStepLaws.{CanRunOn, operand_alike, written_from_fits}
 
 All-flat_map : {X Y : Type 0} (P : Y → Type 0) (f : X → List Y) (xs : List X) → All (λ x. All P (f x)) xs → All P (flat_map f xs)
 All-flat_map P f [] h = All-nil P
@@ -40,8 +29,8 @@ rounds_last nodes (suc k) objects is names can =
     let before : List Named = rounds_of_nodes nodes k objects in
     let kept = rounds_last nodes k objects is names can in
     let still : All (CanRunOn (operand_in before)) nodes = subst (λ look. All (CanRunOn look) nodes) (sym (fun_ext (operand_alike objects before kept.lasting))) can in
-    let written = flat_map (λ n. written_by n (held before)) nodes in
+    let written = flat_map (λ n. written_from (held objects) n (held before)) nodes in
     Lasts-trans objects before (with_written before written) kept
     (Lasts-with_written before written (Lasts-names objects before kept names) kept.objects
-    (All-flat_map (IsReplacement before) (λ n. written_by n (held before)) nodes
-    (All-weaker (CanRunOn (operand_in before)) (λ n. All (IsReplacement before) (written_by n (held before))) (λ n runs. written_by_fits before n kept.objects runs) nodes still)))
+    (All-flat_map (IsReplacement before) (λ n. written_from (held objects) n (held before)) nodes
+    (All-weaker (CanRunOn (operand_in before)) (λ n. All (IsReplacement before) (written_from (held objects) n (held before))) (λ n runs. written_from_fits objects before n is kept.objects kept.lasting runs) nodes still)))

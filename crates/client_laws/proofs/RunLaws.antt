@@ -22,7 +22,7 @@ use Rattle.vx_base.specs.Graph.{GraphValue, nodes_of, is_registered}
 use Rattle.vx_base.specs.Image.{ImageValue}
 use Rattle.vx_base.specs.Object.{ObjectValue, ImageObject, DelayObject, GraphObject, VirtualObject, object_kind}
 use Rattle.vx_base.specs.Outline.{Outline}
-use Rattle.vx_base.specs.Outputs.{written_by}
+use Rattle.vx_base.specs.Outputs.{written_from}
 use Rattle.object_table.specs.Context.{Context, with_objects}
 use Rattle.object_table.specs.Delay.{in_slot}
 use Rattle.object_table.specs.Named.{Named, object_held, held}
@@ -227,8 +227,9 @@ graph_again nodes before later run name graph is =
     of_form (Some other) e = absurd (cc)
 
 -- what a node writes depends on the cells that it names
-written_alike : (n : Node) (one other : Cell → Option ObjectValue) → ((cell : Cell) → names_cell n cell ≡ true → one cell ≡ other cell) → written_by n one ≡ written_by n other
-written_alike n one other same = grind (arith, named_by_input, named_by_output, In-left, In-right)
+written_alike : (n : Node) (start begin one other : Cell → Option ObjectValue) → ((cell : Cell) → names_cell n cell ≡ true → start cell ≡ begin cell) → ((cell : Cell) → names_cell n cell ≡ true → one cell ≡ other cell)
+    → written_from start n one ≡ written_from begin n other
+written_alike n start begin one other begun same = grind (arith, named_by_input, named_by_output, In-left, In-right)
 
 -- a cell that holds what is no virtual image is under a name of none
 no_virtual : (slot : Option ℕ) (o : Option ObjectValue) (operand : Operand) → option_map operand_of (option_and_then (in_slot slot) o) ≡ Some operand → option_map object_kind (option_and_then (in_slot slot) o) ≢ Some kind.VirtualImage
@@ -239,28 +240,46 @@ no_virtual (Some k) (Some (VirtualObject image)) operand there real e = cc
 no_virtual slot (Some other) operand there real e = cc
 
 -- where as much is held by the cells that a node names, it finds what it gives as before
-written_again : (n : Node) (one other : List Named) → ((cell : Cell) → names_cell n cell ≡ true → held other cell ≡ held one cell) → All (λ w. held one w.0 ≡ Some w.1) (written_by n (held one))
-    → All (λ w. held other w.0 ≡ Some w.1) (written_by n (held other))
-written_again n one other same found =
-    subst (All (λ (w : Cell × ObjectValue). held other w.0 ≡ Some w.1)) (sym (written_alike n (held other) (held one) same))
-    (All-from_In (λ (w : Cell × ObjectValue). held other w.0 ≡ Some w.1) (written_by n (held one))
-    (λ w j. same w.0 (or_right (reads n w.0) (writes n w.0) (written_held n (held one) w j).0) ∙ In-from_All (λ (v : Cell × ObjectValue). held one v.0 ≡ Some v.1) (written_by n (held one)) found w j))
+written_again : (n : Node) (start begin one other : List Named) → ((cell : Cell) → names_cell n cell ≡ true → held start cell ≡ held begin cell) → ((cell : Cell) → names_cell n cell ≡ true → held other cell ≡ held one cell)
+    → All (λ w. held one w.0 ≡ Some w.1) (written_from (held begin) n (held one)) → All (λ w. held other w.0 ≡ Some w.1) (written_from (held start) n (held other))
+written_again n start begin one other begun same found =
+    subst (All (λ (w : Cell × ObjectValue). held other w.0 ≡ Some w.1)) (sym (written_alike n (held start) (held begin) (held other) (held one) begun same))
+    (All-from_In (λ (w : Cell × ObjectValue). held other w.0 ≡ Some w.1) (written_from (held begin) n (held one))
+    (λ w j.
+    same w.0 (or_right (reads n w.0) (writes n w.0) (written_held (held begin) n (held one) w j).0)
+    ∙ In-from_All (λ (v : Cell × ObjectValue). held one v.0 ≡ Some v.1) (written_from (held begin) n (held one)) found w j))
+
+-- what isn't virtual begins as it is
+begun_real : (is : Cell → Operand) (nodes : List Node) (name : ℕ) (o : Option ObjectValue) → option_map is_virtual_object o ≢ Some true → option_map (begun_under is nodes name) o ≡ o
+begun_real is nodes name o real = grind arith
 
 module _ (nodes : List Node) (before later : List Named) (run : IsTheRun nodes before later) (stand : CellsStand (operand_held before) nodes before) (n : Node) (i : In n nodes) where
   -- a node that names no virtual image finds what it gives
-  found_again : ((cell : Cell) → names_cell n cell ≡ true → kind_in before cell ≢ Some kind.VirtualImage) → All (λ w. held later w.0 ≡ Some w.1) (written_by n (held later))
-  found_again real = written_again n at_end later as_then solved
+  found_again : ((cell : Cell) → names_cell n cell ≡ true → kind_in before cell ≢ Some kind.VirtualImage)
+      → All (λ w. held later w.0 ≡ Some w.1) (written_from (held before) n (held later))
+  found_again real = written_again n before begin at_end later as_before as_then solved
     where
+      begin : List Named
+      begin = at_begin nodes before
+
+      no_virtual_there : (cell : Cell) → names_cell n cell ≡ true → option_map is_virtual_object (object_held before cell.name) ≢ Some true
+      no_virtual_there cell named_there = no_virtual cell.slot (object_held before cell.name) (operand_held before cell) (stand.found n cell i named_there) (real cell named_there)
+
+      as_before : (cell : Cell) → names_cell n cell ≡ true → held before cell ≡ held begin cell
+      as_before cell named_there =
+          ap (option_and_then (in_slot cell.slot))
+          (sym (object_held-begun (resolved (operand_held before) nodes) nodes before cell.name
+          ∙ begun_real (resolved (operand_held before) nodes) nodes cell.name (object_held before cell.name) (no_virtual_there cell named_there)))
+
       at_end : List Named
       at_end = run.at_end
 
       as_then : (cell : Cell) → names_cell n cell ≡ true → held later cell ≡ held at_end cell
       as_then cell named_there =
-          as_at_end nodes before later run cell
-          (no_virtual cell.slot (object_held before cell.name) (operand_held before cell) (stand.found n cell i named_there) (real cell named_there))
+          as_at_end nodes before later run cell (no_virtual_there cell named_there)
 
-      solved : All (λ w. held at_end w.0 ≡ Some w.1) (written_by n (held at_end))
-      solved = In-from_All (λ m. All (λ w. held at_end w.0 ≡ Some w.1) (written_by m (held at_end))) nodes run.solves.written n i
+      solved : All (λ w. held at_end w.0 ≡ Some w.1) (written_from (held begin) n (held at_end))
+      solved = In-from_All (λ m. All (λ w. held at_end w.0 ≡ Some w.1) (written_from (held begin) m (held at_end))) nodes run.solves.written n i
 
 -- a cell of a virtual image has no slot
 virtual_held : (slot : Option ℕ) (o : Option ObjectValue) → option_map object_kind (option_and_then (in_slot slot) o) ≡ Some kind.VirtualImage → option_map is_virtual_object o ≡ Some true
@@ -339,13 +358,13 @@ one_graph objects name graph other a b = let same : ◌≡◌ {A = Result GraphV
 -- so each node that names no virtual image finds what it gives
 pub written_stay : (limits : Allowance) (c later : Context) (name : ℕ) (graph : GraphValue) (n : Node) → KeepsLimits limits c → answer_to limits (Some c) (ProcessGraph name) ≡ (Empty, Some later)
     → graph_named c.objects name ≡ Ok graph → In n (nodes_of graph) → ((cell : Cell) → names_cell n cell ≡ true → kind_in c.objects cell ≢ Some kind.VirtualImage)
-    → ((cell : Cell) → names_cell n cell ≡ true → is_registered graph cell.name ≡ false) → All (λ w. held later.objects w.0 ≡ Some w.1) (written_by n (held later.objects))
+    → ((cell : Cell) → names_cell n cell ≡ true → is_registered graph cell.name ≡ false) → All (λ w. held later.objects w.0 ≡ Some w.1) (written_from (held c.objects) n (held later.objects))
 written_stay limits c later name graph n h done is_graph i real apart =
     let ran = run_is limits c later name h done in
     let same = one_graph c.objects name graph ran.graph is_graph ran.named in
     let nodes = nodes_of ran.graph in
-    subst (λ (objects : List Named). All (λ (w : Cell × ObjectValue). held objects w.0 ≡ Some w.1) (written_by n (held objects))) (sym ran.aged)
-    (written_again n ran.left (aged_under ran.graph.delays ran.left)
+    subst (λ (objects : List Named). All (λ (w : Cell × ObjectValue). held objects w.0 ≡ Some w.1) (written_from (held c.objects) n (held objects))) (sym ran.aged)
+    (written_again n c.objects c.objects ran.left (aged_under ran.graph.delays ran.left) (λ cell named_there. refl)
     (λ cell named_there. unregistered_stays ran.graph ran.left cell (ap (λ g. is_registered g cell.name) (sym same) ∙ apart cell named_there))
     (found_again nodes c.objects ran.left ran.run (cells_stand c.objects name nodes (graph_stood limits c name ran.graph h ran.named)) n (subst (λ (g : GraphValue). In n (nodes_of g)) same i) real))
 

@@ -1,11 +1,11 @@
 -- A graph that runs keeps the limits, and what is held: as it begins, virtual images become images; its rounds write to outputs what they may become;
 -- and as it ends, virtual images are forgotten.
 use Rattle.std.proofs.Common.{◌≡◌, inl, inr, ℕ, Bool, true, false, cond, IsTrue, List, [], ◌∷◌, ◌++◌, length, map, get_or, drop, Option, Some, None, IfSome, if◌then◌else◌, refl, sym, ap, subst, ◌∙◌}
-use Rattle.std.specs.Prelude.{All, not, is_some, is_none, unwrap_or}
+use Rattle.std.specs.Prelude.{All, not, ◌||◌, is_some, is_none, unwrap_or}
 use Rattle.std.specs.List.{list_any}
 use Rattle.std.specs.List.Sorted.{IsStrictlyIncreasing}
 use Rattle.std.specs.Option.{option_map, option_and_then}
-use Rattle.std.proofs.lemmas.Bool.{and_cases, both_ways, cond_both, not-false, or_left, or_right}
+use Rattle.std.proofs.lemmas.Bool.{and_cases, both_ways, cond_both, not-false, or_left, or_parts, or_right}
 use Rattle.std.proofs.lemmas.List.Elements.{All-nil, All-cons, All-head, All-tail, All-map}
 use Rattle.std.proofs.lemmas.List.Folds.{list_any_at}
 use Rattle.vx_base.specs.declared.kind.Kind.{Kind}
@@ -27,7 +27,7 @@ use Rattle.graph_verify.specs.declared.operand.Operand.TheVariants.{Delay}
 use Rattle.graph_verify.specs.Links.{writes, is_written}
 use Rattle.graph_verify.specs.Operand.{operand_of, operand_kind, operand_format, operands_of, is_virtual as is_virtual_operand}
 use Rattle.graph_verify.specs.Outlines.{outlines, as_known, resolved}
-use Rattle.graph_verify.specs.Verdict.{node_fault, is_loose, first_fault}
+use Rattle.graph_verify.specs.Verdict.{node_fault, is_loose, reads_loose, adds_to_virtual, first_fault}
 use Rattle.graph_verify.proofs.LinkLemmas.{same_cell-refl}
 use Rattle.graph_verify.proofs.VerdictLemmas.{can_run}
 use Rattle.graph_run.specs.Graph.{rounds_of_nodes, begun_as, begun, is_virtual_object, forgotten, run_of_graph}
@@ -285,9 +285,10 @@ process_found_keeps limits c name (Some (GraphObject graph)) h is stood =
     let runs = can_run limits.work operand nodes (not_rejected (graph_verdict limits objects graph) allowed) in
     let are_nodes : All IsNode nodes = All-map IsNode (λ (n : Numbered). n.node) graph.nodes is.nodes in
     let faultless = each_faultless known nodes runs.no_fault in
-    let tied = each_fails (λ n. list_any (is_loose operand nodes) (inputs n)) nodes runs.no_loose_end in
+    let tied = each_fails (λ n. reads_loose operand nodes n || adds_to_virtual operand n) nodes runs.no_loose_end in
     let can : All (CanRunOn (operand_in begin)) nodes = λ k d below.
-    node_can objects nodes h.objects h.names name (get_or nodes k d) (are_nodes k d below) (stood k d below) (faultless k d below) (tied k d below)
+    node_can objects nodes h.objects h.names name (get_or nodes k d) (are_nodes k d below) (stood k d below) (faultless k d below)
+    (or_parts (reads_loose operand nodes (get_or nodes k d)) (adds_to_virtual operand (get_or nodes k d)) (tied k d below)).0
     (λ cell writes_it. list_any_at (λ n. writes n cell) nodes k d below writes_it) in
     let ran = rounds_last nodes (length nodes) begin (begin_is objects nodes h.objects h.names) (begin_increases objects nodes h.objects h.names) can in
     let left : List Named = rounds_of_nodes nodes (length nodes) begin in

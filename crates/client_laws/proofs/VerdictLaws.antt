@@ -1,6 +1,6 @@
 -- A verdict, and how a graph runs, depend on what the cells that its nodes name are, and on nothing else.
 use Rattle.std.proofs.Common.{◌≡◌, ℕ, zero, suc, inl, inr, true, cond, List, [], ◌∷◌, length, Option, Some, None, refl, sym, ap, subst, ◌∙◌, arith}
-use Rattle.std.specs.Prelude.{All, Bool, not, ◌&&◌, nat_le, sum_by, if◌then◌else◌, unwrap_or}
+use Rattle.std.specs.Prelude.{All, Bool, not, ◌&&◌, ◌||◌, nat_le, sum_by, if◌then◌else◌, unwrap_or}
 use Rattle.std.specs.List.{list_any, filter, flat_map}
 use Rattle.std.specs.Option.{option_or, option_map}
 use Rattle.std.proofs.lemmas.Bool.{or_right}
@@ -9,7 +9,7 @@ use Rattle.std.proofs.lemmas.List.Sums.{sum_by-cons}
 use Rattle.vx_base.specs.declared.kind.Kind.{Kind}
 use Rattle.vx_base.specs.declared.node.Node.{Node}
 use Rattle.vx_base.specs.Cell.{Cell}
-use Rattle.vx_base.specs.Function.{parameters}
+use Rattle.vx_base.specs.Function.{parameters, accumulates}
 use Rattle.vx_base.specs.Node.{inputs, outputs, operands}
 use Rattle.vx_base.specs.Outline.{Outline, filled}
 use Rattle.object_table.specs.Named.{Named, held}
@@ -26,7 +26,7 @@ use Rattle.graph_verify.specs.Members.{In, AllIn}
 use Rattle.graph_verify.specs.Operand.{operand_of, operands_of, is_virtual, virtual_bytes}
 use Rattle.graph_verify.specs.Outlines.{operand_outline, given_outline, written_outline, outlines, as_known, resolved}
 use Rattle.graph_verify.specs.Rounds.{round, rounds}
-use Rattle.graph_verify.specs.Verdict.{two_writers, node_fault, is_loose, reads_loose, first_fault, virtual_outputs, work_bytes, verdict}
+use Rattle.graph_verify.specs.Verdict.{two_writers, node_fault, is_loose, reads_loose, adds_to_virtual, has_loose_end, first_fault, virtual_outputs, work_bytes, verdict}
 use Rattle.graph_verify.specs.Verified.{IsVerified}
 use Rattle.graph_verify.proofs.MemberLemmas.{In-left, In-right, In-append, In-from_filter, In-map, In-from_flat_map, AllIn-permutation_back}
 use Rattle.graph_run.specs.Operands.{names_cell, StandsFor, operand_held, IsReady}
@@ -92,14 +92,25 @@ module _ (nodes : List Node) where
         (same_operands n (resolved one nodes) (resolved other nodes) (λ cell named. resolved_alike cell (n, are n (inl refl), named)))
         ∙ ap (option_or (node_fault n.function (operands_of (resolved other nodes) n))) (fault_alike ns (λ m i. are m (inr i)))
 
-    -- the same cells are loose ends
-    loose_alike : reads_loose one nodes ≡ reads_loose other nodes
-    loose_alike =
-        any_alike (λ n. list_any (is_loose one nodes) (inputs n)) (λ n. list_any (is_loose other nodes) (inputs n)) nodes
-        (All-from_In (λ n. list_any (is_loose one nodes) (inputs n) ≡ list_any (is_loose other nodes) (inputs n)) nodes
-        (λ n i.
+    -- the same nodes read what no node writes
+    reads_alike : (n : Node) → In n nodes → reads_loose one nodes n ≡ reads_loose other nodes n
+    reads_alike n i =
         any_alike (is_loose one nodes) (is_loose other nodes) (inputs n)
-        (All-weaker IsNamed (λ cell. is_loose one nodes cell ≡ is_loose other nodes cell) (λ cell named. ap (λ o. is_virtual o && not (is_written nodes cell)) (same cell named)) (inputs n) (read_named n i))))
+        (All-weaker IsNamed (λ cell. is_loose one nodes cell ≡ is_loose other nodes cell) (λ cell named. ap (λ o. is_virtual o && not (is_written nodes cell)) (same cell named)) (inputs n) (read_named n i))
+
+    -- the same nodes add to what is virtual
+    adds_alike : (n : Node) → In n nodes → adds_to_virtual one n ≡ adds_to_virtual other n
+    adds_alike n i =
+        ap (λ b. accumulates n.function && b)
+        (any_alike (λ cell. is_virtual (one cell)) (λ cell. is_virtual (other cell)) (outputs n)
+        (All-from_In (λ cell. is_virtual (one cell) ≡ is_virtual (other cell)) (outputs n) (λ cell j. ap is_virtual (same cell (n, i, named_by_output n cell j)))))
+
+    -- the same nodes have loose ends
+    loose_alike : has_loose_end one nodes ≡ has_loose_end other nodes
+    loose_alike =
+        any_alike (λ n. reads_loose one nodes n || adds_to_virtual one n) (λ n. reads_loose other nodes n || adds_to_virtual other n) nodes
+        (All-from_In (λ n. (reads_loose one nodes n || adds_to_virtual one n) ≡ (reads_loose other nodes n || adds_to_virtual other n)) nodes
+        (λ n i. ap (λ b. b || adds_to_virtual one n) (reads_alike n i) ∙ ap (λ b. reads_loose other nodes n || b) (adds_alike n i)))
 
     -- the same nodes write the same virtual images
     virtual_alike : (ns : List Node) → AllIn ns nodes → virtual_outputs one ns ≡ virtual_outputs other ns
@@ -120,8 +131,8 @@ module _ (nodes : List Node) where
     pub verdict_alike : (work : ℕ) → verdict work one nodes ≡ verdict work other nodes
     verdict_alike work =
         ap (λ loose. by_parts loose (first_fault (resolved one nodes) nodes) (work_bytes one nodes)) loose_alike
-        ∙ ap (λ fault. by_parts (reads_loose other nodes) fault (work_bytes one nodes)) (fault_alike nodes (λ n i. i))
-        ∙ ap (by_parts (reads_loose other nodes) (first_fault (resolved other nodes) nodes)) work_alike
+        ∙ ap (λ fault. by_parts (has_loose_end other nodes) fault (work_bytes one nodes)) (fault_alike nodes (λ n i. i))
+        ∙ ap (by_parts (has_loose_end other nodes) (first_fault (resolved other nodes) nodes)) work_alike
       where
         by_parts : Bool → Option Verdict → ℕ → Option Verdict
         by_parts loose fault bytes =

@@ -5,7 +5,7 @@ ghost use Rattle.vx_base.specs.declared.kind.Kind.TheVariants as kind;
 ghost use Rattle.vx_base.specs.declared.node.Node.{Node};
 ghost use Rattle.vx_base.specs.Cell.{Cell};
 ghost use Rattle.vx_base.specs.Graph.{GraphValue, nodes_of, is_registered};
-ghost use Rattle.vx_base.specs.Outputs.{written_by};
+ghost use Rattle.vx_base.specs.Outputs.{written_from};
 ghost use Rattle.object_table.specs.Context.{Context};
 ghost use Rattle.object_table.specs.Named.{held};
 ghost use Rattle.graph_verify.specs.Links.{is_written};
@@ -41,7 +41,8 @@ pub fn a_run_is_the_only_solution()
 {}
 
 /// What is then left of each cell. Each node that names no virtual image, and no delay that ages
-/// with the graph, finds in its outputs what it gives of what its cells hold. A cell that no node
+/// with the graph, finds in its outputs what it gives of what its cells hold, and of what its
+/// outputs held before, where its function adds to that. A cell that no node
 /// writes holds what it held, and so does one that holds a virtual image; a delay's images are in
 /// its slots, and move where it ages with the graph.
 pub fn what_a_run_leaves()
@@ -52,7 +53,8 @@ pub fn what_a_run_leaves()
         ((cell : Cell) → names_cell n cell ≡ true →
         kind_in c.objects cell ≢ Some kind.VirtualImage) →
         ((cell : Cell) → names_cell n cell ≡ true → is_registered graph cell.name ≡ false) →
-        All (λ w. held later.objects w.0 ≡ Some w.1) (written_by n (held later.objects)) }
+        All (λ w. held later.objects w.0 ≡ Some w.1)
+        (written_from (held c.objects) n (held later.objects)) }
     ensures others { (limits : Allowance) (c later : Context) (name : ℕ) (graph : GraphValue)
         (cell : Cell) → KeepsLimits limits c →
         answer_to limits (Some c) (ProcessGraph name) ≡ (Empty, Some later) →

@@ -1,6 +1,6 @@
 -- A node that runs at once keeps the limits, and what is held: each output becomes an object of the kind, the size and the format that it
 -- had.
-use Rattle.std.proofs.Common.{◌≡◌, ℕ, true, false, IsTrue, List, get_or, [], Option, Some, None, IfSome, if◌then◌else◌, refl, sym, ap, subst, ◌∙◌, arith}
+use Rattle.std.proofs.Common.{◌≡◌, ℕ, Bool, true, false, IsTrue, List, get_or, [], map, Option, Some, None, IfSome, if◌then◌else◌, refl, sym, ap, subst, ◌∙◌, arith}
 use Rattle.std.specs.Prelude.{All, ◌&&◌, is_some, is_none}
 use Rattle.std.specs.List.{list_any}
 use Rattle.std.specs.Option.{option_map, option_and_then, option_or}
@@ -15,15 +15,17 @@ use Rattle.vx_base.specs.declared.node.Node.{Node}
 use Rattle.vx_base.specs.Cell.{Cell}
 use Rattle.vx_base.specs.Description.{Description, same_size}
 use Rattle.vx_base.specs.Formats.{takes_formats}
-use Rattle.vx_base.specs.Function.{parameters}
-use Rattle.vx_base.specs.Image.{description_of}
+use Rattle.vx_base.specs.Function.{parameters, accumulates}
+use Rattle.vx_base.specs.Image.{IsImage, description_of}
 use Rattle.vx_base.specs.Node.{IsNode, is_node, has_amount, has_operands, all_named, operands, second_kind}
 use Rattle.vx_base.specs.Object.{ObjectValue, ImageObject, DistributionObject, ExtremesObject, IsObject, object_kind, object_format}
 use Rattle.vx_base.specs.declared.output.Output.{Output}
 use Rattle.vx_base.specs.declared.output.Output.TheVariants.{First, Second}
-use Rattle.vx_base.specs.Outputs.{node_image, node_output, written_to, written_in, written_by}
-use Rattle.vx_base.proofs.NodeLaws.{node_image_is, same_kind_equal}
+use Rattle.vx_base.specs.Outputs.{node_image, beside_first, node_output, written_to, written_in, written_from, written_by}
+use Rattle.vx_base.proofs.NodeLaws.{node_image_is, accumulated_image_is, same_kind_equal}
 use Rattle.object_table.specs.Named.{Named, held, with_written}
+use Rattle.object_table.specs.Skeleton.{skeleton}
+use Rattle.object_table.proofs.SkeletonLaws.{option_map-told}
 use Rattle.object_table.specs.Context.{Context, with_objects}
 use Rattle.graph_verify.specs.declared.operand.Operand.{Operand}
 use Rattle.graph_verify.specs.declared.operand.Operand.TheVariants.{Image}
@@ -37,14 +39,14 @@ use Rattle.client_model.specs.Operands.{is_unknown, holds_nothing, is_beyond, is
 use Rattle.client_model.specs.Immediate.{operand_in, operand_if, operands_in, is_some_virtual, away_refusal, node_refusal, immediate}
 use Rattle.client_model.specs.States.{KeepsLimits, kind_held}
 use Rattle.object_table.proofs.HeldLemmas.{held_is}
-use Rattle.graph_run.specs.Lasting.{lasting}
+use Rattle.graph_run.specs.Lasting.{lasting, lasting_named}
 use Rattle.graph_run.proofs.CellLemmas.{IsReplacement, Lasts-with_written}
-use Rattle.graph_run.proofs.LastingLemmas.{images-last}
+use Rattle.graph_run.proofs.LastingLemmas.{images-last, skeletons-last, cell-lasts}
 use Rattle.client_model.proofs.NamedLaws.{held_kind, kind_if_live}
 use Rattle.client_model.proofs.HoldLaws.{each_fails}
 use Rattle.client_model.proofs.StateLaws.{alike_leaves}
 use Rattle.graph_verify.proofs.SuitLemmas.{Suits, BothSuit, verdict_suits, passed}
-use Rattle.graph_run.proofs.OperandLaws.{described_node, kind-operand}
+use Rattle.graph_run.proofs.OperandLaws.{described_node, kind-operand, operand-skeleton}
 use Rattle.graph_run.proofs.FoundLemmas.{of_operands}
 use Rattle.graph_run.proofs.OutputLemmas.{same_description, length-histogram}
 use Rattle.client_model.proofs.OutcomeLaws.{Keeps, unless_keeps}
@@ -94,48 +96,66 @@ same_formats (Some other) = refl
 
 module _ (objects : List Named) (n : Node) (node : IsNode n) (second : Option ObjectValue) (is : IfSome second IsObject) where
   -- an output to which it can give becomes an object of which as much lasts
-  output_fits : (output : Output) (cell : Cell) (first out : ObjectValue) → IsObject first → IsObject out → held objects cell ≡ Some out → CanGive n.function (operand_of first) (option_map operand_of second) (operand_of out)
-      → IsReplacement objects (cell, node_output n output first second out)
+  output_fits : (output : Output) (cell : Cell) (first out : ObjectValue) → IsObject first → IsObject out → option_map lasting (held objects cell) ≡ Some (lasting out)
+      → CanGive n.function (operand_of first) (option_map operand_of second) (operand_of out) → IsReplacement objects (cell, node_output n output first second out)
   output_fits output cell (ImageObject a) (ImageObject out) is_first is_out found can =
-      let e : description_of (node_image n output out.format a second) ≡ description_of out =
-      described_node n output out.format a second ∙ same_description (record { width = a.width; height = a.height; format = out.format }) (description_of out) can.size refl in
-      let Taken : Option Format → Type 0 = λ format. IsTrue (takes_formats n.function a.format format (Some out.format)) in
+      let beside = beside_first n second (ImageObject out) in
+      let e : description_of (node_image n output out.format a beside) ≡ description_of out =
+      described_node n output out.format a beside ∙ same_description (record { width = a.width; height = a.height; format = out.format }) (description_of out) can.size refl in
       record {
-        is_object = node_image_is n out.format a node is_first output second is (right second can.kind) (subst Taken (same_formats second) can.formats);
-        lasts = ap (option_map lasting) found ∙ ap Some (sym (images-last (node_image n output out.format a second) out e));
+        is_object = image_is (accumulates n.function) refl;
+        lasts = found ∙ ap Some (sym (images-last (node_image n output out.format a beside) out e));
       }
     where
+      abbrev Taken : Option Format → Type 0
+      Taken format = IsTrue (takes_formats n.function a.format format (Some out.format))
+
       right : (object : Option ObjectValue) → IfSome (option_map operand_of object) (λ o. (parameters n.function).second_input ≡ Some (operand_kind o)) → IfSome object (λ o. (parameters n.function).second_input ≡ Some (object_kind o))
       right None h = tt
       right (Some object) h = h ∙ ap Some (kind-operand object)
+
+      image_is : (sums : Bool) → accumulates n.function ≡ sums → IsImage (node_image n output out.format a (if sums then Some (ImageObject out) else second))
+      image_is true is_sum = accumulated_image_is n out.format a node is_first output out is_sum is_out
+      image_is false is_sum = node_image_is n out.format a node is_first output second is (right second can.kind) (subst Taken (same_formats second) can.formats)
   output_fits output cell (ImageObject a) (DistributionObject d) is_first is_out found can =
-      record { is_object = record { bins = is_out.bins; size = length-histogram d.bins a }; lasts = ap (option_map lasting) found }
-  output_fits output cell (ImageObject a) (ExtremesObject e) is_first is_out found can = record { is_object = tt; lasts = ap (option_map lasting) found }
-  output_fits output cell first out is_first is_out found can = record { is_object = is_out; lasts = ap (option_map lasting) found }
+      record { is_object = record { bins = is_out.bins; size = length-histogram d.bins a }; lasts = found }
+  output_fits output cell (ImageObject a) (ExtremesObject e) is_first is_out found can = record { is_object = tt; lasts = found }
+  output_fits output cell first out is_first is_out found can = record { is_object = is_out; lasts = found }
 
   -- so does what a cell holds, if it holds something
-  written_to_fits : (output : Output) (cell : Cell) (first out : Option ObjectValue) → IfSome first IsObject → IfSome out IsObject → held objects cell ≡ out
+  written_to_fits : (output : Output) (cell : Cell) (first out : Option ObjectValue) → IfSome first IsObject → IfSome out IsObject → option_map lasting (held objects cell) ≡ option_map lasting out
       → CanGiveTo n.function (option_map operand_of first) (option_map operand_of second) (option_map operand_of out) → All (IsReplacement objects) (written_to n output cell first second out)
   written_to_fits output cell (Some first) (Some out) is_first is_out found can =
       All-cons (IsReplacement objects) (cell, node_output n output first second out) [] (output_fits output cell first out is_first is_out found can) (All-nil (IsReplacement objects))
   written_to_fits output cell first out is_first is_out found can = All-nil (IsReplacement objects)
 
--- what a node writes to its outputs may be written there
-pub written_by_fits : (objects : List Named) (n : Node) → All (λ o. IsObject o.object) objects → CanRunOn (operand_in objects) n → All (IsReplacement objects) (written_by n (held objects))
-written_by_fits objects n is can =
-    All-append (IsReplacement objects) (written_in n First n.out1 (held objects)) (written_in n Second n.out2 (held objects)) (given_fits First n.out1 can.out1) (given_fits Second n.out2 can.out2)
+-- among objects of which as much lasts, a cell holds the same as an operand
+pub operand_alike : (objects others : List Named) → map lasting_named others ≡ map lasting_named objects → (cell : Cell) → operand_in others cell ≡ operand_in objects cell
+operand_alike objects others same cell =
+    option_map-told skeleton operand_of operand_of operand-skeleton (held others cell) (held objects cell)
+    (skeletons-last (held others cell) (held objects cell) (cell-lasts objects others cell same))
+
+-- what a node writes to its outputs may be written there, where as much lasts of the objects at the start
+pub written_from_fits : (start objects : List Named) (n : Node) → All (λ o. IsObject o.object) start → All (λ o. IsObject o.object) objects → map lasting_named objects ≡ map lasting_named start
+    → CanRunOn (operand_in objects) n → All (IsReplacement objects) (written_from (held start) n (held objects))
+written_from_fits start objects n is_start is same can =
+    All-append (IsReplacement objects) (written_in n First n.out1 (held start) (held objects)) (written_in n Second n.out2 (held start) (held objects)) (given_fits First n.out1 can.out1) (given_fits Second n.out2 can.out2)
   where
     second_is : (cell : Option Cell) → IfSome (option_and_then (held objects) cell) IsObject
     second_is None = tt
     second_is (Some x) = held_is objects x is
 
-    given_fits : (output : Output) (out : Option Cell) → CanGiveTo n.function (operand_in objects n.in1) (operand_if objects n.in2) (operand_if objects out) → All (IsReplacement objects) (written_in n output out (held objects))
+    given_fits : (output : Output) (out : Option Cell) → CanGiveTo n.function (operand_in objects n.in1) (operand_if objects n.in2) (operand_if objects out) → All (IsReplacement objects) (written_in n output out (held start) (held objects))
     given_fits output None gives = All-nil (IsReplacement objects)
     given_fits output (Some cell) gives =
         let second = option_and_then (held objects) n.in2 in
-        written_to_fits objects n can.node second (second_is n.in2) output cell (held objects n.in1) (held objects cell)
-        (held_is objects n.in1 is) (held_is objects cell is) refl
-        (subst (λ o. CanGiveTo n.function (operand_in objects n.in1) o (operand_in objects cell)) (operand_if_held objects n.in2) gives)
+        written_to_fits objects n can.node second (second_is n.in2) output cell (held objects n.in1) (held start cell)
+        (held_is objects n.in1 is) (held_is start cell is_start) (cell-lasts start objects cell same)
+        (subst (λ out. CanGiveTo n.function (operand_in objects n.in1) (option_map operand_of second) out) (operand_alike start objects same cell)
+        (subst (λ o. CanGiveTo n.function (operand_in objects n.in1) o (operand_in objects cell)) (operand_if_held objects n.in2) gives))
+
+pub written_by_fits : (objects : List Named) (n : Node) → All (λ o. IsObject o.object) objects → CanRunOn (operand_in objects) n → All (IsReplacement objects) (written_by n (held objects))
+written_by_fits objects n is can = written_from_fits objects objects n is is refl can
 
 -- ---- operands that nothing refuses
 

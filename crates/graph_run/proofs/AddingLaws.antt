@@ -21,7 +21,7 @@ use Rattle.graph_run.specs.Graph.{rounds_of_nodes, run_of_graph}
 use Rattle.graph_run.specs.Solution.{WritesNo, label_of}
 use Rattle.graph_run.proofs.HeldLaws.{seen}
 use Rattle.graph_run.proofs.NameLaws.{Rising, rising, same_objects}
-use Rattle.graph_run.proofs.NodeLaws.{given_in}
+use Rattle.graph_run.proofs.NodeLaws.{given_from}
 use Rattle.graph_run.proofs.RoundLaws.{round_written, round_other, seen-rounds, labels-rounds}
 use Rattle.graph_run.proofs.BegunLaws.{labels-begun, begun-same, WritesNo-begun}
 
@@ -50,7 +50,7 @@ module _ (nodes others : List Node) (two : two_writers nodes ≡ false) (to : Al
       let labels = labels-rounds nodes k objects in
       let same : seen (rounds_of_nodes nodes k objects) ≡ seen (rounds_of_nodes others k objects) =
       seen-rounds nodes k objects one whole
-      ∙ cell_rounds writes given_in nodes others one to from k (seen objects)
+      ∙ cell_rounds writes (given_from (seen objects)) nodes others one to from k (seen objects)
       ∙ sym (seen-rounds others k objects (λ m n c i j. one m n c (from m i) (from n j)) (WritesNo-others objects whole)) in
       same_objects (rounds_of_nodes nodes k objects) (rounds_of_nodes others k objects) (subst (λ z. Rising z) (sym labels) up) (labels ∙ sym (labels-rounds others k objects)) (λ c. ap (λ f. f c) same)
 

@@ -11,6 +11,7 @@ use Rattle.vx_base.specs.declared.kind.Kind.TheVariants as kind
 use Rattle.vx_base.specs.declared.virtual_image.VirtualImage.{VirtualImage}
 use Rattle.vx_base.specs.Cell.{Cell}
 use Rattle.vx_base.specs.Description.{Description}
+use Rattle.vx_base.specs.Function.{accumulates}
 use Rattle.vx_base.specs.Image.{ImageValue, description_of}
 use Rattle.vx_base.specs.Node.{IsNode, operands}
 use Rattle.vx_base.specs.Object.{ObjectValue, ImageObject, VirtualObject, object_kind}
@@ -38,7 +39,7 @@ use Rattle.graph_run.proofs.FoundLemmas.{of_operands}
 use Rattle.graph_run.proofs.HeldLaws.{object_held-with_object, labels-with_written}
 use Rattle.graph_run.proofs.LinkLaws.{In-from_All, reads_first, reads_second}
 use Rattle.graph_run.proofs.NodeLaws.{is_cell, writes-outputs}
-use Rattle.graph_run.proofs.OperandLaws.{virtual_written}
+use Rattle.graph_run.proofs.OperandLaws.{virtual_written, adds_to_none}
 use Rattle.graph_run.proofs.TurnLaws.{at_its_turn}
 use Rattle.graph_run.proofs.VerifiedLemmas.{whole, is_output, output_known, in_outputs, output_object, output_whole, begun_kept, can, can_run_now}
 
@@ -88,8 +89,8 @@ output_cases n c w = elim (or_cases (is_cell n.out1 c) (is_cell n.out2 c) (sym (
 output_given : (n : Node) (now : Cell → Option ObjectValue) (c : Cell) (first out : ObjectValue) → writes n c ≡ true → now n.in1 ≡ Some first → now c ≡ Some out
     → (x : ObjectValue) × In (c, x) (written_by n now)
 output_given n now c first out w read there = elim (output_cases n c w) [
-  | inl e ↦ (node_output n First first (option_and_then now n.in2) out, In-left _ (written_in n First n.out1 now) (written_in n Second n.out2 now) (rw (e, read, there) (inl refl)))
-  | inr e ↦ (node_output n Second first (option_and_then now n.in2) out, In-right _ (written_in n First n.out1 now) (written_in n Second n.out2 now) (rw (e, read, there) (inl refl)))
+  | inl e ↦ (node_output n First first (option_and_then now n.in2) out, In-left _ (written_in n First n.out1 now now) (written_in n Second n.out2 now now) (rw (e, read, there) (inl refl)))
+  | inr e ↦ (node_output n Second first (option_and_then now n.in2) out, In-right _ (written_in n First n.out1 now now) (written_in n Second n.out2 now now) (rw (e, read, there) (inl refl)))
 ]
 
 -- the same, or two images of one format
@@ -100,19 +101,20 @@ record AreImages (a b : Option ObjectValue) : Type 0 where
   is_other : b ≡ Some (ImageObject other)
   same : one.format ≡ other.format
 
-abbrev AsOutput : Option ObjectValue → Option ObjectValue → Type 0
-AsOutput a b = (a ≡ b) ⊎ AreImages a b
+-- so an output may be: an image to which the node doesn't add
+abbrev AsOutput : Node → Option ObjectValue → Option ObjectValue → Type 0
+AsOutput n a b = (a ≡ b) ⊎ (AreImages a b × (accumulates n.function ≡ false))
 
 module _ (n : Node) (one other : Cell → Option ObjectValue) (a : ImageValue) (first : one n.in1 ≡ Some (ImageObject a)) (reads_one : one n.in1 ≡ other n.in1)
     (reads_other : option_and_then one n.in2 ≡ option_and_then other n.in2) where
-  written_in_alike : (output : Output) (cell : Option Cell) → ((c : Cell) → cell ≡ Some c → AsOutput (one c) (other c)) → written_in n output cell one ≡ written_in n output cell other
+  written_in_alike : (output : Output) (cell : Option Cell) → ((c : Cell) → cell ≡ Some c → AsOutput n (one c) (other c)) → written_in n output cell one one ≡ written_in n output cell other other
   written_in_alike output None alike = refl
   written_in_alike output (Some c) alike = elim (alike c refl) [
     | inl same ↦ grind (arith, same)
-    | inr h ↦ grind (arith, h.is_one, h.is_other, h.same)
+    | inr h ↦ grind (arith, h.0.is_one, h.0.is_other, h.0.same, h.1)
   ]
 
-  same_written : ((c : Cell) → writes n c ≡ true → AsOutput (one c) (other c)) → written_by n one ≡ written_by n other
+  same_written : ((c : Cell) → writes n c ≡ true → AsOutput n (one c) (other c)) → written_by n one ≡ written_by n other
   same_written alike = grind (arith, written_in_alike, first_output, second_output)
 
 -- ---- agreement
@@ -256,7 +258,7 @@ module _ (objects : List Named) (nodes : List Node) (v : Verified) (h : IsReady 
       ideal_found : (cell : Cell) → names_cell n cell ≡ true → HoldsOperand ideal cell (known cell)
       ideal_found cell named = ideal_stands.found n cell in_nodes named
 
-      output_alike : (cell : Cell) → writes n cell ≡ true → AsOutput (held here cell) (held ideal cell)
+      output_alike : (cell : Cell) → writes n cell ≡ true → AsOutput n (held here cell) (held ideal cell)
       output_alike cell w =
           let named = or_right (reads n cell) (writes n cell) w in
           elim (cases_Bool (is_virtual (is cell))) [
@@ -271,7 +273,7 @@ module _ (objects : List Named) (nodes : List Node) (v : Verified) (h : IsReady 
                   is_one = one.1;
                   is_other = other.1;
                   same = ap (λ (d : Description). d.format) (one.2 ∙ sym other.2);
-                }))
+                }, adds_to_none h.runs.0 is nodes (can objects nodes v h.runs.0 h.verified h.runs.1) n cell in_nodes w virtual))
             | inr real ↦ inl (real_same cell named real)
           ]
 

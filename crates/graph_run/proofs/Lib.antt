@@ -19,6 +19,7 @@ pub mod OutputLemmas
 pub mod RunLemmas
 mod KernelLemmas
 pub mod PairLemmas
+pub mod SumLemmas
 pub mod StageLemmas
 pub mod ClaimLemmas
 pub mod StandingLemmas

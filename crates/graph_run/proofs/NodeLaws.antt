@@ -10,11 +10,11 @@ use Rattle.vx_base.specs.declared.output.Output.TheVariants.{First, Second}
 use Rattle.vx_base.specs.Cell.{Cell, same_cell}
 use Rattle.vx_base.specs.Node.{outputs}
 use Rattle.vx_base.specs.Object.{ObjectValue, object_kind}
-use Rattle.vx_base.specs.Outputs.{node_output, written_to, written_in, written_by}
+use Rattle.vx_base.specs.Outputs.{node_output, written_to, written_in, written_from}
 use Rattle.object_table.specs.Named.{Named, held}
 use Rattle.graph_verify.specs.Members.{In}
 use Rattle.graph_verify.specs.Links.{writes, has_twice}
-use Rattle.graph_run.specs.Solution.{kind_in, form_of}
+use Rattle.graph_run.specs.Solution.{kind_in, form_of, form_held}
 use Rattle.graph_verify.proofs.MemberLemmas.{In-append}
 use Rattle.graph_verify.proofs.LinkLemmas.{same_cell-true}
 use Rattle.graph_run.proofs.ObjectLaws.{is_delay, shown, is_delay-form, not_delay, form-node_output, shown-node_output}
@@ -31,86 +31,95 @@ is_cell (Some d) c = same_cell c d
 abbrev pub output_at : Node → Cell → Output
 output_at n c = if is_cell n.out2 c then Second else First
 
--- what an output becomes, where the node's cells hold anything
-abbrev pub output_of : Node → Output → Option ObjectValue → Option ObjectValue → Option ObjectValue → Option ObjectValue
-output_of n output (Some first) second (Some out) = Some (node_output n output first second out)
-output_of n output first second out = out
+-- what an output becomes, where the node's cells hold anything: from what it held at first; else it stays as it is now
+abbrev pub output_of : Node → Output → Option ObjectValue → Option ObjectValue → Option ObjectValue → Option ObjectValue → Option ObjectValue
+output_of n output (Some first) second (Some old) now = Some (node_output n output first second old)
+output_of n output first second old now = now
 
--- what a node gives to a cell that holds `out`, where the cells hold these objects
-abbrev pub given_to : Node → (Cell → Option ObjectValue) → Cell → Option ObjectValue → Option ObjectValue
-given_to n held c out = output_of n (output_at n c) (held n.in1) (option_and_then held n.in2) out
+-- what a node gives to a cell that held `old` and holds `now`, where the cells hold these objects
+abbrev pub given_to : Node → (Cell → Option ObjectValue) → Cell → Option ObjectValue → Option ObjectValue → Option ObjectValue
+given_to n held c old now = output_of n (output_at n c) (held n.in1) (option_and_then held n.in2) old now
 
--- and to a cell that holds what it holds among these
+-- and to a cell that holds what it holds among these, and held what it held at first
+abbrev pub given_from : (Cell → Option ObjectValue) → Node → (Cell → Option ObjectValue) → Cell → Option ObjectValue
+given_from start n held c = given_to n held c (start c) (held c)
+
+-- the same where that is what it holds
 abbrev pub given_in : Node → (Cell → Option ObjectValue) → Cell → Option ObjectValue
-given_in n held c = given_to n held c (held c)
+given_in n held c = given_from held n held c
 
-pub output_of_again : (n : Node) (output : Output) (first before second other out : Option ObjectValue) → option_map object_kind before ≡ option_map object_kind first
-    → output_of n output first second (output_of n output before other out) ≡ output_of n output first second out
-output_of_again n output first before second other out same = grind arith
+-- where nothing is given, nothing was before
+pub output_of_again : (n : Node) (output : Output) (first before second other old : Option ObjectValue) → option_map object_kind before ≡ option_map object_kind first
+    → output_of n output first second old (output_of n output before other old old) ≡ output_of n output first second old old
+output_of_again n output first before second other old same = grind arith
 
-shown-output_of : (n : Node) (output : Output) (first second out : Option ObjectValue)
-    → option_map shown (output_of n output first second out) ≡ output_of n output (option_map shown first) (option_map shown second) (option_map shown out)
-shown-output_of n output (Some first) second (Some out) = ap {B = Option ObjectValue} Some (shown-node_output n output first second out)
-shown-output_of n output first second out = grind arith
+shown-output_of : (n : Node) (output : Output) (first second old now : Option ObjectValue)
+    → option_map shown (output_of n output first second old now) ≡ output_of n output (option_map shown first) (option_map shown second) (option_map shown old) (option_map shown now)
+shown-output_of n output (Some first) second (Some old) now = ap {B = Option ObjectValue} Some (shown-node_output n output first second old)
+shown-output_of n output first second old now = grind arith
 
 shown-and_then : (held : Cell → Option ObjectValue) (o : Option Cell) → option_map shown (option_and_then held o) ≡ option_and_then (λ d. option_map shown (held d)) o
 shown-and_then held y = grind arith
 
 -- nothing that is hidden of delays counts
-pub shown-given_to : (n : Node) (held : Cell → Option ObjectValue) (c : Cell) (out : Option ObjectValue) → option_map shown (given_to n held c out) ≡ given_to n (λ d. option_map shown (held d)) c (option_map shown out)
-shown-given_to n held c out = grind (arith, shown-output_of n (output_at n c) (held n.in1) (option_and_then held n.in2) out, shown-and_then held n.in2)
+pub shown-given_to : (n : Node) (held : Cell → Option ObjectValue) (c : Cell) (old now : Option ObjectValue)
+    → option_map shown (given_to n held c old now) ≡ given_to n (λ d. option_map shown (held d)) c (option_map shown old) (option_map shown now)
+shown-given_to n held c old now = grind (arith, shown-output_of n (output_at n c) (held n.in1) (option_and_then held n.in2) old now, shown-and_then held n.in2)
 
-pub shown-given_in : (n : Node) (held : Cell → Option ObjectValue) (c : Cell) → option_map shown (given_in n held c) ≡ given_in n (λ d. option_map shown (held d)) c
-shown-given_in n held c = shown-given_to n held c (held c)
+pub shown-given_from : (start : Cell → Option ObjectValue) (n : Node) (held : Cell → Option ObjectValue) (c : Cell)
+    → option_map shown (given_from start n held c) ≡ given_from (λ d. option_map shown (start d)) n (λ d. option_map shown (held d)) c
+shown-given_from start n held c = shown-given_to n held c (start c) (held c)
 
 -- a form stays
-pub form-output_of : (n : Node) (output : Output) (first second out : Option ObjectValue) → option_map form_of (output_of n output first second out) ≡ option_map form_of out
-form-output_of n output (Some first) second (Some out) = ap {B = Option ObjectValue} Some (form-node_output n output first second out)
-form-output_of n output first second out = grind arith
+pub form-output_of : (n : Node) (output : Output) (first second old now : Option ObjectValue) → option_map form_of now ≡ option_map form_of old → option_map form_of (output_of n output first second old now) ≡ option_map form_of old
+form-output_of n output (Some first) second (Some old) now h = ap {B = Option ObjectValue} Some (form-node_output n output first second old)
+form-output_of n output first second old now h = grind arith
 
 -- ---- the list of what a node writes
 
 pub writes-outputs : (n : Node) (c : Cell) → writes n c ≡ (is_cell n.out1 c || is_cell n.out2 c)
 writes-outputs n c = grind arith
 
-last_beside : (n : Node) (output : Output) (o : Option Cell) (held : Cell → Option ObjectValue) (c : Cell) → is_cell o c ≡ false → last_to c (written_in n output o held) ≡ None
-last_beside n output z held c h = grind arith
+last_beside : (n : Node) (output : Output) (o : Option Cell) (start held : Cell → Option ObjectValue) (c : Cell) → is_cell o c ≡ false → last_to c (written_in n output o start held) ≡ None
+last_beside n output z start held c h = grind arith
 
-last_there : (n : Node) (output : Output) (o : Option Cell) (held : Cell → Option ObjectValue) (c : Cell) → is_cell o c ≡ true
-    → last_to c (written_in n output o held) ≡ last_to c (written_to n output c (held n.in1) (option_and_then held n.in2) (held c))
-last_there n output None held c h = absurd (cc h)
-last_there n output (Some d) held c h = ap (λ z. last_to c (written_to n output z (held n.in1) (option_and_then held n.in2) (held z))) (sym (same_cell-true c d h))
+last_there : (n : Node) (output : Output) (o : Option Cell) (start held : Cell → Option ObjectValue) (c : Cell) → is_cell o c ≡ true
+    → last_to c (written_in n output o start held) ≡ last_to c (written_to n output c (held n.in1) (option_and_then held n.in2) (start c))
+last_there n output None start held c h = absurd (cc h)
+last_there n output (Some d) start held c h = ap (λ z. last_to c (written_to n output z (held n.in1) (option_and_then held n.in2) (start z))) (sym (same_cell-true c d h))
 
--- it stands over what was held, and over what another output of the node gave
-over_old : (n : Node) (output : Output) (c : Cell) (first second out : Option ObjectValue) → option_or (last_to c (written_to n output c first second out)) out ≡ output_of n output first second out
-over_old n output c u second out = grind arith
+-- it stands over what is held, and over what another output of the node gave
+over_old : (n : Node) (output : Output) (c : Cell) (first second old now : Option ObjectValue) → option_or (last_to c (written_to n output c first second old)) now ≡ output_of n output first second old now
+over_old n output c u second old now = grind arith
 
-over_other : (n : Node) (output other : Output) (c : Cell) (first second out : Option ObjectValue)
-    → option_or (last_to c (written_to n output c first second out)) (output_of n other first second out) ≡ output_of n output first second out
-over_other n output other c v second out = grind arith
+over_other : (n : Node) (output other : Output) (c : Cell) (first second old now : Option ObjectValue)
+    → option_or (last_to c (written_to n output c first second old)) (output_of n other first second old now) ≡ output_of n output first second old now
+over_other n output other c v second old now = grind arith
 
 -- what is written last to a cell is what the node gives it
-pub last_written : (n : Node) (held : Cell → Option ObjectValue) (c : Cell) → option_or (last_to c (written_by n held)) (held c) ≡ (if writes n c then given_in n held c else held c)
-last_written n held c =
-    grind (arith, last_to-append c (written_in n First n.out1 held) (written_in n Second n.out2 held), or_assoc (last_to c (written_in n Second n.out2 held)) (last_to c (written_in n First n.out1 held)) (held c), last_to c (written_in n Second n.out2 held), last_to c (written_in n First n.out1 held), writes-outputs n c, cases_Bool (is_cell n.out1 c), cases_Bool (is_cell n.out2 c), over_old n First c (held n.in1) (option_and_then held n.in2) (held c), over_other n Second First c (held n.in1) (option_and_then held n.in2) (held c), over_old n Second c (held n.in1) (option_and_then held n.in2) (held c), last_to-append, or_assoc, last_to, writes-outputs, cases_Bool, last_there, over_old, over_other, last_beside)
+pub last_written : (start : Cell → Option ObjectValue) (n : Node) (held : Cell → Option ObjectValue) (c : Cell)
+    → option_or (last_to c (written_from start n held)) (held c) ≡ (if writes n c then given_from start n held c else held c)
+last_written start n held c =
+    grind (arith, last_to-append c (written_in n First n.out1 start held) (written_in n Second n.out2 start held), or_assoc (last_to c (written_in n Second n.out2 start held)) (last_to c (written_in n First n.out1 start held)) (held c), last_to c (written_in n Second n.out2 start held), last_to c (written_in n First n.out1 start held), writes-outputs n c, cases_Bool (is_cell n.out1 c), cases_Bool (is_cell n.out2 c), over_old n First c (held n.in1) (option_and_then held n.in2) (start c) (held c), over_other n Second First c (held n.in1) (option_and_then held n.in2) (start c) (held c), over_old n Second c (held n.in1) (option_and_then held n.in2) (start c) (held c), last_to-append, or_assoc, last_to, writes-outputs, cases_Bool, last_there, over_old, over_other, last_beside)
 
 -- nothing is written to other cells
-pub last_elsewhere : (n : Node) (held : Cell → Option ObjectValue) (c : Cell) → writes n c ≡ false → last_to c (written_by n held) ≡ None
-last_elsewhere n held c h = grind (arith, or_parts, writes-outputs, last_to-append)
+pub last_elsewhere : (start : Cell → Option ObjectValue) (n : Node) (held : Cell → Option ObjectValue) (c : Cell) → writes n c ≡ false → last_to c (written_from start n held) ≡ None
+last_elsewhere start n held c h = grind (arith, or_parts, writes-outputs, last_to-append)
 
 -- ---- what stands in the list
 
--- it is given to an output that is held, of a first input that is held
-pub record IsGiven (n : Node) (output : Output) (o : Option Cell) (held : Cell → Option ObjectValue) (c : Cell) (object : ObjectValue) : Type 0 where
+-- it is given to an output that was held, of a first input that is held
+pub record IsGiven (n : Node) (output : Output) (o : Option Cell) (start held : Cell → Option ObjectValue) (c : Cell) (object : ObjectValue) : Type 0 where
   pub first : ObjectValue
   pub out : ObjectValue
   pub there : is_cell o c ≡ true
   pub read : held n.in1 ≡ Some first
-  pub old : held c ≡ Some out
+  pub old : start c ≡ Some out
   pub gives : object ≡ node_output n output first (option_and_then held n.in2) out
 
-given_cases : (n : Node) (held : Cell → Option ObjectValue) (w : Cell × ObjectValue) → In w (written_by n held) → IsGiven n First n.out1 held w.0 w.1 ⊎ IsGiven n Second n.out2 held w.0 w.1
-given_cases n held w i = grind (arith, In-append w (written_in n First n.out1 held) (written_in n Second n.out2 held) i)
+given_cases : (start : Cell → Option ObjectValue) (n : Node) (held : Cell → Option ObjectValue) (w : Cell × ObjectValue) → In w (written_from start n held)
+    → IsGiven n First n.out1 start held w.0 w.1 ⊎ IsGiven n Second n.out2 start held w.0 w.1
+given_cases start n held w i = grind (arith, In-append w (written_in n First n.out1 start held) (written_in n Second n.out2 start held) i)
 
 first_written : (n : Node) (c : Cell) → is_cell n.out1 c ≡ true → writes n c ≡ true
 first_written n c e = writes-outputs n c ∙ or_left (is_cell n.out1 c) (is_cell n.out2 c) e
@@ -118,23 +127,27 @@ first_written n c e = writes-outputs n c ∙ or_left (is_cell n.out1 c) (is_cell
 second_written : (n : Node) (c : Cell) → is_cell n.out2 c ≡ true → writes n c ≡ true
 second_written n c e = writes-outputs n c ∙ or_right (is_cell n.out1 c) (is_cell n.out2 c) e
 
--- what is written is held
-pub written_held : (n : Node) (held : Cell → Option ObjectValue) (w : Cell × ObjectValue) → In w (written_by n held) → (writes n w.0 ≡ true) × ((out : ObjectValue) × (held w.0 ≡ Some out))
-written_held n held w i = elim (given_cases n held w i) [ inl g ↦ (first_written n w.0 g.there, (g.out, g.old)) | inr g ↦ (second_written n w.0 g.there, (g.out, g.old)) ]
+-- what is written was held
+pub written_held : (start : Cell → Option ObjectValue) (n : Node) (held : Cell → Option ObjectValue) (w : Cell × ObjectValue) → In w (written_from start n held)
+    → (writes n w.0 ≡ true) × ((out : ObjectValue) × (start w.0 ≡ Some out))
+written_held start n held w i =
+    elim (given_cases start n held w i) [ inl g ↦ (first_written n w.0 g.there, (g.out, g.old)) | inr g ↦ (second_written n w.0 g.there, (g.out, g.old)) ]
 
 -- it has the form of what was held
-write_is : (objects : List Named) (n : Node) (output : Output) (o : Option Cell) (c : Cell) (object : ObjectValue) → kind_in objects c ≢ Some kind.Delay → IsGiven n output o (held objects) c object → IsWrite objects c object
-write_is objects n output o c object whole g = grind (arith, form-node_output, is_delay, not_delay, is_delay-form)
+write_is : (start objects : List Named) (n : Node) (output : Output) (o : Option Cell) (c : Cell) (object : ObjectValue) → form_held objects c ≡ form_held start c → kind_in objects c ≢ Some kind.Delay
+    → IsGiven n output o (held start) (held objects) c object → IsWrite objects c object
+write_is start objects n output o c object forms whole g = grind (arith, form-node_output, is_delay, not_delay, is_delay-form)
 
-pub AreWrites-written : (objects : List Named) (n : Node) → ((c : Cell) → writes n c ≡ true → kind_in objects c ≢ Some kind.Delay) → AreWrites objects (written_by n (held objects))
-AreWrites-written objects n whole w i = grind (arith, given_cases n (held objects) w i, given_cases, write_is, first_written, second_written)
+pub AreWrites-written : (start objects : List Named) (n : Node) → ((c : Cell) → form_held objects c ≡ form_held start c) → ((c : Cell) → writes n c ≡ true → kind_in objects c ≢ Some kind.Delay)
+    → AreWrites objects (written_from (held start) n (held objects))
+AreWrites-written start objects n forms whole w i = grind (arith, given_cases (held start) n (held objects) w i, given_cases, write_is, first_written, second_written, forms w.0)
 
 -- ---- cells that hold what a node gives them
 
 -- where each output holds what the node gives it, all that the node writes is held
-pub given_holds : (n : Node) (held : Cell → Option ObjectValue) → has_twice (outputs n) ≡ false → ((c : Cell) → writes n c ≡ true → held c ≡ given_in n held c)
-    → (w : Cell × ObjectValue) → In w (written_by n held) → held w.0 ≡ Some w.1
-given_holds n held once h w i = grind (arith, given_cases n held w i)
+pub given_holds : (start : Cell → Option ObjectValue) (n : Node) (held : Cell → Option ObjectValue) → has_twice (outputs n) ≡ false → ((c : Cell) → writes n c ≡ true → held c ≡ given_from start n held c)
+    → (w : Cell × ObjectValue) → In w (written_from start n held) → held w.0 ≡ Some w.1
+given_holds start n held once h w i = grind (arith, given_cases start n held w i)
 
 held_last : (held : Cell → Option ObjectValue) (c : Cell) (ws : List (Cell × ObjectValue)) → ((w : Cell × ObjectValue) → In w ws → held w.0 ≡ Some w.1) → option_or (last_to c ws) (held c) ≡ held c
 held_last held c [] h = refl
@@ -142,5 +155,6 @@ held_last held c (w ∷ ws) h =
     grind (arith, or_assoc (last_to c ws) (if same_cell c w.0 then Some w.1 else None) (held c), held_last held c ws (λ v i. h v (inr i)), cases_Bool (same_cell c w.0), same_cell-true c w.0, h w (inl refl))
 
 -- where all that a node writes is held, each output holds what the node gives it
-pub holds_given : (n : Node) (held : Cell → Option ObjectValue) → ((w : Cell × ObjectValue) → In w (written_by n held) → held w.0 ≡ Some w.1) → (c : Cell) → writes n c ≡ true → held c ≡ given_in n held c
-holds_given n held h c e = sym (held_last held c (written_by n held) h) ∙ last_written n held c ∙ rw e refl
+pub holds_given : (start : Cell → Option ObjectValue) (n : Node) (held : Cell → Option ObjectValue) → ((w : Cell × ObjectValue) → In w (written_from start n held) → held w.0 ≡ Some w.1)
+    → (c : Cell) → writes n c ≡ true → held c ≡ given_from start n held c
+holds_given start n held h c e = sym (held_last held c (written_from start n held) h) ∙ last_written start n held c ∙ rw e refl

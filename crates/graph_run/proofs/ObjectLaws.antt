@@ -1,5 +1,6 @@
 -- What of objects is kept as nodes write: kinds, formats and bins.
 use Rattle.std.proofs.Common.{◌≡◌, ◌≢◌, ℕ, Bool, true, false, [], refl, ap, Option, Some, None}
+use Rattle.std.specs.Prelude.{if◌then◌else◌}
 use Rattle.std.specs.Option.{option_map}
 use Rattle.vx_base.specs.declared.format.Format.{Format}
 use Rattle.vx_base.specs.declared.function.Function.{Function}
@@ -7,9 +8,10 @@ use Rattle.vx_base.specs.declared.function.Function.TheVariants.{NotBits, Conver
 use Rattle.vx_base.specs.declared.kind.Kind.TheVariants as kind
 use Rattle.vx_base.specs.declared.node.Node.{Node}
 use Rattle.vx_base.specs.declared.output.Output.{Output}
+use Rattle.vx_base.specs.Function.{accumulates}
 use Rattle.vx_base.specs.Image.{ImageValue, new_image}
 use Rattle.vx_base.specs.Object.{ObjectValue, ImageObject, DelayObject, object_kind}
-use Rattle.vx_base.specs.Outputs.{image_of_one, node_image, node_output}
+use Rattle.vx_base.specs.Outputs.{image_of_one, node_image, beside_first, node_output}
 use Rattle.object_table.specs.Delay.{in_slot}
 use Rattle.graph_run.specs.Solution.{form_of}
 
@@ -64,18 +66,22 @@ format-node_image n output format a (Some other) = refl
 
 -- an output keeps its form
 pub form-node_output : (n : Node) (output : Output) (first : ObjectValue) (second : Option ObjectValue) (out : ObjectValue) → form_of (node_output n output first second out) ≡ form_of out
-form-node_output n output (ImageObject a) second (ImageObject out) = ap (λ f. ImageObject (new_image 0 0 f)) (format-node_image n output out.format a second)
+form-node_output n output (ImageObject a) second (ImageObject old) = ap (λ f. ImageObject (new_image 0 0 f)) (format-node_image n output old.format a (beside_first n second (ImageObject old)))
 form-node_output n output (ImageObject a) second other = refl
 form-node_output n output first second out = refl
 
 -- nothing that is hidden of delays counts
 pub shown-node_output : (n : Node) (output : Output) (first : ObjectValue) (second : Option ObjectValue) (out : ObjectValue) → shown (node_output n output first second out) ≡ node_output n output (shown first) (option_map shown second) (shown out)
-shown-node_output n output (ImageObject a) second (ImageObject out) = ap ImageObject (seen_second second)
+shown-node_output n output (ImageObject a) second (ImageObject old) = ap ImageObject (seen_beside (accumulates n.function))
   where
-    seen_second : (second : Option ObjectValue) → node_image n output out.format a second ≡ node_image n output out.format a (option_map shown second)
+    seen_second : (second : Option ObjectValue) → node_image n output old.format a second ≡ node_image n output old.format a (option_map shown second)
     seen_second None = refl
     seen_second (Some (DelayObject images)) = refl
     seen_second (Some other) = refl
+
+    seen_beside : (sums : Bool) → node_image n output old.format a (if sums then Some (ImageObject old) else second) ≡ node_image n output old.format a (if sums then Some (ImageObject old) else option_map shown second)
+    seen_beside true = refl
+    seen_beside false = seen_second second
 shown-node_output n output (ImageObject a) second out = refl
 shown-node_output n output first second out = refl
 

@@ -1,10 +1,10 @@
 -- What cells hold, as operands: as a graph begins to run, and as its nodes write.
 use Rattle.std.proofs.Common.{◌≡◌, ◌≢◌, ℕ, Bool, true, false, List, map, refl, sym, ap, subst, ◌∙◌, inl, inr, Option, Some, None, arith}
-use Rattle.std.specs.Prelude.{◌==◌, not, if◌then◌else◌, option_to_list, slice_get}
+use Rattle.std.specs.Prelude.{◌==◌, ◌||◌, not, if◌then◌else◌, option_to_list, slice_get}
 use Rattle.std.specs.Option.{option_map, option_and_then}
 use Rattle.std.specs.List.{list_all, list_any}
 use Rattle.std.proofs.lemmas.List.Sums.{AllPass-from_list_all}
-use Rattle.std.proofs.lemmas.Bool.{cases_Bool, and_parts, or_cases, or_left, or_right}
+use Rattle.std.proofs.lemmas.Bool.{cases_Bool, and_parts, or_cases, or_left, or_parts, or_right}
 use Rattle.vx_base.specs.declared.format.Format.{Format}
 use Rattle.vx_base.specs.declared.function.Function.{Function}
 use Rattle.vx_base.specs.declared.kind.Kind.TheVariants as kind
@@ -13,12 +13,12 @@ use Rattle.vx_base.specs.declared.output.Output.{Output}
 use Rattle.vx_base.specs.declared.virtual_image.VirtualImage.{VirtualImage}
 use Rattle.vx_base.specs.Cell.{Cell}
 use Rattle.vx_base.specs.Description.{Description, same_size}
-use Rattle.vx_base.specs.Function.{parameters}
+use Rattle.vx_base.specs.Function.{parameters, accumulates}
 use Rattle.vx_base.specs.Image.{ImageValue, description_of}
 use Rattle.vx_base.specs.Node.{inputs, outputs}
 use Rattle.vx_base.specs.Object.{ObjectValue, ImageObject, DelayObject, VirtualObject, object_kind}
 use Rattle.vx_base.specs.Outline.{Outline, closed}
-use Rattle.vx_base.specs.Outputs.{image_of_one, node_image, node_output, written_by}
+use Rattle.vx_base.specs.Outputs.{image_of_one, node_image, beside_first, node_output, written_by}
 use Rattle.object_table.specs.Delay.{in_slot}
 use Rattle.object_table.specs.Named.{Named, object_held, held, with_written}
 use Rattle.object_table.specs.Skeleton.{skeleton}
@@ -30,7 +30,7 @@ use Rattle.graph_verify.specs.Links.{reads, writes, is_written}
 use Rattle.graph_verify.specs.Members.{In}
 use Rattle.graph_verify.specs.Operand.{operand_of, operand_kind, operand_format, are_of_one_size, is_virtual, operands_of, written_operands, other_operands}
 use Rattle.graph_verify.specs.Outlines.{outlines, virtual_or_image, as_known, resolved}
-use Rattle.graph_verify.specs.Verdict.{writes_twice, reads_own_output, takes_operands, node_fault, verdict_on, is_loose}
+use Rattle.graph_verify.specs.Verdict.{writes_twice, reads_own_output, takes_operands, node_fault, verdict_on, is_loose, reads_loose, adds_to_virtual}
 use Rattle.graph_verify.proofs.LinkLemmas.{In-from_same}
 use Rattle.graph_verify.proofs.MemberLemmas.{In-from_any, any-from_In, fails-from_In, In-map, In-right}
 use Rattle.graph_verify.proofs.NodeVerdictLemmas.{runs_alone, written_described}
@@ -93,11 +93,21 @@ module _ (work : ℕ) (is : Cell → Operand) (nodes : List Node) (can : CanRun 
       described outline None k =
           absurd (written_described n.function (operands_of known n) image (no_fault n known (runs_alone work is nodes n can i)) (known c) (written_operand known n c w) (ap operand_format k))
 
+  -- a node has no loose end
+  ends_met : (n : Node) → In n nodes → (reads_loose is nodes n ≡ false) × (adds_to_virtual is n ≡ false)
+  ends_met n i = or_parts (reads_loose is nodes n) (adds_to_virtual is n) (fails-from_In (λ m. reads_loose is nodes m || adds_to_virtual is m) n nodes can.no_loose_end i)
+
+  -- what is virtual isn't added to
+  pub adds_to_none : (n : Node) (c : Cell) → In n nodes → writes n c ≡ true → is_virtual (is c) ≡ true → accumulates n.function ≡ false
+  adds_to_none n c i w v =
+      let some : list_any (λ d. is_virtual (is d)) (outputs n) ≡ true = any-from_In (λ d. is_virtual (is d)) c (outputs n) (In-from_same c (outputs n) w) v in
+      grind (arith, (ends_met n i).1, some, cases_Bool (accumulates n.function))
+
   -- a virtual image that is read is written
   pub virtual_written : (n : Node) (c : Cell) → In n nodes → names_cell n c ≡ true → is_virtual (is c) ≡ true → is_written nodes c ≡ true
   virtual_written n c i named v = elim (or_cases (reads n c) (writes n c) named) [
     | inl r ↦
-        (let fails = fails-from_In (is_loose is nodes) c (inputs n) (fails-from_In (λ m. list_any (is_loose is nodes) (inputs m)) n nodes can.no_loose_end i) (In-from_same c (inputs n) r) in
+        (let fails = fails-from_In (is_loose is nodes) c (inputs n) (ends_met n i).0 (In-from_same c (inputs n) r) in
         grind (arith, fails, v))
     | inr w ↦ any-from_In (λ m. writes m c) n nodes i w
   ]
@@ -180,11 +190,11 @@ one_description a out same = grind (arith, and_parts (a.width == out.width) (a.h
 -- an output of the first input's size stays the operand that it is
 output_kept : (n : Node) (output : Output) (first : ObjectValue) (second : Option ObjectValue) (out : ObjectValue) → are_of_one_size (operand_of first) (operand_of out) ≡ true
     → operand_of (node_output n output first second out) ≡ operand_of out
-output_kept n output (ImageObject a) second (ImageObject out) same = ap Image (described_node n output out.format a second ∙ one_description a out same)
+output_kept n output (ImageObject a) second (ImageObject old) same = ap Image (described_node n output old.format a (beside_first n second (ImageObject old)) ∙ one_description a old same)
 output_kept n output first second out same = grind arith
 
 given_kept : (n : Node) (output : Output) (first second out : Option ObjectValue) → ((x y : ObjectValue) → first ≡ Some x → out ≡ Some y → are_of_one_size (operand_of x) (operand_of y) ≡ true)
-    → option_map operand_of (output_of n output first second out) ≡ option_map operand_of out
+    → option_map operand_of (output_of n output first second out out) ≡ option_map operand_of out
 given_kept n output (Some x) second (Some y) h = ap Some (output_kept n output x second y (h x y refl refl))
 given_kept n output z second out h = grind arith
 
@@ -216,9 +226,9 @@ module _ (is : Cell → Operand) (nodes : List Node) (objects : List Named) (sta
   seen_after : (c : Cell) → option_map shown (held (with_written objects (written_by n (held objects))) c) ≡ option_map shown (if writes n c then given_in n (held objects) c else held objects c)
   seen_after c =
       seen-with_written (written_by n (held objects)) objects
-      (AreWrites-written objects n (λ d w. no_delay is nodes objects stand d (any-from_In (λ m. writes m d) n nodes i w))) c
+      (AreWrites-written objects objects n (λ d. refl) (λ d w. no_delay is nodes objects stand d (any-from_In (λ m. writes m d) n nodes i w))) c
       ∙ sym (map-or shown (last_to c (written_by n (held objects))) (held objects c))
-      ∙ ap (option_map shown) (last_written n (held objects) c)
+      ∙ ap (option_map shown) (last_written (held objects) n (held objects) c)
 
   -- no cell becomes another operand
   pub operand_after : (c : Cell) → option_map operand_of (held (with_written objects (written_by n (held objects))) c) ≡ option_map operand_of (held objects c)

@@ -9,7 +9,7 @@ use Rattle.object_table.specs.Named.{Named}
 use Rattle.graph_verify.specs.Links.{feeds}
 use Rattle.graph_verify.specs.Order.{IsOrder}
 use Rattle.graph_verify.specs.Verdict.{two_writers}
-use Rattle.graph_verify.proofs.LinkLemmas.{one_writer}
+use Rattle.graph_verify.proofs.LinkLemmas.{one_writer, two_writers-permutation}
 use Rattle.graph_verify.proofs.OrderLemmas.{steps_from_order}
 use Rattle.graph_verify.proofs.SolutionLemmas.{once_through_order}
 use Rattle.graph_run.specs.Graph.{rounds_of_nodes, one_by_one}
@@ -17,7 +17,7 @@ use Rattle.graph_run.specs.Solution.{WritesNo, label_of}
 use Rattle.graph_run.proofs.HeldLaws.{seen}
 use Rattle.graph_run.proofs.NameLaws.{Rising, rising, same_objects}
 use Rattle.graph_run.proofs.RoundLaws.{seen-rounds, labels-rounds, seen-one_by_one, labels-one_by_one}
-use Rattle.graph_run.proofs.ValueLaws.{given_from, reads_alone, same_rounds, same_once}
+use Rattle.graph_run.proofs.ValueLaws.{given_first, reads_alone, same_rounds, same_once}
 
 pub rounds_in_order : (nodes steps : List Node) (objects : List Named) → IsOrder feeds nodes steps → two_writers nodes ≡ false → Rising (map label_of objects) → WritesNo kind.Delay nodes objects
     → rounds_of_nodes nodes (length nodes) objects ≡ one_by_one steps objects
@@ -28,8 +28,8 @@ rounds_in_order nodes steps objects order two up whole =
     let labels = labels-rounds nodes (length nodes) objects in
     let same : (c : Cell) → seen (rounds_of_nodes nodes (length nodes) objects) c ≡ seen (one_by_one steps objects) c = λ c.
     ap (λ f. f c) (seen-rounds nodes (length nodes) objects one whole ∙ same_rounds nodes start one (length nodes))
-    ∙ sym (once_through_order (given_from start) nodes steps start (reads_alone start) two order c)
-    ∙ ap (λ f. f c) (sym (same_once nodes start one steps from) ∙ sym (seen-one_by_one nodes steps objects whole from)) in
+    ∙ sym (once_through_order (given_first start) nodes steps start (reads_alone start) two order c)
+    ∙ ap (λ f. f c) (sym (same_once start steps (two_writers-permutation nodes steps order.same_nodes two)) ∙ sym (seen-one_by_one nodes steps objects whole from)) in
     same_objects (rounds_of_nodes nodes (length nodes) objects) (one_by_one steps objects) (subst (λ z. Rising z) (sym labels) up)
     (labels ∙ sym (labels-one_by_one steps objects)) same
 

@@ -1,5 +1,5 @@
 -- What nodes write to an output, whose samples are taken out, and put back once they are written.
-use Rattle.std.proofs.Common.{◌≡◌, ◌*◌, length, true, ℤ, List, Option, ap, ◌∙◌, sym, [], Some, None, subst, arith}
+use Rattle.std.proofs.Common.{◌≡◌, ◌*◌, length, true, false, ℤ, List, Option, ap, ◌∙◌, sym, [], Some, None, subst, arith}
 use Rattle.std.specs.Prelude.{unsigned_abs, ◌==◌, IfSome}
 use Rattle.std.specs.List.{count_by}
 use Rattle.std.proofs.lemmas.List.FromFn.{length-map-range_with_len}
@@ -12,7 +12,7 @@ use Rattle.vx_base.specs.Rectangle.{Rectangle, empty}
 use Rattle.vx_base.specs.Description.{Description, same_size}
 use Rattle.vx_base.specs.Object.{ObjectValue, ImageObject, IsObject, object_kind}
 use Rattle.vx_base.specs.declared.output.Output.{Output}
-use Rattle.vx_base.specs.Outputs.{image_of_one, node_image, node_output}
+use Rattle.vx_base.specs.Outputs.{image_of_one, node_image, beside_first, node_output}
 use Rattle.vx_base.proofs.TableLaws.{length-table}
 use Rattle.vx_base.proofs.ImageLaws.{same_parts}
 use Rattle.graph_run.proofs.OperandLaws.{described_node}
@@ -26,7 +26,7 @@ use Rattle.object_table.specs.Object.{image_value, with_samples}
 use Rattle.vx_base.specs.declared.kind.Kind.TheVariants as kind
 use Rattle.std.specs.Option.{option_map}
 use Rattle.vx_base.specs.declared.kind.Kind.{Kind}
-use Rattle.vx_base.specs.Function.{parameters}
+use Rattle.vx_base.specs.Function.{parameters, accumulates}
 use Rattle.vx_base.specs.declared.function.Function.{Function}
 use Rattle.vx_base.specs.declared.function.Function.TheVariants.{NotBits}
 use Rattle.vx_base.proofs.NodeLaws.{takes_no_distribution}
@@ -69,13 +69,13 @@ all_written_is n which a second old new all size is =
 
 -- samples that a node has written, with the rectangle beside them
 module _ (n : Node) (output : Output) (a : ImageValue) (second : Option ObjectValue) (d : Description) (old : ImageValue) (area : Rectangle) (samples : List ℤ)
-    (is : description_of old ≡ d) (h : CanRunTo n a second old)
+    (is : description_of old ≡ d) (size : HaveSameSize old a)
     (valid : area ≡ (node_image n output d.format a second).valid) (written : samples ≡ (node_image n output d.format a second).samples) where
   format_is : old.format ≡ d.format
   format_is = ap (λ (e : Description). e.format) is
 
   kept : description_of (node_image n output d.format a second) ≡ d
-  kept = ap (λ f. description_of (node_image n output f a second)) (sym format_is) ∙ description_kept n output a second old h.size ∙ is
+  kept = ap (λ f. description_of (node_image n output f a second)) (sym format_is) ∙ description_kept n output a second old size ∙ is
 
   pub stored_is : image_over d area (samples) ≡ node_image n output d.format a second
   stored_is = grind (arith, same_parts, kept)
@@ -86,7 +86,7 @@ image_of_object other e is = grind arith
 
 -- what is written by a node to an image
 pub of_images : (n : Node) (output : Output) (first : ObjectValue) (second : Option ObjectValue) (out : ObjectValue) → object_kind first ≡ kind.Image → object_kind out ≡ kind.Image
-    → ImageObject (node_image n output (image_value out).format (image_value first) second) ≡ node_output n output first second out
+    → ImageObject (node_image n output (image_value out).format (image_value first) (beside_first n second out)) ≡ node_output n output first second out
 of_images n output other second b h i = grind arith
 
 -- a kernel can run where an output is an image
@@ -154,12 +154,18 @@ module _ (objects : List Named) (n : Node) (which : Output) (output : Cell) (h :
           rw (described, is_first ∙ first_there after left before taken, is_second ∙ second_there after left before taken)
           (record { node = can.node; kind = can.kind; formats = can.formats; size = can.size; second_size = can.second_size })
 
-      -- the output is what the node gives
+      -- they are what its function has beside its first input
+      pub plain_beside : accumulates n.function ≡ false → b ≡ beside_first n second (cell_object objects output)
+      plain_beside plain = is_second ∙ second_there after left before taken ∙ rw plain refl
+
+    -- the output is what the node gives
+    module _ (after : Context) (left : ObjectValue) (before : Context) (taken : after ≡ with_objects before (with_object objects output left)) (a : ImageValue) (b : Option ObjectValue)
+        (is_first : a ≡ image_held after.objects n.in1) (is_beside : b ≡ beside_first n second (cell_object objects output)) where
       pub put_back : left ≡ with_samples (cell_object objects output) out.valid [] → (back : Context) (area : Rectangle) (samples : List ℤ) (format : Format)
           → back ≡ with_objects after (with_object after.objects output (with_samples (cell_object after.objects output) area samples)) → d.format ≡ format → area ≡ (node_image n which format a b).valid → samples ≡ (node_image n which format a b).samples
           → back ≡ with_objects before (with_object objects output (output_of objects n which output))
       put_back is_left back area samples format is of_format valid written =
-          grind (arith, first_there after left before taken, second_there after left before taken, of_images n which (cell_object objects n.in1) second (cell_object objects output) h.runs.first_kind out_kind, described, first_there, second_there, stored_is, can, object_after, writes_image, with_object_twice, of_images, out_kind)
+          grind (arith, first_there after left before taken, of_images n which (cell_object objects n.in1) second (cell_object objects output) h.runs.first_kind out_kind, described, first_there, stored_is, can.size, object_after, writes_image, with_object_twice, of_images, out_kind)
 
   -- samples can be put back where they were taken out
   pub takes_back : (after before : Context) → after ≡ with_objects before (with_object objects output (with_samples (cell_object objects output) out.valid [])) → HoldsImage after.objects output
@@ -167,3 +173,8 @@ module _ (objects : List Named) (n : Node) (which : Output) (output : Cell) (h :
 
   pub left_described : (after before : Context) → after ≡ with_objects before (with_object objects output (with_samples (cell_object objects output) out.valid [])) → description_of (image_held after.objects output) ≡ description_of out
   left_described after before taken = grind (arith, object_after objects output writes_image (image_over (description_of out) out.valid []))
+
+  -- what is added to what the output held
+  module _ (sums : accumulates n.function ≡ true) where
+    pub sums_beside : Some (cell_object objects output) ≡ beside_first n second (cell_object objects output)
+    sums_beside = rw sums refl

@@ -1,5 +1,5 @@
 -- Nodes that write two outputs at once: the samples of both are taken out, and put back once they are written.
-use Rattle.std.proofs.Common.{◌≡◌, ℕ, true, ℤ, List, [], ◌∷◌, Option, Some, None, refl, sym, ap, subst, ◌∙◌, arith}
+use Rattle.std.proofs.Common.{◌≡◌, ℕ, true, false, ℤ, List, [], ◌∷◌, Option, Some, None, refl, sym, ap, subst, ◌∙◌, arith}
 use Rattle.std.specs.Prelude.{◌==◌}
 use Rattle.std.specs.Option.{option_map}
 use Rattle.std.proofs.lemmas.Bool.{and_parts, eqb-true, cases_Bool}
@@ -15,11 +15,11 @@ use Rattle.vx_base.specs.declared.output.Output.TheVariants.{First, Second}
 use Rattle.vx_base.specs.Cell.{Cell}
 use Rattle.vx_base.specs.Description.{Description}
 use Rattle.vx_base.specs.Formats.{takes_formats}
-use Rattle.vx_base.specs.Function.{parameters}
+use Rattle.vx_base.specs.Function.{parameters, accumulates}
 use Rattle.vx_base.specs.Image.{ImageValue, IsImage, description_of, image_over}
 use Rattle.vx_base.specs.Node.{IsNode}
 use Rattle.vx_base.specs.Object.{ObjectValue, ImageObject, DelayObject, object_kind, object_format}
-use Rattle.vx_base.specs.Outputs.{node_image}
+use Rattle.vx_base.specs.Outputs.{node_image, beside_first}
 use Rattle.vx_base.specs.Rectangle.{Rectangle, empty}
 use Rattle.vx_base.specs.Window.{from_nine, formula_of_nine}
 use Rattle.image_core.specs.declared.image_mut.ImageMut.{ImageMut}
@@ -108,6 +108,10 @@ module _ (before : Context) (n : Node) (one other : Cell) (h : RunsTo before.obj
   pub nothing : (objects : List Named) → None ≡ option_map (cell_object objects) n.in2
   nothing objects = ap (option_map (cell_object objects)) (sym (reads_one n h.runs.node is))
 
+  -- whatever the outputs hold
+  nothing_beside : (objects : List Named) (old : ObjectValue) → None ≡ beside_first n (option_map (cell_object objects) n.in2) old
+  nothing_beside objects old = let plain : accumulates n.function ≡ false = ap accumulates is in nothing objects ∙ rw plain refl
+
   -- the objects where the second output is written already
   abbrev late : List Named
   late = with_object l other new_other
@@ -159,7 +163,7 @@ module _ (before : Context) (n : Node) (one other : Cell) (h : RunsTo before.obj
 
           back : other_back ≡ with_objects (with_objects before late) (with_object late one out_late)
           back =
-              put_back one_out.objects n Second other runs_other images d described both_out left_other one_out is_both_out a None is_a (nothing both_out.objects) refl other_back area samples S16 is_back
+              put_back one_out.objects n Second other runs_other images d described both_out left_other one_out is_both_out a None is_a (nothing_beside one_out.objects (cell_object one_out.objects other)) refl other_back area samples S16 is_back
               (ap (λ (e : Description). e.format) described ∙ writes_shorts one_out.objects n other runs_other is) valid written
               ∙ ap (λ (t : Context). with_objects t (with_object t.objects other (output_of t.objects n Second other))) is_one_out
               ∙ ap (λ (x : ObjectValue). with_objects before (with_object (with_object l one left_one) other x)) (output_beside l n one other left_one k h.in1_apart h.in2_apart apart Second)
@@ -188,7 +192,7 @@ module _ (before : Context) (n : Node) (one other : Cell) (h : RunsTo before.obj
               → end ≡ with_objects before (with_output (with_output l n First (Some one)) n Second (Some other))
           both_back e of_one end r zs is_end of_area of_samples =
               put_back late n First one late_runs images e (of_one ∙ ap (λ (x : ObjectValue). description_of (image_value x)) (sym late_one)) other_back out_late (with_objects before late) back a None image_late
-              (nothing other_back.objects) refl end r zs S16 is_end
+              (nothing_beside late (cell_object late one)) refl end r zs S16 is_end
               (ap (λ (d : Description). d.format) of_one ∙ writes_shorts l n one h is) of_area of_samples
               ∙ ap (with_objects before) both
 

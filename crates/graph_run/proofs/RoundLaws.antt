@@ -8,7 +8,7 @@ use Rattle.vx_base.specs.declared.kind.Kind.TheVariants as kind
 use Rattle.vx_base.specs.declared.node.Node.{Node}
 use Rattle.vx_base.specs.Cell.{Cell}
 use Rattle.vx_base.specs.Object.{ObjectValue}
-use Rattle.vx_base.specs.Outputs.{written_by}
+use Rattle.vx_base.specs.Outputs.{written_from, written_by}
 use Rattle.object_table.specs.Named.{Named, held, with_written}
 use Rattle.graph_verify.specs.Members.{In, AllIn}
 use Rattle.graph_verify.specs.Links.{writes}
@@ -19,7 +19,7 @@ use Rattle.graph_run.specs.Solution.{WritesNo, form_held, label_of}
 use Rattle.graph_verify.proofs.MemberLemmas.{In-from_any, any-from_In, In-from_flat_map}
 use Rattle.graph_run.proofs.ObjectLaws.{shown}
 use Rattle.graph_run.proofs.HeldLaws.{seen, AreWrites, last_to, last_to-append, or_assoc, map-or, kind-form_seen, seen-with_written, form-with_written, labels-with_written}
-use Rattle.graph_run.proofs.NodeLaws.{given_in, shown-given_in, last_written, last_elsewhere, AreWrites-written}
+use Rattle.graph_run.proofs.NodeLaws.{given_from, given_in, shown-given_from, last_written, last_elsewhere, AreWrites-written}
 
 -- ---- what a round of anything gives a cell
 
@@ -36,47 +36,52 @@ module _ {N C V : Type 0} (writes : N → C → Bool) (value : N → (C → V) �
   round_other (n ∷ ns) held c h = let both = or_parts (writes n c) (list_any (λ m. writes m c) ns) h in rw both.0 (round_other ns held c both.1)
 
 -- what is seen is rounded alike
-shown-round : (ns : List Node) (held : Cell → Option ObjectValue) (c : Cell) → option_map shown (cells.round writes given_in ns held c) ≡ cells.round writes given_in ns (λ d. option_map shown (held d)) c
-shown-round [] held c = refl
-shown-round (n ∷ ns) held c = elim (cases_Bool (writes n c)) [ inl e ↦ rw e (shown-given_in n held c) | inr e ↦ rw e (shown-round ns held c) ]
+shown-round : (start : Cell → Option ObjectValue) (ns : List Node) (held : Cell → Option ObjectValue) (c : Cell)
+    → option_map shown (cells.round writes (given_from start) ns held c) ≡ cells.round writes (given_from (λ d. option_map shown (start d))) ns (λ d. option_map shown (held d)) c
+shown-round start [] held c = refl
+shown-round start (n ∷ ns) held c = elim (cases_Bool (writes n c)) [ inl e ↦ rw e (shown-given_from start n held c) | inr e ↦ rw e (shown-round start ns held c) ]
 
 -- ---- what is written in a round
 
-none_last : (ns : List Node) (held : Cell → Option ObjectValue) (c : Cell) → list_any (λ n. writes n c) ns ≡ false → last_to c (flat_map (λ n. written_by n held) ns) ≡ None
-none_last [] held c h = refl
-none_last (n ∷ ns) held c h =
+none_last : (start : Cell → Option ObjectValue) (ns : List Node) (held : Cell → Option ObjectValue) (c : Cell) → list_any (λ n. writes n c) ns ≡ false → last_to c (flat_map (λ n. written_from start n held) ns) ≡ None
+none_last start [] held c h = refl
+none_last start (n ∷ ns) held c h =
     let both = or_parts (writes n c) (list_any (λ m. writes m c) ns) h in
-    grind (arith, last_to-append c (written_by n held) (flat_map (λ m. written_by m held) ns), none_last ns held c both.1, last_elsewhere n held c both.0)
+    grind (arith, last_to-append c (written_from start n held) (flat_map (λ m. written_from start m held) ns), none_last start ns held c both.1, last_elsewhere start n held c both.0)
 
 absorbed : {X : Type 0} (o p q : Option X) → option_or o p ≡ q → option_or o q ≡ q
 absorbed x p q h = grind arith
 
-last_in_round : (ns : List Node) (held : Cell → Option ObjectValue) (c : Cell) → OneWriter writes ns
-    → option_or (last_to c (flat_map (λ n. written_by n held) ns)) (held c) ≡ cells.round writes given_in ns held c
-last_in_round [] held c one = refl
-last_in_round (n ∷ ns) held c one =
-    let later : Option ObjectValue = last_to c (flat_map (λ m. written_by m held) ns) in
+last_in_round : (start : Cell → Option ObjectValue) (ns : List Node) (held : Cell → Option ObjectValue) (c : Cell) → OneWriter writes ns
+    → option_or (last_to c (flat_map (λ n. written_from start n held) ns)) (held c) ≡ cells.round writes (given_from start) ns held c
+last_in_round start [] held c one = refl
+last_in_round start (n ∷ ns) held c one =
+    let later : Option ObjectValue = last_to c (flat_map (λ m. written_from start m held) ns) in
     let less : OneWriter writes ns = λ x y d p q. one x y d (inr p) (inr q) in
-    let h = last_in_round ns held c less in
-    ap (λ z. option_or z (held c)) (last_to-append c (written_by n held) (flat_map (λ m. written_by m held) ns))
-    ∙ or_assoc later (last_to c (written_by n held)) (held c)
-    ∙ ap (option_or later) (last_written n held c)
+    let h = last_in_round start ns held c less in
+    ap (λ z. option_or z (held c)) (last_to-append c (written_from start n held) (flat_map (λ m. written_from start m held) ns))
+    ∙ or_assoc later (last_to c (written_from start n held)) (held c)
+    ∙ ap (option_or later) (last_written start n held c)
     ∙ elim (cases_Bool (writes n c)) [
       | inl w ↦ elim (cases_Bool (list_any (λ m. writes m c) ns)) [
         | inl some ↦
             (let m = In-from_any (λ z. writes z c) ns some in
             let same : m.0 ≡ n = one m.0 n c (inr m.1) (inl refl) m.2 w in
-            rw w (absorbed later (held c) (given_in n held c) (h ∙ round_written writes given_in ns held c m.0 less m.1 m.2 ∙ ap (λ z. given_in z held c) same)))
-        | inr none ↦ rw (w, none_last ns held c none) refl
+            rw w (absorbed later (held c) (given_from start n held c) (h ∙ round_written writes (given_from start) ns held c m.0 less m.1 m.2 ∙ ap (λ z. given_from start z held c) same)))
+        | inr none ↦ rw (w, none_last start ns held c none) refl
       ]
       | inr w ↦ rw w h
     ]
 
-AreWrites-node : (nodes : List Node) (objects : List Named) → WritesNo kind.Delay nodes objects → (n : Node) → In n nodes → AreWrites objects (written_by n (held objects))
-AreWrites-node nodes objects whole n i = AreWrites-written objects n (λ c w. whole c (any-from_In (λ m. writes m c) n nodes i w))
+-- objects whose forms are those of others
+abbrev SameForms : List Named → List Named → Type 0
+SameForms start objects = (c : Cell) → form_held objects c ≡ form_held start c
 
-AreWrites-round : (nodes : List Node) (objects : List Named) → WritesNo kind.Delay nodes objects → AreWrites objects (flat_map (λ n. written_by n (held objects)) nodes)
-AreWrites-round nodes objects whole w i = grind (arith, In-from_flat_map, AreWrites-node)
+AreWrites-node : (nodes : List Node) (start objects : List Named) → SameForms start objects → WritesNo kind.Delay nodes objects → (n : Node) → In n nodes → AreWrites objects (written_from (held start) n (held objects))
+AreWrites-node nodes start objects forms whole n i = AreWrites-written start objects n forms (λ c w. whole c (any-from_In (λ m. writes m c) n nodes i w))
+
+AreWrites-round : (nodes : List Node) (start objects : List Named) → SameForms start objects → WritesNo kind.Delay nodes objects → AreWrites objects (flat_map (λ n. written_from (held start) n (held objects)) nodes)
+AreWrites-round nodes start objects forms whole w i = grind (arith, In-from_flat_map, AreWrites-node)
 
 -- where forms are the same, no delay is written as a whole either
 pub WritesNo-forms : (nodes : List Node) (old new : List Named) → ((c : Cell) → form_held new c ≡ form_held old c) → WritesNo kind.Delay nodes old → WritesNo kind.Delay nodes new
@@ -84,32 +89,37 @@ WritesNo-forms nodes old new forms whole c w e = grind (arith, kind-form_seen (h
 
 -- ---- rounds and runs
 
-seen-round : (nodes : List Node) (objects : List Named) → OneWriter writes nodes → WritesNo kind.Delay nodes objects → seen (round_of_nodes nodes objects) ≡ cells.round writes given_in nodes (seen objects)
-seen-round nodes objects one whole = fun_ext (λ c.
-    seen-with_written (flat_map (λ n. written_by n (held objects)) nodes) objects (AreWrites-round nodes objects whole) c
-    ∙ sym (map-or shown (last_to c (flat_map (λ n. written_by n (held objects)) nodes)) (held objects c))
-    ∙ ap (option_map shown) (last_in_round nodes (held objects) c one)
-    ∙ shown-round nodes (held objects) c)
+seen-round : (nodes : List Node) (start objects : List Named) → OneWriter writes nodes → SameForms start objects → WritesNo kind.Delay nodes objects
+    → seen (round_of_nodes nodes start objects) ≡ cells.round writes (given_from (seen start)) nodes (seen objects)
+seen-round nodes start objects one forms whole = fun_ext (λ c.
+    seen-with_written (flat_map (λ n. written_from (held start) n (held objects)) nodes) objects (AreWrites-round nodes start objects forms whole) c
+    ∙ sym (map-or shown (last_to c (flat_map (λ n. written_from (held start) n (held objects)) nodes)) (held objects c))
+    ∙ ap (option_map shown) (last_in_round (held start) nodes (held objects) c one)
+    ∙ shown-round (held start) nodes (held objects) c)
 
 seen-step : (nodes : List Node) (n : Node) (objects : List Named) → WritesNo kind.Delay nodes objects → In n nodes
     → seen (with_written objects (written_by n (held objects))) ≡ cells.step writes given_in n (seen objects)
 seen-step nodes n objects whole i = fun_ext (λ c.
-    seen-with_written (written_by n (held objects)) objects (AreWrites-node nodes objects whole n i) c
+    seen-with_written (written_by n (held objects)) objects (AreWrites-node nodes objects objects (λ d. refl) whole n i) c
     ∙ sym (map-or shown (last_to c (written_by n (held objects))) (held objects c))
-    ∙ ap (option_map shown) (last_written n (held objects) c)
-    ∙ elim (cases_Bool (writes n c)) [ inl e ↦ rw e (shown-given_in n (held objects) c) | inr e ↦ rw e refl ])
+    ∙ ap (option_map shown) (last_written (held objects) n (held objects) c)
+    ∙ elim (cases_Bool (writes n c)) [ inl e ↦ rw e (shown-given_from (held objects) n (held objects) c) | inr e ↦ rw e refl ])
 
 pub form-rounds : (nodes : List Node) (k : ℕ) (objects : List Named) → WritesNo kind.Delay nodes objects → (c : Cell) → form_held (rounds_of_nodes nodes k objects) c ≡ form_held objects c
 form-rounds nodes zero objects whole c = refl
-form-rounds nodes (suc k) objects whole c = search (rules, form-rounds nodes k objects whole, form-with_written, AreWrites-round, WritesNo-forms)
+form-rounds nodes (suc k) objects whole c =
+    let before : List Named = rounds_of_nodes nodes k objects in
+    let forms = form-rounds nodes k objects whole in
+    form-with_written (flat_map (λ n. written_from (held objects) n (held before)) nodes) before (AreWrites-round nodes objects before forms (WritesNo-forms nodes objects before forms whole)) c ∙ forms c
 
 pub seen-rounds : (nodes : List Node) (k : ℕ) (objects : List Named) → OneWriter writes nodes → WritesNo kind.Delay nodes objects
-    → seen (rounds_of_nodes nodes k objects) ≡ cells.rounds writes given_in nodes k (seen objects)
+    → seen (rounds_of_nodes nodes k objects) ≡ cells.rounds writes (given_from (seen objects)) nodes k (seen objects)
 seen-rounds nodes zero objects one whole = refl
 seen-rounds nodes (suc k) objects one whole =
     let before : List Named = rounds_of_nodes nodes k objects in
-    seen-round nodes before one (WritesNo-forms nodes objects before (form-rounds nodes k objects whole) whole)
-    ∙ ap (cells.round writes given_in nodes) (seen-rounds nodes k objects one whole)
+    let forms = form-rounds nodes k objects whole in
+    seen-round nodes objects before one forms (WritesNo-forms nodes objects before forms whole)
+    ∙ ap (cells.round writes (given_from (seen objects)) nodes) (seen-rounds nodes k objects one whole)
 
 pub labels-rounds : (nodes : List Node) (k : ℕ) (objects : List Named) → map label_of (rounds_of_nodes nodes k objects) ≡ map label_of objects
 labels-rounds nodes zero objects = refl
@@ -121,7 +131,7 @@ seen-one_by_one nodes [] objects whole within = refl
 seen-one_by_one nodes (n ∷ steps) objects whole within =
     let ws = written_by n (held objects) in
     let after : List Named = with_written objects ws in
-    let are = AreWrites-node nodes objects whole n (within n (inl refl)) in
+    let are = AreWrites-node nodes objects objects (λ d. refl) whole n (within n (inl refl)) in
     seen-one_by_one nodes steps after (WritesNo-forms nodes objects after (form-with_written ws objects are) whole) (λ x i. within x (inr i))
     ∙ ap (cells.once writes given_in steps) (seen-step nodes n objects whole (within n (inl refl)))
 

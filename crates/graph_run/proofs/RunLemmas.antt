@@ -1,5 +1,5 @@
 -- Nodes on what their cells hold, and what they write.
-use Rattle.std.proofs.Common.{◌≡◌, ◌≢◌, ℕ, true, false, List, [], ◌∷◌, ◌++◌, Option, Some, None, refl, sym, ap, subst, ◌∙◌, arith, rules}
+use Rattle.std.proofs.Common.{◌≡◌, ◌≢◌, ℕ, Bool, true, false, List, [], ◌∷◌, ◌++◌, Option, Some, None, refl, sym, ap, subst, ◌∙◌, arith, rules}
 use Rattle.std.specs.Prelude.{All, ◌==◌, ◌&&◌, is_some, is_none, unwrap_or, if◌then◌else◌, IfSome, option_to_list}
 use Rattle.std.specs.List.{list_any, list_all}
 use Rattle.std.specs.List.Sorted.{IsStrictlyIncreasing}
@@ -14,7 +14,7 @@ use Rattle.vx_base.specs.declared.kind.Kind.TheVariants as kind
 use Rattle.vx_base.specs.declared.node.Node.{Node}
 use Rattle.vx_base.specs.Cell.{Cell, same_cell, cell_of, cell_of}
 use Rattle.vx_base.specs.Description.{Description, same_size}
-use Rattle.vx_base.specs.Function.{parameters}
+use Rattle.vx_base.specs.Function.{parameters, accumulates}
 use Rattle.vx_base.specs.Image.{ImageValue, IsImage, description_of}
 use Rattle.vx_base.specs.Statistics.{extremes}
 use Rattle.vx_base.specs.Node.{IsNode, is_node, has_amount, has_operands, all_named, given, outputs, second_kind}
@@ -40,7 +40,7 @@ use Rattle.graph_run.proofs.CellLemmas.{object_beside, object_if_beside, holds_b
 use Rattle.graph_run.proofs.LastingLemmas.{images-last, Lasts-trans, Lasts-names}
 use Rattle.graph_run.proofs.OutputLemmas.{image_of_object, description_kept, length-histogram}
 use Rattle.graph_run.proofs.OperandLaws.{no_delay_written}
-use Rattle.vx_base.proofs.NodeLaws.{node_image_is}
+use Rattle.vx_base.proofs.NodeLaws.{node_image_is, accumulated_image_is}
 
 -- ---- cells
 
@@ -226,7 +226,7 @@ module _ (n : Node) where
 
     -- one of the outputs is written, where perhaps the other is written already
     written_one : (l : List Named) (which : Output) (cell : Option Cell) → IfSome cell (λ c. HoldsKind objects (c, wanted)) → IfSome cell (λ c. output_of l n which c ≡ output_of objects n which c)
-        → with_written l (written_in n which cell (held objects)) ≡ with_output l n which cell
+        → with_written l (written_in n which cell (held objects) (held objects)) ≡ with_output l n which cell
     written_one l which None s same = refl
     written_one l which (Some c) s same =
         grind (arith, there_is objects n.in1 (holds_there objects (n.in1, kind.Image) h.in1), holds_there objects (n.in1, kind.Image) h.in1, second_held n.in2 (second_kind n) h.in2, there_is objects c (holds_there objects (c, wanted) s), holds_there objects (c, wanted) s)
@@ -242,7 +242,7 @@ module _ (n : Node) where
     -- what the node writes is what its outputs become
     pub written_is : with_written objects (written_by n (held objects)) ≡ with_output (with_output objects n First n.out1) n Second n.out2
     written_is =
-        grind (arith, with_written-append objects (written_in n First n.out1 (held objects)) (written_in n Second n.out2 (held objects)), written_one objects First n.out1 h.out1 (same_first n.out1), same_first n.out1, written_one (with_output objects n First n.out1) Second n.out2 h.out2 (same_second n.out1 n.out2 runs_first runs_second two_outputs), same_second n.out1 n.out2 runs_first runs_second two_outputs)
+        grind (arith, with_written-append objects (written_in n First n.out1 (held objects) (held objects)) (written_in n Second n.out2 (held objects) (held objects)), written_one objects First n.out1 h.out1 (same_first n.out1), same_first n.out1, written_one (with_output objects n First n.out1) Second n.out2 h.out2 (same_second n.out1 n.out2 runs_first runs_second two_outputs), same_second n.out1 n.out2 runs_first runs_second two_outputs)
 
 -- ---- what is written is an object
 
@@ -290,8 +290,13 @@ module _ (l : List Named) (n : Node) (which : Output) (output : Cell) (runs : Ru
 -- an output becomes an object, of which as much lasts
 output_lasts : (n : Node) (which : Output) (first : ObjectValue) (second : Option ObjectValue) (out : ObjectValue) → RunsOn n first second out
     → IsObject (node_output n which first second out) × (lasting (node_output n which first second out) ≡ lasting out)
-output_lasts n which (ImageObject a) second (ImageObject out) runs =
-    grind (arith, node_image_is, images-last, description_kept)
+output_lasts n which (ImageObject a) second (ImageObject old) runs = each (accumulates n.function) refl
+  where
+    each : (sums : Bool) → accumulates n.function ≡ sums → IsObject (node_output n which (ImageObject a) second (ImageObject old))
+        × (lasting (node_output n which (ImageObject a) second (ImageObject old)) ≡ lasting (ImageObject old))
+    each true is = grind (arith, is, accumulated_image_is, images-last, description_kept)
+    each false is = grind (arith, is, node_image_is, images-last, description_kept)
+
 output_lasts n which (ImageObject a) second (DistributionObject d) runs = (record { bins = runs.out_is.bins; size = length-histogram d.bins a }, refl)
 output_lasts n which first second out runs = grind arith
 

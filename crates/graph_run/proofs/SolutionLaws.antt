@@ -9,7 +9,7 @@ use Rattle.vx_base.specs.declared.node.Node.{Node}
 use Rattle.vx_base.specs.declared.output.Output.{Output}
 use Rattle.vx_base.specs.Cell.{Cell}
 use Rattle.vx_base.specs.Object.{ObjectValue, ImageObject, object_kind}
-use Rattle.vx_base.specs.Outputs.{written_by}
+use Rattle.vx_base.specs.Outputs.{written_from}
 use Rattle.object_table.specs.Named.{Named, held}
 use Rattle.graph_verify.specs.Members.{In}
 use Rattle.graph_verify.specs.Links.{writes, feeds}
@@ -27,9 +27,9 @@ use Rattle.graph_verify.proofs.NodeVerdictLemmas.{no_twice_each}
 use Rattle.graph_run.proofs.ObjectLaws.{is_delay, shown, is_delay-shown, not_delay, is_delay-form}
 use Rattle.graph_run.proofs.HeldLaws.{seen, kind-form_seen}
 use Rattle.graph_run.proofs.NameLaws.{Rising, rising, same_objects}
-use Rattle.graph_run.proofs.NodeLaws.{output_at, output_of, given_to, given_in, shown-given_to, shown-given_in, given_holds, holds_given}
+use Rattle.graph_run.proofs.NodeLaws.{output_at, output_of, given_to, given_from, shown-given_to, shown-given_from, given_holds, holds_given}
 use Rattle.graph_run.proofs.RoundLaws.{form-rounds, seen-rounds, labels-rounds, WritesNo-forms}
-use Rattle.graph_run.proofs.ValueLaws.{given_from, reads_alone, given_same, same_rounds, Follows-rounds}
+use Rattle.graph_run.proofs.ValueLaws.{given_first, reads_alone, given_same, same_rounds, Follows-rounds}
 
 -- what is seen of a cell that holds no delay as a whole is what it holds
 unshown : (o p : Option ObjectValue) → option_map object_kind p ≢ Some kind.Delay → option_map shown o ≡ option_map shown p → o ≡ p
@@ -46,44 +46,43 @@ module _ (nodes : List Node) (objects : List Named) (one : two_writers nodes ≡
   after = rounds_of_nodes nodes (length nodes) objects
 
   abbrev values : Cell → Option ObjectValue
-  values = cells.rounds writes (given_from (seen objects)) nodes (length nodes) (seen objects)
+  values = cells.rounds writes (given_first (seen objects)) nodes (length nodes) (seen objects)
 
   seen_values : seen after ≡ values
   seen_values = seen-rounds nodes (length nodes) objects (one_writer nodes one) whole ∙ same_rounds nodes (seen objects) (one_writer nodes one) (length nodes)
 
-  values_solve : IsSolution writes (given_from (seen objects)) nodes (seen objects) values
-  values_solve = cell_solutions.rounds_solve (given_from (seen objects)) nodes (seen objects) (reads_alone (seen objects)) one runs
+  values_solve : IsSolution writes (given_first (seen objects)) nodes (seen objects) values
+  values_solve = cell_solutions.rounds_solve (given_first (seen objects)) nodes (seen objects) (reads_alone (seen objects)) one runs
 
-  seen_holds : (n : Node) (c : Cell) → In n nodes → writes n c ≡ true → seen after c ≡ option_map shown (given_in n (held after) c)
+  seen_holds : (n : Node) (c : Cell) → In n nodes → writes n c ≡ true → seen after c ≡ option_map shown (given_from (held objects) n (held after) c)
   seen_holds n c i w =
       ap (λ f. f c) seen_values
       ∙ values_solve.written n c i w
       ∙ sym (given_same nodes (seen objects) values (Follows-rounds nodes (seen objects) (one_writer nodes one) (length nodes)) n c i w)
-      ∙ ap (λ f. given_in n f c) (sym seen_values)
-      ∙ sym (shown-given_in n (held after) c)
+      ∙ ap (λ f. given_from (seen objects) n f c) (sym seen_values)
+      ∙ sym (shown-given_from (held objects) n (held after) c)
 
   -- each written cell holds what its node gives
-  holds : (n : Node) (c : Cell) → In n nodes → writes n c ≡ true → held after c ≡ given_in n (held after) c
-  holds n c i w = grind (arith, unshown, given_in, WritesNo-forms, form-rounds, any-from_In, seen_holds)
+  holds : (n : Node) (c : Cell) → In n nodes → writes n c ≡ true → held after c ≡ given_from (held objects) n (held after) c
+  holds n c i w = grind (arith, unshown, given_from, WritesNo-forms, form-rounds, any-from_In, seen_holds)
 
   pub rounds_are_solution : Solves nodes objects (rounds_of_nodes nodes (length nodes) objects)
   rounds_are_solution = record {
     labels = labels-rounds nodes (length nodes) objects;
     forms = form-rounds nodes (length nodes) objects whole;
-    written = All-from_In (λ n. All (λ w. held after w.0 ≡ Some w.1) (written_by n (held after))) nodes
-        (λ n i. All-from_In (λ w. held after w.0 ≡ Some w.1) (written_by n (held after))
-        (given_holds n (held after) (no_twice_each nodes n one i) (λ c w. holds n c i w)));
+    written = All-from_In (λ n. All (λ w. held after w.0 ≡ Some w.1) (written_from (held objects) n (held after))) nodes
+        (λ n i. All-from_In (λ w. held after w.0 ≡ Some w.1) (written_from (held objects) n (held after))
+        (given_holds (held objects) n (held after) (no_twice_each nodes n one i) (λ c w. holds n c i w)));
     others = (λ c h plain. unshown (held after c) (held objects c) plain
         (ap (λ f. f c) seen_values ∙ values_solve.others c (unwritten nodes c h)));
   }
 
 -- ---- the only one
 
--- of an output the form alone counts, where the first input is an image
-same_given : (n : Node) (output : Output) (first second x y : Option ObjectValue) → option_map object_kind first ≡ Some kind.Image → option_map form_of x ≡ option_map form_of y → option_map object_kind y ≢ Some kind.Delay
-    → output_of n output first second x ≡ output_of n output first second y
-same_given n output (Some (ImageObject a)) second (Some x) (Some y) image forms whole = grind (arith, is_delay, not_delay, kinds_by_forms)
-same_given n output first second x y image forms whole = grind arith
+-- where the first input is an image, what an output holds now doesn't count
+same_given : (n : Node) (output : Output) (first second old now : Option ObjectValue) → option_map object_kind first ≡ Some kind.Image → option_map form_of now ≡ option_map form_of old
+    → output_of n output first second old now ≡ output_of n output first second old old
+same_given n output first second old now image forms = grind arith
 
 -- of a delay as a whole nothing is seen but that it is one
 same_seen : (o p : Option ObjectValue) → option_map form_of o ≡ option_map form_of p → (option_map object_kind p ≢ Some kind.Delay → o ≡ p) → option_map shown o ≡ option_map shown p
@@ -91,23 +90,22 @@ same_seen (Some x) (Some y) forms h = grind (arith, cases_Bool (is_delay y), is_
 same_seen o p forms h = grind arith
 
 solution_seen : (nodes : List Node) (before after : List Named) → WritesNo kind.Delay nodes before → ReadImages nodes before → Solves nodes before after
-    → IsSolution writes (given_from (seen before)) nodes (seen before) (seen after)
+    → IsSolution writes (given_first (seen before)) nodes (seen before) (seen after)
 solution_seen nodes before after whole images solves = record {
-  written = (λ n c i w. ap (option_map shown) (given n c i w) ∙ shown-given_to n (held after) c (held before c));
+  written = (λ n c i w. ap (option_map shown) (given n c i w) ∙ shown-given_to n (held after) c (held before c) (held before c));
   others = (λ c h. same_seen (held after c) (held before c) (solves.forms c) (solves.others c (is_unwritten nodes c h)));
 }
   where
     image : (n : Node) → In n nodes → option_map object_kind (held after n.in1) ≡ Some kind.Image
     image n i = grind (arith, kinds_by_forms (held after n.in1) (held before n.in1) (solves.forms n.in1), In-from_All (λ m. kind_in before m.in1 ≡ Some kind.Image) nodes images n i)
 
-    given : (n : Node) (c : Cell) → In n nodes → writes n c ≡ true → held after c ≡ given_to n (held after) c (held before c)
+    given : (n : Node) (c : Cell) → In n nodes → writes n c ≡ true → held after c ≡ given_to n (held after) c (held before c) (held before c)
     given n c i w =
-        holds_given n (held after)
-        (In-from_All (λ v. held after v.0 ≡ Some v.1) (written_by n (held after))
-        (In-from_All (λ m. All (λ v. held after v.0 ≡ Some v.1) (written_by m (held after))) nodes solves.written n i))
+        holds_given (held before) n (held after)
+        (In-from_All (λ v. held after v.0 ≡ Some v.1) (written_from (held before) n (held after))
+        (In-from_All (λ m. All (λ v. held after v.0 ≡ Some v.1) (written_from (held before) m (held after))) nodes solves.written n i))
         c w
-        ∙ same_given n (output_at n c) (held after n.in1) (option_and_then (held after) n.in2) (held after c) (held before c) (image n i) (solves.forms c)
-        (whole c (any-from_In (λ m. writes m c) n nodes i w))
+        ∙ same_given n (output_at n c) (held after n.in1) (option_and_then (held after) n.in2) (held before c) (held after c) (image n i) (solves.forms c)
 
 -- where names increase
 pub only_rising : (nodes : List Node) (before after : List Named) → two_writers nodes ≡ false → has_cycle feeds nodes ≡ false → Rising (map label_of before)
@@ -118,7 +116,7 @@ only_rising nodes before after one runs up whole images solves =
     (subst (λ z. Rising z) (sym solves.labels) up)
     (solves.labels ∙ sym (labels-rounds nodes (length nodes) before))
     (λ c.
-    cell_solutions.only_solution (given_from start) nodes start (seen after) (reads_alone start) one runs (solution_seen nodes before after whole images solves) c
+    cell_solutions.only_solution (given_first start) nodes start (seen after) (reads_alone start) one runs (solution_seen nodes before after whole images solves) c
     ∙ ap (λ f. f c) (sym (seen_values nodes before one runs whole)))
 
 pub only_solution : (nodes : List Node) (before after : List Named) → two_writers nodes ≡ false → has_cycle feeds nodes ≡ false → AllPairs (λ a b. a.name < b.name) before

@@ -1,6 +1,6 @@
 -- Small objects, of which the examples are made.
 use Rattle.std.specs.Prelude.{ℕ, true, [], ◌∷◌, None, pos}
-use Rattle.vx_base.specs.declared.format.Format.TheVariants.{U8}
+use Rattle.vx_base.specs.declared.format.Format.TheVariants.{U8, S16}
 use Rattle.vx_base.specs.Object.{ImageObject, VirtualObject}
 use Rattle.object_table.specs.Named.{Named}
 
@@ -11,6 +11,15 @@ pixel name sample =
       name = name;
       live = true;
       object = ImageObject (record { width = 1; height = 1; format = U8; valid = record { x0 = 0; y0 = 0; x1 = 1; y1 = 1 }; samples = pos sample ∷ [] });
+    }
+
+-- a valid S16 image of one sample
+abbrev pub short_pixel : ℕ → ℕ → Named
+short_pixel name sample =
+    record {
+      name = name;
+      live = true;
+      object = ImageObject (record { width = 1; height = 1; format = S16; valid = record { x0 = 0; y0 = 0; x1 = 1; y1 = 1 }; samples = pos sample ∷ [] });
     }
 
 -- a virtual image of which nothing is declared

@@ -5,19 +5,19 @@ use Rattle.vx_base.specs.declared.node.Node.{Node}
 use Rattle.vx_base.specs.Cell.{Cell}
 use Rattle.vx_base.specs.Image.{new_image}
 use Rattle.vx_base.specs.Object.{ObjectValue, ImageObject, VirtualObject}
-use Rattle.vx_base.specs.Outputs.{written_by}
+use Rattle.vx_base.specs.Outputs.{written_from, written_by}
 use Rattle.object_table.specs.Named.{Named, held, with_written}
 use Rattle.graph_verify.specs.declared.operand.Operand.{Operand}
 use Rattle.graph_verify.specs.declared.operand.Operand.TheVariants.{Image}
 use Rattle.graph_verify.specs.Links.{is_written}
 
--- one round: all nodes write at once, of what the cells held before
-abbrev pub round_of_nodes : List Node → List Named → List Named
-round_of_nodes nodes objects = with_written objects (flat_map (λ n. written_by n (held objects)) nodes)
+-- one round: all nodes write at once, of what the cells held before it, and as the run began
+abbrev pub round_of_nodes : List Node → List Named → List Named → List Named
+round_of_nodes nodes start objects = with_written objects (flat_map (λ n. written_from (held start) n (held objects)) nodes)
 
 abbrev pub rounds_of_nodes : List Node → ℕ → List Named → List Named
 rounds_of_nodes nodes zero objects = objects
-rounds_of_nodes nodes (suc k) objects = round_of_nodes nodes (rounds_of_nodes nodes k objects)
+rounds_of_nodes nodes (suc k) objects = round_of_nodes nodes objects (rounds_of_nodes nodes k objects)
 
 -- what a virtual image is while a graph runs that writes it: an image of what it was found to be, wholly valid and 0 everywhere
 abbrev pub begun_as : ObjectValue → Operand → ObjectValue

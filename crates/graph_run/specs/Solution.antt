@@ -7,7 +7,7 @@ use Rattle.vx_base.specs.declared.node.Node.{Node}
 use Rattle.vx_base.specs.Cell.{Cell}
 use Rattle.vx_base.specs.Image.{new_image}
 use Rattle.vx_base.specs.Object.{ObjectValue, ImageObject, DelayObject, GraphObject, object_kind}
-use Rattle.vx_base.specs.Outputs.{written_by}
+use Rattle.vx_base.specs.Outputs.{written_from}
 use Rattle.object_table.specs.Named.{Named, held}
 use Rattle.object_table.specs.Skeleton.{skeleton}
 use Rattle.graph_verify.specs.Links.{is_written}
@@ -40,10 +40,11 @@ form_held objects cell = option_map form_of (held objects cell)
 abbrev pub label_of : Named → ℕ × Bool
 label_of o = (o.name, o.live)
 
--- objects that are what the nodes make of those before: each written cell holds what its node gives of what the cells hold, and
+-- objects that are what the nodes make of those before: each written cell holds what its node gives of what the cells hold (one that
+-- accumulates, of what its output held before), and
 -- every other cell what it held; labels and forms are as before
 pub record Solves (nodes : List Node) (before after : List Named) : Type 0 where
   pub labels : map label_of after ≡ map label_of before
   pub forms : (cell : Cell) → form_held after cell ≡ form_held before cell
-  pub written : All (λ n. All (λ w. held after w.0 ≡ Some w.1) (written_by n (held after))) nodes
+  pub written : All (λ n. All (λ w. held after w.0 ≡ Some w.1) (written_from (held before) n (held after))) nodes
   pub others : (cell : Cell) → is_written nodes cell ≡ false → kind_in before cell ≢ Some kind.Delay → held after cell ≡ held before cell

@@ -2,9 +2,9 @@
 ghost use Rattle.std.specs.Prelude.{◌≡◌, [], ◌∷◌};
 ghost use Rattle.vx_base.specs.declared.format.Format.TheVariants.{U8};
 ghost use Rattle.graph_verify.specs.declared.operand.Operand.TheVariants.{Image};
-ghost use Rattle.graph_verify.specs.Examples.{not_to};
+ghost use Rattle.graph_verify.specs.Examples.{accumulate_to, convert_to, not_to};
 ghost use Rattle.graph_run.specs.Graph.{run_of_graph};
-ghost use Rattle.graph_run.specs.Examples.{pixel, open_image};
+ghost use Rattle.graph_run.specs.Examples.{pixel, short_pixel, open_image};
 
 /// Not of image 1 to virtual image 2, and Not of that to image 3, added in either order: what image
 /// 1 holds comes to image 3, and the virtual image is forgotten.
@@ -15,4 +15,17 @@ pub fn two_nodes()
     ensures turned { run_of_graph (λ _. Image (record { width = 1; height = 1; format = U8 }))
         (not_to 2 3 ∷ not_to 1 2 ∷ []) (pixel 1 10 ∷ open_image 2 ∷ pixel 3 0 ∷ [])
         ≡ (pixel 1 10 ∷ open_image 2 ∷ pixel 3 10 ∷ []) }
+{}
+
+/// 10 is added to 5, and the sum converted, in either order of adding: both hold 15, and in the
+/// next run 25.
+pub fn sums()
+    ensures in_order { run_of_graph (λ _. Image (record { width = 1; height = 1; format = U8 }))
+        (accumulate_to 1 2 ∷ convert_to 2 3 ∷ [])
+        (pixel 1 10 ∷ short_pixel 2 5 ∷ pixel 3 0 ∷ [])
+        ≡ (pixel 1 10 ∷ short_pixel 2 15 ∷ pixel 3 15 ∷ []) }
+    ensures turned { run_of_graph (λ _. Image (record { width = 1; height = 1; format = U8 }))
+        (convert_to 2 3 ∷ accumulate_to 1 2 ∷ [])
+        (pixel 1 10 ∷ short_pixel 2 15 ∷ pixel 3 15 ∷ [])
+        ≡ (pixel 1 10 ∷ short_pixel 2 25 ∷ pixel 3 25 ∷ []) }
 {}

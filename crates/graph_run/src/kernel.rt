@@ -1,15 +1,21 @@
 //! The kernel of each function.
-ghost use Rattle.std.specs.Prelude.{◌≡◌, None, Some};
+ghost use Rattle.std.specs.Prelude.{◌≡◌, true, IsTrue, None, Some};
+ghost use Rattle.vx_base.specs.declared.format.Format.TheVariants.{S16};
+ghost use Rattle.vx_base.specs.Function.{accumulates};
+ghost use Rattle.vx_base.specs.Node.{is_node};
 ghost use Rattle.vx_base.specs.Object.{ImageObject};
 ghost use Rattle.vx_base.specs.Outputs.{node_image};
+ghost use Rattle.vx_base.specs.Pixelwise.{from_two, formula_of_two};
+ghost use Rattle.vx_base.specs.Rectangle.{IsWithin};
 ghost use Rattle.image_core.specs.Second.{second_object};
 ghost use Rattle.image_core.specs.Bands.{all_rows};
+ghost use Rattle.image_core.specs.Fits.{Fits};
 ghost use Rattle.image_core.specs.Target.{written, SameSlices, Writes};
 ghost use Rattle.graph_run.specs.Run.{CanRun};
 
 use image_core::{Image, ImageMut, Second};
 use pixel_kernels::{
-    absolute_difference, add, bit_and, bit_not, bit_or, bit_xor, convert_depth, lookup, maximum,
+    absolute_difference, accumulate, accumulate_square, add, bit_and, bit_not, bit_or, bit_xor, convert_depth, lookup, maximum,
     minimum, multiply, subtract, threshold,
 };
 use stat_kernels::integral;
@@ -60,6 +66,26 @@ pub fn run_whole(
     ensures slices { SameSlices output.old output.new }
 {
     run_node(node, which, first, second, output);
+}
+
+/// Adds what the node's function gives of an image to the image that it writes, all of whose rows
+/// are lent: each sample where both are valid, and the rectangle.
+pub fn run_sum(node: &Node, image: &Image<'_>, sums: &mut ImageMut<'_>)
+    requires function { accumulates node.now.function ≡ true }
+    requires shape { IsTrue (is_node node.now) }
+    requires fits { Fits node.now.function image.now None sums.old }
+    requires room { IsWithin (written sums.old).valid (written sums.old).width
+        (written sums.old).height }
+    requires rows { sums.old.rows ≡ all_rows sums.old.desc.height }
+    ensures value { written sums.new ≡ from_two S16 (formula_of_two node.now.function S16
+        node.now.policy node.now.amount) image.now (written sums.old) }
+    ensures slices { SameSlices sums.old sums.new }
+{
+    match node.function {
+        Function::Accumulate => accumulate(image, sums),
+        Function::AccumulateSquare => accumulate_square(image, sums, node.amount),
+        _ => unreachable!(),
+    }
 }
 
 /// Writes what a function of one image gives.

@@ -134,6 +134,8 @@ impl Stage {
         requires image { IsImage (image_held (scene self.old).objects cell) }
         ensures desc { result.0 ≡ description_of (image_held (scene self.old).objects cell) }
         ensures samples { AreFor self.old.slots.items cell.name result.0 result.1 }
+        ensures value { take (sample_count result.0) (values result.1)
+            ≡ (image_held (scene self.old).objects cell).samples }
         ensures count { HasCount self.old.slots.items cell.name (length (values result.1)) }
         ensures stage { IsArranged self.new }
         ensures left { scene self.new ≡ with_objects (scene self.old)

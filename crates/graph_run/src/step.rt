@@ -1,6 +1,7 @@
 //! Nodes that run on what their cells hold, in a table or on a stage.
 ghost use Rattle.std.specs.Prelude.{◌≡◌, ◌≢◌, [], length, map, pos, is_some, IsTrue, All};
-ghost use Rattle.std.specs.Prelude.{◌≤◌, IfSome, None, Some, take};
+ghost use Rattle.std.specs.Prelude.{◌≤◌, IfSome, None, Some, take, true, false};
+ghost use Rattle.vx_base.specs.declared.output.Output.{Output as OutputValue};
 ghost use Rattle.std.specs.List.Sorted.{IsStrictlyIncreasing};
 ghost use Rattle.std.specs.Option.{option_map};
 ghost use Rattle.vx_base.specs.declared.format.Format.TheVariants.{U8, S16, U32};
@@ -8,12 +9,13 @@ ghost use Rattle.vx_base.specs.declared.function.Function.TheVariants.{Sobel};
 ghost use Rattle.vx_base.specs.declared.kind.Kind.TheVariants as kind;
 ghost use Rattle.vx_base.specs.declared.output.Output.TheVariants as outputs;
 ghost use Rattle.vx_base.specs.Description.{sample_count};
-ghost use Rattle.vx_base.specs.Function.{parameters};
+ghost use Rattle.vx_base.specs.Function.{parameters, accumulates};
 ghost use Rattle.vx_base.specs.Image.{IsImage, image_over};
 ghost use Rattle.vx_base.specs.Object.{ExtremesObject, IsObject, object_kind};
 ghost use Rattle.vx_base.specs.Outputs.{node_image, written_by};
 ghost use Rattle.vx_base.specs.Picture.{values, samples_format};
-ghost use Rattle.vx_base.specs.Rectangle.{empty};
+ghost use Rattle.vx_base.specs.Pixelwise.{from_two, formula_of_two};
+ghost use Rattle.vx_base.specs.Rectangle.{empty, IsWithin};
 ghost use Rattle.vx_base.specs.Statistics.{extremes};
 ghost use Rattle.image_core.specs.Second.{second_object};
 ghost use Rattle.vx_base.specs.Cell.{cell_of};
@@ -29,7 +31,7 @@ ghost use Rattle.graph_run.specs.Steps.{counted_in, with_output};
 ghost use Rattle.graph_run.specs.Turns.{CanRunNow};
 ghost use Rattle.graph_run.specs.Stage.{scene, IsStage, IsArranged, Keeps, Stays};
 
-use crate::kernel::run_whole;
+use crate::kernel::{run_sum, run_whole};
 use crate::stage::Stage;
 use image_core::{Image, ImageMut, Second};
 use object_table::{Content, Object, Table};
@@ -87,6 +89,7 @@ fn run_to(stage: &mut Stage, node: &Node, which: Output, output: Option<ObjRef>)
 {
     if let Some(output) = output {
         match node.function.parameters().output {
+            Kind::Image if node.function.accumulates() => add_to(stage, node, output),
             Kind::Image => write_to(stage, node, which, output),
             Kind::Distribution => count_to(stage, node.in1, output.name()),
             Kind::Extremes => locate_to(stage, node.in1, output.name()),
@@ -95,11 +98,12 @@ fn run_to(stage: &mut Stage, node: &Node, which: Output, output: Option<ObjRef>)
     }
 }
 
-/// Writes what a node gives to an output that is an image.
+/// Writes what a node gives to an output that is an image, whatever that holds.
 fn write_to(stage: &mut Stage, node: &Node, which: Output, output: ObjRef)
     requires stage { IsArranged stage.old }
     requires runs { RunsTo (scene stage.old).objects node.now output }
     requires kind { (parameters node.now.function).output ≡ kind.Image }
+    requires function { accumulates node.now.function ≡ false }
     ensures value { scene stage.new ≡ with_objects (scene stage.old)
         (with_output (scene stage.old).objects node.now which (Some output)) }
     ensures stage { IsArranged stage.new }
@@ -110,6 +114,25 @@ fn write_to(stage: &mut Stage, node: &Node, which: Output, output: ObjRef)
     let second = second_held(stage, node.in2);
     let valid = write_samples(desc, &mut samples, node, which, &first, &second);
     stage.put(output, samples, valid);
+}
+
+/// Adds what a node gives to the image that an output of it is.
+fn add_to(stage: &mut Stage, node: &Node, output: ObjRef)
+    requires stage { IsArranged stage.old }
+    requires runs { RunsTo (scene stage.old).objects node.now output }
+    requires function { accumulates node.now.function ≡ true }
+    ensures value { (which : OutputValue) → scene stage.new ≡ with_objects (scene stage.old)
+        (with_output (scene stage.old).objects node.now which (Some output)) }
+    ensures stage { IsArranged stage.new }
+    ensures keeps { Keeps stage.old stage.new }
+{
+    let valid = stage.image(output).valid();
+    let (desc, samples) = stage.take(output);
+    let mut sums = shorts_of(samples);
+    let image = stage.image(node.in1);
+    let (part, _) = sums.split_at_mut(desc.sample_count());
+    let valid = add_samples(desc, valid, part, node, &image);
+    stage.put(output, Samples::S16(sums), valid);
 }
 
 /// Writes both gradients that a node gives, each to its output: the input is read once for both.
@@ -357,6 +380,30 @@ fn run_u32(
         ≡ (node_image node.now which U32 first.now (second_object second.now)).samples }
 {
     run_on!(desc, samples, node, which, first, second)
+}
+
+/// Adds what a node gives to the samples of an S16 image with this valid rectangle, and gives the
+/// one that is then valid.
+fn add_samples(
+    desc: Desc,
+    valid: Rect,
+    samples: &mut [i16],
+    node: &Node,
+    image: &Image<'_>,
+) -> Rect
+    requires function { accumulates node.now.function ≡ true }
+    requires size { length samples.old ≡ sample_count desc }
+    requires room { IsWithin valid desc.width desc.height }
+    requires can_run { CanRunTo node.now image.now None (image_over desc empty []) }
+    ensures valid { result ≡ (from_two S16 (formula_of_two node.now.function S16
+        node.now.policy node.now.amount) image.now (image_over desc valid samples.old)).valid }
+    ensures samples { samples.new ≡ (from_two S16 (formula_of_two node.now.function S16
+        node.now.policy node.now.amount) image.now (image_over desc valid samples.old)).samples }
+{
+    let mut sums = ImageMut::new(desc, samples);
+    sums.set_valid(valid);
+    run_sum(node, image, &mut sums);
+    sums.valid()
 }
 
 /// Writes the samples of both gradients that a node gives, and gives their valid rectangles.

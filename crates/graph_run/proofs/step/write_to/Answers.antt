@@ -2,7 +2,7 @@ use Rattle.std.proofs.Common.{◌∙◌, take, refl, ap, sym}
 use Rattle.vx_base.specs.Description.{Description, sample_count}
 use Rattle.vx_base.specs.Picture.{values}
 use Rattle.graph_run.specs.Stage.{scene}
-use Rattle.graph_run.proofs.OutputLemmas.{out_is_image, reads_image, first_is_image, holds_second, second_is_object, second_is_read, runs_there, takes_back, left_described, put_back}
+use Rattle.graph_run.proofs.OutputLemmas.{out_is_image, reads_image, first_is_image, holds_second, second_is_object, second_is_read, runs_there, takes_back, left_described, plain_beside, put_back}
 use Rattle.graph_run.proofs.StepLemmas.{put_keeps, still_for}
 use Rattle.graph_run.proofs.step.write_to.Goals as goal
 
@@ -40,7 +40,8 @@ put-requires-clause-samples c =
 pub returns-clause-value : goal.returns-clause-value
 returns-clause-value c =
     let described = left_described _ _ c.args.which _ c.requires.runs c.requires.kind _ (scene c.args.stage.now) c.take-desc.ensures.left ∙ sym c.take-desc.ensures.desc in
-    put_back _ _ c.args.which _ c.requires.runs c.requires.kind _ c.take-desc.ensures.desc _ _ (scene c.args.stage.now) c.take-desc.ensures.left _ _ c.image-first.ensures c.second_held-second.ensures refl _ _ _ c.take-desc.result.0.format
+    let beside = plain_beside _ _ c.args.which _ c.requires.runs c.requires.kind _ c.take-desc.ensures.desc _ _ (scene c.args.stage.now) c.take-desc.ensures.left _ _ c.image-first.ensures c.second_held-second.ensures c.requires.function in
+    put_back _ _ c.args.which _ c.requires.runs c.requires.kind _ c.take-desc.ensures.desc _ _ (scene c.args.stage.now) c.take-desc.ensures.left _ _ c.image-first.ensures beside refl _ _ _ c.take-desc.result.0.format
     c.put.ensures.value refl c.write_samples-valid.ensures.valid
     (ap (λ (d : Description). take (sample_count d) (values c.write_samples-valid.new.samples)) described ∙ c.write_samples-valid.ensures.samples)
 

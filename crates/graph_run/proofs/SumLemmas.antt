@@ -1,0 +1,63 @@
+-- Nodes that add to the image that they write: its samples are taken out, and put back once they are added to.
+use Rattle.std.proofs.Common.{◌≡◌, true, ℤ, List, Option, Some, None, refl, sym, ap, subst, ◌∙◌, arith}
+use Rattle.std.specs.Option.{option_map}
+use Rattle.vx_base.specs.declared.format.Format.{Format}
+use Rattle.vx_base.specs.declared.format.Format.TheVariants.{U8, S16}
+use Rattle.vx_base.specs.declared.function.Function.{Function}
+use Rattle.vx_base.specs.declared.function.Function.TheVariants.{Accumulate, AccumulateSquare}
+use Rattle.vx_base.specs.declared.kind.Kind.TheVariants as kind
+use Rattle.vx_base.specs.declared.node.Node.{Node}
+use Rattle.vx_base.specs.Cell.{Cell}
+use Rattle.vx_base.specs.Description.{Description}
+use Rattle.vx_base.specs.Formats.{takes_formats}
+use Rattle.vx_base.specs.Function.{parameters, accumulates}
+use Rattle.vx_base.specs.Image.{ImageValue, description_of, image_over}
+use Rattle.vx_base.specs.Node.{IsNode}
+use Rattle.vx_base.specs.Object.{ObjectValue, ImageObject, object_kind, object_format}
+use Rattle.vx_base.specs.Rectangle.{Rectangle}
+use Rattle.object_table.specs.Named.{Named}
+use Rattle.object_table.specs.Object.{image_value}
+use Rattle.object_table.specs.Table.{cell_object, image_held}
+use Rattle.graph_run.specs.Steps.{RunsTo}
+use Rattle.graph_run.proofs.RunLemmas.{has_of_node}
+use Rattle.std.proofs.lemmas.Bool.{and_parts}
+
+-- ---- functions that accumulate
+
+-- they write images
+pub sums_output : (function : Function) → accumulates function ≡ true → (parameters function).output ≡ kind.Image
+sums_output Accumulate h = refl
+sums_output AccumulateSquare h = refl
+sums_output other h = absurd (cc h)
+
+-- they read one image
+pub sums_second : (n : Node) → IsNode n → accumulates n.function ≡ true → n.in2 ≡ None
+sums_second n node h = grind (arith, has_of_node, and_parts)
+
+-- they write S16 samples
+sums_image : (function : Function) (a : Format) (second : Option Format) (out : ObjectValue) → accumulates function ≡ true → object_kind out ≡ kind.Image → takes_formats function a second (object_format out) ≡ true
+    → (image_value out).format ≡ S16
+sums_image Accumulate a second out h e t = grind arith
+sums_image AccumulateSquare a second out h e t = grind arith
+sums_image other a second out h e t = absurd (cc h)
+
+-- ---- an output to which a node adds
+
+-- an object that is an image is that image
+of_image : (object : ObjectValue) → object_kind object ≡ kind.Image → ImageObject (image_value object) ≡ object
+of_image object e = grind arith
+
+module _ (objects : List Named) (n : Node) (output : Cell) (h : RunsTo objects n output) (sums : accumulates n.function ≡ true) where
+  pub writes_image_object : (parameters n.function).output ≡ kind.Image
+  writes_image_object = sums_output n.function sums
+
+  pub writes_sums : (image_held objects output).format ≡ S16
+  writes_sums = grind (arith, sums_image, writes_image_object)
+
+  pub reads_nothing_more : None ≡ option_map (cell_object objects) n.in2
+  reads_nothing_more = ap (option_map (cell_object objects)) (sym (sums_second n h.runs.node sums))
+
+  -- it is the image of the samples that are taken out
+  pub old_image : (d : Description) (area : Rectangle) (samples : List ℤ) → d ≡ description_of (image_held objects output) → area ≡ (image_held objects output).valid → samples ≡ (image_held objects output).samples
+      → ImageObject (image_over d area samples) ≡ cell_object objects output
+  old_image d area samples described valid taken = grind (arith, of_image (cell_object objects output) (h.runs.out_kind ∙ writes_image_object))
