@@ -2,10 +2,10 @@
 
 from feqyldan import wire
 from feqyldan.wire import (
-    AND_BITS, CONVOLVE, HISTOGRAM, INTEGRAL, INVALID_DIMENSION, INVALID_FORMAT, INVALID_GRAPH,
-    INVALID_REFERENCE, INVALID_SCOPE, INVALID_TYPE, INVALID_VALUE, MIN_MAX_LOCATION,
-    MULTIPLE_WRITERS, NOT_BITS, NO_RESOURCES, OPEN, OPTIMIZED_AWAY, S16, SOBEL, TABLE_LOOKUP,
-    THRESHOLD, U8, node, reference)
+    ACCUMULATE, ACCUMULATE_SQUARE, AND_BITS, CONVOLVE, HISTOGRAM, INTEGRAL, INVALID_DIMENSION,
+    INVALID_FORMAT, INVALID_GRAPH, INVALID_REFERENCE, INVALID_SCOPE, INVALID_TYPE, INVALID_VALUE,
+    MIN_MAX_LOCATION, MULTIPLE_WRITERS, NOT_BITS, NO_RESOURCES, OPEN, OPTIMIZED_AWAY, S16, SOBEL,
+    TABLE_LOOKUP, THRESHOLD, U8, node, reference)
 from checks.graphs.cast import (
     A, B, C, CAST, COUNTS, D, DELAY, E, F, FOUND, G, LIMIT, MATRIX, NEXT, NOBODY, NO_GRAPHS,
     NO_SLOT, SLOTS, TABLE, UNCHANGED, UNKNOWN, V, W, both, declared, in_graph, inverse)
@@ -149,7 +149,8 @@ def immediates(of):
             (NOT_BITS, of, None, B), (NOT_BITS, A, None, of), (AND_BITS, A, of, B),
             (AND_BITS, of, A, B), (HISTOGRAM, of, None, COUNTS),
             (MIN_MAX_LOCATION, of, None, FOUND), (THRESHOLD, of, LIMIT, B),
-            (CONVOLVE, A, MATRIX, of), (INTEGRAL, A, None, of),
+            (CONVOLVE, A, MATRIX, of), (INTEGRAL, A, None, of), (ACCUMULATE, A, None, of),
+            (ACCUMULATE_SQUARE, A, None, of), (ACCUMULATE, of, None, D), (ACCUMULATE, of, None, of),
             # Cycles, formats and sizes.
             (NOT_BITS, of, None, of), (AND_BITS, A, of, A), (NOT_BITS, D, None, of),
             (AND_BITS, D, of, E), (NOT_BITS, of, None, E))),

@@ -212,8 +212,8 @@ def format_of(thing):
     return getattr(thing, "fmt", None)
 
 
-# ---- pixelwise functions: the value at a pixel, of in1's sample and of in2's, or of in2 itself
-# where it is no image
+# ---- pixelwise functions: the value at a pixel, of in1's sample and of the one beside it, in2's or
+# that which the output held; or of in2 itself where it is no image
 
 # What a value is narrowed by: the output's format, and the node's policy and amount.
 Way = namedtuple("Way", "fmt policy amount")
@@ -279,12 +279,21 @@ def converted(a, _, way):
     return narrow(a // 2**way.amount, way.fmt, way.policy)
 
 
-def pixelwise(value):
-    """What a node gives that has a value for each pixel: the image that is out1's, valid where all
-    of its inputs are."""
+def accumulated(a, c, way):
+    """The sample is added to c, what the output held there."""
+    return clamp(c + a, way.fmt)
+
+
+def accumulated_square(a, c, way):
+    return clamp(c + a * a // 2**way.amount, way.fmt)
+
+
+def pixelwise(value, beside=IN2):
+    """What a node gives that has a value for each pixel, of in1 and of what is beside it: the image
+    that is out1's, valid where both are."""
 
     def gives(node, things):
-        first, second, output = things[IN1], things[IN2], things[OUT1]
+        first, second, output = things[IN1], things[beside], things[OUT1]
         way = Way(output.fmt, node.policy, node.amount)
         valid, samples, others = first.valid, first.samples, None
         if isinstance(second, Image):
@@ -460,10 +469,12 @@ def other_depth(first):
 
 # The kinds of in1, in2, out1 and out2, None where the function has none; its policies; its greatest
 # amount, None where it has none; the formats of the four that it takes, None where one has none;
-# the format of an output that is left open; what its node gives to its outputs; and the operands of
-# which one may be absent.
-Function = namedtuple("Function", "kinds policies greatest_amount formats opened gives optional",
-                      defaults=((),))
+# the format of an output that is left open; what its node gives to its outputs, of what its inputs
+# hold and of what these outputs held as the run began; the operands of which one may be absent; and
+# whether it adds to its output, which is an image.
+Function = namedtuple(
+    "Function", "kinds policies greatest_amount formats opened gives optional accumulates",
+    defaults=((), False))
 
 NO_POLICY, POLICIES = (0,), (wire.WRAP, wire.SATURATE)
 ONE_IMAGE = (Image, None, Image, None)
@@ -484,6 +495,7 @@ ONE_OF_BYTES = ((U8, None, U8, None),)
 DEPTHS = ((U8, None, S16, None), (S16, None, U8, None))
 GRADIENTS = ((U8, None, S16, S16), (U8, None, S16, None), (U8, None, None, S16))
 CONVOLVED = ((U8, None, U8, None), (U8, None, S16, None))
+ADDED = ((U8, None, S16, None),)
 SUMMED = ((U8, None, U32, None),)
 COUNTED = ((U8, None, None, None),)
 COMPARED = ((U8, None, None, None), (S16, None, None, None))
@@ -520,4 +532,10 @@ FUNCTIONS = {
     wire.HISTOGRAM: Function(TO_DISTRIBUTION, NO_POLICY, None, COUNTED, None, histogram),
     wire.INTEGRAL: Function(ONE_IMAGE, NO_POLICY, None, SUMMED, always(U32), integral),
     wire.MIN_MAX_LOCATION: Function(TO_EXTREMES, NO_POLICY, None, COMPARED, None, extremes),
+    wire.ACCUMULATE: Function(
+        ONE_IMAGE, NO_POLICY, None, ADDED, always(S16), pixelwise(accumulated, OUT1),
+        accumulates=True),
+    wire.ACCUMULATE_SQUARE: Function(
+        ONE_IMAGE, NO_POLICY, 15, ADDED, always(S16), pixelwise(accumulated_square, OUT1),
+        accumulates=True),
 }

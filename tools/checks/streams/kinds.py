@@ -149,6 +149,10 @@ def to_great_sums(stream):
                    wire.node(wire.CONVOLVE, 1, draw.pick((5, 6, 7)), 3, border=border))
         stream.ask(client, IMMEDIATE, wire.node(wire.INTEGRAL, 1, None, 4))
         stream.ask_about_all()
+        stream.ask(client, IMMEDIATE, wire.node(wire.ACCUMULATE, 1, None, 2))
+        stream.ask(client, IMMEDIATE,
+                   wire.node(wire.ACCUMULATE_SQUARE, 1, None, 2, amount=draw.pick((0, 1, 8))))
+        stream.ask_about_all()
 
 
 def to_all_nodes(stream):

@@ -128,7 +128,9 @@ def with_refused(draw, name, function, cells):
 WINDOWED = range(wire.BOX, wire.CONVOLVE + 1)
 BORDERS = (wire.UNDEFINED, wire.CONSTANT, wire.REPLICATE)
 # Functions that run more often, since there is more about them.
-MANIFOLD = (wire.SOBEL, wire.SOBEL, wire.CONVOLVE, wire.CONVOLVE, wire.HISTOGRAM)
+MANIFOLD = (
+    wire.SOBEL, wire.SOBEL, wire.CONVOLVE, wire.CONVOLVE, wire.HISTOGRAM, wire.ACCUMULATE,
+    wire.ACCUMULATE_SQUARE)
 
 
 def border(draw, number):
@@ -222,7 +224,8 @@ def operands_in_graph(draw, number, things, written):
         return None
     _, second_format, *output_formats = formats_for(draw, allowed)
     outputs = [(cell, as_output(thing, function, first))
-               for cell, thing in things.items() if cell not in written]
+               for cell, thing in things.items() if cell not in written
+               and not (function.accumulates and isinstance(thing, model.VirtualImage))]
     choices = [cells_like(readable, first, function.kinds[IN2], second_format)]
     choices += [cells_like(outputs, first, function.kinds[k], fmt)
                 for k, fmt in zip(OUTPUTS, output_formats)]
@@ -264,11 +267,12 @@ def spoiled_operands(draw, cells, number, things, nodes, wanted):
     others = [cell for cell in cells[OUT1:] if cell is not None]
     virtual = [cell for cell, thing in things.items() if isinstance(thing, model.VirtualImage)]
     unwritten = [cell for cell in virtual if cell not in written]
+    loose = (OUT1,) if FUNCTIONS[number].accumulates and draw.chance(0.8) else (IN1, IN2)
     operands, pool = {
         MULTIPLE_WRITERS: (OUTPUTS, written + others),
         INVALID_GRAPH: (draw.pick((OUTPUTS, (IN1, IN2))),
                         cells_read(nodes) + cells[:OUT1] + others),
-        INVALID_LINK: ((IN1, IN2), unwritten),
+        INVALID_LINK: (loose, unwritten),
         INVALID_DIMENSION: ((IN2, *OUTPUTS), of_other_size(things, cells)),
     }.get(wanted, (range(4), [*things]))
     k = draw.pick(operands)
@@ -278,14 +282,21 @@ def spoiled_operands(draw, cells, number, things, nodes, wanted):
     return [draw.pick(pool) if at == k and pool else cell for at, cell in enumerate(cells)]
 
 
+# Functions that give a graph these faults more often than others do.
+ACCUMULATORS = tuple(number for number, function in FUNCTIONS.items() if function.accumulates)
+OFTEN_BY = {
+    MULTIPLE_WRITERS: (wire.HISTOGRAM, wire.MIN_MAX_LOCATION, *ACCUMULATORS),
+    INVALID_LINK: ACCUMULATORS}
+
+
 def node_for(draw, name, nodes, wanted=SUCCESS, work=None):
     """The fields of a node with which the verdict on a graph is this one, and the node; None where
     none is found."""
     things, written = things_for(draw, name, nodes), {*cells_written(nodes)}
     for _ in range(16 if wanted == SUCCESS else 60):
         number = any_function(draw)
-        if wanted == MULTIPLE_WRITERS and draw.chance(0.4):
-            number = draw.pick((wire.HISTOGRAM, wire.MIN_MAX_LOCATION))
+        if wanted in OFTEN_BY and draw.chance(0.4):
+            number = draw.pick(OFTEN_BY[wanted])
         cells = operands_in_graph(draw, number, things, written)
         if cells and wanted != SUCCESS:
             cells = spoiled_operands(draw, cells, number, things, nodes, wanted)

@@ -3,7 +3,7 @@
 from feqyldan import wire
 from feqyldan.wire import SUCCESS
 from checks import model
-from checks.model.graphs import cells_of, cells_read, cells_written
+from checks.model.graphs import cells_added_to, cells_of, cells_read, cells_written
 from checks.model.state import (
     ADD_NODE, AGE_DELAY, CREATE_GRAPH, CREATE_VIRTUAL_IMAGE, PROCESS_GRAPH, REGISTER_AUTO_AGING,
     RELEASE, REMOVE_NODE, VERIFY_GRAPH, WRITE_IMAGE)
@@ -152,9 +152,9 @@ class Session:
         yield from self.run_again()
 
     def write(self):
-        """An image that is read becomes another one, or valid in another part."""
-        read = {*cells_read(self.nodes())}
-        images = [(cell, image) for cell, image in self.draw.cells(model.Image) if cell in read]
+        """An image that is read, or added to, becomes another one, or valid in another part."""
+        taken = {*cells_read(self.nodes()), *cells_added_to(self.nodes())}
+        images = [(cell, image) for cell, image in self.draw.cells(model.Image) if cell in taken]
         if images:
             cell, image = self.draw.pick(images)
             samples = self.draw.samples(image.fmt, image.width * image.height)

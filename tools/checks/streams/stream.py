@@ -14,7 +14,7 @@ from checks.streams import bodies
 from checks.streams.bodies import spoiled
 from checks.streams.draw import Draw, cell_bytes, long
 from checks.streams.requests import (
-    BODIES, FEW, GRAPH, INPUTS_AT, NO_GRAPH, QUESTIONS, UNKNOWN, WEIGHTS, WRITTEN_AT)
+    BODIES, FEW, GRAPH, NO_GRAPH, QUESTIONS, TAKEN_AT, UNKNOWN, WEIGHTS, WRITTEN_AT)
 from checks.streams.session import ENDED, Session
 
 
@@ -69,12 +69,13 @@ class Stream:
         for right after."""
         draw = self.draw_of(client)
         body = spoiled(draw, BODIES[op](draw))
+        taken = [body[at : at + 5] for at in TAKEN_AT.get(body[:1], ())]
         if op == IMMEDIATE and draw.chance(0.25):
-            self.confine(client, [body[at : at + 5] for at in INPUTS_AT])
+            self.confine(client, taken)
         code = self.ask(client, op, body)
         if code == SUCCESS and op == IMMEDIATE and draw.chance(0.2):
             self.ask_about(client, [body[at : at + 5] for at in WRITTEN_AT[op]])
-            self.confine(client, [body[at : at + 5] for at in INPUTS_AT], 0.3)
+            self.confine(client, taken, 0.3)
             code = self.ask(client, op, body)
         if code == SUCCESS and op in WRITTEN_AT:
             self.ask_about(client, [body[at : at + 5] for at in WRITTEN_AT[op]])

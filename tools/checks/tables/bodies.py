@@ -82,6 +82,10 @@ WHOLE = (
     ("Histogram", 24, node(21, 1, None, 2).hex()),
     ("Integral", 24, node(22, 1, None, 2).hex()),
     ("MinMaxLoc, CONSTANT", 24, node(23, 1, None, 2, border=wire.CONSTANT, constant=1).hex()),
+    ("Accumulate", 24, node(24, 1, None, 2).hex()),
+    ("Accumulate into what it reads", 24, node(24, 1, None, 1).hex()),
+    ("AccumulateSquare of a slot, amount 15", 24,
+     node(25, reference(1, 3), None, reference(1, 4), 0, 15).hex()),
     ("CreateDelay, 1 slot", 25, "00 00 00 01 ff  01"),
     ("CreateDelay, 16 slots, after a slot", 25, "00 00 01 02 03  10"),
     ("CreateDelay after name 0", 25, "00 00 00 00 ff  02"),
@@ -185,12 +189,21 @@ REFUSED = (
     ("Multiply, policy 2 and amount 16", 24, "07 00 00 02 10", INVALID_PARAMETERS),
     ("Multiply, amount 16 and no first input", 24, node(7, None, 2, 3, 0, 16).hex(), INVALID_VALUE),
     ("Box, mode 3", 24, node(14, 1, None, 2, border=3).hex(), INVALID_PARAMETERS),
+    ("Accumulate, amount 1 and no more", 24, "18 00 00 00 01", INVALID_PARAMETERS),
+    ("Accumulate, amount 16", 24, node(24, 1, None, 2, amount=16).hex(), INVALID_PARAMETERS),
+    ("Accumulate to nothing", 24, node(24, 1, None, None).hex(), INVALID_PARAMETERS),
+    ("Accumulate with the sums as in2 too", 24, node(24, 1, 2, 2).hex(), INVALID_PARAMETERS),
+    ("Accumulate with the sums as in2 alone", 24, node(24, 1, 2, None).hex(), INVALID_PARAMETERS),
+    ("AccumulateSquare, amount 16 and no more", 24, "19 00 00 00 10", INVALID_VALUE),
+    ("AccumulateSquare, policy 1 and amount 16", 24, "19 00 00 01 10", INVALID_PARAMETERS),
+    ("AccumulateSquare, amount 255 and no input", 24, node(25, None, None, 2, 0, 255).hex(),
+     INVALID_VALUE),
     ("Sobel to nothing", 24, node(19, 1, None, None).hex(), INVALID_PARAMETERS),
     ("Sobel to nothing, and a byte", 24, node(19, 1, None, None).hex() + "00", INVALID_PARAMETERS),
     ("Sobel of nothing", 24, node(19, None, None, 2, out2=3).hex(), INVALID_PARAMETERS),
     *((f"function {number} of {'two' if in2 else 'one'}", 24, node(number, 1, in2, 3).hex(),
        INVALID_PARAMETERS)
-      for number in (0, 24, 25, 26, 255) for in2 in (None, 2)),
+      for number in (0, 26, 27, 255) for in2 in (None, 2)),
     *((f"CreateVirtualImage, fmt {fmt}", 19, f"00 00 00 01 {fmt:02x} 00 00 00 00", INVALID_FORMAT)
       for fmt in (4, 5, 128, 255)),
     ("CreateVirtualImage, fmt 4 and no more", 19, "00 00 00 01 04", INVALID_FORMAT),
@@ -218,6 +231,7 @@ FUNCTIONS = (
     (15, False, False, None), (16, False, False, None), (17, False, False, None),
     (18, False, False, None), (19, False, False, None), (20, True, False, None),
     (21, False, False, None), (22, False, False, None), (23, False, False, None),
+    (24, False, False, None), (25, False, False, 15),
 )
 
 BORDERS = ((wire.UNDEFINED, 0), (wire.CONSTANT, 0), (wire.CONSTANT, 255), (wire.REPLICATE, 0))
