@@ -5,7 +5,6 @@ ghost use Rattle.vx_base.specs.declared.format.Format.TheVariants.{S16};
 ghost use Rattle.vx_base.specs.Pixelwise.{accumulated, accumulated_square};
 
 use crate::rows::{OfPair, update_row};
-use vx_base::{Policy, narrow_s16};
 
 /// The sum and the byte, at most 32,767.
 struct Accumulated;
@@ -37,8 +36,7 @@ impl OfPair<u8, i16, i16> for Squared {
     ghost formula = { λ s. accumulated_square S16 s.amount };
 
     fn item(&self, a: u8, sum: i16) -> i16 {
-        let square = scaled_square(a, self.amount);
-        narrow_s16(i32::from(sum) + i32::from(square), Policy::Saturate)
+        sum.saturating_add_unsigned(scaled_square(a, self.amount))
     }
 }
 
