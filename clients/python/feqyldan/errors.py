@@ -116,7 +116,8 @@ class InvalidGraph(Refused):
 
 class InvalidLink(Refused):
     code = wire.INVALID_LINK
-    advice = "A node reads a virtual image that no node writes: add the node that does."
+    advice = ("A node reads a virtual image that no node writes: add the node that does; or it "
+              "adds to one: have it add to an image.")
 
 
 class MultipleWriters(Refused):
@@ -151,8 +152,8 @@ _FORMATS_OF_A_NODE = ("A node's formats are none that its function takes; what i
                       "virtual image is taken from the node that writes it.")
 _OF_A_CALL = ("A policy is vx.WRAP or vx.SATURATE, a border vx.UNDEFINED, vx.REPLICATE or "
               "vx.constant(value), and one output of sobel3x3 has to be there.")
-_SHIFTS = ("A shift is out of its range: multiply has those from 0 to 15, convert_depth those from "
-           "0 to 7.")
+_SHIFTS = ("A shift is out of its range: multiply and accumulate_square have those from 0 to 15, "
+           "convert_depth those from 0 to 7.")
 _NO_NODES = ("The virtual images that the nodes write have more bytes than the graph's work bytes: "
              "use smaller pictures, or start the server with more work bytes.")
 ADVICE: Dict[Tuple[int, Optional[int]], str] = {
