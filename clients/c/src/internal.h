@@ -283,7 +283,9 @@ enum function {
     CONVOLVE,
     HISTOGRAM,
     INTEGRAL,
-    MIN_MAX_LOCATION
+    MIN_MAX_LOCATION,
+    ACCUMULATE,
+    ACCUMULATE_SQUARE
 };
 
 enum { IN1, IN2, OUT1, OUT2, AMOUNT, MIN_VALUE, MAX_VALUE, MIN_PLACE, MAX_PLACE, MIN_COUNT,
@@ -325,7 +327,7 @@ struct signature {
 
 const struct signature *signature_of(enum function function);
 vx_enum type_at(enum function function, unsigned place);
-bool is_output(unsigned place);
+vx_enum direction_of(enum function function, unsigned place);
 bool is_optional(enum function function, unsigned place);
 
 /* ---- graph.c ---- */

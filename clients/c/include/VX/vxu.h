@@ -100,6 +100,16 @@ VX_API_ENTRY vx_status VX_API_CALL vxuMinMaxLoc(vx_context context, vx_image inp
                                                 vx_array minLoc, vx_array maxLoc,
                                                 vx_scalar minCount, vx_scalar maxCount);
 
+/* Adds each sample to the one that accum holds there; a sum above 32767 is 32767. U8 to S16. The
+   valid pixels of accum are those of before that are valid in the input too. */
+VX_API_ENTRY vx_status VX_API_CALL vxuAccumulateImage(vx_context context, vx_image input,
+                                                      vx_image accum);
+
+/* The same with the square of each sample, shifted to the right by a VX_TYPE_UINT32 from 0 to
+   15. */
+VX_API_ENTRY vx_status VX_API_CALL vxuAccumulateSquareImage(vx_context context, vx_image input,
+                                                            vx_scalar shift, vx_image accum);
+
 #ifdef __cplusplus
 }
 #endif
