@@ -8,17 +8,23 @@ use pixel_kernels::{accumulate, accumulate_square};
 use std::test::Fail;
 use vx_base::{Desc, Format, Rect};
 
-/// Adds the samples of a 4 by 1 image to sums, each valid in its rectangle; and where the sums are
-/// valid then.
-fn add(mut samples: [u8; 4], valid: Rect, sums: &mut [i16; 4], sums_valid: Rect) -> Option<Rect>
+/// The sums of a 4 by 1 image once samples were added to them, each valid in its rectangle; and
+/// where they are valid then.
+fn add(
+    mut samples: [u8; 4],
+    valid: Rect,
+    mut sums: [i16; 4],
+    sums_valid: Rect,
+) -> Option<([i16; 4], Rect)>
     requires samples { IsWithin valid 4 1 }
     requires sums { IsWithin sums_valid 4 1 }
 {
     let image = lend(Desc::new(4, 1, Format::U8)?, valid, &mut samples);
-    let mut target = ImageMut::new(Desc::new(4, 1, Format::S16)?, sums);
+    let mut target = ImageMut::new(Desc::new(4, 1, Format::S16)?, &mut sums);
     target.set_valid(sums_valid);
     accumulate(&image, &mut target);
-    Some(target.valid())
+    let met = target.valid();
+    Some((sums, met))
 }
 
 #[test]
@@ -30,8 +36,8 @@ fn three_runs(rt: HostRuntime) -> Result<(), Fail> {
         [400, 32_767, -5, -32_258],
         [600, 32_767, -5, -32_003],
     ] {
-        assert!(rt; add([200, 100, 0, 255], whole, &mut sums, whole) == Some(whole));
-        assert!(rt; sums == expected);
+        assert!(rt; add([200, 100, 0, 255], whole, sums, whole) == Some((expected, whole)));
+        sums = expected;
     }
     Ok(())
 }
@@ -47,14 +53,13 @@ fn sums_where_both_are_valid(rt: HostRuntime) -> Result<(), Fail> {
         (right, left, [0, 22, 0, 0], second),
         (Rect::empty(), whole, [0; 4], Rect::empty()),
     ] {
-        let mut sums = [1, 2, 3, 4];
-        assert!(rt; add([10, 20, 30, 40], valid, &mut sums, sums_valid) == Some(met));
-        assert!(rt; sums == expected);
+        let after = add([10, 20, 30, 40], valid, [1, 2, 3, 4], sums_valid);
+        assert!(rt; after == Some((expected, met)));
     }
     Ok(())
 }
 
-/// Adds the squares of a 4 by 1 image's samples over 2^amount to sums, all valid.
+/// Sums once the squares of samples over 2^amount were added to them, all valid.
 fn add_squares(amount: u8, mut sums: [i16; 4]) -> Option<[i16; 4]>
     requires { amount ≤ 15 }
 {
