@@ -285,7 +285,7 @@ def spoiled_operands(draw, cells, number, things, nodes, wanted):
 # Functions that give a graph these faults more often than others do.
 ACCUMULATORS = tuple(number for number, function in FUNCTIONS.items() if function.accumulates)
 OFTEN_BY = {
-    MULTIPLE_WRITERS: (wire.HISTOGRAM, wire.MIN_MAX_LOCATION, *ACCUMULATORS),
+    MULTIPLE_WRITERS: (*(wire.HISTOGRAM, wire.MIN_MAX_LOCATION) * 3, *ACCUMULATORS),
     INVALID_LINK: ACCUMULATORS}
 
 
