@@ -3,11 +3,11 @@ use Rattle.std.proofs.Common.{◌≡◌, ℕ, ◌+◌, ◌-◌, ◌*◌, ◌%◌
 use Rattle.std.specs.List.{sum, range_with_len}
 use Rattle.std.specs.Simd.Lanes.{zip2, Each1, pick_l, chunk, put_chunk}
 use Rattle.std.proofs.Math.Seq.{take-add}
-use Rattle.std.proofs.lemmas.List.{take-take, take_more_set, map-append, get_or-take}
+use Rattle.std.proofs.lemmas.List.{take-take, take_more_set, map-append, get_or-take, get_or-drop, drop-drop, drop-set-lt}
 use Rattle.std.proofs.lemmas.List.FromFn.{map-range_with_len_more, get_or-map-range_with_len}
 use Rattle.std.proofs.lemmas.List.Sums.{sum_by-append}
-use Rattle.std.proofs.lemmas.Simd.{pick_l_whole, Each1-get_or, put_chunk_whole, length-chunk, pick_l-range_with_len}
-use Rattle.std.proofs.lemmas.Slice.{take-put_mid}
+use Rattle.std.proofs.lemmas.Simd.{pick_l_whole, Each1-get_or, put_chunk_whole, length-put_chunk, length-chunk, pick_l-range_with_len}
+use Rattle.std.proofs.lemmas.Slice.{take-put_mid, drop-put_mid}
 use borrow.Rule.Slice.PartMut.{put_mid}
 use Rattle.vx_base.proofs.TableLaws.{range-append}
 use Rattle.stat_kernels.specs.Sums.{sum_below}
@@ -110,6 +110,24 @@ module _ (row above : List ℕ) (i : ℕ) (small : (k : ℕ) → get_or row k 0 
       ∙ sym (map-append g (range_with_len 0 i) (range_with_len (0 + i) 8))
       ∙ ap (map g) (sym (range-append 0 i 8) ∙ ap (range_with_len 0) (sym next))
 
+  -- the same where the sums above stand in the row itself
+  pub block_added : (sums total out : List ℕ) (n m : ℕ) → n ≡ i + 8 → length above ≡ length row → length out ≡ length row → sums ≡ first_sums (chunk 0 8 (cut row i)) → total ≡ replicate 8 (sum (take i row))
+      → take i out ≡ map (sum_below above row) (range_with_len 0 i) → drop i out ≡ drop i above
+      → take n (put_mid i m out (put_chunk 0 (cut out i) (plus (chunk 0 8 (cut out i)) (plus sums total)))) ≡ map (sum_below above row) (range_with_len 0 n)
+  block_added sums total out n m next wide long are is before kept =
+      ap (λ l. take n (put_mid i m out (put_chunk 0 (cut out i) (plus (chunk 0 8 l) (plus sums total))))) (ap (take (i + 8 - i)) kept)
+      ∙ block_written sums total out n m next wide long are is before
+
+-- what stands behind a block stays
+module _ (out ys : List ℕ) (i m : ℕ) (inside : i + 8 ≤ length out) (eight : m ≡ 8) where
+  block_length : length (put_chunk 0 (cut out i) ys) ≡ m
+  block_length = length-put_chunk 0 (cut out i) ys ∙ ap length (cut_is out i) ∙ length-chunk i 8 out inside ∙ sym eight
+
+  pub block_kept : (old : List ℕ) (n : ℕ) → n ≡ i + 8 → drop i out ≡ drop i old → drop n (put_mid i m out (put_chunk 0 (cut out i) ys)) ≡ drop n old
+  block_kept old n next same =
+      drop-put_mid i m out (put_chunk 0 (cut out i) ys) n (omega arith) (omega arith) block_length
+      ∙ ap (λ k. drop k out) next ∙ sym (drop-drop 8 i out) ∙ ap (drop 8) same ∙ drop-drop 8 i old ∙ ap (λ k. drop k old) (sym next)
+
 -- ---- one more place
 
 pub place_written : (g : ℕ → ℕ) (out : List ℕ) (k v : ℕ) → k < length out → take k out ≡ map g (range_with_len 0 k) → v ≡ g k → take (k + 1) (set out k v) ≡ map g (range_with_len 0 (k + 1))
@@ -121,3 +139,15 @@ pub place_read : (g : ℕ → ℕ) (out : List ℕ) (n k : ℕ) → k < n → ta
 place_read g out n k below are =
     let e : 0 + k ≡ k = omega arith in
     sym (get_or-take n out k 0 below) ∙ ap (λ l. get_or l k 0) are ∙ get_or-map-range_with_len g 0 n k k 0 below e
+
+-- a place behind those that are written holds what it held
+pub place_held : (out old : List ℕ) (k j : ℕ) → k ≤ j → drop k out ≡ drop k old → get_or out j 0 ≡ get_or old j 0
+place_held out old k j below same =
+    let e : k + (j - k) ≡ j = omega arith in
+    ap (λ i. get_or out i 0) (sym e) ∙ sym (get_or-drop k out (j - k) 0) ∙ ap (λ l. get_or l (j - k) 0) same ∙ get_or-drop k old (j - k) 0 ∙ ap (λ i. get_or old i 0) e
+
+pub place_kept : (out old : List ℕ) (k v : ℕ) → drop k out ≡ drop k old → drop (k + 1) (set out k v) ≡ drop (k + 1) old
+place_kept out old k v same =
+    let e : k + 1 ≡ 1 + k = omega arith in
+    drop-set-lt (k + 1) out k v (omega arith)
+    ∙ sym (drop-drop 1 k out) ∙ ap (drop 1) same ∙ drop-drop 1 k old

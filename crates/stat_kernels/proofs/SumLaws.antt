@@ -1,12 +1,12 @@
 -- Sums to the left and above, row by row.
-use Rattle.std.proofs.Common.{false, cond, max, ◌≡◌, ◌⊎◌, inl, inr, ℕ, ℤ, pos, ◌+◌, ◌-◌, ◌*◌, ◌<◌, ◌≤◌, List, [], ◌∷◌, ◌++◌, length, map, take, drop, get_or, subst, zero, suc, ap, ◌∙◌, sym, refl, arith, replicate}
-use Rattle.std.specs.Prelude.{unsigned_abs, ◌==◌}
+use Rattle.std.proofs.Common.{max, ◌≡◌, ◌⊎◌, inl, inr, ℕ, ℤ, pos, ◌+◌, ◌-◌, ◌*◌, ◌<◌, ◌≤◌, List, [], ◌∷◌, ◌++◌, length, map, take, drop, get_or, subst, zero, suc, ap, ◌∙◌, sym, refl, arith, replicate}
+use Rattle.std.specs.Prelude.{unsigned_abs}
 use Rattle.std.specs.List.{sum, sum_by}
 use Rattle.std.proofs.Math.Seq.{take-append_seam, take-append-add, drop-append_seam}
 use Rattle.std.proofs.lemmas.Simd.{length-chunk}
 use Rattle.std.proofs.lemmas.Bool.{cases_lt}
 use Rattle.std.proofs.lemmas.Bool.Decides.{nat_tests}
-use Rattle.std.proofs.lemmas.List.{take-map, ext_get_or, get_or-map, length-map, map-append, get_or_past, length-append, drop-take, take-take}
+use Rattle.std.proofs.lemmas.List.{take-map, ext_get_or, get_or-map, length-map, map-append, get_or_past, length-append, take-replicate, drop-replicate}
 use Rattle.std.proofs.lemmas.List.FromFn.{take-map-range_with_len}
 use Rattle.std.proofs.lemmas.List.Sums.{sum_by-append, sum_by-cons, sum_by_more}
 use Rattle.vx_base.specs.Rectangle.{Rectangle, whole, meet_of}
@@ -138,7 +138,7 @@ module _ (image : ImageValue) (part : Part) (is : IsValidPart image part) (y : �
       ∙ sym (row_across r (sum_to image) image.width r.x0 r.x1 y refl refl is.columns (omega (arith, is.x, is.count, is.columns, is.in_columns)) (omega (arith, is.top)) (omega (arith, is.bottom)))
 
 -- before the first row
-zero_sums : (image : ImageValue) (count y : ℕ) → y ≡ image.valid.y0 → AreSums image y (replicate count 0)
+pub zero_sums : (image : ImageValue) (count y : ℕ) → y ≡ image.valid.y0 → AreSums image y (replicate count 0)
 zero_sums image count y first = record {
   value = λ k h. zero_at count k ∙ sym (ap (sum_before image (image.valid.x0 + k + 1)) first ∙ sum_none image (image.valid.x0 + k + 1));
   bound = λ k. omega (arith, zero_at count k);
@@ -146,45 +146,19 @@ zero_sums image count y first = record {
 
 -- ---- the row above
 
-part_of_start : {A : Type 0} (xs : List A) (x n width : ℕ) → x + n ≤ width → take n (drop x (take width xs)) ≡ take n (drop x xs)
-part_of_start xs x n width room =
-    let e : width ≡ x + (width - x) = omega arith in
-    ap (λ k. take n (drop x (take k xs))) e
-    ∙ ap (take n) (drop-take x (width - x) xs)
-    ∙ take-take n (width - x) (drop x xs) (omega arith)
-
--- the row above, with sums in the valid columns
-pub above_of_parts : (image : ImageValue) (part : Part) → IsValidPart image part → (y : ℕ) (left sums right : List ℕ) → length left ≡ part.x → length sums ≡ part.count
-    → (y < part.bottom → AreSums image (max part.top y) sums) → AreAbove image part y (take image.width (left ++ (sums ++ right)))
-above_of_parts image part is y left sums right at long are below =
-    subst (AreSums image (max part.top y))
-    (sym (part_of_start (left ++ (sums ++ right)) part.x part.count image.width (omega (arith, is.in_columns)) ∙ part_of_parts left sums right part.x part.count at long))
-    (are below)
+pub part_of_zeros : (row : List ℕ) (x n width : ℕ) → x + n ≤ width → row ≡ replicate width 0 → take n (drop x row) ≡ replicate n 0
+part_of_zeros row x n width room zeros =
+    ap (λ l. take n (drop x l)) zeros ∙ ap (take n) (drop-replicate x width 0) ∙ take-replicate n (width - x) 0 (omega arith)
 
 -- the same row of a number that is written otherwise
 pub above_at : (image : ImageValue) (part : Part) (m n : ℕ) (row : List ℕ) → m ≡ n → AreAbove image part m row → AreAbove image part n row
 above_at image part m n row same are = subst (λ k. AreAbove image part k row) same are
 
--- above the first row of a band
-pub above_first : (image : ImageValue) (part : Part) (y width : ℕ) (first before : List ℕ) → width ≡ image.width → length before ≡ 0 → AreAbove image part y (take image.width first) → AreAbove image part y (last_row width first before)
-above_first image part y width first before wide none are below =
-    subst (λ (l : List ℕ). AreSums image (max part.top y) (take part.count (drop part.x l)))
-    (sym (ap (λ n. cond (n == 0) (take width first) (drop (n - width) before)) none ∙ ap (λ n. take n first) wide))
-    (are below)
-
--- sums above the first valid row are zeros
-pub no_sums : (image : ImageValue) (part : Part) → IsValidPart image part → (sums : List ℕ) → ◌≡◌ {A = List ℕ} sums (replicate (length sums) 0) → AreSums image part.top sums
-no_sums image part is sums are = subst (AreSums image part.top) (sym are) (zero_sums image (length sums) part.top is.top)
-
-some : (n : ℕ) → 1 ≤ n → (n == 0) ≡ false
-some n h = grind (arith, nat_tests)
-
--- above the others stands the row that was written last
-pub last_row_is : (width : ℕ) (zeros before row : List ℕ) → 1 ≤ width → length row ≡ width → last_row width zeros (before ++ row) ≡ row
-last_row_is width zeros before row wide long =
+-- above the next row stands the one that was written last
+pub last_row_is : (width : ℕ) (before row : List ℕ) → length row ≡ width → last_row width (before ++ row) ≡ row
+last_row_is width before row long =
     let count : length (before ++ row) - width ≡ length before = omega (arith, length-append before row, long) in
-    ap (λ t. cond t (take width zeros) (drop (length (before ++ row) - width) (before ++ row))) (some (length (before ++ row)) (omega (arith, length-append before row, long)))
-    ∙ ap (λ n. drop n (before ++ row)) count ∙ drop-append_seam before row
+    ap (λ n. drop n (before ++ row)) count ∙ drop-append_seam before row
 
 -- one more row is written
 module _ (y width : ℕ) (before row rest : List ℕ) (start : length before ≡ y * width) (long : length row ≡ width) where
@@ -193,10 +167,10 @@ module _ (y width : ℕ) (before row rest : List ℕ) (start : length before ≡
       let e : (y + 1) * width ≡ length before + length row = omega arith in
       ap (λ n. take n (before ++ (row ++ rest))) e ∙ take-append-add before (row ++ rest) (length row) ∙ ap (λ l. before ++ l) (take-append_seam row rest)
 
-  pub above_next : (image : ImageValue) (part : Part) (line : ℕ) (zeros : List ℕ) → 1 ≤ width → AreAbove image part line row → AreAbove image part line (last_row width zeros (take ((y + 1) * width) (before ++ (row ++ rest))))
-  above_next image part line zeros wide are below =
+  pub above_next : (image : ImageValue) (part : Part) (line : ℕ) → AreAbove image part line row → AreAbove image part line (last_row width (take ((y + 1) * width) (before ++ (row ++ rest))))
+  above_next image part line are below =
       subst (λ (l : List ℕ). AreSums image (max part.top line) (take part.count (drop part.x l)))
-      (sym (ap (last_row width zeros) rows_so_far ∙ last_row_is width zeros before row wide long)) (are below)
+      (sym (ap (last_row width) rows_so_far ∙ last_row_is width before row long)) (are below)
 
   pub rows_written : (top : ℕ) (f : ℕ → ℕ → ℤ) → map pos before ≡ band width top y f → map pos row ≡ run 0 width (λ x. f x (top + y)) → map pos (take ((y + 1) * width) (before ++ (row ++ rest))) ≡ band width top (y + 1) f
   rows_written top f are is =

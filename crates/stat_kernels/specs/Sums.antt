@@ -1,5 +1,5 @@
 -- Sums of samples to the left and above.
-use Rattle.std.specs.Prelude.{ℕ, ◌≡◌, ◌+◌, ◌-◌, ◌*◌, ◌<◌, ◌≤◌, ◌==◌, max, cond, unsigned_abs, List, length, slice_index, take, drop}
+use Rattle.std.specs.Prelude.{ℕ, ◌≡◌, ◌+◌, ◌-◌, ◌*◌, ◌<◌, ◌≤◌, max, unsigned_abs, List, length, slice_index, take, drop}
 use Rattle.std.specs.List.{sum, sum_by}
 use Rattle.vx_base.specs.Rectangle.{Rectangle}
 use Rattle.vx_base.specs.Image.{ImageValue}
@@ -27,6 +27,6 @@ sum_below above row k = slice_index above k + sum (take (k + 1) row)
 abbrev pub AreAbove : ImageValue → Part → ℕ → List ℕ → Type 0
 AreAbove image part y row = y < part.bottom → AreSums image (max part.top y) (take part.count (drop part.x row))
 
--- the last row of those before, or zeros where there is none
-abbrev pub last_row : ℕ → (zeros before : List ℕ) → List ℕ
-last_row width zeros before = cond (length before == 0) (take width zeros) (drop (length before - width) before)
+-- the last of the rows of this width that stand one after another
+abbrev pub last_row : ℕ → List ℕ → List ℕ
+last_row width rows = drop (length rows - width) rows

@@ -1,6 +1,5 @@
 //! Integral images.
-ghost use Rattle.std.specs.Prelude.{◌≡◌, ◌⊎◌, ◌+◌, ◌*◌, ◌<◌, ◌≤◌, ℕ, pos, max, map, take, drop};
-ghost use Rattle.std.specs.Prelude.{replicate, length};
+ghost use Rattle.std.specs.Prelude.{◌≡◌, ◌+◌, ◌*◌, ◌<◌, ◌≤◌, ℕ, pos, map, take, drop, length};
 ghost use Rattle.vx_base.specs.declared.format.Format.TheVariants.{U8, U32};
 ghost use Rattle.vx_base.specs.Image.{run, band, within};
 ghost use Rattle.vx_base.specs.Statistics.{sum_to, integral};
@@ -8,11 +7,11 @@ ghost use Rattle.image_core.specs.Bands.{IsInRows};
 ghost use Rattle.image_core.specs.Fits.{HaveSameSize};
 ghost use Rattle.image_core.specs.Target.{written, IsTarget, Writes};
 ghost use Rattle.stat_kernels.specs.Part.{IsValidPart};
-ghost use Rattle.stat_kernels.specs.Sums.{AreSums, AreAbove, last_row};
+ghost use Rattle.stat_kernels.specs.Sums.{AreSums, AreAbove};
 ghost use Rattle.vx_base.specs.declared.desc.TheConstants.{GREATEST_SIDE};
 
 use crate::part::Part;
-use crate::running::add_row;
+use crate::running::{add_row, add_to_sums};
 use image_core::{Band, Image, ImageMut, Whole};
 use vx_base::Rect;
 
@@ -57,19 +56,6 @@ fn write_row(image: &Image<'_>, part: Part, y: u16, above: &[u32], out: &mut [u3
     }
 }
 
-/// The row above the next one, the given one above the first.
-fn row_above<'a>(before: &'a [u32], width: usize, first: &'a [u32]) -> &'a [u32]
-    requires first { width ≤ length first.now }
-    requires rows { length before.now ≡ 0 ⊎ width ≤ length before.now }
-    ensures { result.now ≡ last_row width first.now before.now }
-{
-    if before.is_empty() {
-        &first[..width]
-    } else {
-        &before[before.len() - width..]
-    }
-}
-
 /// Adds valid row y to the sums above it.
 fn add_line(image: &Image<'_>, part: Part, y: u16, sums: &mut [u32])
     requires format { image.now.format ≡ U8 }
@@ -80,11 +66,8 @@ fn add_line(image: &Image<'_>, part: Part, y: u16, sums: &mut [u32])
     requires sums { AreSums image.now y sums.old }
     ensures { AreSums image.now (y + 1) sums.new }
 {
-    let mut room = [0; 4096];
-    let next = &mut room[..part.count];
     let row = image.part_of_row::<u8>(part.x, y, part.count);
-    add_row(row, sums, next);
-    sums.copy_from_slice(next);
+    add_to_sums(row, sums);
 }
 
 /// Makes the sums above the first valid row those above row y.
@@ -92,26 +75,33 @@ fn add_lines(image: &Image<'_>, part: Part, y: u16, sums: &mut [u32])
     requires format { image.now.format ≡ U8 }
     requires part { IsValidPart image.now part }
     requires sides { (image.now.width ≤ GREATEST_SIDE) × (image.now.height ≤ GREATEST_SIDE) }
+    requires rows { (part.top ≤ y) × (y ≤ part.bottom) }
     requires len { length sums.old ≡ part.count }
     requires sums { AreSums image.now part.top sums.old }
-    ensures { y < part.bottom → AreSums image.now (max part.top y) sums.new }
+    ensures { AreSums image.now y sums.new }
 {
-    for line in part.top..y.min(part.bottom) {
+    for line in part.top..y {
         add_line(image, part, line, sums);
     }
 }
 
-/// Makes zeros the row above row y, with its sums in the valid columns.
-fn sum_above(image: &Image<'_>, part: Part, y: u16, row: &mut [u32])
+/// Writes row y of the integral image, where no row above it is written: it is zeros, to which the
+/// valid rows are added from the top to this one.
+fn write_first(image: &Image<'_>, part: Part, y: u16, out: &mut [u32])
     requires format { image.now.format ≡ U8 }
     requires part { IsValidPart image.now part }
     requires sides { (image.now.width ≤ GREATEST_SIDE) × (image.now.height ≤ GREATEST_SIDE) }
-    requires zeros { row.old ≡ replicate 4096 0 }
-    ensures { AreAbove image.now part y (take image.now.width row.new) }
+    requires out_len { length out.old ≡ image.now.width }
+    ensures sums { AreAbove image.now part (y + 1) out.new }
+    ensures written { map pos out.new ≡ run 0 image.now.width
+        (λ x. within image.now.valid (sum_to image.now) x y) }
 {
-    let (_, others) = row.split_at_mut(usize::from(part.x));
-    let (sums, _) = others.split_at_mut(part.count);
-    add_lines(image, part, y, sums);
+    out.fill(0);
+    if part.top <= y && y < part.bottom {
+        let (_, others) = out.split_at_mut(usize::from(part.x));
+        let (sums, _) = others.split_at_mut(part.count);
+        add_lines(image, part, y + 1, sums);
+    }
 }
 
 /// Writes the samples of a band of the integral image row by row, each from the one above.
@@ -122,13 +112,16 @@ fn write_sums(image: &Image<'_>, rows: Band, samples: &mut [u32])
     ensures { map pos samples.new ≡ band image.now.width rows.start rows.count
         (within image.now.valid (sum_to image.now)) }
 {
+    if rows.count == 0 {
+        return;
+    }
     let width = usize::from(image.desc().width());
     let part = Part::of(image);
-    let mut first = [0; 4096];
-    sum_above(image, part, rows.start, &mut first);
-    for k in 0..rows.count {
+    let (first, _) = samples.split_at_mut(width);
+    write_first(image, part, rows.start, first);
+    for k in 1..rows.count {
         let (before, others) = samples.split_at_mut(usize::from(k) * width);
-        let above = row_above(before, width, &first);
+        let above = &before[before.len() - width..];
         write_row(image, part, rows.start + k, above, &mut others[..width]);
     }
 }

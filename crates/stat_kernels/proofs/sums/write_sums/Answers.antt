@@ -1,23 +1,27 @@
-use Rattle.std.proofs.Common.{◌≡◌, ◌*◌, ◌+◌, ◌≤◌, ◌∙◌, ap, sym, pos, map, take, drop, length, arith}
-use Rattle.std.proofs.lemmas.List.{length-take-le}
+use Rattle.std.proofs.Common.{◌≡◌, ℕ, ◌*◌, ◌+◌, ◌≤◌, ◌∙◌, ap, sym, refl, pos, map, take, drop, length, [], arith}
+use Rattle.std.proofs.lemmas.List.{length-append, length-take-le}
 use Rattle.vx_base.specs.Description.{Description}
 use Rattle.vx_base.specs.Image.{run, within}
 use Rattle.vx_base.specs.Statistics.{sum_to}
 use Rattle.vx_base.proofs.TableLaws.{row_fits}
-use Rattle.stat_kernels.proofs.SumLaws.{above_at, above_first, above_next, rows_written}
+use Rattle.stat_kernels.proofs.SumLaws.{above_at, above_next, rows_written}
 use Rattle.stat_kernels.proofs.sums.write_sums.Goals as goal
 
 pub loop-k-init : goal.loop-k-init
 loop-k-init c =
     let image = c.args.image.now in
+    let start = c.args.rows.start in
     let width = c.from-width.result in
+    let row = c.write_first.new.out in
+    let rest = c.split_at_mut-first.result.1.now in
     let wide : width ≡ image.width = c.from-width.ensures ∙ c.width.ensures.value ∙ ap (λ (d : Description). d.width) c.desc.ensures in
-    let none : 0 * width ≡ 0 = omega arith in
-    let top : c.args.rows.start ≡ c.args.rows.start + 0 = omega arith in
+    let none : length {A = ℕ} [] ≡ 0 * width = omega arith in
+    let long : length row ≡ width = c.write_first.auto.out ∙ c.split_at_mut-first.ensures.front_len in
+    let top : start ≡ start + 0 = omega arith in
     record {
-      sums = above_at image c.of-part.result _ _ _ top
-          (above_first image c.of-part.result c.args.rows.start width c.sum_above.new.row (take (0 * width) c.args.samples.now) wide (ap (λ n. length (take n c.args.samples.now)) none) c.sum_above.ensures);
-      written = ap (λ n. map pos (take n c.args.samples.now)) none;
+      sums = above_next 0 width [] row rest none long image c.of-part.result (start + 1) c.write_first.ensures.sums;
+      written = rows_written 0 width [] row rest none long start (within image.valid (sum_to image)) refl
+          (c.write_first.ensures.written ∙ ap (λ n. run 0 n (λ x. within image.valid (sum_to image) x start)) (sym wide) ∙ ap (λ y. run 0 width (λ x. within image.valid (sum_to image) x y)) top);
     }
 
 pub loop-k-preserved : goal.loop-k-preserved
@@ -30,14 +34,17 @@ loop-k-preserved c =
     let others = c.split_at_mut-before.result.1.now in
     let at : c.from.result * width ≡ k * width = ap (λ n. n * width) c.from.ensures in
     let wide : width ≡ image.width = c.from-width.ensures ∙ c.width.ensures.value ∙ ap (λ (d : Description). d.width) c.desc.ensures in
-    let size : length c.loop-k.samples ≡ rows.count * width = c.loop-k.auto.samples ∙ c.requires.size ∙ ap (λ n. rows.count * n) (sym wide) in
+    let both : length c.split_at_mut-first.result.0.now + length c.split_at_mut-first.result.1.now ≡ length c.args.samples.now =
+    sym (length-append c.split_at_mut-first.result.0.now c.split_at_mut-first.result.1.now) ∙ ap length (sym c.split_at_mut-first.ensures.value) in
+    let size : length c.loop-k.samples ≡ rows.count * width =
+    c.loop-k.auto.samples ∙ length-append c.write_first.new.out c.split_at_mut-first.result.1.now ∙ ap (λ n. n + length c.split_at_mut-first.result.1.now) c.write_first.auto.out ∙ both ∙ c.requires.size ∙ ap (λ n. rows.count * n) (sym wide) in
     let start : length before ≡ k * width = c.split_at_mut-before.ensures.front_len ∙ at in
     let room : width ≤ length others = omega (arith, row_fits width rows.count k c.loop-k-test.true, c.split_at_mut-before.ensures.back_len, at, size) in
     let long : length c.write_row.new.out ≡ width = c.write_row.auto.out ∙ length-take-le width others room in
     let next : rows.start + k + 1 ≡ rows.start + (k + 1) = omega arith in
     record {
       sums = above_at image c.of-part.result _ _ _ next
-          (above_next k width before c.write_row.new.out (drop width others) start long image c.of-part.result (rows.start + k + 1) _ (omega (arith, c.width.ensures.limits, c.from-width.ensures)) c.write_row.ensures.sums);
+          (above_next k width before c.write_row.new.out (drop width others) start long image c.of-part.result (rows.start + k + 1) c.write_row.ensures.sums);
       written = rows_written k width before c.write_row.new.out (drop width others) start long rows.start (within image.valid (sum_to image))
           (ap (map pos) (c.split_at_mut-before.ensures.front ∙ ap (λ n. take n c.loop-k.samples) at) ∙ c.loop-k.invariant.written)
           (c.write_row.ensures.written ∙ ap (λ n. run 0 n (λ x. within image.valid (sum_to image) x (rows.start + k))) (sym wide));

@@ -7,6 +7,6 @@ use Rattle.stat_kernels.proofs.sums.write_sums.Given as goal
 abbrev pub invariant-loop-k : goal.invariant-loop-k
 invariant-loop-k l =
     record {
-      sums : AreAbove l.image l.part (l.rows.start + l.k) (last_row l.width l.first (take (l.k * l.width) l.samples));
+      sums : AreAbove l.image l.part (l.rows.start + l.k) (last_row l.width (take (l.k * l.width) l.samples));
       written : map pos (take (l.k * l.width) l.samples) ≡ band l.width l.rows.start l.k (within l.image.valid (sum_to l.image));
     }
