@@ -1,4 +1,5 @@
-"""The time of OpenCV's functions on one thread, as JSON: python3 opencv_peer.py WIDTH HEIGHT COUNT.
+"""The time of OpenCV's functions on one thread, as JSON: python3 opencv_peer.py WIDTH HEIGHT COUNT
+[CASE..], of all cases or of those that are named.
 
 Each case has the name that bench/functions gives it, and OpenCV's own name of the function; NumPy's
 where OpenCV has none in Python. The name says what OpenCV does less or more. Outputs are arrays
@@ -15,7 +16,8 @@ import numpy
 sys.dont_write_bytecode = True
 from shared import best_seconds  # noqa: E402
 
-width, height, count = map(int, sys.argv[1:])
+width, height, count = map(int, sys.argv[1:4])
+asked = sys.argv[4:]
 cv2.setNumThreads(1)
 pixels = width * height
 first = numpy.frombuffer(bytes(range(256)) * (pixels // 256), numpy.uint8).reshape(height,
@@ -131,10 +133,14 @@ STATISTICS = {
 }
 
 
+def those_asked(cases):
+    return {case: rest for case, rest in cases.items() if not asked or case in asked}
+
+
 def times():
-    for case, (name, function) in (PIXELWISE | STATISTICS).items():
+    for case, (name, function) in those_asked(PIXELWISE | STATISTICS).items():
         yield case, (name, best_seconds(function, count))
-    for case, (name, function) in WINDOWS.items():
+    for case, (name, function) in those_asked(WINDOWS).items():
         # OpenCV always gives the border, so one time stands for both.
         seconds = best_seconds(function, count)
         yield f"{case}, REPLICATE", (name, seconds)

@@ -13,7 +13,7 @@
 #define PUBLIC __attribute__((visibility("default")))
 #define REFERENCE(object) ((vx_reference)(object))
 
-enum { GREATEST_SIDE = 4096, STATUSES = -VX_STATUS_MIN, NODE_BYTES = 25, NO_SLOT = 255 };
+enum { GREATEST_SIDE = 8192, STATUSES = -VX_STATUS_MIN, NODE_BYTES = 25, NO_SLOT = 255 };
 
 /* What a request asks for, by its number in frames. */
 enum op {

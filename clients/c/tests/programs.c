@@ -228,6 +228,24 @@ static void use_large_pictures(vx_context context) {
     EXPECT(VX_SUCCESS, vxReleaseImage(&image));
 }
 
+/* An image has up to 8192 columns and rows. */
+static void use_long_pictures(vx_context context) {
+    enum { SIDE = 8192 };
+    static vx_uint8 samples[SIDE], found[SIDE];
+    for (vx_uint32 i = 0; i < SIDE; i++)
+        samples[i] = (vx_uint8)(i * 7 + i / 256);
+    const vx_uint32 sides[2][2] = {{SIDE, 1}, {1, SIDE}};
+    for (int k = 0; k < 2; k++) {
+        vx_uint32 width = sides[k][0], height = sides[k][1];
+        vx_image image = vxCreateImage(context, width, height, VX_DF_IMAGE_U8);
+        EXPECT(VX_SUCCESS, copy_whole(image, width, height, 1, samples, VX_WRITE_ONLY));
+        memset(found, 0, SIDE);
+        EXPECT(VX_SUCCESS, copy_whole(image, width, height, 1, found, VX_READ_ONLY));
+        CHECK(memcmp(samples, found, SIDE) == 0);
+        EXPECT(VX_SUCCESS, vxReleaseImage(&image));
+    }
+}
+
 /* Many runs are sent ahead, and a picture after them, before any of their replies is awaited. */
 static void run_many_ahead(vx_context context) {
     enum { GRAPHS = 200, SIDE = 1024 };
@@ -268,6 +286,7 @@ int main(void) {
     add_pictures(context);
     map_parts(context);
     use_large_pictures(context);
+    use_long_pictures(context);
     run_many_ahead(context);
     pthread_t threads[4];
     for (int i = 0; i < 4; i++)

@@ -20,7 +20,8 @@ static void refuse_creations(void) {
     EXPECT(VX_ERROR_NO_RESOURCES, vxGetStatus(NULL));
     EXPECT(VX_ERROR_NOT_SUPPORTED, STATUS(vxCreateImage(context, 8, 8, VX_DF_IMAGE_RGB)));
     EXPECT(VX_ERROR_INVALID_DIMENSION, STATUS(vxCreateImage(context, 0, 8, VX_DF_IMAGE_U8)));
-    EXPECT(VX_ERROR_INVALID_DIMENSION, STATUS(vxCreateImage(context, 8, 4097, VX_DF_IMAGE_U8)));
+    EXPECT(VX_ERROR_INVALID_DIMENSION, STATUS(vxCreateImage(context, 8, 8193, VX_DF_IMAGE_U8)));
+    EXPECT(VX_ERROR_INVALID_DIMENSION, STATUS(vxCreateImage(context, 8193, 8, VX_DF_IMAGE_U8)));
     EXPECT(VX_ERROR_INVALID_DIMENSION, STATUS(vxCreateImage(context, 65537, 8, VX_DF_IMAGE_U8)));
     CHECK(vxCreateImage(NULL, 8, 8, VX_DF_IMAGE_U8) == NULL);
     CHECK(vxCreateImage((vx_context)u8, 8, 8, VX_DF_IMAGE_U8) == NULL);

@@ -256,8 +256,8 @@ class Functions(Generic[Given]):
 
     @function(wire.INTEGRAL, "IntegralImage")
     def integral_image(self, input: Operand, output: Operand) -> Given:
-        """At each valid pixel the sum of the valid samples neither to the right of it nor below it.
-        U8 to U32."""
+        """At each valid pixel the sum of the valid samples neither to the right of it nor below it,
+        modulo 2^32. U8 to U32."""
         return self._do("integral_image", input, None, output)
 
     @function(wire.MIN_MAX_LOCATION, "MinMaxLoc")

@@ -210,7 +210,7 @@ CREATES = (
 # A virtual image's format, width or height that isn't declared.
 OPEN = 0
 # The lengths that a request frame can have, which count what comes after them.
-LEAST_LENGTH, GREATEST_LENGTH = 3, 134_217_728
+LEAST_LENGTH, GREATEST_LENGTH = 3, 536_870_912
 SAMPLE_LETTERS = {U8: "B", S16: "h", U32: "I"}
 FORMAT_NAMES = {OPEN: "open", **{fmt: fmt.name for fmt in Format}}
 ABSENT = struct.pack(">IB", 0, 255)

@@ -1,6 +1,7 @@
 """The formula of each vision function, and the table of all of them."""
 
 import functools
+import itertools
 import operator
 
 from feqyldan import wire
@@ -105,11 +106,14 @@ def counts(picture, bins, _=None):
 
 
 def integral(picture, _, __):
-    """At each valid place the sum of the valid samples that are neither right of it nor below
-    it."""
+    """At each valid place the sum of the valid samples that are neither right of it nor below it,
+    modulo 2^32."""
     left, top, right, bottom = picture.valid
-    values = [sum(sum(row_of(picture, row)[: x - left + 1]) for row in range(top, y + 1))
-              for y in range(top, bottom) for x in range(left, right)]
+    values, above = [], [0] * (right - left)
+    for y in range(top, bottom):
+        row = itertools.accumulate(row_of(picture, y))
+        above = [(one + other) % 2**32 for one, other in zip(above, row)]
+        values += above
     return filled(picture, picture.valid, values)
 
 

@@ -5,6 +5,7 @@ A function is a row of FUNCTIONS: what its node has, its formats, and what it gi
 stands below what it is made of.
 """
 
+from array import array
 from collections import Counter, namedtuple
 from itertools import accumulate
 
@@ -104,6 +105,9 @@ def windows_of(rectangle, across, down):
 
 
 # ---- objects: values that never change; what changes is which of them a name has
+
+# An image has from 1 to so many columns, and as many rows.
+GREATEST_SIDE = 8192
 
 # The samples by rows from the top, and where they are valid; they are 0 elsewhere.
 Image = namedtuple("Image", "fmt width height valid samples")
@@ -418,20 +422,23 @@ def histogram(node, things):
     return {OUT1: Distribution(bins, tuple(found[number] for number in range(bins.bins)))}
 
 
+def row_of_sums(above, samples):
+    """The sums at the places of a row, by those of the row above it and its own samples."""
+    return [(one + other) % 2**32 for one, other in zip(above, accumulate(samples))]
+
+
 def integral(node, things):
     """For a valid place the sum of the valid samples that are neither to the right of it nor below
-    it."""
+    it, modulo 2^32."""
     image, valid = things[IN1], things[IN1].valid
-    columns, lines = range(valid.left, valid.right), range(valid.top, valid.bottom)
-    rows = [list(accumulate(sample_at(image, x, y) for x in columns)) for y in lines]
-    sums = list(accumulate(rows, lambda above,
-                           row: [one + other for one, other in zip(above, row)]))
-
-    def sample(place):
-        y, x = divmod(place, image.width)
-        return sums[y - valid.top][x - valid.left]
-
-    return {OUT1: made(U32, image.width, image.height, valid, sample)}
+    # In as many bytes as samples have, since an image may be large.
+    sums = array("I", [0]) * len(image.samples)
+    above = [0] * (valid.right - valid.left)
+    for y in range(valid.top, valid.bottom):
+        row = slice(y * image.width + valid.left, y * image.width + valid.right)
+        above = row_of_sums(above, image.samples[row])
+        sums[row] = array("I", above)
+    return {OUT1: Image(U32, image.width, image.height, valid, sums)}
 
 
 def extremes_of(samples, at):

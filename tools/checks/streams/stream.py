@@ -6,6 +6,7 @@ import struct
 from feqyldan import wire
 from feqyldan.wire import SUCCESS, U8
 from checks import model
+from checks.model.functions import GREATEST_SIDE
 from checks.model.graphs import cells_written
 from checks.model.state import (
     AGE_DELAY, CREATE_DELAY, CREATE_IMAGE, IMMEDIATE, OPEN_CONTEXT, PROCESS_GRAPH, QUERY_IMAGE,
@@ -161,13 +162,14 @@ class Stream:
 
     def ask_for_bytes(self, client, count):
         """The code of the reply to CreateImage, for an image of so many bytes."""
-        return self.ask(client, CREATE_IMAGE, struct.pack(">BHH", U8, min(count, 4096), 1))
+        return self.ask(client, CREATE_IMAGE, struct.pack(">BHH", U8, min(count, GREATEST_SIDE), 1))
 
     def use_up_quota(self, client):
         """Whether the client has used up its quota, or does so now by one image, since no more is
         left."""
         left = self.limits.quota - model.charge(self.clients.state_of(client).context)
-        return left == 0 or (left <= 4096 and self.ask_for_bytes(client, left) == SUCCESS)
+        is_little = left <= GREATEST_SIDE
+        return left == 0 or (is_little and self.ask_for_bytes(client, left) == SUCCESS)
 
     def ask_about_all(self):
         for client, draw in self.draws.items():

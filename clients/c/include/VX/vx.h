@@ -464,7 +464,7 @@ VX_API_ENTRY vx_status VX_API_CALL vxSetReferenceName(vx_reference ref, const vx
 /* ---- Images ---- */
 
 /* An image, 0 everywhere and wholly valid. VX_ERROR_NOT_SUPPORTED, a format but U8, S16 and U32;
-   VX_ERROR_INVALID_DIMENSION, a side isn't from 1 to 4096; VX_ERROR_NO_RESOURCES, the context's
+   VX_ERROR_INVALID_DIMENSION, a side isn't from 1 to 8192; VX_ERROR_NO_RESOURCES, the context's
    quota or its 1,024 objects are used up. */
 VX_API_ENTRY vx_image VX_API_CALL vxCreateImage(vx_context context, vx_uint32 width,
                                                 vx_uint32 height, vx_df_image color);

@@ -88,7 +88,8 @@ VX_API_ENTRY vx_status VX_API_CALL vxuConvolve(vx_context context, vx_image inpu
 VX_API_ENTRY vx_status VX_API_CALL vxuHistogram(vx_context context, vx_image input,
                                                 vx_distribution distribution);
 
-/* At each pixel the sum of those neither to the right of it nor below it. U8 to U32. */
+/* At each pixel the sum of those neither to the right of it nor below it, modulo 2^32. U8 to
+   U32. */
 VX_API_ENTRY vx_status VX_API_CALL vxuIntegralImage(vx_context context, vx_image input,
                                                     vx_image output);
 
