@@ -28,7 +28,7 @@
 #include <time.h>
 #include <unistd.h>
 
-enum { MOST = 4096, NOT = 4, MAX = 10 };
+enum { MOST = 8192, NOT = 4, MAX = 10 };
 
 /* The size of images, and the bytes of a sample: 1 for U8, 2 for S16. */
 static uint32_t width = 1920, height = 1080, size = 1;

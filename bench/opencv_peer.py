@@ -1,4 +1,5 @@
-"""The time of OpenCV's functions on one thread, as JSON: python3 opencv_peer.py WIDTH HEIGHT COUNT.
+"""The time of OpenCV's functions on one thread, as JSON: python3 opencv_peer.py WIDTH HEIGHT COUNT
+[CASE..], of all cases or of those that are named.
 
 Each case has the name that bench/functions gives it, and OpenCV's own name of the function; NumPy's
 where OpenCV has none in Python. The name says what OpenCV does less or more. Outputs are arrays
@@ -15,7 +16,8 @@ import numpy
 sys.dont_write_bytecode = True
 from shared import best_seconds  # noqa: E402
 
-width, height, count = map(int, sys.argv[1:])
+width, height, count = map(int, sys.argv[1:4])
+asked = sys.argv[4:]
 cv2.setNumThreads(1)
 pixels = width * height
 first = numpy.frombuffer(bytes(range(256)) * (pixels // 256), numpy.uint8).reshape(height,
@@ -24,6 +26,7 @@ second = first[:, ::-1].copy()
 shorts = numpy.arange(pixels, dtype=numpy.uint16).astype(numpy.int16).reshape(height, width)
 others = shorts[:, ::-1].copy()
 byte_output, short_output = numpy.empty_like(first), numpy.empty_like(shorts)
+short_sums, float_sums = numpy.zeros_like(shorts), numpy.zeros_like(first, numpy.float32)
 table = numpy.arange(255, -1, -1, dtype=numpy.uint8)
 short_table = numpy.arange(32767, -32769, -1).astype(numpy.int16)
 indices = shorts.view(numpy.uint16)
@@ -73,6 +76,13 @@ PIXELWISE = {
         lambda: numpy.left_shift(first, 4, out=short_output, dtype=numpy.int16)),
     "ConvertDepth, S16 to U8, shift 4": (
         "convertScaleAbs by 1/16", lambda: cv2.convertScaleAbs(shorts, byte_output, 1 / 16)),
+    "Accumulate": ("accumulate, to floats", lambda: cv2.accumulate(first, float_sums)),
+    "Accumulate, beside add": (
+        "add to CV_16S, in place",
+        lambda: cv2.add(short_sums, first, short_sums, dtype=cv2.CV_16S)),
+    "AccumulateSquare, s = 8": (
+        "accumulateSquare, to floats, not shifted",
+        lambda: cv2.accumulateSquare(first, float_sums)),
 }
 
 
@@ -123,10 +133,14 @@ STATISTICS = {
 }
 
 
+def those_asked(cases):
+    return {case: rest for case, rest in cases.items() if not asked or case in asked}
+
+
 def times():
-    for case, (name, function) in (PIXELWISE | STATISTICS).items():
+    for case, (name, function) in those_asked(PIXELWISE | STATISTICS).items():
         yield case, (name, best_seconds(function, count))
-    for case, (name, function) in WINDOWS.items():
+    for case, (name, function) in those_asked(WINDOWS).items():
         # OpenCV always gives the border, so one time stands for both.
         seconds = best_seconds(function, count)
         yield f"{case}, REPLICATE", (name, seconds)

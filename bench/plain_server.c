@@ -7,7 +7,7 @@
 #include <unistd.h>
 
 enum { CREATE = 3, WRITE_IMAGE = 5, READ_IMAGE = 7, IMMEDIATE = 24 };
-enum { HEAD = 10, MOST = 4096 * 4096 };
+enum { HEAD = 10, MOST = 8192 * 8192 };
 
 /* What is read ahead of large reads, as by a buffered reader. */
 static uint8_t ahead[8192];

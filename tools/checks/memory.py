@@ -18,7 +18,9 @@ MIB = 1 << 20
 ENVIRONMENT = {**os.environ, "GLIBC_TUNABLES": "glibc.malloc.mmap_threshold=32768"}
 SAMPLE_BYTES = {wire.U8: 1, wire.S16: 2, wire.U32: 4}
 
-# Images of the greatest bytes, and how many of them a client has at once.
+# No image has a greater side.
+GREATEST_SIDE = 8192
+# Great images, and how many of them a client has at once, all of which the server keeps free.
 SIDE, AT_ONCE = 4096, 4
 GREAT = SIDE * SIDE * 4
 # What the allocator may take for an object and its block: a page.
@@ -149,7 +151,7 @@ def rising(program: str) -> str:
             for count in (OBJECTS >> k for k in range(11)):
                 places = QUOTA // count // size
                 width = 1 << places.bit_length() // 2
-                if width <= SIDE and places // width <= SIDE:
+                if max(width, places // width) <= GREATEST_SIDE:
                     image = wire.create_image(1, fmt, width, places // width)
                     for name in [server.create(image) for _ in range(count)]:
                         server.ask(wire.release(1, name))

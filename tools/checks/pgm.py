@@ -12,7 +12,7 @@ from feqyldan import wire
 
 CLIENT = 7
 INVALID_FORMAT = 5
-SIZES = ((1, 1), (1, 7), (9, 1), (16, 4), (33, 17), (200, 150), (4096, 2))
+SIZES = ((1, 1), (1, 7), (9, 1), (16, 4), (33, 17), (200, 150), (8192, 2))
 # Netpbm takes pictures with a maxval of 1 for bitmaps, and writes no grey maps of them.
 MAXVALS = (2, 15, 100, 254, 255, 256, 1000, 4095, 32767, 65535)
 GREATEST = 32767

@@ -3,15 +3,20 @@
 
 #include <string.h>
 
-/* Each operand that has to be there or is there is a reference of the type that the function takes.
-   At once no scalar has the amount. */
+/* At once no scalar has the amount, but that of AccumulateSquare. */
+static bool may_lack(const struct call *call, unsigned place, vx_uint32 scope) {
+    bool is_number = place == AMOUNT && scope == 0 && call->function != ACCUMULATE_SQUARE;
+    return is_number || is_optional(call->function, place);
+}
+
+/* Each operand that has to be there or is there is a reference of the type that the function
+   takes. */
 static vx_status check_references(vx_context context, const struct call *call, vx_uint32 scope) {
     const struct signature *signature = signature_of(call->function);
     vx_status status = VX_SUCCESS;
     for (vx_uint32 i = 0; status == VX_SUCCESS && i < signature->count; i++) {
         unsigned place = signature->places[i];
-        bool may_lack = is_optional(call->function, place) || (place == AMOUNT && scope == 0);
-        if (place < OPERANDS && !(may_lack && call->operands[place] == NULL))
+        if (place < OPERANDS && !(call->operands[place] == NULL && may_lack(call, place, scope)))
             status = check(context, call->operands[place], type_at(call->function, place));
     }
     return status;
@@ -61,7 +66,9 @@ static vx_status check_numbers(const struct call *call) {
         return VX_ERROR_INVALID_VALUE;
     if (function == MIN_MAX_LOCATION)
         return check_extremes(call);
-    vx_enum amount = function == MULTIPLY ? VX_TYPE_FLOAT32 : VX_TYPE_INT32;
+    vx_enum amount = function == MULTIPLY            ? VX_TYPE_FLOAT32
+                     : function == ACCUMULATE_SQUARE ? VX_TYPE_UINT32
+                                                     : VX_TYPE_INT32;
     return check_item(call->operands[AMOUNT], amount, amount);
 }
 
@@ -99,6 +106,11 @@ static vx_status amount_of(const struct call *call, uint8_t *amount) {
         if (shift < 0 || shift > 7)
             return VX_ERROR_INVALID_VALUE;
         *amount = (uint8_t)shift;
+    }
+    if (call->function == ACCUMULATE_SQUARE) {
+        if (scalar->value.u32 > 15)
+            return VX_ERROR_INVALID_VALUE;
+        *amount = (uint8_t)scalar->value.u32;
     }
     return VX_SUCCESS;
 }

@@ -265,3 +265,24 @@ PUBLIC vx_status VX_API_CALL vxuMinMaxLoc(vx_context context, vx_image input, vx
     };
     return run(context, call);
 }
+
+PUBLIC vx_status VX_API_CALL vxuAccumulateImage(vx_context context, vx_image input,
+                                                vx_image accum) {
+    struct call call = {
+        .function = ACCUMULATE,
+        .operands[IN1] = REFERENCE(input),
+        .operands[OUT1] = REFERENCE(accum),
+    };
+    return run(context, call);
+}
+
+PUBLIC vx_status VX_API_CALL vxuAccumulateSquareImage(vx_context context, vx_image input,
+                                                      vx_scalar shift, vx_image accum) {
+    struct call call = {
+        .function = ACCUMULATE_SQUARE,
+        .operands[IN1] = REFERENCE(input),
+        .operands[AMOUNT] = REFERENCE(shift),
+        .operands[OUT1] = REFERENCE(accum),
+    };
+    return run(context, call);
+}

@@ -13,7 +13,7 @@
 #define PUBLIC __attribute__((visibility("default")))
 #define REFERENCE(object) ((vx_reference)(object))
 
-enum { GREATEST_SIDE = 4096, STATUSES = -VX_STATUS_MIN, NODE_BYTES = 25, NO_SLOT = 255 };
+enum { GREATEST_SIDE = 8192, STATUSES = -VX_STATUS_MIN, NODE_BYTES = 25, NO_SLOT = 255 };
 
 /* What a request asks for, by its number in frames. */
 enum op {
@@ -283,7 +283,9 @@ enum function {
     CONVOLVE,
     HISTOGRAM,
     INTEGRAL,
-    MIN_MAX_LOCATION
+    MIN_MAX_LOCATION,
+    ACCUMULATE,
+    ACCUMULATE_SQUARE
 };
 
 enum { IN1, IN2, OUT1, OUT2, AMOUNT, MIN_VALUE, MAX_VALUE, MIN_PLACE, MAX_PLACE, MIN_COUNT,
@@ -325,7 +327,7 @@ struct signature {
 
 const struct signature *signature_of(enum function function);
 vx_enum type_at(enum function function, unsigned place);
-bool is_output(unsigned place);
+vx_enum direction_of(enum function function, unsigned place);
 bool is_optional(enum function function, unsigned place);
 
 /* ---- graph.c ---- */

@@ -244,3 +244,23 @@ PUBLIC vx_node VX_API_CALL vxMinMaxLocNode(vx_graph graph, vx_image input, vx_sc
     };
     return add_node(graph, call);
 }
+
+PUBLIC vx_node VX_API_CALL vxAccumulateImageNode(vx_graph graph, vx_image input, vx_image accum) {
+    struct call call = {
+        .function = ACCUMULATE,
+        .operands[IN1] = REFERENCE(input),
+        .operands[OUT1] = REFERENCE(accum),
+    };
+    return add_node(graph, call);
+}
+
+PUBLIC vx_node VX_API_CALL vxAccumulateSquareImageNode(vx_graph graph, vx_image input,
+                                                       vx_scalar shift, vx_image accum) {
+    struct call call = {
+        .function = ACCUMULATE_SQUARE,
+        .operands[IN1] = REFERENCE(input),
+        .operands[AMOUNT] = REFERENCE(shift),
+        .operands[OUT1] = REFERENCE(accum),
+    };
+    return add_node(graph, call);
+}

@@ -54,7 +54,7 @@ PUBLIC vx_status VX_API_CALL vxQueryParameter(vx_parameter parameter, vx_enum at
         return VX_ERROR_INVALID_REFERENCE;
     enum function function = parameter->node->call.function;
     unsigned place = place_of(parameter);
-    const vx_enum direction = is_output(place) ? VX_OUTPUT : VX_INPUT;
+    const vx_enum direction = direction_of(function, place);
     const vx_enum type = type_at(function, place);
     const vx_enum state = is_optional(function, place) ? VX_PARAMETER_STATE_OPTIONAL
                                                        : VX_PARAMETER_STATE_REQUIRED;

@@ -6,6 +6,7 @@ const struct signature *signature_of(enum function function) {
                                   by_policy = {4, {IN1, IN2, POLICY, OUT1}},
                                   multiply = {6, {IN1, IN2, AMOUNT, POLICY, ROUNDING, OUT1}},
                                   convert = {4, {IN1, OUT1, POLICY, AMOUNT}},
+                                  square = {3, {IN1, AMOUNT, OUT1}},
                                   sobel = {3, {IN1, OUT1, OUT2}},
                                   extremes = {7,
                                               {IN1, MIN_VALUE, MAX_VALUE, MIN_PLACE, MAX_PLACE,
@@ -18,6 +19,8 @@ const struct signature *signature_of(enum function function) {
         return &multiply;
     case CONVERT_DEPTH:
         return &convert;
+    case ACCUMULATE_SQUARE:
+        return &square;
     case SOBEL:
         return &sobel;
     case MIN_MAX_LOCATION:
@@ -30,6 +33,7 @@ const struct signature *signature_of(enum function function) {
     case DILATE:
     case HISTOGRAM:
     case INTEGRAL:
+    case ACCUMULATE:
         return &one;
     default:
         return &two;
@@ -66,8 +70,15 @@ vx_enum type_at(enum function function, unsigned place) {
     }
 }
 
-bool is_output(unsigned place) {
+static bool is_output(unsigned place) {
     return place == OUT1 || place == OUT2 || (place >= MIN_VALUE && place <= MAX_COUNT);
+}
+
+vx_enum direction_of(enum function function, unsigned place) {
+    if (!is_output(place))
+        return VX_INPUT;
+    bool adds = function == ACCUMULATE || function == ACCUMULATE_SQUARE;
+    return adds ? VX_BIDIRECTIONAL : VX_OUTPUT;
 }
 
 bool is_optional(enum function function, unsigned place) {

@@ -132,6 +132,44 @@ static void run_pixels(void) {
         vxConvertDepthNode(graph, s, out, near, shift));
 }
 
+/* A function that adds to what its output holds: twice to the same, at once and as a node. */
+#define ADD(word, at_once, as_node)                                                                \
+    do {                                                                                           \
+        for (int way = 0; way < 2; way++) {                                                        \
+            vx_image sums = sums_of_noise();                                                       \
+            vx_graph graph = vxCreateGraph(context);                                               \
+            EXPECT(VX_SUCCESS, at_once);                                                           \
+            if (way == 0) {                                                                        \
+                EXPECT(VX_SUCCESS, at_once);                                                       \
+            } else {                                                                               \
+                run_node(graph, as_node);                                                          \
+            }                                                                                      \
+            printf("%s 0", word);                                                                  \
+            print_image(sums, VX_DF_IMAGE_S16);                                                    \
+            printf("\n");                                                                          \
+            EXPECT(VX_SUCCESS, vxReleaseGraph(&graph));                                            \
+            EXPECT(VX_SUCCESS, vxReleaseImage(&sums));                                             \
+        }                                                                                          \
+    } while (0)
+
+/* Valid in a part. */
+static vx_image sums_of_noise(void) {
+    const vx_rectangle_t valid = {0, 2, WIDTH - 1, HEIGHT};
+    vx_image sums = vxCreateImage(context, WIDTH, HEIGHT, VX_DF_IMAGE_S16);
+    fill(sums, 2, 5);
+    EXPECT(VX_SUCCESS, vxSetImageValidRectangle(sums, &valid));
+    return sums;
+}
+
+static void run_sums(void) {
+    const vx_uint32 shift_value = 3;
+    vx_scalar shift = vxCreateScalar(context, VX_TYPE_UINT32, &shift_value);
+    ADD("accumulate", vxuAccumulateImage(context, b, sums), vxAccumulateImageNode(graph, b, sums));
+    ADD("accumulate_square", vxuAccumulateSquareImage(context, b, shift, sums),
+        vxAccumulateSquareImageNode(graph, b, shift, sums));
+    EXPECT(VX_SUCCESS, vxReleaseScalar(&shift));
+}
+
 static void run_windows(void) {
     const vx_df_image u8 = VX_DF_IMAGE_U8, s16 = VX_DF_IMAGE_S16;
     EXPECT(VX_SUCCESS, vxSetContextAttribute(context, VX_CONTEXT_IMMEDIATE_BORDER, &border,
@@ -217,6 +255,7 @@ int main(void) {
     make_parameters();
     border.mode = VX_BORDER_UNDEFINED;
     run_pixels();
+    run_sums();
     for (int mode = 0; mode < 3; mode++) {
         border.mode = VX_BORDER_UNDEFINED + mode;
         border.constant_value.U8 = 77;

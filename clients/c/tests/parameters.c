@@ -57,7 +57,7 @@ static char letter_of(vx_enum type) {
 }
 
 /* A node has parameters as its function has arguments: for each the letter of its type, and after
-   it `>` for an output and `?` for one that may lack. */
+   it `>` for an output, `+` for one that is added to, and `?` for one that may lack. */
 static void has(const char *expected, vx_node node) {
     char told[32] = "", *at = told;
     vx_uint32 count;
@@ -68,6 +68,8 @@ static void has(const char *expected, vx_node node) {
         *at++ = letter_of(ask(parameter, VX_PARAMETER_TYPE));
         if (ask(parameter, VX_PARAMETER_DIRECTION) == VX_OUTPUT)
             *at++ = '>';
+        if (ask(parameter, VX_PARAMETER_DIRECTION) == VX_BIDIRECTIONAL)
+            *at++ = '+';
         if (ask(parameter, VX_PARAMETER_STATE) == VX_PARAMETER_STATE_OPTIONAL)
             *at++ = '?';
         EXPECT(VX_SUCCESS, vxReleaseParameter(&parameter));
@@ -85,6 +87,7 @@ static void list_parameters(void) {
     vx_lut lut = vxCreateLUT(context, VX_TYPE_UINT8, 256);
     vx_convolution kernel = vxCreateConvolution(context, 3, 3);
     vx_distribution counts = vxCreateDistribution(context, 8, 0, 256);
+    vx_scalar shift = vxCreateScalar(context, VX_TYPE_UINT32, NULL);
     has("iii>", vxAndNode(graph, a, b, c));
     has("iii>", vxOrNode(graph, a, b, c));
     has("iii>", vxXorNode(graph, a, b, c));
@@ -108,6 +111,8 @@ static void list_parameters(void) {
     has("id>", vxHistogramNode(graph, a, counts));
     has("ii>", vxIntegralImageNode(graph, a, c));
     has("is>s>a>?a>?s>?s>?", vxMinMaxLocNode(graph, a, byte, byte, NULL, NULL, NULL, NULL));
+    has("ii+", vxAccumulateImageNode(graph, a, s));
+    has("isi+", vxAccumulateSquareImageNode(graph, a, shift, s));
 }
 
 /* What is read is what was given: also after the program gave its own reference back. */

@@ -130,6 +130,38 @@ static void age_after_runs(vx_context context) {
     EXPECT(VX_SUCCESS, vxReleaseImage(&copy));
 }
 
+/* The mean of four pictures, which a graph adds up and shows, whichever node was added first. */
+static void add_pictures(vx_context context) {
+    vx_image picture = vxCreateImage(context, WIDTH, HEIGHT, VX_DF_IMAGE_U8);
+    vx_image sums = vxCreateImage(context, WIDTH, HEIGHT, VX_DF_IMAGE_S16);
+    vx_image mean = vxCreateImage(context, WIDTH, HEIGHT, VX_DF_IMAGE_U8);
+    const vx_int32 two = 2;
+    vx_scalar shift = vxCreateScalar(context, VX_TYPE_INT32, &two);
+    vx_graph graph = vxCreateGraph(context);
+    vx_int16 found[COUNT];
+    vx_node nodes[] = {vxConvertDepthNode(graph, sums, mean, VX_CONVERT_POLICY_SATURATE, shift),
+                       vxAccumulateImageNode(graph, picture, sums)};
+    for (int turn = 1; turn <= 4; turn++) {
+        fill(picture, (vx_uint8)(40 * turn));
+        EXPECT(VX_SUCCESS, vxVerifyGraph(graph));
+        EXPECT(VX_SUCCESS, turn % 2 ? vxProcessGraph(graph) : vxScheduleGraph(graph));
+        if (turn % 2 == 0)
+            EXPECT(VX_SUCCESS, vxWaitGraph(graph));
+        CHECK(first_sample(mean) == 5 * turn * (turn + 1));
+    }
+    EXPECT(VX_SUCCESS, copy_whole(sums, WIDTH, HEIGHT, 2, found, VX_READ_ONLY));
+    CHECK(found[0] == 400 && found[COUNT - 1] == 400);
+    EXPECT(VX_SUCCESS, vxRemoveNode(&nodes[1]));
+    EXPECT(VX_SUCCESS, vxProcessGraph(graph));
+    CHECK(first_sample(mean) == 100);
+    EXPECT(VX_SUCCESS, vxReleaseNode(&nodes[0]));
+    EXPECT(VX_SUCCESS, vxReleaseGraph(&graph));
+    EXPECT(VX_SUCCESS, vxReleaseScalar(&shift));
+    EXPECT(VX_SUCCESS, vxReleaseImage(&mean));
+    EXPECT(VX_SUCCESS, vxReleaseImage(&sums));
+    EXPECT(VX_SUCCESS, vxReleaseImage(&picture));
+}
+
 /* Maps a part to write, and reads it with room between the samples; and U32 sums. */
 static void map_parts(vx_context context) {
     vx_image image = vxCreateImage(context, WIDTH, HEIGHT, VX_DF_IMAGE_S16);
@@ -196,6 +228,24 @@ static void use_large_pictures(vx_context context) {
     EXPECT(VX_SUCCESS, vxReleaseImage(&image));
 }
 
+/* An image has up to 8192 columns and rows. */
+static void use_long_pictures(vx_context context) {
+    enum { SIDE = 8192 };
+    static vx_uint8 samples[SIDE], found[SIDE];
+    for (vx_uint32 i = 0; i < SIDE; i++)
+        samples[i] = (vx_uint8)(i * 7 + i / 256);
+    const vx_uint32 sides[2][2] = {{SIDE, 1}, {1, SIDE}};
+    for (int k = 0; k < 2; k++) {
+        vx_uint32 width = sides[k][0], height = sides[k][1];
+        vx_image image = vxCreateImage(context, width, height, VX_DF_IMAGE_U8);
+        EXPECT(VX_SUCCESS, copy_whole(image, width, height, 1, samples, VX_WRITE_ONLY));
+        memset(found, 0, SIDE);
+        EXPECT(VX_SUCCESS, copy_whole(image, width, height, 1, found, VX_READ_ONLY));
+        CHECK(memcmp(samples, found, SIDE) == 0);
+        EXPECT(VX_SUCCESS, vxReleaseImage(&image));
+    }
+}
+
 /* Many runs are sent ahead, and a picture after them, before any of their replies is awaited. */
 static void run_many_ahead(vx_context context) {
     enum { GRAPHS = 200, SIDE = 1024 };
@@ -233,8 +283,10 @@ int main(void) {
     find_edge(context);
     use_delay(context);
     age_after_runs(context);
+    add_pictures(context);
     map_parts(context);
     use_large_pictures(context);
+    use_long_pictures(context);
     run_many_ahead(context);
     pthread_t threads[4];
     for (int i = 0; i < 4; i++)

@@ -173,6 +173,13 @@ def expected_lines(context):
     add("table_lookup", vx.U8, lambda out: f.table_lookup(a, short, out))
     add("table_lookup16", vx.S16, lambda out: f.table_lookup(s, words, out))
     add("convert_depth", vx.U8, lambda out: f.convert_depth(s, out, near, 3))
+    for word, adds in (("accumulate", lambda sums: f.accumulate(b, sums)),
+                       ("accumulate_square", lambda sums: f.accumulate_square(b, 3, sums))):
+        sums = image(context, vx.S16, 5)
+        sums.valid = (0, 2, WIDTH - 1, HEIGHT)
+        for _ in range(2):
+            adds(sums)
+        lines += [line_of(word, 0, sums)] * 2
     for number, border in enumerate((vx.UNDEFINED, vx.constant(77), vx.REPLICATE)):
         for name in ("box3x3", "gaussian3x3", "median3x3", "erode3x3", "dilate3x3"):
             add(name, vx.U8, lambda out: getattr(f, name)(a, out, border=border), number)

@@ -20,7 +20,8 @@ static void refuse_creations(void) {
     EXPECT(VX_ERROR_NO_RESOURCES, vxGetStatus(NULL));
     EXPECT(VX_ERROR_NOT_SUPPORTED, STATUS(vxCreateImage(context, 8, 8, VX_DF_IMAGE_RGB)));
     EXPECT(VX_ERROR_INVALID_DIMENSION, STATUS(vxCreateImage(context, 0, 8, VX_DF_IMAGE_U8)));
-    EXPECT(VX_ERROR_INVALID_DIMENSION, STATUS(vxCreateImage(context, 8, 4097, VX_DF_IMAGE_U8)));
+    EXPECT(VX_ERROR_INVALID_DIMENSION, STATUS(vxCreateImage(context, 8, 8193, VX_DF_IMAGE_U8)));
+    EXPECT(VX_ERROR_INVALID_DIMENSION, STATUS(vxCreateImage(context, 8193, 8, VX_DF_IMAGE_U8)));
     EXPECT(VX_ERROR_INVALID_DIMENSION, STATUS(vxCreateImage(context, 65537, 8, VX_DF_IMAGE_U8)));
     CHECK(vxCreateImage(NULL, 8, 8, VX_DF_IMAGE_U8) == NULL);
     CHECK(vxCreateImage((vx_context)u8, 8, 8, VX_DF_IMAGE_U8) == NULL);
@@ -75,6 +76,35 @@ static void refuse_functions(void) {
     CHECK(lower.U8 == 255 && upper.U8 == 0);
 }
 
+/* Of functions that add to their output; the graph has no node before and after. */
+static void refuse_sums(vx_graph graph) {
+    vx_uint32 shift = 16;
+    vx_scalar word = vxCreateScalar(context, VX_TYPE_INT32, NULL);
+    vx_scalar number = vxCreateScalar(context, VX_TYPE_UINT32, &shift);
+    vx_image sums = vxCreateVirtualImage(graph, WIDTH, HEIGHT, VX_DF_IMAGE_S16);
+    EXPECT(VX_ERROR_INVALID_GRAPH, vxuAccumulateImage(context, s16, s16));
+    EXPECT(VX_ERROR_INVALID_FORMAT, vxuAccumulateImage(context, u8, v8));
+    EXPECT(VX_ERROR_INVALID_DIMENSION, vxuAccumulateImage(context, small, s16));
+    EXPECT(VX_ERROR_OPTIMIZED_AWAY, vxuAccumulateImage(context, u8, sums));
+    EXPECT(VX_ERROR_INVALID_REFERENCE, vxuAccumulateImage(context, u8, NULL));
+    EXPECT(VX_ERROR_INVALID_REFERENCE, vxuAccumulateSquareImage(context, u8, NULL, s16));
+    EXPECT(VX_ERROR_INVALID_TYPE, vxuAccumulateSquareImage(context, u8, word, s16));
+    EXPECT(VX_ERROR_INVALID_VALUE, vxuAccumulateSquareImage(context, u8, number, s16));
+    EXPECT(VX_ERROR_INVALID_REFERENCE,
+           STATUS(vxAccumulateSquareImageNode(graph, u8, NULL, s16)));
+    EXPECT(VX_ERROR_INVALID_TYPE, STATUS(vxAccumulateSquareImageNode(graph, u8, word, s16)));
+    vx_node node = vxAccumulateSquareImageNode(graph, u8, number, s16);
+    EXPECT(VX_ERROR_INVALID_VALUE, vxVerifyGraph(graph));
+    shift = 15;
+    EXPECT(VX_SUCCESS, vxCopyScalar(number, &shift, VX_WRITE_ONLY, VX_MEMORY_TYPE_HOST));
+    EXPECT(VX_SUCCESS, vxProcessGraph(graph));
+    EXPECT(VX_SUCCESS, vxRemoveNode(&node));
+    node = vxAccumulateImageNode(graph, u8, sums);
+    EXPECT(VX_ERROR_INVALID_LINK, vxProcessGraph(graph));
+    EXPECT(VX_SUCCESS, vxRemoveNode(&node));
+    EXPECT(VX_SUCCESS, vxReleaseImage(&sums));
+}
+
 static void refuse_registrations(vx_graph graph) {
     vx_delay delay = vxCreateDelay(context, (vx_reference)u8, 2);
     vx_delay stranger = vxCreateDelay(foreign, (vx_reference)wanderer, 2);
@@ -98,6 +128,7 @@ static void refuse_graphs(void) {
     vx_image virtual_image = vxCreateVirtualImage(graph, 0, 0, VX_DF_IMAGE_VIRT);
     vx_rectangle_t rect;
     vx_df_image format;
+    refuse_sums(graph);
     refuse_registrations(graph);
     EXPECT(VX_SUCCESS, vxQueryImage(virtual_image, VX_IMAGE_FORMAT, &format, sizeof format));
     CHECK(format == VX_DF_IMAGE_VIRT);

@@ -52,6 +52,7 @@ static vx_enum any_enum(void) {
                                      VX_THRESHOLD_TYPE_RANGE,
                                      VX_TYPE_UINT8,
                                      VX_TYPE_INT16,
+                                     VX_TYPE_UINT32,
                                      VX_TYPE_COORDINATES2D,
                                      VX_NODE_BORDER,
                                      VX_IMAGE_WIDTH,
@@ -99,17 +100,16 @@ static vx_reference make_any(vx_context context) {
 static vx_node make_node_of_images(vx_graph to, vx_image in, vx_image in2, vx_image out) {
     static vx_node (*const of_two[])(vx_graph, vx_image, vx_image) = {
         vxNotNode,      vxBox3x3Node,    vxGaussian3x3Node,  vxMedian3x3Node,
-        vxErode3x3Node, vxDilate3x3Node, vxIntegralImageNode};
+        vxErode3x3Node, vxDilate3x3Node, vxIntegralImageNode, vxAccumulateImageNode};
     static vx_node (*const of_three[])(vx_graph, vx_image, vx_image, vx_image) = {
         vxAndNode, vxOrNode, vxXorNode, vxAbsDiffNode, vxMinNode, vxMaxNode, vxSobel3x3Node};
-    vx_uint32 number = below(7);
-    return below(2) ? of_two[number](to, in, out) : of_three[number](to, in, in2, out);
+    return below(2) ? of_two[below(8)](to, in, out) : of_three[below(7)](to, in, in2, out);
 }
 
 static vx_node make_node(void) {
     vx_graph to = graph();
     vx_image in = image(), in2 = image(), out = image();
-    switch (below(12)) {
+    switch (below(13)) {
     case 0:
         return vxAddNode(to, in, in2, any_enum(), out);
     case 1:
@@ -129,6 +129,8 @@ static vx_node make_node(void) {
         return vxMultiplyNode(to, in, in2, scalar(), any_enum(), any_enum(), out);
     case 8:
         return vxConvertDepthNode(to, in, out, any_enum(), scalar());
+    case 9:
+        return vxAccumulateSquareImageNode(to, in, scalar(), out);
     default:
         return make_node_of_images(to, in, in2, out);
     }
@@ -246,16 +248,17 @@ static vx_status query_any(void) {
 static vx_status run_on_images(vx_context context, vx_image in, vx_image in2, vx_image out) {
     static vx_status (*const of_two[])(vx_context, vx_image, vx_image) = {
         vxuNot, vxuBox3x3, vxuGaussian3x3, vxuMedian3x3, vxuErode3x3, vxuDilate3x3,
-        vxuIntegralImage};
+        vxuIntegralImage, vxuAccumulateImage};
     static vx_status (*const of_three[])(vx_context, vx_image, vx_image, vx_image) = {
         vxuAnd, vxuOr, vxuXor, vxuAbsDiff, vxuMin, vxuMax, vxuSobel3x3};
-    vx_uint32 number = below(7);
-    return below(2) ? of_two[number](context, in, out) : of_three[number](context, in, in2, out);
+    if (below(2))
+        return of_two[below(8)](context, in, out);
+    return of_three[below(7)](context, in, in2, out);
 }
 
 static vx_status run_any(vx_context context) {
     vx_image in = image(), in2 = image(), out = image();
-    switch (below(12)) {
+    switch (below(13)) {
     case 0:
         return vxuAdd(context, in, in2, any_enum(), out);
     case 1:
@@ -275,6 +278,8 @@ static vx_status run_any(vx_context context) {
     case 8:
         return vxuMinMaxLoc(context, in, scalar(), scalar(), array(),
                             array(), scalar(), scalar());
+    case 9:
+        return vxuAccumulateSquareImage(context, in, scalar(), out);
     default:
         return run_on_images(context, in, in2, out);
     }

@@ -59,7 +59,7 @@ class Context(Uncopied):
     # ---- objects
 
     def image(self, fmt: int, width: int, height: int) -> Image:
-        """A new image of width by height samples, from 1 to 4096 each: 0 everywhere and wholly
+        """A new image of width by height samples, from 1 to 8192 each: 0 everywhere and wholly
         valid."""
         made, (columns, rows) = format_of(fmt), sides_of_frame(width, height)
         words = f"create a {made} image of {columns} by {rows}"

@@ -116,7 +116,8 @@ class InvalidGraph(Refused):
 
 class InvalidLink(Refused):
     code = wire.INVALID_LINK
-    advice = "A node reads a virtual image that no node writes: add the node that does."
+    advice = ("A node reads a virtual image that no node writes: add the node that does; or it "
+              "adds to one: have it add to an image.")
 
 
 class MultipleWriters(Refused):
@@ -144,15 +145,15 @@ CLASSES: Dict[int, Type[Refused]] = {
         OptimizedAway, NoResources)}
 
 # What to do where a request has a reason of its own for a code.
-_SIDES = "An image has from 1 to 4096 columns, and from 1 to 4096 rows."
+_SIDES = "An image has from 1 to 8192 columns, and from 1 to 8192 rows."
 _OF_A_NODE = ("A node's images are not of one size; what is open in a virtual image is taken from "
               "its writer's input.")
 _FORMATS_OF_A_NODE = ("A node's formats are none that its function takes; what is open in a "
                       "virtual image is taken from the node that writes it.")
 _OF_A_CALL = ("A policy is vx.WRAP or vx.SATURATE, a border vx.UNDEFINED, vx.REPLICATE or "
               "vx.constant(value), and one output of sobel3x3 has to be there.")
-_SHIFTS = ("A shift is out of its range: multiply has those from 0 to 15, convert_depth those from "
-           "0 to 7.")
+_SHIFTS = ("A shift is out of its range: multiply and accumulate_square have those from 0 to 15, "
+           "convert_depth those from 0 to 7.")
 _NO_NODES = ("The virtual images that the nodes write have more bytes than the graph's work bytes: "
              "use smaller pictures, or start the server with more work bytes.")
 ADVICE: Dict[Tuple[int, Optional[int]], str] = {

@@ -3,8 +3,9 @@ The vision functions by their OpenVX names, with the standard's order of paramet
 runs them at once, as vxuAbsDiff does; a `Graph` adds them as nodes, as vxAbsDiffNode does. Each is
 written here once, for both.
 
-The valid pixels of an output are those that are valid in all input images; where it says so below,
-less of them. All other samples of an output become 0.
+The valid pixels of an output are those that are valid in all input images, and of an output that is
+added to those among them that were valid in it; where it says so below, less of them. All other
+samples of an output become 0.
 """
 
 from __future__ import annotations
@@ -255,8 +256,8 @@ class Functions(Generic[Given]):
 
     @function(wire.INTEGRAL, "IntegralImage")
     def integral_image(self, input: Operand, output: Operand) -> Given:
-        """At each valid pixel the sum of the valid samples neither to the right of it nor below it.
-        U8 to U32."""
+        """At each valid pixel the sum of the valid samples neither to the right of it nor below it,
+        modulo 2^32. U8 to U32."""
         return self._do("integral_image", input, None, output)
 
     @function(wire.MIN_MAX_LOCATION, "MinMaxLoc")
@@ -269,3 +270,21 @@ class Functions(Generic[Given]):
         there is the first.
         """
         return self._do("min_max_loc", input, None, extremes)
+
+    @function(wire.ACCUMULATE, "AccumulateImage")
+    def accumulate(self, input: Operand, accum: AnyImage) -> Given:
+        """
+        Adds each sample to the one that accum holds there; a sum above 32767 is 32767. U8, to S16.
+
+        In a graph each run adds once, and what reads accum reads the new sums. It can't be a
+        virtual image, which holds nothing between runs.
+        """
+        return self._do("accumulate", input, None, accum)
+
+    @function(wire.ACCUMULATE_SQUARE, "AccumulateSquareImage")
+    def accumulate_square(self, input: Operand, shift: int, accum: AnyImage) -> Given:
+        """
+        Adds a * a / 2^shift, rounded down, to the sample that accum holds there, as accumulate
+        does. The shift is from 0 to 15. U8, to S16.
+        """
+        return self._do("accumulate_square", input, None, accum, amount=shift)

@@ -35,13 +35,16 @@ TAKEN: Dict[str, FrozenSet[Formats]] = {
     "convolve": frozenset({(U8, None, U8), (U8, None, S16)}),
     "histogram": frozenset({(U8, None, None)}), "integral_image": frozenset({(U8, None, U32)}),
     "min_max_loc": frozenset({(U8, None, None), (S16, None, None)}),
+    **dict.fromkeys(("accumulate", "accumulate_square"), frozenset({(U8, None, S16)})),
 }
+# Those that add to what their output holds.
+ADDING = frozenset({"accumulate", "accumulate_square"})
 # The format of a virtual output that leaves it open. Of the functions that aren't here it is in1's.
 OPENED = {
     **dict.fromkeys(("and_", "or_", "xor", "not_", "threshold", "box3x3", "gaussian3x3",
                      "median3x3", "erode3x3",
                      "dilate3x3"), U8),
-    **dict.fromkeys(("add", "subtract", "multiply", "sobel3x3", "convolve"), S16),
+    **dict.fromkeys(("add", "subtract", "multiply", "sobel3x3", "convolve", *ADDING), S16),
     "integral_image": U32,
 }
 
@@ -177,11 +180,15 @@ def _cycle_among(left: Sequence[Member], writers: Dict[bytes, Member]) -> List[M
 
 
 def _loose_end(members: Sequence[Member]) -> str:
-    """Which virtual image is read and not written; empty where none is."""
+    """Which virtual image is read and not written, or is added to; empty where none is."""
     written = {cell.reference for member in members for cell in member.outputs}
-    return next((f"{cell.words} is read by {member}, and written by none."
+    unwritten = (f"{cell.words} is read by {member}, and written by none."
                  for member in members for cell in member.inputs
-                 if cell.is_virtual and cell.reference not in written), "")
+                 if cell.is_virtual and cell.reference not in written)
+    sums = (f"{cell.words} holds nothing to which {member}, could add."
+            for member in members for cell in member.outputs
+            if cell.is_virtual and member.function in ADDING)
+    return next((fault for faults in (unwritten, sums) for fault in faults), "")
 
 
 def _descriptions(ordered: Sequence[Member]) -> Dict[bytes, Cell]:

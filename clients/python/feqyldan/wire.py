@@ -74,6 +74,8 @@ class Function(IntEnum):
     HISTOGRAM = 21
     INTEGRAL = 22
     MIN_MAX_LOCATION = 23
+    ACCUMULATE = 24
+    ACCUMULATE_SQUARE = 25
 
 
 class Code(IntEnum):
@@ -175,6 +177,8 @@ CONVOLVE = Function.CONVOLVE
 HISTOGRAM = Function.HISTOGRAM
 INTEGRAL = Function.INTEGRAL
 MIN_MAX_LOCATION = Function.MIN_MAX_LOCATION
+ACCUMULATE = Function.ACCUMULATE
+ACCUMULATE_SQUARE = Function.ACCUMULATE_SQUARE
 SUCCESS = Code.SUCCESS
 NO_MEMORY = Code.NO_MEMORY
 INVALID_PARAMETERS = Code.INVALID_PARAMETERS
@@ -206,7 +210,7 @@ CREATES = (
 # A virtual image's format, width or height that isn't declared.
 OPEN = 0
 # The lengths that a request frame can have, which count what comes after them.
-LEAST_LENGTH, GREATEST_LENGTH = 3, 134_217_728
+LEAST_LENGTH, GREATEST_LENGTH = 3, 536_870_912
 SAMPLE_LETTERS = {U8: "B", S16: "h", U32: "I"}
 FORMAT_NAMES = {OPEN: "open", **{fmt: fmt.name for fmt in Format}}
 ABSENT = struct.pack(">IB", 0, 255)

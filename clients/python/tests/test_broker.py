@@ -19,7 +19,7 @@ from plain_server import HOLD, MANY_BYTES, WAIT, WHO_ASKED
 # An op of the vision server's that takes little, and one that may take long; the plain server knows
 # none of them.
 SHORT, LONG = wire.QUERY_IMAGE, wire.IMMEDIATE
-BAD_LENGTHS = (0, 1, 2, 134_217_729, 4_294_967_295)
+BAD_LENGTHS = (0, 1, 2, 536_870_913, 4_294_967_295)
 
 
 class Frames(BrokerTest):

@@ -28,7 +28,7 @@ import feqyldan as vx
 
 # Seconds for which the broker waits for the rest of a frame, and for a byte of replies to be taken.
 PATIENCE = 4.0
-BAD_LENGTHS = (0, 1, 2, 134_217_729, 4_294_967_295)
+BAD_LENGTHS = (0, 1, 2, 536_870_913, 4_294_967_295)
 OPENED = wire.reply_frame(CLIENT, wire.OPEN_CONTEXT)
 # The answer to one that comes while too many of its process's connections are being released.
 TURNED_AWAY = wire.reply_frame(CLIENT, wire.OPEN_CONTEXT, wire.NO_RESOURCES)
@@ -306,9 +306,9 @@ class ThePackage(BrokerTest):
 
     def test_the_longest_write_and_the_longest_reply_pass(self) -> None:
         broker = self.begin(command=[str(PROGRAM), "serve"])
-        samples = bytes(range(256)) * (4096 * 4096 * 4 // 256)
+        samples = bytes(range(256)) * (8192 * 8192 * 4 // 256)
         with vx.connect(broker.path) as server, server.context() as context:
-            image = context.image(vx.U32, 4096, 4096)
+            image = context.image(vx.U32, 8192, 8192)
             image.write(samples)
             self.assertTrue(image.read_bytes() == samples)
 

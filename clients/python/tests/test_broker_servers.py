@@ -535,7 +535,7 @@ class Beginning(BrokerTest):
     def test_what_cant_begin_ends_with_status_2(self) -> None:
         wrong = (
             ("--mode", "0800"), ("--mode", "1777"), ("--connections", "0"),
-            ("--connections", "65537"), ("--bytes-held", "-1"), ("--bytes-held", "134217733"),
+            ("--connections", "65537"), ("--bytes-held", "-1"), ("--bytes-held", "536870917"),
             ("--patience", "0"), ("--patience", "nan"), ("--servers", "0"), ("--memory", "1000"),
             ("--grace", "0"), ("--idle", "0"), ("--per-user", "0"),
             ("--status", "/no/such/folder/socket"))

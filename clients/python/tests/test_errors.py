@@ -133,10 +133,14 @@ class TestRefusals(ProgramTest):
                                         r".*vx.constant\(value\), and not"):
                 self.context.graph().box3x3(image, image, border=wrong)
         with self.assertRaisesRegex(ValueError,
-                                    "an image's width is a whole number from 1 to 4096, and not "
+                                    "an image's width is a whole number from 1 to 8192, and not "
                                     "70000"):
             self.context.image(vx.U8, 70000, 1)
-        with self.assertRaisesRegex(vx.InvalidValue, "multiply has those from 0 to 15"):
+        for sides in ((8193, 1), (1, 8193)):
+            with self.assertRaisesRegex(vx.InvalidDimension, "from 1 to 8192 columns, and from 1"):
+                self.context.image(vx.U8, *sides)
+        with self.assertRaisesRegex(vx.InvalidValue,
+                                    "multiply and accumulate_square have those from 0 to 15"):
             self.context.vxu.multiply(image, image, 16, vx.WRAP, deep)
 
     def test_codes_of_the_program(self):
@@ -216,6 +220,8 @@ class TestEnds(unittest.TestCase):
     def test_no_reply_to_the_request(self):
         for reply in (wire.reply_frame(0, wire.CREATE_LUT), wire.reply_frame(1, wire.CREATE_IMAGE),
                       b"\0\0\0\3\0\0\3", b"\xff\xff\xff\xff\0\0\3\0",
+                      # One byte longer than ReadImage's of 8192 by 8192 U32.
+                      b"\x10\0\0\x0a\0\0\3\0",
                       wire.reply_frame(0, wire.CREATE_IMAGE, 77)):
             self.ends(answering(OPENED, reply, end="source.read()"), vx.UnexpectedReply, "")
 

@@ -12,7 +12,8 @@ from program import HERE, ProgramTest, vx
 from checks.model import functions as formulas
 
 WIDTH, HEIGHT = 9, 6
-VALID = (1, 0, 8, 5)
+# Where inputs are valid, and where outputs were.
+VALID, VALID_BEFORE = (1, 0, 8, 5), (0, 1, 7, 6)
 U8, S16, U32 = vx.U8, vx.S16, vx.U32
 IN1, IN2, OUT1, OUT2, POLICY, AMOUNT = range(6)
 
@@ -25,7 +26,7 @@ PARAMETERS = {
     "threshold": TWO, "table_lookup": TWO, "convert_depth": (IN1, OUT1, POLICY, AMOUNT),
     "box3x3": ONE, "gaussian3x3": ONE, "median3x3": ONE, "erode3x3": ONE, "dilate3x3": ONE,
     "sobel3x3": (IN1, OUT1, OUT2), "convolve": TWO, "histogram": ONE, "integral_image": ONE,
-    "min_max_loc": ONE,
+    "min_max_loc": ONE, "accumulate": ONE, "accumulate_square": (IN1, AMOUNT, OUT1),
 }
 
 # The formats of in1 and in2, or what makes another object of in2; those of the outputs, or what
@@ -99,6 +100,8 @@ CASES = (
       for border in BORDERS),
     case("histogram", U8, None, distribution), case("integral_image", U8, None, U32),
     case("min_max_loc", U8, None, extremes), case("min_max_loc", S16, None, extremes),
+    case("accumulate", U8, None, S16),
+    *(case("accumulate_square", U8, None, S16, amount=amount) for amount in (0, 4, 15)),
 )
 
 
@@ -107,25 +110,23 @@ class Operands:
 
     def __init__(self, context, a_case):
         self.context, self.noise = context, random.Random(str(a_case))
-        made = [self.made(of, is_input)
-                for of, is_input in zip(a_case[1:5], (True, True, False, False))]
+        made = [self.made(of, valid)
+                for of, valid in zip(a_case[1:5], (VALID, VALID, VALID_BEFORE, VALID_BEFORE))]
         self.ours, self.theirs = [one for one, _ in made], [other for _, other in made]
 
-    def made(self, of, is_input):
+    def made(self, of, valid):
         if of is None:
             return None, None
         if callable(of):
             return of(self.context)
         image = self.context.image(of, WIDTH, HEIGHT)
-        if not is_input:
-            return image, formulas.new_image(of, WIDTH, HEIGHT)
         least, greatest = formulas.SAMPLES[of]
         rows = [[self.noise.randint(least, greatest) for _ in range(WIDTH)] for _ in range(HEIGHT)]
         image.write(rows)
-        image.valid = VALID
+        image.valid = valid
         written = formulas.Image(of, WIDTH, HEIGHT, None,
                                  [sample for row in rows for sample in row])
-        return image, formulas.confined(written, formulas.Rectangle(*VALID))
+        return image, formulas.confined(written, formulas.Rectangle(*valid))
 
 
 def wanted(a_case, things):
@@ -179,7 +180,7 @@ class TestTable(unittest.TestCase):
     def test_all_functions_have_cases_and_parameters(self):
         self.assertEqual({a_case.name for a_case in CASES}, set(vx.FUNCTIONS))
         self.assertEqual(set(PARAMETERS), set(vx.FUNCTIONS))
-        self.assertEqual(sorted(one.number for one in vx.FUNCTIONS.values()), list(range(1, 24)))
+        self.assertEqual(sorted(one.number for one in vx.FUNCTIONS.values()), list(range(1, 26)))
 
     def test_windows_alone_have_borders(self):
         for name in vx.FUNCTIONS:

@@ -87,6 +87,53 @@ class TestGraphs(ProgramTest):
             self.holds(self.target, [[wanted] * 6])
             camera.age()
 
+    def test_sums(self):
+        """Each run adds once, and what reads the sums reads the new ones, in either order."""
+        for is_shown_first in (False, True):
+            picture, sums = self.context.image_from([[10]]), self.context.image(S16, 1, 1)
+            shown = self.context.image(U8, 1, 1)
+            sums.write([[5]])
+            with self.context.graph() as graph:
+                adds = [lambda: graph.accumulate(picture, sums),
+                        lambda: graph.convert_depth(sums, shown, vx.SATURATE, 0)]
+                for add in adds[::-1] if is_shown_first else adds:
+                    add()
+                graph.verify()
+                for wanted in (15, 25):
+                    graph.process()
+                    self.holds(sums, [[wanted]])
+                    self.holds(shown, [[wanted]])
+                graph.not_(graph.virtual_image(), shown)
+                self.assertRaises(vx.MultipleWriters, graph.process)
+                self.holds(sums, [[25]])
+
+    def test_sums_in_immediate_mode(self):
+        picture, sums = self.context.image_from([[200, 255]]), self.context.image(S16, 2, 1)
+        for wanted in ([200, 255], [400, 510], [600, 765]):
+            self.context.vxu.accumulate(picture, sums)
+            self.holds(sums, [wanted])
+        self.context.vxu.accumulate_square(picture, 1, sums)
+        self.holds(sums, [[20600, 32767]])
+        sums.write([[-32768, 0]])
+        sums.valid = (0, 0, 1, 1)
+        self.context.vxu.accumulate_square(picture, 15, sums)
+        self.holds(sums, [[-32767, 0]])
+        self.assertEqual(sums.valid, (0, 0, 1, 1))
+
+    def test_sums_that_are_refused(self):
+        picture, sums = self.context.image_from([[200]]), self.context.image(S16, 1, 1)
+        vxu = self.context.vxu
+        self.assertRaises(vx.InvalidGraph, vxu.accumulate, sums, sums)
+        self.assertRaises(vx.InvalidFormat, vxu.accumulate, picture, self.context.image(U8, 1, 1))
+        self.assertRaises(vx.InvalidDimension, vxu.accumulate, self.source, sums)
+        for shift in (16, 255):
+            with self.assertRaisesRegex(vx.InvalidValue, "accumulate_square have those from 0"):
+                vxu.accumulate_square(picture, shift, sums)
+        self.assertRaises(vx.OptimizedAway, vxu.accumulate, picture, self.graph.virtual_image(S16))
+        self.graph.accumulate(picture, self.graph.virtual_image(S16, 1, 1))
+        self.assertRaises(vx.InvalidLink, self.graph.process)
+        self.holds(sums, [[0]])
+
     def slots_hold(self, delay, *samples):
         self.assertEqual([slot.read().tolist() for slot in delay],
                          [[[sample] * slot.width] for slot, sample in zip(delay, samples)])

@@ -21,8 +21,8 @@ SIDE, COUNT = 200, 300
 READ = wire.read_image(CLIENT, 1)
 # What comes to a read: length, client, op and code; format, width and height; the samples.
 REPLY_BYTES = 8 + 5 + SIDE * SIDE
-# ReadImage's, of an image of 4096 by 4096 U32.
-LONGEST_REPLY = 67_108_877
+# ReadImage's, of an image of 8192 by 8192 U32.
+LONGEST_REPLY = 268_435_469
 
 
 def sleeps(process: int) -> bool:
@@ -132,7 +132,7 @@ class TestSendingAhead(unittest.TestCase):
             self.assertEqual(self.reply(), wire.reply_frame(CLIENT, wire.WRITE_IMAGE))
 
     def test_the_longest_reply(self) -> None:
-        self.opens(wire.U32, 4096)
+        self.opens(wire.U32, 8192)
         self.requests.write(READ)
         self.assertEqual(int.from_bytes(self.bytes(8)[:4], "big") + 4, LONGEST_REPLY)
         left = LONGEST_REPLY - 8

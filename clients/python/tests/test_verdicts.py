@@ -60,6 +60,18 @@ class TestWords(ProgramTest):
                   "virtual image 4 (open) is read by node 1, not_(virtual image 4 (open), image 2 "
                   "(U8, 3 by 1)), and written by none.")
 
+    def test_a_sum_that_nothing_holds(self):
+        """What is read and not written is told before it."""
+        self.graph.accumulate(self.source, self.graph.virtual_image(S16))
+        self.says(vx.InvalidLink,
+                  "virtual image 4 (S16, open by open) holds nothing to which node 1, "
+                  "accumulate(image 1 (U8, 3 by 1), virtual image 4 (S16, open by open)), could "
+                  "add.")
+        self.graph.not_(self.graph.virtual_image(), self.target)
+        self.says(vx.InvalidLink,
+                  "virtual image 5 (open) is read by node 2, not_(virtual image 5 (open), image 2 "
+                  "(U8, 3 by 1)), and written by none.")
+
     def test_formats_that_were_open(self):
         between = self.graph.virtual_image()
         self.graph.not_(between, self.target)
@@ -176,6 +188,7 @@ class Maker:
             "min_max_loc": lambda: graph.min_max_loc(source, self.extremes),
             "convert_depth": lambda: graph.convert_depth(source, out, policy, 0),
             "multiply": lambda: graph.multiply(source, other, 0, policy, out),
+            "accumulate_square": lambda: graph.accumulate_square(source, 1, out),
             "add": lambda: graph.add(source, other, policy, out),
             "subtract": lambda: graph.subtract(source, other, policy, out),
             "sobel3x3": lambda: graph.sobel3x3(source, *self.noise.choice(
@@ -225,7 +238,7 @@ class TestRandomGraphs(ProgramTest):
             graph = context.graph()
             self.assertEqual(set(verdicts.TAKEN), set(vx.FUNCTIONS))
             for name in ("not_", "box3x3", "gaussian3x3", "median3x3", "erode3x3", "dilate3x3",
-                         "integral_image"):
+                         "integral_image", "accumulate"):
                 for fmt in images:
                     for made in images:
                         out = context.image(made, 3, 1)

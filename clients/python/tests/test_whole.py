@@ -177,11 +177,11 @@ class TestWholeNumbers(ProgramTest):
     def test_a_frame_that_would_be_too_long(self):
         """The server ends where it reads such a length, for all of its clients."""
         image = self.context.image(U8, 1, 1)
-        with self.assertRaisesRegex(ValueError, "a request has at most 134,217,728 bytes"):
-            image.write_pgm(bytes(2**27))
+        with self.assertRaisesRegex(ValueError, "a request has at most 536,870,912 bytes"):
+            image.write_pgm(bytes(2**29))
         if numpy:
             with self.assertRaisesRegex(ValueError, "a request has at most"):
-                image.write(numpy.broadcast_to(numpy.zeros(1, "uint8"), (9000, 15000)))
+                image.write(numpy.zeros((24000, 22500), "uint8"))
         self.holds(image, [[0]])
 
 

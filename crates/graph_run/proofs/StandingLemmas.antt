@@ -4,7 +4,7 @@ use Rattle.std.specs.Prelude.{IsSome, slice_get, position, take, unwrap_or}
 use Rattle.std.specs.Option.{option_map}
 use Rattle.std.specs.Vec.{with_item}
 use Rattle.std.proofs.lemmas.List.Elements.{All-set, All-weaker}
-use Rattle.std.proofs.lemmas.List.{length-take}
+use Rattle.std.proofs.lemmas.List.{length-take, take_all}
 use Rattle.std.proofs.lemmas.Option.{slice_get_read}
 use Rattle.vx_base.specs.declared.format.Format.{Format}
 use Rattle.vx_base.specs.declared.format.Format.TheVariants.{U8}
@@ -113,6 +113,15 @@ module _ (s : Stage) (is : IsArranged s) (cell : Cell) where
           → values samples ≡ (image_held objects cell).samples → IsImage (image_held (scene s).objects cell) → AreFor held_slots cell.name d samples
       for_held d samples desc format same image = grind (arith, as_object)
 
+      -- and they are its samples
+      pub taken_held : (d : Description) (samples : Samples) → d ≡ description_of (image_held objects cell) → values samples ≡ (image_held objects cell).samples → IsImage (image_held (scene s).objects cell)
+          → take (sample_count d) (values samples) ≡ (image_held (scene s).objects cell).samples
+      taken_held d samples desc same image =
+          let one : image_held objects cell ≡ image_held (scene s).objects cell = ap image_value (sym as_object) in
+          let all : values samples ≡ (image_held (scene s).objects cell).samples = same ∙ ap (λ (v : ImageValue). v.samples) one in
+          let count : length (values samples) ≡ sample_count d = ap length all ∙ image.size ∙ ap (λ (v : ImageValue). sample_count (description_of v)) (sym one) ∙ ap sample_count (sym desc) in
+          take_all (sample_count d) (values samples) (omega (arith, count)) ∙ all
+
       pub held_set : (image : ImageValue) (table : Context) → table ≡ with_objects s.table (with_object objects cell (ImageObject image)) → (count : ℕ)
           → IsArranged (over s table) × (scene (over s table) ≡ with_objects (scene s) (with_object (scene s).objects cell (ImageObject image))) × Resized cell.name count s (over s table)
       held_set image table table_is count =
@@ -177,6 +186,12 @@ module _ (s : Stage) (is : IsArranged s) (cell : Cell) where
           → IsImage (image_held (scene s).objects cell) → AreFor held_slots cell.name d samples
       for_slot d samples of_desc same_format same_values image =
           grind (arith, image_here, length-take, format_is, alone_found, alone, holder.1, of_desc, same_values)
+
+      -- the first of them, one for each place, are its samples
+      pub taken_here : (d : Description) (samples : Samples) → IfSome t.holder (λ o. d ≡ o.desc) → values samples ≡ values t.samples → take (sample_count d) (values samples) ≡ (image_held (scene s).objects cell).samples
+      taken_here d samples of_desc same =
+          let is_desc : d ≡ holder.0.desc = subst (λ (o : Option VirtualOutput). IfSome o (λ a. d ≡ a.desc)) holder.1 of_desc in
+          ap (take (sample_count d)) same ∙ ap (λ (e : Description). take (sample_count e) (values t.samples)) is_desc ∙ ap (λ (v : ImageValue). v.samples) (sym image_here)
 
       pub format_held : samples_format t.samples ≡ (image_held (scene s).objects cell).format
       format_held = format_is ∙ ap (λ (v : ImageValue). v.format) (sym image_here)

@@ -1,5 +1,6 @@
 -- Nodes that add to the image that they write: its samples are taken out, and put back once they are added to.
-use Rattle.std.proofs.Common.{◌≡◌, true, ℤ, List, Option, Some, None, refl, sym, ap, subst, ◌∙◌, arith}
+use Rattle.std.proofs.Common.{◌≡◌, ◌*◌, true, ℤ, List, Option, Some, None, refl, sym, ap, subst, ◌∙◌, arith}
+use Rattle.std.specs.Prelude.{◌==◌}
 use Rattle.std.specs.Option.{option_map}
 use Rattle.vx_base.specs.declared.format.Format.{Format}
 use Rattle.vx_base.specs.declared.format.Format.TheVariants.{U8, S16}
@@ -13,6 +14,14 @@ use Rattle.vx_base.specs.Formats.{takes_formats}
 use Rattle.vx_base.specs.Function.{parameters, accumulates}
 use Rattle.vx_base.specs.Image.{ImageValue, description_of, image_over}
 use Rattle.vx_base.specs.Node.{IsNode}
+use Rattle.vx_base.specs.Pixelwise.{from_two}
+use Rattle.vx_base.proofs.TableLaws.{length-table}
+use Rattle.image_core.specs.declared.band.Band.{Band}
+use Rattle.image_core.specs.declared.image_mut.ImageMut.{ImageMut}
+use Rattle.image_core.specs.Bands.{all_rows, rows_in}
+use Rattle.image_core.specs.Fits.{HaveSameSize}
+use Rattle.image_core.specs.Target.{written, IsTarget, SameSlices, Writes}
+use Rattle.image_core.proofs.BandLaws.{all_rows_are, all_written}
 use Rattle.vx_base.specs.Object.{ObjectValue, ImageObject, object_kind, object_format}
 use Rattle.vx_base.specs.Rectangle.{Rectangle}
 use Rattle.object_table.specs.Named.{Named}
@@ -20,7 +29,7 @@ use Rattle.object_table.specs.Object.{image_value}
 use Rattle.object_table.specs.Table.{cell_object, image_held}
 use Rattle.graph_run.specs.Steps.{RunsTo}
 use Rattle.graph_run.proofs.RunLemmas.{has_of_node}
-use Rattle.std.proofs.lemmas.Bool.{and_parts}
+use Rattle.std.proofs.lemmas.Bool.{and_parts, eqb-true}
 
 -- ---- functions that accumulate
 
@@ -41,6 +50,23 @@ sums_image Accumulate a second out h e t = grind arith
 sums_image AccumulateSquare a second out h e t = grind arith
 sums_image other a second out h e t = absurd (cc h)
 
+-- ---- sums of which all rows are lent
+
+module _ (f : ℤ → ℤ → ℤ) (a : ImageValue) (old new : ImageMut) (all : old.rows ≡ all_rows old.desc.height) (target : IsTarget old) (size : HaveSameSize (written old) a)
+    (is : (before : ImageValue) → rows_in old.rows before ≡ written old → Writes (from_two S16 f a before) old new) where
+  writes : Writes (from_two S16 f a (written old)) old new
+  writes = is (written old) (ap (λ (r : Band). rows_in r (written old)) all ∙ all_rows_are (written old) (target.size ∙ ap (λ (r : Band). r.count * old.desc.width) all))
+
+  high : old.desc.height ≡ a.height
+  high = eqb-true old.desc.height a.height (and_parts (old.desc.width == a.width) (old.desc.height == a.height) size).1
+
+  -- what is written is the image of what they held
+  pub sum_written : written new ≡ from_two S16 f a (written old)
+  sum_written = all_written (from_two S16 f a (written old)) old new (all ∙ ap all_rows high) (length-table a.width a.height _) writes
+
+  pub sum_slices : SameSlices old new
+  sum_slices = writes.slices
+
 -- ---- an output to which a node adds
 
 -- an object that is an image is that image
@@ -54,8 +80,8 @@ module _ (objects : List Named) (n : Node) (output : Cell) (h : RunsTo objects n
   pub writes_sums : (image_held objects output).format ≡ S16
   writes_sums = grind (arith, sums_image, writes_image_object)
 
-  pub reads_nothing_more : None ≡ option_map (cell_object objects) n.in2
-  reads_nothing_more = ap (option_map (cell_object objects)) (sym (sums_second n h.runs.node sums))
+  pub reads_nothing_more : (held : List Named) → None ≡ option_map (cell_object held) n.in2
+  reads_nothing_more held = ap (option_map (cell_object held)) (sym (sums_second n h.runs.node sums))
 
   -- it is the image of the samples that are taken out
   pub old_image : (d : Description) (area : Rectangle) (samples : List ℤ) → d ≡ description_of (image_held objects output) → area ≡ (image_held objects output).valid → samples ≡ (image_held objects output).samples

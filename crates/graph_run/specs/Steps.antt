@@ -1,6 +1,7 @@
 -- Nodes that run on what their cells hold, and what they write.
 use Rattle.std.specs.Prelude.{ℕ, ◌≡◌, ◌≢◌, IsTrue, is_some, ⊤, List, Option, Some, None, IfSome}
 use Rattle.std.specs.Option.{option_map, option_and_then}
+use Rattle.vx_base.specs.declared.format.Format.TheVariants.{S16}
 use Rattle.vx_base.specs.declared.kind.Kind.{Kind}
 use Rattle.vx_base.specs.declared.kind.Kind.TheVariants as kind
 use Rattle.vx_base.specs.declared.node.Node.{Node}
@@ -12,6 +13,7 @@ use Rattle.vx_base.specs.Image.{ImageValue}
 use Rattle.vx_base.specs.Node.{IsNode}
 use Rattle.vx_base.specs.Object.{ObjectValue, IsObject, object_kind, object_format}
 use Rattle.vx_base.specs.Outputs.{node_output}
+use Rattle.vx_base.specs.Pixelwise.{from_two, formula_of_two}
 use Rattle.vx_base.specs.Statistics.{histogram}
 use Rattle.image_core.specs.Fits.{HaveSameSize, SecondHasSize}
 use Rattle.object_table.specs.Named.{Named, held, with_object}
@@ -29,6 +31,10 @@ pub record CanRunTo (n : Node) (a : ImageValue) (second : Option ObjectValue) (o
   pub formats : IsTrue (takes_formats n.function a.format (option_and_then object_format second) (Some out.format))
   pub size : HaveSameSize out a
   pub second_size : SecondHasSize a second
+
+-- what comes of an image of S16 to which a node adds what it gives of another
+abbrev pub added_to : Node → ImageValue → ImageValue → ImageValue
+added_to n a sums = from_two S16 (formula_of_two n.function S16 n.policy n.amount) a sums
 
 -- a node and what it reads and writes: objects of the kinds that its function has, of formats and sizes that it takes
 pub record RunsOn (n : Node) (first : ObjectValue) (second : Option ObjectValue) (out : ObjectValue) : Type 0 where

@@ -1,17 +1,16 @@
 //! The kernel of each function.
 ghost use Rattle.std.specs.Prelude.{◌≡◌, true, IsTrue, None, Some};
-ghost use Rattle.vx_base.specs.declared.format.Format.TheVariants.{S16};
 ghost use Rattle.vx_base.specs.Function.{accumulates};
 ghost use Rattle.vx_base.specs.Node.{is_node};
 ghost use Rattle.vx_base.specs.Object.{ImageObject};
 ghost use Rattle.vx_base.specs.Outputs.{node_image};
-ghost use Rattle.vx_base.specs.Pixelwise.{from_two, formula_of_two};
 ghost use Rattle.vx_base.specs.Rectangle.{IsWithin};
 ghost use Rattle.image_core.specs.Second.{second_object};
 ghost use Rattle.image_core.specs.Bands.{all_rows};
 ghost use Rattle.image_core.specs.Fits.{Fits};
 ghost use Rattle.image_core.specs.Target.{written, SameSlices, Writes};
 ghost use Rattle.graph_run.specs.Run.{CanRun};
+ghost use Rattle.graph_run.specs.Steps.{added_to};
 
 use image_core::{Image, ImageMut, Second};
 use pixel_kernels::{
@@ -77,8 +76,7 @@ pub fn run_sum(node: &Node, image: &Image<'_>, sums: &mut ImageMut<'_>)
     requires room { IsWithin (written sums.old).valid (written sums.old).width
         (written sums.old).height }
     requires rows { sums.old.rows ≡ all_rows sums.old.desc.height }
-    ensures value { written sums.new ≡ from_two S16 (formula_of_two node.now.function S16
-        node.now.policy node.now.amount) image.now (written sums.old) }
+    ensures value { written sums.new ≡ added_to node.now image.now (written sums.old) }
     ensures slices { SameSlices sums.old sums.new }
 {
     match node.function {

@@ -14,7 +14,6 @@ ghost use Rattle.vx_base.specs.Image.{IsImage, image_over};
 ghost use Rattle.vx_base.specs.Object.{ExtremesObject, IsObject, object_kind};
 ghost use Rattle.vx_base.specs.Outputs.{node_image, written_by};
 ghost use Rattle.vx_base.specs.Picture.{values, samples_format};
-ghost use Rattle.vx_base.specs.Pixelwise.{from_two, formula_of_two};
 ghost use Rattle.vx_base.specs.Rectangle.{empty, IsWithin};
 ghost use Rattle.vx_base.specs.Statistics.{extremes};
 ghost use Rattle.image_core.specs.Second.{second_object};
@@ -27,7 +26,7 @@ ghost use Rattle.object_table.specs.Table.{object_under, IsUnder, cell_object, i
 ghost use Rattle.object_table.specs.Table.{HoldsImage};
 ghost use Rattle.graph_run.specs.Lasting.{Lasts};
 ghost use Rattle.graph_run.specs.Steps.{AreApart, Holds, CanRunTo, RunsTo, IsRead};
-ghost use Rattle.graph_run.specs.Steps.{counted_in, with_output};
+ghost use Rattle.graph_run.specs.Steps.{added_to, counted_in, with_output};
 ghost use Rattle.graph_run.specs.Turns.{CanRunNow};
 ghost use Rattle.graph_run.specs.Stage.{scene, IsStage, IsArranged, Keeps, Stays};
 
@@ -127,12 +126,10 @@ fn add_to(stage: &mut Stage, node: &Node, output: ObjRef)
     ensures keeps { Keeps stage.old stage.new }
 {
     let valid = stage.image(output).valid();
-    let (desc, samples) = stage.take(output);
-    let mut sums = shorts_of(samples);
+    let (desc, mut samples) = stage.take(output);
     let image = stage.image(node.in1);
-    let (part, _) = sums.split_at_mut(desc.sample_count());
-    let valid = add_samples(desc, valid, part, node, &image);
-    stage.put(output, Samples::S16(sums), valid);
+    let valid = add_samples(desc, valid, &mut samples, node, &image);
+    stage.put(output, samples, valid);
 }
 
 /// Writes both gradients that a node gives, each to its output: the input is read once for both.
@@ -282,6 +279,7 @@ fn write_samples(
     first: &Image<'_>,
     second: &Second<'_>,
 ) -> Rect
+    requires function { accumulates node.now.function ≡ false }
     requires format { samples_format samples.old ≡ desc.format }
     requires room { sample_count desc ≤ length (values samples.old) }
     requires can_run { CanRunTo node.now first.now (second_object second.now)
@@ -328,6 +326,7 @@ fn run_u8(
     first: &Image<'_>,
     second: &Second<'_>,
 ) -> Rect
+    requires function { accumulates node.now.function ≡ false }
     requires format { desc.format ≡ U8 }
     requires size { length samples.old ≡ sample_count desc }
     requires can_run { CanRunTo node.now first.now (second_object second.now)
@@ -349,6 +348,7 @@ fn run_s16(
     first: &Image<'_>,
     second: &Second<'_>,
 ) -> Rect
+    requires function { accumulates node.now.function ≡ false }
     requires format { desc.format ≡ S16 }
     requires size { length samples.old ≡ sample_count desc }
     requires can_run { CanRunTo node.now first.now (second_object second.now)
@@ -370,6 +370,7 @@ fn run_u32(
     first: &Image<'_>,
     second: &Second<'_>,
 ) -> Rect
+    requires function { accumulates node.now.function ≡ false }
     requires format { desc.format ≡ U32 }
     requires size { length samples.old ≡ sample_count desc }
     requires can_run { CanRunTo node.now first.now (second_object second.now)
@@ -382,9 +383,39 @@ fn run_u32(
     run_on!(desc, samples, node, which, first, second)
 }
 
-/// Adds what a node gives to the samples of an S16 image with this valid rectangle, and gives the
-/// one that is then valid.
+/// Adds what a node gives to the first samples, one for each place of an S16 image with this valid
+/// rectangle, and gives the one that is then valid.
 fn add_samples(
+    desc: Desc,
+    valid: Rect,
+    samples: &mut Samples,
+    node: &Node,
+    image: &Image<'_>,
+) -> Rect
+    requires function { accumulates node.now.function ≡ true }
+    requires format { samples_format samples.old ≡ S16 }
+    requires count { sample_count desc ≤ length (values samples.old) }
+    requires room { IsWithin valid desc.width desc.height }
+    requires can_run { CanRunTo node.now image.now None (image_over desc empty []) }
+    ensures valid { result ≡ (added_to node.now image.now
+        (image_over desc valid (take (sample_count desc) (values samples.old)))).valid }
+    ensures samples { take (sample_count desc) (values samples.new) ≡ (added_to node.now image.now
+        (image_over desc valid (take (sample_count desc) (values samples.old)))).samples }
+    ensures format { samples_format samples.new ≡ S16 }
+    ensures count { length (values samples.new) ≡ length (values samples.old) }
+{
+    let count = desc.sample_count();
+    match samples {
+        Samples::S16(samples) => {
+            let (part, _) = samples.split_at_mut(count);
+            add_shorts(desc, valid, part, node, image)
+        }
+        _ => unreachable!(),
+    }
+}
+
+/// Adds what a node gives to the samples of an S16 image, as `add_samples` does.
+fn add_shorts(
     desc: Desc,
     valid: Rect,
     samples: &mut [i16],
@@ -395,10 +426,10 @@ fn add_samples(
     requires size { length samples.old ≡ sample_count desc }
     requires room { IsWithin valid desc.width desc.height }
     requires can_run { CanRunTo node.now image.now None (image_over desc empty []) }
-    ensures valid { result ≡ (from_two S16 (formula_of_two node.now.function S16
-        node.now.policy node.now.amount) image.now (image_over desc valid samples.old)).valid }
-    ensures samples { samples.new ≡ (from_two S16 (formula_of_two node.now.function S16
-        node.now.policy node.now.amount) image.now (image_over desc valid samples.old)).samples }
+    ensures valid { result
+        ≡ (added_to node.now image.now (image_over desc valid samples.old)).valid }
+    ensures samples { samples.new
+        ≡ (added_to node.now image.now (image_over desc valid samples.old)).samples }
 {
     let mut sums = ImageMut::new(desc, samples);
     sums.set_valid(valid);

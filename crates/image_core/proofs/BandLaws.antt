@@ -1,11 +1,11 @@
 -- Rows of images that are written.
-use Rattle.std.proofs.Common.{◌≡◌, ℕ, ℤ, List, ◌*◌, length, refl, ap, ◌∙◌, sym, subst}
+use Rattle.std.proofs.Common.{◌≡◌, ℕ, ℤ, pos, ◌+◌, ◌-◌, ◌*◌, ◌<◌, ◌≤◌, zero, suc, List, ◌++◌, length, refl, ap, ◌∙◌, sym, subst, cond, arith, add-zero}
 use Rattle.vx_base.specs.declared.format.Format.{Format}
 use Rattle.vx_base.specs.Description.{Description}
-use Rattle.vx_base.specs.Rectangle.{Rectangle}
-use Rattle.vx_base.specs.Image.{ImageValue, band, within, made, image_over}
-use Rattle.vx_base.proofs.TableLaws.{length-band}
-use Rattle.vx_base.proofs.ImageLaws.{band_of_table, samples_are_band, same_parts}
+use Rattle.vx_base.specs.Rectangle.{Rectangle, inside}
+use Rattle.vx_base.specs.Image.{ImageValue, run, band, within, at, made, image_over}
+use Rattle.vx_base.proofs.TableLaws.{length-band, band-same}
+use Rattle.vx_base.proofs.ImageLaws.{get_or-table, band_of_table, samples_are_band, same_parts}
 use Rattle.image_core.specs.declared.band.Band.{Band}
 use Rattle.image_core.specs.declared.image_mut.ImageMut.{ImageMut}
 use Rattle.image_core.specs.Bands.{IsInRows, all_rows, rows_in}
@@ -92,3 +92,62 @@ in_format image format known old new is = written_same (image format) (image kno
 pub written_alike : (width height w h : ℕ) (format : Format) (r s : Rectangle) (f : ℕ → ℕ → ℤ) (old new : ImageMut) → width ≡ w → height ≡ h → r ≡ s → Writes (made width height format r f) old new → Writes (made w h format s f) old new
 written_alike width height w h format r s f old new a b c is =
     subst (λ (image : ImageValue). Writes image old new) (ap (λ n. made n height format r f) a ∙ ap (λ n. made w n format r f) b ∙ ap (λ t. made w h format t f) c) is
+
+-- ---- what an update writes
+
+-- a band is one of rows that are counted from another row
+band_from : (width start first count : ℕ) (f : ℕ → ℕ → ℤ) → band width (start + first) count f ≡ band width first count (λ x y. f x (start + y))
+band_from width start first zero f = refl
+band_from width start first (suc count) f =
+    ap (λ l. run 0 width (λ x. f x (start + first)) ++ l)
+    (ap (λ n. band width n count f) (next start first) ∙ band_from width start (first + 1) count f)
+  where
+    next : (start first : ℕ) → start + first + 1 ≡ start + (first + 1)
+    next start first = omega arith
+
+-- the sample of a band at a place
+pub place_of_band : (width start count x y : ℕ) (f : ℕ → ℕ → ℤ) → x < width → start ≤ y → y < start + count → sample_from width start (band width start count f) x y ≡ f x y
+place_of_band width start count x y f across above below =
+    let back : start + (y - start) ≡ y = omega arith in
+    ap (λ n. sample_from width start (band width n count f) x y) (sym (add-zero start))
+    ∙ ap (λ zs. sample_from width start zs x y) (band_from width start 0 count f)
+    ∙ get_or-table width count x (y - start) (λ x y. f x (start + y)) across (omega arith)
+    ∙ ap (f x) back
+
+-- who updates rows of an image writes what becomes of its samples
+pub updated_written : (old new : ImageMut) (before : ImageValue) (format : Format) (r : Rectangle) (next : ℕ → ℕ → ℤ → ℤ) → IsTarget old → rows_in old.rows before ≡ written old
+    → Writes (made old.desc.width old.desc.height format r (λ x y. next x y (sample_from old.desc.width old.rows.start (written old).samples x y))) old new
+    → Writes (made old.desc.width old.desc.height format r (λ x y. next x y (at before x y))) old new
+updated_written old new before format r next target is written_so =
+    record { value = written_so.value ∙ same; target = written_so.target; slices = written_so.slices }
+  where
+    width : ℕ
+    width = old.desc.width
+
+    start : ℕ
+    start = old.rows.start
+
+    count : ℕ
+    count = old.rows.count
+
+    from : ℕ → ℕ → ℤ
+    from = sample_from width start (written old).samples
+
+    held : (x y : ℕ) → x < width → start ≤ y → y < start + count → from x y ≡ at before x y
+    held x y across above below =
+        ap (λ (a : ImageValue). sample_from width start a.samples x y) (sym is)
+        ∙ ap (λ n. sample_from width start (band n start count (at before)) x y) (ap (λ (a : ImageValue). a.width) is)
+        ∙ place_of_band width start count x y (at before) across above below
+
+    became : (ℕ → ℕ → ℤ) → ImageValue
+    became f = made width old.desc.height format r (λ x y. next x y (f x y))
+
+    over : List ℤ → ImageValue
+    over zs = record { width = width; height = old.desc.height; format = format; valid = r; samples = zs }
+
+    same : rows_in old.rows (became from) ≡ rows_in old.rows (became (at before))
+    same =
+        ap over (band_of_table width old.desc.height start count (within r (λ x y. next x y (from x y))) target.rows
+        ∙ band-same width start count (within r (λ x y. next x y (from x y))) (within r (λ x y. next x y (at before x y)))
+        (λ x y a b c. ap (λ z. cond (inside r x y) (next x y z) (pos 0)) (held x y a b c))
+        ∙ sym (band_of_table width old.desc.height start count (within r (λ x y. next x y (at before x y))) target.rows))

@@ -1,4 +1,4 @@
 mod RowLaws
-mod ClearLaws
+mod UpdateLaws
 pub mod SizeLaws
 pub mod BandLaws

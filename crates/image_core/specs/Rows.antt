@@ -13,7 +13,3 @@ sample_at width samples x y = slice_index_or samples (y * width + x) (pos 0)
 -- of samples of a band's rows that stand so, from row `start` on
 abbrev pub sample_from : ℕ → ℕ → List ℤ → ℕ → ℕ → ℤ
 sample_from width start samples x y = sample_at width samples x (y - start)
-
--- of the samples of a row, the one in column x
-abbrev pub sample_in : List ℤ → ℕ → ℕ → ℤ
-sample_in row x y = slice_index_or row x (pos 0)

@@ -10,6 +10,7 @@ ghost use Rattle.image_core.specs.Rows.{sample_from};
 use crate::band::Band;
 use crate::formula::Formula;
 use crate::row_formula::{RowFormula, TwoRowFormulas, Unaided};
+use crate::row_update::RowUpdate;
 use crate::rows::{clear_rows, write_rows_of_two};
 use crate::sample::Sample;
 use crate::whole::Whole;
@@ -105,6 +106,22 @@ impl<'a> ImageMut<'a> {
             Format::S16 => clear_rows(self.valid, width, rows, self.shorts),
             Format::U32 => clear_rows(self.valid, width, rows, self.words),
         }
+    }
+
+    /// Updates the samples in the update's area, from what they were; each outside it becomes 0.
+    /// The area is the valid rectangle then.
+    pub fn update<T: Sample, U: RowUpdate<T>>(&mut self, update: &U)
+        requires target { IsTarget self.old }
+        requires format { (written self.old).format ≡ T.format }
+        requires room { IsWithin (U.area update.now) (written self.old).width
+            (written self.old).height }
+        ensures { Writes (made (written self.old).width (written self.old).height T.format
+            (U.area update.now) (λ x y. U.next update.now x y
+            (sample_from self.old.desc.width self.old.rows.start (written self.old).samples x y)))
+            self.old self.new }
+    {
+        self.valid = update.area();
+        T::update_samples(self, update);
     }
 
     /// Writes a whole image: the formula's samples in its area, 0 elsewhere.

@@ -7,7 +7,8 @@
 //! What is computed place by place is a `Formula`, and one that needs scratch memory for that a
 //! `RowFormula`; `ImageMut::write` and `write_by_rows` write a whole image of one, or the band's
 //! rows of it: each sample, and 0 outside the rectangle. So whatever writes whole images by them
-//! writes any rows of them too. `TwoRowFormulas` are written to two images at once. `Second` is
+//! writes any rows of them too. `TwoRowFormulas` are written to two images at once. A `RowUpdate`
+//! is what samples become from what they were, which `ImageMut::update` does in place. `Second` is
 //! what a kernel reads beside its first image.
 #![tactic(auto)]
 
@@ -17,6 +18,7 @@ mod image;
 mod image_mut;
 mod number;
 mod row_formula;
+mod row_update;
 mod rows;
 mod sample;
 mod second;
@@ -29,6 +31,7 @@ pub use image::Image;
 pub use image_mut::ImageMut;
 pub use number::Number;
 pub use row_formula::{RowFormula, TwoRowFormulas};
+pub use row_update::RowUpdate;
 pub use rows::{clear_rows, set_all};
 pub use sample::Sample;
 pub use second::Second;

@@ -1,11 +1,12 @@
-//! Samples that are written and cleared row by row.
-ghost use Rattle.std.specs.Prelude.{◌≡◌, ◌*◌, ◌+◌, ◌^◌, ◌<◌, ◌≤◌, length, map, replicate};
+//! Samples that are written, updated and cleared row by row.
+ghost use Rattle.std.specs.Prelude.{◌≡◌, ◌*◌, ◌+◌, ◌^◌, ◌<◌, ◌≤◌, ℕ, ℤ, length, map, replicate};
 ghost use Rattle.vx_base.specs.Image.{run, band, within};
-ghost use Rattle.image_core.specs.Rows.{sample_from, sample_in};
+ghost use Rattle.image_core.specs.Rows.{sample_from};
 
 use crate::band::Band;
 use crate::number::Number;
 use crate::row_formula::{RowFormula, TwoRowFormulas};
+use crate::row_update::{Kept, RowUpdate};
 use vx_base::Rect;
 
 /// Writes one sample to each place.
@@ -185,29 +186,58 @@ pub fn write_rows_of_two<T: Number, S, R, F: TwoRowFormulas<T, S, R>>(
     }
 }
 
-/// Makes the samples of a row 0 outside the columns from x0 to x1 - 1.
-fn clear_beside<T: Number>(valid: Rect, y: u16, row: &mut [T])
-    requires in_rows { (valid.y0 ≤ y) × (y < valid.y1) }
-    requires room { valid.x1 ≤ length row.old }
-    ensures { map T.value row.new ≡ run 0 (length row.old)
-        (λ x. within valid (sample_in (map T.value row.old)) x y) }
+/// Updates a row that goes through the update's area, which is in the columns from x0 to x1 - 1;
+/// the samples in other columns become 0.
+fn update_across<T: Number, U: RowUpdate<T>>(update: &U, y: u16, x0: u16, x1: u16, row: &mut [T])
+    requires in_rows { ((U.area update.now).y0 ≤ y) × (y < (U.area update.now).y1) }
+    requires columns { ((U.area update.now).x0 ≡ x0) × ((U.area update.now).x1 ≡ x1) }
+    requires ordered { x0 ≤ x1 }
+    requires room { x1 ≤ length row.old }
+    ensures { (before : ℕ → ℤ) → map T.value row.old ≡ run 0 (length row.old) before →
+        map T.value row.new ≡ run 0 (length row.old)
+        (λ k. within (U.area update.now) (λ x y. U.next update.now x y (before x)) k y) }
 {
-    let (before, others) = row.split_at_mut(usize::from(valid.x0()));
-    let (_, after) = others.split_at_mut(usize::from(valid.x1() - valid.x0()));
-    set_all(before, T::zero());
-    set_all(after, T::zero());
+    let (head, others) = row.split_at_mut(usize::from(x0));
+    let (middle, tail) = others.split_at_mut(usize::from(x1 - x0));
+    set_all(head, T::zero());
+    update.update(x0, y, middle);
+    set_all(tail, T::zero());
 }
 
-/// Makes the samples of row y 0 outside the rectangle.
-fn clear_row<T: Number>(valid: Rect, y: u16, row: &mut [T])
-    requires room { valid.x1 ≤ length row.old }
-    ensures { map T.value row.new ≡ run 0 (length row.old)
-        (λ x. within valid (sample_in (map T.value row.old)) x y) }
+/// Updates row y where it is in the update's area; its other samples become 0.
+fn update_row<T: Number, U: RowUpdate<T>>(update: &U, y: u16, row: &mut [T])
+    requires room { (U.area update.now).x1 ≤ length row.old }
+    ensures { (before : ℕ → ℤ) → map T.value row.old ≡ run 0 (length row.old) before →
+        map T.value row.new ≡ run 0 (length row.old)
+        (λ k. within (U.area update.now) (λ x y. U.next update.now x y (before x)) k y) }
 {
-    if y < valid.y0() || valid.y1() <= y {
+    let updated = update.area();
+    if y < updated.y0() || updated.y1() <= y {
         set_all(row, T::zero());
     } else {
-        clear_beside(valid, y, row);
+        update_across(update, y, updated.x0(), updated.x1(), row);
+    }
+}
+
+/// Updates the samples of a band of rows of an image, which stand row by row, where they are in the
+/// update's area; the others become 0.
+pub fn update_rows<T: Number, U: RowUpdate<T>>(
+    update: &U,
+    width: u16,
+    rows: Band,
+    samples: &mut [T],
+)
+    requires rows { rows.start + rows.count < 2 ^ 16 }
+    requires size { length samples.old ≡ rows.count * width }
+    requires room { (U.area update.now).x1 ≤ width }
+    ensures { map T.value samples.new ≡ band width rows.start rows.count
+        (within (U.area update.now) (λ x y. U.next update.now x y
+        (sample_from width rows.start (map T.value samples.old) x y))) }
+{
+    let step = usize::from(width);
+    for line in 0..rows.count {
+        let first = usize::from(line) * step;
+        update_row(update, rows.start + line, &mut samples[first..first + step]);
     }
 }
 
@@ -220,9 +250,5 @@ pub fn clear_rows<T: Number>(valid: Rect, width: u16, rows: Band, samples: &mut 
     ensures { map T.value samples.new ≡ band width rows.start rows.count
         (within valid (sample_from width rows.start (map T.value samples.old))) }
 {
-    let step = usize::from(width);
-    for line in 0..rows.count {
-        let first = usize::from(line) * step;
-        clear_row(valid, rows.start + line, &mut samples[first..first + step]);
-    }
+    update_rows(&Kept { area: valid }, width, rows, samples);
 }

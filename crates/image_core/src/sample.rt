@@ -5,13 +5,15 @@ ghost use Rattle.vx_base.specs.declared.format.Format.TheVariants.{U8, S16, U32}
 ghost use Rattle.vx_base.specs.Rectangle.{empty};
 ghost use Rattle.vx_base.specs.Image.{image_over, band, within};
 ghost use Rattle.image_core.specs.Bands.{IsInRows};
+ghost use Rattle.image_core.specs.Rows.{sample_from};
 ghost use Rattle.image_core.specs.Slices.{slice_format, slice_values};
 
 use crate::band::Band;
 use crate::image_mut::ImageMut;
 use crate::number::Number;
 use crate::row_formula::RowFormula;
-use crate::rows::write_rows;
+use crate::row_update::RowUpdate;
+use crate::rows::{update_rows, write_rows};
 use crate::slice::Slice;
 use vx_base::{Desc, Rect};
 
@@ -64,6 +66,20 @@ pub trait Sample: Number {
             (band (written output.old).width output.old.rows.start output.old.rows.count
             (within (F.area formula.now) (F.at formula.now))) }
         ensures slices { SameSlices output.old output.new };
+
+    /// Updates the samples of the rows that an image is lent for, in the update's area; the others
+    /// become 0.
+    fn update_samples<U: RowUpdate<Self>>(output: &mut ImageMut<'_>, update: &U)
+        requires target { IsTarget output.old }
+        requires format { (written output.old).format ≡ format }
+        requires room { (U.area update.now).x1 ≤ (written output.old).width }
+        ensures value { written output.new
+            ≡ image_over output.old.desc output.old.valid
+            (band (written output.old).width output.old.rows.start output.old.rows.count
+            (within (U.area update.now) (λ x y. U.next update.now x y
+            (sample_from output.old.desc.width output.old.rows.start
+            (written output.old).samples x y)))) }
+        ensures slices { SameSlices output.old output.new };
 }
 
 /// The rows of an image over one of three slices, of which the others are empty.
@@ -108,6 +124,11 @@ impl Sample for u8 {
         let (width, _limits) = (output.desc.width(), output.desc.height());
         write_rows(formula, width, output.rows, scratch, output.bytes);
     }
+
+    fn update_samples<U: RowUpdate<u8>>(output: &mut ImageMut<'_>, update: &U) {
+        let (width, _limits) = (output.desc.width(), output.desc.height());
+        update_rows(update, width, output.rows, output.bytes);
+    }
 }
 
 impl Sample for i16 {
@@ -138,6 +159,11 @@ impl Sample for i16 {
         let (width, _limits) = (output.desc.width(), output.desc.height());
         write_rows(formula, width, output.rows, scratch, output.shorts);
     }
+
+    fn update_samples<U: RowUpdate<i16>>(output: &mut ImageMut<'_>, update: &U) {
+        let (width, _limits) = (output.desc.width(), output.desc.height());
+        update_rows(update, width, output.rows, output.shorts);
+    }
 }
 
 impl Sample for u32 {
@@ -167,5 +193,10 @@ impl Sample for u32 {
     ) {
         let (width, _limits) = (output.desc.width(), output.desc.height());
         write_rows(formula, width, output.rows, scratch, output.words);
+    }
+
+    fn update_samples<U: RowUpdate<u32>>(output: &mut ImageMut<'_>, update: &U) {
+        let (width, _limits) = (output.desc.width(), output.desc.height());
+        update_rows(update, width, output.rows, output.words);
     }
 }

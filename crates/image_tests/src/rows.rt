@@ -3,9 +3,9 @@
 ghost use Rattle.vx_base.specs.Pixelwise.{not_bits};
 
 use lane_rows::{
-    OfItem, absdiff_s16, absdiff_u8, add_s16, add_u8, and_u8, map_bytes, max_s16, max_u8, min_s16,
-    min_u8, mul_s16, mul_u8, narrow, not_u8, or_u8, shift_up, sub_s16, sub_u8, threshold_s16,
-    threshold_u8, widen, xor_u8,
+    OfItem, absdiff_s16, absdiff_u8, accumulate, accumulate_square, add_s16, add_u8, and_u8,
+    map_bytes, max_s16, max_u8, min_s16, min_u8, mul_s16, mul_u8, narrow, not_u8, or_u8, shift_up,
+    sub_s16, sub_u8, threshold_s16, threshold_u8, widen, xor_u8,
 };
 use std::test::Fail;
 use vx_base::{Format, Policy, ThresholdKind, ThresholdRule};
@@ -78,6 +78,31 @@ macro_rules! assert_pairs {
                 let $y = i32::from(seconds[i]);
                 let expected = if i < count { $formula } else { $blank };
                 assert!($rt; written[i] == expected);
+            }
+        }
+    };
+}
+
+/// Adds a row of bytes to sums at each length, and compares each sum with the formula of the byte at
+/// its place and of what stood there.
+macro_rules! assert_sums {
+    ($rt:expr;
+        |$row:ident, $sums:ident| $call:expr;
+        |$x:ident, $sum:ident| $formula:expr) => {
+        for length in LENGTHS {
+            let count = length.min(65);
+            let (items, before) = (in_turn(&BYTES), in_runs(&SHORTS));
+            let mut after = before;
+            {
+                let $row = &items[..count];
+                let $sums = &mut after[..count];
+                $call;
+            }
+            for i in 0..65 {
+                let $x = i32::from(items[i]);
+                let $sum = i32::from(before[i]);
+                let expected = if i < count { $formula } else { before[i] };
+                assert!($rt; after[i] == expected);
             }
         }
     };
@@ -227,6 +252,15 @@ fn depths(rt: HostRuntime) {
     assert_items!(rt, in_turn(&SHORTS), 77u8;
         |row, out| narrow(row, 1, Policy::Wrap, out);
         |x| wrapped_byte(i32::from(x).div_euclid(2)));
+}
+
+#[test]
+fn accumulated(rt: HostRuntime) {
+    assert_sums!(rt; |row, sums| accumulate(row, sums); |x, sum| nearest(sum + x));
+    assert_sums!(rt; |row, sums| accumulate_square(row, 0, sums); |x, sum| nearest(sum + x * x));
+    assert_sums!(rt;
+        |row, sums| accumulate_square(row, 15, sums);
+        |x, sum| nearest(sum + x * x / 32_768));
 }
 
 #[test]

@@ -1,6 +1,6 @@
 -- Rows that are written sample by sample.
-use Rattle.std.proofs.Common.{◌≡◌, ℕ, ℤ, ◌+◌, ◌<◌, List, [], ◌∷◌, ◌++◌, length, map, take, get_or, set, ap, ◌∙◌, sym, refl, arith}
-use Rattle.std.proofs.lemmas.List.{take_more_set, map_push, map_more, length-map, length-take-le}
+use Rattle.std.proofs.Common.{◌≡◌, ℕ, ℤ, ◌+◌, ◌<◌, List, [], ◌∷◌, ◌++◌, length, map, take, drop, get_or, set, ap, ◌∙◌, sym, refl, arith}
+use Rattle.std.proofs.lemmas.List.{take_more_set, map_push, map_more, length-map, length-take-le, get_or-drop, drop-drop, drop-set-lt}
 use Rattle.std.specs.Simd.Lanes.{zip2}
 
 zip2-push : (f : ℤ → ℤ → ℤ) (xs ys : List ℤ) (x y : ℤ) → length xs ≡ length ys → zip2 f (xs ++ x ∷ []) (ys ++ y ∷ []) ≡ zip2 f xs ys ++ f x y ∷ []
@@ -23,3 +23,31 @@ pair_written of with value f xs ys out i x y z room long also before first secon
     (length-map (take i xs) of ∙ length-take-le i xs (omega arith) ∙ sym (length-map (take i ys) with ∙ length-take-le i ys (omega arith))))
     ∙ ap (λ l. zip2 f l (map with (take i ys) ++ with (get_or ys i y) ∷ [])) (sym (map_more of xs i x (omega arith)))
     ∙ ap (zip2 f (map of (take (i + 1) xs))) (sym (map_more with ys i y (omega arith)))
+
+-- ---- rows that are updated in place: what stands from place i on is what stood there
+
+left_at : {T : Type 0} (out olds : List T) (i : ℕ) (d : T) → drop i out ≡ drop i olds → get_or out i d ≡ get_or olds i d
+left_at out olds i d same =
+    let here : i + 0 ≡ i = omega arith in
+    ap (λ n. get_or out n d) (sym here)
+    ∙ sym (get_or-drop i out 0 d)
+    ∙ ap (λ l. get_or l 0 d) same
+    ∙ get_or-drop i olds 0 d
+    ∙ ap (λ n. get_or olds n d) here
+
+-- one more sample of a function of a row and of what stood there
+pub pair_updated : {A T : Type 0} (of : A → ℤ) (value : T → ℤ) (f : ℤ → ℤ → ℤ) (xs : List A) (olds out : List T) (i : ℕ) (x : A) (y z : T)
+    → i < length out → length xs ≡ length out → length olds ≡ length out
+    → map value (take i out) ≡ zip2 f (map of (take i xs)) (map value (take i olds)) → drop i out ≡ drop i olds
+    → x ≡ get_or xs i x → y ≡ get_or out i y → value z ≡ f (of x) (value (get_or out i y))
+    → map value (take (i + 1) (set out i z)) ≡ zip2 f (map of (take (i + 1) xs)) (map value (take (i + 1) olds))
+pair_updated of value f xs olds out i x y z room long also before same first second is =
+    pair_written of value value f xs olds out i x y z room long also before first (second ∙ left_at out olds i y same) (is ∙ ap (λ b. f (of x) (value b)) (sym second))
+
+-- what is left after one more
+pub left_of_more : {T : Type 0} (olds out : List T) (i : ℕ) (z : T) → drop i out ≡ drop i olds → drop (i + 1) (set out i z) ≡ drop (i + 1) olds
+left_of_more olds out i z same =
+    drop-set-lt (i + 1) out i z (omega arith)
+    ∙ sym (drop-drop 1 i out)
+    ∙ ap (drop 1) same
+    ∙ drop-drop 1 i olds

@@ -1,18 +1,21 @@
 //! Kernels over rows: slices of equal length, the inputs first, then what they are computed with,
 //! then the output.
 //!
-//! Each item of the output is the formula of the items at its place. A kernel is a type that says
-//! what it gives at a place, `OfItem` or `OfPair`; that a whole row is written is proved once for
-//! all. Where the compiler doesn't find the processor's lanes by itself, a kernel also has a body
-//! over 32 lanes, and the row is written block by block, the rest item by item.
+//! Each item of the output is the formula of the items at its place; where a row is updated in
+//! place, of the one that stood there as well. A kernel is a type that says what it gives at a
+//! place, `OfItem` or `OfPair`; that a whole row is written is proved once for all. Where the
+//! compiler doesn't find the processor's lanes by itself, a kernel also has a body over 32 lanes,
+//! and the row is written block by block, the rest item by item.
 //!
 //! - `item`: the numbers that rows hold
-//! - `rows`: rows that are written item by item
+//! - `rows`: rows that are written item by item, or updated in place
 //! - `bytes`: rows of bytes that are stored sixteen at a time
 //! - `overflow`: policies as types, so that a loop asks for none
-//! - `bits`, `sums`, `products`, `distances`, `extremes`, `thresholds`, `depths`: the kernels
+//! - `bits`, `sums`, `products`, `distances`, `extremes`, `thresholds`, `depths`, `accumulation`:
+//!   the kernels
 #![tactic(auto)]
 
+mod accumulation;
 mod bits;
 mod bytes;
 mod depths;
@@ -27,6 +30,7 @@ mod sums;
 mod thresholds;
 mod vectors;
 
+pub use accumulation::{accumulate, accumulate_square};
 pub use bits::{and_u8, not_u8, or_u8, xor_u8};
 pub use bytes::map_bytes;
 pub use depths::{narrow, shift_up, widen};
@@ -34,6 +38,6 @@ pub use distances::{absdiff_s16, absdiff_u8};
 pub use extremes::{max_s16, max_u8, min_s16, min_u8};
 pub use item::{Item, Short};
 pub use products::{mul_s16, mul_u8};
-pub use rows::{OfItem, OfPair, map_row, zip_rows};
+pub use rows::{OfItem, OfPair, map_row, update_row, zip_rows};
 pub use sums::{add_s16, add_u8, sub_s16, sub_u8};
 pub use thresholds::{threshold_s16, threshold_u8};

@@ -1,4 +1,5 @@
-//! Rows that are written item by item. The compiler finds lanes for such a loop where it can.
+//! Rows that are written item by item, or updated in place. The compiler finds lanes for such a
+//! loop where it can.
 ghost use Rattle.std.specs.Prelude.{◌≡◌, ℤ, map, length};
 ghost use Rattle.std.specs.Simd.Lanes.{zip2};
 
@@ -46,5 +47,16 @@ pub fn zip_rows<A: Item, B: Item, T: Item, K: OfPair<A, B, T>>(
 {
     for (i, item) in out.iter_mut().enumerate() {
         *item = kernel.item(first[i], second[i]);
+    }
+}
+
+/// Makes each item of `sums` what the kernel gives of the row's item at its place and of it.
+pub fn update_row<A: Item, T: Item, K: OfPair<A, T, T>>(kernel: &K, row: &[A], sums: &mut [T])
+    requires { length row.now ≡ length sums.old }
+    ensures { map T.value sums.new ≡ zip2 (K.formula kernel.now) (map A.value row.now)
+        (map T.value sums.old) }
+{
+    for (i, sum) in sums.iter_mut().enumerate() {
+        *sum = kernel.item(row[i], *sum);
     }
 }

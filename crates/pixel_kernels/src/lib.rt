@@ -4,9 +4,11 @@
 //! and their rectangle, or that in which two meet. A kernel is a type that writes a row, `OfOne` or
 //! `OfTwo`, by the kernels of lane_rows; that it gives a whole image is proved once for all, in
 //! `write_one` and `write_two`. Formats are type parameters, so that the loop over a row asks for
-//! none.
+//! none. The functions that accumulate also read their output, and update it in place: by their
+//! formula where the input and the output as it was are valid, and to 0 elsewhere.
 #![tactic(auto)]
 
+mod accumulation;
 mod arithmetic;
 mod bitwise;
 mod depth;
@@ -19,6 +21,7 @@ mod tables;
 mod thresholds;
 mod two;
 
+pub use accumulation::{accumulate, accumulate_square};
 pub use bitwise::{bit_and, bit_not, bit_or, bit_xor};
 pub use depth::convert_depth;
 pub use distance::absolute_difference;

@@ -4,7 +4,7 @@ import os
 import sys
 
 from checks.functions.formats import formats
-from checks.functions.session import HEIGHT, WIDTHS, Session
+from checks.functions.session import HEIGHT, WIDE, WIDTHS, Session
 from checks.functions.shapes import SHAPES, Shape
 from checks.functions.worked import WORKED, WORKED_PICTURES, worked, worked_pictures
 
@@ -21,7 +21,7 @@ def main():
     worked_pictures(session)
     session.check(program)
     ran = refused = 0
-    for width, valid in (*((width, (0, 0, width, HEIGHT)) for width in WIDTHS), PART):
+    for width, valid in (*((width, (0, 0, width, HEIGHT)) for width in WIDTHS + WIDE), PART):
         session = Session()
         values, refusals = formats(session, width, valid)
         session.check(program)

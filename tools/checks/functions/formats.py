@@ -4,8 +4,9 @@ import itertools
 
 from feqyldan import wire
 from checks.functions.formulas import (
-    BINARY, COUNTS, FOUND, FUNCTIONS, IMAGE, MATRIX, NOTHING, RANGE, SLANTED, TABLE, THIRDS)
-from checks.functions.pictures import ENDS, LEAST, S16, U32, U8, Way, confined, entries, whole
+    BINARY, COUNTS, FOUND, FUNCTIONS, HELD, IMAGE, MATRIX, NOTHING, RANGE, SLANTED, TABLE, THIRDS)
+from checks.functions.pictures import (
+    ENDS, LEAST, NOWHERE, S16, U32, U8, Way, confined, entries, whole)
 from checks.functions.session import CLIENT, HEIGHT
 from checks.functions.worked import UNDEFINED
 
@@ -21,7 +22,7 @@ def objects(session, width, valid):
     """The names of the inputs and outputs, by what they are for and their format, and the samples
     of the images. The inputs are valid in that rectangle."""
     count = width * HEIGHT
-    names, samples = {(NOTHING, NOTHING): None}, {}
+    names, samples = {(NOTHING, NOTHING): None, (HELD, NOTHING): None}, {}
     for fmt in (U8, S16, U32):
         for key, step in (("first", 1), (IMAGE, 3)):
             samples[key, fmt] = samples_of(fmt, count, step)
@@ -65,11 +66,36 @@ def formats(session, width, valid):
                 if (first, beside, output) not in allowed:
                     session.run(number, *operands, way, words, INVALID_FORMAT)
                     refused += 1
-                    continue
-                session.run(number, *operands, way, words)
-                session.holds(operands[2], output, gives(picture, given, way), words)
-                ran += 1
+                elif second != HELD:
+                    session.run(number, *operands, way, words)
+                    session.holds(operands[2], output, gives(picture, given, way), words)
+                    ran += 1
+    picture = confined(whole(width, HEIGHT, samples["first", U8]), valid)
+    ran += added(session, picture, names["first", U8], names["output", S16])
     return ran, refused + gradients_refused(session, names)
+
+
+def held_before(picture):
+    """What an output holds before samples of this picture are added to it: valid all over, in a
+    part, and nowhere."""
+    width, height = picture.width, picture.height
+    held = whole(width, height, samples_of(S16, width * height, 5))
+    part = (width // 3, height // 3, width, height)
+    return [held, confined(held, part), confined(held, NOWHERE)]
+
+
+def added(session, picture, first, output):
+    """Each function that adds to what its output holds, twice to the same: how many nodes ran."""
+    rows = [(number, Way(S16, amount=amount), gives)
+            for number, second, _, amounts, _, gives in FUNCTIONS if second == HELD
+            for amount in amounts]
+    for (number, way, gives), held in itertools.product(rows, held_before(picture)):
+        words = f"function {number} of {picture.valid} to {held.valid}, {picture.width} wide, {way}"
+        session.write(output, S16, held)
+        for sums in (gives(picture, held, way), gives(picture, gives(picture, held, way), way)):
+            session.run(number, first, None, output, way, words)
+            session.shows(output, S16, sums, words)
+    return len(rows) * len(held_before(picture)) * 2
 
 
 def gradients_refused(session, names):

@@ -1,12 +1,13 @@
 """The formula of each vision function, and the table of all of them."""
 
 import functools
+import itertools
 import operator
 
 from feqyldan import wire
 from checks.functions.pictures import (
-    GREATEST, LEAST, NOWHERE, S16, U32, U8, Bins, Convolution, confined, filled, narrow, row_of,
-    to_zero)
+    GREATEST, LEAST, NOWHERE, S16, U32, U8, Bins, Convolution, confined, filled, meet, narrow,
+    row_of, to_zero)
 
 
 def pixels(formula):
@@ -16,6 +17,18 @@ def pixels(formula):
         values = map(lambda a, b: formula(a, b, way.fmt, way.policy, way.amount), picture.samples,
                      beside)
         return confined(picture._replace(samples=tuple(values)), picture.valid)
+
+    return gives
+
+
+def sums(formula):
+    """The formula is of a sample and the amount, and is added to what the output held."""
+
+    def gives(picture, held, way):
+        values = (narrow(S16, wire.SATURATE, c + formula(a, way.amount))
+                  for a, c in zip(picture.samples, held.samples))
+        added = picture._replace(samples=tuple(values))
+        return confined(added, meet(picture.valid, held.valid))
 
     return gives
 
@@ -93,11 +106,14 @@ def counts(picture, bins, _=None):
 
 
 def integral(picture, _, __):
-    """At each valid place the sum of the valid samples that are neither right of it nor below
-    it."""
+    """At each valid place the sum of the valid samples that are neither right of it nor below it,
+    modulo 2^32."""
     left, top, right, bottom = picture.valid
-    values = [sum(sum(row_of(picture, row)[: x - left + 1]) for row in range(top, y + 1))
-              for y in range(top, bottom) for x in range(left, right)]
+    values, above = [], [0] * (right - left)
+    for y in range(top, bottom):
+        row = itertools.accumulate(row_of(picture, y))
+        above = [(one + other) % 2**32 for one, other in zip(above, row)]
+        values += above
     return filled(picture, picture.valid, values)
 
 
@@ -115,8 +131,8 @@ def extremes(picture, _=None, __=None):
 
 
 # The second operand of a function: nothing, an image, a table, a convolution, or a threshold with
-# these limits. Two functions have outputs that are no images.
-NOTHING, IMAGE, TABLE, MATRIX = None, "image", "table", "convolution"
+# these limits; or what its output held. Two functions have outputs that are no images.
+NOTHING, IMAGE, TABLE, MATRIX, HELD = None, "image", "table", "convolution", "held"
 BINARY, RANGE = (10,), (-1, 20)
 COUNTS, FOUND = "counts", "extremes"
 BYTES = {(U8, U8, U8)}
@@ -167,4 +183,7 @@ FUNCTIONS = (
     (wire.INTEGRAL, NOTHING, (0,), (0,), {(U8, NOTHING, U32)}, integral),
     (wire.MIN_MAX_LOCATION, NOTHING, (0,), (0,), {(U8, NOTHING, FOUND), (S16, NOTHING, FOUND)},
      extremes),
+    (wire.ACCUMULATE, HELD, (0,), (0,), {(U8, NOTHING, S16)}, sums(lambda a, n: a)),
+    (wire.ACCUMULATE_SQUARE, HELD, (0,), (0, 1, 8, 15), {(U8, NOTHING, S16)},
+     sums(lambda a, n: a * a // 2**n)),
 )

@@ -60,6 +60,13 @@ def filled(picture, valid, values):
     return picture._replace(valid=valid, samples=tuple(samples))
 
 
+def meet(one, other):
+    """The places that are in both rectangles."""
+    starts, ends = [*map(max, one[:2], other[:2])], [*map(min, one[2:], other[2:])]
+    is_empty = any(start >= end for start, end in zip(starts, ends))
+    return NOWHERE if is_empty else (*starts, *ends)
+
+
 def confined(picture, valid):
     """The picture with another valid rectangle, and 0 beside it."""
     left, top, right, bottom = valid

@@ -12,6 +12,8 @@ from checks.functions.pictures import whole
 CLIENT = 7
 
 WIDTHS, HEIGHT = (1, 15, 16, 17, 31, 33, 64, 65), 3
+# Those of wide pictures, of which rows may be computed in pieces: the widest among them.
+WIDE = (1025, 8192)
 
 
 def described(fmt, picture):

@@ -6,7 +6,7 @@ import random
 
 from feqyldan import wire
 from checks.functions.formulas import (
-    FUNCTIONS, convolved, counts, extremes, gradient_x, gradient_y, integral)
+    FUNCTIONS, HELD, convolved, counts, extremes, gradient_x, gradient_y, integral)
 from checks.functions.pictures import (
     ENDS, GREATEST, LEAST, NOWHERE, S16, U32, U8, Bins, Convolution, Way, confined, whole)
 from checks.functions.session import CLIENT, Session
@@ -17,6 +17,7 @@ SHAPES = tuple(itertools.product((1, 2, 15, 16, 17, 33, 65), (1, 2, 3, 4)))
 BORDERS = ((wire.UNDEFINED, 0), (wire.CONSTANT, 0), (wire.CONSTANT, 100), (wire.CONSTANT, 255),
            (wire.REPLICATE, 0))
 NINES = [(row[0], row[5]) for row in FUNCTIONS if wire.BOX <= row[0] <= wire.DILATE]
+SUMS = [(row[0], row[5]) for row in FUNCTIONS if row[1] == HELD]
 SIDES = (3, 5, 7, 9)
 MANY_BINS = (Bins(256, 0, 256), Bins(3, 0, 256), Bins(7, 3, 250), Bins(16, 100, 16),
              Bins(5, 200, 256),
@@ -75,6 +76,7 @@ class Shape:
         pictures = {fmt: confined(picture, valid) for fmt, picture in self.pictures.items()}
         for fmt, picture in self.pictures.items():
             self.session.write(self.inputs[fmt], fmt, picture._replace(valid=valid))
+        self.sums(pictures[U8])
         for border, constant in BORDERS:
             way, size = Way(U8, border=border,
                             constant=constant), f"{pictures[U8].width} by {pictures[U8].height}"
@@ -98,6 +100,15 @@ class Shape:
             for fmt in (U8, S16):
                 value = convolved(picture, convolution, way._replace(fmt=fmt))
                 self.node(wire.CONVOLVE, name, fmt, value, way, f"{convolution}, {words}")
+
+    def sums(self, picture):
+        """The functions that add, to what is valid in each rectangle."""
+        places = rectangles(picture.width, picture.height)
+        for valid, (number, gives) in itertools.product(places, SUMS):
+            held = confined(self.pictures[S16], valid)
+            self.session.write(self.outputs[S16], S16, held)
+            way, words = Way(S16), f"{picture.valid} of {picture.width} wide to {valid}"
+            self.node(number, None, S16, gives(picture, held, way), way, words)
 
     def node(self, number, in2, fmt, value, way, words):
         words = f"function {number} to {fmt}, {words}"

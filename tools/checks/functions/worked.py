@@ -1,12 +1,13 @@
 """Worked examples, whose samples stand here in numbers."""
 
 from feqyldan import wire
-from checks.functions.formulas import COUNTS, FOUND, NOTHING, POLICIES, TABLE
+from checks.functions.formulas import COUNTS, FOUND, HELD, NOTHING, POLICIES, TABLE
 from checks.functions.pictures import NOWHERE, S16, U32, U8, Bins, Convolution, Picture, Way, whole
 from checks.functions.session import CLIENT, WIDTHS
 
 # Worked examples: the function, policy, amount, the format of in1 and its sample, what in2 is (an
-# image's format and sample, limits, or a table), the output's format and its sample.
+# image's format and sample, limits, or a table) or what the output held, the output's format and
+# its sample.
 WRAP, SATURATE = POLICIES
 WORKED = (
     (wire.AND_BITS, WRAP, 0, (U8, 12), (U8, 10), (U8, 8)),
@@ -34,6 +35,10 @@ WORKED = (
     *((wire.THRESHOLD, WRAP, 0, (U8, a), [10], (U8, v)) for a, v in ((10, 0), (11, 255))),
     *((wire.TABLE_LOOKUP, WRAP, 0, (S16, a), TABLE, (S16, v))
       for a, v in ((-32768, 5), (0, 6), (32767, 7), (1, 0))),
+    *((wire.ACCUMULATE, WRAP, 0, (U8, a), (HELD, c), (S16, v))
+      for a, c, v in ((200, 400, 600), (100, 32700, 32767), (255, -32768, -32513))),
+    *((wire.ACCUMULATE_SQUARE, WRAP, n, (U8, 255), (HELD, c), (S16, v))
+      for n, c, v in ((0, 0, 32767), (1, 0, 32512), (15, -32768, -32767), (0, -32768, 32257))),
 )
 
 # Worked examples of pictures: the function, how it is run, the width, the height and the samples of
@@ -89,8 +94,10 @@ def worked(session):
     # 5 for the least sample, 6 for 0, 7 for the greatest.
     table = [5] + [0] * 32767 + [6] + [0] * 32766 + [7]
     for number, policy, amount, (fmt, sample), beside, (output, wanted) in WORKED:
-        first, target = session.image(fmt, 1, [sample], 1), session.image(output, 1, [99], 1)
-        if beside is NOTHING:
+        is_sum = beside is not NOTHING and beside[0] == HELD
+        first = session.image(fmt, 1, [sample], 1)
+        target = session.image(output, 1, [beside[1] if is_sum else 99], 1)
+        if beside is NOTHING or is_sum:
             in2 = None
         elif beside == TABLE:
             in2 = session.create(wire.create_lut(CLIENT, fmt, table))

@@ -1,6 +1,8 @@
 """Sessions on graphs and virtual images, written from docs/wire.md."""
 
 from feqyldan.wire import ADD, NO_RESOURCES, U8, node
+from checks.graphs.accumulators import (
+    sums_in_graphs, sums_in_rows, sums_in_slots, sums_that_change)
 from checks.graphs.ageing import (
     refusals_of_registrations, registrations, registrations_in_rows, registrations_of_clients,
     registrations_of_several, registrations_of_the_released, released_after_a_run)
@@ -62,6 +64,10 @@ def sessions():
     yield "an image that is read twice", image_read_twice()
     yield "nodes that are removed", removed_nodes()
     yield "sums that wrap", sums_that_wrap()
+    yield "sums of graphs", sums_in_graphs()
+    yield "sums of graphs that change", sums_that_change()
+    yield "sums of graphs in slots", sums_in_slots()
+    yield "sums of graphs in rows", sums_in_rows()
     yield "graphs of 256 nodes in a row", long_graphs()
     yield "refusals of graphs", refusals_of_graphs()
     yield "refusals of names and kinds in graphs", refusals_of_names_and_kinds()

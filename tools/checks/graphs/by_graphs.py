@@ -3,9 +3,12 @@
 import struct
 
 from feqyldan import wire
-from feqyldan.wire import INVALID_REFERENCE, INVALID_TYPE, INVALID_VALUE, frame
+from feqyldan.wire import (
+    INVALID_PARAMETERS, INVALID_REFERENCE, INVALID_TYPE, INVALID_VALUE, frame)
 from checks.sessions.rows import added, graph, name, processed, removed, unadded
 
+# Refusals of Immediate that are AddNode's too.
+OF_ADD_NODE = (INVALID_PARAMETERS, INVALID_REFERENCE, INVALID_TYPE, INVALID_VALUE)
 # Where the names stand in the bodies of requests that a session with nodes has.
 NAMES_AT = {
     **{op: (0,) for op in (*range(wire.QUERY_IMAGE, wire.RELEASE + 1), wire.READ_DISTRIBUTION,
@@ -32,7 +35,7 @@ def by_graphs(rows):
     for request, wanted in rows:
         client, op = struct.unpack_from(">HB", request, 4)
         body = renamed(op, request[7:])
-        if op == wire.IMMEDIATE and wanted in (INVALID_REFERENCE, INVALID_TYPE, INVALID_VALUE):
+        if op == wire.IMMEDIATE and wanted in OF_ADD_NODE:
             yield unadded(of, wanted, body, client)
         elif op == wire.IMMEDIATE:
             numbers[client] += 1

@@ -42,7 +42,7 @@ def under_quotas():
                no_room(U8, 1, 1), added(3, 3, inverse(4, 1)), released(4), released(3),
                made(5, U32, 3, 1), closed(), opened(), made(1, U32, 4, 1), no_room(U8, 1, 1)]
     # Virtual images are charged nothing, whatever they are declared to be.
-    yield 1, [opened(), made(1, U8), graph(2), virtual(3, 2), virtual(4, 2, U32, 4096, 4096),
+    yield 1, [opened(), made(1, U8), graph(2), virtual(3, 2), virtual(4, 2, U32, 8192, 8192),
               no_room(U8, 1, 1),
               added(2, 1, inverse(1, 3)), processed(2), no_room(U8, 1, 1)]
 
@@ -64,7 +64,7 @@ def under_work_bytes():
         (16, (node(INTEGRAL, 1, None, 4),)), (16, (node(SOBEL, 1, None, 4, out2=5),)),
         (8, (node(SOBEL, 1, None, None, out2=5), inverse(1, 2))),
     ):
-        rows = [*begun, virtual(7, 3, U32, 4096, 4096), *in_graph(nodes, 3)]
+        rows = [*begun, virtual(7, 3, U32, 8192, 8192), *in_graph(nodes, 3)]
         yield work, [*rows, verified(3), processed(3), processed(3)]
         yield work - 1, [*rows, verified(3, NO_RESOURCES), processed(3, NO_RESOURCES), unwritten]
     yield 3, [*begun, added(3, 1, inverse(1, 4)), processed(3, NO_RESOURCES), removed(3, 1),
@@ -95,8 +95,8 @@ def under_work_bytes():
 
 
 def largest_graphs(fits_more):
-    """Four virtual images of 67,108,864 bytes each, and one of one byte, for which there may be
-    room beside them."""
+    """Four virtual images of 67,108,864 bytes each, and then the greatest, of 268,435,456; and one
+    of one byte, for which there may be room beside them."""
     more = b"" if fits_more else NO_RESOURCES
     return [
         opened(), made(1, U8, 4096, 4096), graph(2),
@@ -104,4 +104,7 @@ def largest_graphs(fits_more):
         *in_graph([node(INTEGRAL, 1, None, number) for number in range(3, 7)], 2), verified(2),
         made(7, U8), virtual(8, 2), added(2, 5, inverse(7, 8)), verified(2, more), removed(2, 1),
         verified(2), removed(2, 5), verified(2),
+        made(9, U8, 8192, 8192), graph(10), virtual(11, 10), virtual(12, 10),
+        *in_graph([node(INTEGRAL, 9, None, 11)], 10), verified(10),
+        added(10, 2, inverse(7, 12)), verified(10, more), removed(10, 2), verified(10),
     ]

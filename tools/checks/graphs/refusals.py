@@ -2,10 +2,10 @@
 
 from feqyldan import wire
 from feqyldan.wire import (
-    AND_BITS, CONVOLVE, HISTOGRAM, INTEGRAL, INVALID_DIMENSION, INVALID_FORMAT, INVALID_GRAPH,
-    INVALID_REFERENCE, INVALID_SCOPE, INVALID_TYPE, INVALID_VALUE, MIN_MAX_LOCATION,
-    MULTIPLE_WRITERS, NOT_BITS, NO_RESOURCES, OPEN, OPTIMIZED_AWAY, S16, SOBEL, TABLE_LOOKUP,
-    THRESHOLD, U8, node, reference)
+    ACCUMULATE, ACCUMULATE_SQUARE, AND_BITS, CONVOLVE, HISTOGRAM, INTEGRAL, INVALID_DIMENSION,
+    INVALID_FORMAT, INVALID_GRAPH, INVALID_REFERENCE, INVALID_SCOPE, INVALID_TYPE, INVALID_VALUE,
+    MIN_MAX_LOCATION, MULTIPLE_WRITERS, NOT_BITS, NO_RESOURCES, OPEN, OPTIMIZED_AWAY, S16, SOBEL,
+    TABLE_LOOKUP, THRESHOLD, U8, node, reference)
 from checks.graphs.cast import (
     A, B, C, CAST, COUNTS, D, DELAY, E, F, FOUND, G, LIMIT, MATRIX, NEXT, NOBODY, NO_GRAPHS,
     NO_SLOT, SLOTS, TABLE, UNCHANGED, UNKNOWN, V, W, both, declared, in_graph, inverse)
@@ -28,8 +28,8 @@ def refusals_of_graphs():
     rows += [(wire.create_virtual_image(CLIENT, of, *parts), code) for of in (G, A, NOBODY)
              for parts, code in (
                  ((4, 0, 0), INVALID_FORMAT), ((255, 1, 1), INVALID_FORMAT),
-                 ((U8, 4097, 1), INVALID_DIMENSION), ((U8, 1, 4097), INVALID_DIMENSION),
-                 ((4, 4097, 1), INVALID_FORMAT))]
+                 ((U8, 8193, 1), INVALID_DIMENSION), ((U8, 1, 8193), INVALID_DIMENSION),
+                 ((4, 8193, 1), INVALID_FORMAT))]
     # A graph's name before its node's, which was removed, never was, or is another graph's.
     rows += [removed(NOBODY, 1, INVALID_REFERENCE), removed(A, 99, INVALID_TYPE), removed(H, 1)]
     rows += [removed(H, number, INVALID_REFERENCE) for number in (0, 1, 3, 256, 2**32 - 1)]
@@ -126,7 +126,7 @@ def virtual_images_in_requests():
         rows += [(wire.write_image(CLIENT, of, S16, 2, 2, bytes(8)), OPTIMIZED_AWAY),
                  wrote_text(of, b"P5 0 1 255\n", OPTIMIZED_AWAY),
                  wrote_text(of, b"P2 2 1 300 300 300", OPTIMIZED_AWAY),
-                 confined(of, (0, 0, 4096, 4096), OPTIMIZED_AWAY),
+                 confined(of, (0, 0, 8192, 8192), OPTIMIZED_AWAY),
                  confined(of, NOWHERE, OPTIMIZED_AWAY), confined(of, (1, 0, 1, 1), INVALID_VALUE),
                  (wire.create_delay(CLIENT, of, 17), INVALID_VALUE)]
         rows += [(request, INVALID_TYPE) for slot in (0, 1, 254)
@@ -149,7 +149,8 @@ def immediates(of):
             (NOT_BITS, of, None, B), (NOT_BITS, A, None, of), (AND_BITS, A, of, B),
             (AND_BITS, of, A, B), (HISTOGRAM, of, None, COUNTS),
             (MIN_MAX_LOCATION, of, None, FOUND), (THRESHOLD, of, LIMIT, B),
-            (CONVOLVE, A, MATRIX, of), (INTEGRAL, A, None, of),
+            (CONVOLVE, A, MATRIX, of), (INTEGRAL, A, None, of), (ACCUMULATE, A, None, of),
+            (ACCUMULATE_SQUARE, A, None, of), (ACCUMULATE, of, None, D), (ACCUMULATE, of, None, of),
             # Cycles, formats and sizes.
             (NOT_BITS, of, None, of), (AND_BITS, A, of, A), (NOT_BITS, D, None, of),
             (AND_BITS, D, of, E), (NOT_BITS, of, None, E))),

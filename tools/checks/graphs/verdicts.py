@@ -1,8 +1,9 @@
 """Verdicts on graphs: each is that of a graph of these nodes, in a context of its own."""
 
 from feqyldan.wire import (
-    ADD, CONVERT_DEPTH, HISTOGRAM, INTEGRAL, INVALID_DIMENSION, INVALID_FORMAT, INVALID_GRAPH,
-    INVALID_LINK, MIN_MAX_LOCATION, MULTIPLE_WRITERS, SOBEL, TABLE_LOOKUP, THRESHOLD, node)
+    ACCUMULATE, ACCUMULATE_SQUARE, ADD, CONVERT_DEPTH, HISTOGRAM, INTEGRAL, INVALID_DIMENSION,
+    INVALID_FORMAT, INVALID_GRAPH, INVALID_LINK, MIN_MAX_LOCATION, MULTIPLE_WRITERS, SOBEL,
+    TABLE_LOOKUP, THRESHOLD, node)
 from checks.graphs.cast import (
     A, B, C, CAST, COUNTS, D, E, F, FOUND, G, LIMIT, SLOTS, TABLE, UNCHANGED, V, W, X, Y, both,
     in_graph, inverse)
@@ -17,12 +18,17 @@ TWO_WRITERS = (
     (node(HISTOGRAM, A, None, COUNTS), node(HISTOGRAM, C, None, COUNTS)),
     (node(MIN_MAX_LOCATION, A, None, FOUND), node(MIN_MAX_LOCATION, D, None, FOUND)),
     (inverse(A, B), inverse(A, V), both(V, C, W), inverse(W, B)),
+    (node(ACCUMULATE, A, None, D), node(ACCUMULATE, C, None, D)),
+    (node(ACCUMULATE, A, None, D), node(ACCUMULATE_SQUARE, A, None, D)),
+    (node(CONVERT_DEPTH, A, None, D), node(ACCUMULATE_SQUARE, C, None, D)),
     # Before cycles, images that nobody writes, formats and sizes, whichever was added first.
     (inverse(A, A), inverse(C, A)), (inverse(A, A), inverse(C, B), inverse(C, B)),
     (inverse(V, V), inverse(V, V)), (inverse(V, B), inverse(C, B)),
     (inverse(V, W), inverse(C, B), inverse(C, B)), (inverse(D, C), inverse(A, B), inverse(A, B)),
     (inverse(A, B), inverse(D, B)), (both(A, E, C), inverse(A, B), inverse(A, B)),
-    (inverse(A, E), inverse(C, E)),
+    (inverse(A, E), inverse(C, E)), (node(ACCUMULATE, A, None, V), node(ACCUMULATE, C, None, V)),
+    (node(ACCUMULATE, A, None, B), node(ACCUMULATE, E, None, B)),
+    (node(ACCUMULATE, D, None, D), node(ACCUMULATE, A, None, D)),
     (inverse(A, B), inverse(C, B), inverse(A, A), inverse(V, W), inverse(W, X), inverse(X, V),
      inverse(V, B),
      inverse(D, B), both(A, E, B)),
@@ -40,6 +46,10 @@ CYCLES = (
     # By a second input, and by a second output.
     (inverse(V, W), both(A, W, V)),
     (node(SOBEL, V, None, D, out2=W), node(CONVERT_DEPTH, W, None, V)),
+    # What a node adds to isn't read by that, and may be by its in1.
+    (node(ACCUMULATE, A, None, A),), (node(ACCUMULATE_SQUARE, D, None, D),),
+    (node(ACCUMULATE, A, None, D), node(CONVERT_DEPTH, D, None, A)),
+    (node(CONVERT_DEPTH, D, None, V), node(ACCUMULATE_SQUARE, V, None, D)),
     # With what leads to it, leaves it and stands beside it.
     (inverse(A, V), both(V, X, W), inverse(W, X), inverse(X, B)),
     (inverse(A, B), inverse(V, W), inverse(W, V)),
@@ -48,6 +58,7 @@ CYCLES = (
     (inverse(A, A), inverse(V, B)), (inverse(V, B), inverse(A, A)), (both(V, B, B),),
     (inverse(D, D),), (inverse(E, E),), (inverse(D, B), inverse(A, A)),
     (both(A, E, B), inverse(C, C)), (inverse(A, E), both(E, D, A)),
+    (node(ACCUMULATE, V, None, V),), (node(ACCUMULATE, A, None, V), inverse(B, B)),
 )
 UNWRITTEN = (
     (inverse(V, B),), (inverse(V, W),), (both(A, V, B),), (both(V, A, B),),
@@ -55,16 +66,26 @@ UNWRITTEN = (
     (node(SOBEL, V, None, None, out2=D),), (node(THRESHOLD, V, LIMIT, B),),
     (inverse(V, W), inverse(W, B)), (inverse(A, W), both(W, V, B)),
     (inverse(A, B), inverse(A, W), inverse(X, C)),
+    # What a node adds to holds nothing as a run begins, whoever reads it after that.
+    (node(ACCUMULATE, A, None, V),), (node(ACCUMULATE_SQUARE, A, None, V),),
+    (node(ACCUMULATE, A, None, V), node(CONVERT_DEPTH, V, None, B)),
+    (node(CONVERT_DEPTH, V, None, B), node(ACCUMULATE, A, None, V)),
+    (inverse(A, V), node(ACCUMULATE, V, None, W)), (node(ACCUMULATE, V, None, D),),
+    (node(ACCUMULATE, A, None, D), node(ACCUMULATE, A, None, V)),
     # Before formats and sizes.
     (inverse(D, B), inverse(V, C)), (both(A, E, B), inverse(V, C)), (both(D, V, B),),
-    (both(E, V, B),), (inverse(V, D),),
+    (both(E, V, B),), (inverse(V, D),), (node(ACCUMULATE, D, None, V),),
+    (inverse(D, B), node(ACCUMULATE, A, None, V)), (both(A, E, B), node(ACCUMULATE, E, None, V)),
 )
 WRONG_FORMATS = (
     (inverse(D, B),), (inverse(A, D),), (both(A, D, B),), (node(THRESHOLD, D, LIMIT, B),),
     (node(TABLE_LOOKUP, D, TABLE, V),), (node(TABLE_LOOKUP, A, TABLE, D),),
     (node(HISTOGRAM, D, None, COUNTS),), (node(MIN_MAX_LOCATION, F, None, FOUND),),
     (node(SOBEL, A, None, V, out2=B),), (node(CONVERT_DEPTH, A, None, B),),
-    (node(ADD, A, D, B),), (inverse(A, B), inverse(C, F)),
+    (node(ADD, A, D, B),), (inverse(A, B), inverse(C, F)), (node(ACCUMULATE, A, None, B),),
+    (node(ACCUMULATE_SQUARE, A, None, B),), (node(ACCUMULATE, A, None, F),),
+    (node(ACCUMULATE, D, None, B),), (node(ACCUMULATE_SQUARE, F, None, D),),
+    (node(ACCUMULATE, A, None, SLOTS[0]),), (node(ACCUMULATE, A, None, E),),
     # Before sizes, in one node.
     (inverse(D, E),), (both(D, E, B),), (both(E, A, D),),
     # The node that was added first decides, whichever would run first.
@@ -82,6 +103,7 @@ WRONG_FORMATS = (
 WRONG_SIZES = (
     (both(A, E, B),), (inverse(A, E),), (inverse(E, B),), (both(E, C, V),), (node(ADD, A, E, D),),
     (node(SOBEL, E, None, V, out2=D),), (node(SOBEL, E, None, D, out2=V),),
+    (node(ACCUMULATE, E, None, D),), (inverse(E, V), node(ACCUMULATE_SQUARE, V, None, D)),
     (node(INTEGRAL, E, None, F),), (inverse(A, SLOTS[0]), inverse(E, SLOTS[1])),
     (inverse(E, V), inverse(V, B)), (inverse(E, V), both(A, V, B)),
     (inverse(V, B), inverse(E, V)), (inverse(E, V), inverse(V, W), inverse(W, X), inverse(X, B)),

@@ -2,10 +2,10 @@
 
 from feqyldan import wire
 from feqyldan.wire import (
-    ABSOLUTE_DIFFERENCE, ADD, AND_BITS, BOX, CONVERT_DEPTH, CONVOLVE, DILATE, ERODE, GAUSSIAN,
-    INTEGRAL, INVALID_DIMENSION, INVALID_FORMAT, INVALID_LINK, MAX_PIXEL, MEDIAN, MIN_PIXEL,
-    MULTIPLY, NOT_BITS, OPEN, OR_BITS, S16, SOBEL, SUBTRACT, SUCCESS, TABLE_LOOKUP, THRESHOLD, U32,
-    U8, XOR_BITS, node)
+    ABSOLUTE_DIFFERENCE, ACCUMULATE, ADD, AND_BITS, BOX, CONVERT_DEPTH, CONVOLVE, DILATE, ERODE,
+    GAUSSIAN, INTEGRAL, INVALID_DIMENSION, INVALID_FORMAT, INVALID_LINK, MAX_PIXEL, MEDIAN,
+    MIN_PIXEL, MULTIPLY, NOT_BITS, OPEN, OR_BITS, S16, SOBEL, SUBTRACT, SUCCESS, TABLE_LOOKUP,
+    THRESHOLD, U32, U8, XOR_BITS, node)
 from checks.graphs.cast import (
     A, B, C, CAST, D, E, F, G, LIMIT, MATRIX, NEXT, TABLE, UNCHANGED, V, W, both, declared,
     in_graph, inverse)
@@ -35,9 +35,9 @@ DECLARED = (
         (OPEN, 0, 0), (U8, 0, 0), (OPEN, 1, 0), (OPEN, 0, 1), (U8, 1, 0), (U8, 0, 1), (OPEN, 1, 1),
         (U8, 1, 1))),
     *((parts, INVALID_FORMAT, (inverse(A, Z),)) for parts in (
-        (S16, 0, 0), (U32, 0, 0), (S16, 1, 1), (S16, 2, 2), (U32, 0, 4096))),
+        (S16, 0, 0), (U32, 0, 0), (S16, 1, 1), (S16, 2, 2), (U32, 0, 8192))),
     *((parts, INVALID_DIMENSION, (inverse(A, Z),)) for parts in (
-        (OPEN, 2, 0), (OPEN, 0, 2), (U8, 2, 1), (U8, 1, 2), (OPEN, 4096, 4096), (U8, 4096, 1))),
+        (OPEN, 2, 0), (OPEN, 0, 2), (U8, 2, 1), (U8, 1, 2), (OPEN, 8192, 8192), (U8, 8192, 1))),
     *((parts, SUCCESS, (inverse(E, Z),)) for parts in ((OPEN, 2, 0), (OPEN, 0, 1), (U8, 2, 1))),
     *((parts, INVALID_DIMENSION, (inverse(E, Z),))
       for parts in ((OPEN, 1, 0), (OPEN, 0, 2), (OPEN, 1, 2), (OPEN, 1, 1))),
@@ -49,7 +49,11 @@ DECLARED = (
     ((S16, 0, 0), INVALID_FORMAT, (inverse(Z, E), inverse(A, Z))),
     ((U8, 1, 1), INVALID_DIMENSION, (inverse(Z, E), inverse(D, Z))),
     # Without a writer it makes a difference only to those who read it.
-    ((U8, 1, 1), INVALID_LINK, (inverse(Z, B),)), ((U8, 4096, 4096), SUCCESS, (inverse(A, B),)),
+    ((U8, 1, 1), INVALID_LINK, (inverse(Z, B),)), ((U8, 8192, 8192), SUCCESS, (inverse(A, B),)),
+    # Nothing that is declared has it hold what a node could add to.
+    *((parts, INVALID_LINK, (node(ACCUMULATE, A, None, Z),))
+      for parts in ((OPEN, 0, 0), (S16, 0, 0), (S16, 1, 1), (U8, 1, 1), (S16, 2, 1))),
+    ((S16, 1, 1), INVALID_LINK, (node(ACCUMULATE, A, None, Z), node(CONVERT_DEPTH, Z, None, B))),
 )
 
 

@@ -7,6 +7,7 @@ import tempfile
 from typing import Iterator, List, Set, Tuple
 
 from feqyldan import wire
+from checks.graphs.accumulators import sums_in_rows
 from checks.graphs.ageing import aged_after_each_run
 from checks.graphs.limits import under_quotas
 from checks.graphs.worked import (
@@ -32,6 +33,7 @@ def streams() -> Iterator[Tuple[str, int, List[bytes]]]:
     for words, limit, of in (
         ("with a graph on a delay", DEFAULT, graph_before_and_after_ageing()),
         ("with a delay that ages by itself", DEFAULT, aged_after_each_run()),
+        ("with sums", DEFAULT, sums_in_rows()),
         ("with an image that is read twice", DEFAULT, image_read_twice()),
         ("with reused buffers", DEFAULT, reused_buffers()), ("under a small quota", quota, rows),
         ("of nodes by themselves", DEFAULT, nodes_that_run()),

@@ -127,6 +127,11 @@ def windows_and_statistics() -> List[bytes]:
         wire.immediate(2, wire.HISTOGRAM, 2, None, 13),
         wire.immediate(2, wire.MIN_MAX_LOCATION, 15, None, 14),
         wire.immediate(2, wire.INTEGRAL, 2, None, 17),
+        # What is lost of the stream has added nothing, and what comes after it adds once.
+        wire.immediate(2, wire.ACCUMULATE, 2, None, 16),
+        wire.immediate(2, wire.ACCUMULATE_SQUARE, 2, None, 16, amount=4),
+        wire.immediate(2, wire.ACCUMULATE, 2, None, 2),
+        wire.read_image(2, 16),
         wire.read_distribution(2, 12),
         wire.read_distribution(2, 13),
         wire.read_min_max(2, 14),

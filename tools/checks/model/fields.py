@@ -6,8 +6,8 @@ from feqyldan import wire
 from feqyldan.wire import (
     INVALID_DIMENSION, INVALID_FORMAT, INVALID_PARAMETERS, INVALID_VALUE, OPEN, S16, U32, U8)
 from checks.model.functions import (
-    Bins, Convolution, Image, Lut, Rectangle, Threshold, is_rectangle, is_sample, range_size,
-    sample_bytes, whole)
+    GREATEST_SIDE, Bins, Convolution, Image, Lut, Rectangle, Threshold, is_rectangle, is_sample,
+    range_size, sample_bytes, whole)
 from checks.model.state import Cell, refuse_if
 
 
@@ -54,7 +54,7 @@ def take_format(fields, allowed=(U8, S16, U32)):
 
 def take_side(fields):
     side = fields.short()
-    refuse_if(not 1 <= side <= 4096, INVALID_DIMENSION)
+    refuse_if(not 1 <= side <= GREATEST_SIDE, INVALID_DIMENSION)
     return side
 
 
@@ -70,7 +70,7 @@ def take_open_description(fields):
 
 def take_open_side(fields):
     side = fields.short()
-    refuse_if(side > 4096, INVALID_DIMENSION)
+    refuse_if(side > GREATEST_SIDE, INVALID_DIMENSION)
     return side
 
 
@@ -174,4 +174,7 @@ def rectangle_bytes(rectangle):
 
 
 def encoded_samples(image):
-    return struct.pack(f">{len(image.samples)}{wire.SAMPLE_LETTERS[image.fmt]}", *image.samples)
+    """By rows, since an image may be large."""
+    row = struct.Struct(f">{image.width}{wire.SAMPLE_LETTERS[image.fmt]}")
+    starts = range(0, image.width * image.height, image.width)
+    return b"".join(row.pack(*image.samples[start : start + image.width]) for start in starts)

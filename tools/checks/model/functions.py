@@ -5,6 +5,7 @@ A function is a row of FUNCTIONS: what its node has, its formats, and what it gi
 stands below what it is made of.
 """
 
+from array import array
 from collections import Counter, namedtuple
 from itertools import accumulate
 
@@ -104,6 +105,9 @@ def windows_of(rectangle, across, down):
 
 
 # ---- objects: values that never change; what changes is which of them a name has
+
+# An image has from 1 to so many columns, and as many rows.
+GREATEST_SIDE = 8192
 
 # The samples by rows from the top, and where they are valid; they are 0 elsewhere.
 Image = namedtuple("Image", "fmt width height valid samples")
@@ -212,8 +216,8 @@ def format_of(thing):
     return getattr(thing, "fmt", None)
 
 
-# ---- pixelwise functions: the value at a pixel, of in1's sample and of in2's, or of in2 itself
-# where it is no image
+# ---- pixelwise functions: the value at a pixel, of in1's sample and of the one beside it, in2's or
+# that which the output held; or of in2 itself where it is no image
 
 # What a value is narrowed by: the output's format, and the node's policy and amount.
 Way = namedtuple("Way", "fmt policy amount")
@@ -279,12 +283,21 @@ def converted(a, _, way):
     return narrow(a // 2**way.amount, way.fmt, way.policy)
 
 
-def pixelwise(value):
-    """What a node gives that has a value for each pixel: the image that is out1's, valid where all
-    of its inputs are."""
+def accumulated(a, c, way):
+    """The sample is added to c, what the output held there."""
+    return clamp(c + a, way.fmt)
+
+
+def accumulated_square(a, c, way):
+    return clamp(c + a * a // 2**way.amount, way.fmt)
+
+
+def pixelwise(value, beside=IN2):
+    """What a node gives that has a value for each pixel, of in1 and of what is beside it: the image
+    that is out1's, valid where both are."""
 
     def gives(node, things):
-        first, second, output = things[IN1], things[IN2], things[OUT1]
+        first, second, output = things[IN1], things[beside], things[OUT1]
         way = Way(output.fmt, node.policy, node.amount)
         valid, samples, others = first.valid, first.samples, None
         if isinstance(second, Image):
@@ -409,20 +422,23 @@ def histogram(node, things):
     return {OUT1: Distribution(bins, tuple(found[number] for number in range(bins.bins)))}
 
 
+def row_of_sums(above, samples):
+    """The sums at the places of a row, by those of the row above it and its own samples."""
+    return [(one + other) % 2**32 for one, other in zip(above, accumulate(samples))]
+
+
 def integral(node, things):
     """For a valid place the sum of the valid samples that are neither to the right of it nor below
-    it."""
+    it, modulo 2^32."""
     image, valid = things[IN1], things[IN1].valid
-    columns, lines = range(valid.left, valid.right), range(valid.top, valid.bottom)
-    rows = [list(accumulate(sample_at(image, x, y) for x in columns)) for y in lines]
-    sums = list(accumulate(rows, lambda above,
-                           row: [one + other for one, other in zip(above, row)]))
-
-    def sample(place):
-        y, x = divmod(place, image.width)
-        return sums[y - valid.top][x - valid.left]
-
-    return {OUT1: made(U32, image.width, image.height, valid, sample)}
+    # In as many bytes as samples have, since an image may be large.
+    sums = array("I", [0]) * len(image.samples)
+    above = [0] * (valid.right - valid.left)
+    for y in range(valid.top, valid.bottom):
+        row = slice(y * image.width + valid.left, y * image.width + valid.right)
+        above = row_of_sums(above, image.samples[row])
+        sums[row] = array("I", above)
+    return {OUT1: Image(U32, image.width, image.height, valid, sums)}
 
 
 def extremes_of(samples, at):
@@ -460,10 +476,12 @@ def other_depth(first):
 
 # The kinds of in1, in2, out1 and out2, None where the function has none; its policies; its greatest
 # amount, None where it has none; the formats of the four that it takes, None where one has none;
-# the format of an output that is left open; what its node gives to its outputs; and the operands of
-# which one may be absent.
-Function = namedtuple("Function", "kinds policies greatest_amount formats opened gives optional",
-                      defaults=((),))
+# the format of an output that is left open; what its node gives to its outputs, of what its inputs
+# hold and of what these outputs held as the run began; the operands of which one may be absent; and
+# whether it adds to its output, which is an image.
+Function = namedtuple(
+    "Function", "kinds policies greatest_amount formats opened gives optional accumulates",
+    defaults=((), False))
 
 NO_POLICY, POLICIES = (0,), (wire.WRAP, wire.SATURATE)
 ONE_IMAGE = (Image, None, Image, None)
@@ -484,6 +502,7 @@ ONE_OF_BYTES = ((U8, None, U8, None),)
 DEPTHS = ((U8, None, S16, None), (S16, None, U8, None))
 GRADIENTS = ((U8, None, S16, S16), (U8, None, S16, None), (U8, None, None, S16))
 CONVOLVED = ((U8, None, U8, None), (U8, None, S16, None))
+ADDED = ((U8, None, S16, None),)
 SUMMED = ((U8, None, U32, None),)
 COUNTED = ((U8, None, None, None),)
 COMPARED = ((U8, None, None, None), (S16, None, None, None))
@@ -520,4 +539,10 @@ FUNCTIONS = {
     wire.HISTOGRAM: Function(TO_DISTRIBUTION, NO_POLICY, None, COUNTED, None, histogram),
     wire.INTEGRAL: Function(ONE_IMAGE, NO_POLICY, None, SUMMED, always(U32), integral),
     wire.MIN_MAX_LOCATION: Function(TO_EXTREMES, NO_POLICY, None, COMPARED, None, extremes),
+    wire.ACCUMULATE: Function(
+        ONE_IMAGE, NO_POLICY, None, ADDED, always(S16), pixelwise(accumulated, OUT1),
+        accumulates=True),
+    wire.ACCUMULATE_SQUARE: Function(
+        ONE_IMAGE, NO_POLICY, 15, ADDED, always(S16), pixelwise(accumulated_square, OUT1),
+        accumulates=True),
 }

@@ -26,6 +26,10 @@ def cells_read(nodes):
     return [cell for node in nodes for cell in cells_of(node, INPUTS)]
 
 
+def cells_added_to(nodes):
+    return [cell for node in nodes if node.function.accumulates for cell in cells_of(node, OUTPUTS)]
+
+
 def in_order(nodes):
     """The nodes, each after those that write what it reads; without those on a cycle, and those
     after one."""
@@ -80,10 +84,10 @@ def cycle(nodes, *_):
     return INVALID_GRAPH if len(in_order(nodes)) < len(nodes) else None
 
 
-def missing_writer(nodes, things, _):
-    unwritten = {*cells_read(nodes)} - {*cells_written(nodes)}
-    return INVALID_LINK if any(isinstance(things[cell], VirtualImage)
-                               for cell in unwritten) else None
+def loose_end(nodes, things, _):
+    """A virtual image is read, and no node writes it; or a node adds to one."""
+    cells = ({*cells_read(nodes)} - {*cells_written(nodes)}) | {*cells_added_to(nodes)}
+    return INVALID_LINK if any(isinstance(things[cell], VirtualImage) for cell in cells) else None
 
 
 def has_other_formats(node, things):
@@ -118,7 +122,7 @@ def too_much_work(nodes, things, work):
 
 # Each gives the code with which it refuses a graph, or None: of the nodes, of what their cells hold
 # as it is described, and of the work bytes that are allowed. The first decides.
-VERDICTS = (two_writers, cycle, missing_writer, faulty_node, too_much_work)
+VERDICTS = (two_writers, cycle, loose_end, faulty_node, too_much_work)
 VERDICT_CODES = {
     MULTIPLE_WRITERS, INVALID_GRAPH, INVALID_LINK, INVALID_FORMAT, INVALID_DIMENSION, NO_RESOURCES,
     SUCCESS}
@@ -139,24 +143,28 @@ def started(nodes, things):
             for cell, thing in described(nodes, things).items()}
 
 
-def given(node, things):
-    """What a node gives to each cell that it writes."""
-    operands = [None if cell is None else things[cell] for cell in node.cells]
+def given(node, things, before):
+    """What a node gives to each cell that it writes, of what its inputs hold, and of what these
+    cells held before the run."""
+    operands = [None if cell is None else (before if k in OUTPUTS else things)[cell]
+                for k, cell in enumerate(node.cells)]
     return {node.cells[k]: thing for k, thing in node.function.gives(node, operands).items()}
 
 
 def run(nodes, things):
     """What the cells hold after a run: each node runs once, after those that write what it
     reads."""
+    before = things
     for node in in_order(nodes):
-        things = {**things, **given(node, things)}
+        things = {**things, **given(node, things, before)}
     return things
 
 
 def run_in_rounds(nodes, things):
     """The same: in each of as many rounds as there are nodes, all of them run on what the round
     before left."""
+    before = things
     for _ in nodes:
-        things = {**things,
-                  **{cell: thing for node in nodes for cell, thing in given(node, things).items()}}
+        values = (given(node, things, before) for node in nodes)
+        things = {**things, **{cell: thing for value in values for cell, thing in value.items()}}
     return things

@@ -4,7 +4,7 @@ import re
 import struct
 
 from feqyldan.wire import INVALID_DIMENSION, INVALID_FORMAT, INVALID_VALUE, S16, U8
-from checks.model.functions import Image, sample_bytes, whole
+from checks.model.functions import GREATEST_SIDE, Image, sample_bytes, whole
 from checks.model.state import refuse_if
 
 # A comment ends with the first CR or LF.
@@ -50,7 +50,8 @@ def plain_samples(rest, count):
 def picture_of(text):
     """The picture of a PGM text, whose first fault refuses it."""
     magic, (width, height, maxval), rest = header_of(text)
-    refuse_if(not (1 <= width <= 4096 and 1 <= height <= 4096), INVALID_DIMENSION)
+    are_sides = 1 <= width <= GREATEST_SIDE and 1 <= height <= GREATEST_SIDE
+    refuse_if(not are_sides, INVALID_DIMENSION)
     refuse_if(not 1 <= maxval <= GREATEST_MAXVAL, INVALID_FORMAT)
     fmt, count = U8 if maxval < 256 else S16, width * height
     samples = plain_samples(rest, count) if magic == b"P2" else raster_samples(rest, fmt, count)

@@ -7,11 +7,12 @@ from feqyldan import wire
 from feqyldan.wire import S16, U32, U8
 from checks import graphs
 from checks.graphs.by_graphs import by_graphs
+from checks.sessions.accumulators import refusals_of_sums, sums, sums_beside_the_valid
 from checks.sessions.clients import (
     clients_have_their_own, contexts_released, first_names, without_context)
 from checks.sessions.delays import delays, delays_as_exemplars, nodes_on_slots, refusals_of_slots
 from checks.sessions.images import (
-    full_context, full_of_extremes, objects_released, pictures, refusals_of_pictures, sizes)
+    full_context, full_of_extremes, objects_released, pictures, refusals_of_pictures, sides, sizes)
 from checks.sessions.nodes import nodes_that_run, refusals_of_nodes
 from checks.sessions.rectangles import (
     refusals_of_rectangles, valid_blocks, valid_in_delays, valid_outputs, valid_rectangles)
@@ -28,6 +29,7 @@ SESSIONS = (
     ("without a context", without_context),
     ("pictures", pictures),
     ("refusals of pictures", refusals_of_pictures),
+    ("sides", sides),
     ("objects that are released", objects_released),
     ("contexts that are released", contexts_released),
     ("nodes that run", nodes_that_run),
@@ -53,6 +55,9 @@ SESSIONS = (
     ("integrals", integrals),
     ("extremes", places_of_extremes),
     ("statistics of slots and of clients", statistics_of_slots),
+    ("sums", sums),
+    ("sums and valid rectangles", sums_beside_the_valid),
+    ("refusals of sums", refusals_of_sums),
     ("refusals of other objects", refusals_of_other_objects),
     ("refusals of windows and statistics", refusals_of_kinds),
     ("what comes first in windows and statistics", refusals_in_order),
@@ -67,7 +72,8 @@ SESSIONS = (
 BY_GRAPHS = (
     nodes_that_run, refusals_of_nodes, valid_outputs, valid_in_delays, delays, nodes_on_slots,
     refusals_of_slots, windows, windows_beside_the_valid, convolutions, two_outputs, histograms,
-    integrals, places_of_extremes, statistics_of_slots, refusals_of_kinds, refusals_in_order,
+    integrals, places_of_extremes, statistics_of_slots, sums, sums_beside_the_valid,
+    refusals_of_sums, refusals_of_kinds, refusals_in_order,
 )
 
 

@@ -41,7 +41,7 @@ def without_context():
         (wire.create_image(CLIENT, 4, 1, 1), INVALID_FORMAT),
         (wire.create_delay(CLIENT, 1, 17), INVALID_VALUE), confined(1, (1, 0, 0, 1), INVALID_VALUE),
         (wire.create_virtual_image(CLIENT, 1, 4), INVALID_FORMAT),
-        (wire.create_virtual_image(CLIENT, 1, U8, 1, 4097), INVALID_DIMENSION),
+        (wire.create_virtual_image(CLIENT, 1, U8, 1, 8193), INVALID_DIMENSION),
         (wire.add_node(CLIENT, 1, 7, 1, 2, 3, amount=16), INVALID_VALUE),
         (wire.add_node(CLIENT, 1, 4, None, None, 2), INVALID_PARAMETERS),
         (wire.create_convolution(CLIENT, 4, 3, 0, [0] * 12), INVALID_DIMENSION),

@@ -6,8 +6,9 @@ from feqyldan.wire import (
     INVALID_DIMENSION, INVALID_FORMAT, INVALID_REFERENCE, INVALID_TYPE, INVALID_VALUE, NO_RESOURCES,
     S16, U32, U8, reference)
 from checks.sessions.rows import (
-    CLIENT, CREATES, EXTREMES, NOTHING_FOUND, RANGES, SAME, THIRDS, TURNED, delayed, found, holds,
-    made, name, opened, ran, released, threshold, wrote)
+    CLIENT, CREATES, EXTREMES, NOTHING_FOUND, NOWHERE, RANGES, SAME, THIRDS, TURNED, confined,
+    delayed, found, graph, holds, made, name, opened, ran, released, shows, threshold, told,
+    virtual, wrote)
 
 
 def pictures():
@@ -36,6 +37,30 @@ def refusals_of_pictures():
             (reference(3, 0), INVALID_REFERENCE), (reference(1, 0), INVALID_TYPE),
             (2, INVALID_TYPE), (0, INVALID_REFERENCE), (2**32 - 1, INVALID_REFERENCE))),
     ]
+
+
+def sides():
+    """An image has from 1 to 8192 columns and rows, and so has a virtual image of a graph."""
+    pairs = (0, 1), (1, 0), (8193, 1), (1, 8193), (8193, 8193), (16384, 1), (1, 65535)
+    rows = [
+        opened(), made(1, U8, 8192), made(2, U8, 1, 8192), made(3, S16, 4097),
+        made(4, U32, 1, 4097), graph(5), virtual(6, 5, U8, 8192, 8192),
+        *((wire.create_image(CLIENT, fmt, *pair), INVALID_DIMENSION)
+          for fmt in (U8, S16, U32) for pair in pairs),
+        *((wire.create_virtual_image(CLIENT, 5, U8, *pair), INVALID_DIMENSION)
+          for pair in pairs if 0 not in pair),
+        told(6, U8, NOWHERE, 8192, 8192),
+    ]
+    # The last place of a row, and of a column.
+    samples, last = [7] * 8191 + [9], [0] * 8191 + [9]
+    for number, size, place, beyond in (
+        (1, (8192, 1), (8191, 0, 8192, 1), (0, 0, 8193, 1)),
+        (2, (1, 8192), (0, 8191, 1, 8192), (0, 0, 1, 8193)),
+    ):
+        rows += [wrote(number, U8, samples, *size), confined(number, beyond, INVALID_VALUE),
+                 *shows(number, U8, samples, (0, 0, *size), *size), confined(number, place),
+                 *shows(number, U8, last, place, *size)]
+    return [*rows, made(7, U8)]
 
 
 def objects_released():
@@ -97,8 +122,8 @@ def sizes(fmt, size):
     shapes = [((body - 10) // size, 1) for body in range(56, 73, size)]
     # Of 65,535 and 65,536 samples, 32,767 and 32,768, 16,383 and 16,384; the longest row and
     # column; and a large one.
-    shapes += [(3855, 17), (4096, 16), (1057, 31), (4096, 8), (381, 43), (4096, 4), (4096, 1),
-               (1, 4096), (1500, 2), (641, 479)]
+    shapes += [(3855, 17), (4096, 16), (1057, 31), (4096, 8), (381, 43), (4096, 4), (8192, 1),
+               (1, 8192), (1500, 2), (641, 479)]
     for width, height in shapes:
         samples = [low + (at * 40_503) % (high - low + 1) for at in range(width * height)]
         number += 1

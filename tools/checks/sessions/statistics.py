@@ -59,10 +59,10 @@ def integrals():
                      confined(4, (2, 0, 3, 1)), ran(INTEGRAL, 3, None, 4, **border),
                      *shows(4, U32, samples, valid, 3, 3)]
     return rows + [
-        made(5, U8, 4096), made(6, U32, 4096), wrote(5, U8, [255] * 4096, 4096),
-        ran(INTEGRAL, 5, None, 6), holds(6, U32, range(255, 255 * 4097, 255), 4096),
-        made(7, U8, 1, 4096), made(8, U32, 1, 4096), wrote(7, U8, [255] * 4096, 1, 4096),
-        ran(INTEGRAL, 7, None, 8), holds(8, U32, range(255, 255 * 4097, 255), 1, 4096),
+        made(5, U8, 8192), made(6, U32, 8192), wrote(5, U8, [255] * 8192, 8192),
+        ran(INTEGRAL, 5, None, 6), holds(6, U32, range(255, 255 * 8193, 255), 8192),
+        made(7, U8, 1, 8192), made(8, U32, 1, 8192), wrote(7, U8, [255] * 8192, 1, 8192),
+        ran(INTEGRAL, 7, None, 8), holds(8, U32, range(255, 255 * 8193, 255), 1, 8192),
     ]
 
 
@@ -95,10 +95,10 @@ def places_of_extremes():
                      confined(image, valid),
                      ran(MIN_MAX_LOCATION, image, None, 2), found(2, *moved)]
     return rows + [
-        made(5, U8, 4096), wrote(5, U8, [9] * 4095 + [8], 4096),
-        ran(MIN_MAX_LOCATION, 5, None, 2, **REPLICATE), found(2, 8, 9, 1, 4095, 4095, 0, 0, 0),
-        made(6, S16, 1, 4096), wrote(6, S16, [-1] * 4095 + [0], 1, 4096),
-        ran(MIN_MAX_LOCATION, 6, None, 2, **constant(1)), found(2, -1, 0, 4095, 1, 0, 0, 0, 4095),
+        made(5, U8, 8192), wrote(5, U8, [9] * 8191 + [8], 8192),
+        ran(MIN_MAX_LOCATION, 5, None, 2, **REPLICATE), found(2, 8, 9, 1, 8191, 8191, 0, 0, 0),
+        made(6, S16, 1, 8192), wrote(6, S16, [-1] * 8191 + [0], 1, 8192),
+        ran(MIN_MAX_LOCATION, 6, None, 2, **constant(1)), found(2, -1, 0, 8191, 1, 0, 0, 0, 8191),
     ]
 
 

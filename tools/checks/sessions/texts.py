@@ -49,7 +49,8 @@ FAULTY_TEXTS = {
         b"P5 1 1 40000\n\x00\x05", b"P5 1 1 32768\n\x00\x05", b"P5 1 1 65535\n\x00\x05",
         b"P5 1 1 65536\n\x00\x05", b"P2 1 1 32768 5", b"P2 1 1 0 0", b"P5 1 1 0\n\x00",
         b"P5 1 1 99999999999999999999\n", b"P5 1 1 4294967551\n\x07", b"P5 1 1 255\n\x07\x07",
-        b"P5 1 1 255\n", b"P5 4096 4096 255\n", b"P5 2 1 255\n\x07", b"P5 1 1 300\n\x01",
+        b"P5 1 1 255\n", b"P5 4097 1 255\n", b"P5 8192 8192 255\n", b"P5 2 1 255\n\x07",
+        b"P5 1 1 300\n\x01", b"P2 8192 1 255 5",
         b"P5 1 1 300\n\x01\x2c\x00", b"P5 1 1 255\n\x07\n", b"P5 1 1 255\n\x07P5 1 1 255\n\x07",
         b"P5 1 1 255\n\x07# a\n", b"P5 1 1 255\r\n\x07", b"P2 2 1 255 1",
         b"P2 1 1 255", b"P2 1 1 255 ", b"P2 1 1 255 5 5", b"P2 1 1 255 5 x", b"P2 1 1 255 5x",
@@ -68,11 +69,11 @@ FAULTY_TEXTS = {
         b"P2 1 1 40000 x",
     ),
     INVALID_DIMENSION: (
-        b"P5 0 1 255\n", b"P5 1 0 255\n", b"P5 0 0 255\n", b"P5 4097 1 255\n",
-        b"P5 1 4097 255\n\x07", b"P5 65536 1 255\n", b"P5 65537 1 255\n\x07",
+        b"P5 0 1 255\n", b"P5 1 0 255\n", b"P5 0 0 255\n", b"P5 8193 1 255\n",
+        b"P5 1 8193 255\n\x07", b"P5 65536 1 255\n", b"P5 65537 1 255\n\x07",
         b"P5 1 4294967297 255\n\x07", b"P5 99999999999999999999 1 255\n",
-        b"P5 0 1 0\n", b"P5 0 1 40000\n", b"P5 4097 1 32768\n", b"P2 0 1 255", b"P2 0 1 255x",
-        b"P2 0 1 255#", b"P2 0 1 255 256", b"P2 4097 1 255 5", b"P2 000 1 255 5",
+        b"P5 0 1 0\n", b"P5 0 1 40000\n", b"P5 8193 1 32768\n", b"P2 0 1 255", b"P2 0 1 255x",
+        b"P2 0 1 255#", b"P2 0 1 255 256", b"P2 8193 1 255 5", b"P2 000 1 255 5",
         b"P5 1 0 255\n\x07\x07\x07",
     ),
     INVALID_VALUE: (
@@ -168,7 +169,7 @@ def sizes_of_texts():
     samples."""
     rows, number = [opened()], 0
     shapes = [(size, 1) for size in range(38, 56)]
-    shapes += [(3855, 17), (4096, 16), (4096, 1), (1, 4096), (1500, 2), (641, 479)]
+    shapes += [(3855, 17), (4096, 16), (8192, 1), (1, 8192), (1500, 2), (641, 479)]
     for width, height in shapes:
         samples = [(at * 40_503) % 256 for at in range(width * height)]
         text = raw(width, height, samples)
@@ -179,7 +180,7 @@ def sizes_of_texts():
                  holds(number, U8, samples, width, height),
                  holds_text(number, text), wrote(number, U8, samples[::-1], width, height),
                  wrote_text(number, plain), holds_text(number, text)]
-    for width, height in ((22, 1), (23, 1), (4096, 8), (641, 51)):
+    for width, height in ((22, 1), (23, 1), (8192, 4), (641, 51)):
         samples = [(at * 40_503) % 32768 for at in range(width * height)]
         text = b"P5 %d %d 32767\n" % (width, height) + struct.pack(f">{width * height}h", *samples)
         number += 1

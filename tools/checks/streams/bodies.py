@@ -5,7 +5,7 @@ import struct
 from feqyldan import wire
 from feqyldan.wire import S16, U32, U8
 from checks import model
-from checks.model.functions import SAMPLES
+from checks.model.functions import GREATEST_SIDE, SAMPLES
 from checks.streams.draw import ENDS, byte, cell_fields, long, short, signed_short
 
 
@@ -38,7 +38,7 @@ def description_for(draw, thing):
 
 
 def are_sides(width, height):
-    return 1 <= width <= 4096 and 1 <= height <= 4096
+    return 1 <= width <= GREATEST_SIDE and 1 <= height <= GREATEST_SIDE
 
 
 def write_image(draw):

@@ -5,7 +5,7 @@ import struct
 from feqyldan import wire
 from feqyldan.wire import S16, U32, U8
 from checks import model
-from checks.model.functions import SAMPLES
+from checks.model.functions import GREATEST_SIDE, SAMPLES
 
 
 def byte(value):
@@ -101,7 +101,8 @@ class Draw:
         most = self.rng.choices((1, 4, 12, 40), (2, 4, 4, 2))[0]
         width, height = self.rng.randint(1, most), self.rng.randint(1, most)
         if self.chance(0.08):
-            width, height = self.pick(((65, 1), (1, 65), (130, 2), (4096, 1), (1, 4096)))
+            width, height = self.pick(((65, 1), (1, 65), (130, 2), (GREATEST_SIDE, 1),
+                                       (1, GREATEST_SIDE)))
         return width, height
 
     def size(self):
@@ -109,7 +110,7 @@ class Draw:
 
     def bad_size(self):
         width, height = self.size()
-        bad = self.pick((0, 4097, 65535))
+        bad = self.pick((0, GREATEST_SIDE + 1, 65535))
         return self.pick(((bad, height), (width, bad), (bad, bad)))
 
     def declared(self):

@@ -5,9 +5,11 @@ import struct
 from feqyldan import wire
 from feqyldan.wire import S16, U32, U8
 from checks import model
+from checks.model.functions import GREATEST_SIDE as SIDE
 from checks.model.state import (
     ADD_NODE, CREATE_CONVOLUTION, CREATE_DELAY, CREATE_GRAPH, CREATE_IMAGE, CREATE_VIRTUAL_IMAGE,
-    IMMEDIATE, OPEN_CONTEXT, PROCESS_GRAPH, REGISTER_AUTO_AGING, RELEASE, REMOVE_NODE, WRITE_IMAGE)
+    IMMEDIATE, OPEN_CONTEXT, PROCESS_GRAPH, READ_IMAGE, REGISTER_AUTO_AGING, RELEASE, REMOVE_NODE,
+    WRITE_IMAGE)
 from checks.streams import nodes as random_nodes
 from checks.streams.draw import byte, is_large, long
 from checks.streams.requests import FEW, MANY
@@ -68,17 +70,17 @@ def to_all_objects(stream):
 def fits(left):
     """The format and the size of an image that takes much of what is left of a quota, and in the
     end all of it."""
-    if left >= 4096 * 4096 * 4:
-        return U32, 4096, 4096
-    return (U8, 4096, min(4096, left // 4096)) if left >= 4096 else (U8, left, 1)
+    if left >= 4 * SIDE * SIDE:
+        return U32, SIDE, SIDE
+    return (U8, SIDE, min(SIDE, left // SIDE)) if left >= SIDE else (U8, left, 1)
 
 
 def exceeds(left):
     """Those of an image that takes more than what is left, by as little as can be, where an image
     can."""
-    if left >= 4096 * 4096:
-        return U32, 4096, min(4096, left // (4 * 4096) + 1)
-    return (U8, 4096, left // 4096 + 1) if left >= 4096 else (U8, left + 1, 1)
+    if left >= SIDE * SIDE:
+        return U32, SIDE, min(SIDE, left // (4 * SIDE) + 1)
+    return (U8, SIDE, left // SIDE + 1) if left >= SIDE else (U8, left + 1, 1)
 
 
 def to_the_quota(stream):
@@ -149,6 +151,10 @@ def to_great_sums(stream):
                    wire.node(wire.CONVOLVE, 1, draw.pick((5, 6, 7)), 3, border=border))
         stream.ask(client, IMMEDIATE, wire.node(wire.INTEGRAL, 1, None, 4))
         stream.ask_about_all()
+        stream.ask(client, IMMEDIATE, wire.node(wire.ACCUMULATE, 1, None, 2))
+        stream.ask(client, IMMEDIATE,
+                   wire.node(wire.ACCUMULATE_SQUARE, 1, None, 2, amount=draw.pick((0, 1, 8))))
+        stream.ask_about_all()
 
 
 def to_all_nodes(stream):
@@ -182,9 +188,32 @@ def to_all_nodes(stream):
         stream.ask(client, ADD_NODE, long(1) + node)
 
 
+# The sizes of white pictures whose samples have a sum above 2^32, by little.
+GREAT_SIZES = (4097, 4112), (4112, 4097), (SIDE, 2057), (2057, SIDE)
+
+
+def to_sums_that_wrap(stream):
+    """The integral of a picture whose samples' sum is no number of U32."""
+    client = stream.rng.choice(CLIENTS)
+    width, height = stream.rng.choice(GREAT_SIZES)
+    stream.ask(client, OPEN_CONTEXT, b"")
+    for fmt in (U8, U32):
+        stream.ask(client, CREATE_IMAGE, struct.pack(">BHH", fmt, width, height))
+    picture = wire.reference(1) + struct.pack(">BHH", U8, width, height)
+    stream.ask(client, WRITE_IMAGE, picture + b"\xff" * (width * height))
+    stream.ask(client, IMMEDIATE, wire.node(wire.INTEGRAL, 1, None, 2))
+    stream.ask(client, READ_IMAGE, wire.reference(2))
+
+
 # Of so many seeds in turn one gives each kind of stream that is not mixed.
 TURN = 48
-KINDS = {5: to_all_objects, 8: to_great_sums, 11: to_the_quota, 14: to_all_nodes}
+KINDS = {5: to_all_objects, 8: to_great_sums, 11: to_the_quota, 14: to_all_nodes,
+         17: to_sums_that_wrap}
+
+
+def is_slow(seed):
+    """Whether the model takes seconds for a stream."""
+    return KINDS.get(seed % TURN) is to_sums_that_wrap
 
 
 def stream_of(seed):

@@ -128,7 +128,9 @@ def with_refused(draw, name, function, cells):
 WINDOWED = range(wire.BOX, wire.CONVOLVE + 1)
 BORDERS = (wire.UNDEFINED, wire.CONSTANT, wire.REPLICATE)
 # Functions that run more often, since there is more about them.
-MANIFOLD = (wire.SOBEL, wire.SOBEL, wire.CONVOLVE, wire.CONVOLVE, wire.HISTOGRAM)
+MANIFOLD = (
+    wire.SOBEL, wire.SOBEL, wire.CONVOLVE, wire.CONVOLVE, wire.HISTOGRAM, wire.ACCUMULATE,
+    wire.ACCUMULATE_SQUARE)
 
 
 def border(draw, number):
@@ -147,7 +149,7 @@ def node_fields(draw, number, cells):
     function = FUNCTIONS[number]
     policy = draw.pick((1, 2, 255)) if draw.chance(0.015) else draw.pick(function.policies)
     greatest = function.greatest_amount or 0
-    if draw.chance(0.12 if greatest else 0.01):
+    if draw.chance(0.12 if greatest or function.accumulates else 0.01):
         amount = draw.pick((greatest + 1, 255))
     else:
         amount = draw.rng.randint(0, greatest)
@@ -222,7 +224,8 @@ def operands_in_graph(draw, number, things, written):
         return None
     _, second_format, *output_formats = formats_for(draw, allowed)
     outputs = [(cell, as_output(thing, function, first))
-               for cell, thing in things.items() if cell not in written]
+               for cell, thing in things.items() if cell not in written
+               and not (function.accumulates and isinstance(thing, model.VirtualImage))]
     choices = [cells_like(readable, first, function.kinds[IN2], second_format)]
     choices += [cells_like(outputs, first, function.kinds[k], fmt)
                 for k, fmt in zip(OUTPUTS, output_formats)]
@@ -264,11 +267,12 @@ def spoiled_operands(draw, cells, number, things, nodes, wanted):
     others = [cell for cell in cells[OUT1:] if cell is not None]
     virtual = [cell for cell, thing in things.items() if isinstance(thing, model.VirtualImage)]
     unwritten = [cell for cell in virtual if cell not in written]
+    loose = (OUT1,) if FUNCTIONS[number].accumulates and draw.chance(0.8) else (IN1, IN2)
     operands, pool = {
         MULTIPLE_WRITERS: (OUTPUTS, written + others),
         INVALID_GRAPH: (draw.pick((OUTPUTS, (IN1, IN2))),
                         cells_read(nodes) + cells[:OUT1] + others),
-        INVALID_LINK: ((IN1, IN2), unwritten),
+        INVALID_LINK: (loose, unwritten),
         INVALID_DIMENSION: ((IN2, *OUTPUTS), of_other_size(things, cells)),
     }.get(wanted, (range(4), [*things]))
     k = draw.pick(operands)
@@ -278,14 +282,21 @@ def spoiled_operands(draw, cells, number, things, nodes, wanted):
     return [draw.pick(pool) if at == k and pool else cell for at, cell in enumerate(cells)]
 
 
+# Functions that give a graph these faults more often than others do.
+ACCUMULATORS = tuple(number for number, function in FUNCTIONS.items() if function.accumulates)
+OFTEN_BY = {
+    MULTIPLE_WRITERS: (*(wire.HISTOGRAM, wire.MIN_MAX_LOCATION) * 3, *ACCUMULATORS),
+    INVALID_LINK: ACCUMULATORS}
+
+
 def node_for(draw, name, nodes, wanted=SUCCESS, work=None):
     """The fields of a node with which the verdict on a graph is this one, and the node; None where
     none is found."""
     things, written = things_for(draw, name, nodes), {*cells_written(nodes)}
     for _ in range(16 if wanted == SUCCESS else 60):
         number = any_function(draw)
-        if wanted == MULTIPLE_WRITERS and draw.chance(0.4):
-            number = draw.pick((wire.HISTOGRAM, wire.MIN_MAX_LOCATION))
+        if wanted in OFTEN_BY and draw.chance(0.4):
+            number = draw.pick(OFTEN_BY[wanted])
         cells = operands_in_graph(draw, number, things, written)
         if cells and wanted != SUCCESS:
             cells = spoiled_operands(draw, cells, number, things, nodes, wanted)
@@ -309,6 +320,21 @@ def any_nodes(draw, name, count, work):
             break
         found.append(following)
     return found
+
+
+def with_virtual_sum(draw, nodes):
+    """The nodes, of which one that writes a virtual image that is read adds to it instead, and what
+    there is of such a node: one or none."""
+    read = {*cells_read([node for _, node in nodes])}
+    places = [at for at, (_, node) in enumerate(nodes) if node.cells[OUT1] in read
+              and isinstance(draw.thing(node.cells[OUT1]), model.VirtualImage)]
+    if not places:
+        return nodes, []
+    at, number = draw.pick(places), draw.pick(ACCUMULATORS)
+    cells = nodes[at][1].cells
+    fields = node_fields(draw, number, [cells[IN1], None, cells[OUT1], None])
+    added = fields, node_of(fields)
+    return [*nodes[:at], added, *nodes[at + 1 :]], [added]
 
 
 FAULTS = (MULTIPLE_WRITERS, INVALID_GRAPH, INVALID_GRAPH, INVALID_LINK, INVALID_FORMAT,

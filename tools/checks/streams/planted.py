@@ -7,7 +7,7 @@ from checks import model
 from checks.model.faults import FAULTS, IN_OTHER_WORDS
 from checks.model.faults.fault import MODULES
 from checks.streams.failures import failure_of, tell
-from checks.streams.kinds import TURN, stream_of
+from checks.streams.kinds import TURN, is_slow, stream_of
 from checks.streams.serving import AT_ONCE
 
 # A fault is found in so many streams, or never.
@@ -30,15 +30,16 @@ def planted(changes):
 
 
 class Outputs:
-    """Streams, and what the program answers to them: each is run once, when it is first asked
-    for."""
+    """Streams, and what the program answers to them: each is run once, when it is first asked for.
+    Those for which the model takes long come last."""
 
     def __init__(self, program, seed):
-        self.program, self.seed, self.found = program, seed, []
+        self.program, self.found = program, []
+        self.seeds = sorted(range(seed, seed + FAULT_STREAMS), key=is_slow)
 
     def __getitem__(self, at):
         while len(self.found) <= at:
-            seed = self.seed + len(self.found)
+            seed = self.seeds[len(self.found)]
             stream = stream_of(seed)
             failure = failure_of(self.program, AT_ONCE, stream.limits, stream.frames,
                                  stream.replies, seed)
@@ -85,4 +86,4 @@ def check_faults(program, seed):
     if missed:
         sys.exit("\n".join(f"check_streams: {words}" for words in missed))
     print(f"check_streams: {len(faults)} wrong readings of the protocol were all found in the "
-          f"first {latest} streams, with the seeds from {seed} on")
+          f"first {latest} streams, with the seeds from {seed} on, those that take long last")

@@ -1,6 +1,7 @@
 """The table of random requests: what draws the body of each, and how often each is asked."""
 
 from checks import model
+from checks.model.functions import FUNCTIONS
 from checks.model.state import (
     ADD_NODE, AGE_DELAY, CREATE_CONVOLUTION, CREATE_DELAY, CREATE_DISTRIBUTION, CREATE_GRAPH,
     CREATE_IMAGE, CREATE_LUT, CREATE_MIN_MAX, CREATE_THRESHOLD, CREATE_VIRTUAL_IMAGE, IMMEDIATE,
@@ -60,8 +61,10 @@ NAMES_AT = {
     CREATE_VIRTUAL_IMAGE: (0,), ADD_NODE: (0, 9, 14, 19, 24), REMOVE_NODE: (0,),
     VERIFY_GRAPH: (0,), PROCESS_GRAPH: (0,), REGISTER_AUTO_AGING: (0, 4)}
 WRITTEN_AT = {WRITE_IMAGE: (0,), WRITE_IMAGE_PGM: (0,), SET_VALID: (0,), IMMEDIATE: (15, 20)}
-# Where the operands stand that a node reads.
-INPUTS_AT = (5, 10)
+# Where the operands stand whose samples a node takes, by the byte of its function: those that it
+# reads, and one that it adds to.
+TAKEN_AT = {bytes([number]): (5, 10, 15) if function.accumulates else (5, 10)
+            for number, function in FUNCTIONS.items()}
 
 # What is asked about an object of a kind, or about an image in a slot.
 QUESTIONS = {

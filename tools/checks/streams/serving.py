@@ -52,13 +52,13 @@ def write(process, data):
 
 def read(process, count):
     """So many bytes of the program's output, or those that come before its end."""
-    got = b""
+    got = bytearray()
     while len(got) < count:
         part = process.stdout.read(count - len(got))
         if not part:
             break
         got += part
-    return got
+    return bytes(got)
 
 
 def read_reply(process):

@@ -3,7 +3,7 @@
 from feqyldan import wire
 from feqyldan.wire import SUCCESS
 from checks import model
-from checks.model.graphs import cells_of, cells_read, cells_written
+from checks.model.graphs import cells_added_to, cells_of, cells_read, cells_written
 from checks.model.state import (
     ADD_NODE, AGE_DELAY, CREATE_GRAPH, CREATE_VIRTUAL_IMAGE, PROCESS_GRAPH, REGISTER_AUTO_AGING,
     RELEASE, REMOVE_NODE, VERIFY_GRAPH, WRITE_IMAGE)
@@ -68,7 +68,10 @@ class Session:
         work = draw.limits.work if draw.chance(0.5) else model.LIMITS.work
         nodes = random_nodes.any_nodes(draw, self.name, count, work)
         faults = self.faults_for(nodes) if draw.chance(0.25) else []
-        nodes = [*nodes, *faults]
+        # Often beside another fault, so that it shows which of both is told.
+        has_sum = draw.chance(0.3 if faults else 0.06)
+        nodes, sums = random_nodes.with_virtual_sum(draw, nodes) if has_sum else (nodes, [])
+        nodes, faults = [*nodes, *faults], [*faults, *sums]
         if draw.chance(0.7):
             rng.shuffle(nodes)
         for fields, node in nodes:
@@ -152,9 +155,9 @@ class Session:
         yield from self.run_again()
 
     def write(self):
-        """An image that is read becomes another one, or valid in another part."""
-        read = {*cells_read(self.nodes())}
-        images = [(cell, image) for cell, image in self.draw.cells(model.Image) if cell in read]
+        """An image that is read, or added to, becomes another one, or valid in another part."""
+        taken = {*cells_read(self.nodes()), *cells_added_to(self.nodes())}
+        images = [(cell, image) for cell, image in self.draw.cells(model.Image) if cell in taken]
         if images:
             cell, image = self.draw.pick(images)
             samples = self.draw.samples(image.fmt, image.width * image.height)

@@ -6,6 +6,7 @@ import struct
 from feqyldan import wire
 from feqyldan.wire import SUCCESS, U8
 from checks import model
+from checks.model.functions import GREATEST_SIDE
 from checks.model.graphs import cells_written
 from checks.model.state import (
     AGE_DELAY, CREATE_DELAY, CREATE_IMAGE, IMMEDIATE, OPEN_CONTEXT, PROCESS_GRAPH, QUERY_IMAGE,
@@ -14,7 +15,7 @@ from checks.streams import bodies
 from checks.streams.bodies import spoiled
 from checks.streams.draw import Draw, cell_bytes, long
 from checks.streams.requests import (
-    BODIES, FEW, GRAPH, INPUTS_AT, NO_GRAPH, QUESTIONS, UNKNOWN, WEIGHTS, WRITTEN_AT)
+    BODIES, FEW, GRAPH, NO_GRAPH, QUESTIONS, TAKEN_AT, UNKNOWN, WEIGHTS, WRITTEN_AT)
 from checks.streams.session import ENDED, Session
 
 
@@ -69,12 +70,13 @@ class Stream:
         for right after."""
         draw = self.draw_of(client)
         body = spoiled(draw, BODIES[op](draw))
+        taken = [body[at : at + 5] for at in TAKEN_AT.get(body[:1], ())]
         if op == IMMEDIATE and draw.chance(0.25):
-            self.confine(client, [body[at : at + 5] for at in INPUTS_AT])
+            self.confine(client, taken)
         code = self.ask(client, op, body)
         if code == SUCCESS and op == IMMEDIATE and draw.chance(0.2):
             self.ask_about(client, [body[at : at + 5] for at in WRITTEN_AT[op]])
-            self.confine(client, [body[at : at + 5] for at in INPUTS_AT], 0.3)
+            self.confine(client, taken, 0.3)
             code = self.ask(client, op, body)
         if code == SUCCESS and op in WRITTEN_AT:
             self.ask_about(client, [body[at : at + 5] for at in WRITTEN_AT[op]])
@@ -160,13 +162,14 @@ class Stream:
 
     def ask_for_bytes(self, client, count):
         """The code of the reply to CreateImage, for an image of so many bytes."""
-        return self.ask(client, CREATE_IMAGE, struct.pack(">BHH", U8, min(count, 4096), 1))
+        return self.ask(client, CREATE_IMAGE, struct.pack(">BHH", U8, min(count, GREATEST_SIDE), 1))
 
     def use_up_quota(self, client):
         """Whether the client has used up its quota, or does so now by one image, since no more is
         left."""
         left = self.limits.quota - model.charge(self.clients.state_of(client).context)
-        return left == 0 or (left <= 4096 and self.ask_for_bytes(client, left) == SUCCESS)
+        is_little = left <= GREATEST_SIDE
+        return left == 0 or (is_little and self.ask_for_bytes(client, left) == SUCCESS)
 
     def ask_about_all(self):
         for client, draw in self.draws.items():

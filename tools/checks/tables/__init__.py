@@ -9,7 +9,7 @@ from checks.tables.devices import check_devices
 from checks.tables.endings import check_streams
 from checks.tables.limits import check_quota, check_told_limits
 from checks.tables.program import Program
-from checks.tables.sessions import check_greatest_integral, check_sessions
+from checks.tables.sessions import check_greatest_integrals, check_sessions
 from checks.tables.words import check_refused_words, check_words
 
 
@@ -20,7 +20,7 @@ def main() -> None:
     check_streams(program)
     bodies = check_bodies(program)
     asked = check_sessions(program)
-    check_greatest_integral(program)
+    check_greatest_integrals(program)
     check_quota(program)
     check_told_limits(program)
     check_apply(program)

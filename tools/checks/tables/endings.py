@@ -21,9 +21,11 @@ ENDINGS = (
     ("a length of 2", "00 00 00 02", "", *BAD_LENGTH),
     ("a length of 2, and more", "00 00 00 02 00 07", "", *BAD_LENGTH),
     ("a length of 0", "00 00 00 00", "", *BAD_LENGTH),
-    ("the greatest length", "08 00 00 00", "", *TRUNCATED),
-    ("the greatest length, begun", "08 00 00 00 00 07 01", "", *TRUNCATED),
-    ("a length one too great", "08 00 00 01 00 07 01", "", *BAD_LENGTH),
+    ("a length above 2^27", "08 00 00 01", "", *TRUNCATED),
+    ("a length above 2^27, begun", "08 00 00 01 00 07 01", "", *TRUNCATED),
+    ("the greatest length", "20 00 00 00", "", *TRUNCATED),
+    ("the greatest length, begun", "20 00 00 00 00 07 01", "", *TRUNCATED),
+    ("a length one too great", "20 00 00 01 00 07 01", "", *BAD_LENGTH),
     ("the greatest number", "ff ff ff ff", "", *BAD_LENGTH),
     ("the least frame", "00 00 00 03 00 07 01", "00 00 00 04 00 07 01 00", 0, b""),
     ("the greatest client and op", "00 00 00 03 ff ff ff", "00 00 00 04 ff ff ff 02", 0, b""),
@@ -55,9 +57,28 @@ def check_streams(program: Program) -> None:
     turns = [(bytes.fromhex(request), bytes.fromhex(reply)) for request, reply in TURNS]
     check_prefixes(program, "the turns", turns)
     check_turns(program, turns)
+    check_long_frames(program)
     aged = [(request, reply_to(request, wanted))
             for request, wanted in graph_before_and_after_ageing()]
     check_prefixes(program, "a graph on a delay", aged)
+
+
+def check_long_frames(program: Program) -> None:
+    """Frames above 2^27 bytes, and as long as may be, of zeros after their ops; and what follows
+    them, OpenContext."""
+    opened, then = bytes.fromhex("00 00 00 03 00 07 01"), "00 00 00 04 00 07 01 00"
+    for words, head, reply in (
+        ("a body above 2^27 bytes for an op that has none", "08 00 00 01 00 07 01",
+         "00 00 00 04 00 07 01 02"),
+        ("the longest frame, an op that isn't known", "20 00 00 00 00 07 c8",
+         "00 00 00 04 00 07 c8 02"),
+        ("the longest frame, WriteImagePgm", "20 00 00 00 00 07 06", "00 00 00 04 00 07 06 03"),
+    ):
+        front = bytes.fromhex(head)
+        length = 4 + int.from_bytes(front[:4], "big") + len(opened)
+        *got, _ = program.run_on_file(front, length, opened)
+        wanted = [0, bytes.fromhex(reply + then), b""]
+        check(got == wanted, f"{words}: {got}, not {wanted}")
 
 
 def check_prefixes(program: Program, words: str, pairs: Pairs) -> None:

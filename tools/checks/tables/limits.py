@@ -29,6 +29,16 @@ QUOTA_ROWS = (
 )
 
 
+# Images of the greatest sides: one of U32 takes all of it, as two of S16 and four of U8 do.
+GREATEST_ROWS = (
+    *(made(number, U8, 8192, 8192) for number in (1, 2, 3, 4)), no_room(U8, 1, 1),
+    *(released(number) for number in (1, 2, 3, 4)),
+    *(made(number, S16, 8192, 8192) for number in (5, 6)), no_room(U8, 1, 1), released(5),
+    no_room(U32, 8192, 4097), released(6), made(7, U8), no_room(U32, 8192, 8192), released(7),
+    made(8, U32, 8192, 8192), no_room(U8, 1, 1),
+)
+
+
 def check_quota(program: Program) -> None:
     program.check_rows("the default quota",
                        [opened(), *QUOTA_ROWS, opened(8), made(1, U8, client=8),
@@ -39,6 +49,7 @@ def check_quota(program: Program) -> None:
               released(6), made(7, S16, 4096, 2049),
               (wire.create_image(CLIENT, U8, 1, 1), NO_RESOURCES)]
     program.check_rows("just below the default quota", [opened(), *nearly])
+    program.check_rows("images of the greatest sides", [opened(), *GREATEST_ROWS])
 
 
 def quotas() -> Iterator[Tuple[str, List[Row]]]:

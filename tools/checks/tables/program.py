@@ -3,6 +3,7 @@
 import os
 import subprocess
 import sys
+import tempfile
 from typing import Sequence, Tuple, Union
 
 from feqyldan import wire
@@ -32,6 +33,23 @@ class Program:
         self.runs += 1
         run = subprocess.run([self.path, *words], input=stream, capture_output=True, timeout=120)
         return run.returncode, run.stdout, run.stderr
+
+    def run_on_file(self, front: bytes, length: int, end: bytes = b"",
+                    words: Sequence[Word] = ("serve",)) -> Tuple[int, bytes, bytes, int]:
+        """The program's status, output and line on standard error, and how much it has read, of a
+        file of so many bytes, which are 0 between its front and its end. Nobody has all of them in
+        memory but, perhaps, the program."""
+        self.runs += 1
+        with tempfile.TemporaryFile() as stream:
+            stream.write(front)
+            stream.seek(length - len(end))
+            stream.write(end)
+            stream.truncate(length)
+            stream.seek(0)
+            run = subprocess.run([self.path, *words], stdin=stream, capture_output=True,
+                                 timeout=120)
+            at = os.lseek(stream.fileno(), 0, os.SEEK_CUR)
+        return run.returncode, run.stdout, run.stderr, at
 
     def check(self, name: str, stream: bytes, output: bytes, status: int = 0, line: bytes = b"",
               words: Sequence[Word] = ("serve",)) -> None:

@@ -1,4 +1,4 @@
-"""Every session, request by request; and the greatest integral."""
+"""Every session, request by request; and the integrals of the greatest sums."""
 
 import struct
 
@@ -17,21 +17,34 @@ def check_sessions(program: Program) -> int:
     return asked
 
 
-def check_greatest_integral(program: Program) -> None:
-    """Of 4096 by 4096 samples of 255: 255 * (x + 1) * (y + 1), and so 4,278,190,080 at the end."""
-    side = 4096
+# The width and the height of a white picture, and the last sample of its integral: the greatest sum
+# whose rows and columns are alike and that isn't above 2^32 - 1, one that is just above that, and
+# the greatest.
+GREATEST_INTEGRALS = (
+    (4096, 4096, 4_278_190_080), (4097, 4112, 983_024), (8192, 8192, 4_227_858_432))
+
+
+def check_greatest_integrals(program: Program) -> None:
+    for width, height, last in GREATEST_INTEGRALS:
+        check_integral(program, width, height, last)
+
+
+def check_integral(program: Program, width: int, height: int, last: int) -> None:
+    """Of so many samples of 255: 255 * (x + 1) * (y + 1) modulo 2^32."""
+    name, quota = f"the integral of {width} by {height}", f"--quota={2**30}"
     status, output, _ = program.run(b"".join((
-        wire.open_context(CLIENT), wire.create_image(CLIENT, U8, side, side),
-        wire.create_image(CLIENT, U32, side, side),
-        wire.write_image(CLIENT, 1, U8, side, side, b"\xff" * side**2),
-        wire.immediate(CLIENT, INTEGRAL, 1, None, 2), wire.read_image(CLIENT, 2))))
-    replies = wire.replies(output)
+        wire.open_context(CLIENT), wire.create_image(CLIENT, U8, width, height),
+        wire.create_image(CLIENT, U32, width, height),
+        wire.write_image(CLIENT, 1, U8, width, height, b"\xff" * (width * height)),
+        wire.immediate(CLIENT, INTEGRAL, 1, None, 2), wire.read_image(CLIENT, 2))),
+        ("serve", quota))
+    # The output may be long, and isn't copied.
+    replies = wire.replies(memoryview(output))
     check(status == 0 and [wire.code_of(reply) for reply in replies] == [SUCCESS] * 6,
-          f"the greatest integral: status {status}")
+          f"{name}: status {status}")
     samples = replies[-1][13:]
-    check(samples[-4:] == struct.pack(">I", 4_278_190_080),
-          f"the greatest integral: it ends with {samples[-4:].hex(' ')}")
-    for y in (0, 1, 2047, side - 1):
-        row = struct.unpack_from(f">{side}I", samples, 4 * side * y)
-        check(row == tuple(255 * (y + 1) * x for x in range(1, side + 1)),
-              f"the greatest integral: row {y}")
+    check(samples[-4:] == struct.pack(">I", last), f"{name}: it ends with {samples[-4:].hex(' ')}")
+    for y in (0, 1, height // 2 - 1, height // 2, height - 1):
+        row = struct.unpack_from(f">{width}I", samples, 4 * width * y)
+        check(row == tuple(255 * (y + 1) * x % 2**32 for x in range(1, width + 1)),
+              f"{name}: row {y}")

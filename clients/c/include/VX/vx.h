@@ -166,7 +166,18 @@ enum vx_enum_e {
 
 enum vx_direction_e {
     VX_INPUT = VX_ENUM_BASE(VX_ID_KHRONOS, VX_ENUM_DIRECTION) + 0x0,
-    VX_OUTPUT = VX_ENUM_BASE(VX_ID_KHRONOS, VX_ENUM_DIRECTION) + 0x1
+    VX_OUTPUT = VX_ENUM_BASE(VX_ID_KHRONOS, VX_ENUM_DIRECTION) + 0x1,
+    VX_BIDIRECTIONAL = VX_ENUM_BASE(VX_ID_KHRONOS, VX_ENUM_DIRECTION) + 0x2
+};
+
+/* The standard's numbers of functions that add to an image. No call here takes a kernel. */
+#define VX_KERNEL_BASE(vendor, lib) (((vendor) << 20) | ((lib) << 12))
+
+enum vx_library_e { VX_LIBRARY_KHR_BASE = 0x0 };
+
+enum vx_kernel_e {
+    VX_KERNEL_ACCUMULATE = VX_KERNEL_BASE(VX_ID_KHRONOS, VX_LIBRARY_KHR_BASE) + 0x16,
+    VX_KERNEL_ACCUMULATE_SQUARE = VX_KERNEL_BASE(VX_ID_KHRONOS, VX_LIBRARY_KHR_BASE) + 0x18
 };
 
 enum vx_parameter_state_e {
@@ -453,7 +464,7 @@ VX_API_ENTRY vx_status VX_API_CALL vxSetReferenceName(vx_reference ref, const vx
 /* ---- Images ---- */
 
 /* An image, 0 everywhere and wholly valid. VX_ERROR_NOT_SUPPORTED, a format but U8, S16 and U32;
-   VX_ERROR_INVALID_DIMENSION, a side isn't from 1 to 4096; VX_ERROR_NO_RESOURCES, the context's
+   VX_ERROR_INVALID_DIMENSION, a side isn't from 1 to 8192; VX_ERROR_NO_RESOURCES, the context's
    quota or its 1,024 objects are used up. */
 VX_API_ENTRY vx_image VX_API_CALL vxCreateImage(vx_context context, vx_uint32 width,
                                                 vx_uint32 height, vx_df_image color);
@@ -640,7 +651,7 @@ VX_API_ENTRY vx_status VX_API_CALL vxQueryGraph(vx_graph graph, vx_enum attribut
 VX_API_ENTRY vx_status VX_API_CALL vxReleaseGraph(vx_graph *graph);
 
 /* Whether the graph as it is now can run. VX_ERROR_MULTIPLE_WRITERS; VX_ERROR_INVALID_GRAPH, it has
-   a cycle; VX_ERROR_INVALID_LINK, a virtual image that is read isn't written;
+   a cycle; VX_ERROR_INVALID_LINK, a virtual image that is read isn't written, or is added to;
    VX_ERROR_INVALID_FORMAT and VX_ERROR_INVALID_DIMENSION, of a node's images;
    VX_ERROR_INVALID_VALUE, a node's threshold, scale or shift; VX_ERROR_NOT_SUPPORTED, a scale but
    1 / 2^n; VX_ERROR_NO_RESOURCES, the virtual images are too large, or a graph has more than 256
@@ -768,6 +779,14 @@ VX_API_ENTRY vx_node VX_API_CALL vxMinMaxLocNode(vx_graph graph, vx_image input,
                                                  vx_scalar maxVal, vx_array minLoc,
                                                  vx_array maxLoc, vx_scalar minCount,
                                                  vx_scalar maxCount);
+
+/* Each run adds once to what accum held before it, and the nodes that read accum read the new sums.
+   It is no virtual image, of which vxVerifyGraph answers VX_ERROR_INVALID_LINK. The shift is a
+   VX_TYPE_UINT32, which is read when the graph is verified or run. */
+VX_API_ENTRY vx_node VX_API_CALL vxAccumulateImageNode(vx_graph graph, vx_image input,
+                                                       vx_image accum);
+VX_API_ENTRY vx_node VX_API_CALL vxAccumulateSquareImageNode(vx_graph graph, vx_image input,
+                                                             vx_scalar shift, vx_image accum);
 
 #ifdef __cplusplus
 }

@@ -88,7 +88,8 @@ VX_API_ENTRY vx_status VX_API_CALL vxuConvolve(vx_context context, vx_image inpu
 VX_API_ENTRY vx_status VX_API_CALL vxuHistogram(vx_context context, vx_image input,
                                                 vx_distribution distribution);
 
-/* At each pixel the sum of those neither to the right of it nor below it. U8 to U32. */
+/* At each pixel the sum of those neither to the right of it nor below it, modulo 2^32. U8 to
+   U32. */
 VX_API_ENTRY vx_status VX_API_CALL vxuIntegralImage(vx_context context, vx_image input,
                                                     vx_image output);
 
@@ -99,6 +100,16 @@ VX_API_ENTRY vx_status VX_API_CALL vxuMinMaxLoc(vx_context context, vx_image inp
                                                 vx_scalar minVal, vx_scalar maxVal,
                                                 vx_array minLoc, vx_array maxLoc,
                                                 vx_scalar minCount, vx_scalar maxCount);
+
+/* Adds each sample to the one that accum holds there; a sum above 32767 is 32767. U8 to S16. The
+   valid pixels of accum are those of before that are valid in the input too. */
+VX_API_ENTRY vx_status VX_API_CALL vxuAccumulateImage(vx_context context, vx_image input,
+                                                      vx_image accum);
+
+/* The same with the square of each sample, shifted to the right by a VX_TYPE_UINT32 from 0 to
+   15. */
+VX_API_ENTRY vx_status VX_API_CALL vxuAccumulateSquareImage(vx_context context, vx_image input,
+                                                            vx_scalar shift, vx_image accum);
 
 #ifdef __cplusplus
 }

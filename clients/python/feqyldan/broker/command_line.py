@@ -16,7 +16,7 @@ from .machine import memory_bytes, processors, raise_file_limit
 MOST_CONNECTIONS = 65_536
 MOST_SERVERS, MOST_SERVERS_UNLESS_TOLD = 256, 8
 LEAST_MEMORY, MOST_MEMORY = 2**24, 2**48
-DEFAULTS = Limits(connections=64, per_process=8, per_user=MOST_CONNECTIONS, bytes_held=67_174_400,
+DEFAULTS = Limits(connections=64, per_process=8, per_user=MOST_CONNECTIONS, bytes_held=268_500_992,
                   patience=30.0, idle=None, grace=10.0, report=60.0)
 USAGE = """
 Bytes held: of each connection the broker holds at most one request frame and one reply, of at most
@@ -124,7 +124,7 @@ def add_limits(made: argparse.ArgumentParser) -> None:
     add("--bytes-held", type=partial(number_from, 7, GREATEST_LENGTH + 4),
         default=DEFAULTS.bytes_held,
         metavar="BYTES", help="the longest request frame, and the longest reply "
-                              f"({DEFAULTS.bytes_held}: those of an image of 4096x4096 U32 fit)")
+                              f"({DEFAULTS.bytes_held}: those of an image of 8192x8192 U32 fit)")
     add("--patience", type=seconds_from, default=DEFAULTS.patience, metavar="SECONDS",
         help="a connection is ended that sends nothing of a frame that it began, or takes nothing "
              f"of its replies, for so long ({DEFAULTS.patience:g}); between frames it may wait as "

@@ -6,7 +6,7 @@ from typing import List, Optional
 
 from .. import wire
 
-LEAST_LENGTH, GREATEST_LENGTH = 3, 134_217_728
+LEAST_LENGTH, GREATEST_LENGTH = wire.LEAST_LENGTH, wire.GREATEST_LENGTH
 # A frame's length, its client and its op; the least bytes of a frame.
 HEAD, CLIENT = struct.Struct(">IHB"), struct.Struct(">H")
 LEAST_FRAME = 7

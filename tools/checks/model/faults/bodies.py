@@ -58,6 +58,8 @@ BODY_FAULTS = (
     Fault("a missing context is told before the fields", None, {"answer": answer_context_first}),
     Fault("a description that is cut short is told before its format", None,
           description_is(description_at_once)),
+    Fault("a side is 4096 at most", None, {"GREATEST_SIDE": 4096}),
+    Fault("a side may be 8193", None, {"GREATEST_SIDE": 8193}),
     Fault("a range may end below its start", None, {"take_limit": limit_unordered}),
     Fault("an amount that is too great answers INVALID_PARAMETERS", None,
           {"take_amount": amount_as_parameter}),

@@ -3,11 +3,17 @@
 from feqyldan import wire
 from feqyldan.wire import S16
 from checks.model.faults.fault import Fault, right, with_row
+from checks.model.functions import OUT1
 
 
 def with_value(number, value):
     """A pixelwise function with another value."""
     return with_row(number, gives=right.pixelwise(value))
+
+
+def with_sum(number, value):
+    """A function that adds to its output, with another value."""
+    return with_row(number, gives=right.pixelwise(value, OUT1))
 
 
 def narrowed_by(narrow):
@@ -72,6 +78,33 @@ def entry_from_zero(table, sample):
     return table.entries[sample % len(table.entries)]
 
 
+def sum_wrapped(a, c, way):
+    return right.wrap(c + a, way.fmt)
+
+
+def shifted_before(a, c, way):
+    """A sample is shifted before it is squared."""
+    return right.clamp(c + (a // 2**way.amount)**2, way.fmt)
+
+
+def sum_shifted(a, c, way):
+    return right.clamp((c + a * a) // 2**way.amount, way.fmt)
+
+
+def square_rounded_up(a, c, way):
+    return right.clamp(c + rounded_up(a * a, way.amount), way.fmt)
+
+
+def square_clamped(a, c, way):
+    """A square is S16 before it is added."""
+    return right.clamp(c + right.clamp(a * a // 2**way.amount, way.fmt), way.fmt)
+
+
+def sum_of_samples_from_zero(a, c, way):
+    """What is below 0 counts as 0."""
+    return right.clamp(max(c, 0) + a, way.fmt)
+
+
 FUNCTION_FAULTS = (
     Fault("Multiply rounds up", None, multiplied(rounded_up)),
     Fault("Multiply rounds down", None, multiplied(rounded_down)),
@@ -88,4 +121,21 @@ FUNCTION_FAULTS = (
     Fault("a range ends before its upper limit", None, {"passes": passes_below_upper}),
     Fault("a table of S16 is one entry off", None, {"entry_for": next_entry}),
     Fault("a table begins with the entry for 0", None, {"entry_for": entry_from_zero}),
+    Fault("Accumulate writes the sample", None,
+          with_sum(wire.ACCUMULATE, lambda a, c, way: a)),
+    Fault("Accumulate wraps", None, with_sum(wire.ACCUMULATE, sum_wrapped)),
+    Fault("Accumulate adds to 0 where the sum is below", None,
+          with_sum(wire.ACCUMULATE, sum_of_samples_from_zero)),
+    Fault("Accumulate has an amount", None, with_row(wire.ACCUMULATE, greatest_amount=15)),
+    Fault("AccumulateSquare shifts a sample before it is squared", None,
+          with_sum(wire.ACCUMULATE_SQUARE, shifted_before)),
+    Fault("AccumulateSquare shifts the sum", None, with_sum(wire.ACCUMULATE_SQUARE, sum_shifted)),
+    Fault("AccumulateSquare rounds up", None,
+          with_sum(wire.ACCUMULATE_SQUARE, square_rounded_up)),
+    Fault("AccumulateSquare saturates the square", None,
+          with_sum(wire.ACCUMULATE_SQUARE, square_clamped)),
+    Fault("AccumulateSquare adds the sample", None,
+          with_sum(wire.ACCUMULATE_SQUARE, right.accumulated)),
+    Fault("AccumulateSquare has an amount of 16", None,
+          with_row(wire.ACCUMULATE_SQUARE, greatest_amount=16)),
 )

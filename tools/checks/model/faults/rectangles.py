@@ -222,6 +222,13 @@ def rectangles_of(number):
             yield Fault(
                 f"function {number} gives an image that is valid where the {words} input is",
                 SET_VALID, with_output(valid_as(k), [number]))
+    if right.FUNCTIONS[number].accumulates:
+        yield Fault(f"function {number} gives an image that is valid where in1 is", SET_VALID,
+                    with_output(valid_as(IN1), [number]))
+        yield Fault(f"function {number} gives an image that is valid where it was before",
+                    SET_VALID, with_output(valid_as_before, [number]))
+        yield Fault(f"function {number} keeps the sums outside the rectangle", SET_VALID,
+                    with_output(over_the_old, [number]))
 
 
 RECTANGLE_FAULTS = (

@@ -1,5 +1,7 @@
 """Wrong readings on statistics."""
 
+from itertools import accumulate
+
 from feqyldan import wire
 from feqyldan.wire import HISTOGRAM, MIN_MAX_LOCATION, U32
 from checks.model.faults.fault import Fault, right, whole_of, with_row
@@ -79,6 +81,10 @@ def sum_of_row(image, x, y):
     return sum(right.sample_at(image, k, y) for k in range(image.valid.left, x + 1))
 
 
+def saturated_row(above, samples):
+    return [right.clamp(one + other, U32) for one, other in zip(above, accumulate(samples))]
+
+
 def with_extremes(extremes_of):
     return {"extremes_of": extremes_of}
 
@@ -138,6 +144,7 @@ STATISTIC_FAULTS = (
     Fault("Integral begins anew in each row", None, with_sums(sum_of_row)),
     Fault("Integral has sums of 16 bits", None,
           with_sums(lambda image, x, y: sum_of(image, x + 1, y + 1) % 2**16)),
+    Fault("Integral's sums saturate", None, {"row_of_sums": saturated_row}),
     Fault("MinMaxLoc tells the last places", None, with_extremes(extremes_at_last)),
     Fault("MinMaxLoc tells the first places by columns", None, with_extremes(extremes_by_columns)),
     Fault("MinMaxLoc counts places from the valid rectangle's start", SET_VALID,

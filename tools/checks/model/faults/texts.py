@@ -76,9 +76,19 @@ def maxval_before_sides(text):
 
 def maxval_is_value(text):
     width, height, maxval = right.header_of(text)[1]
-    is_told = 1 <= width <= 4096 and 1 <= height <= 4096
+    is_told = all(1 <= side <= right.GREATEST_SIDE for side in (width, height))
     model.refuse_if(is_told and not 1 <= maxval <= right.GREATEST_MAXVAL, INVALID_VALUE)
     return right.picture_of(text)
+
+
+def sides_to(greatest):
+    """Other greatest sides of a text's picture."""
+    def picture_of(text):
+        sides = right.header_of(text)[1][:2]
+        model.refuse_if(any(side > greatest for side in sides), INVALID_DIMENSION)
+        return right.picture_of(text)
+
+    return {"picture_of": picture_of}
 
 
 def raster_before_sides(text):
@@ -243,6 +253,7 @@ PGM_FAULTS = tuple(Fault(words, WRITE_IMAGE_PGM, changes) for words, changes in 
     ("a sample above maxval is maxval", {"picture_of": above_maxval}),
     ("maxval is told before the sides", {"picture_of": maxval_before_sides}),
     ("a maxval that isn't allowed is told as INVALID_VALUE", {"picture_of": maxval_is_value}),
+    ("a text's sides are 4096 at most", sides_to(4096)),
     ("the raster is told before the sides", {"picture_of": raster_before_sides}),
     ("a sample above maxval is told before what is wrong after it",
      {"picture_of": sample_before_raster}),

@@ -3,6 +3,7 @@ words.
 """
 
 from checks.model.faults.fault import right
+from checks.model.faults.graphs.accumulators import ACCUMULATOR_FAULTS
 from checks.model.faults.graphs.ageing import AGEING_FAULTS
 from checks.model.faults.graphs.held import HOLD_FAULTS
 from checks.model.faults.graphs.nodes import ADD_NODE_FAULTS, NODE_FAULTS
@@ -13,7 +14,7 @@ from checks.model.faults.refusals import verdict_at
 
 GRAPH_FAULTS = (
     *HOLD_FAULTS, *NODE_FAULTS, *ADD_NODE_FAULTS, *VIRTUAL_FAULTS, *VERDICT_FAULTS, *OPEN_FAULTS,
-    *KEPT_FAULTS, *RUN_FAULTS, *AGEING_FAULTS)
+    *KEPT_FAULTS, *RUN_FAULTS, *AGEING_FAULTS, *ACCUMULATOR_FAULTS)
 
 # Each is right, and isn't to be found.
 IN_OTHER_WORDS = (

@@ -74,8 +74,9 @@ KEPT_FAULTS = graph_faults(
 def run_in(order):
     """Once through the nodes in another order."""
     def run(nodes, things):
+        before = things
         for node in order(nodes):
-            things = {**things, **right.given(node, things)}
+            things = {**things, **right.given(node, things, before)}
         return things
 
     return {"run": run}
@@ -83,9 +84,10 @@ def run_in(order):
 
 def run_for(rounds):
     def run(nodes, things):
+        before = things
         for _ in nodes[:rounds]:
             values = {cell: thing for node in nodes
-                      for cell, thing in right.given(node, things).items()}
+                      for cell, thing in right.given(node, things, before).items()}
             things = {**things, **values}
         return things
 
@@ -99,7 +101,7 @@ def run_on_old_images(limits, context, nodes):
     for node in right.in_order(nodes):
         seen = {cell: after[cell] if is_virtual(thing) else before[cell]
                 for cell, thing in things.items()}
-        after = {**after, **right.given(node, seen)}
+        after = {**after, **right.given(node, seen, before)}
     for cell in right.cells_written(nodes):
         if not is_virtual(things[cell]):
             right.put(context, cell, after[cell])

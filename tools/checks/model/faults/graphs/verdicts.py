@@ -114,7 +114,7 @@ def missing_reader(nodes, things, work):
     unread = {*right.cells_written(nodes)} - {*right.cells_read(nodes)}
     if any(is_virtual(things[cell]) for cell in unread):
         return wire.INVALID_LINK
-    return right.missing_writer(nodes, things, work)
+    return right.loose_end(nodes, things, work)
 
 
 def missing_open_writer(nodes, things, work):

@@ -48,7 +48,7 @@ def text_before_virtual(limits, state, cell, text):
 
 def set_valid_declared(limits, state, cell, rectangle):
     image = right.any_image_in(state.context, cell)
-    width, height = image.width or 4096, image.height or 4096
+    width, height = (side or right.GREATEST_SIDE for side in (image.width, image.height))
     beyond = is_virtual(image) and not right.is_within(rectangle, width, height)
     model.refuse_if(beyond, wire.INVALID_VALUE)
     return right.set_valid(limits, state, cell, rectangle)
@@ -130,6 +130,13 @@ def take_by_height(fields):
     return name, fmt, width, height
 
 
+def take_smaller(fields):
+    """Its sides are 4096 at most."""
+    name, fmt, *sides = right.take_virtual_image(fields)
+    model.refuse_if(any(side > 4096 for side in sides), wire.INVALID_DIMENSION)
+    return name, fmt, *sides
+
+
 def take_whole_or_none(fields):
     """It has a format and a size, or all of it is open."""
     name, *declared = right.take_virtual_image(fields)
@@ -179,6 +186,7 @@ VIRTUAL_FAULTS = graph_faults(
     ("at the quota no virtual image finds room", {"has_room": no_room_at_quota}),
     ("a virtual image that is cut short is told before its format", taken_as(declared_at_once)),
     ("a virtual image has its height before its width", taken_as(take_by_height)),
+    ("a virtual image's sides are 4096 at most", taken_as(take_smaller)),
     ("a virtual image is wholly open or not at all", taken_as(take_whole_or_none)),
     ("a virtual image has to be declared", taken_as(take_declared)),
     ("a virtual image of what isn't a graph answers INVALID_GRAPH", virtual_of(wire.INVALID_GRAPH)),

@@ -12,7 +12,7 @@ use Rattle.object_table.specs.Table.{cell_object, image_held}
 use Rattle.graph_run.specs.declared.stage.Stage.{Stage}
 use Rattle.graph_run.specs.Stage.{scene, Resized}
 use Rattle.graph_run.proofs.StageLemmas.{none_resized}
-use Rattle.graph_run.proofs.StandingLemmas.{place_is, nowhere, as_image, as_object, has_holder, described, for_slot, slot_count, valid_here, slot_set, for_held, held_set}
+use Rattle.graph_run.proofs.StandingLemmas.{place_is, nowhere, as_image, as_object, has_holder, described, for_slot, taken_here, slot_count, valid_here, slot_set, for_held, taken_held, held_set}
 use Rattle.graph_run.proofs.stage.Stage.take.Goals as goal
 
 -- ---- out of a slot
@@ -38,6 +38,7 @@ returns-in-Some c =
     record {
       desc = described s is cell k at t read there c.desc.result c.desc.ensures;
       samples = for_slot s is cell k at t read there c.desc.result c.take.result c.desc.ensures c.take.ensures.format c.take.ensures.value c.requires.image;
+      value = taken_here s is cell k at t read there c.desc.result c.take.result c.desc.ensures c.take.ensures.value;
       count = slot_count s is cell k at t read there c.take.result c.take.ensures.value;
       stage = set.0;
       left = set.1 ∙ ap (λ (zs : List ℤ). left t.valid (take places zs)) c.take.ensures.left ∙ ap (left t.valid) (take-nil places)
@@ -64,6 +65,7 @@ returns-in-None c =
     record {
       desc = taken.desc ∙ ap (λ (x : ObjectValue). description_of (image_value x)) same;
       samples = for_held s is cell none c.requires.there c.take-in-None.result.0 c.take-in-None.result.1 taken.desc taken.format taken.value c.requires.image;
+      value = taken_held s is cell none c.requires.there c.take-in-None.result.0 c.take-in-None.result.1 taken.desc taken.value c.requires.image;
       count = none_resized s.slots.items cell.name _ (nowhere s is cell none);
       stage = set.0;
       left = set.1 ∙ ap (λ (x : ObjectValue). with_objects (scene s) (with_object (scene s).objects cell (with_samples x (image_value x).valid []))) same;

@@ -1,0 +1,59 @@
+//! Sums that a row of bytes is added to, in place.
+ghost use Rattle.std.specs.Prelude.{◌≡◌, ◌≤◌, ◌*◌, ◌/◌, ◌^◌, pos, map, length};
+ghost use Rattle.std.specs.Simd.Lanes.{zip2};
+ghost use Rattle.vx_base.specs.declared.format.Format.TheVariants.{S16};
+ghost use Rattle.vx_base.specs.Pixelwise.{accumulated, accumulated_square};
+
+use crate::rows::{OfPair, update_row};
+
+/// The sum and the byte, at most 32,767.
+struct Accumulated;
+
+impl OfPair<u8, i16, i16> for Accumulated {
+    ghost formula = { λ _. accumulated S16 };
+
+    fn item(&self, a: u8, sum: i16) -> i16 {
+        sum.saturating_add(i16::from(a))
+    }
+}
+
+/// The square of a byte over 2^amount, rounded down.
+fn scaled_square(a: u8, amount: u8) -> u16
+    requires { amount ≤ 15 }
+    ensures { result ≡ a * a / 2 ^ amount }
+{
+    (u16::from(a) * u16::from(a)) >> amount
+}
+
+/// The sum and the byte's square over 2^amount, rounded down; at most 32,767.
+#[derive(Drop)]
+struct Squared {
+    amount: u8,
+    ghost small: { amount ≤ 15 },
+}
+
+impl OfPair<u8, i16, i16> for Squared {
+    ghost formula = { λ s. accumulated_square S16 s.amount };
+
+    fn item(&self, a: u8, sum: i16) -> i16 {
+        sum.saturating_add_unsigned(scaled_square(a, self.amount))
+    }
+}
+
+/// Adds each item to the sum at its place; what is greater than 32,767 becomes that.
+pub fn accumulate(row: &[u8], sums: &mut [i16])
+    requires { length row.now ≡ length sums.old }
+    ensures { sums.new ≡ zip2 (accumulated S16) (map pos row.now) sums.old }
+{
+    update_row(&Accumulated, row, sums);
+}
+
+/// Adds each item's square over 2^amount, rounded down, to the sum at its place; what is greater
+/// than 32,767 becomes that.
+pub fn accumulate_square(row: &[u8], amount: u8, sums: &mut [i16])
+    requires length { length row.now ≡ length sums.old }
+    requires amount { amount ≤ 15 }
+    ensures { sums.new ≡ zip2 (accumulated_square S16 amount) (map pos row.now) sums.old }
+{
+    update_row(&Squared { amount }, row, sums);
+}

@@ -1,0 +1,13 @@
+use Rattle.std.proofs.Common.{length, map, pos, ◌∙◌, sym}
+use Rattle.std.proofs.lemmas.List.{map-id}
+use Rattle.vx_base.specs.Image.{at}
+use Rattle.vx_base.proofs.TableLaws.{zip2_of_runs}
+use Rattle.pixel_kernels.proofs.accumulation.AddedRowUpdateI16.update.Goals as goal
+
+pub returns : goal.returns
+returns g c before is =
+    let s = c.args.self.now in
+    let sums = c.args.row.now in
+    map-id c.row.new.sums
+    ∙ zip2_of_runs (g.K.Adding.formula s.kernel.now) (λ k. at s.image.now k c.args.y) before c.args.x (length sums) (map pos c.part_of_row-samples.result.now) sums c.row.new.sums
+    c.part_of_row-samples.ensures.value (sym (map-id sums) ∙ is) c.row.ensures
