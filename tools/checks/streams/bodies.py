@@ -140,9 +140,9 @@ def spoil_end(draw, parts):
 
 def pgm_text(draw, fmt, width, height):
     """Mostly a good one; else with one fault or two."""
-    if draw.chance(0.04):
+    if draw.chance(0.06):
         width, height = draw.pick(((10**20, height), (width, 2**32 + height), (0, 0),
-                                   (2**16 + width, height)))
+                                   (2**16 + width, height), (GREATEST_SIDE, 1), (1, GREATEST_SIDE)))
     parts = pgm_parts(draw, fmt, width, height)
     if draw.chance(0.22):
         spoil_part(draw, parts)
