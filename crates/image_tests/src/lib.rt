@@ -7,6 +7,7 @@
 //! - `bands`: a few rows of an image alone
 //! - `rows`: the kernels of lane_rows, at lengths around that of a block
 //! - `kernels`, `texts`: windows, statistics and PGM texts, by the calls of their crates
+//! - `wide`: windows where two pieces of a row meet
 #![tactic(auto)]
 
 #[cfg(test)]
@@ -21,3 +22,5 @@ mod rows;
 mod texts;
 #[cfg(test)]
 mod values;
+#[cfg(test)]
+mod wide;
