@@ -8,6 +8,7 @@
 //! - `bands`: a few rows of an image alone
 //! - `rows`: the kernels of lane_rows, at lengths around that of a block
 //! - `kernels`, `texts`: windows, statistics and PGM texts, by the calls of their crates
+//! - `wide`: windows where two pieces of a row meet
 #![tactic(auto)]
 
 #[cfg(test)]
@@ -24,3 +25,5 @@ mod rows;
 mod texts;
 #[cfg(test)]
 mod values;
+#[cfg(test)]
+mod wide;
