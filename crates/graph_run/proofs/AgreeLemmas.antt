@@ -267,13 +267,16 @@ module _ (objects : List Named) (nodes : List Node) (v : Verified) (h : IsReady 
                 let one = standing cell output.0 output.1 output.2 w in
                 let other = image_of_operand (held ideal cell) output.0.desc
                 (ideal_found cell named ∙ ap (λ c. Some (known c)) output.2 ∙ ap (λ x. Some x) (output_known is nodes v h.verified output.0 output.1)) in
-                inr (record {
-                  one = one.0;
-                  other = other.0;
-                  is_one = one.1;
-                  is_other = other.1;
-                  same = ap (λ (d : Description). d.format) (one.2 ∙ sym other.2);
-                }, adds_to_none h.runs.0 is nodes (can objects nodes v h.runs.0 h.verified h.runs.1) n cell in_nodes w virtual))
+                inr (
+                  record {
+                    one = one.0;
+                    other = other.0;
+                    is_one = one.1;
+                    is_other = other.1;
+                    same = ap (λ (d : Description). d.format) (one.2 ∙ sym other.2);
+                  },
+                  adds_to_none h.runs.0 is nodes (can objects nodes v h.runs.0 h.verified h.runs.1) n cell in_nodes w virtual,
+                ))
             | inr real ↦ inl (real_same cell named real)
           ]
 

@@ -302,7 +302,6 @@ output_lasts n which (ImageObject a) second (ImageObject old) runs = each (accum
     each : (sums : Bool) → accumulates n.function ≡ sums → LastsAs old (node_image n which old.format a (beside_first n second (ImageObject old)))
     each true is = rw is (same (Some (ImageObject old)) (accumulated_image_is n old.format a runs.node runs.first_is which old is runs.out_is))
     each false is = rw is (same second (node_image_is n old.format a runs.node runs.first_is which second runs.second_is runs.second_kind runs.formats))
-
 output_lasts n which (ImageObject a) second (DistributionObject d) runs = (record { bins = runs.out_is.bins; size = length-histogram d.bins a }, refl)
 output_lasts n which first second out runs = grind arith
 

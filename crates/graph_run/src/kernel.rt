@@ -14,8 +14,8 @@ ghost use Rattle.graph_run.specs.Steps.{added_to};
 
 use image_core::{Image, ImageMut, Second};
 use pixel_kernels::{
-    absolute_difference, accumulate, accumulate_square, add, bit_and, bit_not, bit_or, bit_xor, convert_depth, lookup, maximum,
-    minimum, multiply, subtract, threshold,
+    absolute_difference, accumulate, accumulate_square, add, bit_and, bit_not, bit_or, bit_xor,
+    convert_depth, lookup, maximum, minimum, multiply, subtract, threshold,
 };
 use stat_kernels::integral;
 use vx_base::{Function, Node, Output};

@@ -415,13 +415,7 @@ fn add_samples(
 }
 
 /// Adds what a node gives to the samples of an S16 image, as `add_samples` does.
-fn add_shorts(
-    desc: Desc,
-    valid: Rect,
-    samples: &mut [i16],
-    node: &Node,
-    image: &Image<'_>,
-) -> Rect
+fn add_shorts(desc: Desc, valid: Rect, samples: &mut [i16], node: &Node, image: &Image<'_>) -> Rect
     requires function { accumulates node.now.function ≡ true }
     requires size { length samples.old ≡ sample_count desc }
     requires room { IsWithin valid desc.width desc.height }
