@@ -136,7 +136,9 @@ class TestRefusals(ProgramTest):
                                     "an image's width is a whole number from 1 to 4096, and not "
                                     "70000"):
             self.context.image(vx.U8, 70000, 1)
-        with self.assertRaisesRegex(vx.InvalidValue, "multiply has those from 0 to 15"):
+        with self.assertRaisesRegex(vx.InvalidValue,
+                                    "multiply and accumulate_square have those from 0 to 15, "
+                                    "convert_depth those from 0 to 7"):
             self.context.vxu.multiply(image, image, 16, vx.WRAP, deep)
 
     def test_codes_of_the_program(self):
