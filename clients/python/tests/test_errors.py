@@ -140,7 +140,8 @@ class TestRefusals(ProgramTest):
             with self.assertRaisesRegex(vx.InvalidDimension, "from 1 to 8192 columns, and from 1"):
                 self.context.image(vx.U8, *sides)
         with self.assertRaisesRegex(vx.InvalidValue,
-                                    "multiply and accumulate_square have those from 0 to 15"):
+                                    "multiply and accumulate_square have those from 0 to 15, "
+                                    "convert_depth those from 0 to 7"):
             self.context.vxu.multiply(image, image, 16, vx.WRAP, deep)
 
     def test_codes_of_the_program(self):

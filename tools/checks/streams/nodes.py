@@ -295,7 +295,7 @@ def node_for(draw, name, nodes, wanted=SUCCESS, work=None):
     things, written = things_for(draw, name, nodes), {*cells_written(nodes)}
     for _ in range(16 if wanted == SUCCESS else 60):
         number = any_function(draw)
-        if wanted in OFTEN_BY and draw.chance(0.4):
+        if wanted in OFTEN_BY and draw.chance(0.6):
             number = draw.pick(OFTEN_BY[wanted])
         cells = operands_in_graph(draw, number, things, written)
         if cells and wanted != SUCCESS:

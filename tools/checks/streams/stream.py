@@ -28,7 +28,7 @@ def any_limits(rng, size):
     changes = {}
     if rng.random() < 0.25:
         changes["quota"] = quota
-    if rng.random() < 0.35:
+    if rng.random() < 0.55:
         changes["work"] = work
     return model.LIMITS._replace(**changes)
 
