@@ -131,9 +131,9 @@ impl<T: Number, S, R, F: TwoPieceFormulas<T, S, R>> TwoRowFormulas<T, S, R> for 
         for k in 0..count.div_ceil(PIECE) {
             let first = PIECE * k;
             let end = (first + PIECE).min(count);
-            let (piece, same) = (&mut out[first..end], &mut other[first..end]);
+            let (piece, other_piece) = (&mut out[first..end], &mut other[first..end]);
             self.formula
-                .fill_piece(x + first as u16, y, scratch, more, piece, same);
+                .fill_piece(x + first as u16, y, scratch, more, piece, other_piece);
         }
     }
 }
