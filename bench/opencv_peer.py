@@ -26,6 +26,7 @@ second = first[:, ::-1].copy()
 shorts = numpy.arange(pixels, dtype=numpy.uint16).astype(numpy.int16).reshape(height, width)
 others = shorts[:, ::-1].copy()
 byte_output, short_output = numpy.empty_like(first), numpy.empty_like(shorts)
+short_sums, float_sums = numpy.zeros_like(shorts), numpy.zeros_like(first, numpy.float32)
 table = numpy.arange(255, -1, -1, dtype=numpy.uint8)
 short_table = numpy.arange(32767, -32769, -1).astype(numpy.int16)
 indices = shorts.view(numpy.uint16)
@@ -75,6 +76,13 @@ PIXELWISE = {
         lambda: numpy.left_shift(first, 4, out=short_output, dtype=numpy.int16)),
     "ConvertDepth, S16 to U8, shift 4": (
         "convertScaleAbs by 1/16", lambda: cv2.convertScaleAbs(shorts, byte_output, 1 / 16)),
+    "Accumulate": ("accumulate, to floats", lambda: cv2.accumulate(first, float_sums)),
+    "Accumulate, beside add": (
+        "add to CV_16S, in place",
+        lambda: cv2.add(short_sums, first, short_sums, dtype=cv2.CV_16S)),
+    "AccumulateSquare, s = 8": (
+        "accumulateSquare, to floats, not shifted",
+        lambda: cv2.accumulateSquare(first, float_sums)),
 }
 
 

@@ -30,7 +30,7 @@ Suggests: python3-numpy, python3-distributed
 Section: science
 Priority: optional
 Description: vision server with the behaviour of OpenVX
- Images, graphs, virtual images, delays, immediate mode and 23 vision functions
+ Images, graphs, virtual images, delays, immediate mode and 25 vision functions
  on grey pictures of 8 and 16 bits, for many clients at once: none of them sees
  another's pixels. With a package for Python, OpenVX's calls for C, and a broker
  that shares servers among the programs of a machine.

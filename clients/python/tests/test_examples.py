@@ -100,6 +100,23 @@ class Examples(unittest.TestCase):
             self.assertLessEqual(abs(x1 - (12 + 26 * time + 9)), 3, line)
         self.assertEqual(sides_of(self.folder, "camera.png"), (5 * 166 - 6, 246))
 
+    def test_what_isnt_background_is_found_while_the_light_changes(self):
+        *found, others = self.run_example("background.py", self.folder).splitlines()
+        self.assertEqual(others, "    nothing in the other 44 pictures")
+        # The ball's middle goes by 10 columns a picture, from 15 to 105 and back, in row 55; its
+        # radius is 7 pixels, of which erosion leaves 6 or less.
+        wanted = [*((20 + at, 15 + 10 * at) for at in range(10)),
+                  *((68 + at, 105 - 10 * at) for at in range(10))]
+        self.assertEqual(len(found), len(wanted))
+        for line, (number, column) in zip(found, wanted):
+            words = line.replace(":", "").split()
+            self.assertEqual(words[:2], ["picture", str(number)])
+            sides = [int(words[words.index(side) + at])
+                     for side in ("columns", "rows") for at in (1, 3)]
+            for side, middle in zip(sides, (column - 5, column + 5, 50, 60)):
+                self.assertLessEqual(abs(side - middle), 1, line)
+        self.assertEqual(sides_of(self.folder, "background.png"), (4 * 126 - 6, 3 * 96 - 6))
+
     @unittest.skipUnless(importlib.util.find_spec("cv2"), "OpenCV isn't installed")
     def test_a_video_is_watched(self):
         """How many frames are dropped is the machine's matter; each is seen or dropped."""

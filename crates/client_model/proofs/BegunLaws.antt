@@ -32,13 +32,14 @@ use Rattle.graph_verify.proofs.SuitLemmas.{Suits}
 use Rattle.graph_run.proofs.OperandLaws.{kind-operand}
 use Rattle.client_model.proofs.NodeStepLaws.{CanGive, stands_for_equal}
 use Rattle.graph_run.proofs.BegunLaws.{begun_if}
+use Rattle.vx_base.specs.declared.desc.TheConstants.{GREATEST_SIDE}
 
 -- ---- sizes of virtual images
 
 -- an outline whose sides, as far as they are known, aren't too great
 pub record IsSmall (o : Outline) : Type 0 where
-  pub width : IfSome o.width (λ n. n ≤ 4096)
-  pub height : IfSome o.height (λ n. n ≤ 4096)
+  pub width : IfSome o.width (λ n. n ≤ GREATEST_SIDE)
+  pub height : IfSome o.height (λ n. n ≤ GREATEST_SIDE)
 
 filled_small : (a b : Outline) → IsSmall a → IsSmall b → IsSmall (filled a b)
 filled_small a b h k = grind arith
@@ -63,7 +64,7 @@ module _ (is : Cell → Operand) (small : (cell : Cell) → IsSmall (operand_out
   rounds_small nodes (suc k) cell = round_small nodes (rounds_of writes (written_outline is) nodes k (λ c. operand_outline (is c))) (rounds_small nodes k) cell
 
 -- so is an image of which all is known
-closed_small : (o : Outline) → IsSmall o → IfSome (closed o) (λ d. (d.width ≤ 4096) × (d.height ≤ 4096))
+closed_small : (o : Outline) → IsSmall o → IfSome (closed o) (λ d. (d.width ≤ GREATEST_SIDE) × (d.height ≤ GREATEST_SIDE))
 closed_small o h = grind arith
 
 -- ---- an object as a run begins
@@ -71,7 +72,7 @@ closed_small o h = grind arith
 pub begun_is_object : (object : ObjectValue) (known : Outline) (written : Bool) → IsObject object → IsSmall known → IsObject (begun_if written object (as_known (operand_of object) known))
 begun_is_object (VirtualObject image) known true is small = of_closed (closed known) (closed_small known small)
   where
-    of_closed : (d : Option Description) → IfSome d (λ e. (e.width ≤ 4096) × (e.height ≤ 4096)) → IsObject (begun_as (VirtualObject image) (virtual_or_image known d))
+    of_closed : (d : Option Description) → IfSome d (λ e. (e.width ≤ GREATEST_SIDE) × (e.height ≤ GREATEST_SIDE)) → IsObject (begun_as (VirtualObject image) (virtual_or_image known d))
     of_closed None sides = is
     of_closed (Some d) sides = new_image_is d.width d.height d.format sides.0 sides.1
 begun_is_object (VirtualObject image) known false is small = is

@@ -107,16 +107,13 @@ module _ (objects : List Named) (n : Node) (node : IsNode n) (second : Option Ob
         lasts = found ∙ ap Some (sym (images-last (node_image n output out.format a beside) out e));
       }
     where
-      abbrev Taken : Option Format → Type 0
-      Taken format = IsTrue (takes_formats n.function a.format format (Some out.format))
-
       right : (object : Option ObjectValue) → IfSome (option_map operand_of object) (λ o. (parameters n.function).second_input ≡ Some (operand_kind o)) → IfSome object (λ o. (parameters n.function).second_input ≡ Some (object_kind o))
       right None h = tt
       right (Some object) h = h ∙ ap Some (kind-operand object)
 
       image_is : (sums : Bool) → accumulates n.function ≡ sums → IsImage (node_image n output out.format a (if sums then Some (ImageObject out) else second))
       image_is true is_sum = accumulated_image_is n out.format a node is_first output out is_sum is_out
-      image_is false is_sum = node_image_is n out.format a node is_first output second is (right second can.kind) (subst Taken (same_formats second) can.formats)
+      image_is false is_sum = node_image_is n out.format a node is_first output second is (right second can.kind) (subst (λ (format : Option Format). IsTrue (takes_formats n.function a.format format (Some out.format))) (same_formats second) can.formats)
   output_fits output cell (ImageObject a) (DistributionObject d) is_first is_out found can =
       record { is_object = record { bins = is_out.bins; size = length-histogram d.bins a }; lasts = found }
   output_fits output cell (ImageObject a) (ExtremesObject e) is_first is_out found can = record { is_object = tt; lasts = found }

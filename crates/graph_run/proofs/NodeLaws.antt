@@ -140,7 +140,11 @@ write_is start objects n output o c object forms whole g = grind (arith, form-no
 
 pub AreWrites-written : (start objects : List Named) (n : Node) → ((c : Cell) → form_held objects c ≡ form_held start c) → ((c : Cell) → writes n c ≡ true → kind_in objects c ≢ Some kind.Delay)
     → AreWrites objects (written_from (held start) n (held objects))
-AreWrites-written start objects n forms whole w i = grind (arith, given_cases (held start) n (held objects) w i, given_cases, write_is, first_written, second_written, forms w.0)
+AreWrites-written start objects n forms whole w i =
+    elim (given_cases (held start) n (held objects) w i) [
+      inl g ↦ write_is start objects n First n.out1 w.0 w.1 (forms w.0) (whole w.0 (first_written n w.0 g.there)) g
+    | inr g ↦ write_is start objects n Second n.out2 w.0 w.1 (forms w.0) (whole w.0 (second_written n w.0 g.there)) g
+    ]
 
 -- ---- cells that hold what a node gives them
 

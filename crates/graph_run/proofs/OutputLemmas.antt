@@ -1,5 +1,5 @@
 -- What nodes write to an output, whose samples are taken out, and put back once they are written.
-use Rattle.std.proofs.Common.{◌≡◌, ◌*◌, length, true, false, ℤ, List, Option, ap, ◌∙◌, sym, [], Some, None, subst, arith}
+use Rattle.std.proofs.Common.{◌≡◌, ◌*◌, length, true, false, ℤ, List, Option, refl, ap, ◌∙◌, sym, [], Some, None, subst, arith}
 use Rattle.std.specs.Prelude.{unsigned_abs, ◌==◌, IfSome}
 use Rattle.std.specs.List.{count_by}
 use Rattle.std.proofs.lemmas.List.FromFn.{length-map-range_with_len}

@@ -19,7 +19,7 @@ use Rattle.vx_base.specs.Image.{ImageValue, IsImage, description_of}
 use Rattle.vx_base.specs.Statistics.{extremes}
 use Rattle.vx_base.specs.Node.{IsNode, is_node, has_amount, has_operands, all_named, given, outputs, second_kind}
 use Rattle.vx_base.specs.Object.{ObjectValue, ImageObject, DistributionObject, ExtremesObject, IsObject, object_kind, object_format}
-use Rattle.vx_base.specs.Outputs.{node_output, written_in, written_by}
+use Rattle.vx_base.specs.Outputs.{node_image, beside_first, node_output, written_in, written_by}
 use Rattle.image_core.specs.Fits.{SecondHasSize}
 use Rattle.graph_verify.specs.declared.operand.Operands.{Operands}
 use Rattle.graph_verify.specs.declared.operand.Operand.{Operand}
@@ -287,15 +287,21 @@ module _ (l : List Named) (n : Node) (which : Output) (output : Cell) (runs : Ru
   pub reads_an_image : IsImage (image_held l n.in1)
   reads_an_image = image_of_object (cell_object l n.in1) runs.runs.first_kind runs.runs.first_is
 
+-- an image, of which as much lasts as of another
+abbrev LastsAs : ImageValue → ImageValue → Type 0
+LastsAs old image = IsImage image × (lasting (ImageObject image) ≡ lasting (ImageObject old))
+
 -- an output becomes an object, of which as much lasts
 output_lasts : (n : Node) (which : Output) (first : ObjectValue) (second : Option ObjectValue) (out : ObjectValue) → RunsOn n first second out
     → IsObject (node_output n which first second out) × (lasting (node_output n which first second out) ≡ lasting out)
 output_lasts n which (ImageObject a) second (ImageObject old) runs = each (accumulates n.function) refl
   where
-    each : (sums : Bool) → accumulates n.function ≡ sums → IsObject (node_output n which (ImageObject a) second (ImageObject old))
-        × (lasting (node_output n which (ImageObject a) second (ImageObject old)) ≡ lasting (ImageObject old))
-    each true is = grind (arith, is, accumulated_image_is, images-last, description_kept)
-    each false is = grind (arith, is, node_image_is, images-last, description_kept)
+    same : (beside : Option ObjectValue) → IsImage (node_image n which old.format a beside) → LastsAs old (node_image n which old.format a beside)
+    same beside image = (image, images-last (node_image n which old.format a beside) old (description_kept n which a beside old runs.out_size))
+
+    each : (sums : Bool) → accumulates n.function ≡ sums → LastsAs old (node_image n which old.format a (beside_first n second (ImageObject old)))
+    each true is = rw is (same (Some (ImageObject old)) (accumulated_image_is n old.format a runs.node runs.first_is which old is runs.out_is))
+    each false is = rw is (same second (node_image_is n old.format a runs.node runs.first_is which second runs.second_is runs.second_kind runs.formats))
 
 output_lasts n which (ImageObject a) second (DistributionObject d) runs = (record { bins = runs.out_is.bins; size = length-histogram d.bins a }, refl)
 output_lasts n which first second out runs = grind arith

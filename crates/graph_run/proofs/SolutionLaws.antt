@@ -27,7 +27,7 @@ use Rattle.graph_verify.proofs.NodeVerdictLemmas.{no_twice_each}
 use Rattle.graph_run.proofs.ObjectLaws.{is_delay, shown, is_delay-shown, not_delay, is_delay-form}
 use Rattle.graph_run.proofs.HeldLaws.{seen, kind-form_seen}
 use Rattle.graph_run.proofs.NameLaws.{Rising, rising, same_objects}
-use Rattle.graph_run.proofs.NodeLaws.{output_at, output_of, given_to, given_from, shown-given_to, shown-given_from, given_holds, holds_given}
+use Rattle.graph_run.proofs.NodeLaws.{output_at, output_of, given_to, given_from, form-output_of, shown-given_to, shown-given_from, given_holds, holds_given}
 use Rattle.graph_run.proofs.RoundLaws.{form-rounds, seen-rounds, labels-rounds, WritesNo-forms}
 use Rattle.graph_run.proofs.ValueLaws.{given_first, reads_alone, given_same, same_rounds, Follows-rounds}
 
@@ -64,7 +64,15 @@ module _ (nodes : List Node) (objects : List Named) (one : two_writers nodes ≡
 
   -- each written cell holds what its node gives
   holds : (n : Node) (c : Cell) → In n nodes → writes n c ≡ true → held after c ≡ given_from (held objects) n (held after) c
-  holds n c i w = grind (arith, unshown, given_from, WritesNo-forms, form-rounds, any-from_In, seen_holds)
+  holds n c i w = unshown (held after c) (given_from (held objects) n (held after) c) plain (seen_holds n c i w)
+    where
+      kinds : option_map object_kind (given_from (held objects) n (held after) c) ≡ kind_in objects c
+      kinds =
+          kinds_by_forms (given_from (held objects) n (held after) c) (held objects c)
+          (form-output_of n (output_at n c) (held after n.in1) (option_and_then (held after) n.in2) (held objects c) (held after c) (form-rounds nodes (length nodes) objects whole c))
+
+      plain : option_map object_kind (given_from (held objects) n (held after) c) ≢ Some kind.Delay
+      plain e = whole c (any-from_In (λ m. writes m c) n nodes i w) (sym kinds ∙ e)
 
   pub rounds_are_solution : Solves nodes objects (rounds_of_nodes nodes (length nodes) objects)
   rounds_are_solution = record {

@@ -20,7 +20,7 @@ use Rattle.image_core.specs.declared.band.Band.{Band}
 use Rattle.image_core.specs.declared.image_mut.ImageMut.{ImageMut}
 use Rattle.image_core.specs.Bands.{all_rows, rows_in}
 use Rattle.image_core.specs.Fits.{HaveSameSize}
-use Rattle.image_core.specs.Target.{written, IsTarget, Writes}
+use Rattle.image_core.specs.Target.{written, IsTarget, SameSlices, Writes}
 use Rattle.image_core.proofs.BandLaws.{all_rows_are, all_written}
 use Rattle.vx_base.specs.Object.{ObjectValue, ImageObject, object_kind, object_format}
 use Rattle.vx_base.specs.Rectangle.{Rectangle}
@@ -52,14 +52,20 @@ sums_image other a second out h e t = absurd (cc h)
 
 -- ---- sums of which all rows are lent
 
--- what is written is the image of what they held
-pub sum_written : (f : ℤ → ℤ → ℤ) (a : ImageValue) (old new : ImageMut) → old.rows ≡ all_rows old.desc.height → IsTarget old → HaveSameSize (written old) a
-    → ((before : ImageValue) → rows_in old.rows before ≡ written old → Writes (from_two S16 f a before) old new) → written new ≡ from_two S16 f a (written old)
-sum_written f a old new all target size is =
-    let high : old.desc.height ≡ a.height = eqb-true old.desc.height a.height (and_parts (old.desc.width == a.width) (old.desc.height == a.height) size).1 in
-    let whole : rows_in old.rows (written old) ≡ written old =
-    ap (λ (r : Band). rows_in r (written old)) all ∙ all_rows_are (written old) (target.size ∙ ap (λ (r : Band). r.count * old.desc.width) all) in
-    all_written (from_two S16 f a (written old)) old new (all ∙ ap all_rows high) (length-table a.width a.height _) (is (written old) whole)
+module _ (f : ℤ → ℤ → ℤ) (a : ImageValue) (old new : ImageMut) (all : old.rows ≡ all_rows old.desc.height) (target : IsTarget old) (size : HaveSameSize (written old) a)
+    (is : (before : ImageValue) → rows_in old.rows before ≡ written old → Writes (from_two S16 f a before) old new) where
+  writes : Writes (from_two S16 f a (written old)) old new
+  writes = is (written old) (ap (λ (r : Band). rows_in r (written old)) all ∙ all_rows_are (written old) (target.size ∙ ap (λ (r : Band). r.count * old.desc.width) all))
+
+  high : old.desc.height ≡ a.height
+  high = eqb-true old.desc.height a.height (and_parts (old.desc.width == a.width) (old.desc.height == a.height) size).1
+
+  -- what is written is the image of what they held
+  pub sum_written : written new ≡ from_two S16 f a (written old)
+  sum_written = all_written (from_two S16 f a (written old)) old new (all ∙ ap all_rows high) (length-table a.width a.height _) writes
+
+  pub sum_slices : SameSlices old new
+  sum_slices = writes.slices
 
 -- ---- an output to which a node adds
 

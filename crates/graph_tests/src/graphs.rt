@@ -68,7 +68,7 @@ fn open_parts_are_filled(rt: HostRuntime) -> Result<(), Fail> {
     let desc = Desc::new(3, 2, Format::S16).ok_or("within the limits")?;
     let open = Outline::new(Some(5), None, None).ok_or("within the limits")?;
     assert!(rt; Outline::new(Some(0), None, None).is_none());
-    assert!(rt; Outline::new(None, Some(4097), None).is_none());
+    assert!(rt; Outline::new(None, Some(8193), None).is_none());
     assert!(rt; open.closed() == None);
     let filled = open.filled(Outline::of(desc));
     assert!(rt; (filled.width(), filled.height()) == (Some(5), Some(2)));
@@ -212,7 +212,7 @@ fn a_released_graph_uses_nothing(rt: HostRuntime) -> Result<(), Fail> {
 
 #[test]
 fn virtual_images_are_charged_nothing(rt: HostRuntime) -> Result<(), Fail> {
-    let declared = Outline::new(Some(4096), None, None).ok_or("within the limits")?;
+    let declared = Outline::new(Some(8192), None, None).ok_or("within the limits")?;
     let image = VirtualImage { graph: 1, declared };
     let mut table = Table::new(rt.alloc());
     let object = Object::new(Content::Virtual(image));

@@ -181,9 +181,9 @@ fn extremes_are_the_last(rt: HostRuntime) -> Result<(), Fail> {
         min: -32768,
         max: 7,
         min_count: 1,
-        max_count: 16777215,
-        min_at: (4095, 0),
-        max_at: (1, 4094),
+        max_count: 67108863,
+        min_at: (8191, 0),
+        max_at: (1, 8190),
     };
     let mut table = Table::new(alloc);
     let image = Stored::new(&mut Pool::new(alloc), small()?)?;

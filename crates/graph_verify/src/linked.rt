@@ -126,7 +126,5 @@ pub fn has_loose_end(nodes: &[Linked]) -> bool
     ensures { (is : Cell → Operand) → AreOperands is nodes.now →
         result ≡ has_loose_end is (linked_nodes nodes.now) }
 {
-    nodes
-        .iter()
-        .any(|linked| has_loose_input(nodes, linked) || has_virtual_sum(linked))
+    nodes.iter().any(|linked| has_loose_input(nodes, linked) || has_virtual_sum(linked))
 }

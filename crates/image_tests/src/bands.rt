@@ -38,6 +38,26 @@ fn rows_of_windows_and_sums(rt: HostRuntime) {
     assert!(rt; two_rows(1) == Some((below, [-1, 0, 5, -3, -2, 0], [4, 10, 27, 9, 21, 45])));
 }
 
+/// The second row of the sums of two rows of 255, which are longer than the lanes.
+fn second_sums() -> Option<[u32; 11]> {
+    let desc = Desc::new(11, 2, Format::U8)?;
+    let mut samples = [255; 22];
+    let image = lend(desc, Rect::new(0, 0, 11, 2)?, &mut samples);
+    let mut sums = [77; 11];
+    let rows = Band { start: 1, count: 1 };
+    let mut target = ImageMut::of_rows(Desc::new(11, 2, Format::U32)?, rows, &mut sums);
+    integral(&image, &mut target);
+    Some(sums)
+}
+
+#[test]
+fn sums_above_a_band(rt: HostRuntime) {
+    let sums = [
+        510, 1020, 1530, 2040, 2550, 3060, 3570, 4080, 4590, 5100, 5610,
+    ];
+    assert!(rt; second_sums() == Some(sums));
+}
+
 /// A row of the changes from left to right, and one of those from above to below.
 fn changes(right: u16, down: u16) -> Option<([i16; 3], [i16; 3])>
     requires right { right + 1 ≤ 3 }

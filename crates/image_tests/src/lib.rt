@@ -4,11 +4,14 @@
 //!
 //! - `values`: rectangles, codes and tables
 //! - `images`: images that are valid in a part
+//! - `accumulation`: samples that are added to what the output holds
 //! - `bands`: a few rows of an image alone
 //! - `rows`: the kernels of lane_rows, at lengths around that of a block
 //! - `kernels`, `texts`: windows, statistics and PGM texts, by the calls of their crates
 #![tactic(auto)]
 
+#[cfg(test)]
+mod accumulation;
 #[cfg(test)]
 mod bands;
 #[cfg(test)]

@@ -51,7 +51,7 @@ fn no_pictures(rt: HostRuntime) {
             PgmFault::InvalidDimension,
         ),
         (b"P5 0 1 0\n", PgmFault::InvalidDimension),
-        (b"P5 4096 4096 255\n", PgmFault::InvalidFormat),
+        (b"P5 8192 8192 255\n", PgmFault::InvalidFormat),
         (b"P5 1 1 99999999999999999999\n", PgmFault::InvalidFormat),
         (b"P5 1 1 255#x\n", PgmFault::InvalidFormat),
         (b"P2 2 1 255 1", PgmFault::InvalidFormat),

@@ -12,6 +12,7 @@ use Rattle.vx_base.specs.Object.{IsDelay, image_bytes}
 use Rattle.vx_base.specs.Slots.{is_slot_count}
 use Rattle.vx_base.proofs.ImageLaws.{new_image_is}
 use Rattle.object_table.specs.Delay.{new_delay}
+use Rattle.vx_base.specs.declared.desc.TheConstants.{GREATEST_SIDE}
 
 -- images of one description take as many bytes as one of them, times their number
 pub bytes_alike : (d : Description) (images : List ImageValue) → All (λ image. description_of image ≡ d) images → sum_by image_bytes images ≡ length images * byte_count d
@@ -35,7 +36,7 @@ pub count_is : (n : ℕ) → IsTrue (is_slot_count n) → (1 ≤ n) × (n ≤ 16
 count_is n h = let both = and_parts (nat_le 1 n) (nat_le n 16) h in (leb-true 1 n both.0, leb-true n 16 both.1)
 
 -- a new delay is one
-pub new_delay_is : (d : Description) (slots : ℕ) → d.width ≤ 4096 → d.height ≤ 4096 → 1 ≤ slots → slots ≤ 16 → IsDelay (new_delay d slots)
+pub new_delay_is : (d : Description) (slots : ℕ) → d.width ≤ GREATEST_SIDE → d.height ≤ GREATEST_SIDE → 1 ≤ slots → slots ≤ 16 → IsDelay (new_delay d slots)
 new_delay_is d slots wide high least greatest =
     let new = new_image d.width d.height d.format in
     record {

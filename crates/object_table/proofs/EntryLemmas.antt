@@ -27,6 +27,8 @@ use Rattle.object_table.specs.Named.{object_held, with_object}
 use Rattle.object_table.specs.Object.{image_value, aged_object}
 use Rattle.object_table.specs.Table.{object_under, IsUnder, cell_object, image_held, HoldsImage, named, is_kept, IsTable}
 use Rattle.object_table.specs.Uses.{nodes_in, names_used_by, names_used, times}
+use Rattle.vx_base.specs.declared.slots.TheConstants.{GREATEST_SLOTS}
+use Rattle.vx_base.specs.declared.desc.TheConstants.{GREATEST_BYTES}
 
 -- ---- keys
 
@@ -117,18 +119,18 @@ times_none name (other ∷ names) h = grind (arith, times_none name names (All-t
 -- ---- what a table keeps
 
 -- what is charged is no more than for 1,024 of the greatest objects
-pub charge_limit : (next charge : ℕ) (entries : List (ℕ × Entry)) → IsTable next charge entries → charge ≤ 1024 * (16 * 67108864)
-charge_limit next charge entries t = omega (arith, t.charged, charge_is entries, t.count, sum_by-le (λ e. object_bytes e.1.object) (16 * 67108864) entries t.each)
+pub charge_limit : (next charge : ℕ) (entries : List (ℕ × Entry)) → IsTable next charge entries → charge ≤ 1024 * (GREATEST_SLOTS * GREATEST_BYTES)
+charge_limit next charge entries t = omega (arith, t.charged, charge_is entries, t.count, sum_by-le (λ e. object_bytes e.1.object) (GREATEST_SLOTS * GREATEST_BYTES) entries t.each)
 
 module _ (next charge : ℕ) (entries : List (ℕ × Entry)) (t : IsTable next charge entries) (name : ℕ) (old : Entry) (found : lookup (is_at (nat_cmp name)) entries ≡ Some old) where
-  bytes_found : object_bytes old.object ≤ 16 * 67108864
-  bytes_found = subst (λ (o : Option Entry). IfSome o (λ e. object_bytes e.object ≤ 16 * 67108864)) found (All-lookup (λ (e : Entry). object_bytes e.object ≤ 16 * 67108864) (is_at (nat_cmp name)) entries t.each)
+  bytes_found : object_bytes old.object ≤ GREATEST_SLOTS * GREATEST_BYTES
+  bytes_found = subst (λ (o : Option Entry). IfSome o (λ e. object_bytes e.object ≤ GREATEST_SLOTS * GREATEST_BYTES)) found (All-lookup (λ (e : Entry). object_bytes e.object ≤ GREATEST_SLOTS * GREATEST_BYTES) (is_at (nat_cmp name)) entries t.each)
 
   -- an object in its place, with the same nodes, leaves a table, whose charge is the new object's
   pub IsTable-exchanged : (charged : ℕ) (new : Entry) → new.live ≡ old.live → new.uses ≡ old.uses → nodes_in new.object ≡ nodes_in old.object
-      → object_bytes new.object ≤ 16 * 67108864 → charged + object_bytes old.object ≡ charge + object_bytes new.object → IsTable next charged (set_value (is_at (nat_cmp name)) entries new)
+      → object_bytes new.object ≤ GREATEST_SLOTS * GREATEST_BYTES → charged + object_bytes old.object ≡ charge + object_bytes new.object → IsTable next charged (set_value (is_at (nat_cmp name)) entries new)
   IsTable-exchanged charged new live uses nodes limit balance =
-      grind (arith, used-written entries name old new found live nodes, sum-written (λ e. object_bytes e.1.object) entries name old new found, All-written (λ e. e.0 < next) entries name old new found (λ k h. h) t.below, All-written (λ e. object_bytes e.1.object ≤ 16 * 67108864) entries name old new found (λ k h. limit) t.each, All-written (λ e. length (nodes_in e.1.object) ≤ 256) entries name old new found (λ k h. subst (λ l. length l ≤ 256) (sym nodes) h) t.nodes, charge_is entries, All-written (λ e. e.1.uses ≡ times e.0 (names_used (map named entries))) entries name old new found (λ k h. uses ∙ h) t.uses, All-written (λ e. IsTrue (is_kept e)) entries name old new found (λ k h. ap (λ b. b || nat_lt 0 new.uses) live ∙ ap (λ n. old.live || nat_lt 0 n) uses ∙ h) t.held, used-written, sum-written, keys-set_value, All-written, length-set_value, charge_is)
+      grind (arith, used-written entries name old new found live nodes, sum-written (λ e. object_bytes e.1.object) entries name old new found, All-written (λ e. e.0 < next) entries name old new found (λ k h. h) t.below, All-written (λ e. object_bytes e.1.object ≤ GREATEST_SLOTS * GREATEST_BYTES) entries name old new found (λ k h. limit) t.each, All-written (λ e. length (nodes_in e.1.object) ≤ 256) entries name old new found (λ k h. subst (λ l. length l ≤ 256) (sym nodes) h) t.nodes, charge_is entries, All-written (λ e. e.1.uses ≡ times e.0 (names_used (map named entries))) entries name old new found (λ k h. uses ∙ h) t.uses, All-written (λ e. IsTrue (is_kept e)) entries name old new found (λ k h. ap (λ b. b || nat_lt 0 new.uses) live ∙ ap (λ n. old.live || nat_lt 0 n) uses ∙ h) t.held, used-written, sum-written, keys-set_value, All-written, length-set_value, charge_is)
 
 -- an object of as many bytes
 pub IsTable-written : (next charge : ℕ) (entries : List (ℕ × Entry)) (name : ℕ) (old new : Entry) (after : List (ℕ × Entry)) → IsTable next charge entries → lookup (is_at (nat_cmp name)) entries ≡ Some old
@@ -140,7 +142,7 @@ IsTable-written next charge entries name old new after t found live uses nodes b
 
 -- one object more, under the next name
 pub IsTable-inserted : (next charge : ℕ) (entries : List (ℕ × Entry)) (new : Entry) → IsTable next charge entries → next < 4294967296 → length entries < 1024
-    → new.live ≡ true → new.uses ≡ 0 → nodes_in new.object ≡ [] → object_bytes new.object ≤ 16 * 67108864 → IsStrictlyIncreasing (keys_of (entries ++ (next, new) ∷ []))
+    → new.live ≡ true → new.uses ≡ 0 → nodes_in new.object ≡ [] → object_bytes new.object ≤ GREATEST_SLOTS * GREATEST_BYTES → IsStrictlyIncreasing (keys_of (entries ++ (next, new) ∷ []))
     → IsTable (next + 1) (charge + object_bytes new.object) (entries ++ (next, new) ∷ [])
 IsTable-inserted next charge entries new t left room live uses nodes limit increasing =
     let one : List (ℕ × Entry) = (next, new) ∷ [] in
@@ -150,7 +152,7 @@ IsTable-inserted next charge entries new t left room live uses nodes limit incre
       below = All-push (λ e. e.0 < next + 1) entries (next, new) (All-weaker (λ e. e.0 < next) (λ e. e.0 < next + 1) (λ e h. omega (arith, h)) entries t.below) (omega arith);
       left = omega (arith, left);
       count = omega (arith, room, length-append entries one);
-      each = All-push (λ e. object_bytes e.1.object ≤ 16 * 67108864) entries (next, new) t.each limit;
+      each = All-push (λ e. object_bytes e.1.object ≤ GREATEST_SLOTS * GREATEST_BYTES) entries (next, new) t.each limit;
       nodes = All-push (λ e. length (nodes_in e.1.object) ≤ 256) entries (next, new) t.nodes (subst (λ l. length l ≤ 256) (sym nodes) (omega arith));
       charged = omega (arith, t.charged, charge_is entries, charge_is (entries ++ one), sum_by_push (λ e. object_bytes e.1.object) entries (next, new));
       uses = subst (λ l. All (λ e. e.1.uses ≡ times e.0 l) (entries ++ one)) (sym used) (All-push (λ e. e.1.uses ≡ times e.0 (names_used (map named entries))) entries (next, new) t.uses (uses ∙ times_none next (names_used (map named entries)) t.given));

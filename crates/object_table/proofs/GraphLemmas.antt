@@ -37,6 +37,8 @@ use Rattle.object_table.specs.Uses.{used_names, nodes_in, names_used_by, names_u
 use Rattle.object_table.proofs.KeptLemmas.{ended-one, shown-ended}
 use Rattle.object_table.proofs.UseLemmas.{times-append}
 use Rattle.object_table.proofs.EntryLemmas.{none_named, InOrder, in_order, named_is, if_live, All-written, sum-written, charge_is}
+use Rattle.vx_base.specs.declared.slots.TheConstants.{GREATEST_SLOTS}
+use Rattle.vx_base.specs.declared.desc.TheConstants.{GREATEST_BYTES}
 
 -- ---- how often a name stands in a list
 
@@ -190,7 +192,7 @@ pub record AreEntries (next : ℕ) (entries : List (ℕ × Entry)) : Type 0 wher
   pub below : All (λ e. e.0 < next) entries
   pub left : next ≤ 4294967296
   pub count : length entries ≤ 1024
-  pub each : All (λ e. object_bytes e.1.object ≤ 16 * 67108864) entries
+  pub each : All (λ e. object_bytes e.1.object ≤ GREATEST_SLOTS * GREATEST_BYTES) entries
   pub nodes : All (λ e. length (nodes_in e.1.object) ≤ 256) entries
   pub given : All (λ e. All (λ name. name < next) (used_by e)) entries
 
@@ -257,7 +259,7 @@ module _ (next charge : ℕ) (entries : List (ℕ × Entry)) (h : IsTable next c
         below = All-written (λ e. e.0 < next) entries name old new found (λ k h. h) t.below;
         left = t.left;
         count = omega (arith, t.count, length-set_value test entries new);
-        each = All-written (λ e. object_bytes e.1.object ≤ 16 * 67108864) entries name old new found (λ k h. omega (arith, h, bytes)) t.each;
+        each = All-written (λ e. object_bytes e.1.object ≤ GREATEST_SLOTS * GREATEST_BYTES) entries name old new found (λ k h. omega (arith, h, bytes)) t.each;
         nodes = All-written (λ e. length (nodes_in e.1.object) ≤ 256) entries name old new found (λ k h. few h) t.nodes;
         given = All-written (λ e. All (λ n. n < next) (used_by e)) entries name old new found given t.given;
       }
@@ -285,7 +287,7 @@ module _ (f : ℕ → ℕ → ℕ) where
         below = All-map (λ (e : ℕ × Entry). e.0 < next) step entries h.below;
         left = h.left;
         count = omega (arith, h.count, length-map entries step);
-        each = All-map (λ (e : ℕ × Entry). object_bytes e.1.object ≤ 16 * 67108864) step entries h.each;
+        each = All-map (λ (e : ℕ × Entry). object_bytes e.1.object ≤ GREATEST_SLOTS * GREATEST_BYTES) step entries h.each;
         nodes = All-map (λ (e : ℕ × Entry). length (nodes_in e.1.object) ≤ 256) step entries h.nodes;
         given = All-map (λ (e : ℕ × Entry). All (λ name. name < next) (used_by e)) step entries h.given;
       }
@@ -347,7 +349,7 @@ IsTable-kept next entries h uses =
       below = All-filter is_kept (λ e. e.0 < next) entries h.below;
       left = h.left;
       count = omega (arith, h.count, length-filter is_kept entries, count_by-le-length is_kept entries);
-      each = All-filter is_kept (λ e. object_bytes e.1.object ≤ 16 * 67108864) entries h.each;
+      each = All-filter is_kept (λ e. object_bytes e.1.object ≤ GREATEST_SLOTS * GREATEST_BYTES) entries h.each;
       nodes = All-filter is_kept (λ e. length (nodes_in e.1.object) ≤ 256) entries h.nodes;
       given = All-filter is_kept (λ e. All (λ name. name < next) (used_by e)) entries h.given;
     }) refl

@@ -69,7 +69,7 @@ pub fn headers()
 pub fn limits()
     ensures no_width { reading (codes "P2 0 1 255x") ≡ Err InvalidDimension }
     ensures no_maxval_either { reading (codes "P5 0 1 0\n") ≡ Err InvalidDimension }
-    ensures too_wide { reading (codes "P5 4097 1 255\n") ≡ Err InvalidDimension }
+    ensures too_wide { reading (codes "P5 8193 1 255\n") ≡ Err InvalidDimension }
     ensures far_too_wide { reading (codes "P5 99999999999999999999 1 255\n")
         ≡ Err InvalidDimension }
     ensures no_maxval { reading (codes "P5 1 1 0\n" ++ 0 ∷ []) ≡ Err InvalidFormat }

@@ -14,7 +14,7 @@ pub enum PgmFault {
     /// header isn't as many samples as the header tells and nothing else.
     #[error("invalid format")]
     InvalidFormat,
-    /// The width or the height isn't 1 to 4096.
+    /// The width or the height isn't 1 to 8192.
     #[error("invalid dimension")]
     InvalidDimension,
     /// A sample is above the maxval.

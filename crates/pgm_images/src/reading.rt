@@ -15,7 +15,7 @@ use vx_base::{Desc, Picture, Samples};
 /// is read.
 ///
 /// The fault is the first of these: `InvalidFormat` where the text has no header,
-/// `InvalidDimension` where a side isn't 1 to 4096, `InvalidFormat` where the maxval isn't 1 to
+/// `InvalidDimension` where a side isn't 1 to 8192, `InvalidFormat` where the maxval isn't 1 to
 /// 32767.
 pub fn described(text: &[u8]) -> Result<Desc, PgmFault>
     ensures told { result ≡ description_in text.now }
@@ -52,7 +52,7 @@ pub fn read_into(text: &[u8], samples: &mut Samples) -> Result<(), PgmFault>
 /// maxval is below 256 and else of S16, as the text has them.
 ///
 /// The fault is the first of these: `InvalidFormat` where the text has no header,
-/// `InvalidDimension` where a side isn't 1 to 4096, `InvalidFormat` where the maxval isn't 1 to
+/// `InvalidDimension` where a side isn't 1 to 8192, `InvalidFormat` where the maxval isn't 1 to
 /// 32767 or what follows isn't as many samples and nothing else, `InvalidValue` where a sample is
 /// above the maxval. Memory is taken for the samples alone, and only once the header is allowed.
 pub fn read(alloc: Global, text: &[u8]) -> Result<Picture, PgmFault>

@@ -26,7 +26,7 @@ fn write(alloc: Global, request: &Request, good_writes: u64) -> (Result<(), Stre
 fn request(alloc: Global, number: u8) -> Option<Request> {
     match number {
         0 => Some(Request::OpenContext),
-        1 => Some(Request::CreateImage(Desc::new(4096, 2, Format::U32)?)),
+        1 => Some(Request::CreateImage(Desc::new(8192, 2, Format::U32)?)),
         2 => Some(Request::ReadImage(ObjRef::new(7, Some(254)))),
         3 => {
             let binary = ThresholdKind::Binary(10);
@@ -69,7 +69,7 @@ fn request_on_graphs(number: u8) -> Option<Request> {
             Some(Request::CreateVirtualImage(258, declared))
         }
         21 => {
-            let declared = Outline::new(None, Some(4096), None)?;
+            let declared = Outline::new(None, Some(8192), None)?;
             Some(Request::CreateVirtualImage(3, declared))
         }
         22 => Some(Request::AddNode(65_536, node()?)),
@@ -101,7 +101,7 @@ fn node() -> Option<NodeSpec> {
 
 const FRAMES: [&[u8]; 27] = [
     b"\0\0\0\x03\x01\x02\x01",
-    b"\0\0\0\x08\x01\x02\x03\x03\x10\0\0\x02",
+    b"\0\0\0\x08\x01\x02\x03\x03\x20\0\0\x02",
     b"\0\0\0\x08\x01\x02\x07\0\0\0\x07\xfe",
     b"\0\0\0\x09\x01\x02\x0c\0\x01\0\x0a\xff\0",
     b"\0\0\0\x0b\x01\x02\x0c\x01\x02\xff\xff\0\x02\xff\0",
@@ -122,7 +122,7 @@ const FRAMES: [&[u8]; 27] = [
     b"\0\0\0\x07\x01\x02\x11\0\x01\0\0",
     b"\0\0\0\x03\x01\x02\x12",
     b"\0\0\0\x0c\x01\x02\x13\0\0\x01\x02\x02\x01\x02\0\0",
-    b"\0\0\0\x0c\x01\x02\x13\0\0\0\x03\0\0\0\x10\0",
+    b"\0\0\0\x0c\x01\x02\x13\0\0\0\x03\0\0\0\x20\0",
     b"\0\0\0\x20\x01\x02\x14\0\x01\0\0\
         \x04\x01\x05\0\0\0\0\0\x01\x03\0\0\0\0\xff\0\x01\0\0\xff\0\0\0\0\xff",
     b"\0\0\0\x0b\x01\x02\x15\0\0\0\x03\0\0\x01\x02",

@@ -185,7 +185,7 @@ fn how_far_it_reads(rt: HostRuntime) {
             (2, 1),
         ),
         (
-            b"\x08\x00\x00\x01\x00\x07\x01",
+            b"\x20\x00\x00\x01\x00\x07\x01",
             StreamFault::BadLength,
             b"",
             (3, 1),

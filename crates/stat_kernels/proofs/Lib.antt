@@ -3,6 +3,6 @@ mod PlaceLaws
 mod CountLaws
 mod TallyLaws
 mod LocatedLaws
-mod SumLaws
 mod LaneSums
+mod SumLaws
 mod ExtremeLaws

@@ -1,6 +1,6 @@
 -- Sums of samples to the left and above.
-use Rattle.std.specs.Prelude.{ℕ, ◌≡◌, ◌+◌, ◌-◌, ◌*◌, ◌<◌, ◌≤◌, ◌==◌, max, cond, unsigned_abs, List, length, slice_index, take, drop}
-use Rattle.std.specs.List.{sum, sum_by}
+use Rattle.std.specs.Prelude.{ℕ, ◌≡◌, ◌+◌, ◌-◌, ◌%◌, ◌^◌, ◌<◌, ◌==◌, max, if◌then◌else◌, unsigned_abs, Option, Some, None, List, length, map, slice_index, take, drop}
+use Rattle.std.specs.List.{sum, sum_by, range_with_len}
 use Rattle.vx_base.specs.Rectangle.{Rectangle}
 use Rattle.vx_base.specs.Image.{ImageValue}
 use Rattle.vx_base.specs.Statistics.{samples_in}
@@ -14,19 +14,22 @@ corner r x y = record { x0 = r.x0; y0 = r.y0; x1 = x; y1 = y }
 abbrev pub sum_before : ImageValue → ℕ → ℕ → ℕ
 sum_before image x y = sum_by unsigned_abs (samples_in (corner image.valid x y) image)
 
--- for each valid column the sum of the samples up to it and above row y; each of the rows has added 255 for each column at most
-pub record AreSums (image : ImageValue) (y : ℕ) (sums : List ℕ) : Type 0 where
-  pub value : (k : ℕ) → k < length sums → slice_index sums k ≡ sum_before image (image.valid.x0 + k + 1) y
-  pub bound : (k : ℕ) → slice_index sums k ≤ (y - image.valid.y0) * (255 * length sums)
+-- for each valid column the sum of the samples up to it and above row y, modulo 2 ^ 32
+abbrev pub AreSums : ImageValue → ℕ → List ℕ → Type 0
+AreSums image y sums = (k : ℕ) → k < length sums → slice_index sums k ≡ sum_before image (image.valid.x0 + k + 1) y % 2 ^ 32
 
--- the sum above a place of a row and the samples of the row up to that place
+-- the sum above a place of a row and of the samples of the row up to that place, modulo 2 ^ 32
 abbrev pub sum_below : (above row : List ℕ) → ℕ → ℕ
-sum_below above row k = slice_index above k + sum (take (k + 1) row)
+sum_below above row k = (slice_index above k + sum (take (k + 1) row)) % 2 ^ 32
+
+-- such sums at all places of the row
+abbrev pub sums_below : (above row : List ℕ) → List ℕ
+sums_below above row = map (sum_below above row) (range_with_len 0 (length row))
 
 -- in the row above row y stand the sums that the valid row y, or the first valid one below it, adds to
 abbrev pub AreAbove : ImageValue → Part → ℕ → List ℕ → Type 0
 AreAbove image part y row = y < part.bottom → AreSums image (max part.top y) (take part.count (drop part.x row))
 
--- the last row of those before, or zeros where there is none
-abbrev pub last_row : ℕ → (zeros before : List ℕ) → List ℕ
-last_row width zeros before = cond (length before == 0) (take width zeros) (drop (length before - width) before)
+-- the last row of those before, if there is one
+abbrev pub last_row : ℕ → (before : List ℕ) → Option (List ℕ)
+last_row width before = if length before == 0 then None else Some (drop (length before - width) before)

@@ -1,6 +1,7 @@
 //! Integral images.
-ghost use Rattle.std.specs.Prelude.{◌≡◌, ◌⊎◌, ◌+◌, ◌*◌, ◌<◌, ◌≤◌, ℕ, pos, max, map, take, drop};
-ghost use Rattle.std.specs.Prelude.{replicate, length};
+ghost use Rattle.std.specs.Prelude.{◌≡◌, ◌⊎◌, ◌+◌, ◌*◌, ◌<◌, ◌≤◌, ℕ, pos, map, take, drop};
+ghost use Rattle.std.specs.Prelude.{length, IfSome};
+ghost use Rattle.std.specs.Option.{option_copied};
 ghost use Rattle.vx_base.specs.declared.format.Format.TheVariants.{U8, U32};
 ghost use Rattle.vx_base.specs.Image.{run, band, within};
 ghost use Rattle.vx_base.specs.Statistics.{sum_to, integral};
@@ -9,43 +10,79 @@ ghost use Rattle.image_core.specs.Fits.{HaveSameSize};
 ghost use Rattle.image_core.specs.Target.{written, IsTarget, Writes};
 ghost use Rattle.stat_kernels.specs.Part.{IsValidPart};
 ghost use Rattle.stat_kernels.specs.Sums.{AreSums, AreAbove, last_row};
-ghost use Rattle.vx_base.specs.declared.desc.TheConstants.{GREATEST_SIDE};
 
 use crate::part::Part;
-use crate::running::add_row;
+use crate::running::{add_row, add_row_to};
 use image_core::{Band, Image, ImageMut, Whole};
 use vx_base::Rect;
 
-/// Writes row y of the integral image, which goes through the valid part, from the row above.
-fn write_across(image: &Image<'_>, part: Part, y: u16, above: &[u32], out: &mut [u32])
+/// Makes the sums above the first valid row those above row y.
+fn add_lines(image: &Image<'_>, part: Part, y: u16, sums: &mut [u32])
     requires format { image.now.format ≡ U8 }
     requires part { IsValidPart image.now part }
-    requires sides { (image.now.width ≤ GREATEST_SIDE) × (image.now.height ≤ GREATEST_SIDE) }
+    requires rows { (part.top ≤ y) × (y ≤ part.bottom) }
+    requires len { length sums.old ≡ part.count }
+    requires sums { AreSums image.now part.top sums.old }
+    ensures { AreSums image.now y sums.new }
+{
+    for line in part.top..y {
+        add_row_to(image.part_of_row::<u8>(part.x, line, part.count), sums);
+    }
+}
+
+/// Writes the sums of valid row y in the valid columns: from the row above it, or where there is
+/// none from all valid rows down to it.
+fn write_valid(image: &Image<'_>, part: Part, y: u16, above: Option<&[u32]>, out: &mut [u32])
+    requires format { image.now.format ≡ U8 }
+    requires part { IsValidPart image.now part }
     requires rows { (part.top ≤ y) × (y < part.bottom) }
-    requires above_len { length above.now ≡ image.now.width }
+    requires above_len { IfSome above (λ row. length row.now ≡ image.now.width) }
+    requires out_len { length out.old ≡ part.count }
+    requires sums { IfSome above
+        (λ row. AreSums image.now y (take part.count (drop part.x row.now))) }
+    ensures { AreSums image.now (y + 1) out.new }
+{
+    match above {
+        Some(above) => {
+            let x = usize::from(part.x);
+            let row = image.part_of_row::<u8>(part.x, y, part.count);
+            add_row(row, &above[x..x + part.count], out);
+        }
+        None => {
+            out.fill(0);
+            add_lines(image, part, y + 1, out);
+        }
+    }
+}
+
+/// Writes row y of the integral image, which goes through the valid part.
+fn write_across(image: &Image<'_>, part: Part, y: u16, above: Option<&[u32]>, out: &mut [u32])
+    requires format { image.now.format ≡ U8 }
+    requires part { IsValidPart image.now part }
+    requires rows { (part.top ≤ y) × (y < part.bottom) }
+    requires above_len { IfSome above (λ row. length row.now ≡ image.now.width) }
     requires out_len { length out.old ≡ image.now.width }
-    requires sums { AreSums image.now y (take part.count (drop part.x above.now)) }
+    requires sums { IfSome above
+        (λ row. AreSums image.now y (take part.count (drop part.x row.now))) }
     ensures sums { AreSums image.now (y + 1) (take part.count (drop part.x out.new)) }
     ensures written { map pos out.new ≡ run 0 image.now.width
         (λ x. within image.now.valid (sum_to image.now) x y) }
 {
-    let x = usize::from(part.x);
-    let (left, others) = out.split_at_mut(x);
+    let (left, others) = out.split_at_mut(usize::from(part.x));
     let (middle, right) = others.split_at_mut(part.count);
-    let row = image.part_of_row::<u8>(part.x, y, part.count);
     left.fill(0);
-    add_row(row, &above[x..x + part.count], middle);
+    write_valid(image, part, y, above, middle);
     right.fill(0);
 }
 
-/// Writes row y of the integral image from the row above.
-fn write_row(image: &Image<'_>, part: Part, y: u16, above: &[u32], out: &mut [u32])
+/// Writes row y of the integral image: from the row above it, or where there is none from all valid
+/// rows down to it.
+fn write_row(image: &Image<'_>, part: Part, y: u16, above: Option<&[u32]>, out: &mut [u32])
     requires format { image.now.format ≡ U8 }
     requires part { IsValidPart image.now part }
-    requires sides { (image.now.width ≤ GREATEST_SIDE) × (image.now.height ≤ GREATEST_SIDE) }
-    requires above_len { length above.now ≡ image.now.width }
+    requires above_len { IfSome above (λ row. length row.now ≡ image.now.width) }
     requires out_len { length out.old ≡ image.now.width }
-    requires sums { AreAbove image.now part y above.now }
+    requires sums { IfSome above (λ row. AreAbove image.now part y row.now) }
     ensures sums { AreAbove image.now part (y + 1) out.new }
     ensures written { map pos out.new ≡ run 0 image.now.width
         (λ x. within image.now.valid (sum_to image.now) x y) }
@@ -57,61 +94,16 @@ fn write_row(image: &Image<'_>, part: Part, y: u16, above: &[u32], out: &mut [u3
     }
 }
 
-/// The row above the next one, the given one above the first.
-fn row_above<'a>(before: &'a [u32], width: usize, first: &'a [u32]) -> &'a [u32]
-    requires first { width ≤ length first.now }
-    requires rows { length before.now ≡ 0 ⊎ width ≤ length before.now }
-    ensures { result.now ≡ last_row width first.now before.now }
+/// The last of the rows before the next one. `None` where there are none.
+fn row_above(before: &[u32], width: usize) -> Option<&[u32]>
+    requires { length before.now ≡ 0 ⊎ width ≤ length before.now }
+    ensures { option_copied result ≡ last_row width before.now }
 {
     if before.is_empty() {
-        &first[..width]
+        None
     } else {
-        &before[before.len() - width..]
+        Some(&before[before.len() - width..])
     }
-}
-
-/// Adds valid row y to the sums above it.
-fn add_line(image: &Image<'_>, part: Part, y: u16, sums: &mut [u32])
-    requires format { image.now.format ≡ U8 }
-    requires part { IsValidPart image.now part }
-    requires sides { (image.now.width ≤ GREATEST_SIDE) × (image.now.height ≤ GREATEST_SIDE) }
-    requires rows { (part.top ≤ y) × (y < part.bottom) }
-    requires len { length sums.old ≡ part.count }
-    requires sums { AreSums image.now y sums.old }
-    ensures { AreSums image.now (y + 1) sums.new }
-{
-    let mut room = [0; 4096];
-    let next = &mut room[..part.count];
-    let row = image.part_of_row::<u8>(part.x, y, part.count);
-    add_row(row, sums, next);
-    sums.copy_from_slice(next);
-}
-
-/// Makes the sums above the first valid row those above row y.
-fn add_lines(image: &Image<'_>, part: Part, y: u16, sums: &mut [u32])
-    requires format { image.now.format ≡ U8 }
-    requires part { IsValidPart image.now part }
-    requires sides { (image.now.width ≤ GREATEST_SIDE) × (image.now.height ≤ GREATEST_SIDE) }
-    requires len { length sums.old ≡ part.count }
-    requires sums { AreSums image.now part.top sums.old }
-    ensures { y < part.bottom → AreSums image.now (max part.top y) sums.new }
-{
-    for line in part.top..y.min(part.bottom) {
-        add_line(image, part, line, sums);
-    }
-}
-
-/// Makes zeros the row above row y, with its sums in the valid columns.
-fn sum_above(image: &Image<'_>, part: Part, y: u16, row: &mut [u32])
-    requires format { image.now.format ≡ U8 }
-    requires part { IsValidPart image.now part }
-    requires sides { (image.now.width ≤ GREATEST_SIDE) × (image.now.height ≤ GREATEST_SIDE) }
-    requires zeros { row.old ≡ replicate 4096 0 }
-    ensures { AreAbove image.now part y (take image.now.width row.new) }
-{
-    let (_, others) = row.split_at_mut(usize::from(part.x));
-    let (sums, _) = others.split_at_mut(part.count);
-    add_lines(image, part, y, sums);
 }
 
 /// Writes the samples of a band of the integral image row by row, each from the one above.
@@ -124,11 +116,9 @@ fn write_sums(image: &Image<'_>, rows: Band, samples: &mut [u32])
 {
     let width = usize::from(image.desc().width());
     let part = Part::of(image);
-    let mut first = [0; 4096];
-    sum_above(image, part, rows.start, &mut first);
     for k in 0..rows.count {
         let (before, others) = samples.split_at_mut(usize::from(k) * width);
-        let above = row_above(before, width, &first);
+        let above = row_above(before, width);
         write_row(image, part, rows.start + k, above, &mut others[..width]);
     }
 }
@@ -159,7 +149,7 @@ impl Whole for Sums<'_, '_> {
 }
 
 /// Writes the integral image of a U8 image (OpenVX 1.3, "Integral Image") to a U32 image of its
-/// size.
+/// size; the sums are modulo 2^32.
 pub fn integral(image: &Image<'_>, output: &mut ImageMut<'_>)
     requires format { image.now.format ≡ U8 }
     requires target { IsTarget output.old }

@@ -5,6 +5,7 @@ use Rattle.std.proofs.lemmas.List.{ext_get_or, get_or-append_right}
 use Rattle.std.proofs.Math.ListN.{get_or-append}
 use Rattle.std.proofs.Math.Nat.{div-lt_iff_lt-mul}
 use Rattle.std.proofs.lemmas.Nat.{div-add-mod'}
+use Rattle.vx_base.specs.declared.desc.TheConstants.{GREATEST_SIDE}
 use Rattle.vx_base.specs.declared.format.Format.{Format}
 use Rattle.vx_base.specs.Sample.{IsSample}
 use Rattle.vx_base.proofs.ResultLaws.{zero_sample}
@@ -71,7 +72,7 @@ module _ (width height : ℕ) (format : Format) (valid : Rectangle) (f : ℕ →
       cases (inl e) = let Q : ℤ → Type 0 = λ z. IsSample format z in subst Q (sym (at-made x y a b e)) (sampled x y e)
       cases (inr e) = let Q : ℤ → Type 0 = λ z. IsSample format z in subst Q (sym (at-made_outside x y a b e)) (zero_sample format)
 
-  pub made_image : width ≤ 4096 → height ≤ 4096 → IsOrdered valid → IsWithin valid width height → ((x y : ℕ) → inside valid x y ≡ true → IsSample format (f x y)) → IsImage (made width height format valid f)
+  pub made_image : width ≤ GREATEST_SIDE → height ≤ GREATEST_SIDE → IsOrdered valid → IsWithin valid width height → ((x y : ℕ) → inside valid x y ≡ true → IsSample format (f x y)) → IsImage (made width height format valid f)
   made_image wide high ordered room sampled =
       record { sides = (wide, high); size = length-table width height (within valid f); ordered = ordered; room = room; sampled = made_sampled sampled; outside = at-made_outside }
 
@@ -140,7 +141,7 @@ with_valid_is a valid h ordered room =
 pub inside_whole : (width height x y : ℕ) → x < width → y < height → inside (whole width height) x y ≡ true
 inside_whole width height x y a b = grind (arith, nat_tests)
 
-pub new_image_is : (width height : ℕ) (format : Format) → width ≤ 4096 → height ≤ 4096 → IsImage (new_image width height format)
+pub new_image_is : (width height : ℕ) (format : Format) → width ≤ GREATEST_SIDE → height ≤ GREATEST_SIDE → IsImage (new_image width height format)
 new_image_is width height format wide high =
     made_image width height format (whole width height) (λ _ _. pos 0) wide high
     (record { columns = omega arith; rows = omega arith }) (record { columns = omega arith; rows = omega arith })

@@ -140,8 +140,8 @@ makes_no_image MinMaxLoc U8 format t = not_so t
 makes_no_image MinMaxLoc S16 format t = not_so t
 makes_no_image function first format t = not_so t
 
-integral_of : (first format : Format) → IsTrue (takes_formats Integral first None (Some format)) → (first ≡ U8) × (U32 ≡ format)
-integral_of U8 U32 t = (refl, refl)
+integral_of : (first format : Format) → IsTrue (takes_formats Integral first None (Some format)) → U32 ≡ format
+integral_of U8 U32 t = refl
 integral_of first format t = not_so t
 
 -- no function reads counts or extremes
@@ -182,7 +182,7 @@ module _ (n : Node) (format : Format) (a : ImageValue) (is : IsNode n) (image : 
   of_one_image : (function : Function) (output : Output) → IsTrue (has_amount (parameters function) n.policy n.amount) → IsTrue (takes_formats function a.format None (Some format)) → IsImage (image_of_one function n output format a)
   of_one_image NotBits output h t = from_one_is format (formula_of_one NotBits format n.policy n.amount) a image (λ z s. of_one NotBits a.format format n.policy n.amount z t h s)
   of_one_image ConvertDepth output h t = from_one_is format (formula_of_one ConvertDepth format n.policy n.amount) a image (λ z s. of_one ConvertDepth a.format format n.policy n.amount z t h s)
-  of_one_image Integral output h t = let e = integral_of a.format format t in sums_image a image e.0 format e.1
+  of_one_image Integral output h t = sums_image a image format (integral_of a.format format t)
   of_one_image Box output h t = of_nine Box output t
   of_one_image Gaussian output h t = of_nine Gaussian output t
   of_one_image Median output h t = of_nine Median output t

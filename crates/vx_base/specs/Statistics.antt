@@ -1,5 +1,5 @@
 -- What the valid samples of an image come to. OpenVX 1.3, "Histogram", "Integral Image" and "Min, Max Location".
-use Rattle.std.specs.Prelude.{ℕ, ℤ, pos, ◌+◌, ◌-◌, ◌*◌, ◌/◌, ◌==◌, nat_le, nat_lt, Bool, false, ◌&&◌, unsigned_abs, if◌then◌else◌, List, [], ◌∷◌, map, Option, Some, None}
+use Rattle.std.specs.Prelude.{ℕ, ℤ, pos, ◌+◌, ◌-◌, ◌*◌, ◌/◌, ◌%◌, ◌^◌, ◌==◌, nat_le, nat_lt, Bool, false, ◌&&◌, unsigned_abs, if◌then◌else◌, List, [], ◌∷◌, map, Option, Some, None}
 use Rattle.std.specs.List.{range_with_len, flat_map, fold, sum_by, count_by, find}
 use Rattle.std.specs.Option.{unwrap_or}
 use Rattle.std.specs.Ordering.{int_eq}
@@ -60,11 +60,12 @@ histogram b image = tallies b (valid_samples image)
 
 -- ---- "Integral Image"
 
--- the sum of the samples at the valid places that are neither right of column x nor below row y; the samples are U8
+-- the sum of the samples at the valid places that are neither right of column x nor below row y, modulo 2 ^ 32; the samples are U8
 abbrev pub sum_to : ImageValue → ℕ → ℕ → ℤ
-sum_to image x y = pos (sum_by unsigned_abs (samples_in (meet_of image.valid (whole (x + 1) (y + 1))) image))
+sum_to image x y = pos (sum_by unsigned_abs (samples_in (meet_of image.valid (whole (x + 1) (y + 1))) image) % 2 ^ 32)
 
--- such sums at the valid places of a U8 image; what is not valid counts as 0, which is this project's choice
+-- such sums at the valid places of a U8 image; what is not valid counts as 0. Both are this project's choice: of sums that don't
+-- fit 32 bits OpenVX says nothing
 abbrev pub sums_in : Format → ImageValue → ImageValue
 sums_in format image = made image.width image.height format image.valid (sum_to image)
 

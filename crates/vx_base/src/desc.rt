@@ -9,12 +9,12 @@ use crate::rect::Rect;
 use std::marker::Model;
 
 /// The greatest width and height of an image, in samples.
-pub const GREATEST_SIDE: u16 = 4096;
+pub const GREATEST_SIDE: u16 = 8192;
 
 /// The bytes of the largest image: of four bytes a sample, and of the greatest sides.
-pub const GREATEST_BYTES: usize = 67_108_864;
+pub const GREATEST_BYTES: usize = GREATEST_SIDE as usize * GREATEST_SIDE as usize * 4;
 
-/// The size and format of an image: 1 to 4096 samples wide and high.
+/// The size and format of an image: 1 to 8192 samples wide and high.
 #[derive(Clone, Copy, PartialEq, Eq, Debug)]
 pub struct Desc {
     width: u16,
@@ -36,7 +36,7 @@ impl Model for Desc {
 }
 
 impl Desc {
-    /// The description of an image. `None` unless the width and height are 1 to 4096.
+    /// The description of an image. `None` unless the width and height are 1 to 8192.
     pub fn new(width: u16, height: u16, format: Format) -> Option<Desc>
         ensures { result ≡ description width height format }
     {
@@ -48,7 +48,7 @@ impl Desc {
         }
     }
 
-    /// The description of an image of this width and height, which are 1 to 4096.
+    /// The description of an image of this width and height, which are 1 to 8192.
     pub fn with_sides(width: u16, height: u16, format: Format) -> Desc
         requires { IsTrue (is_side width && is_side height) }
         ensures { result ≡ record { width = width; height = height; format = format } }

@@ -59,10 +59,10 @@ pub fn rectangles()
 /// Descriptions within the limits and beyond.
 pub fn descriptions()
     ensures least { description 1 1 U8 ≡ Some (record { width = 1; height = 1; format = U8 }) }
-    ensures greatest { description 4096 4096 U32
-        ≡ Some (record { width = 4096; height = 4096; format = U32 }) }
+    ensures greatest { description 8192 8192 U32
+        ≡ Some (record { width = 8192; height = 8192; format = U32 }) }
     ensures none_wide { description 0 1 U8 ≡ None }
-    ensures too_high { description 1 4097 U8 ≡ None }
+    ensures too_high { description 1 8193 U8 ≡ None }
     ensures bytes { byte_count (record { width = 8; height = 7; format = S16 }) ≡ 112 }
 {}
 
@@ -313,7 +313,7 @@ pub fn outlines()
     ensures open { closed (record { width = Some 4; height = None; format = Some U8 }) ≡ None }
     ensures closed { closed (outline_of (record { width = 4; height = 2; format = S16 }))
         ≡ Some (record { width = 4; height = 2; format = S16 }) }
-    ensures side { outline (Some 4097) None None ≡ None }
+    ensures side { outline (Some 8193) None None ≡ None }
     ensures sums { open_format Add U8 ≡ S16 }
     ensures kept { open_format TableLookup S16 ≡ S16 }
     ensures converted { open_format ConvertDepth S16 ≡ U8 }

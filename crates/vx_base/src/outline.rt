@@ -8,7 +8,7 @@ use crate::format::Format;
 use std::marker::Model;
 
 /// The width, height and format of an image, as far as they are known: what isn't is open. Sides
-/// are 1 to 4096.
+/// are 1 to 8192.
 #[derive(Clone, Copy, PartialEq, Eq, Debug)]
 pub struct Outline {
     width: Option<u16>,
@@ -31,7 +31,7 @@ impl Model for Outline {
 
 impl Outline {
     /// The outline with these parts; `None` leaves one open. `None` unless the sides that are given
-    /// are 1 to 4096.
+    /// are 1 to 8192.
     pub fn new(width: Option<u16>, height: Option<u16>, format: Option<Format>) -> Option<Outline>
         ensures { result ≡ outline width height format }
     {

@@ -24,6 +24,7 @@ use Rattle.vx_main.specs.declared.job.Operation.{Operation}
 use Rattle.vx_main.specs.declared.job.Operation.TheVariants.{Not, Box, Gaussian, Median, Erode, Dilate}
 use Rattle.vx_main.specs.Job.{node_of}
 use Rattle.vx_main.specs.Apply.{image_made, text_made}
+use Rattle.vx_base.specs.declared.desc.TheConstants.{GREATEST_SIDE}
 
 -- a context with one image, and one with two
 abbrev pub of_one : ImageValue → State
@@ -35,13 +36,13 @@ of_two a b = Some (record {
   objects = record { name = 1; live = true; object = ImageObject a } ∷ record { name = 2; live = true; object = ImageObject b } ∷ [];
 })
 
--- images of at most 2^24 samples of one byte, two of which are within the quota
-pub first_created : (w h : ℕ) → h * w ≤ 16777216 → (answer_to default_allowance (Some new_context) (CreateImage (record { width = w; height = h; format = U8 }))).1 ≡ of_one (new_image w h U8)
+-- images of at most 2^26 samples of one byte, two of which are within the quota
+pub first_created : (w h : ℕ) → h * w ≤ GREATEST_SIDE * GREATEST_SIDE → (answer_to default_allowance (Some new_context) (CreateImage (record { width = w; height = h; format = U8 }))).1 ≡ of_one (new_image w h U8)
 first_created w h fits =
     let room : nat_le (0 + h * w * 1) 268435456 ≡ true = le-leb _ _ (omega (arith, fits)) in
     rw room refl
 
-pub second_created : (w h : ℕ) → h * w ≤ 16777216 → (answer_to default_allowance (of_one (new_image w h U8)) (CreateImage (record { width = w; height = h; format = U8 }))).1 ≡ of_two (new_image w h U8) (new_image w h U8)
+pub second_created : (w h : ℕ) → h * w ≤ GREATEST_SIDE * GREATEST_SIDE → (answer_to default_allowance (of_one (new_image w h U8)) (CreateImage (record { width = w; height = h; format = U8 }))).1 ≡ of_two (new_image w h U8) (new_image w h U8)
 second_created w h fits =
     let charge : ℕ = charge_of (record { name = 1; live = true; object = ImageObject (new_image w h U8) } ∷ []) in
     let room : nat_le (charge + h * w * 1) 268435456 ≡ true = le-leb _ _ (omega (arith, fits)) in
@@ -76,8 +77,8 @@ text_read Dilate border w h samples = refl
 
 -- ---- the worlds that the requests lead through
 
-side_most : (n : ℕ) → is_side n ≡ true → n ≤ 4096
-side_most n is = leb-true n 4096 (and_parts (nat_le 1 n) (nat_le n 4096) is).1
+side_most : (n : ℕ) → is_side n ≡ true → n ≤ GREATEST_SIDE
+side_most n is = leb-true n GREATEST_SIDE (and_parts (nat_le 1 n) (nat_le n GREATEST_SIDE) is).1
 
 -- what a request of client 1 makes of a world
 pub record Asks (old : World) (request : Request) (new : World) : Type 0 where
@@ -105,7 +106,7 @@ Gives job p =
     → Asks w4 (Immediate (node_of job)) w5 → (out : Cell) → out ≡ record { name = 2; slot = None } → (reply : Reply)
     → reply ≡ (answer_to w5.limits (state_of 1 w5) (ReadImagePgm out)).0 → reply ≡ Text (text_made job p)
 
-gives_bytes : (operation : Operation) (border : Border) (w h : ℕ) (samples : List ℤ) → h * w ≤ 16777216 →
+gives_bytes : (operation : Operation) (border : Border) (w h : ℕ) (samples : List ℤ) → h * w ≤ GREATEST_SIDE * GREATEST_SIDE →
     Gives (record { operation = operation; border = border }) (record { description = record { width = w; height = h; format = U8 }; samples = samples })
 gives_bytes operation border w h samples fits w0 w1 w2 w3 w4 w5 new a1 a2 a3 a4 a5 out is reply replied =
     let d : Description = record { width = w; height = h; format = U8 } in
@@ -128,7 +129,7 @@ gives_bytes operation border w h samples fits w0 w1 w2 w3 w4 w5 new a1 a2 a3 a4 
 pub gives_text : (job : Job) (p : PictureValue) → p.description.format ≡ U8 → IsDescription p.description → Gives job p
 gives_text job p u8 is =
     let d = p.description in
-    let fits : d.height * d.width ≤ 4096 * 4096 = mul-le-mul (side_most d.height is.height) (side_most d.width is.width) in
+    let fits : d.height * d.width ≤ GREATEST_SIDE * GREATEST_SIDE = mul-le-mul (side_most d.height is.height) (side_most d.width is.width) in
     let q : PictureValue = record { description = record { width = d.width; height = d.height; format = U8 }; samples = p.samples } in
     let e : p ≡ q = ap (λ (f : Format). record { description = record { width = d.width; height = d.height; format = f }; samples = p.samples }) u8 in
     subst (λ (x : PictureValue). Gives job x) (sym e) (gives_bytes job.operation job.border d.width d.height p.samples fits)

@@ -15,8 +15,8 @@ use std::io::{ErrorKind, Read, Write};
 use vx_base::{Code, Format, ObjRef, Picture};
 use vx_requests::StreamFault;
 
-/// How many bytes a text may have: 2^27.
-const LONGEST: usize = 134_217_728;
+/// How many bytes a text may have: 2^29.
+const LONGEST: usize = 536_870_912;
 
 /// The client whose requests are made; there is no other.
 const CLIENT: u16 = 1;

@@ -355,7 +355,7 @@ fn refuses_texts(rt: HostRuntime) {
         (b"P2 1 1 300 5", "INVALID_FORMAT"),
         (b"P5 1 1 300\n\x01\x2c", "INVALID_FORMAT"),
         (b"P5 0 1 255\n", "INVALID_DIMENSION"),
-        (b"P2 1 4097 300 5", "INVALID_DIMENSION"),
+        (b"P2 1 8193 300 5", "INVALID_DIMENSION"),
         (b"P2 1 1 300 301", "INVALID_VALUE"),
         (b"P5 1 1 100\n\x65", "INVALID_VALUE"),
     ] {
@@ -389,7 +389,7 @@ fn tells_a_reader_that_fails(rt: HostRuntime) {
 #[test]
 fn tells_a_text_that_is_too_long(rt: HostRuntime) {
     // The reader has no end, and would fail after the one byte that is too many.
-    let endless = io::repeat(b' ').take(134_217_729);
+    let endless = io::repeat(b' ').take(536_870_913);
     let failing = endless.chain(FailingReader { bytes: b"" });
     ends(&rt, rt.alloc(), failing, 5, "NO_RESOURCES");
 }

@@ -6,6 +6,7 @@ use Rattle.std.proofs.lemmas.Bool.{cases_lt}
 use Rattle.std.proofs.lemmas.List.Elements.{All-cons, All-drop, All-take}
 use Rattle.std.proofs.lemmas.Nat.{be_bytes_2, be_bytes_4}
 use Rattle.vx_requests.specs.Frame.Frames.{Frame, IsFrame, IsLength, IsRest, Splits, said_length, frame_bytes, joined}
+use Rattle.vx_requests.specs.declared.frame.limits.TheConstants.{GREATEST_LENGTH}
 
 abbrev IsBytes : List ℕ → Type 0
 IsBytes stream = All (λ byte. byte < 256) stream
@@ -90,7 +91,7 @@ split_within (suc n) stream fits bytes =
           elim (cases_lt (said_length stream) 3) [
             | inl low ↦ only_rest stream (inr (four, λ ok. omega (arith, ok.0)))
             | inr least ↦
-                elim (cases_lt 134217728 (said_length stream)) [
+                elim (cases_lt GREATEST_LENGTH (said_length stream)) [
                   | inl high ↦ only_rest stream (inr (four, λ ok. omega (arith, ok.1)))
                   | inr greatest ↦
                       elim (cases_lt (length stream) (said_length stream + 4)) [

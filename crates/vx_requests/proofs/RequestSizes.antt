@@ -7,6 +7,7 @@ use Rattle.client_model.specs.Request.{IsRequest}
 use Rattle.vx_wire.proofs.SpelledBytes.{body_is}
 use Rattle.vx_wire.proofs.SpelledSizes.{spelled_most, entries_most, threshold_most, convolution_most, length-node_bytes}
 use Rattle.vx_requests.specs.Frame.Frames.{IsFrame, request_frame, fits_a_frame}
+use Rattle.vx_requests.specs.declared.frame.limits.TheConstants.{GREATEST_TEXT}
 
 pub fits : (client : ℕ) (request : Request) → client < 2 ^ 16 → IsRequest request → IsTrue (fits_a_frame request) → IsFrame (request_frame client request)
 fits client OpenContext below is fit = record { client = below; op = omega arith; bytes = body_is OpenContext is; len = omega arith }
@@ -14,7 +15,7 @@ fits client ReleaseContext below is fit = record { client = below; op = omega ar
 fits client (CreateImage d) below is fit = record { client = below; op = omega arith; bytes = body_is (CreateImage d) is; len = omega arith }
 fits client (QueryImage cell) below is fit = record { client = below; op = omega arith; bytes = body_is (QueryImage cell) is; len = omega arith }
 fits client (WriteImage cell picture) below is fit = record { client = below; op = omega arith; bytes = body_is (WriteImage cell picture) is; len = omega (arith, spelled_most picture is.1) }
-fits client (WriteImagePgm cell text) below is fit = record { client = below; op = omega arith; bytes = body_is (WriteImagePgm cell text) is; len = omega (arith, leb-true (length text) 134217720 fit) }
+fits client (WriteImagePgm cell text) below is fit = record { client = below; op = omega arith; bytes = body_is (WriteImagePgm cell text) is; len = omega (arith, leb-true (length text) GREATEST_TEXT fit) }
 fits client (ReadImage cell) below is fit = record { client = below; op = omega arith; bytes = body_is (ReadImage cell) is; len = omega arith }
 fits client (ReadImagePgm cell) below is fit = record { client = below; op = omega arith; bytes = body_is (ReadImagePgm cell) is; len = omega arith }
 fits client (SetValid cell rectangle) below is fit = record { client = below; op = omega arith; bytes = body_is (SetValid cell rectangle) is; len = omega arith }
@@ -41,6 +42,6 @@ fits client (RegisterAutoAging graph delay) below is fit = record { client = bel
 pub no_other : (client : ℕ) (request : Request) → IsFrame (request_frame client request) → IsTrue (fits_a_frame request)
 no_other client (WriteImagePgm cell text) is =
     let room = is.len in
-    let most : length text ≤ 134217720 = omega arith in
-    le-leb (length text) 134217720 most
+    let most : length text ≤ GREATEST_TEXT = omega arith in
+    le-leb (length text) GREATEST_TEXT most
 no_other client request is = refl

@@ -33,7 +33,7 @@ const MOST_READS: u64 = 1_099_511_627_776;
 /// from where they stand.
 ///
 /// Ok is the end of the stream at a frame's start, and `Truncated` its end elsewhere. `BadLength`
-/// comes where a frame says a length below 3 or above 2^27, as soon as its four bytes are read;
+/// comes where a frame says a length below 3 or above 2^29, as soon as its four bytes are read;
 /// `ReadFailed` and `WriteFailed` where a read, or a write or a flush, failed; and
 /// `ReaderWouldNotEnd` after 2^40 reads. The runtime is then as the frames that were read whole
 /// have left it.

@@ -23,8 +23,9 @@ use Rattle.vx_wire.specs.Operand.{operand_bytes}
 use Rattle.vx_wire.specs.Node.{border_bytes, node_bytes}
 use Rattle.vx_wire.proofs.SampleBytes.{length-encoded}
 use Rattle.vx_wire.proofs.TableSizes.{bytes_most, ConvolutionParts, convolution_parts}
+use Rattle.vx_base.specs.declared.desc.TheConstants.{GREATEST_SIDE, GREATEST_BYTES}
 
-side_most : (n : ℕ) → IsTrue (is_side n) → n ≤ 4096
+side_most : (n : ℕ) → IsTrue (is_side n) → n ≤ GREATEST_SIDE
 side_most n is = grind (arith, nat_tests)
 
 sample_bytes_most : (format : Format) → sample_bytes format ≤ 4
@@ -32,10 +33,10 @@ sample_bytes_most U8 = omega arith
 sample_bytes_most S16 = omega arith
 sample_bytes_most U32 = omega arith
 
-pub spelled_most : (p : PictureValue) → IsPicture p → length (encoded p.description.format p.samples) ≤ 67108864
+pub spelled_most : (p : PictureValue) → IsPicture p → length (encoded p.description.format p.samples) ≤ GREATEST_BYTES
 spelled_most p is =
-    let count : sample_count p.description ≤ 4096 * 4096 = mul-le-mul (side_most p.description.height is.description.height) (side_most p.description.width is.description.width) in
-    let most : sample_count p.description * sample_bytes p.description.format ≤ (4096 * 4096) * 4 = mul-le-mul count (sample_bytes_most p.description.format) in
+    let count : sample_count p.description ≤ GREATEST_SIDE * GREATEST_SIDE = mul-le-mul (side_most p.description.height is.description.height) (side_most p.description.width is.description.width) in
+    let most : sample_count p.description * sample_bytes p.description.format ≤ (GREATEST_SIDE * GREATEST_SIDE) * 4 = mul-le-mul count (sample_bytes_most p.description.format) in
     let size = is.size in
     rw (length-encoded p.description.format p.samples, size) (omega arith)
 

@@ -8,7 +8,7 @@ pub enum BodyFault {
     InvalidParameters,
     /// A number stands for no format, or for one that a table or a threshold doesn't take.
     InvalidFormat,
-    /// A width or a height isn't 1 to 4096 (or 0, where it may be left open), or the columns or the
+    /// A width or a height isn't 1 to 8192 (or 0, where it may be left open), or the columns or the
     /// rows of a convolution aren't 3, 5, 7 or 9.
     InvalidDimension,
     /// An amount is beyond what the function takes, the limit of a threshold isn't a sample of its

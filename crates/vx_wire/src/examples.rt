@@ -43,15 +43,15 @@ pub fn ops()
     ensures not_known { request_of 200 [] ≡ Err InvalidParameters }
 {}
 
-/// Images of one sample, of 4096 by 2 samples, and of what no image has.
+/// Images of one sample, of 8192 by 2 samples, and of what no image has.
 pub fn images_made()
     ensures smallest { request_of 3 (1 ∷ 0 ∷ 1 ∷ 0 ∷ 1 ∷ [])
         ≡ Ok (CreateImage (record { width = 1; height = 1; format = U8 })) }
-    ensures wide { request_of 3 (3 ∷ 16 ∷ 0 ∷ 0 ∷ 2 ∷ [])
-        ≡ Ok (CreateImage (record { width = 4096; height = 2; format = U32 })) }
+    ensures wide { request_of 3 (3 ∷ 32 ∷ 0 ∷ 0 ∷ 2 ∷ [])
+        ≡ Ok (CreateImage (record { width = 8192; height = 2; format = U32 })) }
     ensures no_format { request_of 3 (4 ∷ 0 ∷ 1 ∷ 0 ∷ 1 ∷ []) ≡ Err InvalidFormat }
     ensures no_width { request_of 3 (1 ∷ 0 ∷ 0 ∷ 0 ∷ 1 ∷ []) ≡ Err InvalidDimension }
-    ensures too_high { request_of 3 (1 ∷ 0 ∷ 1 ∷ 16 ∷ 1 ∷ []) ≡ Err InvalidDimension }
+    ensures too_high { request_of 3 (1 ∷ 0 ∷ 1 ∷ 32 ∷ 1 ∷ []) ≡ Err InvalidDimension }
     ensures cut { request_of 3 (1 ∷ 0 ∷ 1 ∷ 0 ∷ []) ≡ Err InvalidParameters }
     ensures more { request_of 3 (1 ∷ 0 ∷ 1 ∷ 0 ∷ 1 ∷ 0 ∷ []) ≡ Err InvalidParameters }
     ensures first_fault { request_of 3 (4 ∷ 0 ∷ []) ≡ Err InvalidFormat }
@@ -284,10 +284,10 @@ pub fn graphs_made()
 /// Virtual images of graph 3 of which all is known, nothing or a part, and of what none is. The
 /// first field that is wrong decides, also where the next is cut.
 pub fn virtual_images_made()
-    ensures known { request_of 19 (0 ∷ 0 ∷ 0 ∷ 3 ∷ 1 ∷ 1 ∷ 2 ∷ 16 ∷ 0 ∷ [])
+    ensures known { request_of 19 (0 ∷ 0 ∷ 0 ∷ 3 ∷ 1 ∷ 1 ∷ 2 ∷ 32 ∷ 0 ∷ [])
         ≡ Ok (CreateVirtualImage 3 (record {
           width = Some 258;
-          height = Some 4096;
+          height = Some 8192;
           format = Some U8;
         })) }
     ensures open { request_of 19 (0 ∷ 0 ∷ 0 ∷ 3 ∷ 0 ∷ 0 ∷ 0 ∷ 0 ∷ 0 ∷ [])
@@ -299,14 +299,14 @@ pub fn virtual_images_made()
     ensures open_format { request_of 19 (0 ∷ 0 ∷ 0 ∷ 3 ∷ 0 ∷ 0 ∷ 1 ∷ 0 ∷ 2 ∷ [])
         ≡ Ok (CreateVirtualImage 3 (record { width = Some 1; height = Some 2; format = None })) }
     ensures no_format { request_of 19 (0 ∷ 0 ∷ 0 ∷ 3 ∷ 4 ∷ 0 ∷ 1 ∷ 0 ∷ 1 ∷ []) ≡ Err InvalidFormat }
-    ensures too_wide { request_of 19 (0 ∷ 0 ∷ 0 ∷ 3 ∷ 1 ∷ 16 ∷ 1 ∷ 0 ∷ 1 ∷ [])
+    ensures too_wide { request_of 19 (0 ∷ 0 ∷ 0 ∷ 3 ∷ 1 ∷ 32 ∷ 1 ∷ 0 ∷ 1 ∷ [])
         ≡ Err InvalidDimension }
-    ensures too_high { request_of 19 (0 ∷ 0 ∷ 0 ∷ 3 ∷ 0 ∷ 0 ∷ 0 ∷ 16 ∷ 1 ∷ [])
+    ensures too_high { request_of 19 (0 ∷ 0 ∷ 0 ∷ 3 ∷ 0 ∷ 0 ∷ 0 ∷ 32 ∷ 1 ∷ [])
         ≡ Err InvalidDimension }
     ensures no_format_and_cut { request_of 19 (0 ∷ 0 ∷ 0 ∷ 3 ∷ 4 ∷ []) ≡ Err InvalidFormat }
-    ensures too_wide_and_cut { request_of 19 (0 ∷ 0 ∷ 0 ∷ 3 ∷ 1 ∷ 16 ∷ 1 ∷ 0 ∷ [])
+    ensures too_wide_and_cut { request_of 19 (0 ∷ 0 ∷ 0 ∷ 3 ∷ 1 ∷ 32 ∷ 1 ∷ 0 ∷ [])
         ≡ Err InvalidDimension }
-    ensures too_high_and_more { request_of 19 (0 ∷ 0 ∷ 0 ∷ 3 ∷ 1 ∷ 0 ∷ 1 ∷ 16 ∷ 1 ∷ 0 ∷ [])
+    ensures too_high_and_more { request_of 19 (0 ∷ 0 ∷ 0 ∷ 3 ∷ 1 ∷ 0 ∷ 1 ∷ 32 ∷ 1 ∷ 0 ∷ [])
         ≡ Err InvalidDimension }
     ensures cut { request_of 19 (0 ∷ 0 ∷ 0 ∷ 3 ∷ 0 ∷ 0 ∷ 0 ∷ 0 ∷ []) ≡ Err InvalidParameters }
     ensures more { request_of 19 (0 ∷ 0 ∷ 0 ∷ 3 ∷ 0 ∷ 0 ∷ 0 ∷ 0 ∷ 0 ∷ 0 ∷ [])
@@ -500,8 +500,8 @@ pub fn spelled()
     ensures bins { body_of (CreateDistribution (record { bins = 3; offset = 0; range = 256 }))
         ≡ 0 ∷ 3 ∷ 0 ∷ 0 ∷ 1 ∷ 0 ∷ [] }
     ensures outline { body_of (CreateVirtualImage 3
-        (record { width = Some 258; height = Some 4096; format = Some U8 }))
-        ≡ 0 ∷ 0 ∷ 0 ∷ 3 ∷ 1 ∷ 1 ∷ 2 ∷ 16 ∷ 0 ∷ [] }
+        (record { width = Some 258; height = Some 8192; format = Some U8 }))
+        ≡ 0 ∷ 0 ∷ 0 ∷ 3 ∷ 1 ∷ 1 ∷ 2 ∷ 32 ∷ 0 ∷ [] }
     ensures open_outline { body_of (CreateVirtualImage 3
         (record { width = None; height = Some 1; format = None }))
         ≡ 0 ∷ 0 ∷ 0 ∷ 3 ∷ 0 ∷ 0 ∷ 0 ∷ 0 ∷ 1 ∷ [] }

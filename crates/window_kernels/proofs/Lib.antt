@@ -7,4 +7,5 @@ mod ProductLaws
 mod ScaleLaws
 mod MatrixLaws
 mod RowLaws
+mod PieceLaws
 mod MedianLaws

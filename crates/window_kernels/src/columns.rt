@@ -1,9 +1,11 @@
 //! Columns of three samples.
 ghost use Rattle.std.specs.Prelude.{◌≡◌, ◌+◌, ◌<◌, ◌≤◌, ℕ, ℤ, pos, ◌-ℤ◌, map, length, replicate};
+ghost use Rattle.std.specs.Prelude.{min};
 ghost use Rattle.vx_base.specs.declared.format.Format.TheVariants.{U8};
 ghost use Rattle.vx_base.specs.Image.{run};
 ghost use Rattle.vx_base.specs.Window.{look};
 ghost use Rattle.border_rows.specs.Seen.{value_beside};
+ghost use Rattle.window_kernels.specs.declared.pieces.TheConstants.{PIECE};
 ghost use Rattle.window_kernels.specs.Nine.{column_in, column_beside, columns_between, column_seen};
 
 use border_rows::{row_in_place, value_beside};
@@ -158,7 +160,8 @@ fn write_both_around<S: Number, R: Number, C: OfColumn<S>, D: OfColumn<R>>(
 pub struct Window<'a, 'b> {
     pub image: &'a Image<'b>,
     pub border: Border,
-    /// A row as it is seen above and below all valid rows, where none of them is.
+    /// A piece of a row, with a column to either side, as it is seen above and below all valid
+    /// rows, where none of them is.
     pub off_rows: &'a [u8],
     pub area: Rect,
     ghost format: { image.now.format ≡ U8 },
@@ -169,7 +172,7 @@ pub struct Window<'a, 'b> {
         (area.y0 < area.y1 → image.now.valid.y0 < image.now.valid.y1) },
     ghost off: { map pos off_rows.now ≡ replicate (length off_rows.now)
         (value_beside border (pos 0)) },
-    ghost room: { image.now.width ≤ length off_rows.now },
+    ghost room: { min image.now.width (PIECE + 2) ≤ length off_rows.now },
 }
 
 impl Window<'_, '_> {
@@ -185,6 +188,7 @@ impl Window<'_, '_> {
         requires column { (self.now.image.now.valid.x0 ≤ x) × (x < self.now.image.now.valid.x1) }
         requires room { (3 ≤ length out.old) ×
             (x + length out.old ≤ self.now.image.now.valid.x1 + 2) }
+        requires few { length out.old ≤ PIECE + 2 }
         ensures { map S.value out.new ≡ run x (length out.old)
             (λ c. column_seen (C.gives column.now) (look self.now.image.now self.now.border)
             (pos c -ℤ pos 1) (pos y)) }
@@ -229,6 +233,7 @@ impl Window<'_, '_> {
         requires column { (self.now.image.now.valid.x0 ≤ x) × (x < self.now.image.now.valid.x1) }
         requires room { (3 ≤ length out.old) ×
             (x + length out.old ≤ self.now.image.now.valid.x1 + 2) }
+        requires few { length out.old ≤ PIECE + 2 }
         requires as_long { length other.old ≡ length out.old }
         ensures first { map S.value out.new ≡ run x (length out.old)
             (λ c. column_seen (C.gives first.now) (look self.now.image.now self.now.border)

@@ -1,6 +1,6 @@
 //! Images that are convolved by a matrix.
 ghost use Rattle.std.specs.Prelude.{◌≡◌, ◌+◌, ◌-◌, ◌*◌, ◌/◌, ◌%◌, ◌<◌, ◌≤◌, ◌^◌, ◌+ℤ◌, ◌-ℤ◌, ℕ};
-ghost use Rattle.std.specs.Prelude.{pos, unsigned_abs, int_div, map, length, FitsSigned, All};
+ghost use Rattle.std.specs.Prelude.{pos, unsigned_abs, int_div, min, map, length, FitsSigned, All};
 ghost use Rattle.std.specs.Prelude.{IsTrue};
 ghost use Rattle.std.specs.Int.{w16};
 ghost use Rattle.std.specs.Simd.Lanes.{Each1};
@@ -12,14 +12,16 @@ ghost use Rattle.vx_base.specs.Node.{IsBorder};
 ghost use Rattle.vx_base.specs.Window.{look, convolved, from_matrix};
 ghost use Rattle.image_core.specs.Fits.{HaveSameSize};
 ghost use Rattle.image_core.specs.Target.{written, IsTarget, Writes};
+ghost use Rattle.window_kernels.specs.declared.pieces.TheConstants.{PIECE};
 ghost use Rattle.window_kernels.specs.Fits.{ConvolutionFits};
 ghost use Rattle.window_kernels.specs.Products.{IsUpTo, AreUpTo, alternating, sum_of_rows, turned};
 ghost use Rattle.window_kernels.specs.Products.{turned_pairs, turned_tables};
 
+use crate::pieces::{InPieces, PIECE, PieceFormula};
 use crate::products::sum_block;
 use border_rows::{load_row, window_valid};
-use image_core::{Image, ImageMut, RowFormula, Sample};
-use vx_base::{Border, Convolution, Format, GREATEST_SIDE, Policy, Rect, narrow_s16, narrow_u8};
+use image_core::{Image, ImageMut, Sample};
+use vx_base::{Border, Convolution, Format, Policy, Rect, narrow_s16, narrow_u8};
 
 /// U8 and S16 samples, to which numbers are clamped.
 trait Clamped: Sample {
@@ -133,9 +135,9 @@ fn has_constant(border: Border)
     if let Border::Constant(_value) = border {}
 }
 
-/// How many more items than the image has columns a row has: what the windows of a whole block at
-/// its last column see.
-const AROUND: u16 = 48;
+/// How many more items than a piece of a row has columns are loaded of each row: what the windows
+/// of a whole block at its last column see.
+const AROUND: usize = 48;
 
 /// What a matrix gives of a U8 image under a border.
 #[derive(Drop)]
@@ -176,7 +178,7 @@ impl FromMatrix<'_, '_> {
     fn load_rows(&self, x: u16, y: u16, line: u16, rows: &mut [i16])
         requires columns { self.now.image.now.valid.x0 < self.now.image.now.valid.x1 }
         requires rows { self.now.image.now.valid.y0 < self.now.image.now.valid.y1 }
-        requires line { line ≤ 4144 }
+        requires line { line ≤ PIECE + 48 }
         requires len { length rows.old ≡ self.now.convolution.now.rows * line }
         ensures value { rows.new ≡ table line self.now.convolution.now.rows
             (λ c l. look self.now.image.now self.now.border
@@ -237,33 +239,29 @@ impl FromMatrix<'_, '_> {
     }
 }
 
-impl<T: Clamped> RowFormula<T, i16> for FromMatrix<'_, '_> {
+impl<T: Clamped> PieceFormula<T, i16> for FromMatrix<'_, '_> {
     ghost at = { λ s x y. convolved s.convolution.now T.format (look s.image.now s.border)
         (pos x) (pos y) };
 
     ghost area = { λ s. s.area };
 
-    ghost room = { λ s. 9 * (s.image.now.width + 48) };
+    ghost room = { λ s. 9 * (min s.image.now.width PIECE + 48) };
 
     fn area(&self) -> Rect {
         self.area
     }
 
-    fn fill(&self, x: u16, y: u16, scratch: &mut [i16], out: &mut [T]) {
-        // Where nothing is written, there may be no valid place that the rows could show.
-        if out.is_empty() {
-            return;
-        }
+    fn fill_piece(&self, x: u16, y: u16, scratch: &mut [i16], out: &mut [T]) {
         let _limits = self.image.valid();
-        let line = self.image.desc().width() + AROUND;
+        let line = (out.len() + AROUND) as u16;
         let rows = &mut scratch[..usize::from(self.convolution.rows()) * usize::from(line)];
         self.load_rows(x, y, line, rows);
         self.write_blocks(rows, line, out);
     }
 }
 
-/// Writes what the matrix gives of a U8 image to another of its size, with scratch memory for the
-/// rows that a window sees.
+/// Writes what the matrix gives of a U8 image to another of its size, with scratch memory for what
+/// the windows of a piece of a row see.
 fn write_convolved<T: Clamped>(
     image: &Image<'_>,
     convolution: &Convolution,
@@ -275,7 +273,7 @@ fn write_convolved<T: Clamped>(
     requires size { HaveSameSize (written output.old) image.now }
     requires input_format { image.now.format ≡ U8 }
     requires format { (written output.old).format ≡ T.format }
-    requires scratch { 9 * (image.now.width + 48) ≤ length scratch.old }
+    requires scratch { 9 * (min image.now.width PIECE + 48) ≤ length scratch.old }
     ensures { Writes (from_matrix T.format convolution.now border image.now) output.old output.new }
 {
     let (columns, rows) = (convolution.columns() / 2, convolution.rows() / 2);
@@ -290,22 +288,22 @@ fn write_convolved<T: Clamped>(
         border,
         area,
     };
-    output.write_by_rows::<T, i16, _>(&formula, scratch);
+    output.write_by_rows::<T, i16, _>(&InPieces { formula }, scratch);
 }
 
-/// `with_rows!(width, rows => call)` makes the call with `rows` on the stack, for nine rows of an
-/// image of this width and what a block sees beside them. It is cleared once, and a small image
-/// needs little of it.
+/// `with_rows!(width, rows => call)` makes the call with `rows` on the stack, for a piece of each
+/// of nine rows of an image of this width and what a block sees beside it. It is cleared once, and
+/// a small image needs little of it.
 macro_rules! with_rows {
     ($width:expr, $rows:ident => $call:expr) => {
         if $width <= 64 {
-            let $rows = &mut [0; 9 * (64 + AROUND as usize)];
+            let $rows = &mut [0; 9 * (64 + AROUND)];
             $call
         } else if $width <= 512 {
-            let $rows = &mut [0; 9 * (512 + AROUND as usize)];
+            let $rows = &mut [0; 9 * (512 + AROUND)];
             $call
         } else {
-            let $rows = &mut [0; 9 * (GREATEST_SIDE + AROUND) as usize];
+            let $rows = &mut [0; 9 * (PIECE + AROUND)];
             $call
         }
     };
@@ -320,7 +318,7 @@ fn convolve_with(
     rows: &mut [i16],
 )
     requires fits { ConvolutionFits image.now output.old }
-    requires scratch { 9 * (image.now.width + 48) ≤ length rows.old }
+    requires scratch { 9 * (min image.now.width PIECE + 48) ≤ length rows.old }
     ensures { Writes (from_matrix (written output.old).format convolution.now border image.now)
         output.old output.new }
 {

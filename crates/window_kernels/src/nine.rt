@@ -1,18 +1,20 @@
 //! Images of the nine samples around each place.
 ghost use Rattle.std.specs.Prelude.{◌≡◌, ◌+◌, ◌*◌, ◌<◌, ◌≤◌, ◌-ℤ◌, ℕ, ℤ, pos, List, [], ◌∷◌, map};
-ghost use Rattle.std.specs.Prelude.{length, replicate};
+ghost use Rattle.std.specs.Prelude.{length, min, replicate};
 ghost use Rattle.vx_base.specs.declared.format.Format.TheVariants.{U8, S16};
 ghost use Rattle.vx_base.specs.Image.{run};
 ghost use Rattle.vx_base.specs.Window.{look, nine_around, window_valid, from_nine};
 ghost use Rattle.image_core.specs.Fits.{HaveSameSize};
 ghost use Rattle.image_core.specs.Target.{written, IsTarget, Writes};
 ghost use Rattle.border_rows.specs.Seen.{value_beside};
+ghost use Rattle.window_kernels.specs.declared.pieces.TheConstants.{PIECE};
 ghost use Rattle.window_kernels.specs.Fits.{WindowFits};
 ghost use Rattle.window_kernels.specs.Nine.{column_seen};
 
 use crate::columns::{OfColumn, Window};
+use crate::pieces::{InPieces, PIECE, PieceFormula, TwoPieceFormulas};
 use border_rows::{value_beside, window_valid};
-use image_core::{Image, ImageMut, Number, RowFormula, Sample, TwoRowFormulas};
+use image_core::{Image, ImageMut, Number, Sample};
 use vx_base::{Border, Rect};
 
 /// What a function of the nine samples around a place gives there.
@@ -20,13 +22,14 @@ pub trait OfNine<T: Sample, S: Number> {
     /// The sample, from the nine by rows from above to below.
     ghost formula: { Self → List ℤ → ℤ };
 
-    /// Writes row y from column x on. The scratch memory has three rows, each two items longer than
-    /// the image's, and what it holds means nothing.
+    /// Writes a piece of row y from column x on. The scratch memory has room for three such pieces,
+    /// each two items longer, and what it holds means nothing.
     fn write_row(&self, window: &Window<'_, '_>, x: u16, y: u16, scratch: &mut [S], out: &mut [T])
         requires rows { window.now.image.now.valid.y0 < window.now.image.now.valid.y1 }
         requires columns { (window.now.image.now.valid.x0 ≤ x) ×
             (x + length out.old ≤ window.now.image.now.valid.x1) }
         requires some { 1 ≤ length out.old }
+        requires few { length out.old ≤ PIECE }
         requires scratch { 3 * (length out.old + 2) ≤ length scratch.old }
         ensures { map T.value out.new ≡ run x (length out.old)
             (λ k. formula self.now (nine_around (look window.now.image.now window.now.border)
@@ -89,23 +92,19 @@ struct FromNine<'a, 'b, K> {
     window: &'a Window<'a, 'b>,
 }
 
-impl<T: Sample, S: Number, K: OfNine<T, S>> RowFormula<T, S> for FromNine<'_, '_, K> {
+impl<T: Sample, S: Number, K: OfNine<T, S>> PieceFormula<T, S> for FromNine<'_, '_, K> {
     ghost at = { λ s x y. K.formula s.kernel.now
         (nine_around (look s.window.now.image.now s.window.now.border) (pos x) (pos y)) };
 
     ghost area = { λ s. s.window.now.area };
 
-    ghost room = { λ s. 3 * (s.window.now.image.now.width + 2) };
+    ghost room = { λ s. 3 * (min s.window.now.image.now.width PIECE + 2) };
 
     fn area(&self) -> Rect {
         self.window.area
     }
 
-    fn fill(&self, x: u16, y: u16, scratch: &mut [S], out: &mut [T]) {
-        // Where nothing is written, there may be no valid place that the rows could show.
-        if out.is_empty() {
-            return;
-        }
+    fn fill_piece(&self, x: u16, y: u16, scratch: &mut [S], out: &mut [T]) {
         let _valid = self.window.image.valid();
         self.kernel.write_row(self.window, x, y, scratch, out);
     }
@@ -119,7 +118,7 @@ struct FromBoth<'a, 'b, K, L> {
     window: &'a Window<'a, 'b>,
 }
 
-impl<S: Number, R: Number, K: AcrossColumns<i16, S>, L: AcrossColumns<i16, R>> TwoRowFormulas<
+impl<S: Number, R: Number, K: AcrossColumns<i16, S>, L: AcrossColumns<i16, R>> TwoPieceFormulas<
     i16,
     S,
     R,
@@ -132,13 +131,13 @@ impl<S: Number, R: Number, K: AcrossColumns<i16, S>, L: AcrossColumns<i16, R>> T
 
     ghost area = { λ s. s.window.now.area };
 
-    ghost room = { λ s. s.window.now.image.now.width + 2 };
+    ghost room = { λ s. min s.window.now.image.now.width PIECE + 2 };
 
     fn area(&self) -> Rect {
         self.window.area
     }
 
-    fn fill(
+    fn fill_piece(
         &self,
         x: u16,
         y: u16,
@@ -147,9 +146,6 @@ impl<S: Number, R: Number, K: AcrossColumns<i16, S>, L: AcrossColumns<i16, R>> T
         out: &mut [i16],
         other: &mut [i16],
     ) {
-        if out.is_empty() {
-            return;
-        }
         let _valid = self.window.image.valid();
         let count = out.len() + 2;
         let columns = &mut scratch[..count];
@@ -176,8 +172,8 @@ fn write_with_rows<T: Sample, S: Number, K: OfNine<T, S>>(
     requires format { (written output.old).format ≡ T.format }
     requires off_rows { map pos off_rows.now
         ≡ replicate (length off_rows.now) (value_beside border (pos 0)) }
-    requires room { image.now.width ≤ length off_rows.now }
-    requires scratch { 3 * (image.now.width + 2) ≤ length scratch.old }
+    requires room { min image.now.width (PIECE + 2) ≤ length off_rows.now }
+    requires scratch { 3 * (min image.now.width PIECE + 2) ≤ length scratch.old }
     ensures { Writes (from_nine T.format (K.formula kernel.now) border image.now)
         output.old output.new }
 {
@@ -192,11 +188,11 @@ fn write_with_rows<T: Sample, S: Number, K: OfNine<T, S>>(
         kernel,
         window: &window,
     };
-    output.write_by_rows::<T, S, _>(&formula, scratch);
+    output.write_by_rows::<T, S, _>(&InPieces { formula }, scratch);
 }
 
-/// `with_off_rows!(width, border, rows => call)` makes the call with `rows` on the stack, a row as
-/// it is seen where no valid row is, at least as long as those of an image of this width.
+/// `with_off_rows!(width, border, rows => call)` makes the call with `rows` on the stack, a piece
+/// of a row as it is seen where no valid row is, of an image of this width.
 macro_rules! with_off_rows {
     ($width:expr, $border:expr, $rows:ident => $call:expr) => {{
         let off = value_beside($border, 0);
@@ -207,14 +203,14 @@ macro_rules! with_off_rows {
             let $rows = &[off; 510];
             $call
         } else {
-            let $rows = &[off; 4096];
+            let $rows = &[off; PIECE + 2];
             $call
         }
     }};
 }
 
 /// Writes what the kernel gives of a U8 image to another of its size, with scratch memory for three
-/// rows that are two items longer than the image's.
+/// pieces of rows that are two items longer than what is written of them.
 pub fn write_nine<T: Sample, S: Number, K: OfNine<T, S>>(
     kernel: &K,
     image: &Image<'_>,
@@ -226,7 +222,7 @@ pub fn write_nine<T: Sample, S: Number, K: OfNine<T, S>>(
     requires size { HaveSameSize (written output.old) image.now }
     requires input_format { image.now.format ≡ U8 }
     requires format { (written output.old).format ≡ T.format }
-    requires scratch { 3 * (image.now.width + 2) ≤ length scratch.old }
+    requires scratch { 3 * (min image.now.width PIECE + 2) ≤ length scratch.old }
     ensures { Writes (from_nine T.format (K.formula kernel.now) border image.now)
         output.old output.new }
 {
@@ -254,9 +250,9 @@ fn write_two_with_rows<S: Number, R: Number, K: AcrossColumns<i16, S>, L: Across
     requires rows { other.old.rows ≡ output.old.rows }
     requires off_rows { map pos off_rows.now
         ≡ replicate (length off_rows.now) (value_beside border (pos 0)) }
-    requires room { image.now.width ≤ length off_rows.now }
-    requires scratch { image.now.width + 2 ≤ length scratch.old }
-    requires more { image.now.width + 2 ≤ length more.old }
+    requires room { min image.now.width (PIECE + 2) ≤ length off_rows.now }
+    requires scratch { min image.now.width PIECE + 2 ≤ length scratch.old }
+    requires more { min image.now.width PIECE + 2 ≤ length more.old }
     ensures first { Writes (from_nine S16 (K.of_nine first.now) border image.now)
         output.old output.new }
     ensures second { Writes (from_nine S16 (L.of_nine second.now) border image.now)
@@ -269,17 +265,17 @@ fn write_two_with_rows<S: Number, R: Number, K: AcrossColumns<i16, S>, L: Across
         off_rows,
         area,
     };
-    let formulas = FromBoth {
+    let formula = FromBoth {
         first,
         second,
         window: &window,
     };
-    output.write_two_by_rows::<S, R, _>(other, &formulas, scratch, more);
+    output.write_two_by_rows::<S, R, _>(other, &InPieces { formula }, scratch, more);
 }
 
 /// Writes what two kernels of columns give of a U8 image to the same rows of two S16 images of its
 /// size, a row of each in turn: so each row of the image is read once. Each kernel has scratch
-/// memory for a row that is two items longer than the image's.
+/// memory for a piece of a row that is two items longer than what is written of it.
 pub fn write_two_nines<S: Number, R: Number, K: AcrossColumns<i16, S>, L: AcrossColumns<i16, R>>(
     first: &K,
     second: &L,
@@ -293,8 +289,8 @@ pub fn write_two_nines<S: Number, R: Number, K: AcrossColumns<i16, S>, L: Across
     requires fits { WindowFits S16 image.now output.old }
     requires other_fits { WindowFits S16 image.now other.old }
     requires rows { other.old.rows ≡ output.old.rows }
-    requires scratch { image.now.width + 2 ≤ length scratch.old }
-    requires more { image.now.width + 2 ≤ length more.old }
+    requires scratch { min image.now.width PIECE + 2 ≤ length scratch.old }
+    requires more { min image.now.width PIECE + 2 ≤ length more.old }
     ensures first { Writes (from_nine S16 (K.of_nine first.now) border image.now)
         output.old output.new }
     ensures second { Writes (from_nine S16 (L.of_nine second.now) border image.now)
@@ -310,8 +306,8 @@ pub fn write_two_nines<S: Number, R: Number, K: AcrossColumns<i16, S>, L: Across
 }
 
 /// `with_scratch!(width, scratch = item => call)` makes the call with `scratch` on the stack, for
-/// three rows that are two items longer than those of an image of this width; there may be more
-/// than one. It is cleared once, and a small image needs little of it.
+/// three pieces of rows of an image of this width, each two items longer; there may be more than
+/// one. It is cleared once, and a small image needs little of it.
 macro_rules! with_scratch {
     ($width:expr, $($scratch:ident = $item:expr),+ => $call:expr) => {
         if $width <= 62 {
@@ -321,7 +317,7 @@ macro_rules! with_scratch {
             $(let $scratch = &mut [$item; 3 * 512];)+
             $call
         } else {
-            $(let $scratch = &mut [$item; 3 * 4098];)+
+            $(let $scratch = &mut [$item; 3 * ($crate::pieces::PIECE + 2)];)+
             $call
         }
     };

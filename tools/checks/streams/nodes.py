@@ -149,7 +149,7 @@ def node_fields(draw, number, cells):
     function = FUNCTIONS[number]
     policy = draw.pick((1, 2, 255)) if draw.chance(0.015) else draw.pick(function.policies)
     greatest = function.greatest_amount or 0
-    if draw.chance(0.12 if greatest else 0.01):
+    if draw.chance(0.12 if greatest or function.accumulates else 0.01):
         amount = draw.pick((greatest + 1, 255))
     else:
         amount = draw.rng.randint(0, greatest)
@@ -285,7 +285,7 @@ def spoiled_operands(draw, cells, number, things, nodes, wanted):
 # Functions that give a graph these faults more often than others do.
 ACCUMULATORS = tuple(number for number, function in FUNCTIONS.items() if function.accumulates)
 OFTEN_BY = {
-    MULTIPLE_WRITERS: (wire.HISTOGRAM, wire.MIN_MAX_LOCATION, *ACCUMULATORS),
+    MULTIPLE_WRITERS: (*(wire.HISTOGRAM, wire.MIN_MAX_LOCATION) * 3, *ACCUMULATORS),
     INVALID_LINK: ACCUMULATORS}
 
 
@@ -320,6 +320,21 @@ def any_nodes(draw, name, count, work):
             break
         found.append(following)
     return found
+
+
+def with_virtual_sum(draw, nodes):
+    """The nodes, of which one that writes a virtual image that is read adds to it instead, and what
+    there is of such a node: one or none."""
+    read = {*cells_read([node for _, node in nodes])}
+    places = [at for at, (_, node) in enumerate(nodes) if node.cells[OUT1] in read
+              and isinstance(draw.thing(node.cells[OUT1]), model.VirtualImage)]
+    if not places:
+        return nodes, []
+    at, number = draw.pick(places), draw.pick(ACCUMULATORS)
+    cells = nodes[at][1].cells
+    fields = node_fields(draw, number, [cells[IN1], None, cells[OUT1], None])
+    added = fields, node_of(fields)
+    return [*nodes[:at], added, *nodes[at + 1 :]], [added]
 
 
 FAULTS = (MULTIPLE_WRITERS, INVALID_GRAPH, INVALID_GRAPH, INVALID_LINK, INVALID_FORMAT,

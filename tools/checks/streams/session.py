@@ -68,7 +68,10 @@ class Session:
         work = draw.limits.work if draw.chance(0.5) else model.LIMITS.work
         nodes = random_nodes.any_nodes(draw, self.name, count, work)
         faults = self.faults_for(nodes) if draw.chance(0.25) else []
-        nodes = [*nodes, *faults]
+        # Often beside another fault, so that it shows which of both is told.
+        has_sum = draw.chance(0.3 if faults else 0.06)
+        nodes, sums = random_nodes.with_virtual_sum(draw, nodes) if has_sum else (nodes, [])
+        nodes, faults = [*nodes, *faults], [*faults, *sums]
         if draw.chance(0.7):
             rng.shuffle(nodes)
         for fields, node in nodes:

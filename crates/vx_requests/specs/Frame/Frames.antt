@@ -6,6 +6,7 @@ use Rattle.client_model.specs.declared.request.Request.{Request}
 use Rattle.client_model.specs.declared.request.Request.TheVariants.{WriteImagePgm}
 use Rattle.vx_wire.specs.Op.{op_number, op_of}
 use Rattle.vx_wire.specs.Requests.{body_of}
+use Rattle.vx_requests.specs.declared.frame.limits.TheConstants.{GREATEST_LENGTH, GREATEST_TEXT}
 
 -- a request frame
 pub record Frame : Type 0 where
@@ -52,14 +53,14 @@ joined_replies replies = flat_map reply_bytes replies
 
 -- a length that is allowed
 abbrev pub IsLength : ℕ → Type 0
-IsLength n = (3 ≤ n) × (n ≤ 134217728)
+IsLength n = (3 ≤ n) × (n ≤ GREATEST_LENGTH)
 
 -- what can be sent as a frame: a body of bytes that is not too long
 pub record IsFrame (f : Frame) : Type 0 where
   pub client : f.client < 2 ^ 16
   pub op : f.op < 2 ^ 8
   pub bytes : All (λ b. b < 2 ^ 8) f.body
-  pub len : length f.body + 3 ≤ 134217728
+  pub len : length f.body + 3 ≤ GREATEST_LENGTH
 
 -- the length that the four bytes at the front say
 abbrev pub said_length : List ℕ → ℕ
@@ -93,5 +94,5 @@ request_frame client request = record { client = client; op = op_number (op_of r
 
 -- whether the request fits a frame: all do but a text that is too long
 abbrev pub fits_a_frame : Request → Bool
-fits_a_frame (WriteImagePgm image text) = nat_le (length text) 134217720
+fits_a_frame (WriteImagePgm image text) = nat_le (length text) GREATEST_TEXT
 fits_a_frame request = true

@@ -1,11 +1,14 @@
-//! Most requests are within the limits of a frame.
+//! How long frames are; most requests are within these limits.
 ghost use Rattle.std.specs.Prelude.{◌≡◌};
 ghost use Rattle.vx_requests.specs.Frame.Frames.{fits_a_frame};
 
 use client_model::Request;
 
-/// The greatest number of bytes that a text has in a frame: 8 less than 2^27.
-const GREATEST_TEXT: usize = 134_217_720;
+/// The greatest number of bytes after a frame's length: 2^29.
+pub const GREATEST_LENGTH: u32 = 536_870_912;
+
+/// The greatest number of bytes that a text has in a frame: 8 others stand after the length.
+pub const GREATEST_TEXT: usize = GREATEST_LENGTH as usize - 8;
 
 /// Whether a request fits a frame: all do but a text that is too long.
 pub fn fits_a_frame(request: &Request) -> bool

@@ -5,13 +5,11 @@ ghost use Rattle.std.specs.Io.KnownBytes.{Consumes};
 ghost use Rattle.vx_requests.specs.Frame.Reading.{ReadsPart, ReadsSome, ReadsLength, CanRead};
 ghost use Rattle.vx_requests.specs.Frame.Reading.{KeepsCount};
 
+use crate::frame::limits::GREATEST_LENGTH;
 use crate::stream::{Source, StreamFault, fill};
 
 /// The least number of bytes after a frame's length: those of the client and the op.
 const LEAST_LENGTH: u32 = 3;
-
-/// The greatest number of bytes after a frame's length: 2^27.
-const GREATEST_LENGTH: u32 = 134_217_728;
 
 /// How many bytes are read past at a time.
 const PAST: usize = 4096;

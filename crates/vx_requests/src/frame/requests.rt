@@ -20,6 +20,7 @@ ghost use Rattle.vx_base.specs.Sample.{sample_bytes};
 ghost use Rattle.vx_requests.specs.Stream.Transfer.{WritesAll};
 ghost use Rattle.vx_requests.specs.Frame.Frames.{frame_head, frame_bytes, request_frame};
 ghost use Rattle.vx_requests.specs.Frame.Frames.{fits_a_frame};
+ghost use Rattle.vx_requests.specs.declared.frame.limits.TheConstants.{GREATEST_TEXT};
 ghost use Rattle.client_model.specs.Request.{IsRequest};
 ghost use Rattle.vx_wire.specs.Reference.{reference_bytes};
 ghost use Rattle.vx_wire.specs.Description.{description_bytes};
@@ -39,7 +40,7 @@ use vx_wire::{
 
 /// Writes the frame in which a client sends the request, and flushes nothing. `WriteFailed` comes
 /// where a write fails, and a front of the frame was taken then; `BadLength` where the request has
-/// a text of more than 134,217,720 bytes, and nothing is written then. No memory is taken. The
+/// a text of more than 536,870,904 bytes, and nothing is written then. No memory is taken. The
 /// request is one that the laws of requests speak of, so that what was written is read back as this
 /// request.
 pub fn write_request<K: Sink>(
@@ -247,7 +248,7 @@ fn write_write_image_pgm<K: Sink>(
     text: &Text,
 ) -> Result<(), StreamFault>
     requires failures_fit { K.failures sink.old < 2 ^ 62 }
-    requires fits { length text.now ≤ 134217720 }
+    requires fits { length text.now ≤ GREATEST_TEXT }
     ensures { WritesAll K.taken K.failures sink.old sink.new
         (frame_bytes (request_frame client (WriteImagePgmRequest image text.now))) result }
 {
@@ -258,7 +259,7 @@ fn write_write_image_pgm<K: Sink>(
 
 /// What stands before the text in the frame of a `WriteImagePgm`.
 fn write_image_pgm_head(client: u16, image: ObjRef, count: usize) -> [u8; 12]
-    requires { count ≤ 134217720 }
+    requires { count ≤ GREATEST_TEXT }
     ensures { result ≡ frame_head (8 + count) client (op_number WriteImagePgmOp)
         ++ reference_bytes image }
 {

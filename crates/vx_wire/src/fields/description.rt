@@ -9,7 +9,7 @@ use crate::fields::Fields;
 use crate::fields::format::{format_number, take_format};
 use vx_base::{Desc, GREATEST_SIDE};
 
-/// The width or the height: 1 to 4096.
+/// The width or the height: 1 to 8192.
 fn take_side(fields: &mut Fields) -> Result<u16, BodyFault>
     ensures taken { Takes take_side fields.old fields.new result }
     ensures allowed { IfOk result (λ n. IsTrue (is_side n)) }

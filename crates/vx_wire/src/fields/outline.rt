@@ -10,7 +10,7 @@ use crate::fields::Fields;
 use crate::fields::format::{open_format_number, take_open_format};
 use vx_base::{GREATEST_SIDE, Outline};
 
-/// The width or the height: 0 where it is open, or 1 to 4096.
+/// The width or the height: 0 where it is open, or 1 to 8192.
 fn take_open_side(fields: &mut Fields) -> Result<Option<u16>, BodyFault>
     ensures taken { Takes take_open_side fields.old fields.new result }
     ensures allowed { IfOk result (λ side. IsTrue (may_be_side side)) }

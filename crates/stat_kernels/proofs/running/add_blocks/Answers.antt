@@ -1,5 +1,5 @@
-use Rattle.std.proofs.Common.{◌≡◌, ◌+◌, ◌*◌, ◌<◌, ◌≤◌, ℕ, length, get_or, ◌∙◌, arith}
-use Rattle.stat_kernels.proofs.LaneSums.{block_written, block_total}
+use Rattle.std.proofs.Common.{◌≡◌, ◌+◌, ◌*◌, ◌≤◌, length, arith, ◌∙◌}
+use Rattle.stat_kernels.proofs.LaneSums.{block_is, block_written, block_total}
 use Rattle.stat_kernels.proofs.running.add_blocks.Goals as goal
 
 pub loop-block-preserved : goal.loop-block-preserved
@@ -9,9 +9,9 @@ loop-block-preserved c =
     let i = 8 * c.loop-block.block in
     let next : 8 * (c.loop-block.block + 1) ≡ i + 8 = omega arith in
     let inside : i + 8 ≤ length row = omega (arith, c.loop-block-test.true, c.requires.inside) in
-    let small : (k : ℕ) → get_or row k 0 < 256 = λ k. (c.type_inv.row k).fits in
     record {
-      written = block_written row above i small c.requires.room inside c.running-sums.result c.loop-block.total c.loop-block.out (8 * (c.loop-block.block + 1)) _ next
-          c.requires.above_len (c.loop-block.auto.out ∙ c.requires.out_len) c.running-sums.ensures c.loop-block.invariant.total c.loop-block.invariant.written;
-      total = block_total row above i small c.requires.room inside c.running-sums.result c.loop-block.total (8 * (c.loop-block.block + 1)) next c.running-sums.ensures c.loop-block.invariant.total;
+      written = block_written row above i inside _ c.loop-block.out (8 * (c.loop-block.block + 1)) _ next (c.loop-block.auto.out ∙ c.requires.out_len)
+          (block_is row above i inside c.running-sums.result c.loop-block.total (omega (arith, inside, c.requires.above_len)) c.running-sums.ensures c.loop-block.invariant.total)
+          c.loop-block.invariant.written;
+      total = block_total row above i inside c.running-sums.result c.loop-block.total (8 * (c.loop-block.block + 1)) next c.running-sums.ensures c.loop-block.invariant.total;
     }

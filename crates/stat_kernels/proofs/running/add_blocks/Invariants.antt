@@ -1,4 +1,4 @@
-use Rattle.std.proofs.Common.{◌≡◌, ◌*◌, map, take, replicate}
+use Rattle.std.proofs.Common.{◌≡◌, ◌*◌, ◌%◌, ◌^◌, map, take, replicate}
 use Rattle.std.specs.List.{sum, range_with_len}
 use Rattle.stat_kernels.specs.Sums.{sum_below}
 use Rattle.stat_kernels.proofs.running.add_blocks.Given as goal
@@ -7,5 +7,5 @@ abbrev pub invariant-loop-block : goal.invariant-loop-block
 invariant-loop-block l =
     record {
       written : take (8 * l.block) l.out ≡ map (sum_below l.above l.row) (range_with_len 0 (8 * l.block));
-      total : l.total ≡ replicate 8 (sum (take (8 * l.block) l.row));
+      total : l.total ≡ replicate 8 (sum (take (8 * l.block) l.row) % 2 ^ 32);
     }

@@ -1,4 +1,4 @@
-use Rattle.std.proofs.Common.{◌≡◌, map, take}
+use Rattle.std.proofs.Common.{◌≡◌, ◌%◌, ◌^◌, map, take}
 use Rattle.std.specs.List.{sum, range_with_len}
 use Rattle.stat_kernels.specs.Sums.{sum_below}
 use Rattle.stat_kernels.proofs.running.add_row.Given as goal
@@ -7,5 +7,5 @@ abbrev pub invariant-loop-k : goal.invariant-loop-k
 invariant-loop-k l =
     record {
       written : take l.k l.out ≡ map (sum_below l.above l.row) (range_with_len 0 l.k);
-      total : l.total ≡ sum (take l.k l.row);
+      total : l.total ≡ sum (take l.k l.row) % 2 ^ 32;
     }

@@ -1,8 +1,10 @@
-use Rattle.std.proofs.Common.{◌≡◌, max, subst, arith}
-use Rattle.stat_kernels.specs.Sums.{AreSums}
+use Rattle.std.proofs.Common.{◌∙◌, arith}
+use Rattle.stat_kernels.proofs.SumLaws.{sums_next}
 use Rattle.stat_kernels.proofs.sums.add_lines.Goals as goal
 
-pub returns : goal.returns
-returns c above =
-    let end : c.loop-line.line ≡ max c.args.part.top c.args.y = omega (arith, above, c.loop-line-test.false, c.loop-line.auto.line, c.loop-line.invariant.end, c.min-line-end.ensures) in
-    subst (λ n. AreSums c.args.image.now n c.loop-line.sums) end c.loop-line.invariant.sums
+pub loop-line-preserved : goal.loop-line-preserved
+loop-line-preserved c = record {
+  sums = sums_next c.args.image.now c.args.part c.requires.part c.loop-line.line (omega arith) c.part_of_row.result.now c.loop-line.sums c.add_row_to.new.sums
+      c.part_of_row.ensures.value c.part_of_row.ensures.len (c.loop-line.auto.sums ∙ c.requires.len) c.add_row_to.ensures c.loop-line.invariant.sums;
+  end = omega arith;
+}

@@ -4,21 +4,9 @@ use Rattle.vx_base.specs.Description.{Description}
 use Rattle.vx_base.specs.Image.{run, within}
 use Rattle.vx_base.specs.Statistics.{sum_to}
 use Rattle.vx_base.proofs.TableLaws.{row_fits}
-use Rattle.stat_kernels.proofs.SumLaws.{above_at, above_first, above_next, rows_written}
+use Rattle.stat_kernels.specs.Sums.{AreAbove}
+use Rattle.stat_kernels.proofs.SumLaws.{above_at, above_next, rows_written}
 use Rattle.stat_kernels.proofs.sums.write_sums.Goals as goal
-
-pub loop-k-init : goal.loop-k-init
-loop-k-init c =
-    let image = c.args.image.now in
-    let width = c.from-width.result in
-    let wide : width ≡ image.width = c.from-width.ensures ∙ c.width.ensures.value ∙ ap (λ (d : Description). d.width) c.desc.ensures in
-    let none : 0 * width ≡ 0 = omega arith in
-    let top : c.args.rows.start ≡ c.args.rows.start + 0 = omega arith in
-    record {
-      sums = above_at image c.of-part.result _ _ _ top
-          (above_first image c.of-part.result c.args.rows.start width c.sum_above.new.row (take (0 * width) c.args.samples.now) wide (ap (λ n. length (take n c.args.samples.now)) none) c.sum_above.ensures);
-      written = ap (λ n. map pos (take n c.args.samples.now)) none;
-    }
 
 pub loop-k-preserved : goal.loop-k-preserved
 loop-k-preserved c =
@@ -36,8 +24,8 @@ loop-k-preserved c =
     let long : length c.write_row.new.out ≡ width = c.write_row.auto.out ∙ length-take-le width others room in
     let next : rows.start + k + 1 ≡ rows.start + (k + 1) = omega arith in
     record {
-      sums = above_at image c.of-part.result _ _ _ next
-          (above_next k width before c.write_row.new.out (drop width others) start long image c.of-part.result (rows.start + k + 1) _ (omega (arith, c.width.ensures.limits, c.from-width.ensures)) c.write_row.ensures.sums);
+      sums = above_next k width before c.write_row.new.out (drop width others) start long (AreAbove image c.of-part.result (rows.start + (k + 1))) (omega (arith, c.width.ensures.limits, c.from-width.ensures))
+          (above_at image c.of-part.result _ _ c.write_row.new.out next c.write_row.ensures.sums);
       written = rows_written k width before c.write_row.new.out (drop width others) start long rows.start (within image.valid (sum_to image))
           (ap (map pos) (c.split_at_mut-before.ensures.front ∙ ap (λ n. take n c.loop-k.samples) at) ∙ c.loop-k.invariant.written)
           (c.write_row.ensures.written ∙ ap (λ n. run 0 n (λ x. within image.valid (sum_to image) x (rows.start + k))) (sym wide));

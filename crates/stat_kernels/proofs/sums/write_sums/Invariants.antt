@@ -1,4 +1,5 @@
 use Rattle.std.proofs.Common.{◌≡◌, ◌*◌, ◌+◌, pos, map, take}
+use Rattle.std.specs.Prelude.{IfSome}
 use Rattle.vx_base.specs.Image.{band, within}
 use Rattle.vx_base.specs.Statistics.{sum_to}
 use Rattle.stat_kernels.specs.Sums.{AreAbove, last_row}
@@ -7,6 +8,6 @@ use Rattle.stat_kernels.proofs.sums.write_sums.Given as goal
 abbrev pub invariant-loop-k : goal.invariant-loop-k
 invariant-loop-k l =
     record {
-      sums : AreAbove l.image l.part (l.rows.start + l.k) (last_row l.width l.first (take (l.k * l.width) l.samples));
+      sums : IfSome (last_row l.width (take (l.k * l.width) l.samples)) (AreAbove l.image l.part (l.rows.start + l.k));
       written : map pos (take (l.k * l.width) l.samples) ≡ band l.width l.rows.start l.k (within l.image.valid (sum_to l.image));
     }

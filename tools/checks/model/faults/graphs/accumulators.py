@@ -3,6 +3,7 @@
 from feqyldan import wire
 from checks.model.faults.fault import right, with_outcome
 from checks.model.faults.graphs.fault import graph_faults, is_virtual
+from checks.model.faults.graphs.runs import run_in
 from checks.model.faults.graphs.verdicts import CYCLE, LINK, TWO_WRITERS
 from checks.model.faults.refusals import verdict_at
 from checks.model.state import PROCESS_GRAPH
@@ -50,8 +51,7 @@ def sum_of_other_format(node, things):
 
 def order_without_sums(nodes):
     """Nodes that read sums don't wait for those that add to them; these come last."""
-    adding = [node for node in right.in_order(nodes) if node.function.accumulates]
-    return [node for node in right.in_order(nodes) if not node.function.accumulates] + adding
+    return sorted(right.in_order(nodes), key=lambda node: node.function.accumulates)
 
 
 def run_adding(times):
@@ -104,8 +104,7 @@ ACCUMULATOR_FAULTS = graph_faults(
     ("a node that adds to a virtual image is told before two writers", virtual_sum_at(0)),
     ("a node that adds to a virtual image is told before a cycle", virtual_sum_at(1)),
     ("a node that adds to a virtual image is told after a faulty node", virtual_sum_at(4)),
-    ("what reads sums runs before they are new",
-     {"run": lambda nodes, things: right.run(order_without_sums(nodes), things)}),
+    ("what reads sums runs before they are new", run_in(order_without_sums)),
     ("a node adds twice", run_adding(lambda _: 2)),
     ("a node adds as often as its graph has nodes", run_adding(len)),
     ("a run begins with sums of 0", {"run": run_from_zero}),

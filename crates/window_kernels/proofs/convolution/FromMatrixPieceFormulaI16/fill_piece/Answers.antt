@@ -1,12 +1,11 @@
-use Rattle.std.proofs.Common.{◌≡◌, ℤ, ◌∙◌, ◌+◌, ◌/◌, ◌≤◌, ap, pos, length, zero-add, arith}
+use Rattle.std.proofs.Common.{ℤ, ◌∙◌, ◌+◌, ◌/◌, ap, pos, length, zero-add, arith}
 use Rattle.std.specs.Prelude.{◌^◌, int_div}
-use Rattle.vx_base.specs.Description.{Description}
 use Rattle.vx_base.specs.Sample.{clamp}
 use Rattle.vx_base.specs.Window.{look, convolved}
 use Rattle.vx_base.proofs.WindowLaws.{run_shifted}
 use Rattle.window_kernels.specs.Products.{sum_of_rows}
 use Rattle.window_kernels.proofs.MatrixLaws.{odd_side, sum_is_product}
-use Rattle.window_kernels.proofs.convolution.FromMatrixRowFormulaI16.fill.Goals as goal
+use Rattle.window_kernels.proofs.convolution.FromMatrixPieceFormulaI16.fill_piece.Goals as goal
 
 pub returns : goal.returns
 returns g c =
@@ -16,12 +15,10 @@ returns g c =
     let x = c.args.x in
     let y = c.args.y in
     let n = length c.args.out.now in
-    let line = c.width-line.result + 48 in
+    let line = n + 48 in
     let rows = c.load_rows.new.rows in
     let side = odd_side m.columns s.side in
-    let wide : c.desc.result.width ≡ s.image.now.width = ap (λ (d : Description). d.width) c.desc.ensures in
-    let room : x + n ≤ c.desc.result.width = omega (arith, c.requires.in_columns.1, s.columns.0, c.valid-limits.ensures.image.room.columns, wide) in
     let over : ℤ → ℤ = λ z. clamp g.T.Sample.format (int_div z (pos (2 ^ m.exponent))) in
     c.write_blocks.ensures
     ∙ run_shifted (λ i. over (sum_of_rows rows line s.tables.now (m.columns / 2 + 1) m.rows i)) (λ k. convolved m g.T.Sample.format f (pos k) (pos y)) 0 x n
-    (λ k h. ap over (sum_is_product m f rows s.tables.now x y (0 + k) line c.load_rows.ensures.value s.turned s.side (omega (arith, side, room, c.width-line.ensures.value, h))) ∙ ap (λ i. convolved m g.T.Sample.format f (pos (x + i)) (pos y)) (zero-add k))
+    (λ k h. ap over (sum_is_product m f rows s.tables.now x y (0 + k) line c.load_rows.ensures.value s.turned s.side (omega (arith, side, h))) ∙ ap (λ i. convolved m g.T.Sample.format f (pos (x + i)) (pos y)) (zero-add k))
