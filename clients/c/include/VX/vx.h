@@ -170,16 +170,6 @@ enum vx_direction_e {
     VX_BIDIRECTIONAL = VX_ENUM_BASE(VX_ID_KHRONOS, VX_ENUM_DIRECTION) + 0x2
 };
 
-/* The standard's numbers of functions that add to an image. No call here takes a kernel. */
-#define VX_KERNEL_BASE(vendor, lib) (((vendor) << 20) | ((lib) << 12))
-
-enum vx_library_e { VX_LIBRARY_KHR_BASE = 0x0 };
-
-enum vx_kernel_e {
-    VX_KERNEL_ACCUMULATE = VX_KERNEL_BASE(VX_ID_KHRONOS, VX_LIBRARY_KHR_BASE) + 0x16,
-    VX_KERNEL_ACCUMULATE_SQUARE = VX_KERNEL_BASE(VX_ID_KHRONOS, VX_LIBRARY_KHR_BASE) + 0x18
-};
-
 enum vx_parameter_state_e {
     VX_PARAMETER_STATE_REQUIRED = VX_ENUM_BASE(VX_ID_KHRONOS, VX_ENUM_PARAMETER_STATE) + 0x0,
     VX_PARAMETER_STATE_OPTIONAL = VX_ENUM_BASE(VX_ID_KHRONOS, VX_ENUM_PARAMETER_STATE) + 0x1
