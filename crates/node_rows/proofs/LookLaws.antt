@@ -1,0 +1,148 @@
+-- What windows see in rows around a place.
+use Rattle.std.proofs.Common.{◌≡◌, ℕ, ℤ, pos, ◌+◌, ◌-◌, ◌/◌, ◌<◌, ◌≤◌, ◌+ℤ◌, ◌-ℤ◌, ◌*ℤ◌, ◌≤ℤ◌, true, false, cond, map, refl, sym, ◌∙◌, ap, inl, inr, ◌⊎◌, arith, zero, suc}
+use Rattle.std.specs.Prelude.{unsigned_abs}
+use Rattle.std.specs.List.{range_with_len}
+use Rattle.std.proofs.lemmas.Int.{ints}
+use Rattle.std.proofs.lemmas.Bool.{cases_Bool}
+use Rattle.std.proofs.lemmas.Bool.Decides.{nat_tests}
+use Rattle.vx_base.specs.declared.border.Border.{Border}
+use Rattle.vx_base.specs.declared.border.Border.TheVariants.{Undefined, Constant, Replicate}
+use Rattle.vx_base.specs.Rectangle.{Rectangle, inside, shrunk}
+use Rattle.vx_base.specs.Image.{ImageValue, IsImage, at}
+use Rattle.vx_base.specs.Convolution.{ConvolutionValue, coefficient}
+use Rattle.vx_base.specs.Window.{holds, nearest, beside, look, nine_around, total, row_product, matrix_product, window_valid}
+use Rattle.node_rows.specs.Rows.{AgreeInRows}
+
+-- ---- what is seen, said of a rectangle and a function of places
+
+abbrev beside_of : Rectangle → (ℕ → ℕ → ℤ) → Border → ℤ → ℤ → ℤ
+beside_of r f Undefined x y = pos 0
+beside_of r f (Constant value) x y = pos value
+beside_of r f Replicate x y = f (nearest r.x0 r.x1 x) (nearest r.y0 r.y1 y)
+
+abbrev look_of : Rectangle → (ℕ → ℕ → ℤ) → Border → ℤ → ℤ → ℤ
+look_of r f border x y = cond (holds r x y) (f (unsigned_abs x) (unsigned_abs y)) (beside_of r f border x y)
+
+beside-of : (image : ImageValue) (border : Border) (x y : ℤ) → beside image border x y ≡ beside_of image.valid (at image) border x y
+beside-of image Undefined x y = refl
+beside-of image (Constant value) x y = refl
+beside-of image Replicate x y = refl
+
+look-of : (image : ImageValue) (border : Border) (x y : ℤ) → look image border x y ≡ look_of image.valid (at image) border x y
+look-of image border x y = ap (λ z. cond (holds image.valid x y) (at image (unsigned_abs x) (unsigned_abs y)) z) (beside-of image border x y)
+
+-- a row at most so many rows above row y or below it
+pub record IsNear (rows y : ℕ) (v : ℤ) : Type 0 where
+  pub above : pos y ≤ℤ (v +ℤ pos rows)
+  pub below : v ≤ℤ (pos y +ℤ pos rows)
+
+-- the same samples at the places of a rectangle in the rows that are near row y
+abbrev Agree : Rectangle → ℕ → ℕ → (ℕ → ℕ → ℤ) → (ℕ → ℕ → ℤ) → Type 0
+Agree r rows y f g = (x z : ℕ) → x < r.x1 → z < r.y1 → y ≤ z + rows → z ≤ y + rows → f x z ≡ g x z
+
+-- the place that is looked at, where it is valid
+held_column : (r : Rectangle) (x v : ℤ) → holds r x v ≡ true → unsigned_abs x < r.x1
+held_column r x v h = grind (arith, ints)
+
+held_row : (r : Rectangle) (x v : ℤ) → holds r x v ≡ true → unsigned_abs v < r.y1
+held_row r x v h = grind (arith, ints)
+
+held_above : (r : Rectangle) (x v : ℤ) (rows y : ℕ) → holds r x v ≡ true → pos y ≤ℤ (v +ℤ pos rows) → y ≤ unsigned_abs v + rows
+held_above r x v rows y h near = grind (arith, ints)
+
+held_below : (r : Rectangle) (x v : ℤ) (rows y : ℕ) → holds r x v ≡ true → v ≤ℤ (pos y +ℤ pos rows) → unsigned_abs v ≤ y + rows
+held_below r x v rows y h near = grind (arith, ints)
+
+-- the nearest valid column, and row
+nearest_within : (low high : ℕ) (v : ℤ) → low < high → nearest low high v < high
+nearest_within low high v h = grind (arith, ints)
+
+nearest_above : (low high y rows : ℕ) (v : ℤ) → low ≤ y → y < high → pos y ≤ℤ (v +ℤ pos rows) → y ≤ nearest low high v + rows
+nearest_above low high y rows v a b near = grind (arith, ints)
+
+nearest_below : (low high y rows : ℕ) (v : ℤ) → low ≤ y → y < high → v ≤ℤ (pos y +ℤ pos rows) → nearest low high v ≤ y + rows
+nearest_below low high y rows v a b near = grind (arith, ints)
+
+-- a row in which something is valid
+record HasRow (r : Rectangle) (y : ℕ) : Type 0 where
+  columns : r.x0 < r.x1
+  from : r.y0 ≤ y
+  to : y < r.y1
+
+module _ (r : Rectangle) (f g : ℕ → ℕ → ℤ) (border : Border) (rows y : ℕ) (row : HasRow r y) (agree : Agree r rows y f g) where
+  beside_near : (border : Border) (x v : ℤ) → IsNear rows y v → beside_of r f border x v ≡ beside_of r g border x v
+  beside_near Undefined x v near = refl
+  beside_near (Constant value) x v near = refl
+  beside_near Replicate x v near =
+      agree (nearest r.x0 r.x1 x) (nearest r.y0 r.y1 v) (nearest_within r.x0 r.x1 x row.columns) (nearest_within r.y0 r.y1 v (omega (arith, row.from, row.to)))
+      (nearest_above r.y0 r.y1 y rows v row.from row.to near.above) (nearest_below r.y0 r.y1 y rows v row.from row.to near.below)
+
+  look_of_near : (x v : ℤ) → IsNear rows y v → look_of r f border x v ≡ look_of r g border x v
+  look_of_near x v near = cases (cases_Bool (holds r x v))
+    where
+      cases : (holds r x v ≡ true) ⊎ (holds r x v ≡ false) → look_of r f border x v ≡ look_of r g border x v
+      cases (inl h) =
+          ap (λ t. cond t (f (unsigned_abs x) (unsigned_abs v)) (beside_of r f border x v)) h
+          ∙ agree (unsigned_abs x) (unsigned_abs v) (held_column r x v h) (held_row r x v h) (held_above r x v rows y h near.above) (held_below r x v rows y h near.below)
+          ∙ sym (ap (λ t. cond t (g (unsigned_abs x) (unsigned_abs v)) (beside_of r g border x v)) h)
+      cases (inr h) =
+          ap (λ t. cond t (f (unsigned_abs x) (unsigned_abs v)) (beside_of r f border x v)) h
+          ∙ beside_near border x v near
+          ∙ sym (ap (λ t. cond t (g (unsigned_abs x) (unsigned_abs v)) (beside_of r g border x v)) h)
+
+-- ---- the samples of a window, of functions that agree near a row
+
+-- the nine samples around a place
+pub nine_near : (f g : ℤ → ℤ → ℤ) (x : ℤ) (y : ℕ) → ((u v : ℤ) → IsNear 1 y v → f u v ≡ g u v) → nine_around f x (pos y) ≡ nine_around g x (pos y)
+nine_near f g x y same =
+    let above = λ (u : ℤ). same u (pos y -ℤ pos 1) (record { above = omega (arith, ints); below = omega (arith, ints) }) in
+    let here = λ (u : ℤ). same u (pos y) (record { above = omega (arith, ints); below = omega (arith, ints) }) in
+    let below = λ (u : ℤ). same u (pos y +ℤ pos 1) (record { above = omega (arith, ints); below = omega (arith, ints) }) in
+    cc (above (x -ℤ pos 1), above x, above (x +ℤ pos 1), here (x -ℤ pos 1), here x, here (x +ℤ pos 1), below (x -ℤ pos 1), below x, below (x +ℤ pos 1))
+
+-- sums over a run
+sums_same : (p q : ℕ → ℤ) (x n : ℕ) → ((k : ℕ) → x ≤ k → k < x + n → p k ≡ q k) → total (map p (range_with_len x n)) ≡ total (map q (range_with_len x n))
+sums_same p q x zero same = refl
+sums_same p q x (suc n) same =
+    let here : p x ≡ q x = same x (omega arith) (omega arith) in
+    let later : total (map p (range_with_len (x + 1) n)) ≡ total (map q (range_with_len (x + 1) n)) = sums_same p q (x + 1) n (λ k a b. same k (omega arith) (omega arith)) in
+    cc
+
+row_same : (c : ConvolutionValue) (f g : ℤ → ℤ) (x : ℤ) (l : ℕ) → ((u : ℤ) → f u ≡ g u) → row_product c f x l ≡ row_product c g x l
+row_same c f g x l same =
+    sums_same (λ k. f (x +ℤ pos (c.columns / 2) -ℤ pos k) *ℤ coefficient c l k) (λ k. g (x +ℤ pos (c.columns / 2) -ℤ pos k) *ℤ coefficient c l k) 0 c.columns
+    (λ k a b. ap (λ z. z *ℤ coefficient c l k) (same (x +ℤ pos (c.columns / 2) -ℤ pos k)))
+
+-- a row of the matrix lies near the place's
+matrix_above : (rows y l : ℕ) → l < rows → pos y ≤ℤ ((pos y +ℤ pos (rows / 2) -ℤ pos l) +ℤ pos (rows / 2))
+matrix_above rows y l h = omega (arith, ints)
+
+matrix_below : (rows y l : ℕ) → (pos y +ℤ pos (rows / 2) -ℤ pos l) ≤ℤ (pos y +ℤ pos (rows / 2))
+matrix_below rows y l = omega (arith, ints)
+
+-- the samples around a place that a matrix weighs
+pub matrix_near : (c : ConvolutionValue) (f g : ℤ → ℤ → ℤ) (x : ℤ) (y : ℕ) → ((u v : ℤ) → IsNear (c.rows / 2) y v → f u v ≡ g u v) → matrix_product c f x (pos y) ≡ matrix_product c g x (pos y)
+matrix_near c f g x y same =
+    sums_same (λ l. row_product c (λ u. f u (pos y +ℤ pos (c.rows / 2) -ℤ pos l)) x l) (λ l. row_product c (λ u. g u (pos y +ℤ pos (c.rows / 2) -ℤ pos l)) x l) 0 c.rows
+    (λ l a b. row_same c (λ u. f u (pos y +ℤ pos (c.rows / 2) -ℤ pos l)) (λ u. g u (pos y +ℤ pos (c.rows / 2) -ℤ pos l)) x l
+    (λ u. same u (pos y +ℤ pos (c.rows / 2) -ℤ pos l) (record { above = matrix_above c.rows y l (omega (arith, b)); below = matrix_below c.rows y l })))
+
+-- ---- images that agree near a row
+
+-- where a window has its place, its image is valid in the place's row
+shrunk_row : (r : Rectangle) (rx ry x y : ℕ) → inside (shrunk r rx ry) x y ≡ true → HasRow r y
+shrunk_row r rx ry x y h = record { columns = grind (arith, nat_tests); from = grind (arith, nat_tests); to = grind (arith, nat_tests) }
+
+valid_row : (border : Border) (rx ry : ℕ) (r : Rectangle) (x y : ℕ) → inside (window_valid border rx ry r) x y ≡ true → HasRow r y
+valid_row Undefined rx ry r x y h = shrunk_row r rx ry x y h
+valid_row (Constant value) rx ry r x y h = record { columns = grind (arith, nat_tests); from = grind (arith, nat_tests); to = grind (arith, nat_tests) }
+valid_row Replicate rx ry r x y h = record { columns = grind (arith, nat_tests); from = grind (arith, nat_tests); to = grind (arith, nat_tests) }
+
+-- what is seen in rows near that of a place
+pub look_near : (a b : ImageValue) (border : Border) (rx ry rows x y : ℕ) → IsImage a → inside (window_valid border rx ry a.valid) x y ≡ true → AgreeInRows (y - rows) (y + rows) a b → (u v : ℤ) → IsNear rows y v → look a border u v ≡ look b border u v
+look_near a b border rx ry rows x y image h agree u v near =
+    look-of a border u v
+    ∙ look_of_near a.valid (at a) (at b) border rows y (valid_row border rx ry a.valid x y h)
+    (λ i j left high above below. agree.samples i j (omega (arith, image.room.columns)) (omega (arith, image.room.rows)) (omega arith) below) u v near
+    ∙ ap (λ r. look_of r (at b) border u v) agree.alike.valid
+    ∙ sym (look-of b border u v)

@@ -1,0 +1,229 @@
+-- What a node gives in a row.
+use Rattle.std.proofs.Common.{◌≡◌, ℕ, ℤ, pos, ◌+◌, ◌-◌, ◌/◌, ◌<◌, ◌≤◌, true, false, List, refl, sym, ◌∙◌, ap, subst, inl, inr, ◌⊎◌, arith, Option, Some, None, IfSome}
+use Rattle.std.specs.Prelude.{int_div, ◌^◌}
+use Rattle.std.proofs.lemmas.Bool.{cases_Bool}
+use Rattle.vx_base.specs.declared.border.Border.{Border}
+use Rattle.vx_base.specs.declared.format.Format.{Format}
+use Rattle.vx_base.specs.declared.function.Function.{Function}
+use Rattle.vx_base.specs.declared.function.Function.TheVariants.{NotBits, ConvertDepth, Box, Gaussian, Median, Erode, Dilate, Sobel, Integral}
+use Rattle.vx_base.specs.declared.node.Node.{Node}
+use Rattle.vx_base.specs.declared.output.Output.{Output}
+use Rattle.vx_base.specs.Rectangle.{Rectangle, inside, meet_of}
+use Rattle.vx_base.specs.Sample.{clamp}
+use Rattle.vx_base.specs.Description.{Description}
+use Rattle.vx_base.specs.Image.{ImageValue, IsImage, at, made, description_of}
+use Rattle.vx_base.specs.Convolution.{ConvolutionValue}
+use Rattle.vx_base.specs.Object.{ObjectValue, ImageObject, LutObject, ThresholdObject, ConvolutionObject, IsObject}
+use Rattle.vx_base.specs.Pixelwise.{from_one, from_two, formula_of_one, formula_of_two, looked_up, thresholded}
+use Rattle.vx_base.specs.Window.{look, nine_around, convolved, window_valid, from_nine, from_matrix, formula_of_nine}
+use Rattle.vx_base.specs.Statistics.{sum_to}
+use Rattle.vx_base.specs.Outputs.{image_of_one, node_image}
+use Rattle.vx_base.proofs.ImageLaws.{at-made, at-made_outside, column_inside, row_inside, places_decide}
+use Rattle.vx_base.proofs.RectangleLaws.{both_inside}
+use Rattle.node_rows.specs.Reach.{matrix_in, reach}
+use Rattle.node_rows.specs.Rows.{AreAlike, AgreeInRows, AgreeBeside}
+use Rattle.node_rows.proofs.LookLaws.{nine_near, matrix_near, look_near}
+
+-- ---- images that are made alike
+
+width_alike : (a b : ImageValue) → AreAlike a b → a.width ≡ b.width
+width_alike a b alike = ap (λ (d : Description). d.width) alike.description
+
+height_alike : (a b : ImageValue) → AreAlike a b → a.height ≡ b.height
+height_alike a b alike = ap (λ (d : Description). d.height) alike.description
+
+made_alike : (a b : ImageValue) (format : Format) (r s : Rectangle) (f g : ℕ → ℕ → ℤ) → AreAlike a b → r ≡ s → AreAlike (made a.width a.height format r f) (made b.width b.height format s g)
+made_alike a b format r s f g alike same =
+    record {
+      description = ap (λ (d : Description). let e : Description = record { width = d.width; height = d.height; format = format } in e) alike.description;
+      valid = same;
+    }
+
+-- functions that agree at a place, where it is valid
+made_same : (width height : ℕ) (format : Format) (r : Rectangle) (f g : ℕ → ℕ → ℤ) (x y : ℕ) → x < width → y < height → (inside r x y ≡ true → f x y ≡ g x y) → at (made width height format r f) x y ≡ at (made width height format r g) x y
+made_same width height format r f g x y a b same = cases (cases_Bool (inside r x y))
+  where
+    cases : (inside r x y ≡ true) ⊎ (inside r x y ≡ false) → at (made width height format r f) x y ≡ at (made width height format r g) x y
+    cases (inl h) = at-made width height format r f x y a b h ∙ same h ∙ sym (at-made width height format r g x y a b h)
+    cases (inr h) = at-made_outside width height format r f x y a b h ∙ sym (at-made_outside width height format r g x y a b h)
+
+made_row : (a b : ImageValue) (format : Format) (r s : Rectangle) (f g : ℕ → ℕ → ℤ) (x y : ℕ) → AreAlike a b → r ≡ s → x < a.width → y < a.height → (inside r x y ≡ true → f x y ≡ g x y) → at (made a.width a.height format r f) x y ≡ at (made b.width b.height format s g) x y
+made_row a b format r s f g x y alike rectangles left high same =
+    made_same a.width a.height format r f g x y left high same
+    ∙ ap (λ n. at (made n a.height format r g) x y) (width_alike a b alike)
+    ∙ ap (λ n. at (made b.width n format r g) x y) (height_alike a b alike)
+    ∙ ap (λ t. at (made b.width b.height format t g) x y) rectangles
+
+-- ---- agreement
+
+pub agree_fewer : (above first last below : ℕ) (a b : ImageValue) → above ≤ first → last ≤ below → AgreeInRows above below a b → AgreeInRows first last a b
+agree_fewer above first last below a b from to agree = record { alike = agree.alike; samples = λ x y i j k l. agree.samples x y i j (omega arith) (omega arith) }
+
+pub agree_in_all : (a b : ImageValue) → IsImage a → IsImage b → AgreeInRows 0 a.height a b → a ≡ b
+agree_in_all a b p q agree =
+    places_decide a b p q (width_alike a b agree.alike) (height_alike a b agree.alike) (ap (λ (d : Description). d.format) agree.alike.description) agree.alike.valid
+    (λ x y i j. agree.samples x y i j (omega arith) (omega arith))
+
+agree_itself : (first last : ℕ) (a : ImageValue) → AgreeInRows first last a a
+agree_itself first last a = record { alike = record { description = refl; valid = refl }; samples = λ x y i j k l. refl }
+
+-- what stands beside is the same in fewer rows too
+beside_fewer : (above first last below : ℕ) (second other : Option ObjectValue) → above ≤ first → last ≤ below → AgreeBeside above below second other → AgreeBeside first last second other
+beside_fewer above first last below (Some (ImageObject a)) (Some (ImageObject b)) from to agree = agree_fewer above first last below a b from to agree
+beside_fewer above first last below second other from to same = same
+
+-- rows that are near row y, and row y itself
+here : (rows y : ℕ) (a b : ImageValue) → AgreeInRows (y - rows) (y + rows) a b → AgreeInRows y y a b
+here rows y a b agree = agree_fewer (y - rows) y y (y + rows) a b (omega arith) (omega arith) agree
+
+-- those that a function looks at
+within_reach : (rows far y : ℕ) (a b : ImageValue) → Some far ≡ Some rows → AgreeInRows (y - rows) (y + rows) a b → AgreeInRows (y - far) (y + far) a b
+within_reach rows far y a b is agree =
+    let e : far ≡ rows = cc in
+    agree_fewer (y - rows) (y - far) (y + far) (y + rows) a b (omega arith) (omega arith) agree
+
+-- ---- a row of each kind of image
+
+module _ (format : Format) (a b : ImageValue) where
+  one_row : (f : ℤ → ℤ) (x y : ℕ) → AgreeInRows y y a b → x < a.width → y < a.height → at (from_one format f a) x y ≡ at (from_one format f b) x y
+  one_row f x y agree left high =
+      made_row a b format a.valid b.valid (λ u v. f (at a u v)) (λ u v. f (at b u v)) x y agree.alike agree.alike.valid left high
+      (λ h. ap f (agree.samples x y left high (omega arith) (omega arith)))
+
+  two_row : (f : ℤ → ℤ → ℤ) (c d : ImageValue) (x y : ℕ) → IsImage c → AgreeInRows y y a b → AgreeInRows y y c d → x < a.width → y < a.height → at (from_two format f a c) x y ≡ at (from_two format f b d) x y
+  two_row f c d x y image agree beside left high =
+      made_row a b format (meet_of a.valid c.valid) (meet_of b.valid d.valid) (λ u v. f (at a u v) (at c u v)) (λ u v. f (at b u v) (at d u v)) x y agree.alike
+      (ap (λ r. meet_of r c.valid) agree.alike.valid ∙ ap (λ r. meet_of b.valid r) beside.alike.valid) left high
+      (λ h. let place = (both_inside a.valid c.valid x y h).1 in
+      let column : x < c.width = column_inside c.valid c.width c.height x y image.room place in
+      let row : y < c.height = row_inside c.valid c.width c.height x y image.room place in
+      ap (λ z. f z (at c x y)) (agree.samples x y left high (omega arith) (omega arith))
+      ∙ ap (λ z. f (at b x y) z) (beside.samples x y column row (omega arith) (omega arith)))
+
+  nine_row : (f : List ℤ → ℤ) (border : Border) (x y : ℕ) → IsImage a → AgreeInRows (y - 1) (y + 1) a b → x < a.width → y < a.height → at (from_nine format f border a) x y ≡ at (from_nine format f border b) x y
+  nine_row f border x y image agree left high =
+      made_row a b format (window_valid border 1 1 a.valid) (window_valid border 1 1 b.valid)
+      (λ u v. f (nine_around (look a border) (pos u) (pos v))) (λ u v. f (nine_around (look b border) (pos u) (pos v))) x y agree.alike
+      (ap (window_valid border 1 1) agree.alike.valid) left high
+      (λ h. ap f (nine_near (look a border) (look b border) (pos x) y (look_near a b border 1 1 1 x y image h agree)))
+
+  -- a formula that gives 0 whatever the nine samples are
+  zero_row : (border : Border) (x y : ℕ) → AreAlike a b → x < a.width → y < a.height → at (from_nine format (λ _. pos 0) border a) x y ≡ at (from_nine format (λ _. pos 0) border b) x y
+  zero_row border x y alike left high =
+      made_row a b format (window_valid border 1 1 a.valid) (window_valid border 1 1 b.valid) (λ _ _. pos 0) (λ _ _. pos 0) x y alike
+      (ap (window_valid border 1 1) alike.valid) left high (λ h. refl)
+
+  matrix_row : (c : ConvolutionValue) (border : Border) (x y : ℕ) → IsImage a → AgreeInRows (y - c.rows / 2) (y + c.rows / 2) a b → x < a.width → y < a.height → at (from_matrix format c border a) x y ≡ at (from_matrix format c border b) x y
+  matrix_row c border x y image agree left high =
+      made_row a b format (window_valid border (c.columns / 2) (c.rows / 2) a.valid) (window_valid border (c.columns / 2) (c.rows / 2) b.valid)
+      (λ u v. convolved c format (look a border) (pos u) (pos v)) (λ u v. convolved c format (look b border) (pos u) (pos v)) x y agree.alike
+      (ap (window_valid border (c.columns / 2) (c.rows / 2)) agree.alike.valid) left high
+      (λ h. ap (λ z. clamp format (int_div z (pos (2 ^ c.exponent))))
+      (matrix_near c (look a border) (look b border) (pos x) y (look_near a b border (c.columns / 2) (c.rows / 2) (c.rows / 2) x y image h agree)))
+
+-- ---- nodes
+
+module _ (n : Node) (output : Output) (format : Format) (a b : ImageValue) where
+  -- a function of one image, which looks this far
+  one_image_row : (function : Function) (rows x y : ℕ) → reach function None ≡ Some rows → IsImage a → AgreeInRows (y - rows) (y + rows) a b → x < a.width → y < a.height → at (image_of_one function n output format a) x y ≡ at (image_of_one function n output format b) x y
+  one_image_row NotBits rows x y far image agree left high = one_row format a b (formula_of_one NotBits format n.policy n.amount) x y (here rows y a b agree) left high
+  one_image_row ConvertDepth rows x y far image agree left high = one_row format a b (formula_of_one ConvertDepth format n.policy n.amount) x y (here rows y a b agree) left high
+  one_image_row Box rows x y far image agree left high = nine_row format a b (formula_of_nine Box output) n.border x y image (within_reach rows 1 y a b far agree) left high
+  one_image_row Gaussian rows x y far image agree left high = nine_row format a b (formula_of_nine Gaussian output) n.border x y image (within_reach rows 1 y a b far agree) left high
+  one_image_row Median rows x y far image agree left high = nine_row format a b (formula_of_nine Median output) n.border x y image (within_reach rows 1 y a b far agree) left high
+  one_image_row Erode rows x y far image agree left high = nine_row format a b (formula_of_nine Erode output) n.border x y image (within_reach rows 1 y a b far agree) left high
+  one_image_row Dilate rows x y far image agree left high = nine_row format a b (formula_of_nine Dilate output) n.border x y image (within_reach rows 1 y a b far agree) left high
+  one_image_row Sobel rows x y far image agree left high = nine_row format a b (formula_of_nine Sobel output) n.border x y image (within_reach rows 1 y a b far agree) left high
+  one_image_row Integral rows x y far image agree left high = cc
+  one_image_row other rows x y far image agree left high = zero_row format a b n.border x y agree.alike left high
+
+  -- with the same beside the first input
+  same_beside_row : (second : Option ObjectValue) (rows x y : ℕ) → IfSome second IsObject → reach n.function (matrix_in second) ≡ Some rows → IsImage a → AgreeInRows (y - rows) (y + rows) a b → x < a.width → y < a.height → at (node_image n output format a second) x y ≡ at (node_image n output format b second) x y
+  same_beside_row None rows x y object far image agree left high = one_image_row n.function rows x y far image agree left high
+  same_beside_row (Some (ImageObject c)) rows x y object far image agree left high =
+      two_row format a b (formula_of_two n.function format n.policy n.amount) c c x y object (here rows y a b agree) (agree_itself y y c) left high
+  same_beside_row (Some (LutObject lut)) rows x y object far image agree left high = one_row format a b (looked_up lut) x y (here rows y a b agree) left high
+  same_beside_row (Some (ThresholdObject threshold)) rows x y object far image agree left high = one_row format a b (thresholded threshold) x y (here rows y a b agree) left high
+  same_beside_row (Some (ConvolutionObject matrix)) rows x y object far image agree left high =
+      matrix_row format a b matrix n.border x y image (within_reach rows (matrix.rows / 2) y a b far agree) left high
+  same_beside_row (Some other) rows x y object far image agree left high = one_row format a b (λ _. pos 0) x y (here rows y a b agree) left high
+
+  -- with images beside the first inputs that agree in the row, or the same
+  pub node_row : (second other : Option ObjectValue) (rows x y : ℕ) → IfSome second IsObject → reach n.function (matrix_in second) ≡ Some rows → IsImage a → AgreeInRows (y - rows) (y + rows) a b → AgreeBeside y y second other → x < a.width → y < a.height → at (node_image n output format a second) x y ≡ at (node_image n output format b other) x y
+  node_row (Some (ImageObject c)) (Some (ImageObject d)) rows x y object far image agree beside left high =
+      two_row format a b (formula_of_two n.function format n.policy n.amount) c d x y object (here rows y a b agree) beside left high
+  node_row second other rows x y object far image agree beside left high =
+      same_beside_row second rows x y object far image agree left high
+      ∙ ap (λ (o : Option ObjectValue). at (node_image n output format b o) x y) beside
+
+-- ---- size, format and rectangle of a node's output
+
+-- as wide and high as the first input
+abbrev sized : Format → ImageValue → Description
+sized format a = record { width = a.width; height = a.height; format = format }
+
+one_image_description : (function : Function) (n : Node) (output : Output) (format : Format) (a : ImageValue) → description_of (image_of_one function n output format a) ≡ sized format a
+one_image_description NotBits n output format a = refl
+one_image_description ConvertDepth n output format a = refl
+one_image_description Integral n output format a = refl
+one_image_description function n output format a = refl
+
+pub node_description : (n : Node) (output : Output) (format : Format) (a : ImageValue) (second : Option ObjectValue) → description_of (node_image n output format a second) ≡ sized format a
+node_description n output format a None = one_image_description n.function n output format a
+node_description n output format a (Some (ImageObject b)) = refl
+node_description n output format a (Some (LutObject lut)) = refl
+node_description n output format a (Some (ThresholdObject threshold)) = refl
+node_description n output format a (Some (ConvolutionObject convolution)) = refl
+node_description n output format a (Some other) = refl
+
+module _ (n : Node) (output : Output) (format : Format) (a b : ImageValue) (alike : AreAlike a b) where
+  one_alike : (f : ℤ → ℤ) → AreAlike (from_one format f a) (from_one format f b)
+  one_alike f = made_alike a b format a.valid b.valid (λ x y. f (at a x y)) (λ x y. f (at b x y)) alike alike.valid
+
+  nine_alike : (f : List ℤ → ℤ) → AreAlike (from_nine format f n.border a) (from_nine format f n.border b)
+  nine_alike f =
+      made_alike a b format (window_valid n.border 1 1 a.valid) (window_valid n.border 1 1 b.valid)
+      (λ x y. f (nine_around (look a n.border) (pos x) (pos y))) (λ x y. f (nine_around (look b n.border) (pos x) (pos y))) alike
+      (ap (window_valid n.border 1 1) alike.valid)
+
+  one_image_alike : (function : Function) → AreAlike (image_of_one function n output format a) (image_of_one function n output format b)
+  one_image_alike NotBits = one_alike (formula_of_one NotBits format n.policy n.amount)
+  one_image_alike ConvertDepth = one_alike (formula_of_one ConvertDepth format n.policy n.amount)
+  one_image_alike Integral = made_alike a b format a.valid b.valid (sum_to a) (sum_to b) alike alike.valid
+  one_image_alike function = nine_alike (formula_of_nine function output)
+
+  same_beside_alike : (second : Option ObjectValue) → AreAlike (node_image n output format a second) (node_image n output format b second)
+  same_beside_alike None = one_image_alike n.function
+  same_beside_alike (Some (ImageObject c)) =
+      made_alike a b format (meet_of a.valid c.valid) (meet_of b.valid c.valid) (λ x y. formula_of_two n.function format n.policy n.amount (at a x y) (at c x y)) (λ x y. formula_of_two n.function format n.policy n.amount (at b x y) (at c x y)) alike
+      (ap (λ r. meet_of r c.valid) alike.valid)
+  same_beside_alike (Some (LutObject lut)) = one_alike (looked_up lut)
+  same_beside_alike (Some (ThresholdObject threshold)) = one_alike (thresholded threshold)
+  same_beside_alike (Some (ConvolutionObject matrix)) =
+      made_alike a b format (window_valid n.border (matrix.columns / 2) (matrix.rows / 2) a.valid) (window_valid n.border (matrix.columns / 2) (matrix.rows / 2) b.valid)
+      (λ x y. convolved matrix format (look a n.border) (pos x) (pos y)) (λ x y. convolved matrix format (look b n.border) (pos x) (pos y)) alike
+      (ap (window_valid n.border (matrix.columns / 2) (matrix.rows / 2)) alike.valid)
+  same_beside_alike (Some other) = one_alike (λ _. pos 0)
+
+  pub node_alike : (second other : Option ObjectValue) (first last : ℕ) → AgreeBeside first last second other → AreAlike (node_image n output format a second) (node_image n output format b other)
+  node_alike (Some (ImageObject c)) (Some (ImageObject d)) first last beside =
+      made_alike a b format (meet_of a.valid c.valid) (meet_of b.valid d.valid) (λ x y. formula_of_two n.function format n.policy n.amount (at a x y) (at c x y)) (λ x y. formula_of_two n.function format n.policy n.amount (at b x y) (at d x y)) alike
+      (ap (λ r. meet_of r c.valid) alike.valid ∙ ap (λ r. meet_of b.valid r) beside.alike.valid)
+  node_alike second other first last beside =
+      subst (λ (o : Option ObjectValue). AreAlike (node_image n output format a second) (node_image n output format b o)) beside (same_beside_alike second)
+
+-- ---- several rows
+
+pub node_rows : (n : Node) (output : Output) (format : Format) (a b : ImageValue) (second other : Option ObjectValue) (rows first last : ℕ) → IsImage a → IfSome second IsObject → reach n.function (matrix_in second) ≡ Some rows → AgreeInRows (first - rows) (last + rows) a b → AgreeBeside first last second other → AgreeInRows first last (node_image n output format a second) (node_image n output format b other)
+node_rows n output format a b second other rows first last image object far agree beside =
+    record {
+      alike = node_alike n output format a b agree.alike second other first last beside;
+      samples = λ x y left high from to.
+          let d : description_of (node_image n output format a second) ≡ sized format a = node_description n output format a second in
+          let wide : (node_image n output format a second).width ≡ a.width = ap (λ (e : Description). e.width) d in
+          let tall : (node_image n output format a second).height ≡ a.height = ap (λ (e : Description). e.height) d in
+          node_row n output format a b second other rows x y object far image
+          (agree_fewer (first - rows) (y - rows) (y + rows) (last + rows) a b (omega arith) (omega arith) agree)
+          (beside_fewer first y y last second other from to beside)
+          (omega arith) (omega arith);
+    }
