@@ -6,9 +6,13 @@
 //!
 //! - `functions`: how many rows above and below a function looks at
 //! - `laws`: that a row of a node's output is decided by these rows of its inputs
+//! - `examples`: columns of four rows, worked out
 #![tactic(auto)]
 
+pub mod examples;
 mod functions;
 pub mod laws;
+#[cfg(test)]
+mod tests;
 
 pub use functions::reach;

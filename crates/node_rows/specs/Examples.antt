@@ -1,0 +1,47 @@
+-- Columns of four rows, and what nodes make of them.
+use Rattle.std.specs.Prelude.{ℕ, ℤ, pos, List, [], ◌∷◌, Option, Some, None}
+use Rattle.vx_base.specs.declared.format.Format.{Format}
+use Rattle.vx_base.specs.declared.format.Format.TheVariants.{U8}
+use Rattle.vx_base.specs.declared.policy.Policy.TheVariants.{Wrap}
+use Rattle.vx_base.specs.declared.border.Border.TheVariants.{Replicate}
+use Rattle.vx_base.specs.declared.function.Function.{Function}
+use Rattle.vx_base.specs.declared.node.Node.{Node}
+use Rattle.vx_base.specs.declared.output.Output.TheVariants.{First}
+use Rattle.vx_base.specs.Cell.{cell_of}
+use Rattle.vx_base.specs.Convolution.{ConvolutionValue}
+use Rattle.vx_base.specs.Image.{ImageValue}
+use Rattle.vx_base.specs.Object.{ObjectValue}
+use Rattle.vx_base.specs.Outputs.{node_image}
+use Rattle.vx_base.specs.Rectangle.{whole}
+
+-- these samples, the first in row 0
+abbrev pub column : ℕ → ℕ → ℕ → ℕ → ImageValue
+column a b c d = record { width = 1; height = 4; format = U8; valid = whole 1 4; samples = pos a ∷ pos b ∷ pos c ∷ pos d ∷ [] }
+
+-- 3 columns and 5 rows, of which only the uppermost counts: it is turned by half, so each sample becomes that two rows below it
+abbrev pub upper_row : ConvolutionValue
+upper_row =
+    record {
+      columns = 3;
+      rows = 5;
+      exponent = 0;
+      coefficients =
+          pos 0 ∷ pos 1 ∷ pos 0 ∷ pos 0 ∷ pos 0 ∷ pos 0 ∷ pos 0 ∷ pos 0 ∷ pos 0 ∷ pos 0 ∷ pos 0 ∷ pos 0 ∷ pos 0 ∷ pos 0 ∷ pos 0 ∷ [];
+    }
+
+abbrev pub node_of : Function → Node
+node_of function =
+    record {
+      function = function;
+      border = Replicate;
+      policy = Wrap;
+      amount = 0;
+      in1 = cell_of 1;
+      in2 = None;
+      out1 = Some (cell_of 2);
+      out2 = None;
+    }
+
+-- what a node of the function makes of an image, beside which something may stand
+abbrev pub made_by : Function → Format → ImageValue → Option ObjectValue → List ℤ
+made_by function format image second = (node_image (node_of function) First format image second).samples

@@ -1,0 +1,53 @@
+//! Worked examples: what comes of a column of four rows, and of one that differs in a row.
+ghost use Rattle.std.specs.Prelude.{◌≡◌, [], ◌∷◌, Some, None, pos};
+ghost use Rattle.vx_base.specs.declared.format.Format.TheVariants.{U8, S16, U32};
+ghost use Rattle.vx_base.specs.declared.function.Function.TheVariants.{NotBits, Box, Convolve};
+ghost use Rattle.vx_base.specs.declared.function.Function.TheVariants.{Integral, Accumulate};
+ghost use Rattle.vx_base.specs.Object.{ImageObject, ConvolutionObject};
+ghost use Rattle.node_rows.specs.Reach.{reach};
+ghost use Rattle.node_rows.specs.Examples.{column, upper_row, made_by};
+
+/// Not: where row 2 differs, row 2 of what comes of it does.
+pub fn not()
+    ensures reach { reach NotBits None ≡ Some 0 }
+    ensures first { made_by NotBits U8 (column 10 20 30 40) None
+        ≡ pos 245 ∷ pos 235 ∷ pos 225 ∷ pos 215 ∷ [] }
+    ensures other { made_by NotBits U8 (column 10 20 90 40) None
+        ≡ pos 245 ∷ pos 235 ∷ pos 165 ∷ pos 215 ∷ [] }
+{}
+
+/// The box filter: where row 2 differs, rows 1 to 3 do, and row 0 doesn't.
+pub fn boxes()
+    ensures reach { reach Box None ≡ Some 1 }
+    ensures first { made_by Box U8 (column 10 20 30 40) None
+        ≡ pos 13 ∷ pos 20 ∷ pos 30 ∷ pos 36 ∷ [] }
+    ensures other { made_by Box U8 (column 10 20 90 40) None
+        ≡ pos 13 ∷ pos 40 ∷ pos 50 ∷ pos 56 ∷ [] }
+{}
+
+/// A convolution by five rows: where row 2 differs, row 0 does, which is two rows above it.
+pub fn convolutions()
+    ensures reach { reach Convolve (Some upper_row) ≡ Some 2 }
+    ensures first { made_by Convolve U8 (column 10 20 30 40) (Some (ConvolutionObject upper_row))
+        ≡ pos 30 ∷ pos 40 ∷ pos 40 ∷ pos 40 ∷ [] }
+    ensures other { made_by Convolve U8 (column 10 20 90 40) (Some (ConvolutionObject upper_row))
+        ≡ pos 90 ∷ pos 40 ∷ pos 40 ∷ pos 40 ∷ [] }
+{}
+
+/// A column that is added to another one: where that differs in row 2, the sum does there.
+pub fn accumulations()
+    ensures reach { reach Accumulate None ≡ Some 0 }
+    ensures first { made_by Accumulate S16 (column 10 20 30 40) (Some (ImageObject
+        (record (column 1 2 3 4) { format = S16 }))) ≡ pos 11 ∷ pos 22 ∷ pos 33 ∷ pos 44 ∷ [] }
+    ensures other { made_by Accumulate S16 (column 10 20 30 40) (Some (ImageObject
+        (record (column 1 2 5 4) { format = S16 }))) ≡ pos 11 ∷ pos 22 ∷ pos 35 ∷ pos 44 ∷ [] }
+{}
+
+/// The integral image: where row 0 differs, all rows do.
+pub fn integrals()
+    ensures reach { reach Integral None ≡ None }
+    ensures first { made_by Integral U32 (column 10 20 30 40) None
+        ≡ pos 10 ∷ pos 30 ∷ pos 60 ∷ pos 100 ∷ [] }
+    ensures other { made_by Integral U32 (column 11 20 30 40) None
+        ≡ pos 11 ∷ pos 31 ∷ pos 61 ∷ pos 101 ∷ [] }
+{}
