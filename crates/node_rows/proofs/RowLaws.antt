@@ -164,8 +164,6 @@ sized format a = record { width = a.width; height = a.height; format = format }
 
 one_image_description : (function : Function) (n : Node) (output : Output) (format : Format) (a : ImageValue) → description_of (image_of_one function n output format a) ≡ sized format a
 one_image_description NotBits n output format a = refl
-one_image_description ConvertDepth n output format a = refl
-one_image_description Integral n output format a = refl
 one_image_description function n output format a = refl
 
 pub node_description : (n : Node) (output : Output) (format : Format) (a : ImageValue) (second : Option ObjectValue) → description_of (node_image n output format a second) ≡ sized format a

@@ -10,9 +10,9 @@ abbrev pub matrix_in : Option ObjectValue → Option ConvolutionValue
 matrix_in (Some (ConvolutionObject matrix)) = Some matrix
 matrix_in other = None
 
--- for a row of its output a function looks at its inputs in that row, and in so many above it and below it: half the rows of its matrix; one
--- for a 3x3 window; none where it is pixelwise, also in what an output held to which it adds. None stands for all rows, and for functions
--- that write no image
+-- how many rows above a row of its output, and below it, a function looks at in its input, beside that row: half the rows of its matrix,
+-- "Custom Convolution"; one for a 3x3 window; none where it is pixelwise. A second image, or what its output held, it looks at in that row
+-- alone. None stands for all rows, as for "Integral Image", and for a function that writes no image
 abbrev pub reach : Function → Option ConvolutionValue → Option ℕ
 reach function (Some matrix) = Some (matrix.rows / 2)
 reach Box None = Some 1

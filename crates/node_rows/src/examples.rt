@@ -8,7 +8,7 @@ ghost use Rattle.node_rows.specs.Reach.{reach};
 ghost use Rattle.node_rows.specs.Examples.{column, upper_row, made_by};
 
 /// Not: where row 2 differs, row 2 of what comes of it does.
-pub fn not()
+pub fn not_of_a_column()
     ensures reach { reach NotBits None ≡ Some 0 }
     ensures first { made_by NotBits U8 (column 10 20 30 40) None
         ≡ pos 245 ∷ pos 235 ∷ pos 225 ∷ pos 215 ∷ [] }
@@ -17,7 +17,7 @@ pub fn not()
 {}
 
 /// The box filter: where row 2 differs, rows 1 to 3 do, and row 0 doesn't.
-pub fn boxes()
+pub fn box_of_a_column()
     ensures reach { reach Box None ≡ Some 1 }
     ensures first { made_by Box U8 (column 10 20 30 40) None
         ≡ pos 13 ∷ pos 20 ∷ pos 30 ∷ pos 36 ∷ [] }
@@ -26,7 +26,7 @@ pub fn boxes()
 {}
 
 /// A convolution by five rows: where row 2 differs, row 0 does, which is two rows above it.
-pub fn convolutions()
+pub fn convolved_column()
     ensures reach { reach Convolve (Some upper_row) ≡ Some 2 }
     ensures first { made_by Convolve U8 (column 10 20 30 40) (Some (ConvolutionObject upper_row))
         ≡ pos 30 ∷ pos 40 ∷ pos 40 ∷ pos 40 ∷ [] }
@@ -35,7 +35,7 @@ pub fn convolutions()
 {}
 
 /// A column that is added to another one: where that differs in row 2, the sum does there.
-pub fn accumulations()
+pub fn accumulated_column()
     ensures reach { reach Accumulate None ≡ Some 0 }
     ensures first { made_by Accumulate S16 (column 10 20 30 40) (Some (ImageObject
         (record (column 1 2 3 4) { format = S16 }))) ≡ pos 11 ∷ pos 22 ∷ pos 33 ∷ pos 44 ∷ [] }
@@ -44,7 +44,7 @@ pub fn accumulations()
 {}
 
 /// The integral image: where row 0 differs, all rows do.
-pub fn integrals()
+pub fn integral_of_a_column()
     ensures reach { reach Integral None ≡ None }
     ensures first { made_by Integral U32 (column 10 20 30 40) None
         ≡ pos 10 ∷ pos 30 ∷ pos 60 ∷ pos 100 ∷ [] }

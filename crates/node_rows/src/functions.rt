@@ -5,10 +5,11 @@ ghost use Rattle.node_rows.specs.Reach.{reach};
 
 use vx_base::{Convolution, Function};
 
-/// At how many rows above and below a row of its output a function looks for it, beside that row
-/// itself: half the rows of the matrix that stands beside its input, if one does, 1 for a 3x3
-/// window, and 0 for a pixelwise function, which looks at what its output held in that row too
-/// where it adds to that. `None`: at all rows, as the integral image does, or it writes no image.
+/// How many rows above a row of its output, and below it, a function looks at in its input, beside
+/// that row itself: half the rows of the matrix that stands beside its input, where one does; 1 for
+/// a 3x3 window; 0 for a pixelwise function (OpenVX 1.3, "Vision Functions"). A second image, or
+/// what its output held, it looks at in that row alone. `None`: it looks at all rows, as for an
+/// integral image, or writes no image.
 pub fn reach(function: Function, matrix: Option<&Convolution>) -> Option<u16>
     ensures { result ≡ reach function (option_copied matrix.entry) }
 {
