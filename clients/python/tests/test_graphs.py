@@ -56,7 +56,7 @@ class TestGraphs(ProgramTest):
         with self.assertRaises(vx.InvalidScope):
             self.context.graph().not_(whole, self.target)
         with self.assertRaises(vx.InvalidDimension):
-            self.graph.virtual_image(U8, 5000, 1)
+            self.graph.virtual_image(U8, 8193, 1)
 
     def test_verdicts(self):
         self.graph.verify()

@@ -97,7 +97,7 @@ class TestPipelines(ProgramTest):
     def test_a_create_that_is_refused_within(self):
         with self.context.pipeline() as ahead:
             with self.assertRaises(vx.InvalidDimension):
-                self.context.image(vx.U8, 5000, 1)
+                self.context.image(vx.U8, 8193, 1)
         self.assertEqual(ahead.refusals, [])
 
     def test_one_at_a_time(self):
