@@ -1,2 +1,4 @@
 pub mod LookLaws
 pub mod RowLaws
+pub mod PartLaws
+pub mod PixelPartLaws

@@ -9,6 +9,7 @@ ghost use Rattle.vx_base.specs.Object.{ObjectValue, IsObject};
 ghost use Rattle.vx_base.specs.Outputs.{node_image};
 ghost use Rattle.node_rows.specs.Reach.{matrix_in, reach};
 ghost use Rattle.node_rows.specs.Rows.{AreAlike, AgreeInRows, AgreeBeside};
+ghost use Rattle.node_rows.specs.Parts.{part_of, part_beside, StandsFor, HasInputs};
 
 /// Images that agree in some rows agree in fewer of them, and two that agree in all are one.
 pub fn rows_of_images()
@@ -52,4 +53,26 @@ pub fn bands_in_reach_decide()
         AgreeInRows (first - rows) (last + rows) a b → AgreeBeside first last second other →
         AgreeInRows first last (node_image n output format a second)
         (node_image n output format b other) }
+{}
+
+/// The rows of an image are an image, which stands for all of them. What stands for some rows
+/// stands for fewer.
+pub fn parts_of_images()
+    ensures image { (first count : ℕ) (a : ImageValue) → IsImage a → first + count ≤ a.height →
+        IsImage (part_of first count a) }
+    ensures stands { (first count : ℕ) (a : ImageValue) → first + count ≤ a.height →
+        StandsFor first count first (first + count) (part_of first count a) a }
+    ensures fewer { (first count above from to below : ℕ) (part image : ImageValue) →
+        above ≤ from → to ≤ below → StandsFor first count above below part image →
+        StandsFor first count from to part image }
+{}
+
+/// What a pixelwise node makes of the rows of its inputs is the rows of what it makes of the whole.
+pub fn pixelwise_parts()
+    ensures { (n : Node) (output : Output) (format : Format) (a : ImageValue)
+        (second : Option ObjectValue) (first count : ℕ) → first + count ≤ a.height →
+        IfSome second IsObject → HasInputs n.function second →
+        reach n.function (matrix_in second) ≡ Some 0 →
+        node_image n output format (part_of first count a) (part_beside first count second)
+        ≡ part_of first count (node_image n output format a second) }
 {}
