@@ -10,6 +10,7 @@ ghost use Rattle.vx_base.specs.Outputs.{node_image};
 ghost use Rattle.node_rows.specs.Reach.{matrix_in, reach};
 ghost use Rattle.node_rows.specs.Rows.{AreAlike, AgreeInRows, AgreeBeside};
 ghost use Rattle.node_rows.specs.Parts.{part_of, part_beside, StandsFor, HasInputs};
+ghost use Rattle.node_rows.specs.Parts.{StandsBeside, first_right, end_right};
 
 /// Images that agree in some rows agree in fewer of them, and two that agree in all are one.
 pub fn rows_of_images()
@@ -75,4 +76,16 @@ pub fn pixelwise_parts()
         reach n.function (matrix_in second) ≡ Some 0 →
         node_image n output format (part_of first count a) (part_beside first count second)
         ≡ part_of first count (node_image n output format a second) }
+{}
+
+/// Where parts stand for some rows of a node's inputs, what the node makes of the parts stands for
+/// the rows of what it makes of the whole: for all but those that look at rows that are not right.
+pub fn parts_in_reach()
+    ensures { (n : Node) (output : Output) (format : Format) (part a : ImageValue)
+        (other second : Option ObjectValue) (rows first count from to : ℕ) → IsImage part →
+        IsImage a → IfSome second IsObject → HasInputs n.function second →
+        reach n.function (matrix_in second) ≡ Some rows →
+        StandsFor first count from to part a → StandsBeside first count from to other second →
+        StandsFor first count (first_right rows from) (end_right rows a.height to)
+        (node_image n output format part other) (node_image n output format a second) }
 {}
