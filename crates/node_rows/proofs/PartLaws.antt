@@ -1,11 +1,11 @@
 -- The rows of an image as an image.
-use Rattle.std.proofs.Common.{◌≡◌, ℕ, ℤ, pos, ◌+◌, ◌-◌, ◌*◌, ◌<◌, ◌≤◌, true, false, Bool, refl, sym, ◌∙◌, ap, subst, arith, zero, suc, add-zero, get_or}
+use Rattle.std.proofs.Common.{◌≡◌, ℕ, ℤ, pos, ◌+◌, ◌-◌, ◌*◌, ◌<◌, ◌≤◌, refl, sym, ◌∙◌, ap, subst, arith, zero, suc, add-zero, get_or}
 use Rattle.std.specs.Prelude.{min}
 use Rattle.std.proofs.lemmas.Bool.Decides.{nat_tests}
-use Rattle.vx_base.specs.declared.format.Format.{Format}
 use Rattle.vx_base.specs.Sample.{IsSample}
-use Rattle.vx_base.specs.Rectangle.{Rectangle, inside, IsOrdered, IsWithin}
-use Rattle.vx_base.specs.Image.{ImageValue, IsImage, at, band, table}
+use Rattle.vx_base.specs.Rectangle.{Rectangle, inside}
+use Rattle.vx_base.specs.Description.{Description}
+use Rattle.vx_base.specs.Image.{ImageValue, IsImage, at, band}
 use Rattle.vx_base.proofs.TableLaws.{run-same, length-band}
 use Rattle.vx_base.proofs.ImageLaws.{get_or-table}
 use Rattle.vx_base.proofs.RectangleLaws.{bounded_ordered, bounded_within}
@@ -64,3 +64,13 @@ stands_fewer first count above from to below part image p q stands =
       valid = λ x y a b. stands.valid x y (omega arith) (omega arith);
       samples = λ x y left a b. stands.samples x y left (omega arith) (omega arith);
     }
+
+-- the samples of the rows for which it stands
+pub stands_band : (first count from to : ℕ) (part image : ImageValue) → StandsFor first count from to part image → band part.width (from - first) (to - from) (at part) ≡ band image.width from (to - from) (at image)
+stands_band first count from to part image stands =
+    ap (λ w. band w (from - first) (to - from) (at part)) wide
+    ∙ band_moved image.width (from - first) from (to - from) (at part) (at image)
+    (λ x k left high. ap (at part x) (omega (arith, stands.rows)) ∙ stands.samples x (from + k) left (omega arith) (omega arith))
+  where
+    wide : part.width ≡ image.width
+    wide = ap (λ (d : Description). d.width) stands.description
