@@ -83,7 +83,8 @@ pub fn pixelwise_parts()
 {}
 
 /// Where parts stand for some rows of a node's inputs, what the node makes of the parts stands for
-/// the rows of what it makes of the whole: for all but those that look at rows that are not right.
+/// these rows of what it makes of the whole, less its reach at either end that isn't the image's
+/// own: under every border and rectangle, and whatever the parts have in their other rows.
 pub fn parts_in_reach()
     ensures { (n : Node) (output : Output) (format : Format) (part a : ImageValue)
         (other second : Option ObjectValue) (rows first count from to : ℕ) → IsImage part →
