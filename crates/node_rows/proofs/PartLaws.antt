@@ -1,15 +1,50 @@
 -- The rows of an image as an image.
-use Rattle.std.proofs.Common.{◌≡◌, ℕ, ℤ, pos, ◌+◌, ◌-◌, ◌*◌, ◌<◌, ◌≤◌, refl, sym, ◌∙◌, ap, subst, arith, zero, suc, add-zero, get_or}
+use Rattle.std.proofs.Common.{◌≡◌, ℕ, ℤ, pos, ◌+◌, ◌-◌, ◌*◌, ◌<◌, ◌≤◌, Bool, true, false, ◌&&◌, IsTrue, inl, inr, ◌⊎◌, nat_lt, refl, sym, ◌∙◌, ap, subst, arith, zero, suc, add-zero, get_or}
 use Rattle.std.specs.Prelude.{min}
+use Rattle.std.proofs.lemmas.Bool.{cases_lt}
 use Rattle.std.proofs.lemmas.Bool.Decides.{nat_tests}
 use Rattle.vx_base.specs.Sample.{IsSample}
-use Rattle.vx_base.specs.Rectangle.{Rectangle, inside}
+use Rattle.vx_base.specs.Rectangle.{Rectangle, inside, is_rectangle, bounded, meet_of}
 use Rattle.vx_base.specs.Description.{Description}
 use Rattle.vx_base.specs.Image.{ImageValue, IsImage, at, band}
 use Rattle.vx_base.proofs.TableLaws.{run-same, length-band}
-use Rattle.vx_base.proofs.ImageLaws.{get_or-table}
-use Rattle.vx_base.proofs.RectangleLaws.{bounded_ordered, bounded_within}
+use Rattle.vx_base.proofs.ImageLaws.{get_or-table, same_parts}
+use Rattle.vx_base.proofs.RectangleLaws.{places_decide, bounded_ordered, bounded_within}
 use Rattle.node_rows.specs.Parts.{rows_of, part_of, StandsFor}
+
+-- ---- rectangles
+
+pub bounded_is : (x0 y0 x1 y1 : ℕ) → let r = bounded x0 y0 x1 y1 in IsTrue (is_rectangle r.x0 r.y0 r.x1 r.y1)
+bounded_is x0 y0 x1 y1 = grind (arith, nat_tests)
+
+pub meet_inside : (r s : Rectangle) (x y : ℕ) → inside (meet_of r s) x y ≡ (inside r x y && inside s x y)
+meet_inside r s x y = grind (arith, nat_tests)
+
+pub rows_inside : (first count : ℕ) (r : Rectangle) (x y : ℕ) → inside (rows_of first count r) x y ≡ (inside r x (first + y) && nat_lt y count)
+rows_inside first count r x y = grind (arith, nat_tests)
+
+-- rectangles with the same places in some rows
+rows_same : (first other count : ℕ) (r s : Rectangle) → ((x y : ℕ) → y < count → inside r x (first + y) ≡ inside s x (other + y)) → rows_of first count r ≡ rows_of other count s
+rows_same first other count r s same =
+    places_decide (rows_of first count r) (rows_of other count s)
+    (bounded_is r.x0 (r.y0 - first) r.x1 (min (r.y1 - first) count))
+    (bounded_is s.x0 (s.y0 - other) s.x1 (min (s.y1 - other) count))
+    (λ x y. rows_inside first count r x y ∙ cases x y (cases_lt y count) ∙ sym (rows_inside other count s x y))
+  where
+    cases : (x y : ℕ) → (y < count) ⊎ (count ≤ y) → (inside r x (first + y) && nat_lt y count) ≡ (inside s x (other + y) && nat_lt y count)
+    cases x y (inl h) = ap (λ b. b && nat_lt y count) (same x y h)
+    cases x y (inr h) = beyond (inside r x (first + y)) (inside s x (other + y)) (nat_lt y count) (grind (arith, nat_tests))
+      where
+        beyond : (a b t : Bool) → t ≡ false → (a && t) ≡ (b && t)
+        beyond a b t e = ap (λ u. a && u) e ∙ both a b ∙ sym (ap (λ u. b && u) e)
+          where
+            both : (a b : Bool) → (a && false) ≡ (b && false)
+            both true true = refl
+            both true false = refl
+            both false true = refl
+            both false false = refl
+
+-- ---- samples
 
 -- functions that agree in the rows of two bands have the same band
 pub band_moved : (width start other count : ℕ) (f g : ℕ → ℕ → ℤ) → ((x k : ℕ) → x < width → k < count → f x (start + k) ≡ g x (other + k)) → band width start count f ≡ band width other count g
@@ -65,12 +100,15 @@ stands_fewer first count above from to below part image p q stands =
       samples = λ x y left a b. stands.samples x y left (omega arith) (omega arith);
     }
 
--- the samples of the rows for which it stands
-pub stands_band : (first count from to : ℕ) (part image : ImageValue) → StandsFor first count from to part image → band part.width (from - first) (to - from) (at part) ≡ band image.width from (to - from) (at image)
-stands_band first count from to part image stands =
-    ap (λ w. band w (from - first) (to - from) (at part)) wide
+-- the rows for which it stands are the image's
+pub stands_rows : (first count from to : ℕ) (part image : ImageValue) → StandsFor first count from to part image → part_of (from - first) (to - from) part ≡ part_of from (to - from) image
+stands_rows first count from to part image stands =
+    same_parts (part_of (from - first) (to - from) part) (part_of from (to - from) image) wide refl (ap (λ (d : Description). d.format) stands.description)
+    (rows_same (from - first) from (to - from) part.valid image.valid
+    (λ x y high. ap (inside part.valid x) (omega (arith, stands.rows)) ∙ stands.valid x (from + y) (omega arith) (omega arith)))
+    (ap (λ w. band w (from - first) (to - from) (at part)) wide
     ∙ band_moved image.width (from - first) from (to - from) (at part) (at image)
-    (λ x k left high. ap (at part x) (omega (arith, stands.rows)) ∙ stands.samples x (from + k) left (omega arith) (omega arith))
+    (λ x k left high. ap (at part x) (omega (arith, stands.rows)) ∙ stands.samples x (from + k) left (omega arith) (omega arith)))
   where
     wide : part.width ≡ image.width
     wide = ap (λ (d : Description). d.width) stands.description

@@ -24,6 +24,7 @@ use Rattle.vx_base.proofs.RectangleLaws.{both_inside}
 use Rattle.node_rows.specs.Reach.{matrix_in, reach}
 use Rattle.node_rows.specs.Parts.{StandsFor, StandsBeside, first_right, end_right, HasInputs}
 use Rattle.node_rows.proofs.LookLaws.{IsNear, HasRow, look-of, valid_row, nine_near, matrix_near}
+use Rattle.node_rows.proofs.PartLaws.{meet_inside}
 use Rattle.node_rows.proofs.PartLookLaws.{AreRight, are_right, first_within, end_within, SameNear, same_near, row_back, look_part, nine_moved, matrix_moved}
 
 -- ---- parts that stand for some rows of an image
@@ -75,9 +76,6 @@ module _ (first count from to : ℕ) (part a : ImageValue) (stands : StandsFor f
         let place = (both_inside a.valid b.valid x y h).1 in
         ap (λ z. f z (at other x (y - first))) (stands.samples x y left after before)
         ∙ ap (λ z. f (at a x y) z) (beside.samples x y (column_inside b.valid b.width b.height x y image.room place) after before))
-      where
-        meet_inside : (r s : Rectangle) (x y : ℕ) → inside (meet_of r s) x y ≡ (inside r x y && inside s x y)
-        meet_inside r s x y = grind (arith, nat_tests)
 
 -- ---- windows
 

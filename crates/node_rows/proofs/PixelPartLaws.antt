@@ -1,5 +1,5 @@
 -- What a pixelwise node makes of some rows.
-use Rattle.std.proofs.Common.{◌≡◌, ℕ, ℤ, pos, ◌+◌, ◌-◌, ◌/◌, ◌<◌, ◌≤◌, true, false, Bool, ◌&&◌, cond, IsTrue, refl, sym, ◌∙◌, ap, inl, inr, ◌⊎◌, arith, nat_lt, zero-add, Option, Some, None, IfSome}
+use Rattle.std.proofs.Common.{◌≡◌, ℕ, ℤ, pos, ◌+◌, ◌-◌, ◌/◌, ◌<◌, ◌≤◌, true, false, Bool, ◌&&◌, cond, refl, sym, ◌∙◌, ap, inl, inr, ◌⊎◌, arith, nat_lt, zero-add, Option, Some, None, IfSome}
 use Rattle.std.specs.Prelude.{min, max}
 use Rattle.std.proofs.lemmas.Bool.{cases_Bool}
 use Rattle.std.proofs.lemmas.Bool.Decides.{nat_tests}
@@ -8,7 +8,7 @@ use Rattle.vx_base.specs.declared.function.Function.{Function}
 use Rattle.vx_base.specs.declared.function.Function.TheVariants.{NotBits, ConvertDepth}
 use Rattle.vx_base.specs.declared.node.Node.{Node}
 use Rattle.vx_base.specs.declared.output.Output.{Output}
-use Rattle.vx_base.specs.Rectangle.{Rectangle, inside, is_rectangle, meet_of, bounded}
+use Rattle.vx_base.specs.Rectangle.{Rectangle, inside, meet_of}
 use Rattle.vx_base.specs.Image.{ImageValue, IsImage, at, made, within}
 use Rattle.vx_base.specs.Convolution.{ConvolutionValue, IsConvolution}
 use Rattle.vx_base.specs.Object.{ObjectValue, ImageObject, LutObject, ThresholdObject, ConvolutionObject, IsObject}
@@ -18,15 +18,9 @@ use Rattle.vx_base.proofs.ImageLaws.{get_or-table, same_parts, column_inside}
 use Rattle.vx_base.proofs.RectangleLaws.{places_decide, both_inside}
 use Rattle.node_rows.specs.Reach.{matrix_in, reach}
 use Rattle.node_rows.specs.Parts.{rows_of, part_of, part_beside, HasInputs}
-use Rattle.node_rows.proofs.PartLaws.{band_moved, at-part}
+use Rattle.node_rows.proofs.PartLaws.{bounded_is, meet_inside, rows_inside, band_moved, at-part}
 
 -- ---- rectangles
-
-bounded_is : (x0 y0 x1 y1 : ℕ) → let r = bounded x0 y0 x1 y1 in IsTrue (is_rectangle r.x0 r.y0 r.x1 r.y1)
-bounded_is x0 y0 x1 y1 = grind (arith, nat_tests)
-
-meet_inside : (r s : Rectangle) (x y : ℕ) → inside (meet_of r s) x y ≡ (inside r x y && inside s x y)
-meet_inside r s x y = grind (arith, nat_tests)
 
 regrouped : (a b t : Bool) → ((a && t) && (b && t)) ≡ ((a && b) && t)
 regrouped true true true = refl
@@ -36,9 +30,6 @@ regrouped true false false = refl
 regrouped false b t = refl
 
 module _ (first count : ℕ) where
-  rows_inside : (r : Rectangle) (x y : ℕ) → inside (rows_of first count r) x y ≡ (inside r x (first + y) && nat_lt y count)
-  rows_inside r x y = grind (arith, nat_tests)
-
   -- the rows of what two rectangles share
   rows_meet : (r s : Rectangle) → meet_of (rows_of first count r) (rows_of first count s) ≡ rows_of first count (meet_of r s)
   rows_meet r s =
@@ -46,11 +37,11 @@ module _ (first count : ℕ) where
       (bounded_is (max (rows_of first count r).x0 (rows_of first count s).x0) (max (rows_of first count r).y0 (rows_of first count s).y0) (min (rows_of first count r).x1 (rows_of first count s).x1) (min (rows_of first count r).y1 (rows_of first count s).y1))
       (bounded_is (meet_of r s).x0 ((meet_of r s).y0 - first) (meet_of r s).x1 (min ((meet_of r s).y1 - first) count))
       (λ x y. meet_inside (rows_of first count r) (rows_of first count s) x y
-      ∙ ap (λ b. b && inside (rows_of first count s) x y) (rows_inside r x y)
-      ∙ ap (λ b. (inside r x (first + y) && nat_lt y count) && b) (rows_inside s x y)
+      ∙ ap (λ b. b && inside (rows_of first count s) x y) (rows_inside first count r x y)
+      ∙ ap (λ b. (inside r x (first + y) && nat_lt y count) && b) (rows_inside first count s x y)
       ∙ regrouped (inside r x (first + y)) (inside s x (first + y)) (nat_lt y count)
       ∙ ap (λ b. b && nat_lt y count) (sym (meet_inside r s x (first + y)))
-      ∙ sym (rows_inside (meet_of r s) x y))
+      ∙ sym (rows_inside first count (meet_of r s) x y))
 
   -- ---- images
 

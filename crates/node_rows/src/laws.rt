@@ -4,7 +4,7 @@ ghost use Rattle.std.specs.Prelude.{◌≡◌, ◌<◌, ◌≤◌, ◌+◌, ◌-
 ghost use Rattle.vx_base.specs.declared.format.Format.{Format};
 ghost use Rattle.vx_base.specs.declared.node.Node.{Node};
 ghost use Rattle.vx_base.specs.declared.output.Output.{Output};
-ghost use Rattle.vx_base.specs.Image.{ImageValue, IsImage, at, band, description_of};
+ghost use Rattle.vx_base.specs.Image.{ImageValue, IsImage, at, description_of};
 ghost use Rattle.vx_base.specs.Object.{ObjectValue, IsObject};
 ghost use Rattle.vx_base.specs.Outputs.{node_image};
 ghost use Rattle.node_rows.specs.Reach.{matrix_in, reach};
@@ -57,7 +57,7 @@ pub fn bands_in_reach_decide()
 {}
 
 /// The rows of an image are an image, which stands for all of them. What stands for some rows
-/// stands for fewer, and has the samples of these rows.
+/// stands for fewer, and as an image of their own these rows of it are the image's.
 pub fn parts_of_images()
     ensures image { (first count : ℕ) (a : ImageValue) → IsImage a → first + count ≤ a.height →
         IsImage (part_of first count a) }
@@ -66,10 +66,17 @@ pub fn parts_of_images()
     ensures fewer { (first count above from to below : ℕ) (part image : ImageValue) →
         above ≤ from → to ≤ below → StandsFor first count above below part image →
         StandsFor first count from to part image }
-    ensures samples { (first count from to : ℕ) (part image : ImageValue) →
+    ensures rows { (first count from to : ℕ) (part image : ImageValue) →
         StandsFor first count from to part image →
-        band part.width (from - first) (to - from) (at part)
-        ≡ band image.width from (to - from) (at image) }
+        part_of (from - first) (to - from) part ≡ part_of from (to - from) image }
+{}
+
+/// A node after another one looks as far as both together.
+pub fn reaches_add_up()
+    ensures above { (near far from : ℕ) →
+        first_right far (first_right near from) ≡ first_right (near + far) from }
+    ensures below { (near far height to : ℕ) → to ≤ height →
+        end_right far height (end_right near height to) ≡ end_right (near + far) height to }
 {}
 
 /// What a pixelwise node makes of the rows of its inputs is the rows of what it makes of the whole.

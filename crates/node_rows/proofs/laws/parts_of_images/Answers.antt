@@ -1,4 +1,4 @@
-use Rattle.node_rows.proofs.PartLaws.{part_is, part_stands, stands_fewer, stands_band}
+use Rattle.node_rows.proofs.PartLaws.{part_is, part_stands, stands_fewer, stands_rows}
 use Rattle.node_rows.proofs.laws.parts_of_images.Goals as goal
 
 pub returns-clause-image : goal.returns-clause-image
@@ -10,5 +10,5 @@ returns-clause-stands c = part_stands
 pub returns-clause-fewer : goal.returns-clause-fewer
 returns-clause-fewer c = stands_fewer
 
-pub returns-clause-samples : goal.returns-clause-samples
-returns-clause-samples c = stands_band
+pub returns-clause-rows : goal.returns-clause-rows
+returns-clause-rows c = stands_rows
