@@ -26,8 +26,8 @@ pub fn box_of_a_column()
         ≡ pos 13 ∷ pos 40 ∷ pos 50 ∷ pos 56 ∷ [] }
 {}
 
-/// The box filter of rows 1 to 3 alone, which is 13, 20, 30 and 36 of the whole column: from row 2 on
-/// it is right, and up to row 3, since that has none below it.
+/// The box filter of rows 1 to 3 alone, of the whole column 13, 20, 30 and 36: it is right from row
+/// 2 on, and up to row 3, since that has none below it.
 pub fn box_of_three_rows()
     ensures part { (part_of 1 3 (column 10 20 30 40)).samples ≡ pos 20 ∷ pos 30 ∷ pos 40 ∷ [] }
     ensures made { made_by Box U8 (part_of 1 3 (column 10 20 30 40)) None
