@@ -55,7 +55,7 @@ band_moved width start other (suc count) f g same =
       band_moved width (start + 1) (other + 1) count f g (λ x k a b. ap (f x) (omega arith) ∙ same x (k + 1) a (omega arith) ∙ ap (g x) (omega arith)),
     )
 
-pub at-band : (width start count x y : ℕ) (f : ℕ → ℕ → ℤ) → x < width → y < count → get_or (band width start count f) (y * width + x) (pos 0) ≡ f x (start + y)
+at-band : (width start count x y : ℕ) (f : ℕ → ℕ → ℤ) → x < width → y < count → get_or (band width start count f) (y * width + x) (pos 0) ≡ f x (start + y)
 at-band width start count x y f a b =
     ap (λ l. get_or l (y * width + x) (pos 0)) (band_moved width start 0 count f (λ i j. f i (start + j)) (λ i k p q. ap (f i) (omega arith)))
     ∙ get_or-table width count x y (λ i j. f i (start + j)) a b
@@ -65,10 +65,10 @@ module _ (first count : ℕ) (a : ImageValue) where
   at-part x y left high = at-band a.width first count x y (at a) left high
 
   -- places of the rows
-  pub inside_rows : (r : Rectangle) (x y : ℕ) → first ≤ y → y < first + count → inside (rows_of first count r) x (y - first) ≡ inside r x y
+  inside_rows : (r : Rectangle) (x y : ℕ) → first ≤ y → y < first + count → inside (rows_of first count r) x (y - first) ≡ inside r x y
   inside_rows r x y from to = grind (arith, nat_tests)
 
-  pub inside_part : (r : Rectangle) (x y : ℕ) → y < count → inside (rows_of first count r) x y ≡ inside r x (first + y)
+  inside_part : (r : Rectangle) (x y : ℕ) → y < count → inside (rows_of first count r) x y ≡ inside r x (first + y)
   inside_part r x y to = grind (arith, nat_tests)
 
   pub part_is : IsImage a → first + count ≤ a.height → IsImage (part_of first count a)

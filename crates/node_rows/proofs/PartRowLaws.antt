@@ -37,7 +37,7 @@ module _ (first count from to : ℕ) (part a : ImageValue) (stands : StandsFor f
   part_height = ap (λ (d : Description). d.height) stands.description
 
   -- images that are made of both, whose rectangles and functions agree in fewer rows
-  pub made_stands : (above below : ℕ) (format : Format) (r s : Rectangle) (f g : ℕ → ℕ → ℤ) → from ≤ above → below ≤ to → ((x y : ℕ) → above ≤ y → y < below → inside s x (y - first) ≡ inside r x y) → ((x y : ℕ) → x < a.width → above ≤ y → y < below → inside r x y ≡ true → g x (y - first) ≡ f x y) → StandsFor first count above below (made part.width part.height format s g) (made a.width a.height format r f)
+  made_stands : (above below : ℕ) (format : Format) (r s : Rectangle) (f g : ℕ → ℕ → ℤ) → from ≤ above → below ≤ to → ((x y : ℕ) → above ≤ y → y < below → inside s x (y - first) ≡ inside r x y) → ((x y : ℕ) → x < a.width → above ≤ y → y < below → inside r x y ≡ true → g x (y - first) ≡ f x y) → StandsFor first count above below (made part.width part.height format s g) (made a.width a.height format r f)
   made_stands above below format r s f g after before valid same =
       record {
         description = ap (λ (d : Description). let e : Description = record { width = d.width; height = d.height; format = format } in e) stands.description;
@@ -56,13 +56,13 @@ module _ (first count from to : ℕ) (part a : ImageValue) (stands : StandsFor f
           ∙ sym (at-made_outside a.width a.height format r f x y left (omega (arith, stands.rows)) h)
 
   module _ (format : Format) (rows : ℕ) where
-    pub one_stands : (f : ℤ → ℤ) → StandsFor first count (first_right rows from) (end_right rows a.height to) (from_one format f part) (from_one format f a)
+    one_stands : (f : ℤ → ℤ) → StandsFor first count (first_right rows from) (end_right rows a.height to) (from_one format f part) (from_one format f a)
     one_stands f =
         made_stands (first_right rows from) (end_right rows a.height to) format a.valid part.valid (λ x y. f (at a x y)) (λ x y. f (at part x y)) (first_within rows from) (end_within rows a.height to)
         (λ x y p q. stands.valid x y (omega (arith, first_within rows from)) (omega (arith, end_within rows a.height to)))
         (λ x y left p q h. ap f (stands.samples x y left (omega (arith, first_within rows from)) (omega (arith, end_within rows a.height to))))
 
-    pub two_stands : (f : ℤ → ℤ → ℤ) (other b : ImageValue) → IsImage b → StandsFor first count from to other b → StandsFor first count (first_right rows from) (end_right rows a.height to) (from_two format f part other) (from_two format f a b)
+    two_stands : (f : ℤ → ℤ → ℤ) (other b : ImageValue) → IsImage b → StandsFor first count from to other b → StandsFor first count (first_right rows from) (end_right rows a.height to) (from_two format f part other) (from_two format f a b)
     two_stands f other b image beside =
         made_stands (first_right rows from) (end_right rows a.height to) format (meet_of a.valid b.valid) (meet_of part.valid other.valid) (λ x y. f (at a x y) (at b x y)) (λ x y. f (at part x y) (at other x y)) (first_within rows from) (end_within rows a.height to)
         (λ x y p q. let after : from ≤ y = omega (arith, first_within rows from) in
@@ -109,7 +109,7 @@ module _ (first count from to rows y : ℕ) (part a : ImageValue) (stands : Stan
   near row = same_near first count from to a.height rows y a.valid part.valid right stands.valid image.room.rows under row
 
   -- where what is made of windows is valid
-  pub windows_part : (border : Border) (rx x : ℕ) → inside (window_valid border rx rows part.valid) x (y - first) ≡ inside (window_valid border rx rows a.valid) x y
+  windows_part : (border : Border) (rx x : ℕ) → inside (window_valid border rx rows part.valid) x (y - first) ≡ inside (window_valid border rx rows a.valid) x y
   windows_part (Constant value) rx x = stands.valid x y right.here.0 right.here.1
   windows_part Replicate rx x = stands.valid x y right.here.0 right.here.1
   windows_part Undefined rx x = cases (cases_Bool (inside (shrunk a.valid rx rows) x y)) (cases_Bool (inside (shrunk part.valid rx rows) x (y - first)))
@@ -137,7 +137,7 @@ module _ (first count from to rows y : ℕ) (part a : ImageValue) (stands : Stan
       cases (inl e) = omega (arith, image.room.rows)
       cases (inr e) = omega arith
 
-  pub look_right : (border : Border) → HasRow a.valid y → (u v : ℤ) → IsNear rows y v → look a border u v ≡ look part border u (v -ℤ pos first)
+  look_right : (border : Border) → HasRow a.valid y → (u v : ℤ) → IsNear rows y v → look a border u v ≡ look part border u (v -ℤ pos first)
   look_right border row u v at_row =
       look-of a border u v
       ∙ look_part first rows y a.valid part.valid (near row) (at a) (at part)
@@ -148,7 +148,7 @@ module _ (first count from to : ℕ) (part a : ImageValue) (stands : StandsFor f
   right_at : (rows y : ℕ) → first_right rows from ≤ y → y < end_right rows a.height to → AreRight first count from to a.height rows y
   right_at rows y p q = are_right first count from to a.height rows y stands.rows p q
 
-  pub nine_stands : (f : List ℤ → ℤ) → StandsFor first count (first_right 1 from) (end_right 1 a.height to) (from_nine format f border part) (from_nine format f border a)
+  nine_stands : (f : List ℤ → ℤ) → StandsFor first count (first_right 1 from) (end_right 1 a.height to) (from_nine format f border part) (from_nine format f border a)
   nine_stands f =
       made_stands first count from to part a stands (first_right 1 from) (end_right 1 a.height to) format (window_valid border 1 1 a.valid) (window_valid border 1 1 part.valid)
       (λ x y. f (nine_around (look a border) (pos x) (pos y))) (λ x y. f (nine_around (look part border) (pos x) (pos y))) (first_within 1 from) (end_within 1 a.height to)
@@ -159,7 +159,7 @@ module _ (first count from to : ℕ) (part a : ImageValue) (stands : StandsFor f
       (look_right first count from to 1 y part a stands image is right border (valid_row border 1 1 a.valid x y h))
       ∙ nine_moved (look part border) first (pos x) y (omega (arith, right.part, right.here)))))
 
-  pub matrix_stands : (c : ConvolutionValue) → StandsFor first count (first_right (c.rows / 2) from) (end_right (c.rows / 2) a.height to) (from_matrix format c border part) (from_matrix format c border a)
+  matrix_stands : (c : ConvolutionValue) → StandsFor first count (first_right (c.rows / 2) from) (end_right (c.rows / 2) a.height to) (from_matrix format c border part) (from_matrix format c border a)
   matrix_stands c =
       made_stands first count from to part a stands (first_right (c.rows / 2) from) (end_right (c.rows / 2) a.height to) format (window_valid border (c.columns / 2) (c.rows / 2) a.valid) (window_valid border (c.columns / 2) (c.rows / 2) part.valid)
       (λ x y. convolved c format (look a border) (pos x) (pos y)) (λ x y. convolved c format (look part border) (pos x) (pos y)) (first_within (c.rows / 2) from) (end_within (c.rows / 2) a.height to)
