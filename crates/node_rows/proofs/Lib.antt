@@ -1,2 +1,6 @@
 pub mod LookLaws
 pub mod RowLaws
+pub mod PartLaws
+pub mod PixelPartLaws
+pub mod PartLookLaws
+pub mod PartRowLaws

@@ -15,12 +15,12 @@ use Rattle.node_rows.specs.Rows.{AgreeInRows}
 
 -- ---- what is seen, said of a rectangle and a function of places
 
-abbrev beside_of : Rectangle → (ℕ → ℕ → ℤ) → Border → ℤ → ℤ → ℤ
+abbrev pub beside_of : Rectangle → (ℕ → ℕ → ℤ) → Border → ℤ → ℤ → ℤ
 beside_of r f Undefined x y = pos 0
 beside_of r f (Constant value) x y = pos value
 beside_of r f Replicate x y = f (nearest r.x0 r.x1 x) (nearest r.y0 r.y1 y)
 
-abbrev look_of : Rectangle → (ℕ → ℕ → ℤ) → Border → ℤ → ℤ → ℤ
+abbrev pub look_of : Rectangle → (ℕ → ℕ → ℤ) → Border → ℤ → ℤ → ℤ
 look_of r f border x y = cond (holds r x y) (f (unsigned_abs x) (unsigned_abs y)) (beside_of r f border x y)
 
 beside-of : (image : ImageValue) (border : Border) (x y : ℤ) → beside image border x y ≡ beside_of image.valid (at image) border x y
@@ -28,7 +28,7 @@ beside-of image Undefined x y = refl
 beside-of image (Constant value) x y = refl
 beside-of image Replicate x y = refl
 
-look-of : (image : ImageValue) (border : Border) (x y : ℤ) → look image border x y ≡ look_of image.valid (at image) border x y
+pub look-of : (image : ImageValue) (border : Border) (x y : ℤ) → look image border x y ≡ look_of image.valid (at image) border x y
 look-of image border x y = ap (λ z. cond (holds image.valid x y) (at image (unsigned_abs x) (unsigned_abs y)) z) (beside-of image border x y)
 
 -- a row at most so many rows above row y or below it
@@ -41,33 +41,33 @@ abbrev Agree : Rectangle → ℕ → ℕ → (ℕ → ℕ → ℤ) → (ℕ → 
 Agree r rows y f g = (x z : ℕ) → x < r.x1 → z < r.y1 → y ≤ z + rows → z ≤ y + rows → f x z ≡ g x z
 
 -- the place that is looked at, where it is valid
-held_column : (r : Rectangle) (x v : ℤ) → holds r x v ≡ true → unsigned_abs x < r.x1
+pub held_column : (r : Rectangle) (x v : ℤ) → holds r x v ≡ true → unsigned_abs x < r.x1
 held_column r x v h = grind (arith, ints)
 
-held_row : (r : Rectangle) (x v : ℤ) → holds r x v ≡ true → unsigned_abs v < r.y1
+pub held_row : (r : Rectangle) (x v : ℤ) → holds r x v ≡ true → unsigned_abs v < r.y1
 held_row r x v h = grind (arith, ints)
 
-held_above : (r : Rectangle) (x v : ℤ) (rows y : ℕ) → holds r x v ≡ true → pos y ≤ℤ (v +ℤ pos rows) → y ≤ unsigned_abs v + rows
+pub held_above : (r : Rectangle) (x v : ℤ) (rows y : ℕ) → holds r x v ≡ true → pos y ≤ℤ (v +ℤ pos rows) → y ≤ unsigned_abs v + rows
 held_above r x v rows y h near = grind (arith, ints)
 
-held_below : (r : Rectangle) (x v : ℤ) (rows y : ℕ) → holds r x v ≡ true → v ≤ℤ (pos y +ℤ pos rows) → unsigned_abs v ≤ y + rows
+pub held_below : (r : Rectangle) (x v : ℤ) (rows y : ℕ) → holds r x v ≡ true → v ≤ℤ (pos y +ℤ pos rows) → unsigned_abs v ≤ y + rows
 held_below r x v rows y h near = grind (arith, ints)
 
 -- the nearest valid column, and row
-nearest_within : (low high : ℕ) (v : ℤ) → low < high → nearest low high v < high
+pub nearest_within : (low high : ℕ) (v : ℤ) → low < high → nearest low high v < high
 nearest_within low high v h = grind (arith, ints)
 
-nearest_above : (low high y rows : ℕ) (v : ℤ) → low ≤ y → y < high → pos y ≤ℤ (v +ℤ pos rows) → y ≤ nearest low high v + rows
+pub nearest_above : (low high y rows : ℕ) (v : ℤ) → low ≤ y → y < high → pos y ≤ℤ (v +ℤ pos rows) → y ≤ nearest low high v + rows
 nearest_above low high y rows v a b near = grind (arith, ints)
 
-nearest_below : (low high y rows : ℕ) (v : ℤ) → low ≤ y → y < high → v ≤ℤ (pos y +ℤ pos rows) → nearest low high v ≤ y + rows
+pub nearest_below : (low high y rows : ℕ) (v : ℤ) → low ≤ y → y < high → v ≤ℤ (pos y +ℤ pos rows) → nearest low high v ≤ y + rows
 nearest_below low high y rows v a b near = grind (arith, ints)
 
 -- a row in which something is valid
-record HasRow (r : Rectangle) (y : ℕ) : Type 0 where
-  columns : r.x0 < r.x1
-  from : r.y0 ≤ y
-  to : y < r.y1
+pub record HasRow (r : Rectangle) (y : ℕ) : Type 0 where
+  pub columns : r.x0 < r.x1
+  pub from : r.y0 ≤ y
+  pub to : y < r.y1
 
 module _ (r : Rectangle) (f g : ℕ → ℕ → ℤ) (border : Border) (rows y : ℕ) (row : HasRow r y) (agree : Agree r rows y f g) where
   beside_near : (border : Border) (x v : ℤ) → IsNear rows y v → beside_of r f border x v ≡ beside_of r g border x v
@@ -101,14 +101,14 @@ nine_near f g x y same =
     cc (above (x -ℤ pos 1), above x, above (x +ℤ pos 1), here (x -ℤ pos 1), here x, here (x +ℤ pos 1), below (x -ℤ pos 1), below x, below (x +ℤ pos 1))
 
 -- sums over a run
-sums_same : (p q : ℕ → ℤ) (x n : ℕ) → ((k : ℕ) → x ≤ k → k < x + n → p k ≡ q k) → total (map p (range_with_len x n)) ≡ total (map q (range_with_len x n))
+pub sums_same : (p q : ℕ → ℤ) (x n : ℕ) → ((k : ℕ) → x ≤ k → k < x + n → p k ≡ q k) → total (map p (range_with_len x n)) ≡ total (map q (range_with_len x n))
 sums_same p q x zero same = refl
 sums_same p q x (suc n) same =
     let here : p x ≡ q x = same x (omega arith) (omega arith) in
     let later : total (map p (range_with_len (x + 1) n)) ≡ total (map q (range_with_len (x + 1) n)) = sums_same p q (x + 1) n (λ k a b. same k (omega arith) (omega arith)) in
     cc
 
-row_same : (c : ConvolutionValue) (f g : ℤ → ℤ) (x : ℤ) (l : ℕ) → ((u : ℤ) → f u ≡ g u) → row_product c f x l ≡ row_product c g x l
+pub row_same : (c : ConvolutionValue) (f g : ℤ → ℤ) (x : ℤ) (l : ℕ) → ((u : ℤ) → f u ≡ g u) → row_product c f x l ≡ row_product c g x l
 row_same c f g x l same =
     sums_same (λ k. f (x +ℤ pos (c.columns / 2) -ℤ pos k) *ℤ coefficient c l k) (λ k. g (x +ℤ pos (c.columns / 2) -ℤ pos k) *ℤ coefficient c l k) 0 c.columns
     (λ k a b. ap (λ z. z *ℤ coefficient c l k) (same (x +ℤ pos (c.columns / 2) -ℤ pos k)))
@@ -133,7 +133,7 @@ matrix_near c f g x y same =
 shrunk_row : (r : Rectangle) (rx ry x y : ℕ) → inside (shrunk r rx ry) x y ≡ true → HasRow r y
 shrunk_row r rx ry x y h = record { columns = grind (arith, nat_tests); from = grind (arith, nat_tests); to = grind (arith, nat_tests) }
 
-valid_row : (border : Border) (rx ry : ℕ) (r : Rectangle) (x y : ℕ) → inside (window_valid border rx ry r) x y ≡ true → HasRow r y
+pub valid_row : (border : Border) (rx ry : ℕ) (r : Rectangle) (x y : ℕ) → inside (window_valid border rx ry r) x y ≡ true → HasRow r y
 valid_row Undefined rx ry r x y h = shrunk_row r rx ry x y h
 valid_row (Constant value) rx ry r x y h = record { columns = grind (arith, nat_tests); from = grind (arith, nat_tests); to = grind (arith, nat_tests) }
 valid_row Replicate rx ry r x y h = record { columns = grind (arith, nat_tests); from = grind (arith, nat_tests); to = grind (arith, nat_tests) }
