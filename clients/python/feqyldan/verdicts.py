@@ -22,6 +22,8 @@ _SUMS: FrozenSet[Formats] = frozenset({(U8, U8, U8),
                                        *((one, other, S16) for one in (U8, S16)
                                          for other in (U8, S16))})
 _BYTES: FrozenSet[Formats] = frozenset({(U8, None, U8)})
+# Those that add to what their output holds.
+ADDING = frozenset({"accumulate", "accumulate_square"})
 # What each function takes together.
 TAKEN: Dict[str, FrozenSet[Formats]] = {
     **dict.fromkeys(("and_", "or_", "xor"), _BITS),
@@ -31,19 +33,15 @@ TAKEN: Dict[str, FrozenSet[Formats]] = {
                     _BYTES),
     "threshold": frozenset({(U8, U8, U8), (S16, S16, U8)}),
     "convert_depth": frozenset({(U8, None, S16), (S16, None, U8)}),
-    "sobel3x3": frozenset({(U8, None, S16)}),
+    **dict.fromkeys(("sobel3x3", *ADDING), frozenset({(U8, None, S16)})),
     "convolve": frozenset({(U8, None, U8), (U8, None, S16)}),
     "histogram": frozenset({(U8, None, None)}), "integral_image": frozenset({(U8, None, U32)}),
     "min_max_loc": frozenset({(U8, None, None), (S16, None, None)}),
-    **dict.fromkeys(("accumulate", "accumulate_square"), frozenset({(U8, None, S16)})),
 }
-# Those that add to what their output holds.
-ADDING = frozenset({"accumulate", "accumulate_square"})
 # The format of a virtual output that leaves it open. Of the functions that aren't here it is in1's.
 OPENED = {
     **dict.fromkeys(("and_", "or_", "xor", "not_", "threshold", "box3x3", "gaussian3x3",
-                     "median3x3", "erode3x3",
-                     "dilate3x3"), U8),
+                     "median3x3", "erode3x3", "dilate3x3"), U8),
     **dict.fromkeys(("add", "subtract", "multiply", "sobel3x3", "convolve", *ADDING), S16),
     "integral_image": U32,
 }
