@@ -17,7 +17,7 @@ from collections import deque
 from typing import Callable, Deque, List, NamedTuple, Optional, Union
 
 from .errors import Closed, FeqyldanError, Refused, ServerEnded, TimedOut, UnexpectedReply, refusal
-from .wire import CODES, GREATEST_LENGTH
+from .wire import CODES, GREATEST_LENGTH, GREATEST_SIDE
 
 # A part of a frame of at most so many bytes is copied, and sent with what follows; a longer one is
 # sent as it stands.
@@ -27,9 +27,9 @@ CHUNK = 1 << 16
 # A reply stands in its buffer from here on: so its samples, 13 bytes after its start, begin at a
 # multiple of 16.
 LEAD = 3
-# No reply is longer: 9 bytes and 8192 rows of 8192 samples of 4 bytes. It is told without the four
-# bytes of itself.
-GREATEST_REPLY = 9 + 4 * 8192 * 8192
+# No reply is longer: 9 bytes, and the samples of the greatest image, of 4 bytes each. It is told
+# without the four bytes of itself.
+GREATEST_REPLY = 9 + 4 * GREATEST_SIDE**2
 # No request is longer, told likewise: the server ends where it reads a greater length.
 GREATEST_REQUEST = GREATEST_LENGTH
 

@@ -145,7 +145,7 @@ CLASSES: Dict[int, Type[Refused]] = {
         OptimizedAway, NoResources)}
 
 # What to do where a request has a reason of its own for a code.
-_SIDES = "An image has from 1 to 8192 columns, and from 1 to 8192 rows."
+_SIDES = "An image has from 1 to {0} columns, and from 1 to {0} rows.".format(wire.GREATEST_SIDE)
 _OF_A_NODE = ("A node's images are not of one size; what is open in a virtual image is taken from "
               "its writer's input.")
 _FORMATS_OF_A_NODE = ("A node's formats are none that its function takes; what is open in a "

@@ -82,7 +82,7 @@ class Graph(Named, Functions[Node]):
                       height: Optional[int] = None) -> VirtualImage:
         """What one node gives to others. What isn't declared is taken from the node that writes
         it."""
-        allowed = "a whole number from 1 to 8192, or None where it is open"
+        allowed = f"a whole number from 1 to {wire.GREATEST_SIDE}, or None where it is open"
         columns, rows = (None if side is None else within(side, f"a virtual image's {what}",
                                                           UNSIGNED, allowed)
                          for side, what in ((width, "width"), (height, "height")))

@@ -215,7 +215,7 @@ class AnyImage(Readable):
     @valid.setter
     def valid(self, rectangle: Tuple[int, int, int, int]) -> None:
         sides = tuple(within(side, f"a side of {self}'s valid rectangle", UNSIGNED,
-                             "a whole number up to 8192")
+                             f"a whole number up to {wire.GREATEST_SIDE}")
                       for side in rectangle)
         if len(sides) != 4:
             raise ValueError(f"a rectangle is x0, y0, x1, y1, and not {rectangle!r}")
@@ -345,7 +345,7 @@ class MinMax(Named):
 
 def sides_of_frame(width: Any, height: Any) -> Tuple[int, int]:
     """The sides of an image, if a frame can say them."""
-    allowed = "a whole number from 1 to 8192"
+    allowed = f"a whole number from 1 to {wire.GREATEST_SIDE}"
     return within(width, "an image's width", UNSIGNED, allowed), within(height, "an image's height",
                                                                         UNSIGNED, allowed)
 

@@ -211,6 +211,8 @@ CREATES = (
 OPEN = 0
 # The lengths that a request frame can have, which count what comes after them.
 LEAST_LENGTH, GREATEST_LENGTH = 3, 536_870_912
+# The most columns of an image, and the most rows.
+GREATEST_SIDE = 8192
 SAMPLE_LETTERS = {U8: "B", S16: "h", U32: "I"}
 FORMAT_NAMES = {OPEN: "open", **{fmt: fmt.name for fmt in Format}}
 ABSENT = struct.pack(">IB", 0, 255)
