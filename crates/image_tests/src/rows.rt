@@ -83,8 +83,8 @@ macro_rules! assert_pairs {
     };
 }
 
-/// Adds a row of bytes to sums at each length, and compares each sum with the formula of the byte at
-/// its place and of what stood there.
+/// Adds a row of bytes to sums at each length, and compares each sum with the formula of the byte
+/// at its place and of what stood there.
 macro_rules! assert_sums {
     ($rt:expr;
         |$row:ident, $sums:ident| $call:expr;
