@@ -1,6 +1,6 @@
 -- What a text's header tells of the picture that the text stands for.
-use Rattle.std.proofs.Common.{◌≡◌, ℕ, ℤ, ◌≤◌, ◌&&◌, Bool, true, false, List, Some, None, Result, Ok, Err, IsTrue, if◌then◌else◌, refl, ap, sym, ◌∙◌, arith}
-use Rattle.std.specs.Prelude.{min, IfOk, OnOk, IfErr}
+use Rattle.std.proofs.Common.{◌≡◌, ℕ, ℤ, ◌&&◌, Bool, true, false, List, Some, None, Result, Ok, Err, IsTrue, if◌then◌else◌, refl, ap, sym, ◌∙◌, arith}
+use Rattle.std.specs.Prelude.{min, IfOk}
 use Rattle.std.proofs.lemmas.Bool.Decides.{nat_tests}
 use Rattle.vx_base.specs.Description.{Description, is_side, sample_count}
 use Rattle.vx_base.specs.Picture.{PictureValue}
@@ -9,7 +9,7 @@ use Rattle.pgm_images.specs.declared.fault.PgmFault.TheVariants.{InvalidFormat, 
 use Rattle.pgm_images.specs.declared.header.Header.{Header}
 use Rattle.pgm_images.specs.Marks.{BeginsWith}
 use Rattle.pgm_images.specs.Header.{HeaderValue, take_header, is_maxval, format_up_to, header_description, KeptHeader}
-use Rattle.pgm_images.specs.Raster.{numbers_in, samples_up_to, Reads}
+use Rattle.pgm_images.specs.Raster.{numbers_in, samples_up_to}
 use Rattle.pgm_images.specs.Reading.{picture_with, picture_under, picture_after, reading, description_after, description_in, is_headed}
 
 -- ---- a picture that is read has the description that the header tells
@@ -62,9 +62,6 @@ allowed_by value d e = known (is_side value.width && is_side value.height) (is_m
 kept_same : (n kept : ℕ) → is_maxval n ≡ true → kept ≡ min n 65535 → kept ≡ n
 kept_same n kept is least = grind (arith, nat_tests)
 
-maxval_low : (n : ℕ) → is_maxval n ≡ true → n ≤ 32767
-maxval_low n is = grind (arith, nat_tests)
-
 -- such a header, of which the code keeps 16 bits of each number
 pub record Headed (text : List ℕ) (d : Description) (header : Header) (rest : List ℕ) : Type 0 where
   pub allowed : IsTrue (is_maxval header.maxval)
@@ -84,13 +81,3 @@ headed text d header rest told kept =
           ∙ ap (λ m. picture_with d (samples_up_to m (numbers_in value.encoding m (sample_count d) rest))) (sym maxval)
           ∙ ap (λ x. picture_with d (samples_up_to header.maxval (numbers_in x header.maxval (sample_count d) rest))) (sym kept.encoding);
     }
-
-pub decided_ok : {A : Type 0} (text : List ℕ) (d : Description) (told : Result (List ℤ) PgmFault) (samples : List ℤ) (result : Result A PgmFault) → reading text ≡ picture_with d told
-    → Reads told samples result → OnOk result (reading text ≡ Ok (record { description = d; samples = samples }))
-decided_ok text d told samples (Ok u) is reads = is ∙ ap (picture_with d) reads.ok
-decided_ok text d told samples (Err fault) is reads = tt
-
-pub decided_err : {A : Type 0} (text : List ℕ) (d : Description) (told : Result (List ℤ) PgmFault) (samples : List ℤ) (result : Result A PgmFault) → reading text ≡ picture_with d told
-    → Reads told samples result → IfErr result (λ fault. reading text ≡ Err fault)
-decided_err text d told samples (Ok u) is reads = tt
-decided_err text d told samples (Err fault) is reads = is ∙ ap (picture_with d) reads.err

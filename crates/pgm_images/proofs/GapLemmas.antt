@@ -16,10 +16,6 @@ space_is b is = grind (arith, nat_tests)
 comment_is : (b : ℕ) → begins_comment b ≡ true → is_ascii_digit b ≡ false
 comment_is b is = grind (arith, nat_tests)
 
-either_of : (a b : Bool) → (a || b) ≡ false → (a ≡ false) × (b ≡ false)
-either_of true b e = cc
-either_of false b e = (refl, e)
-
 or_right : (a b : Bool) → b ≡ true → (a || b) ≡ true
 or_right true b e = refl
 or_right false b e = e

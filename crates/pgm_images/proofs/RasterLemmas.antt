@@ -18,10 +18,6 @@ after_one : (done : List ℕ) (n : ℕ) (o : Option (List ℕ)) → after done (
 after_one done n None = refl
 after_one done n (Some others) = ap Some (simp append_assoc)
 
-pub after_none : (o : Option (List ℕ)) → after [] o ≡ o
-after_none None = refl
-after_none (Some others) = refl
-
 and_true : (b : Bool) → (b && true) ≡ b
 and_true true = refl
 and_true false = refl
@@ -33,11 +29,6 @@ so_many-more take is_end zero n done rest others whole some is next = absurd (om
 so_many-more take is_end (suc left) n done rest others whole some is next =
     let less : suc left - 1 ≡ left = omega arith in
     rw less (is ∙ rw next (after_one done n (so_many take is_end left others)))
-
-so_many-none : (take : List ℕ → BeginsWith ℕ) (is_end : List ℕ → Bool) (left : ℕ) (done rest : List ℕ) (whole : Option (List ℕ)) → 0 < left
-    → whole ≡ after done (so_many take is_end left rest) → take rest ≡ None → whole ≡ None
-so_many-none take is_end zero done rest whole some is none = absurd (omega arith)
-so_many-none take is_end (suc left) done rest whole some is none = is ∙ rw none refl
 
 -- ---- numbers that were written over samples
 
@@ -77,10 +68,6 @@ filled_more maxval n kept above samples sample numbers low least is filled =
           ∙ ap (λ x. map pos numbers ++ x ∷ []) (is ∙ ap pos (low_kept maxval n kept low least now))
           ∙ sym (map-append pos numbers (n ∷ []));
     }
-
--- none was written
-pub filling_none : (take : List ℕ → BeginsWith ℕ) (is_end : List ℕ → Bool) (maxval count : ℕ) (text : List ℕ) → Filling take is_end maxval false [] count text (so_many take is_end count text)
-filling_none take is_end maxval count text = ([], record { above = refl; samples = λ e. refl }, sym (after_none (so_many take is_end count text)))
 
 -- one more was written
 pub filling_more : (take : List ℕ → BeginsWith ℕ) (is_end : List ℕ → Bool) (maxval left kept : ℕ) (above : Bool) (samples : List ℤ) (sample : ℤ) (rest others : List ℕ) (whole : Option (List ℕ)) → 0 < left

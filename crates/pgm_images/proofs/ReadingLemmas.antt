@@ -1,7 +1,6 @@
 -- What was read has the samples that its header tells.
 use Rattle.std.proofs.Common.{◌≡◌, ℕ, ℤ, pos, zero, suc, Bool, true, false, List, [], ◌∷◌, length, map, Option, Some, None, Result, Ok, Err, if◌then◌else◌, refl, ap, sym, ◌∙◌}
 use Rattle.std.specs.Option.{option_map}
-use Rattle.std.proofs.lemmas.List.{length-map}
 use Rattle.pgm_images.specs.declared.fault.PgmFault.{PgmFault}
 use Rattle.pgm_images.specs.declared.fault.PgmFault.TheVariants.{InvalidValue}
 use Rattle.pgm_images.specs.declared.header.Encoding.{Encoding}
@@ -49,9 +48,3 @@ samples_of maxval (Some numbers) samples e = known (all_up_to maxval numbers) re
         → (others : List ℕ) × (Some numbers ≡ Some others) × (all_up_to maxval others ≡ true) × (samples ≡ map pos others)
     known true is e = (numbers, refl, is, cc)
     known false is e = cc
-
-pub samples_size : (encoding : Encoding) (maxval count : ℕ) (text : List ℕ) (samples : List ℤ) → samples_up_to maxval (numbers_in encoding maxval count text) ≡ Ok samples → length samples ≡ count
-samples_size encoding maxval count text samples e =
-    let (numbers, is, below, same) = samples_of maxval (numbers_in encoding maxval count text) samples e in
-    let long : length (map pos numbers) ≡ length numbers = simp length-map in
-    ap length same ∙ long ∙ numbers_size encoding maxval count text numbers is
