@@ -13,4 +13,4 @@ pub mod VerdictLemmas
 pub mod NodeVerdictLemmas
 pub mod SingleLemmas
 pub mod SuitLemmas
-mod VerifyLemmas
+pub mod VerifyLemmas

@@ -3,7 +3,7 @@ use Rattle.std.proofs.Common.{◌≡◌, ℕ, ◌+◌, ◌≤◌, Bool, true, fa
 use Rattle.std.specs.Prelude.{Option, Some, None, ◌==◌, ◌||◌}
 use Rattle.std.specs.List.{list_any, flat_map}
 use Rattle.std.specs.List.Sorted.{IsPermutation}
-use Rattle.std.proofs.lemmas.Bool.{cases_Bool, or_parts, or_from, and_parts, and_from, eqb-true, eq-eqb}
+use Rattle.std.proofs.lemmas.Bool.{cases_Bool, or_parts, or_from, and_parts, and_from, eq-eqb}
 use Rattle.std.proofs.lemmas.Grind.{flat_map-append}
 use Rattle.std.proofs.lemmas.List.Folds.{list_any-append}
 use Rattle.std.proofs.lemmas.List.Recursion.{is_sum_by}
@@ -19,11 +19,6 @@ use Rattle.graph_verify.proofs.MemberLemmas.{In-right, In-from_any, any-from_In,
 use Rattle.graph_verify.proofs.OrderLemmas.{is_fed}
 
 -- ---- cells
-
-same_slot-true : (a b : Option ℕ) → same_slot a b ≡ true → a ≡ b
-same_slot-true None None h = refl
-same_slot-true (Some x) (Some y) h = ap {B = Option ℕ} Some (eqb-true x y h)
-same_slot-true a b h = absurd (cc h)
 
 pub same_cell-true : (a b : Cell) → same_cell a b ≡ true → a ≡ b
 same_cell-true a b h = grind (arith, and_parts (a.name == b.name) (same_slot a.slot b.slot) h)

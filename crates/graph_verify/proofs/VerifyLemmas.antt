@@ -47,7 +47,8 @@ use Rattle.graph_verify.proofs.OutlineLemmas.{outlines_solve, no_cycle_in_steps,
 -- ---- the bytes of the virtual images
 
 module _ (is : Cell → Operand) where
-  sum_of_outputs : (f : Cell → ℕ) (g : List Node) → sum_by f (virtual_outputs is g) ≡ sum_by (λ n. sum_by f (filter (λ c. is_virtual (is c)) (outputs n))) g
+  -- the sum over the virtual images that nodes write, node by node
+  pub sum_of_outputs : (f : Cell → ℕ) (g : List Node) → sum_by f (virtual_outputs is g) ≡ sum_by (λ n. sum_by f (filter (λ c. is_virtual (is c)) (outputs n))) g
   sum_of_outputs f [] = refl
   sum_of_outputs f (n ∷ ns) =
       let here = filter (λ c. is_virtual (is c)) (outputs n) in
@@ -113,7 +114,7 @@ first_fault-None is (m ∷ nodes) h n i =
     neither (Some a) b h = absurd (cc h)
 
 -- a node without a fault has a first input with a format
-first_format : (function : Function) (o : Operands) → node_fault function o ≡ None → (f : Format) × (operand_format o.in1 ≡ Some f)
+pub first_format : (function : Function) (o : Operands) → node_fault function o ≡ None → (f : Format) × (operand_format o.in1 ≡ Some f)
 first_format function o h = grind arith
 
 -- an outline of which nothing is open

@@ -35,6 +35,7 @@ use Rattle.object_table.specs.Object.{graph_value}
 use Rattle.object_table.specs.Table.{named, used_more, used_less, is_kept, kept, IsTable}
 use Rattle.object_table.specs.Uses.{used_names, nodes_in, names_used_by, names_used, times}
 use Rattle.object_table.proofs.KeptLemmas.{ended-one, shown-ended}
+use Rattle.object_table.proofs.SlotLemmas.{graph_of_kind}
 use Rattle.object_table.proofs.UseLemmas.{times-append}
 use Rattle.object_table.proofs.EntryLemmas.{none_named, InOrder, in_order, named_is, if_live, All-written, sum-written, charge_is}
 use Rattle.vx_base.specs.declared.slots.TheConstants.{GREATEST_SLOTS}
@@ -60,14 +61,14 @@ All-back : (P : ℕ → Type 0) (xs ys : List ℕ) → All P (xs ++ ys) → All 
 All-back P [] ys h = h
 All-back P (x ∷ xs) ys h = All-back P xs ys (All-tail P x (xs ++ ys) h)
 
+pub All-flat_map : {X Y : Type 0} (f : X → List Y) (P : Y → Type 0) (xs : List X) → All (λ x. All P (f x)) xs → All P (flat_map f xs)
+All-flat_map f P [] h = All-nil P
+All-flat_map f P (x ∷ xs) h = All-append P (f x) (flat_map f xs) (All-head (λ y. All P (f y)) x xs h) (All-flat_map f P xs (All-tail (λ y. All P (f y)) x xs h))
+
 module _ {X : Type 0} (f : X → List ℕ) where
   times-flat_map : (name : ℕ) (xs : List X) → times name (flat_map f xs) ≡ sum_by (λ x. times name (f x)) xs
   times-flat_map name [] = refl
   times-flat_map name (x ∷ xs) = grind (arith, times-flat_map name xs, times-append name (f x) (flat_map f xs), sum_by-cons (λ x. times name (f x)) x xs)
-
-  All-flat_map : (P : ℕ → Type 0) (xs : List X) → All (λ x. All P (f x)) xs → All P (flat_map f xs)
-  All-flat_map P [] h = All-nil P
-  All-flat_map P (x ∷ xs) h = All-append P (f x) (flat_map f xs) (All-head (λ x. All P (f x)) x xs h) (All-flat_map P xs (All-tail (λ x. All P (f x)) x xs h))
 
   All-parts : (P : ℕ → Type 0) (xs : List X) → All P (flat_map f xs) → All (λ x. All P (f x)) xs
   All-parts P [] h = All-nil (λ x. All P (f x))
@@ -145,11 +146,6 @@ All-without_node P g number h =
     let flat = λ (nodes : List Numbered). flat_map-map used_names (λ (n : Numbered). n.node) nodes in
     subst (All P) (sym (flat (filter test g.nodes)))
     (All-flat_map names P (filter test g.nodes) (All-filter test (λ n. All P (names n)) g.nodes (All-parts names P g.nodes (subst (All P) (flat g.nodes) h))))
-
--- an object of a graph's kind is a graph
-graph_is : (object : ObjectValue) → object_kind object ≡ kind.Graph → object ≡ GraphObject (graph_value object)
-graph_is (GraphObject graph) h = refl
-graph_is other h = cc
 
 -- ---- whether a name is used
 
@@ -362,7 +358,7 @@ module _ (next charge : ℕ) (entries : List (ℕ × Entry)) (h : IsTable next c
     (bytes : object_bytes new.object ≡ object_bytes old.object) (live : old.live ≡ true) (still : new.live ≡ old.live) (graph : object_kind old.object ≡ kind.Graph) (node : Node) where
   -- what the graph's nodes use
   before_is : (k : ℕ) → used_by (k, old) ≡ names_in (GraphObject (graph_value old.object))
-  before_is k = used_when_live k old live ∙ ap names_in (graph_is old.object graph)
+  before_is k = used_when_live k old live ∙ ap names_in (graph_of_kind old.object graph)
 
   now_is : (k : ℕ) (g : GraphValue) → new.object ≡ GraphObject g → used_by (k, new) ≡ names_in (GraphObject g)
   now_is k g is = used_when_live k new (still ∙ live) ∙ ap names_in is
