@@ -1,10 +1,19 @@
-//! Worked examples: frames, in bytes.
+//! Worked examples: lengths, and frames in bytes.
 ghost use Rattle.std.specs.Prelude.{◌≡◌, [], ◌∷◌, None};
 ghost use Rattle.client_model.specs.declared.request.Request.TheVariants.{ReadImage, RemoveNode};
 ghost use Rattle.client_model.specs.declared.reply.Reply.TheVariants.{Node};
 ghost use Rattle.vx_requests.specs.Frame.Frames.{frame_bytes, request_frame, reply_bytes};
+ghost use Rattle.vx_requests.specs.Frame.Frames.{IsLength};
 ghost use Rattle.vx_requests.specs.Serving.Clients.{spelled};
 ghost use Rattle.vx_wire.specs.Replies.{said_of};
+
+/// The least length and the greatest, and those beyond.
+pub fn lengths()
+    ensures least { IsLength 3 }
+    ensures greatest { IsLength 536870912 }
+    ensures too_short { IsLength 2 → ⊥ }
+    ensures too_long { IsLength 536870913 → ⊥ }
+{}
 
 /// The frames in which client 258 asks for image 7, and removes node 3 from graph 7.
 pub fn frames()
