@@ -2,7 +2,6 @@
 use Rattle.object_table.proofs.AgeLemmas.{held_aged}
 use Rattle.object_table.specs.Object.{aged_object}
 use Rattle.object_table.specs.Ageing.{aged_under}
-use Rattle.std.proofs.lemmas.Bool.Decides.{nat_tests}
 use Rattle.std.proofs.Common.{◌≡◌, ◌≢◌, ℕ, ◌<◌, Bool, true, false, eqb, List, [], ◌∷◌, length, map, Option, Some, None, Result, Ok, Err, IsTrue, IfSome, refl, sym, ap, subst, ◌∙◌, arith}
 use Rattle.std.specs.Prelude.{All, slice_get, unwrap_or, ◌==◌, if◌then◌else◌}
 use Rattle.std.specs.List.{AllPairs, list_any}
@@ -295,17 +294,11 @@ virtual_held (Some k) (Some other) e = absurd (cc)
 
 -- ---- delays that age then
 
--- a name is registered, whichever way the two are compared
-registered_as : (names : List ℕ) (name : ℕ) → list_any (λ n. n == name) names ≡ list_any (λ n. name == n) names
-registered_as [] name = refl
-registered_as (n ∷ names) name = grind (arith, registered_as names name, nat_tests)
-
 -- what isn't under one of the names is held still
 unregistered_stays : (graph : GraphValue) (objects : List Named) (cell : Cell) → is_registered graph cell.name ≡ false → held (aged_under graph.delays objects) cell ≡ held objects cell
 unregistered_stays graph objects cell apart =
-    let test : list_any (λ n. cell.name == n) graph.delays ≡ false = sym (registered_as graph.delays cell.name) ∙ apart in
     ap (option_and_then (in_slot cell.slot))
-    (held_aged graph.delays objects cell.name ∙ ap (λ b. option_map (λ object. if b then aged_object object else object) (object_held objects cell.name)) test ∙ as_it_is (object_held objects cell.name))
+    (held_aged graph.delays objects cell.name ∙ ap (λ b. option_map (λ object. if b then aged_object object else object) (object_held objects cell.name)) apart ∙ as_it_is (object_held objects cell.name))
   where
     as_it_is : (o : Option ObjectValue) → option_map (λ object. if false then aged_object object else object) o ≡ o
     as_it_is None = refl
@@ -314,7 +307,7 @@ unregistered_stays graph objects cell apart =
 -- and so is a virtual image
 virtual_unaged : (names : List ℕ) (objects : List Named) (cell : Cell) → option_map is_virtual_object (object_held objects cell.name) ≡ Some true → held (aged_under names objects) cell ≡ held objects cell
 virtual_unaged names objects cell virtual =
-    ap (option_and_then (in_slot cell.slot)) (held_aged names objects cell.name ∙ as_it_is (list_any (λ n. cell.name == n) names) (object_held objects cell.name) virtual)
+    ap (option_and_then (in_slot cell.slot)) (held_aged names objects cell.name ∙ as_it_is (list_any (λ n. n == cell.name) names) (object_held objects cell.name) virtual)
   where
     as_it_is : (b : Bool) (o : Option ObjectValue) → option_map is_virtual_object o ≡ Some true → option_map (λ object. if b then aged_object object else object) o ≡ o
     as_it_is b None e = cc

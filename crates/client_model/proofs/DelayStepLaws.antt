@@ -115,7 +115,7 @@ aged_object_lasts (DelayObject images) is = (aged_is images is, aged_lasts image
 aged_object_lasts other is = (is, refl)
 
 aged_if_lasts : (names : List ℕ) (o : Named) → IsObject o.object → IsObject (aged_if names o).object × (lasting_named (aged_if names o) ≡ lasting_named o)
-aged_if_lasts names o is = by_test (list_any (λ name. o.name == name) names)
+aged_if_lasts names o is = by_test (list_any (λ name. name == o.name) names)
   where
     by_test : (b : Bool) → (λ (p : Named). IsObject p.object × (lasting_named p ≡ lasting_named o)) (if b then record o { object = aged_object o.object } else o)
     by_test true =

@@ -58,21 +58,21 @@ module _ (t : Context) (next : ℕ) (entries : List (ℕ × Entry)) (view : ◌�
 pub aged_more : (names : List ℕ) (k d : ℕ) (objects : List Named) → AllPairs (λ a b. a ≢ b) names → k < length names → aged_under (get_or names k d ∷ []) (aged_under (take k names) objects) ≡ aged_under (take (k + 1) names) objects
 aged_more names k d [] apart there = refl
 aged_more names k d (o ∷ objects) apart there =
-    ap (λ (p : Named). p ∷ aged_under (get_or names k d ∷ []) (aged_under (take k names) objects)) (one (o.name == get_or names k d) refl)
+    ap (λ (p : Named). p ∷ aged_under (get_or names k d ∷ []) (aged_under (take k names) objects)) (one (get_or names k d == o.name) refl)
     ∙ ap (λ l. aged_if (take (k + 1) names) o ∷ l) (aged_more names k d objects apart there)
   where
     is_it : ℕ → Bool
-    is_it = λ n. o.name == n
+    is_it = λ n. n == o.name
 
     before : (i e : ℕ) → i < length (take k names) → get_or names k d ≡ o.name → is_it (get_or (take k names) i e) ≡ false
     before i e less same =
         let below : i < k = omega (arith, less, length-take k names) in
-        ne_eqb o.name (get_or (take k names) i e) (λ equal. apart i k d below there (get_or_default names i d e (omega (arith, below, there)) ∙ sym (get_or-take k names i e below) ∙ sym equal ∙ sym same))
+        ne_eqb (get_or (take k names) i e) o.name (λ equal. apart i k d below there (get_or_default names i d e (omega (arith, below, there)) ∙ sym (get_or-take k names i e below) ∙ equal ∙ sym same))
 
-    one : (b : Bool) → (o.name == get_or names k d) ≡ b → aged_if (get_or names k d ∷ []) (aged_if (take k names) o) ≡ aged_if (take (k + 1) names) o
+    one : (b : Bool) → (get_or names k d == o.name) ≡ b → aged_if (get_or names k d ∷ []) (aged_if (take k names) o) ≡ aged_if (take (k + 1) names) o
     one true same =
-        let here : o.name ≡ get_or names k d = eqb-true o.name (get_or names k d) same in
-        grind (arith, list_any_more is_it names k d there, list_any_none is_it (take k names) (λ i e less. before i e less (sym here)))
+        let here : get_or names k d ≡ o.name = eqb-true (get_or names k d) o.name same in
+        grind (arith, list_any_more is_it names k d there, list_any_none is_it (take k names) (λ i e less. before i e less here))
     one false other = grind (arith, list_any_more is_it names k d there, other)
 
 -- no name
@@ -83,7 +83,7 @@ aged_none (o ∷ objects) = ap (λ l. o ∷ l) (aged_none objects)
 -- ---- what is held then
 
 pub held_aged : (names : List ℕ) (objects : List Named) (name : ℕ)
-    → object_held (aged_under names objects) name ≡ option_map (λ object. if list_any (λ n. name == n) names then aged_object object else object) (object_held objects name)
+    → object_held (aged_under names objects) name ≡ option_map (λ object. if list_any (λ n. n == name) names then aged_object object else object) (object_held objects name)
 held_aged names [] name = refl
 held_aged names (o ∷ objects) name = grind (arith, held_aged names objects name, eqb-true o.name name)
 

@@ -20,7 +20,7 @@ registered objects name graph delay = if is_registered graph delay then objects 
 
 -- what is held under a name, one step later where it is a delay and the name is one of these
 abbrev pub aged_if : List ℕ → Named → Named
-aged_if names o = if list_any (λ name. o.name == name) names then record o { object = aged_object o.object } else o
+aged_if names o = if list_any (λ name. name == o.name) names then record o { object = aged_object o.object } else o
 
 -- the objects, once each delay that is held under one of these names is aged
 abbrev pub aged_under : List ℕ → List Named → List Named
