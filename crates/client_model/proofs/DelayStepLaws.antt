@@ -1,7 +1,7 @@
 -- A new delay, one whose images come one step later, and one that ages with a graph, keep the limits, and what is held.
-use Rattle.std.proofs.Common.{◌≡◌, ◌≢◌, ◌⊎◌, inl, inr, ℕ, ◌<◌, ◌≤◌, false, IfOk, IsTrue, List, [], ◌∷◌, length, map, get_or, replicate, refl, sym, ap, ◌∙◌, arith, Option, Some, None, IfSome, Result, Ok, Err, rules}
+use Rattle.std.proofs.Common.{◌≡◌, ◌⊎◌, inl, inr, ℕ, ◌<◌, ◌≤◌, false, IfOk, IsTrue, List, [], ◌∷◌, length, map, get_or, replicate, refl, sym, ap, ◌∙◌, arith, Option, Some, None, IfSome, Result, Ok, Err, rules}
 use Rattle.std.specs.Prelude.{All, ◌==◌, Bool, true, if◌then◌else◌}
-use Rattle.std.specs.List.{list_any, AllPairs}
+use Rattle.std.specs.List.{list_any}
 use Rattle.std.specs.Option.{option_map, option_and_then}
 use Rattle.std.proofs.lemmas.Bool.{cases_lt}
 use Rattle.std.proofs.lemmas.List.{length-map, length-take, length-drop, length-append, get_or-map}
@@ -11,7 +11,7 @@ use Rattle.vx_base.specs.declared.node.Node.{Node}
 use Rattle.vx_base.specs.Cell.{Cell, cell_of}
 use Rattle.vx_base.specs.Description.{Description}
 use Rattle.vx_base.specs.Image.{ImageValue, IsImage, new_image, image_over, description_of}
-use Rattle.vx_base.specs.Graph.{GraphValue, IsGraph, is_registered, with_delays}
+use Rattle.vx_base.specs.Graph.{is_registered}
 use Rattle.vx_base.specs.Object.{ObjectValue, DelayObject, GraphObject, IsObject, IsDelay}
 use Rattle.vx_base.specs.Rectangle.{empty}
 use Rattle.vx_base.specs.Slots.{is_slot_count}
@@ -22,6 +22,7 @@ use Rattle.object_table.specs.Object.{aged_object}
 use Rattle.object_table.specs.Context.{Context, object_named, with_objects, with_graph}
 use Rattle.object_table.proofs.AgeLemmas.{apart_and}
 use Rattle.object_table.proofs.DelayLemmas.{alike, count_is, new_delay_is}
+use Rattle.graph_verify.proofs.GraphLemmas.{IsGraph-with_delays}
 use Rattle.client_model.specs.declared.refusal.Refusal.{Refusal}
 use Rattle.client_model.specs.Allowance.{Allowance}
 use Rattle.client_model.specs.Operands.{image_of}
@@ -134,10 +135,6 @@ aged_under_last names (o ∷ objects) is =
       lasting = ap (λ l. l ∷ map lasting_named (aged_under names objects)) first.1 ∙ ap (λ l. lasting_named o ∷ l) rest.lasting;
     }
 
--- a graph with which other delays age
-with_delays_is : (graph : GraphValue) (delays : List ℕ) → IsGraph graph → AllPairs (λ a b. a ≢ b) delays → IsGraph (with_delays graph delays)
-with_delays_is graph delays is apart = record { left = is.left; count = is.count; numbers = is.numbers; below = is.below; nodes = is.nodes; delays = apart }
-
 -- a delay that is registered keeps the limits, and what is held
 register_named_keeps : (limits : Allowance) (c : Context) (graph delay : ℕ) (first second : Option ObjectValue) → KeepsLimits limits c → IfSome first IsObject → IfSome first (λ x. object_held c.objects graph ≡ Some x)
     → Keeps limits c (register_named c graph delay first second)
@@ -153,7 +150,7 @@ register_named_keeps limits c graph delay (Some (GraphObject found)) (Some (Dela
     by_test false new =
         with_object_leaves limits (λ name. false) c h (cell_of graph, GraphObject (one_more c.objects found delay))
         (record {
-          is_object = with_delays_is found (one_more c.objects found delay).delays is (apart_and found.delays (is_there c.objects) delay is.delays new);
+          is_object = IsGraph-with_delays found (one_more c.objects found delay).delays is (apart_and found.delays (is_there c.objects) delay is.delays new);
           lasts = ap (λ o. option_map lasting (option_and_then (in_slot None) o)) held;
         })
 register_named_keeps limits c graph delay (Some (GraphObject found)) (Some other) h is held = tt

@@ -1,7 +1,7 @@
--- Graphs with one more node, and with one less.
-use Rattle.std.proofs.Common.{◌≡◌, ℕ, ◌+◌, ◌<◌, Bool, true, List, [], ◌∷◌, length, IsTrue, refl, ◌∙◌, arith}
+-- Graphs with one more node, with one less, and with other delays.
+use Rattle.std.proofs.Common.{◌≡◌, ◌≢◌, ℕ, ◌+◌, ◌<◌, Bool, true, List, [], ◌∷◌, length, IsTrue, refl, ◌∙◌, arith}
 use Rattle.std.specs.Prelude.{Some, ◌==◌, not, find}
-use Rattle.std.specs.List.{filter, list_any, items_where_true}
+use Rattle.std.specs.List.{filter, list_any, items_where_true, AllPairs}
 use Rattle.std.specs.List.Retain.{IsFiltered, ReturnsInTurn}
 use Rattle.std.specs.Option.{is_none}
 use Rattle.std.proofs.lemmas.Bool.{cases_Bool, eqb-true}
@@ -14,7 +14,7 @@ use Rattle.std.proofs.lemmas.List.Quantifiers.{all_pairs_push}
 use Rattle.vx_base.specs.declared.node.Node.{Node}
 use Rattle.vx_base.specs.declared.numbered.Numbered.{Numbered}
 use Rattle.vx_base.specs.Node.{IsNode}
-use Rattle.vx_base.specs.Graph.{GraphValue, IsGraph, can_add, with_node, without_node}
+use Rattle.vx_base.specs.Graph.{GraphValue, IsGraph, can_add, with_node, without_node, with_delays}
 
 module _ {X : Type 0} where
   pub is_none-find : (p : X → Bool) (xs : List X) → is_none (find p xs) ≡ not (list_any p xs)
@@ -71,3 +71,7 @@ IsGraph-without_node g number h =
       nodes = All-filter keeps (λ n. IsNode n.node) g.nodes h.nodes;
       delays = h.delays;
     }
+
+-- one with which other delays age, each once
+pub IsGraph-with_delays : (g : GraphValue) (delays : List ℕ) → IsGraph g → AllPairs (λ a b. a ≢ b) delays → IsGraph (with_delays g delays)
+IsGraph-with_delays g delays h apart = record { left = h.left; count = h.count; numbers = h.numbers; below = h.below; nodes = h.nodes; delays = apart }
