@@ -66,10 +66,6 @@ module _ (c : Context) (n : Node) where
   abbrev verdict_part : Option Refusal
   verdict_part = option_map Rejected (option_and_then (verdict_on n) (operands_in c.objects n))
 
-  -- a cell that names nothing of its kind
-  pub operands_refuse : (refusal : Refusal) → Some refusal ≡ operands_refusal None c.objects (operands n) → immediate c n ≡ Err refusal
-  operands_refuse refusal e = refused_is refusal (ap (λ r. option_or r (option_or (away_refusal c.objects n) verdict_part)) (sym e))
-
   module _ (found : All (IsFound c.objects) (operands n)) (known : None ≡ operands_refusal None c.objects (operands n)) where
     abbrev held_operands : Operands
     held_operands = operands_of (operand_held c.objects) n

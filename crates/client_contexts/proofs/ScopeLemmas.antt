@@ -1,7 +1,6 @@
 -- Operands that are found, in the scope of a graph or of none.
-use Rattle.std.proofs.Common.{◌≡◌, ℕ, IsTrue, List, [], ◌∷◌, Option, Some, None, IfSome, refl, sym, ap, subst, ◌∙◌}
-use Rattle.std.specs.Prelude.{All, Result, Ok, OnOk, is_some}
-use Rattle.std.specs.Option.{option_map, option_and_then}
+use Rattle.std.proofs.Common.{◌≡◌, ℕ, IsTrue, List, [], ◌∷◌, Option, Some, None, IfSome, sym, ap, subst, ◌∙◌}
+use Rattle.std.specs.Prelude.{All, Result, Ok, OnOk}
 use Rattle.std.proofs.lemmas.List.Elements.{All-nil, All-cons, All-append}
 use Rattle.vx_base.specs.declared.kind.Kind.{Kind}
 use Rattle.vx_base.specs.declared.kind.Kind.TheVariants as kind
@@ -11,22 +10,18 @@ use Rattle.vx_base.specs.Cell.{Cell, cell_of}
 use Rattle.vx_base.specs.Function.{parameters}
 use Rattle.vx_base.specs.Node.{operands, second_kind, with_kind}
 use Rattle.vx_base.specs.Object.{ObjectValue, object_kind}
-use Rattle.object_table.specs.Context.{object_named}
-use Rattle.object_table.specs.Delay.{in_slot}
-use Rattle.object_table.specs.Named.{Named, object_held}
-use Rattle.object_table.specs.Table.{IsUnder}
+use Rattle.object_table.specs.Named.{Named}
 use Rattle.graph_verify.specs.declared.operand.Operands.{Operands}
 use Rattle.graph_run.proofs.FoundLemmas.{OfOperands}
 use Rattle.client_model.specs.declared.refusal.Refusal.{Refusal}
-use Rattle.client_model.specs.declared.refusal.Refusal.TheVariants.{InvalidReference}
 use Rattle.client_model.specs.Operands.{is_kind, operands_refusal}
 use Rattle.client_model.specs.States.{kind_held, stands}
 use Rattle.client_model.proofs.HoldLaws.{OperandsStand, stands_from}
 use Rattle.client_model.proofs.NamedLaws.{held_kind}
-use Rattle.client_model.proofs.NodeStepLaws.{Passes, operands_pass, stands_for_equal}
+use Rattle.client_model.proofs.NodeStepLaws.{Passes, operands_pass}
 use Rattle.client_contexts.specs.Lookup.{IsFound}
 use Rattle.client_contexts.specs.Steps.{refusal_in, first_class}
-use Rattle.client_contexts.proofs.LookupLemmas.{refused_unknown, refusal-append}
+use Rattle.client_contexts.proofs.LookupLemmas.{refusal-append}
 
 -- what holds of each operand of a node holds of all
 pub to_operands : (P : Cell × Kind → Type 0) (n : Node) → OfOperands P n → All P (operands n)
@@ -64,23 +59,6 @@ module _ (graph : ℕ) (objects : List Named) where
       let are : All (IsFound objects) (operands n) = subst (λ (r : Result Operands Refusal). OnOk r (All (IsFound objects) (operands n))) is all in
       let pass = operands_pass (Some graph) objects (operands n) (sym refused ∙ ap refusal_in is) in
       λ k d below. stand_one _ (are k d below) (pass k d below)
-
-  -- a graph that is found
-  pub graph_live : operands_refusal (Some graph) objects ((cell_of graph, kind.Graph) ∷ []) ≡ None → IsTrue (is_some (object_named objects graph))
-  graph_live none = found (object_named objects graph) refl
-    where
-      found : (o : Option ObjectValue) → object_named objects graph ≡ o → IsTrue (is_some o)
-      found None e =
-          let no : ◌≡◌ {A = Option Refusal} (Some InvalidReference) None = sym (refused_unknown (Some graph) objects (cell_of graph) kind.Graph e) ∙ none in
-          absurd (cc)
-      found (Some x) e = refl
-
-  pub graph_under_name : IsFound objects (cell_of graph, kind.Graph) → IsUnder objects kind.Graph graph
-  graph_under_name found = held_whole (object_held objects graph) found.1
-    where
-      held_whole : (o : Option ObjectValue) → option_and_then (in_slot None) o ≡ Some found.0 → option_map object_kind o ≡ Some kind.Graph
-      held_whole None e = cc
-      held_whole (Some x) e = let same : x ≡ found.0 = cc in ap Some (ap object_kind same ∙ sym (stands_for_equal (object_kind found.0) kind.Graph found.2 (λ virtual. cc)))
 
   -- the refusal of the graph's name joined with that of the operands
   pub graph_for_refused : (n : Node) (cell : Cell) (named found both : Option Refusal) → cell ≡ cell_of graph → named ≡ operands_refusal (Some graph) objects ((cell, kind.Graph) ∷ [])

@@ -3,16 +3,10 @@ use Rattle.std.proofs.Common.{◌≡◌, ◌⊎◌, inl, inr, ℕ, zero, suc, �
 use Rattle.std.specs.Prelude.{is_some, unwrap_or}
 use Rattle.std.specs.Option.{option_map, option_and_then}
 use Rattle.std.proofs.lemmas.Bool.{cond_both}
-use Rattle.vx_base.specs.declared.format.Format.{Format}
-use Rattle.vx_base.specs.declared.format.Format.TheVariants.{U8, S16, U32}
-use Rattle.vx_base.specs.declared.function.Function.{Function}
-use Rattle.vx_base.specs.declared.function.Function.TheVariants.{AndBits}
 use Rattle.vx_base.specs.declared.kind.Kind.{Kind}
-use Rattle.vx_base.specs.declared.kind.Kind.TheVariants as kind
 use Rattle.vx_base.specs.declared.node.Node.{Node}
 use Rattle.vx_base.specs.Cell.{Cell}
 use Rattle.vx_base.specs.Description.{Description}
-use Rattle.vx_base.specs.Formats.{takes_formats}
 use Rattle.vx_base.specs.Function.{parameters}
 use Rattle.vx_base.specs.Node.{IsNode, second_kind}
 use Rattle.vx_base.specs.Object.{ObjectValue, ImageObject, DelayObject, VirtualObject, IsObject, object_kind}
@@ -20,7 +14,7 @@ use Rattle.vx_base.specs.Outline.{Outline, closed, filled}
 use Rattle.vx_base.proofs.ImageLaws.{new_image_is}
 use Rattle.object_table.specs.Delay.{in_slot}
 use Rattle.graph_verify.specs.declared.operand.Operand.{Operand}
-use Rattle.graph_verify.specs.declared.operand.Operand.TheVariants.{Image, Delay, Virtual}
+use Rattle.graph_verify.specs.declared.operand.Operand.TheVariants.{Image, Delay}
 use Rattle.graph_verify.specs.Links.{writes}
 use Rattle.graph_verify.specs.Operand.{operand_of, operand_kind, operand_format, is_virtual as is_virtual_operand}
 use Rattle.graph_verify.specs.Outlines.{operand_outline, given_outline, written_outline, virtual_or_image, as_known}
@@ -30,7 +24,7 @@ use Rattle.client_model.specs.Operands.{stands_for}
 use Rattle.client_model.proofs.HoldLaws.{is_taken}
 use Rattle.graph_verify.proofs.SuitLemmas.{Suits}
 use Rattle.graph_run.proofs.OperandLaws.{kind-operand}
-use Rattle.client_model.proofs.NodeStepLaws.{CanGive, stands_for_equal}
+use Rattle.client_model.proofs.NodeStepLaws.{CanGive}
 use Rattle.graph_run.proofs.BegunLaws.{begun_if}
 use Rattle.vx_base.specs.declared.desc.TheConstants.{GREATEST_SIDE}
 
@@ -124,22 +118,6 @@ abbrev pub SecondTaken : Kind → Option Operand → Option Operand → Type 0
 SecondTaken wanted None None = Unit {0}
 SecondTaken wanted (Some known) (Some actual) = Taken known actual × (stands_for (operand_kind actual) wanted ≡ true)
 SecondTaken wanted known actual = ⊥
-
--- a function that takes no second format has no second input
-no_second : (function : Function) (first : Format) (out : Option Format) → takes_formats function first None out ≡ true → (parameters function).second_input ≡ None
-no_second AndBits first out h = cc
-no_second other U8 out h = cc
-no_second other S16 out h = cc
-no_second other U32 out h = cc
-
--- a second input that is taken is of the format that it is taken for, and of the kind that the function has
-second_as_taken : (function : Function) (first : Format) (out : Option Format) (known actual : Option Operand) → (is_some known ≡ true → is_some (parameters function).second_input ≡ true)
-    → SecondTaken (unwrap_or (parameters function).second_input kind.Image) known actual → takes_formats function first (option_and_then operand_format known) out ≡ true
-    → (option_and_then operand_format known ≡ option_and_then operand_format actual) × IfSome actual (λ o. (parameters function).second_input ≡ Some (operand_kind o))
-second_as_taken function first out None None there taken takes = (refl, tt)
-second_as_taken function first out (Some known) (Some (Virtual declared)) there taken takes = grind arith
-second_as_taken function first out (Some known) (Some actual) there taken takes = grind (arith, stands_for_equal (operand_kind actual) _ taken.1 (λ e. absurd (cc)))
-second_as_taken function first out known actual there taken takes = absurd taken
 
 -- what a node can give to an output that suits as it is taken
 pub give_as_taken : (n : Node) → IsNode n → (dfirst first dout out : Operand) (dsecond second : Option Operand) → (is_some dsecond ≡ true → is_some (parameters n.function).second_input ≡ true)

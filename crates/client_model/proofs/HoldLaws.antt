@@ -17,7 +17,6 @@ use Rattle.vx_base.specs.Cell.{Cell}
 use Rattle.vx_base.specs.Function.{parameters}
 use Rattle.vx_base.specs.Node.{operands}
 use Rattle.vx_base.specs.Object.{ObjectValue, GraphObject, VirtualObject, object_kind}
-use Rattle.vx_base.proofs.NodeLaws.{same_kind_equal}
 use Rattle.object_table.specs.Delay.{in_slot, slot_kind}
 use Rattle.object_table.specs.Named.{Named, object_held, held}
 use Rattle.object_table.specs.Skeleton.{skeleton}
@@ -145,12 +144,6 @@ stands_more objects new graph operand h =
     first (Some p) there = refl
 
 -- ---- graphs, which no node uses
-
--- a graph is of no kind that a node can name
-not_taken : (slot : Option ℕ) (k : Kind) (object : ObjectValue) → object_kind object ≡ kind.Graph → is_taken k ≡ true → is_kind k (slot_kind slot object) ≡ true → ⊥
-not_taken None k (GraphObject graph) is taken h = let of_graph : is_taken kind.Graph ≡ true = subst (λ j. is_taken j ≡ true) (same_kind_equal k kind.Graph h) taken in cc
-not_taken (Some slot) k (GraphObject graph) is taken h = cc
-not_taken slot k other is taken h = cc
 
 module _ (objects : List Named) (name : ℕ) (object : ObjectValue) (found : object_held objects name ≡ Some object) (is : object_kind object ≡ kind.Graph) where
   -- no operand that stands has its name

@@ -1,10 +1,9 @@
 -- Writes and reads of images keep the limits, and what is held.
-use Rattle.std.proofs.Common.{ℕ, ◌≡◌, true, false, if◌then◌else◌, List, Option, Some, None, Result, Ok, Err, IfOk, refl, ap, ◌∙◌, arith}
+use Rattle.std.proofs.Common.{ℕ, ◌≡◌, false, if◌then◌else◌, List, Option, Some, None, Result, Ok, Err, IfOk, refl, ap, ◌∙◌, arith}
 use Rattle.std.specs.Prelude.{not, IsTrue}
 use Rattle.std.specs.Option.{option_map}
 use Rattle.std.proofs.lemmas.Bool.{cond_both, and_parts}
-use Rattle.vx_base.specs.declared.format.Format.{Format}
-use Rattle.vx_base.specs.declared.format.Format.TheVariants.{U8, S16, U32}
+use Rattle.vx_base.specs.declared.format.Format.TheVariants.{U8}
 use Rattle.vx_base.specs.declared.kind.Kind.TheVariants as kind
 use Rattle.vx_base.specs.Cell.{Cell}
 use Rattle.vx_base.specs.Sample.{same_format}
@@ -36,13 +35,6 @@ use Rattle.object_table.proofs.HeldLemmas.{held_is}
 use Rattle.client_model.proofs.StateLaws.{same_leaves, with_object_leaves}
 use Rattle.client_model.proofs.OutcomeLaws.{Keeps, unless_keeps}
 use Rattle.graph_verify.proofs.SuitLemmas.{passed, met}
-
--- formats that pass the test are one
-same_format_equal : (a b : Format) → same_format a b ≡ true → a ≡ b
-same_format_equal U8 U8 h = refl
-same_format_equal S16 S16 h = refl
-same_format_equal U32 U32 h = refl
-same_format_equal a b h = cc
 
 -- a picture that isn't refused is described as the image is
 picture_description : (image picture : Description) → picture_refusal image picture ≡ None → image ≡ picture

@@ -1,7 +1,6 @@
 -- Small contexts in which nodes of Not run.
-use Rattle.std.proofs.Common.{◌≡◌, ◌∙◌, ℕ, zero, suc, ◌+◌, ◌<◌, ◌^◌, true, IsTrue, List, [], ◌∷◌, map, length, Some, None, inl, inr, refl, sym, ap, subst, arith, rules}
+use Rattle.std.proofs.Common.{◌≡◌, ◌∙◌, ℕ, zero, suc, ◌+◌, ◌<◌, ◌^◌, true, IsTrue, List, [], ◌∷◌, map, Some, None, inl, inr, refl, sym, ap, subst, arith, rules}
 use Rattle.std.specs.Prelude.{All, slice_index, ◌⊎◌}
-use Rattle.std.specs.List.{AllPairs}
 use Rattle.std.specs.List.Sorted.{IsStrictlyIncreasing}
 use Rattle.std.proofs.lemmas.Bool.{or_cases}
 use Rattle.std.proofs.lemmas.List.Elements.{All-nil, All-cons}
@@ -22,7 +21,6 @@ use Rattle.vx_base.specs.Outline.{IsOutline}
 use Rattle.object_table.specs.Context.{Context, new_context, with_new, with_objects, with_graph}
 use Rattle.object_table.specs.Named.{Named}
 use Rattle.object_table.specs.Table.{graph_under}
-use Rattle.graph_verify.specs.declared.operand.Operand.{Operand}
 use Rattle.graph_verify.specs.declared.operand.Operand.TheVariants.{Image}
 use Rattle.graph_verify.specs.declared.operand.Operands.{Operands}
 use Rattle.graph_verify.specs.declared.verified.Verified.{Verified}
@@ -32,7 +30,7 @@ use Rattle.graph_verify.specs.Members.{In}
 use Rattle.graph_verify.specs.Verdict.{verdict, verdict_on}
 use Rattle.graph_verify.specs.Verified.{IsVerified}
 use Rattle.graph_verify.proofs.LinkLemmas.{In-from_same}
-use Rattle.graph_run.specs.Operands.{CellsStand, HoldsOperand, IsReady, StandsFor, names_cell, operand_held}
+use Rattle.graph_run.specs.Operands.{HoldsOperand, IsReady, StandsFor, names_cell, operand_held}
 use Rattle.graph_run.specs.Turns.{CanRunNow, HoldsKind}
 
 -- what holds of each of two

@@ -34,10 +34,6 @@ slot_has_image k (DelayObject images) h = image_there (slice_get images k) h
     image_there (Some image) h = refl
 slot_has_image k other h = cc
 
--- what is there and is an image
-pub has_image : (slot : Option ℕ) (object : ObjectValue) → IsTrue (is_some (in_slot slot object)) → object_kind (object_in slot object) ≡ kind.Image → HasImage slot object
-has_image slot object h is = ap (option_map object_kind) (there_is slot object h) ∙ ap Some is
-
 pub image_of_kind : (object : ObjectValue) → object_kind object ≡ kind.Image → object ≡ ImageObject (image_value object)
 image_of_kind (ImageObject image) h = refl
 image_of_kind other h = cc

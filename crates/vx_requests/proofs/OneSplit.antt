@@ -1,5 +1,5 @@
 -- A stream splits in one way.
-use Rattle.std.proofs.Common.{◌≡◌, ℕ, ◌+◌, suc, List, [], ◌∷◌, ◌++◌, inl, inr, arith, length, take, drop, get_or, refl, sym, ap, ◌∙◌, append_assoc, append-nil, take_at, drop_at, length-append}
+use Rattle.std.proofs.Common.{◌≡◌, ℕ, ◌+◌, suc, List, [], ◌∷◌, ◌++◌, inl, inr, arith, length, take, drop, get_or, refl, sym, ap, ◌∙◌, append_assoc, take_at, drop_at, length-append}
 use Rattle.std.specs.Prelude.{All}
 use Rattle.std.specs.Int.{w16, from_be_bytes}
 use Rattle.std.proofs.lemmas.Nat.{from_be_bytes-to_be_bytes_4, from_be_bytes-to_be_bytes_2}
@@ -28,9 +28,6 @@ same_front f g x y is is' e =
     let body : f.body ≡ g.body = sym (take_at f.body x (length f.body) refl) ∙ ap (take (length f.body)) rest ∙ take_at g.body y (length f.body) long in
     let later : x ≡ y = sym (drop_at f.body x (length f.body) refl) ∙ ap (drop (length f.body)) rest ∙ drop_at g.body y (length f.body) long in
     (frame_eq f g client op body, later)
-
-pub no_prefix : (f g : Frame) (more : List ℕ) → IsFrame f → IsFrame g → frame_bytes g ≡ frame_bytes f ++ more → more ≡ []
-no_prefix f g more is is' e = sym (same_front g f [] more is' is (append-nil (frame_bytes g) ∙ e)).1
 
 -- no whole frame is left in a rest
 not_rest : (rest : List ℕ) (g : Frame) (y : List ℕ) → IsRest rest → IsFrame g → rest ≡ frame_bytes g ++ y → ⊥

@@ -1,5 +1,5 @@
 -- How far serve has come, and how it ends.
-use Rattle.std.proofs.Common.{◌≡◌, ℕ, ◌+◌, Bool, true, false, cond, not, List, [], ◌∷◌, ◌++◌, Option, None, Result, Ok, Err, inl, inr, length, arith, refl, sym, ap, ◌∙◌, subst, append-nil, zero-add}
+use Rattle.std.proofs.Common.{◌≡◌, ℕ, ◌+◌, Bool, true, false, cond, not, List, [], ◌∷◌, ◌++◌, Option, Result, Ok, Err, inl, inr, length, arith, refl, sym, ap, ◌∙◌, subst, append-nil, zero-add}
 use Rattle.std.specs.Prelude.{All, count_by, ◌==◌}
 use Rattle.std.specs.Io.KnownBytes.{Consumes, Appends}
 use Rattle.std.proofs.KnownBytes.{Consumes-nil, Appends-nil, Consumes-trans, Appends-trans}
@@ -100,17 +100,6 @@ module _ (limits : Allowance) (a b c to t u : Option (List ℕ)) (old mid new : 
             ∙ ap (λ n. count_by (λ r. not (r.code == 0)) (served (answer limits) old p.marked) + cond (n == 0) 0 1) (writes.1 ∙ ap (λ (r : ReplyFrame). r.code) answered.said)
             ∙ sym (ap (count_by (λ r. not (r.code == 0))) more ∙ count_push (served (answer limits) old p.marked) (reply_in (answer limits) mid m));
       }
-
-  pub ended_well : (s : Summary) → Progress limits a b to t old mid s.requests s.refused → Turn limits b c t u mid new (Ok None) → Session limits a c to u old new (Ok s)
-  ended_well s p (read, end, same, wrote) = record {
-    marked = p.marked;
-    rest = [];
-    frames = p.frames;
-    lost = p.lost;
-    read = Consumes-trans a b c _ [] p.read read;
-    ends = (refl, end, subst (Appends to u) (append-nil _) (Appends-trans to t u _ [] p.wrote wrote), p.requests_are, p.refused_are);
-    states = λ client. same client ∙ p.states client;
-  }
 
   pub broke_off : (requests refused : ℕ) (e : StreamFault) → Progress limits a b to t old mid requests refused → Turn limits b c t u mid new (Err e) → Session limits a c to u old new (Err e)
   broke_off requests refused e p (inl (rest, read, breaks, same, wrote)) = record {

@@ -1,7 +1,6 @@
 pub mod NodeShape
 pub mod FunctionNumbers
 pub mod Numbers
-pub mod OpNumbers
 pub mod TableSizes
 pub mod SampleBytes
 pub mod SampleLoops
