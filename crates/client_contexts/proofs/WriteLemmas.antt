@@ -1,22 +1,20 @@
 -- Pictures that are written to images: whether they may be, what becomes of the context, and what that keeps.
-use Rattle.std.proofs.Common.{◌≡◌, ◌∙◌, true, List, [], Option, Some, None, ℤ, Result, Ok, Err, refl, sym, ap, subst, arith}
+use Rattle.std.proofs.Common.{◌≡◌, ◌∙◌, List, [], Option, Some, None, ℤ, Result, Ok, Err, refl, sym, ap, subst, arith}
 use Rattle.std.specs.List.Sorted.{IsStrictlyIncreasing}
 use Rattle.std.proofs.lemmas.Bool.{eq-eqb}
-use Rattle.vx_base.specs.declared.format.Format.{Format}
-use Rattle.vx_base.specs.declared.format.Format.TheVariants.{U8, S16, U32}
 use Rattle.vx_base.specs.Cell.{Cell}
 use Rattle.vx_base.specs.Description.{Description}
 use Rattle.vx_base.specs.Image.{ImageValue, image_over, description_of}
 use Rattle.vx_base.specs.Object.{ObjectValue, ImageObject}
 use Rattle.vx_base.specs.Picture.{PictureValue, IsPicture, pictured}
 use Rattle.vx_base.specs.Rectangle.{Rectangle, whole}
-use Rattle.vx_base.specs.Sample.{same_format}
 use Rattle.object_table.specs.Blocks.{KeepsBlocks}
 use Rattle.object_table.specs.Context.{Context, with_objects}
 use Rattle.object_table.specs.Named.{with_object}
 use Rattle.object_table.specs.Object.{image_value, with_samples}
 use Rattle.object_table.specs.Table.{HoldsImage, cell_object, image_held}
 use Rattle.object_table.proofs.HeldLemmas.{names_of}
+use Rattle.buffer_plan.proofs.PlanLemmas.{same_format-refl}
 use Rattle.graph_run.proofs.CellLemmas.{object_after, image_after, with_object_twice}
 use Rattle.client_model.specs.declared.refusal.Refusal.{Refusal}
 use Rattle.client_model.specs.declared.reply.Reply.TheVariants.{Empty}
@@ -31,14 +29,9 @@ use Rattle.client_contexts.proofs.BlockLemmas.{image_blocks_kept}
 
 -- ---- whether a picture may be written
 
-same_format_itself : (f : Format) → same_format f f ≡ true
-same_format_itself U8 = refl
-same_format_itself S16 = refl
-same_format_itself U32 = refl
-
 -- a picture of the image's description isn't refused
 same_allowed : (d : Description) → picture_refusal d d ≡ None
-same_allowed d = grind (arith, same_format_itself d.format, eq-eqb d.width d.width refl, eq-eqb d.height d.height refl)
+same_allowed d = grind (arith, same_format-refl d.format, eq-eqb d.width d.width refl, eq-eqb d.height d.height refl)
 
 -- a refusal of what is looked for is one of the write
 pub write_refused : (image : Result ImageValue Refusal) (c : Context) (cell : Cell) (p : PictureValue) (refusal : Refusal) → refusal_for image p.description ≡ Some refusal → write_to image c cell p ≡ Err refusal

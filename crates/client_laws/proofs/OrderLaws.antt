@@ -1,14 +1,12 @@
 -- The order in which the nodes of a graph were added makes no difference to whether it runs, nor to what it leaves.
-use Rattle.std.proofs.Common.{◌≡◌, ℕ, ◌+◌, ◌≤◌, Bool, false, List, [], ◌∷◌, length, Option, Some, None, Ok, inl, inr, refl, sym, ap, ◌∙◌, arith}
+use Rattle.std.proofs.Common.{◌≡◌, ℕ, ◌≤◌, Bool, false, List, [], ◌∷◌, length, Option, Some, None, Ok, inl, inr, refl, sym, ap, ◌∙◌, arith}
 use Rattle.std.specs.Prelude.{◌&&◌, ◌||◌, not, sum_by}
-use Rattle.std.specs.List.{list_any, filter, flat_map}
+use Rattle.std.specs.List.{list_any, filter}
 use Rattle.std.specs.List.Sorted.{IsPermutation}
 use Rattle.std.specs.Option.{option_map, option_or}
 use Rattle.std.proofs.Math.Path.{fun_ext}
 use Rattle.std.proofs.lemmas.Bool.{false_from_ne_true}
-use Rattle.std.proofs.lemmas.List.Elements.{filter-append}
 use Rattle.std.proofs.lemmas.List.Sorted.{length_permutation, list_any-IsPermutation, sum_by-IsPermutation}
-use Rattle.std.proofs.lemmas.List.Sums.{sum_by-append, sum_by-cons}
 use Rattle.vx_base.specs.declared.node.Node.{Node}
 use Rattle.vx_base.specs.Cell.{Cell}
 use Rattle.vx_base.specs.Graph.{GraphValue, nodes_of}
@@ -42,7 +40,9 @@ use Rattle.client_model.specs.Answer.{answered, answer_to}
 use Rattle.client_model.specs.Graphs.{graph_named, graph_verdict, process_found}
 use Rattle.client_model.specs.Refusal.{Outcome, unless}
 use Rattle.client_model.specs.States.{KeepsLimits}
-use Rattle.client_laws.proofs.RunLaws.{graph_stood, pairs_of, outcome_is}
+use Rattle.graph_verify.proofs.VerifyLemmas.{sum_of_outputs}
+use Rattle.client_laws.proofs.RunLaws.{graph_stood, outcome_is}
+use Rattle.graph_run.proofs.VerifiedLemmas.{pairs_of}
 use Rattle.client_laws.proofs.StandLaws.{cells_stand}
 
 -- ---- what a verdict asks of the nodes, one by one
@@ -51,16 +51,6 @@ use Rattle.client_laws.proofs.StandLaws.{cells_stand}
 no_first_fault : (known : Cell → Operand) (nodes : List Node) → ((n : Node) → In n nodes → node_fault n.function (operands_of known n) ≡ None) → first_fault known nodes ≡ None
 no_first_fault known [] none = refl
 no_first_fault known (n ∷ nodes) none = ap (λ fault. option_or fault (first_fault known nodes)) (none n (inl refl)) ∙ no_first_fault known nodes (λ m i. none m (inr i))
-
--- the sum over the virtual images that nodes write, node by node
-sum_of_outputs : (is : Cell → Operand) (f : Cell → ℕ) (nodes : List Node) → sum_by f (virtual_outputs is nodes) ≡ sum_by (λ n. sum_by f (filter (λ c. is_virtual (is c)) (outputs n))) nodes
-sum_of_outputs is f [] = refl
-sum_of_outputs is f (n ∷ nodes) =
-    let virtual : Cell → Bool = λ c. is_virtual (is c) in
-    ap (sum_by f) (filter-append virtual (outputs n) (flat_map outputs nodes))
-    ∙ sum_by-append f (filter virtual (outputs n)) (virtual_outputs is nodes)
-    ∙ ap (λ k. sum_by f (filter virtual (outputs n)) + k) (sum_of_outputs is f nodes)
-    ∙ sym (sum_by-cons (λ m. sum_by f (filter virtual (outputs m))) n nodes)
 
 -- ---- nodes in another order
 

@@ -2,17 +2,12 @@
 use Rattle.object_table.proofs.AgeLemmas.{held_aged}
 use Rattle.object_table.specs.Object.{aged_object}
 use Rattle.object_table.specs.Ageing.{aged_under}
-use Rattle.std.proofs.Common.{◌≡◌, ◌≢◌, ℕ, ◌<◌, Bool, true, false, eqb, List, [], ◌∷◌, length, map, Option, Some, None, Result, Ok, Err, IsTrue, IfSome, refl, sym, ap, subst, ◌∙◌, arith}
+use Rattle.std.proofs.Common.{◌≡◌, ◌≢◌, ℕ, Bool, true, false, eqb, List, [], ◌∷◌, length, map, Option, Some, None, Result, Ok, Err, IsTrue, IfSome, refl, sym, ap, subst, ◌∙◌, arith}
 use Rattle.std.specs.Prelude.{All, slice_get, unwrap_or, ◌==◌, if◌then◌else◌}
-use Rattle.std.specs.List.{AllPairs, list_any}
-use Rattle.std.specs.List.Sorted.{IsStrictlyIncreasing}
+use Rattle.std.specs.List.{list_any}
 use Rattle.std.specs.Option.{option_map, option_and_then}
-use Rattle.std.proofs.Math.ListN.{get_or-map as get_or-map_default}
 use Rattle.std.proofs.lemmas.Bool.{cases_Bool, false_from_ne_true, or_left, or_right}
-use Rattle.std.proofs.lemmas.List.{length-map}
-use Rattle.std.proofs.lemmas.List.Kept.{AllPairs-from_increasing}
 use Rattle.vx_base.specs.declared.format.Format.{Format}
-use Rattle.vx_base.specs.declared.function.Function.{Function}
 use Rattle.vx_base.specs.declared.kind.Kind.{Kind}
 use Rattle.vx_base.specs.declared.kind.Kind.TheVariants as kind
 use Rattle.vx_base.specs.declared.node.Node.{Node}
@@ -26,18 +21,17 @@ use Rattle.object_table.specs.Context.{Context, with_objects}
 use Rattle.object_table.specs.Delay.{in_slot}
 use Rattle.object_table.specs.Named.{Named, object_held, held}
 use Rattle.object_table.specs.Uses.{nodes_in}
-use Rattle.object_table.proofs.HeldLemmas.{names_of, named_has}
+use Rattle.object_table.proofs.HeldLemmas.{named_has}
 use Rattle.graph_verify.specs.declared.operand.Operand.{Operand}
 use Rattle.graph_verify.specs.declared.operand.Operand.TheVariants.{Image, Virtual}
-use Rattle.graph_verify.specs.declared.operand.Operands.{Operands}
 use Rattle.graph_verify.specs.declared.verdict.Verdict.{Verdict}
 use Rattle.graph_verify.specs.Links.{reads, writes, is_written}
 use Rattle.graph_verify.specs.Members.{In}
 use Rattle.graph_verify.specs.Operand.{operand_of, operand_kind, operand_format, operands_of, is_image}
 use Rattle.graph_verify.specs.Outlines.{outlines, as_known, resolved}
-use Rattle.graph_verify.specs.Verdict.{node_fault}
 use Rattle.graph_verify.proofs.MemberLemmas.{In-left, In-right}
 use Rattle.graph_verify.proofs.VerdictLemmas.{CanRun, can_run}
+use Rattle.graph_verify.proofs.VerifyLemmas.{first_format}
 use Rattle.graph_run.specs.Graph.{rounds_of_nodes, is_virtual_object, forgotten, run_of_graph}
 use Rattle.graph_run.specs.Operands.{CellsStand, names_cell, operand_held}
 use Rattle.graph_run.specs.Solution.{WritesNo, ReadImages, form_of, kind_in, label_of}
@@ -49,7 +43,7 @@ use Rattle.graph_run.proofs.OrderLaws.{rounds_in_order}
 use Rattle.graph_run.proofs.SolutionLaws.{rounds_are_solution, only_rising}
 use Rattle.graph_run.proofs.TurnLaws.{each_alone}
 use Rattle.graph_run.proofs.NodeLaws.{written_held}
-use Rattle.graph_run.proofs.VerifiedLemmas.{whole, named_by_input, named_by_output}
+use Rattle.graph_run.proofs.VerifiedLemmas.{pairs_of, whole, named_by_input, named_by_output}
 use Rattle.client_model.specs.declared.refusal.Refusal.{Refusal}
 use Rattle.client_model.specs.declared.refusal.Refusal.TheVariants.{Rejected}
 use Rattle.client_model.specs.declared.reply.Reply.{Reply}
@@ -68,17 +62,6 @@ use Rattle.client_laws.proofs.StandLaws.{cells_stand, firsts_are_images}
 use Rattle.client_laws.proofs.StayLaws.{graph_held}
 
 -- ---- what runs have to find
-
--- names that increase, each below all later ones
-pub pairs_of : (objects : List Named) → IsStrictlyIncreasing (names_of objects) → AllPairs (λ a b. a.name < b.name) objects
-pairs_of objects h i j d less within =
-    let name_of : Named → ℕ = λ o. o.name in
-    let pair = AllPairs-from_increasing (names_of objects) h i j d.name less (omega (arith, within, length-map objects name_of)) in
-    omega (arith, pair, get_or-map_default name_of objects i d, get_or-map_default name_of objects j d)
-
--- a node without a fault has a first input with a format
-first_format : (function : Function) (o : Operands) → node_fault function o ≡ None → (f : Format) × (operand_format o.in1 ≡ Some f)
-first_format function o h = grind arith
 
 -- an image with a format is one that is there
 image_there : (operand : Operand) (known : Outline) (f : Format) → is_image operand ≡ true → operand_format (as_known operand known) ≡ Some f → operand_kind (as_known operand known) ≡ kind.Image

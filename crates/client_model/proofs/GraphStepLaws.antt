@@ -1,6 +1,6 @@
 -- Graphs that change, and names that are released, keep the limits, and what is held.
 use Rattle.std.proofs.Common.{◌≡◌, ◌⊎◌, inl, inr, ℕ, ◌<◌, ◌^◌, Bool, true, false, cond, IsTrue, List, [], ◌∷◌, length, map, Option, Some, None, Ok, Err, IfSome, refl, sym, ap, subst, ◌∙◌, arith}
-use Rattle.std.specs.Prelude.{All, ◌==◌, ◌&&◌, ◌||◌, not, is_none, if◌then◌else◌, sum}
+use Rattle.std.specs.Prelude.{All, ◌==◌, ◌&&◌, ◌||◌, not, is_none, if◌then◌else◌}
 use Rattle.std.specs.List.{list_any}
 use Rattle.std.specs.List.Sorted.{IsStrictlyIncreasing}
 use Rattle.std.specs.Option.{option_map}
@@ -9,7 +9,6 @@ use Rattle.std.proofs.lemmas.Iterator.Adapters.{option_map_id}
 use Rattle.std.proofs.lemmas.List.{length-map}
 use Rattle.std.proofs.lemmas.List.Elements.{All-nil, All-tail, All-filter, All-map, All-push, All-weaker}
 use Rattle.std.proofs.lemmas.List.Folds.{list_any-append}
-use Rattle.std.proofs.lemmas.List.Sums.{sum-map}
 use Rattle.vx_base.specs.declared.kind.Kind.{Kind}
 use Rattle.vx_base.specs.declared.kind.Kind.TheVariants as kind
 use Rattle.vx_base.specs.declared.node.Node.{Node}
@@ -21,7 +20,7 @@ use Rattle.vx_base.specs.Object.{ObjectValue, GraphObject, IsObject, object_byte
 use Rattle.vx_base.specs.Outline.{Outline, IsOutline}
 use Rattle.object_table.specs.Delay.{with_slot}
 use Rattle.object_table.specs.Named.{Named, object_held, held, with_object}
-use Rattle.object_table.specs.Context.{Context, object_named, with_objects, charge_of, with_graph}
+use Rattle.object_table.specs.Context.{Context, object_named, with_objects, with_graph}
 use Rattle.object_table.specs.Holds.{names_it, uses, is_used, is_held, still_held, unnamed}
 use Rattle.object_table.specs.Skeleton.{skeleton}
 use Rattle.object_table.specs.Uses.{nodes_in}
@@ -38,7 +37,7 @@ use Rattle.object_table.proofs.HeldLemmas.{names_of, All-from_map, named_has, Ha
 use Rattle.graph_run.proofs.HeldLaws.{object_held-with_object}
 use Rattle.client_model.proofs.NamedLaws.{held_if_live, live_has, kind_if_live}
 use Rattle.client_model.proofs.HoldLaws.{OperandsStand, stands_from, nodes_stand, stands-alike, stands_still}
-use Rattle.client_model.proofs.StateLaws.{KeepsRest, held_too, still_held_keeps, Leaves, stays_alike, still_held_stays, same_leaves}
+use Rattle.client_model.proofs.StateLaws.{charge_alike, KeepsRest, held_too, still_held_keeps, Leaves, stays_alike, still_held_stays, same_leaves}
 use Rattle.client_model.proofs.NodeStepLaws.{Passes, operands_pass}
 use Rattle.client_model.proofs.OutcomeLaws.{KeepsBut, Keeps, unless_keeps, refused_or_keeps, create_keeps}
 
@@ -53,14 +52,6 @@ new_graph_is =
       nodes = All-nil (λ n. IsNode n.node);
       delays = λ i j d less below. absurd (omega arith);
     }
-
--- ---- charges
-
--- what objects are charged depends on what each is
-charge_alike : (others objects : List Named) → map (λ (o : Named). object_bytes o.object) others ≡ map (λ o. object_bytes o.object) objects → charge_of others ≡ charge_of objects
-charge_alike others objects same =
-    let bytes : Named → ℕ = λ o. object_bytes o.object in
-    sym (sum-map bytes others) ∙ ap sum same ∙ sum-map bytes objects
 
 -- ---- a name that isn't live
 

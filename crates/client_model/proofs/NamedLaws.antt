@@ -8,7 +8,7 @@ use Rattle.std.proofs.Math.ListN.{get_or-map as get_or-map_default}
 use Rattle.std.proofs.lemmas.Bool.{eqb-true}
 use Rattle.std.proofs.lemmas.List.{length-map}
 use Rattle.std.proofs.lemmas.List.Elements.{All-head, All-tail}
-use Rattle.std.proofs.lemmas.List.Kept.{AllPairs-filter, AllPairs-from_increasing}
+use Rattle.std.proofs.lemmas.List.Kept.{AllPairs-filter}
 use Rattle.std.proofs.lemmas.List.Quantifiers.{all_pairs_push}
 use Rattle.std.proofs.lemmas.Option.{IfSome_then}
 use Rattle.vx_base.specs.Cell.{Cell}
@@ -20,15 +20,9 @@ use Rattle.object_table.specs.Context.{object_named}
 use Rattle.client_model.specs.Operands.{is_kind, kind_of}
 use Rattle.client_model.specs.States.{kind_held}
 use Rattle.object_table.proofs.HeldLemmas.{names_of, above_first, later_increase}
+use Rattle.graph_run.proofs.VerifiedLemmas.{pairs_of}
 
 -- ---- names that increase
-
--- of objects whose names increase, each has a name below those of all later ones
-pairs_of : (objects : List Named) → IsStrictlyIncreasing (names_of objects) → AllPairs (λ a b. a.name < b.name) objects
-pairs_of objects h i j d less within =
-    let name_of : Named → ℕ = λ o. o.name in
-    let pair = AllPairs-from_increasing (names_of objects) h i j d.name less (omega (arith, within, length-map objects name_of)) in
-    omega (arith, pair, get_or-map_default name_of objects i d, get_or-map_default name_of objects j d)
 
 increasing_from : (objects : List Named) → AllPairs (λ a b. a.name < b.name) objects → IsStrictlyIncreasing (names_of objects)
 increasing_from objects h k within =

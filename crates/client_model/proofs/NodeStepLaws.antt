@@ -18,7 +18,7 @@ use Rattle.vx_base.specs.Formats.{takes_formats}
 use Rattle.vx_base.specs.Function.{parameters, accumulates}
 use Rattle.vx_base.specs.Image.{IsImage, description_of}
 use Rattle.vx_base.specs.Node.{IsNode, is_node, has_amount, has_operands, all_named, operands, second_kind}
-use Rattle.vx_base.specs.Object.{ObjectValue, ImageObject, DistributionObject, ExtremesObject, IsObject, object_kind, object_format}
+use Rattle.vx_base.specs.Object.{ObjectValue, ImageObject, DistributionObject, ExtremesObject, IsObject, object_kind}
 use Rattle.vx_base.specs.declared.output.Output.{Output}
 use Rattle.vx_base.specs.declared.output.Output.TheVariants.{First, Second}
 use Rattle.vx_base.specs.Outputs.{node_image, beside_first, node_output, written_to, written_in, written_from, written_by}
@@ -49,6 +49,7 @@ use Rattle.graph_verify.proofs.SuitLemmas.{Suits, BothSuit, verdict_suits, passe
 use Rattle.graph_run.proofs.OperandLaws.{described_node, kind-operand, operand-skeleton}
 use Rattle.graph_run.proofs.FoundLemmas.{of_operands}
 use Rattle.graph_run.proofs.OutputLemmas.{same_description, length-histogram}
+use Rattle.graph_run.proofs.RunLemmas.{same_formats}
 use Rattle.client_model.proofs.OutcomeLaws.{Keeps, unless_keeps}
 
 -- ---- what a node can give
@@ -85,12 +86,6 @@ suits_give function first out second suits right = tt
 operand_if_held : (objects : List Named) (cell : Option Cell) → operand_if objects cell ≡ option_map operand_of (option_and_then (held objects) cell)
 operand_if_held objects None = refl
 operand_if_held objects (Some cell) = refl
-
--- an object has a format as an operand where it has one
-same_formats : (object : Option ObjectValue) → option_and_then operand_format (option_map operand_of object) ≡ option_and_then object_format object
-same_formats None = refl
-same_formats (Some (ImageObject image)) = refl
-same_formats (Some other) = refl
 
 -- ---- what a node writes
 

@@ -118,14 +118,17 @@ module _ {X Y : Type 0} (f : X → Y) where
       (sym (get_or-map_default f xs k d) ∙ ap (λ l. get_or l k (f d)) same ∙ get_or-map_default f ys k d)
       (h k d (omega (arith, within, count)))
 
+-- what objects are charged depends on how many bytes each has
+pub charge_alike : (others objects : List Named) → map (λ (o : Named). object_bytes o.object) others ≡ map (λ o. object_bytes o.object) objects → charge_of others ≡ charge_of objects
+charge_alike others objects same =
+    let bytes : Named → ℕ = λ o. object_bytes o.object in
+    sym (sum-map bytes others) ∙ ap sum same ∙ sum-map bytes objects
+
 module _ (objects others : List Named) (same : map lasting_named others ≡ map lasting_named objects) where
   -- what they are charged
-  charge_alike : charge_of others ≡ charge_of objects
-  charge_alike =
-      let bytes : Named → ℕ = λ o. object_bytes o.object in
-      sym (sum-map bytes others)
-      ∙ ap sum (map-told lasting_named bytes (λ left. object_bytes left.0.object) (λ o. bytes-skeleton o.object) others objects same)
-      ∙ sum-map bytes objects
+  charge_lasts : charge_of others ≡ charge_of objects
+  charge_lasts =
+      charge_alike others objects (map-told lasting_named (λ (o : Named). object_bytes o.object) (λ left. object_bytes left.0.object) (λ o. bytes-skeleton o.object) others objects same)
 
   -- what their nodes use
   used_alike : (name : ℕ) → is_used others name ≡ is_used objects name
@@ -162,7 +165,7 @@ alike_keeps limits c others h alike =
       held = All-alike lasting_named (λ o. IsTrue (is_held c.objects o)) (λ o. IsTrue (is_held others o)) (held_as c.objects others same) c.objects others back h.held;
       nodes = All-alike lasting_named (NodesStand c.objects) (NodesStand others) (stand_as c.objects others same) c.objects others back h.nodes;
       count = omega (arith, h.count, ap length same, length-map others lasting_named, length-map c.objects lasting_named);
-      quota = omega (arith, h.quota, charge_alike c.objects others same);
+      quota = omega (arith, h.quota, charge_lasts c.objects others same);
     }
 
 -- ---- what a request leaves

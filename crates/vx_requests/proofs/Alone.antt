@@ -1,9 +1,9 @@
 -- One more frame, and what each client gets.
-use Rattle.std.proofs.Common.{◌≡◌, ℕ, Bool, true, false, cond, not, eqb, suc, List, [], ◌∷◌, ◌++◌, length, arith, refl, sym, ap, ◌∙◌, append_assoc, append-nil, map, inl, inr, ◌⊎◌, eq-eqb}
+use Rattle.std.proofs.Common.{◌≡◌, ℕ, Bool, true, false, cond, not, eqb, suc, List, [], ◌∷◌, ◌++◌, length, arith, refl, sym, ap, ◌∙◌, append_assoc, append-nil, map, inl, inr, eq-eqb}
 use Rattle.std.specs.Prelude.{All, filter, ◌&&◌, ◌==◌}
 use Rattle.std.proofs.lemmas.List.{map_push}
 use Rattle.std.proofs.lemmas.List.Elements.{filter-append}
-use Rattle.std.proofs.lemmas.Bool.{eqb-true}
+use Rattle.std.proofs.lemmas.Bool.{cases_Bool, eqb-true}
 use Rattle.vx_requests.specs.Frame.Frames.{Frame, ReplyFrame}
 use Rattle.vx_requests.specs.Serving.Clients.{Received, reply_to, no_memory, frames_of, is_kept_of, mine, sent_to, kept_replies, answer_frame, after, alone, reply_in, state_then, states_after, served_after, served}
 use Rattle.vx_wire.specs.Replies.{Said}
@@ -25,10 +25,6 @@ both false b e f = cc
 shows : (b : Bool) (x y : ReplyFrame) → (x.code == 1) ≡ true → (y.code == 1) ≡ false → ((cond b x y).code == 1) ≡ b
 shows true x y p q = p
 shows false x y p q = q
-
-tells : (b : Bool) → (b ≡ true) ⊎ (b ≡ false)
-tells true = inl refl
-tells false = inr refl
 
 -- a kept frame is its client's, and isn't lost
 kept_is : (client : ℕ) (m : Received) → is_kept_of client m ≡ true → (m.frame.client ≡ client) × (m.lost ≡ false)
@@ -65,7 +61,7 @@ mine-sent server client [] = refl
 mine-sent server client (m ∷ marked) =
     let sent = sent_to server (server client) marked in
     let kept_frames : List Received → List Frame = λ l. map (λ (x : Received). x.frame) l in
-    elim (tells (is_kept_of client m)) [
+    elim (cases_Bool (is_kept_of client m)) [
       | inl kept ↦
           ap (λ b. mine client (cond b (m ∷ sent) sent)) (eq-eqb (server m.frame.client) (server client) (ap server (kept_is client m kept).0))
           ∙ ap (λ b. kept_frames (cond b (m ∷ filter (is_kept_of client) sent) (filter (is_kept_of client) sent))) kept
@@ -123,7 +119,7 @@ module _ {S : Type 0} (answer : S → ℕ → List ℕ → Said × S) where
   each_alone_after start before (m ∷ marked) client =
       let rest = each_alone_after start (before ++ m ∷ []) marked client in
       let next = states_after-push start before m client in
-      elim (tells (is_kept_of client m)) [
+      elim (cases_Bool (is_kept_of client m)) [
         | inl kept ↦
             let of = kept_is client m kept in
             ap (λ b. cond b (reply_in answer (states_after answer start before) m ∷ kept_replies client marked (served_after answer start (before ++ m ∷ []) marked)) (kept_replies client marked (served_after answer start (before ++ m ∷ []) marked))) kept

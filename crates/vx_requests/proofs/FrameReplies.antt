@@ -1,7 +1,7 @@
 -- What a frame is answered: no request, the model's reply, or NO_MEMORY.
-use Rattle.std.proofs.Common.{◌≡◌, ◌≢◌, ℕ, Bool, true, false, cond, List, Some, None, Result, Ok, Err, inl, inr, ◌⊎◌, refl, sym, ap, ◌∙◌, subst, eq-eqb}
+use Rattle.std.proofs.Common.{◌≡◌, ◌≢◌, ℕ, Bool, true, false, cond, List, Some, None, Result, Ok, Err, inl, inr, refl, sym, ap, ◌∙◌, subst, eq-eqb}
 use Rattle.std.specs.Prelude.{◌&&◌, ◌==◌, if◌then◌else◌}
-use Rattle.std.proofs.lemmas.Bool.{eqb-true}
+use Rattle.std.proofs.lemmas.Bool.{cases_Bool, eqb-true}
 use Rattle.client_model.specs.declared.request.Request.{Request}
 use Rattle.client_model.specs.declared.request.Request.TheVariants.{ReadImage, ReadImagePgm}
 use Rattle.client_model.specs.declared.reply.Reply.{Reply}
@@ -39,10 +39,6 @@ answer_is : (limits : Allowance) (state : State) (op : ℕ) (body : List ℕ) (s
 unfolding answer
 answer_is limits state op body spelled is = ap (answer_spelled limits state) is
 
-tells : (b : Bool) → (b ≡ true) ⊎ (b ≡ false)
-tells true = inl refl
-tells false = inr refl
-
 -- a lost frame changes no client
 pub lost_states : (limits : Allowance) (states : ℕ → State) (client op : ℕ) (body : List ℕ) (other : ℕ)
     → states other ≡ state_then (answer limits) states (record { frame = frame_of client op body; lost = true }) other
@@ -55,7 +51,7 @@ kept_states : (limits : Allowance) (old new : ℕ → State) (client op : ℕ) (
     → (other : ℕ) → new other ≡ state_then (answer limits) old (record { frame = frame_of client op body; lost = false }) other
 kept_states limits old new client op body own others other =
     let state = λ (b : Bool). cond (b && true) (answer limits (old other) op body).1 (old other) in
-    elim (tells (client == other)) [
+    elim (cases_Bool (client == other)) [
       | inl same ↦
           let e : client ≡ other = eqb-true client other same in
           subst (λ (c : ℕ). new c ≡ (answer limits (old c) op body).1) e own ∙ sym (ap state same)

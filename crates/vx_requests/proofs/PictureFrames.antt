@@ -4,8 +4,7 @@ use Rattle.std.proofs.lemmas.List.{length-map}
 use Rattle.pgm_images.specs.Writing.{written_header, pgm_text}
 use Rattle.vx_base.specs.Image.{ImageValue, IsImage, description_of}
 use Rattle.std.specs.List.{flat_map}
-use Rattle.vx_base.specs.declared.format.Format.{Format}
-use Rattle.vx_base.specs.declared.format.Format.TheVariants.{U8, S16, U32}
+use Rattle.vx_base.specs.declared.format.Format.TheVariants.{U8}
 use Rattle.vx_base.specs.declared.samples.Samples.{Samples}
 use Rattle.vx_base.specs.Sample.{sample_bytes}
 use Rattle.vx_base.specs.Description.{Description, sample_count, byte_count}
@@ -14,23 +13,11 @@ use Rattle.vx_requests.specs.Frame.Frames.{reply_bytes, reply_head}
 use Rattle.vx_requests.specs.Serving.Clients.{spelled}
 use Rattle.vx_wire.specs.Samples.{encoded_sample, picture_bytes}
 use Rattle.vx_wire.specs.Description.{description_bytes}
+use Rattle.vx_wire.proofs.SampleBytes.{length-encoded}
 
 -- the bytes of samples, as they are written
 abbrev samples_in : Samples → List ℕ
 samples_in samples = flat_map (encoded_sample (samples_format samples)) (values samples)
-
--- a sample has as many bytes as its format says
-length-spelling : (format : Format) (z : ℤ) → length (encoded_sample format z) ≡ sample_bytes format
-length-spelling U8 z = refl
-length-spelling S16 z = refl
-length-spelling U32 z = refl
-
-length-spellings : (format : Format) (samples : List ℤ) → length (flat_map (encoded_sample format) samples) ≡ length samples * sample_bytes format
-length-spellings format [] = omega arith
-length-spellings format (z ∷ samples) =
-    let here = encoded_sample format z in
-    let rest = flat_map (encoded_sample format) samples in
-    omega (arith, length-append here rest, length-spelling format z, length-spellings format samples)
 
 picture_frame : (client op : ℕ) (p : PictureValue) (samples : Samples) → values samples ≡ p.samples → Describes p.description samples
     → (reply_head (byte_count p.description + 9) client op 0 ++ description_bytes p.description) ++ samples_in samples
@@ -42,7 +29,7 @@ picture_frame client op p samples are fills =
     ap (λ f. flat_map (encoded_sample f) (values samples)) fills.format ∙ ap (flat_map (encoded_sample d.format)) are in
     let count : length p.samples ≡ sample_count d = sym (ap length are) ∙ fills.size in
     let size : length (flat_map (encoded_sample d.format) p.samples) ≡ byte_count d =
-    length-spellings d.format p.samples ∙ ap (λ k. k * sample_bytes d.format) count in
+    length-encoded d.format p.samples ∙ ap (λ k. k * sample_bytes d.format) count in
     let long : byte_count d + 9 ≡ n = omega (arith, size, length-append (description_bytes d) (flat_map (encoded_sample d.format) p.samples)) in
     ap (λ k. (reply_head k client op 0 ++ description_bytes d) ++ samples_in samples) long
     ∙ ap (λ l. (reply_head n client op 0 ++ description_bytes d) ++ l) same

@@ -8,7 +8,7 @@ use Rattle.vx_base.specs.declared.border.Border.{Border}
 use Rattle.vx_base.specs.declared.border.Border.TheVariants.{Undefined, Constant, Replicate}
 use Rattle.vx_base.specs.declared.node.Node.{Node}
 use Rattle.vx_base.specs.Cell.{Cell}
-use Rattle.vx_base.specs.Description.{is_side, sample_count}
+use Rattle.vx_base.specs.Description.{sample_count}
 use Rattle.vx_base.specs.Picture.{PictureValue, IsPicture}
 use Rattle.vx_base.specs.Sample.{sample_bytes}
 use Rattle.vx_base.specs.Lut.{LutValue, IsLut}
@@ -21,12 +21,10 @@ use Rattle.vx_wire.specs.Threshold.{limit_bytes, threshold_bytes}
 use Rattle.vx_wire.specs.Convolution.{convolution_bytes}
 use Rattle.vx_wire.specs.Operand.{operand_bytes}
 use Rattle.vx_wire.specs.Node.{border_bytes, node_bytes}
+use Rattle.vx_base.proofs.PictureLaws.{side}
 use Rattle.vx_wire.proofs.SampleBytes.{length-encoded}
 use Rattle.vx_wire.proofs.TableSizes.{bytes_most, ConvolutionParts, convolution_parts}
 use Rattle.vx_base.specs.declared.desc.TheConstants.{GREATEST_SIDE, GREATEST_BYTES}
-
-side_most : (n : ℕ) → IsTrue (is_side n) → n ≤ GREATEST_SIDE
-side_most n is = grind (arith, nat_tests)
 
 sample_bytes_most : (format : Format) → sample_bytes format ≤ 4
 sample_bytes_most U8 = omega arith
@@ -35,7 +33,7 @@ sample_bytes_most U32 = omega arith
 
 pub spelled_most : (p : PictureValue) → IsPicture p → length (encoded p.description.format p.samples) ≤ GREATEST_BYTES
 spelled_most p is =
-    let count : sample_count p.description ≤ GREATEST_SIDE * GREATEST_SIDE = mul-le-mul (side_most p.description.height is.description.height) (side_most p.description.width is.description.width) in
+    let count : sample_count p.description ≤ GREATEST_SIDE * GREATEST_SIDE = mul-le-mul (side p.description.height is.description.height) (side p.description.width is.description.width) in
     let most : sample_count p.description * sample_bytes p.description.format ≤ (GREATEST_SIDE * GREATEST_SIDE) * 4 = mul-le-mul count (sample_bytes_most p.description.format) in
     let size = is.size in
     rw (length-encoded p.description.format p.samples, size) (omega arith)
