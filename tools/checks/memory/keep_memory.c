@@ -1,6 +1,6 @@
 /* Keeps memory that a program gives back: preloaded before the C library's allocator. KEEP_MEMORY
- * says which: "small" or "great", what is freed, of fewer bytes than GREAT or of more; "shrunk", what
- * is made smaller; anything else, none. */
+ * says which: "small" or "great", what is freed, of fewer bytes than GREAT or of more; "shrunk",
+ * what is made smaller; anything else, none. */
 #include <malloc.h>
 #include <stddef.h>
 #include <stdlib.h>
