@@ -13,6 +13,7 @@ from checks.graphs.limits import under_quotas
 from checks.graphs.worked import (
     graph_before_and_after_ageing, image_read_twice, reused_buffers)
 from checks.growths.graphs import graphs
+from checks.growths.kept import check_kept
 from checks.growths.refusing import check, op_of, refuse_each, refuse_in_apply
 from checks.growths.session import session
 from checks.sessions.nodes import nodes_that_run
@@ -63,5 +64,6 @@ def main() -> None:
         unlost = {int(wire.ADD_NODE), int(wire.VERIFY_GRAPH), int(wire.PROCESS_GRAPH),
                   int(wire.REGISTER_AUTO_AGING)} - ops
         check(not unlost, f"no frame of op {unlost} was lost")
+        told.append(check_kept([program, "serve"], shim, count_file))
         applied, without = refuse_in_apply(program, shim, count_file)
     print(f"refused_growths: {'; '.join(told)}; {applied} of apply, which does without {without}")

@@ -1,0 +1,80 @@
+"""What takes no memory when it is asked for again, and what does."""
+
+from typing import List
+
+from feqyldan import wire
+from checks.growths.refusing import check, counted, serve
+
+CLIENT, TIMES = 7, 20
+SAMPLES = bytes(range(256))
+# Images 1 and 2, graph 3 with virtual image 4, delay 5, extremes 6 and image 7 of S16. The graph
+# has run, so that it is known how it runs, and there are free blocks for its virtual image.
+BEFORE = [
+    wire.open_context(CLIENT),
+    wire.create_image(CLIENT, wire.U8, 64, 4),
+    wire.create_image(CLIENT, wire.U8, 64, 4),
+    wire.create_graph(CLIENT),
+    wire.create_virtual_image(CLIENT, 3),
+    wire.create_delay(CLIENT, 1, 3),
+    wire.create_min_max(CLIENT),
+    wire.create_image(CLIENT, wire.S16, 64, 4),
+    wire.add_node(CLIENT, 3, wire.NOT_BITS, 1, None, 4),
+    wire.add_node(CLIENT, 3, wire.NOT_BITS, 4, None, 2),
+    wire.process_graph(CLIENT, 3),
+]
+# Requests that take none once they were done. A picture is read into memory that is the image's
+# from then on, and what the image had is kept for the next.
+NONE = {
+    "VerifyGraph of a graph that can run": wire.verify_graph(CLIENT, 3),
+    "WriteImage of U8": wire.write_image(CLIENT, 1, wire.U8, 64, 4, SAMPLES),
+    "WriteImage of S16": wire.write_image(CLIENT, 7, wire.S16, 64, 4, SAMPLES * 2),
+    "ReadImage": wire.read_image(CLIENT, 1),
+    "ReadImagePgm": wire.read_image_pgm(CLIENT, 1),
+    "QueryImage": wire.query_image(CLIENT, 1),
+    "SetValid": wire.set_valid(CLIENT, 1, (0, 0, 64, 4)),
+    "Immediate of a window": wire.immediate(CLIENT, wire.BOX, 1, None, 2),
+    "Immediate of extremes": wire.immediate(CLIENT, wire.MIN_MAX_LOCATION, 1, None, 6),
+    "ReadMinMax": wire.read_min_max(CLIENT, 6),
+    "AgeDelay": wire.age_delay(CLIENT, 5),
+}
+
+
+def growths_of(command: List[str], shim: str, count_file: str, asked: List[bytes]) -> int:
+    """How often the program asks for memory, in all of a stream that is answered SUCCESS."""
+    served = serve(command, [*BEFORE, *asked], shim, 0, count_file)
+    codes = {wire.code_of(reply) for reply in wire.replies(served.stdout)}
+    check(served.returncode == 0 and codes == {wire.SUCCESS}, f"{asked[0].hex()}: {codes}")
+    return counted(count_file)
+
+
+def images_in_turn() -> List[bytes]:
+    """New images, each of which is released before the next."""
+    return [request for name in range(8, 8 + TIMES) for request in (
+        wire.create_image(CLIENT, wire.U8, 64, 4), wire.release(CLIENT, name))]
+
+
+def changed_graphs() -> List[bytes]:
+    """A graph that is verified after a node came and went."""
+    return [request for number in range(3, 3 + TIMES) for request in (
+        wire.add_node(CLIENT, 3, wire.MIN_MAX_LOCATION, 1, None, 6),
+        wire.remove_node(CLIENT, 3, number), wire.verify_graph(CLIENT, 3))]
+
+
+def check_kept(command: List[str], shim: str, count_file: str) -> str:
+    """That what takes no memory takes none, that a run takes it once, for the list of its slots,
+    and that a graph that has changed takes it again."""
+    def more(asked: List[bytes], first: int = 1) -> int:
+        """How much more often it asks for memory than with the first of these requests alone."""
+        return (growths_of(command, shim, count_file, asked)
+                - growths_of(command, shim, count_file, asked[:first]))
+
+    for words, request in NONE.items():
+        taken = more([request] * TIMES)
+        check(taken == 0, f"{TIMES - 1} times {words}: {taken} growths")
+    taken = more(images_in_turn(), 2)
+    check(taken == 0, f"{TIMES - 1} images in turn: {taken} growths")
+    taken = more([wire.process_graph(CLIENT, 3)] * TIMES)
+    check(taken <= TIMES - 1, f"{TIMES - 1} runs of a graph: {taken} growths")
+    taken = more(changed_graphs(), 3)
+    check(taken >= TIMES - 1, f"{TIMES - 1} verdicts on changed graphs: {taken} growths")
+    return f"{len(NONE) + 1} kinds of requests take no memory again"

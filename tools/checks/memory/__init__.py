@@ -1,0 +1,31 @@
+"""The server's resident memory, while blocks of samples are freed and used again."""
+
+import argparse
+import os
+import sys
+
+from checks.memory.again import again, registered
+from checks.memory.great import rising, small_in_great
+from checks.memory.planted import check_faults
+from checks.memory.server import Fault, Program
+from checks.memory.soak import REQUESTS, soak
+
+
+def main() -> None:
+    parser = argparse.ArgumentParser(prog="tools/check_memory")
+    parser.add_argument("program", metavar="PROGRAM")
+    parser.add_argument("--requests", type=int, default=REQUESTS,
+                        help="about so many requests at random")
+    parser.add_argument("--faults", action="store_true",
+                        help="that wrong servers and readings are found")
+    asked = parser.parse_args()
+    program = Program(os.path.abspath(asked.program))
+    if asked.faults:
+        check_faults(program.path)
+        return
+    try:
+        told = [measure(program) for measure in (small_in_great, rising, registered, again)]
+        told.append(soak(program, asked.requests))
+    except Fault as fault:
+        sys.exit(f"check_memory: {fault}")
+    print(f"check_memory: {'; '.join(told)}")
