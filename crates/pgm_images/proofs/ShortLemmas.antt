@@ -1,5 +1,5 @@
 -- Numbers of at most three digits behind one whitespace byte.
-use Rattle.std.proofs.Common.{◌≡◌, ℕ, ◌+◌, ◌-◌, ◌*◌, ◌<◌, ◌≤◌, Bool, true, false, not, ◌&&◌, if◌then◌else◌, nat_lt, List, [], ◌∷◌, length, get_or, drop, Some, refl, ap, sym, subst, ◌∙◌, arith}
+use Rattle.std.proofs.Common.{◌≡◌, ℕ, ◌+◌, ◌-◌, ◌*◌, ◌<◌, ◌≤◌, Bool, true, false, not, ◌&&◌, if◌then◌else◌, nat_lt, List, ◌∷◌, length, get_or, drop, Some, refl, ap, sym, subst, ◌∙◌, arith}
 use Rattle.std.specs.Char.{is_ascii_digit}
 use mir.Val.{bool_byte}
 use Rattle.std.proofs.lemmas.List.{drop_more}
@@ -42,7 +42,7 @@ byte_few : (b : Bool) → bool_byte b ≤ 1
 byte_few true = omega arith
 byte_few false = omega arith
 
-tells_if : (is : Bool) (number bytes one : ℕ) (text : List ℕ) → one ≡ bool_byte is → bytes ≤ length text → (is ≡ true → take_next text ≡ Some (number, drop bytes text)) → Tells number (one * bytes) text
+tells_if : (is : Bool) (number bytes one : ℕ) (text : List ℕ) → one ≡ bool_byte is → bytes ≤ length text → (is ≡ true → Kept (take_next text) number (drop bytes text)) → Tells number (one * bytes) text
 tells_if true number bytes one text e few found =
     let same : bytes ≡ one * bytes = rw e (omega arith) in
     subst (λ n. Tells number n text) same (record { few = few; is = λ some. found refl })
@@ -61,7 +61,7 @@ and_and true b c = refl
 and_and false b c = refl
 
 -- the code made the number of these digits, step by step
-pub short_told : (white : Bool) (s x1 x2 x3 x4 a b c d start first number one two three : ℕ) (rest : List ℕ) → white ≡ is_space s
+pub short_told : (white : Bool) (s x1 x2 x3 x4 a b c d start first number one two three : ℕ) (rest : List ℕ) → number < 65536 → white ≡ is_space s
     → nat_lt a 10 ≡ is_ascii_digit x1 → (is_ascii_digit x1 ≡ true → a ≡ x1 - 48)
     → nat_lt b 10 ≡ is_ascii_digit x2 → (is_ascii_digit x2 ≡ true → b ≡ x2 - 48)
     → nat_lt c 10 ≡ is_ascii_digit x3 → (is_ascii_digit x3 ≡ true → c ≡ x3 - 48) → nat_lt d 10 ≡ is_ascii_digit x4
@@ -69,19 +69,15 @@ pub short_told : (white : Bool) (s x1 x2 x3 x4 a b c d start first number one tw
     → two ≡ bool_byte (nat_lt b 10) → three ≡ bool_byte (nat_lt b 10 && nat_lt c 10)
     → one ≡ bool_byte ((white && nat_lt a 10) && not ((nat_lt b 10 && nat_lt c 10) && nat_lt d 10))
     → Tells number (one * (2 + two + three)) (s ∷ x1 ∷ x2 ∷ x3 ∷ x4 ∷ rest)
-short_told white s x1 x2 x3 x4 a b c d start first number one two three rest is_white is1 is_a is2 is_b is3 is_c is4 is_start is_first is_number is_two is_three is_one =
+short_told white s x1 x2 x3 x4 a b c d start first number one two three rest low is_white is1 is_a is2 is_b is3 is_c is4 is_start is_first is_number is_two is_three is_one =
     tells_if ((white && nat_lt a 10) && not ((nat_lt b 10 && nat_lt c 10) && nat_lt d 10)) number (2 + two + three) one (s ∷ x1 ∷ x2 ∷ x3 ∷ x4 ∷ rest) is_one
     (omega (arith, is_two, is_three, byte_few (nat_lt b 10), byte_few (nat_lt b 10 && nat_lt c 10)))
     (λ short.
-        let (space, digit, end) = all_three white (nat_lt a 10) ((nat_lt b 10 && nat_lt c 10) && nat_lt d 10) short in
-        let is_digit = sym is1 ∙ digit in
-        let none : (nat_lt b 10 && (nat_lt c 10 && is_ascii_digit x4)) ≡ false = ap (λ e. nat_lt b 10 && (nat_lt c 10 && e)) (sym is4) ∙ sym (and_and (nat_lt b 10) (nat_lt c 10) (nat_lt d 10)) ∙ end in
-        let found = short_cases (nat_lt b 10) (nat_lt c 10) s x1 x2 x3 x4 rest a b c (sym is_white ∙ space) is_digit (is_a is_digit) is2 is_b is3 is_c none in
-        cc (found, is_start, is_first, is_number, is_two, is_three))
-
--- what stands at the front of a text was told
-pub told_kept : (number bytes : ℕ) (text : List ℕ) → Tells number bytes text → 0 < bytes → number < 65536 → Kept (take_next text) number (drop bytes text)
-told_kept number bytes text told some low = record { number = number; is = told.is some; least = omega arith }
+    let (space, digit, end) = all_three white (nat_lt a 10) ((nat_lt b 10 && nat_lt c 10) && nat_lt d 10) short in
+    let is_digit = sym is1 ∙ digit in
+    let none : (nat_lt b 10 && (nat_lt c 10 && is_ascii_digit x4)) ≡ false = ap (λ e. nat_lt b 10 && (nat_lt c 10 && e)) (sym is4) ∙ sym (and_and (nat_lt b 10) (nat_lt c 10) (nat_lt d 10)) ∙ end in
+    let found = short_cases (nat_lt b 10) (nat_lt c 10) s x1 x2 x3 x4 rest a b c (sym is_white ∙ space) is_digit (is_a is_digit) is2 is_b is3 is_c none in
+    record { number = number; is = cc (found, is_start, is_first, is_number, is_two, is_three); least = omega (arith, low) })
 
 -- five bytes of a text
 pub five : (text : List ℕ) (at : ℕ) → at + 5 ≤ length text

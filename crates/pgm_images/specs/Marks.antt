@@ -77,8 +77,8 @@ pub record Kept (taken : BeginsWith ℕ) (kept : ℕ) (rest : List ℕ) : Type 0
 -- it and its gap are. No bytes tell nothing.
 pub record Tells (number bytes : ℕ) (text : List ℕ) : Type 0 where
   pub few : bytes ≤ length text
-  pub is : 0 < bytes → take_next text ≡ Some (number, drop bytes text)
+  pub is : 0 < bytes → Kept (take_next text) number (drop bytes text)
 
--- the same at every place of a text, where a number may begin
-abbrev pub AreTold : (numbers bytes text : List ℕ) → Type 0
-AreTold numbers bytes text = (place : ℕ) → Tells (slice_index numbers place) (slice_index bytes place) (drop place text)
+-- the same at each of so many places of a text, where a number may begin
+abbrev pub AreTold : (count : ℕ) (numbers bytes text : List ℕ) → Type 0
+AreTold count numbers bytes text = (place : ℕ) → place < count → Tells (slice_index numbers place) (slice_index bytes place) (drop place text)

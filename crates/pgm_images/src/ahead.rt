@@ -23,7 +23,7 @@ pub struct Ahead {
 impl Ahead {
     /// Tells nothing.
     pub fn new() -> Ahead
-        ensures { (text : List ℕ) → AreTold result.numbers result.bytes text }
+        ensures { (text : List ℕ) → AreTold 256 result.numbers result.bytes text }
     {
         Ahead {
             numbers: [0; PLACES],
@@ -34,11 +34,16 @@ impl Ahead {
     /// Looks at so many places of a text, and at the four bytes after them.
     fn look(&mut self, text: &[u8])
         requires { 260 ≤ length text.now }
-        ensures { AreTold self.new.numbers self.new.bytes text.now }
+        ensures { AreTold 256 self.new.numbers self.new.bytes text.now }
     {
         for i in 0..PLACES {
-            let (number, bytes) =
-                short_number(text[i], text[i + 1], text[i + 2], text[i + 3], text[i + 4]);
+            let (number, bytes) = short_number(
+                text[i],
+                text[i + 1],
+                text[i + 2],
+                text[i + 3],
+                text[i + 4],
+            );
             self.numbers[i] = number;
             self.bytes[i] = bytes;
         }
@@ -46,7 +51,7 @@ impl Ahead {
 
     /// Looks at a text's places, if numbers up to the maxval are short and the text isn't.
     pub fn renew(&mut self, maxval: u16, text: &[u8])
-        ensures { AreTold self.new.numbers self.new.bytes text.now }
+        ensures { AreTold 256 self.new.numbers self.new.bytes text.now }
     {
         if maxval < 1000 && text.len() >= PLACES + 4 {
             self.look(text);
@@ -58,10 +63,10 @@ impl Ahead {
     /// The rest of a text that begins at a place, as a text and a place in it that was looked at.
     #[inline(always)]
     pub fn moved<'a>(&mut self, maxval: u16, text: &'a [u8], place: usize) -> (&'a [u8], usize)
-        requires told { AreTold self.old.numbers self.old.bytes text.now }
+        requires told { AreTold 256 self.old.numbers self.old.bytes text.now }
         requires within { place ≤ length text.now }
         ensures rest { drop result.1 result.0.now ≡ drop place text.now }
-        ensures told { AreTold self.new.numbers self.new.bytes result.0.now }
+        ensures told { AreTold 256 self.new.numbers self.new.bytes result.0.now }
         ensures within { result.1 ≤ length result.0.now }
         ensures place { result.1 < 256 }
     {
@@ -76,7 +81,7 @@ impl Ahead {
     /// A gap and a number that begin at a place, and where they end.
     #[inline(always)]
     pub fn take(&self, maxval: u16, text: &[u8], place: usize) -> Option<(u16, usize)>
-        requires told { AreTold self.now.numbers self.now.bytes text.now }
+        requires told { AreTold 256 self.now.numbers self.now.bytes text.now }
         requires within { place ≤ length text.now }
         requires place { place < 256 }
         ensures some { IfSome result (λ taken.
