@@ -1,5 +1,5 @@
 -- One more number of a raster.
-use Rattle.std.proofs.Common.{◌≡◌, ℕ, ℤ, pos, zero, suc, ◌+◌, ◌-◌, ◌<◌, ◌≤◌, Bool, true, false, not, ◌==◌, ◌||◌, ◌&&◌, nat_le, nat_lt, List, [], ◌∷◌, ◌++◌, map, Option, Some, None, Ok, refl, ap, sym, subst, ◌∙◌, append_assoc, append-nil, length, take, ◌≢◌, arith}
+use Rattle.std.proofs.Common.{◌≡◌, ℕ, ℤ, pos, zero, suc, ◌+◌, ◌-◌, ◌<◌, ◌≤◌, Bool, true, false, not, ◌==◌, ◌||◌, ◌&&◌, nat_le, nat_lt, List, [], ◌∷◌, ◌++◌, map, Option, Some, None, Ok, Err, refl, ap, sym, subst, ◌∙◌, append_assoc, append-nil, length, take, ◌≢◌, arith}
 use Rattle.std.specs.Prelude.{min}
 use Rattle.std.specs.Option.{option_map}
 use Rattle.std.proofs.lemmas.Bool.{eqb-true}
@@ -7,6 +7,7 @@ use Rattle.std.proofs.lemmas.Bool.Decides.{nat_tests}
 use Rattle.std.proofs.Math.ListN.{set}
 use Rattle.std.proofs.lemmas.List.{map-append, length-set, take_all, take_more_set}
 use Rattle.std.proofs.lemmas.List.Folds.{list_all-append}
+use Rattle.pgm_images.specs.declared.fault.PgmFault.TheVariants.{InvalidFormat, InvalidValue}
 use Rattle.pgm_images.specs.Marks.{BeginsWith, Kept}
 use Rattle.pgm_images.specs.Raster.{Reads, samples_up_to, all_up_to, so_many, take_short_sample, nothing_left}
 
@@ -104,6 +105,36 @@ filling_done value take_one is_end maxval index high samples rest whole done all
     let below : all_up_to maxval numbers ≡ true = not_false high (all_up_to maxval numbers) filled.above low in
     let written : map value samples ≡ map pos numbers = ap (map value) (sym (take_all index samples all)) ∙ filled.samples low in
     record { ok = ap (samples_up_to maxval) found ∙ rw below (ap Ok (sym written)); err = tt }
+
+-- no number was found
+pub filling_stops : {A T : Type 0} (value : T → ℤ) (take_one : List ℕ → BeginsWith ℕ) (is_end : List ℕ → Bool) (maxval index : ℕ) (high : Bool) (samples : List T) (written : List ℤ) (rest : List ℕ) (whole : Option (List ℕ))
+    → index < length samples → take_one rest ≡ None → Filling take_one is_end maxval high (map value (take index samples)) (length samples - index) rest whole
+    → Reads {A = A} (samples_up_to maxval whole) written (Err InvalidFormat)
+filling_stops value take_one is_end maxval index high samples written rest whole within none (numbers, filled, is) =
+    record { ok = tt; err = ap (samples_up_to maxval) (so_many-none take_one is_end (length samples - index) numbers rest whole (omega arith) is none) }
+
+-- all were written, and the text doesn't end
+pub filling_longer : {A T : Type 0} (value : T → ℤ) (take_one : List ℕ → BeginsWith ℕ) (is_end : List ℕ → Bool) (maxval index : ℕ) (high : Bool) (samples : List T) (written : List ℤ) (rest : List ℕ) (whole : Option (List ℕ))
+    → length samples ≤ index → is_end rest ≡ false → Filling take_one is_end maxval high (map value (take index samples)) (length samples - index) rest whole
+    → Reads {A = A} (samples_up_to maxval whole) written (Err InvalidFormat)
+filling_longer value take_one is_end maxval index high samples written rest whole all longer (numbers, filled, is) =
+    let none : length samples - index ≡ 0 = omega arith in
+    let found : whole ≡ None = is ∙ ap (λ left. after numbers (so_many take_one is_end left rest)) none ∙ rw longer refl in
+    record { ok = tt; err = ap (samples_up_to maxval) found }
+
+-- all were written, the text ends, and one is above the maxval
+pub filling_above : {A T : Type 0} (value : T → ℤ) (take_one : List ℕ → BeginsWith ℕ) (is_end : List ℕ → Bool) (maxval index : ℕ) (samples : List T) (written : List ℤ) (rest : List ℕ) (whole : Option (List ℕ))
+    → length samples ≤ index → is_end rest ≡ true → Filling take_one is_end maxval true (map value (take index samples)) (length samples - index) rest whole
+    → Reads {A = A} (samples_up_to maxval whole) written (Err InvalidValue)
+filling_above value take_one is_end maxval index samples written rest whole all end (numbers, filled, is) =
+    let none : length samples - index ≡ 0 = omega arith in
+    let found : whole ≡ Some numbers = is ∙ ap (λ left. after numbers (so_many take_one is_end left rest)) none ∙ rw end (ap Some (append-nil numbers)) in
+    let above : all_up_to maxval numbers ≡ false = not_true (all_up_to maxval numbers) filled.above in
+    record { ok = tt; err = ap (samples_up_to maxval) found ∙ rw above refl }
+  where
+    not_true : (below : Bool) → true ≡ not below → below ≡ false
+    not_true true e = cc
+    not_true false e = refl
 
 pub none_left : (rest : List ℕ) → (length rest == 0) ≡ true → nothing_left rest ≡ true
 none_left [] e = refl

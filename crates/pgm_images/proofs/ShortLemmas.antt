@@ -1,11 +1,9 @@
 -- Numbers of at most three digits behind one whitespace byte.
-use Rattle.std.proofs.Common.{◌≡◌, ℕ, ◌+◌, ◌-◌, ◌*◌, ◌<◌, ◌≤◌, Bool, true, false, ◌&&◌, if◌then◌else◌, nat_lt, List, [], ◌∷◌, length, get_or, take, drop, Some, ap, sym, ◌∙◌, arith}
-use Rattle.std.specs.Prelude.{max}
+use Rattle.std.proofs.Common.{◌≡◌, ℕ, ◌+◌, ◌-◌, ◌*◌, ◌<◌, ◌≤◌, Bool, true, false, not, ◌&&◌, if◌then◌else◌, nat_lt, List, ◌∷◌, length, get_or, drop, Some, refl, ap, sym, subst, ◌∙◌, arith}
 use Rattle.std.specs.Char.{is_ascii_digit}
 use mir.Val.{bool_byte}
-use Rattle.std.proofs.lemmas.Bool.Decides.{nat_tests}
-use Rattle.std.proofs.lemmas.List.{take_rest}
-use Rattle.pgm_images.specs.Marks.{is_space, digits_after, take_next, Kept}
+use Rattle.std.proofs.lemmas.List.{drop_more}
+use Rattle.pgm_images.specs.Marks.{is_space, digits_after, take_next, Kept, Tells}
 use Rattle.pgm_images.proofs.DigitLemmas.{digit_begins}
 use Rattle.pgm_images.proofs.GapLemmas.{space_is}
 
@@ -40,32 +38,56 @@ short_cases true true s x1 x2 x3 x4 rest a b c space one is_a is2 is_b is3 is_c 
     ∙ ap Some (digit_more (x1 - 48) x2 (x3 ∷ x4 ∷ rest) (sym is2) ∙ digit_more ((x1 - 48) * 10 + (x2 - 48)) x3 (x4 ∷ rest) (sym is3) ∙ digit_none (((x1 - 48) * 10 + (x2 - 48)) * 10 + (x3 - 48)) x4 rest end)
     ∙ ap (λ n. Some (n, x4 ∷ rest)) same
 
-short_next : (two three : Bool) (text : List ℕ) (a b c : ℕ) → 5 ≤ length text → is_space (get_or text 0 0) ≡ true → is_ascii_digit (get_or text 1 0) ≡ true → a ≡ get_or text 1 0 - 48
-    → two ≡ is_ascii_digit (get_or text 2 0) → (is_ascii_digit (get_or text 2 0) ≡ true → b ≡ get_or text 2 0 - 48)
-    → three ≡ is_ascii_digit (get_or text 3 0) → (is_ascii_digit (get_or text 3 0) ≡ true → c ≡ get_or text 3 0 - 48) → (two && (three && is_ascii_digit (get_or text 4 0))) ≡ false
-    → take_next text ≡ Some (if two && three then (if two then a * 10 + b else a) * 10 + c else (if two then a * 10 + b else a), drop (2 + bool_byte two + bool_byte (two && three)) text)
-short_next two three [] a b c long = absurd (omega arith)
-short_next two three (s ∷ []) a b c long = absurd (omega arith)
-short_next two three (s ∷ x1 ∷ []) a b c long = absurd (omega arith)
-short_next two three (s ∷ x1 ∷ x2 ∷ []) a b c long = absurd (omega arith)
-short_next two three (s ∷ x1 ∷ x2 ∷ x3 ∷ []) a b c long = absurd (omega arith)
-short_next two three (s ∷ x1 ∷ x2 ∷ x3 ∷ x4 ∷ rest) a b c long = short_cases two three s x1 x2 x3 x4 rest a b c
+byte_few : (b : Bool) → bool_byte b ≤ 1
+byte_few true = omega arith
+byte_few false = omega arith
+
+tells_if : (is : Bool) (number bytes one : ℕ) (text : List ℕ) → one ≡ bool_byte is → bytes ≤ length text → (is ≡ true → Kept (take_next text) number (drop bytes text)) → Tells number (one * bytes) text
+tells_if true number bytes one text e few found =
+    let same : bytes ≡ one * bytes = rw e (omega arith) in
+    subst (λ n. Tells number n text) same (record { few = few; is = λ some. found refl })
+tells_if false number bytes one text e few found =
+    let none : 0 ≡ one * bytes = rw e (omega arith) in
+    subst (λ n. Tells number n text) none (record { few = omega arith; is = λ some. absurd (omega (arith, some)) })
+
+all_three : (white one four : Bool) → ((white && one) && not four) ≡ true → (white ≡ true) × (one ≡ true) × (four ≡ false)
+all_three true true false e = (refl, refl, refl)
+all_three true true true e = cc
+all_three true false four e = cc
+all_three false one four e = cc
+
+and_and : (a b c : Bool) → ((a && b) && c) ≡ (a && (b && c))
+and_and true b c = refl
+and_and false b c = refl
 
 -- the code made the number of these digits, step by step
-pub short_kept : (text : List ℕ) (a b c start first number two three : ℕ) → 5 ≤ length text → is_space (get_or text 0 0) ≡ true → is_ascii_digit (get_or text 1 0) ≡ true → a ≡ get_or text 1 0 - 48
-    → nat_lt b 10 ≡ is_ascii_digit (get_or text 2 0) → (is_ascii_digit (get_or text 2 0) ≡ true → b ≡ get_or text 2 0 - 48)
-    → nat_lt c 10 ≡ is_ascii_digit (get_or text 3 0) → (is_ascii_digit (get_or text 3 0) ≡ true → c ≡ get_or text 3 0 - 48)
-    → (nat_lt b 10 && (nat_lt c 10 && is_ascii_digit (get_or text 4 0))) ≡ false
+pub short_told : (white : Bool) (s x1 x2 x3 x4 a b c d start first number one two three : ℕ) (rest : List ℕ) → number < 65536 → white ≡ is_space s
+    → nat_lt a 10 ≡ is_ascii_digit x1 → (is_ascii_digit x1 ≡ true → a ≡ x1 - 48)
+    → nat_lt b 10 ≡ is_ascii_digit x2 → (is_ascii_digit x2 ≡ true → b ≡ x2 - 48)
+    → nat_lt c 10 ≡ is_ascii_digit x3 → (is_ascii_digit x3 ≡ true → c ≡ x3 - 48) → nat_lt d 10 ≡ is_ascii_digit x4
     → start ≡ a → first ≡ (if nat_lt b 10 then start * 10 + b else start) → number ≡ (if nat_lt b 10 && nat_lt c 10 then first * 10 + c else first)
-    → two ≡ bool_byte (nat_lt b 10) → three ≡ bool_byte (nat_lt b 10 && nat_lt c 10) → number < 65536
-    → Kept (take_next text) number (take (length text - (2 + two + three)) (drop (2 + two + three) text))
-short_kept text a b c start first number two three long space one is_a is2 is_b is3 is_c end is_start is_first is_number is_two is_three low =
-    let found = short_next (nat_lt b 10) (nat_lt c 10) text a b c long space one is_a is2 is_b is3 is_c end in
-    record { number = number; is = cc (found, take_rest text (2 + two + three)); least = omega arith }
+    → two ≡ bool_byte (nat_lt b 10) → three ≡ bool_byte (nat_lt b 10 && nat_lt c 10)
+    → one ≡ bool_byte ((white && nat_lt a 10) && not ((nat_lt b 10 && nat_lt c 10) && nat_lt d 10))
+    → Tells number (one * (2 + two + three)) (s ∷ x1 ∷ x2 ∷ x3 ∷ x4 ∷ rest)
+short_told white s x1 x2 x3 x4 a b c d start first number one two three rest low is_white is1 is_a is2 is_b is3 is_c is4 is_start is_first is_number is_two is_three is_one =
+    tells_if ((white && nat_lt a 10) && not ((nat_lt b 10 && nat_lt c 10) && nat_lt d 10)) number (2 + two + three) one (s ∷ x1 ∷ x2 ∷ x3 ∷ x4 ∷ rest) is_one
+    (omega (arith, is_two, is_three, byte_few (nat_lt b 10), byte_few (nat_lt b 10 && nat_lt c 10)))
+    (λ short.
+    let (space, digit, end) = all_three white (nat_lt a 10) ((nat_lt b 10 && nat_lt c 10) && nat_lt d 10) short in
+    let is_digit = sym is1 ∙ digit in
+    let none : (nat_lt b 10 && (nat_lt c 10 && is_ascii_digit x4)) ≡ false = ap (λ e. nat_lt b 10 && (nat_lt c 10 && e)) (sym is4) ∙ sym (and_and (nat_lt b 10) (nat_lt c 10) (nat_lt d 10)) ∙ end in
+    let found = short_cases (nat_lt b 10) (nat_lt c 10) s x1 x2 x3 x4 rest a b c (sym is_white ∙ space) is_digit (is_a is_digit) is2 is_b is3 is_c none in
+    record { number = number; is = cc (found, is_start, is_first, is_number, is_two, is_three); least = omega (arith, low) })
 
--- one of the three bytes after the first digit is none
-pub not_four : (b c d x : ℕ) → 10 ≤ max (max b c) d → nat_lt d 10 ≡ is_ascii_digit x → (nat_lt b 10 && (nat_lt c 10 && is_ascii_digit x)) ≡ false
-not_four b c d x high is = rw (← is) (some b c d high)
-  where
-    some : (b c d : ℕ) → 10 ≤ max (max b c) d → (nat_lt b 10 && (nat_lt c 10 && nat_lt d 10)) ≡ false
-    some b c d high = grind (arith, nat_tests)
+-- five bytes of a text
+pub five : (text : List ℕ) (at : ℕ) → at + 5 ≤ length text
+    → drop at text ≡ get_or text at 0 ∷ get_or text (at + 1) 0 ∷ get_or text (at + 2) 0 ∷ get_or text (at + 3) 0 ∷ get_or text (at + 4) 0 ∷ drop (at + 5) text
+five text at long =
+    let step : (k : ℕ) → at + k < length text → drop (at + k) text ≡ get_or text (at + k) 0 ∷ drop (at + k + 1) text = λ k within. drop_more text (at + k) 0 within in
+    let more : (k : ℕ) → at + k + 1 ≡ at + (k + 1) = λ k. omega arith in
+    let first = drop_more text at 0 (omega arith) in
+    let second = step 1 (omega arith) in
+    let third = step 2 (omega arith) in
+    let fourth = step 3 (omega arith) in
+    let fifth = step 4 (omega arith) in
+    cc (first, second, third, fourth, fifth, more 1, more 2, more 3, more 4)

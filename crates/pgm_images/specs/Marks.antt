@@ -1,5 +1,5 @@
 -- The marks of a PGM text from the front: whitespace, comments and numbers (Netpbm, pgm(5)).
-use Rattle.std.specs.Prelude.{◌≡◌, ℕ, ◌+◌, ◌-◌, ◌*◌, ◌==◌, ◌||◌, Bool, true, false, not, if◌then◌else◌, min, List, [], ◌∷◌, Option, Some, None}
+use Rattle.std.specs.Prelude.{◌≡◌, ℕ, ◌+◌, ◌-◌, ◌*◌, ◌<◌, ◌≤◌, drop, length, slice_index, ◌==◌, ◌||◌, Bool, true, false, not, if◌then◌else◌, min, List, [], ◌∷◌, Option, Some, None}
 use Rattle.std.specs.Option.{option_and_then}
 use Rattle.std.specs.Char.{is_ascii_digit}
 
@@ -72,3 +72,13 @@ pub record Kept (taken : BeginsWith ℕ) (kept : ℕ) (rest : List ℕ) : Type 0
   pub number : ℕ
   pub is : taken ≡ Some (number, rest)
   pub least : kept ≡ min number 65535
+
+-- The code looked whether such a number stands at the front, and found out which, and how many bytes
+-- it and its gap are. No bytes tell nothing.
+pub record Tells (number bytes : ℕ) (text : List ℕ) : Type 0 where
+  pub few : bytes ≤ length text
+  pub is : 0 < bytes → Kept (take_next text) number (drop bytes text)
+
+-- the same at each of so many places of a text, where a number may begin
+abbrev pub AreTold : (count : ℕ) (numbers bytes text : List ℕ) → Type 0
+AreTold count numbers bytes text = (place : ℕ) → place < count → Tells (slice_index numbers place) (slice_index bytes place) (drop place text)

@@ -8,13 +8,14 @@
 //! front and computes the picture or the fault; `laws` states that they agree.
 //!
 //! - `fault`: why no picture was read
-//! - `marks`: whitespace, comments and numbers
+//! - `marks`, `ahead`: whitespace, comments and numbers
 //! - `header`: the encoding, the width, the height and the maxval
 //! - `text_sample`, `raster`: numbers as samples, and all samples of a text
 //! - `reading`, `writing`: whole texts
 //! - `laws`, `examples`: what the definitions mean
 #![tactic(auto)]
 
+mod ahead;
 pub mod examples;
 mod fault;
 mod header;

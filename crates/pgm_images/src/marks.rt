@@ -1,9 +1,9 @@
 //! The marks of a text, from its front: whitespace, comments and numbers.
 ghost use Rattle.std.specs.Prelude.{◌≡◌, ◌∷◌, IfSome, IfNone, None, Some, false, true, min, length};
-ghost use Rattle.std.specs.Prelude.{◌<◌, ◌≤◌, ◌+◌, ◌*◌, ◌-◌, nat_lt, if◌then◌else◌};
+ghost use Rattle.std.specs.Prelude.{◌<◌, ◌≤◌, ◌+◌, ◌*◌, ◌-◌, nat_lt, if◌then◌else◌, ℕ, List};
 ghost use Rattle.std.specs.Char.{is_ascii_digit};
 ghost use Rattle.pgm_images.specs.Marks.{ends_line, is_space, begins_gap, past_blanks};
-ghost use Rattle.pgm_images.specs.Marks.{digits_after, take_number, take_next, ends, Kept};
+ghost use Rattle.pgm_images.specs.Marks.{digits_after, take_number, take_next, ends, Kept, Tells};
 
 /// CR or LF.
 fn ends_line(byte: u8) -> bool
@@ -90,15 +90,32 @@ fn digit(byte: u8) -> u8
 /// The number with one digit more, where that is one.
 #[inline(always)]
 fn with_digit(number: u16, digit: u8, is_digit: bool) -> u16
-    requires { number ≤ 1000 }
+    requires { number ≤ 6000 }
     ensures { result ≡ (if is_digit then number * 10 + digit else number) }
 {
     number + u16::from(is_digit) * (number * 9 + u16::from(digit))
 }
 
+/// The number of at most three digits behind a whitespace byte, and how many bytes both are: none
+/// where others stand there. How many digits there are can't be foreseen, so nothing here branches
+/// on it.
+#[inline(always)]
+pub fn short_number(blank: u8, first: u8, second: u8, third: u8, fourth: u8) -> (u16, u8)
+    ensures { (rest : List ℕ) →
+        Tells result.0 result.1 (blank ∷ first ∷ second ∷ third ∷ fourth ∷ rest) }
+{
+    let (first, second) = (digit(first), digit(second));
+    let (third, fourth) = (digit(third), digit(fourth));
+    let two = second < 10;
+    let three = two & (third < 10);
+    let is_short = is_space(blank) & (first < 10) & !(three & (fourth < 10));
+    let number = with_digit(with_digit(u16::from(first), second, two), third, three);
+    let bytes = 2 + u8::from(two) + u8::from(three);
+    (number, u8::from(is_short) * bytes)
+}
+
 /// A number of at most three digits behind one whitespace byte, and the text after them. `None`
-/// where others stand there or fewer than five bytes are left. How many digits there are can't be
-/// foreseen, so nothing here branches on it.
+/// where others stand there or fewer than five bytes are left.
 #[inline(always)]
 fn take_short(text: &[u8]) -> Option<(u16, &[u8])>
     ensures { IfSome result (λ taken. Kept (take_next text.now) taken.0 taken.1.now) }
@@ -106,15 +123,11 @@ fn take_short(text: &[u8]) -> Option<(u16, &[u8])>
     if text.len() < 5 {
         return None;
     }
-    let (first, second) = (digit(text[1]), digit(text[2]));
-    let (third, fourth) = (digit(text[3]), digit(text[4]));
-    if !is_space(text[0]) || first > 9 || second.max(third).max(fourth) < 10 {
+    let (number, bytes) = short_number(text[0], text[1], text[2], text[3], text[4]);
+    if bytes == 0 {
         return None;
     }
-    let two = second < 10;
-    let three = two & (third < 10);
-    let number = with_digit(with_digit(u16::from(first), second, two), third, three);
-    Some((number, &text[2 + usize::from(two) + usize::from(three)..]))
+    Some((number, &text[usize::from(bytes)..]))
 }
 
 /// A gap and a number, and the text after them.

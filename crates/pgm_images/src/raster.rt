@@ -7,9 +7,10 @@ ghost use Rattle.pgm_images.specs.Marks.{Kept, take_next, ends};
 ghost use Rattle.pgm_images.specs.Raster.{Reads, all_up_to, numbers_in, so_many, take_short_sample};
 ghost use Rattle.pgm_images.specs.Raster.{take_long_sample, nothing_left, samples_up_to};
 
+use crate::ahead::Ahead;
 use crate::fault::PgmFault;
 use crate::header::{Encoding, Header};
-use crate::marks::{ends, take_next_up_to};
+use crate::marks::ends;
 use crate::text_sample::TextSample;
 use vx_base::Samples;
 
@@ -21,17 +22,21 @@ fn read_plain<T: TextSample>(maxval: u16, text: &[u8], samples: &mut [T]) -> Res
     ensures { Reads (samples_up_to maxval
         (so_many take_next ends (length samples.old) text.now)) (map T.value samples.new) result }
 {
-    let mut rest = text;
+    let mut ahead = Ahead::new();
+    ahead.renew(maxval, text);
+    let (mut block, mut place) = (text, 0);
     let mut above = false;
     for index in 0..samples.len() {
-        let Some((number, others)) = take_next_up_to(maxval, rest) else {
+        let (here, start) = ahead.moved(maxval, block, place);
+        let Some((number, end)) = ahead.take(maxval, here, start) else {
             return Err(PgmFault::InvalidFormat);
         };
         above = above | (number > maxval);
         samples[index] = T::of_number(number.min(maxval));
-        rest = others;
+        block = here;
+        place = end;
     }
-    if !ends(rest) {
+    if !ends(&block[place..]) {
         Err(PgmFault::InvalidFormat)
     } else if above {
         Err(PgmFault::InvalidValue)
