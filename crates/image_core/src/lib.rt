@@ -17,6 +17,7 @@ mod formula;
 mod image;
 mod image_mut;
 mod number;
+mod pieces;
 mod row_formula;
 mod row_update;
 mod rows;

@@ -5,6 +5,7 @@ ghost use Rattle.image_core.specs.Rows.{sample_from};
 
 use crate::band::Band;
 use crate::number::Number;
+use crate::pieces::{write_both_pieces, write_pieces};
 use crate::row_formula::{RowFormula, TwoRowFormulas};
 use crate::row_update::{Kept, RowUpdate};
 use vx_base::Rect;
@@ -38,7 +39,7 @@ fn write_across<T: Number, S, F: RowFormula<T, S>>(
     let (left, others) = out.split_at_mut(usize::from(x0));
     let (middle, right) = others.split_at_mut(usize::from(x1 - x0));
     set_all(left, T::zero());
-    formula.fill(x0, y, scratch, middle);
+    write_pieces(formula, x0, y, scratch, middle);
     set_all(right, T::zero());
 }
 
@@ -119,7 +120,7 @@ fn write_both_across<T: Number, S, R, F: TwoRowFormulas<T, S, R>>(
     let (other_inside, other_back) = rest.split_at_mut(usize::from(x1 - x0));
     set_all(front, T::zero());
     set_all(other_front, T::zero());
-    formulas.fill(x0, y, scratch, more, inside, other_inside);
+    write_both_pieces(formulas, x0, y, scratch, more, inside, other_inside);
     set_all(back, T::zero());
     set_all(other_back, T::zero());
 }
