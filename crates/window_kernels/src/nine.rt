@@ -337,8 +337,8 @@ macro_rules! with_scratch {
 
 pub(crate) use with_scratch;
 
-/// `write_by_columns!(T, S, kernel, image, output, border)` writes what a kernel of columns gives of
-/// a U8 image to another of its size, of samples `T`. What each column gives is an `S`.
+/// `write_by_columns!(T, S, kernel, image, output, border)` writes what a kernel of columns gives
+/// of a U8 image to another of its size, of samples `T`. What each column gives is an `S`.
 macro_rules! write_by_columns {
     ($sample:ty, $item:ty, $kernel:expr, $image:expr, $output:expr, $border:expr) => {{
         let _limits = $image.valid();
