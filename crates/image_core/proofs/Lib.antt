@@ -1,4 +1,5 @@
 mod RowLaws
 mod UpdateLaws
+mod PieceLaws
 pub mod SizeLaws
 pub mod BandLaws

@@ -9,6 +9,7 @@ ghost use Rattle.image_core.specs.Rows.{sample_from};
 
 use crate::band::Band;
 use crate::formula::Formula;
+use crate::row_change::{Updated, Written};
 use crate::row_formula::{RowFormula, TwoRowFormulas, Unaided};
 use crate::row_update::RowUpdate;
 use crate::rows::{clear_rows, write_rows_of_two};
@@ -121,7 +122,7 @@ impl<'a> ImageMut<'a> {
             self.old self.new }
     {
         self.valid = update.area();
-        T::update_samples(self, update);
+        T::change_samples(self, &Updated { update }, &mut []);
     }
 
     /// Writes a whole image: the formula's samples in its area, 0 elsewhere.
@@ -152,7 +153,7 @@ impl<'a> ImageMut<'a> {
             (F.area formula.now) (F.at formula.now)) self.old self.new }
     {
         self.valid = formula.area();
-        T::write_samples(self, formula, scratch);
+        T::change_samples(self, &Written { formula }, scratch);
     }
 
     /// Writes two whole S16 images, or the band's rows of them, a row of each in turn. The scratch

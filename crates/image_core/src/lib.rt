@@ -4,12 +4,13 @@
 //! An `Image` lends the samples of an image to who reads it: its rows are those of an image value,
 //! 0 outside the valid rectangle. An `ImageMut` lends the samples of an image to who writes it, or
 //! of a `Band` of its rows. Both are read and written by the number type of the format, a `Sample`.
-//! What is computed place by place is a `Formula`, and one that needs scratch memory for that a
-//! `RowFormula`; `ImageMut::write` and `write_by_rows` write a whole image of one, or the band's
-//! rows of it: each sample, and 0 outside the rectangle. So whatever writes whole images by them
-//! writes any rows of them too. `TwoRowFormulas` are written to two images at once. A `RowUpdate`
-//! is what samples become from what they were, which `ImageMut::update` does in place. `Second` is
-//! what a kernel reads beside its first image.
+//! What is computed place by place is a `Formula`, and one that needs scratch memory for that, and
+//! takes no more of a row than a piece at once, a `RowFormula`; `ImageMut::write` and
+//! `write_by_rows` write a whole image of one, or the band's rows of it: each sample, and 0 outside
+//! the rectangle. So whatever writes whole images by them writes any rows of them too.
+//! `TwoRowFormulas` are written to two images at once. A `RowUpdate` is what samples become from
+//! what they were, which `ImageMut::update` does in place. `Second` is what a kernel reads beside
+//! its first image.
 #![tactic(auto)]
 
 mod band;
@@ -17,6 +18,8 @@ mod formula;
 mod image;
 mod image_mut;
 mod number;
+mod pieces;
+mod row_change;
 mod row_formula;
 mod row_update;
 mod rows;

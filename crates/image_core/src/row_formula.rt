@@ -7,8 +7,10 @@ use crate::formula::Formula;
 use crate::number::Number;
 use vx_base::Rect;
 
-/// What has a sample at each place of a rectangle, and needs scratch memory to compute a row of
-/// them. What the memory holds before a row means nothing, so any row can be asked for at any time.
+/// What has a sample at each place of a rectangle, and needs scratch memory to compute a piece of a
+/// row of them. What the memory holds before a piece means nothing, so any piece can be asked for
+/// at any time. No piece has more than `most` columns, so the scratch memory needn't grow with the
+/// width of images.
 pub trait RowFormula<T: Number, S> {
     /// The sample in a column of a row.
     ghost at: { Self → ℕ → ℕ → ℤ };
@@ -16,23 +18,32 @@ pub trait RowFormula<T: Number, S> {
     /// The places that can be asked for.
     ghost area: { Self → Rectangle };
 
-    /// How many items of scratch memory a row needs.
+    /// How many columns of a row can be asked for at once.
+    ghost most: { Self → ℕ };
+
+    /// How many items of scratch memory a piece needs.
     ghost room: { Self → ℕ };
 
     fn area(&self) -> Rect
         ensures { result ≡ area self.now };
 
-    /// Writes the samples of row y from column x on.
+    fn most(&self) -> u16
+        ensures value { result ≡ most self.now }
+        ensures some { 1 ≤ result };
+
+    /// Writes samples of row y, at least one, from column x on.
     fn fill(&self, x: u16, y: u16, scratch: &mut [S], out: &mut [T])
         requires in_rows { ((area self.now).y0 ≤ y) × (y < (area self.now).y1) }
         requires in_columns { ((area self.now).x0 ≤ x) ×
             (x + length out.old ≤ (area self.now).x1) }
+        requires some { 1 ≤ length out.old }
+        requires few { length out.old ≤ most self.now }
         requires scratch { room self.now ≤ length scratch.old }
         ensures { map T.value out.new ≡ run x (length out.old) (λ k. at self.now k y) };
 }
 
-/// What has two samples at each place of a rectangle, as a `RowFormula` has one. A row of both is
-/// computed at once, so what they are made of is read once.
+/// What has two samples at each place of a rectangle, as a `RowFormula` has one. A piece of a row
+/// of both is computed at once, so what they are made of is read once.
 pub trait TwoRowFormulas<T: Number, S, R> {
     /// The first sample in a column of a row.
     ghost first: { Self → ℕ → ℕ → ℤ };
@@ -42,13 +53,20 @@ pub trait TwoRowFormulas<T: Number, S, R> {
     /// The places that can be asked for.
     ghost area: { Self → Rectangle };
 
-    /// How many items of each scratch memory a row needs.
+    /// How many columns of a row can be asked for at once.
+    ghost most: { Self → ℕ };
+
+    /// How many items of each scratch memory a piece needs.
     ghost room: { Self → ℕ };
 
     fn area(&self) -> Rect
         ensures { result ≡ area self.now };
 
-    /// Writes both samples of row y from column x on.
+    fn most(&self) -> u16
+        ensures value { result ≡ most self.now }
+        ensures some { 1 ≤ result };
+
+    /// Writes both samples of row y, at least one of each, from column x on.
     fn fill(
         &self,
         x: u16,
@@ -61,6 +79,8 @@ pub trait TwoRowFormulas<T: Number, S, R> {
         requires in_rows { ((area self.now).y0 ≤ y) × (y < (area self.now).y1) }
         requires in_columns { ((area self.now).x0 ≤ x) ×
             (x + length out.old ≤ (area self.now).x1) }
+        requires some { 1 ≤ length out.old }
+        requires few { length out.old ≤ most self.now }
         requires as_long { length other.old ≡ length out.old }
         requires scratch { room self.now ≤ length scratch.old }
         requires more { room self.now ≤ length more.old }
@@ -69,7 +89,7 @@ pub trait TwoRowFormulas<T: Number, S, R> {
             (λ k. second self.now k y) };
 }
 
-/// A formula that needs no scratch memory.
+/// A formula that needs no scratch memory: whole rows of it are computed at once.
 #[derive(Drop)]
 pub struct Unaided<'a, F> {
     pub formula: &'a F,
@@ -80,10 +100,16 @@ impl<T: Number, F: Formula<T>> RowFormula<T, u8> for Unaided<'_, F> {
 
     ghost area = { λ u. F.area u.formula.now };
 
+    ghost most = { λ _. 65535 };
+
     ghost room = { λ _. 0 };
 
     fn area(&self) -> Rect {
         self.formula.area()
+    }
+
+    fn most(&self) -> u16 {
+        u16::MAX
     }
 
     fn fill(&self, x: u16, y: u16, _scratch: &mut [u8], out: &mut [T]) {

@@ -1,12 +1,14 @@
-//! Samples that are written, updated and cleared row by row.
+//! Samples that are changed, cleared and, of two images at once, written row by row.
 ghost use Rattle.std.specs.Prelude.{◌≡◌, ◌*◌, ◌+◌, ◌^◌, ◌<◌, ◌≤◌, ℕ, ℤ, length, map, replicate};
 ghost use Rattle.vx_base.specs.Image.{run, band, within};
 ghost use Rattle.image_core.specs.Rows.{sample_from};
 
 use crate::band::Band;
 use crate::number::Number;
-use crate::row_formula::{RowFormula, TwoRowFormulas};
-use crate::row_update::{Kept, RowUpdate};
+use crate::pieces::write_both_pieces;
+use crate::row_change::{RowChange, Updated};
+use crate::row_formula::TwoRowFormulas;
+use crate::row_update::Kept;
 use vx_base::Rect;
 
 /// Writes one sample to each place.
@@ -18,75 +20,93 @@ pub fn set_all<T: Number>(out: &mut [T], sample: T)
     }
 }
 
-/// Writes a row that goes through the formula's area, which is in the columns from x0 to x1 - 1.
-fn write_across<T: Number, S, F: RowFormula<T, S>>(
-    formula: &F,
+/// Changes a row that goes through the area of what changes it, which is in the columns from x0 to
+/// x1 - 1; the samples in other columns become 0.
+fn change_across<T: Number, S, C: RowChange<T, S>>(
+    change: &C,
     y: u16,
     x0: u16,
     x1: u16,
     scratch: &mut [S],
-    out: &mut [T],
+    row: &mut [T],
 )
-    requires in_rows { ((F.area formula.now).y0 ≤ y) × (y < (F.area formula.now).y1) }
-    requires columns { ((F.area formula.now).x0 ≡ x0) × ((F.area formula.now).x1 ≡ x1) }
+    requires in_rows { ((C.area change.now).y0 ≤ y) × (y < (C.area change.now).y1) }
+    requires columns { ((C.area change.now).x0 ≡ x0) × ((C.area change.now).x1 ≡ x1) }
     requires ordered { x0 ≤ x1 }
-    requires scratch { F.room formula.now ≤ length scratch.old }
-    requires room { x1 ≤ length out.old }
-    ensures { map T.value out.new ≡ run 0 (length out.old)
-        (λ x. within (F.area formula.now) (F.at formula.now) x y) }
+    requires scratch { C.room change.now ≤ length scratch.old }
+    requires room { x1 ≤ length row.old }
+    ensures { (before : ℕ → ℤ) → map T.value row.old ≡ run 0 (length row.old) before →
+        map T.value row.new ≡ run 0 (length row.old)
+        (λ k. within (C.area change.now) (λ x y. C.next change.now x y (before x)) k y) }
 {
-    let (left, others) = out.split_at_mut(usize::from(x0));
-    let (middle, right) = others.split_at_mut(usize::from(x1 - x0));
-    set_all(left, T::zero());
-    formula.fill(x0, y, scratch, middle);
-    set_all(right, T::zero());
+    let (head, others) = row.split_at_mut(usize::from(x0));
+    let (middle, tail) = others.split_at_mut(usize::from(x1 - x0));
+    set_all(head, T::zero());
+    change.change(x0, y, scratch, middle);
+    set_all(tail, T::zero());
 }
 
-fn write_row<T: Number, S, F: RowFormula<T, S>>(
-    formula: &F,
+/// Changes row y where it is in the area of what changes it; its other samples become 0.
+fn change_row<T: Number, S, C: RowChange<T, S>>(
+    change: &C,
     y: u16,
     scratch: &mut [S],
-    out: &mut [T],
+    row: &mut [T],
 )
-    requires scratch { F.room formula.now ≤ length scratch.old }
-    requires room { (F.area formula.now).x1 ≤ length out.old }
-    ensures { map T.value out.new ≡ run 0 (length out.old)
-        (λ x. within (F.area formula.now) (F.at formula.now) x y) }
+    requires scratch { C.room change.now ≤ length scratch.old }
+    requires room { (C.area change.now).x1 ≤ length row.old }
+    ensures { (before : ℕ → ℤ) → map T.value row.old ≡ run 0 (length row.old) before →
+        map T.value row.new ≡ run 0 (length row.old)
+        (λ k. within (C.area change.now) (λ x y. C.next change.now x y (before x)) k y) }
 {
-    let area = formula.area();
+    let area = change.area();
     if y < area.y0() || area.y1() <= y {
-        set_all(out, T::zero());
+        set_all(row, T::zero());
     } else {
-        write_across(formula, y, area.x0(), area.x1(), scratch, out);
+        change_across(change, y, area.x0(), area.x1(), scratch, row);
     }
 }
 
-/// Writes the samples of a band of rows of an image, row by row: the formula's in its area, 0
-/// elsewhere. `out` has room for these rows alone.
-pub fn write_rows<T: Number, S, F: RowFormula<T, S>>(
-    formula: &F,
+/// Changes the samples of a band of rows of an image, which stand row by row, where they are in the
+/// area of what changes them; the others become 0. `samples` has room for these rows alone.
+pub fn change_rows<T: Number, S, C: RowChange<T, S>>(
+    change: &C,
     width: u16,
     rows: Band,
     scratch: &mut [S],
-    out: &mut [T],
+    samples: &mut [T],
 )
-    requires scratch { F.room formula.now ≤ length scratch.old }
+    requires scratch { C.room change.now ≤ length scratch.old }
     requires rows { rows.start + rows.count < 2 ^ 16 }
-    requires size { length out.old ≡ rows.count * width }
-    requires room { (F.area formula.now).x1 ≤ width }
-    ensures { map T.value out.new ≡ band width rows.start rows.count
-        (within (F.area formula.now) (F.at formula.now)) }
+    requires size { length samples.old ≡ rows.count * width }
+    requires room { (C.area change.now).x1 ≤ width }
+    ensures { map T.value samples.new ≡ band width rows.start rows.count
+        (within (C.area change.now) (λ x y. C.next change.now x y
+        (sample_from width rows.start (map T.value samples.old) x y))) }
 {
     let step = usize::from(width);
     for k in 0..rows.count {
         let first = usize::from(k) * step;
-        write_row(
-            formula,
+        change_row(
+            change,
             rows.start + k,
             scratch,
-            &mut out[first..first + step],
+            &mut samples[first..first + step],
         );
     }
+}
+
+/// Makes the samples of a band of rows of an image, which stand row by row, 0 outside the
+/// rectangle.
+pub fn clear_rows<T: Number>(valid: Rect, width: u16, rows: Band, samples: &mut [T])
+    requires rows { rows.start + rows.count < 2 ^ 16 }
+    requires size { length samples.old ≡ rows.count * width }
+    requires room { valid.x1 ≤ width }
+    ensures { map T.value samples.new ≡ band width rows.start rows.count
+        (within valid (sample_from width rows.start (map T.value samples.old))) }
+{
+    let kept = Kept { area: valid };
+    change_rows(&Updated { update: &kept }, width, rows, &mut [], samples);
 }
 
 /// Writes a row of two images that goes through the formulas' area, which is in the columns from x0
@@ -119,7 +139,7 @@ fn write_both_across<T: Number, S, R, F: TwoRowFormulas<T, S, R>>(
     let (other_inside, other_back) = rest.split_at_mut(usize::from(x1 - x0));
     set_all(front, T::zero());
     set_all(other_front, T::zero());
-    formulas.fill(x0, y, scratch, more, inside, other_inside);
+    write_both_pieces(formulas, x0, y, scratch, more, inside, other_inside);
     set_all(back, T::zero());
     set_all(other_back, T::zero());
 }
@@ -184,71 +204,4 @@ pub fn write_rows_of_two<T: Number, S, R, F: TwoRowFormulas<T, S, R>>(
             &mut other[start..start + step],
         );
     }
-}
-
-/// Updates a row that goes through the update's area, which is in the columns from x0 to x1 - 1;
-/// the samples in other columns become 0.
-fn update_across<T: Number, U: RowUpdate<T>>(update: &U, y: u16, x0: u16, x1: u16, row: &mut [T])
-    requires in_rows { ((U.area update.now).y0 ≤ y) × (y < (U.area update.now).y1) }
-    requires columns { ((U.area update.now).x0 ≡ x0) × ((U.area update.now).x1 ≡ x1) }
-    requires ordered { x0 ≤ x1 }
-    requires room { x1 ≤ length row.old }
-    ensures { (before : ℕ → ℤ) → map T.value row.old ≡ run 0 (length row.old) before →
-        map T.value row.new ≡ run 0 (length row.old)
-        (λ k. within (U.area update.now) (λ x y. U.next update.now x y (before x)) k y) }
-{
-    let (head, others) = row.split_at_mut(usize::from(x0));
-    let (middle, tail) = others.split_at_mut(usize::from(x1 - x0));
-    set_all(head, T::zero());
-    update.update(x0, y, middle);
-    set_all(tail, T::zero());
-}
-
-/// Updates row y where it is in the update's area; its other samples become 0.
-fn update_row<T: Number, U: RowUpdate<T>>(update: &U, y: u16, row: &mut [T])
-    requires room { (U.area update.now).x1 ≤ length row.old }
-    ensures { (before : ℕ → ℤ) → map T.value row.old ≡ run 0 (length row.old) before →
-        map T.value row.new ≡ run 0 (length row.old)
-        (λ k. within (U.area update.now) (λ x y. U.next update.now x y (before x)) k y) }
-{
-    let updated = update.area();
-    if y < updated.y0() || updated.y1() <= y {
-        set_all(row, T::zero());
-    } else {
-        update_across(update, y, updated.x0(), updated.x1(), row);
-    }
-}
-
-/// Updates the samples of a band of rows of an image, which stand row by row, where they are in the
-/// update's area; the others become 0.
-pub fn update_rows<T: Number, U: RowUpdate<T>>(
-    update: &U,
-    width: u16,
-    rows: Band,
-    samples: &mut [T],
-)
-    requires rows { rows.start + rows.count < 2 ^ 16 }
-    requires size { length samples.old ≡ rows.count * width }
-    requires room { (U.area update.now).x1 ≤ width }
-    ensures { map T.value samples.new ≡ band width rows.start rows.count
-        (within (U.area update.now) (λ x y. U.next update.now x y
-        (sample_from width rows.start (map T.value samples.old) x y))) }
-{
-    let step = usize::from(width);
-    for line in 0..rows.count {
-        let first = usize::from(line) * step;
-        update_row(update, rows.start + line, &mut samples[first..first + step]);
-    }
-}
-
-/// Makes the samples of a band of rows of an image, which stand row by row, 0 outside the
-/// rectangle.
-pub fn clear_rows<T: Number>(valid: Rect, width: u16, rows: Band, samples: &mut [T])
-    requires rows { rows.start + rows.count < 2 ^ 16 }
-    requires size { length samples.old ≡ rows.count * width }
-    requires room { valid.x1 ≤ width }
-    ensures { map T.value samples.new ≡ band width rows.start rows.count
-        (within valid (sample_from width rows.start (map T.value samples.old))) }
-{
-    update_rows(&Kept { area: valid }, width, rows, samples);
 }

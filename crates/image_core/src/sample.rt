@@ -11,9 +11,8 @@ ghost use Rattle.image_core.specs.Slices.{slice_format, slice_values};
 use crate::band::Band;
 use crate::image_mut::ImageMut;
 use crate::number::Number;
-use crate::row_formula::RowFormula;
-use crate::row_update::RowUpdate;
-use crate::rows::{update_rows, write_rows};
+use crate::row_change::RowChange;
+use crate::rows::change_rows;
 use crate::slice::Slice;
 use vx_base::{Desc, Rect};
 
@@ -50,33 +49,21 @@ pub trait Sample: Number {
         ensures value { written result ≡ image_over desc empty (map Self.value samples.old) }
         ensures same_slice { slice_name result ≡ samples.entry.ghost_name };
 
-    /// Writes the samples of the rows that an image is lent for: the formula's in its area, 0
-    /// elsewhere.
-    fn write_samples<S, F: RowFormula<Self, S>>(
+    /// Changes the samples of the rows that an image is lent for, in the area of what changes them;
+    /// the others become 0.
+    fn change_samples<S, C: RowChange<Self, S>>(
         output: &mut ImageMut<'_>,
-        formula: &F,
+        change: &C,
         scratch: &mut [S],
     )
         requires target { IsTarget output.old }
         requires format { (written output.old).format ≡ format }
-        requires room { (F.area formula.now).x1 ≤ (written output.old).width }
-        requires scratch { F.room formula.now ≤ length scratch.old }
+        requires room { (C.area change.now).x1 ≤ (written output.old).width }
+        requires scratch { C.room change.now ≤ length scratch.old }
         ensures value { written output.new
             ≡ image_over output.old.desc output.old.valid
             (band (written output.old).width output.old.rows.start output.old.rows.count
-            (within (F.area formula.now) (F.at formula.now))) }
-        ensures slices { SameSlices output.old output.new };
-
-    /// Updates the samples of the rows that an image is lent for, in the update's area; the others
-    /// become 0.
-    fn update_samples<U: RowUpdate<Self>>(output: &mut ImageMut<'_>, update: &U)
-        requires target { IsTarget output.old }
-        requires format { (written output.old).format ≡ format }
-        requires room { (U.area update.now).x1 ≤ (written output.old).width }
-        ensures value { written output.new
-            ≡ image_over output.old.desc output.old.valid
-            (band (written output.old).width output.old.rows.start output.old.rows.count
-            (within (U.area update.now) (λ x y. U.next update.now x y
+            (within (C.area change.now) (λ x y. C.next change.now x y
             (sample_from output.old.desc.width output.old.rows.start
             (written output.old).samples x y)))) }
         ensures slices { SameSlices output.old output.new };
@@ -116,18 +103,13 @@ impl Sample for u8 {
         image_mut!(desc, rows, samples, &mut [], &mut [])
     }
 
-    fn write_samples<S, F: RowFormula<u8, S>>(
+    fn change_samples<S, C: RowChange<u8, S>>(
         output: &mut ImageMut<'_>,
-        formula: &F,
+        change: &C,
         scratch: &mut [S],
     ) {
         let (width, _limits) = (output.desc.width(), output.desc.height());
-        write_rows(formula, width, output.rows, scratch, output.bytes);
-    }
-
-    fn update_samples<U: RowUpdate<u8>>(output: &mut ImageMut<'_>, update: &U) {
-        let (width, _limits) = (output.desc.width(), output.desc.height());
-        update_rows(update, width, output.rows, output.bytes);
+        change_rows(change, width, output.rows, scratch, output.bytes);
     }
 }
 
@@ -151,18 +133,13 @@ impl Sample for i16 {
         image_mut!(desc, rows, &mut [], samples, &mut [])
     }
 
-    fn write_samples<S, F: RowFormula<i16, S>>(
+    fn change_samples<S, C: RowChange<i16, S>>(
         output: &mut ImageMut<'_>,
-        formula: &F,
+        change: &C,
         scratch: &mut [S],
     ) {
         let (width, _limits) = (output.desc.width(), output.desc.height());
-        write_rows(formula, width, output.rows, scratch, output.shorts);
-    }
-
-    fn update_samples<U: RowUpdate<i16>>(output: &mut ImageMut<'_>, update: &U) {
-        let (width, _limits) = (output.desc.width(), output.desc.height());
-        update_rows(update, width, output.rows, output.shorts);
+        change_rows(change, width, output.rows, scratch, output.shorts);
     }
 }
 
@@ -186,17 +163,12 @@ impl Sample for u32 {
         image_mut!(desc, rows, &mut [], &mut [], samples)
     }
 
-    fn write_samples<S, F: RowFormula<u32, S>>(
+    fn change_samples<S, C: RowChange<u32, S>>(
         output: &mut ImageMut<'_>,
-        formula: &F,
+        change: &C,
         scratch: &mut [S],
     ) {
         let (width, _limits) = (output.desc.width(), output.desc.height());
-        write_rows(formula, width, output.rows, scratch, output.words);
-    }
-
-    fn update_samples<U: RowUpdate<u32>>(output: &mut ImageMut<'_>, update: &U) {
-        let (width, _limits) = (output.desc.width(), output.desc.height());
-        update_rows(update, width, output.rows, output.words);
+        change_rows(change, width, output.rows, scratch, output.words);
     }
 }

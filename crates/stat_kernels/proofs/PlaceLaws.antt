@@ -29,9 +29,6 @@ places_more r y ordered =
 pub row_samples : (f : ℕ → ℕ → ℤ) (x n y : ℕ) → map (λ p. f p.0 p.1) (row_places x n y) ≡ run x n (λ k. f k y)
 row_samples f x n y = map-map (λ p. f p.0 p.1) (λ k. (k, y)) (range_with_len x n)
 
-pub samples_none : (r : Rectangle) (image : ImageValue) → samples_in (above r r.y0) image ≡ []
-samples_none r image = ap (map (λ p. at image p.0 p.1)) (places_none r)
-
 pub samples_more : (r : Rectangle) (image : ImageValue) (y : ℕ) → r.y0 ≤ y → samples_in (above r (y + 1)) image ≡ samples_in (above r y) image ++ run r.x0 (r.x1 - r.x0) (λ k. at image k y)
 samples_more r image y ordered =
     ap (map (λ p. at image p.0 p.1)) (places_more r y ordered)

@@ -7,5 +7,4 @@ mod ProductLaws
 mod ScaleLaws
 mod MatrixLaws
 mod RowLaws
-mod PieceLaws
 mod MedianLaws

@@ -17,10 +17,10 @@ ghost use Rattle.window_kernels.specs.Fits.{ConvolutionFits};
 ghost use Rattle.window_kernels.specs.Products.{IsUpTo, AreUpTo, alternating, sum_of_rows, turned};
 ghost use Rattle.window_kernels.specs.Products.{turned_pairs, turned_tables};
 
-use crate::pieces::{InPieces, PIECE, PieceFormula};
+use crate::pieces::PIECE;
 use crate::products::sum_block;
 use border_rows::{load_row, window_valid};
-use image_core::{Image, ImageMut, Sample};
+use image_core::{Image, ImageMut, RowFormula, Sample};
 use vx_base::{Border, Convolution, Format, Policy, Rect, narrow_s16, narrow_u8};
 
 /// U8 and S16 samples, to which numbers are clamped.
@@ -239,11 +239,13 @@ impl FromMatrix<'_, '_> {
     }
 }
 
-impl<T: Clamped> PieceFormula<T, i16> for FromMatrix<'_, '_> {
+impl<T: Clamped> RowFormula<T, i16> for FromMatrix<'_, '_> {
     ghost at = { λ s x y. convolved s.convolution.now T.format (look s.image.now s.border)
         (pos x) (pos y) };
 
     ghost area = { λ s. s.area };
+
+    ghost most = { λ _. PIECE };
 
     ghost room = { λ s. 9 * (min s.image.now.width PIECE + 48) };
 
@@ -251,7 +253,11 @@ impl<T: Clamped> PieceFormula<T, i16> for FromMatrix<'_, '_> {
         self.area
     }
 
-    fn fill_piece(&self, x: u16, y: u16, scratch: &mut [i16], out: &mut [T]) {
+    fn most(&self) -> u16 {
+        PIECE as u16
+    }
+
+    fn fill(&self, x: u16, y: u16, scratch: &mut [i16], out: &mut [T]) {
         let _limits = self.image.valid();
         let line = (out.len() + AROUND) as u16;
         let rows = &mut scratch[..usize::from(self.convolution.rows()) * usize::from(line)];
@@ -288,7 +294,7 @@ fn write_convolved<T: Clamped>(
         border,
         area,
     };
-    output.write_by_rows::<T, i16, _>(&InPieces { formula }, scratch);
+    output.write_by_rows::<T, i16, _>(&formula, scratch);
 }
 
 /// `with_rows!(width, rows => call)` makes the call with `rows` on the stack, for a piece of each

@@ -12,9 +12,9 @@ ghost use Rattle.window_kernels.specs.Fits.{WindowFits};
 ghost use Rattle.window_kernels.specs.Nine.{column_seen};
 
 use crate::columns::{OfColumn, Window};
-use crate::pieces::{InPieces, PIECE, PieceFormula, TwoPieceFormulas};
+use crate::pieces::PIECE;
 use border_rows::{value_beside, window_valid};
-use image_core::{Image, ImageMut, Number, Sample};
+use image_core::{Image, ImageMut, Number, RowFormula, Sample, TwoRowFormulas};
 use vx_base::{Border, Rect};
 
 /// What a function of the nine samples around a place gives there.
@@ -92,11 +92,13 @@ struct FromNine<'a, 'b, K> {
     window: &'a Window<'a, 'b>,
 }
 
-impl<T: Sample, S: Number, K: OfNine<T, S>> PieceFormula<T, S> for FromNine<'_, '_, K> {
+impl<T: Sample, S: Number, K: OfNine<T, S>> RowFormula<T, S> for FromNine<'_, '_, K> {
     ghost at = { λ s x y. K.formula s.kernel.now
         (nine_around (look s.window.now.image.now s.window.now.border) (pos x) (pos y)) };
 
     ghost area = { λ s. s.window.now.area };
+
+    ghost most = { λ _. PIECE };
 
     ghost room = { λ s. 3 * (min s.window.now.image.now.width PIECE + 2) };
 
@@ -104,7 +106,11 @@ impl<T: Sample, S: Number, K: OfNine<T, S>> PieceFormula<T, S> for FromNine<'_, 
         self.window.area
     }
 
-    fn fill_piece(&self, x: u16, y: u16, scratch: &mut [S], out: &mut [T]) {
+    fn most(&self) -> u16 {
+        PIECE as u16
+    }
+
+    fn fill(&self, x: u16, y: u16, scratch: &mut [S], out: &mut [T]) {
         let _valid = self.window.image.valid();
         self.kernel.write_row(self.window, x, y, scratch, out);
     }
@@ -118,7 +124,7 @@ struct FromBoth<'a, 'b, K, L> {
     window: &'a Window<'a, 'b>,
 }
 
-impl<S: Number, R: Number, K: AcrossColumns<i16, S>, L: AcrossColumns<i16, R>> TwoPieceFormulas<
+impl<S: Number, R: Number, K: AcrossColumns<i16, S>, L: AcrossColumns<i16, R>> TwoRowFormulas<
     i16,
     S,
     R,
@@ -131,13 +137,19 @@ impl<S: Number, R: Number, K: AcrossColumns<i16, S>, L: AcrossColumns<i16, R>> T
 
     ghost area = { λ s. s.window.now.area };
 
+    ghost most = { λ _. PIECE };
+
     ghost room = { λ s. min s.window.now.image.now.width PIECE + 2 };
 
     fn area(&self) -> Rect {
         self.window.area
     }
 
-    fn fill_piece(
+    fn most(&self) -> u16 {
+        PIECE as u16
+    }
+
+    fn fill(
         &self,
         x: u16,
         y: u16,
@@ -188,7 +200,7 @@ fn write_with_rows<T: Sample, S: Number, K: OfNine<T, S>>(
         kernel,
         window: &window,
     };
-    output.write_by_rows::<T, S, _>(&InPieces { formula }, scratch);
+    output.write_by_rows::<T, S, _>(&formula, scratch);
 }
 
 /// `with_off_rows!(width, border, rows => call)` makes the call with `rows` on the stack, a piece
@@ -265,12 +277,12 @@ fn write_two_with_rows<S: Number, R: Number, K: AcrossColumns<i16, S>, L: Across
         off_rows,
         area,
     };
-    let formula = FromBoth {
+    let formulas = FromBoth {
         first,
         second,
         window: &window,
     };
-    output.write_two_by_rows::<S, R, _>(other, &InPieces { formula }, scratch, more);
+    output.write_two_by_rows::<S, R, _>(other, &formulas, scratch, more);
 }
 
 /// Writes what two kernels of columns give of a U8 image to the same rows of two S16 images of its
@@ -325,8 +337,8 @@ macro_rules! with_scratch {
 
 pub(crate) use with_scratch;
 
-/// `write_by_columns!(T, S, kernel, image, output, border)` writes what a kernel of columns gives of
-/// a U8 image to another of its size, of samples `T`. What each column gives is an `S`.
+/// `write_by_columns!(T, S, kernel, image, output, border)` writes what a kernel of columns gives
+/// of a U8 image to another of its size, of samples `T`. What each column gives is an `S`.
 macro_rules! write_by_columns {
     ($sample:ty, $item:ty, $kernel:expr, $image:expr, $output:expr, $border:expr) => {{
         let _limits = $image.valid();

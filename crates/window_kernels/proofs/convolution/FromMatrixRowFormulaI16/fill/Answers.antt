@@ -5,7 +5,7 @@ use Rattle.vx_base.specs.Window.{look, convolved}
 use Rattle.vx_base.proofs.WindowLaws.{run_shifted}
 use Rattle.window_kernels.specs.Products.{sum_of_rows}
 use Rattle.window_kernels.proofs.MatrixLaws.{odd_side, sum_is_product}
-use Rattle.window_kernels.proofs.convolution.FromMatrixPieceFormulaI16.fill_piece.Goals as goal
+use Rattle.window_kernels.proofs.convolution.FromMatrixRowFormulaI16.fill.Goals as goal
 
 pub returns : goal.returns
 returns g c =

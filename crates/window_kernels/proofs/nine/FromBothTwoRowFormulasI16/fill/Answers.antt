@@ -1,7 +1,7 @@
 use Rattle.std.proofs.Common.{pos, length}
 use Rattle.vx_base.specs.Window.{look}
 use Rattle.window_kernels.proofs.ColumnLaws.{nines_across}
-use Rattle.window_kernels.proofs.nine.FromBothTwoPieceFormulasI16.fill_piece.Goals as goal
+use Rattle.window_kernels.proofs.nine.FromBothTwoRowFormulasI16.fill.Goals as goal
 
 pub returns-clause-first : goal.returns-clause-first
 returns-clause-first g c =

@@ -1,0 +1,78 @@
+//! What is written and updated row by row, told once.
+ghost use Rattle.std.specs.Prelude.{◌≡◌, ◌+◌, ◌<◌, ◌≤◌, ℕ, ℤ, length, map};
+ghost use Rattle.vx_base.specs.Rectangle.{Rectangle};
+ghost use Rattle.vx_base.specs.Image.{run};
+
+use crate::number::Number;
+use crate::pieces::write_pieces;
+use crate::row_formula::RowFormula;
+use crate::row_update::RowUpdate;
+use vx_base::Rect;
+
+/// What each sample in a rectangle becomes, from what it was, with scratch memory for a row.
+pub trait RowChange<T: Number, S> {
+    /// The sample in a column of a row, from the one that stood there.
+    ghost next: { Self → ℕ → ℕ → ℤ → ℤ };
+
+    /// The places whose samples can be changed.
+    ghost area: { Self → Rectangle };
+
+    /// How many items of scratch memory a row needs.
+    ghost room: { Self → ℕ };
+
+    fn area(&self) -> Rect
+        ensures { result ≡ area self.now };
+
+    /// Changes the samples of row y from column x on.
+    fn change(&self, x: u16, y: u16, scratch: &mut [S], row: &mut [T])
+        requires in_rows { ((area self.now).y0 ≤ y) × (y < (area self.now).y1) }
+        requires in_columns { ((area self.now).x0 ≤ x) ×
+            (x + length row.old ≤ (area self.now).x1) }
+        requires scratch { room self.now ≤ length scratch.old }
+        ensures { (before : ℕ → ℤ) → map T.value row.old ≡ run x (length row.old) before →
+            map T.value row.new ≡ run x (length row.old) (λ k. next self.now k y (before k)) };
+}
+
+/// A formula's samples, whatever was there before.
+#[derive(Drop)]
+pub struct Written<'a, F> {
+    pub formula: &'a F,
+}
+
+impl<T: Number, S, F: RowFormula<T, S>> RowChange<T, S> for Written<'_, F> {
+    ghost next = { λ w x y _. F.at w.formula.now x y };
+
+    ghost area = { λ w. F.area w.formula.now };
+
+    ghost room = { λ w. F.room w.formula.now };
+
+    fn area(&self) -> Rect {
+        self.formula.area()
+    }
+
+    fn change(&self, x: u16, y: u16, scratch: &mut [S], row: &mut [T]) {
+        write_pieces(self.formula, x, y, scratch, row);
+    }
+}
+
+/// What samples become by an update, which needs no scratch memory.
+#[derive(Drop)]
+pub struct Updated<'a, U> {
+    pub update: &'a U,
+}
+
+impl<T: Number, U: RowUpdate<T>> RowChange<T, u8> for Updated<'_, U> {
+    ghost next = { λ u. U.next u.update.now };
+
+    ghost area = { λ u. U.area u.update.now };
+
+    ghost room = { λ _. 0 };
+
+    fn area(&self) -> Rect {
+        self.update.area()
+    }
+
+    fn change(&self, x: u16, y: u16, _scratch: &mut [u8], row: &mut [T]) {
+        self.update.update(x, y, row);
+    }
+}
