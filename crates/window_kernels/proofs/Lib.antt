@@ -9,3 +9,4 @@ mod MatrixLaws
 mod RowLaws
 mod PieceLaws
 mod MedianLaws
+mod LaneLaws

@@ -19,6 +19,7 @@ mod gradients;
 pub mod laws;
 mod means;
 mod median;
+mod median_lanes;
 mod nine;
 mod pieces;
 mod products;
