@@ -8,3 +8,4 @@ mod ScaleLaws
 mod MatrixLaws
 mod RowLaws
 mod MedianLaws
+mod LaneLaws

@@ -1,5 +1,5 @@
 //! The middle one of the nine samples around a place.
-ghost use Rattle.std.specs.Prelude.{◌≡◌, ◌+◌, min, max, pos, map, length};
+ghost use Rattle.std.specs.Prelude.{◌≡◌, ◌+◌, ◌*◌, ◌≤◌, min, max, pos, map, length, take};
 ghost use Rattle.std.specs.Int.{int_min, int_max};
 ghost use Rattle.vx_base.specs.declared.format.Format.TheVariants.{U8};
 ghost use Rattle.vx_base.specs.Image.{run};
@@ -10,6 +10,7 @@ ghost use Rattle.window_kernels.specs.Nine.{three_at, median_of_sorted};
 
 use crate::columns::{OfColumn, Window};
 use crate::extremes::{Greatest, Least};
+use crate::median_lanes::write_block;
 use crate::nine::{OfNine, with_scratch, write_nine};
 use image_core::{Image, ImageMut};
 use vx_base::Border;
@@ -56,6 +57,22 @@ fn median_of(low: Three, center: Three, high: Three) -> u8
     middle((lowest, highest, middle(center)))
 }
 
+/// Writes the medians of each three columns, at so many times 32 places.
+fn write_blocks(low: &[u8], center: &[u8], high: &[u8], blocks: usize, out: &mut [u8])
+    requires low { length low.now ≡ length out.old + 2 }
+    requires center { length center.now ≡ length out.old + 2 }
+    requires high { length high.now ≡ length out.old + 2 }
+    requires inside { 32 * blocks ≤ length out.old }
+    ensures { map pos (take (32 * blocks) out.new) ≡ run 0 (32 * blocks)
+        (λ i. pos (median_of_sorted (three_at low.now i) (three_at center.now i)
+        (three_at high.now i))) }
+{
+    for k in 0..blocks {
+        let start = 32 * k;
+        write_block(low, center, high, start, &mut out[start..start + 32]);
+    }
+}
+
 /// Writes the medians of each three columns.
 fn write_medians(low: &[u8], center: &[u8], high: &[u8], out: &mut [u8])
     requires low { length low.now ≡ length out.old + 2 }
@@ -65,8 +82,10 @@ fn write_medians(low: &[u8], center: &[u8], high: &[u8], out: &mut [u8])
         (λ i. pos (median_of_sorted (three_at low.now i) (three_at center.now i)
         (three_at high.now i))) }
 {
-    for (i, sample) in out.iter_mut().enumerate() {
-        *sample = median_of(
+    let blocks = out.len() / 32;
+    write_blocks(low, center, high, blocks, out);
+    for i in 32 * blocks..out.len() {
+        out[i] = median_of(
             (low[i], low[i + 1], low[i + 2]),
             (center[i], center[i + 1], center[i + 2]),
             (high[i], high[i + 1], high[i + 2]),
@@ -91,9 +110,8 @@ impl OfNine<u8, u8> for Median {
         let (low, others) = scratch.split_at_mut(count);
         let (center, others) = others.split_at_mut(count);
         let (high, _) = others.split_at_mut(count);
-        window.write_columns(&Least, x, y, low);
+        window.write_both_columns(&Least, &Greatest, x, y, low, high);
         window.write_columns(&MiddleOne, x, y, center);
-        window.write_columns(&Greatest, x, y, high);
         write_medians(low, center, high, out);
     }
 }
