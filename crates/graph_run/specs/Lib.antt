@@ -8,3 +8,4 @@ pub mod Turns
 pub mod Examples
 pub mod Stage
 pub mod Slots
+pub mod Bands

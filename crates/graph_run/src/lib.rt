@@ -15,10 +15,12 @@
 //! - `examples`: runs of small graphs
 #![tactic(auto)]
 
+mod bands;
 pub mod examples;
 mod kernel;
 pub mod laws;
 mod operand;
+mod part;
 mod runs;
 mod stage;
 mod step;

@@ -129,7 +129,7 @@ fn claim_for(stage: &mut Stage, verified: &Verified, plan: &Plan, output: Option
 }
 
 /// The place of a slot of a format among all slots.
-fn place_of(plan: &Plan, format: Format, slot: usize) -> usize
+pub fn place_of(plan: &Plan, format: Format, slot: usize) -> usize
     requires { slot_place (told plan.now) format slot < 2 ^ 64 }
     ensures { result ≡ slot_place (told plan.now) format slot }
 {
