@@ -2,12 +2,13 @@
 use Rattle.std.specs.Prelude.{ℕ, ◌+◌, ◌-◌, ◌*◌, ◌≤◌, ◌<◌, ◌≡◌, ◌≢◌, IsTrue, is_some, ⊤, Bool, true, false, not, ◌&&◌, if◌then◌else◌, List, [], ◌∷◌, ◌++◌, map, take, drop, length, sum_by, slice_get, All, Option, Some, None, IfSome, unwrap_or}
 use Rattle.std.specs.Option.{option_map, option_and_then}
 use Rattle.std.specs.List.{list_any}
+use Rattle.std.specs.List.Sorted.{IsStrictlyIncreasing}
 use Rattle.vx_base.specs.declared.format.Format.{Format}
 use Rattle.vx_base.specs.declared.kind.Kind.TheVariants as kind
 use Rattle.vx_base.specs.declared.node.Node.{Node}
 use Rattle.vx_base.specs.declared.output.Output.{Output}
 use Rattle.vx_base.specs.Cell.{Cell, cell_of}
-use Rattle.vx_base.specs.Description.{Description}
+use Rattle.vx_base.specs.Description.{Description, IsDescription}
 use Rattle.vx_base.specs.Function.{parameters, accumulates}
 use Rattle.vx_base.specs.Image.{ImageValue, IsImage, image_over, description_of, band, at}
 use Rattle.vx_base.specs.Node.{outputs}
@@ -148,6 +149,9 @@ is_virtual_name v name = list_any (λ (o : VirtualOutput). name == o.cell.name) 
 -- and read no client's image that one of them writes; together they look so many rows up and down
 pub record RunsInBands (objects : List Named) (nodes : List Node) (v : Verified) (height beside : ℕ) : Type 0 where
   pub ready : IsReady objects nodes v
+  pub names : IsStrictlyIncreasing (map (λ o. o.name) objects)
+  pub objects : All (λ o. IsObject o.object) objects
+  pub described : All (λ o. IsDescription o.desc) v.virtual_outputs.items
   pub images : All (λ n. ((parameters n.function).output ≡ kind.Image) × (accumulates n.function ≡ false)) v.steps.items
   pub near : All (λ n. IsTrue (is_some (reach_of objects n))) v.steps.items
   pub beside : sum_by (rows_beside objects) v.steps.items ≡ beside
@@ -196,7 +200,7 @@ pub record IsPartOf (objects : List Named) (height : ℕ) (done : List Node) (ro
   pub image : ImageValue
   pub there : now ≡ Some (ImageObject part)
   pub in_the_end : final ≡ Some (ImageObject image)
-  pub is_image : IsImage part
+  pub part_is : IsImage part
   pub stands : StandsFor rows.start rows.count (first_right (sum_by (rows_beside objects) done) rows.start)
       (end_right (sum_by (rows_beside objects) done) height (rows.start + rows.count)) part image
 
