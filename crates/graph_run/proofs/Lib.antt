@@ -31,3 +31,6 @@ pub mod SharingLemmas
 pub mod AgreeLemmas
 pub mod SceneLemmas
 pub mod SlotPoolLemmas
+pub mod BandLemmas
+pub mod SeesLemmas
+pub mod StripLemmas

@@ -194,15 +194,21 @@ pub record IsFinished (rows : ℕ → ℕ) (v : Verified) (objects final now : L
 abbrev pub rows_by_now : List Node → Strip → ℕ → ℕ
 rows_by_now done strip name = if is_written done (cell_of name) then strip.band.start + strip.band.count else strip.band.start
 
--- an image that stands in a slot, beside what it is in the end: right but for as many rows at each end as these nodes look up and down
+-- of rows that nodes see, from which to which what these nodes made of them is right, where each looks so far up and down
+abbrev pub right_from : List Named → List Node → Band → ℕ
+right_from objects done rows = first_right (sum_by (rows_beside objects) done) rows.start
+
+abbrev pub right_to : List Named → ℕ → List Node → Band → ℕ
+right_to objects height done rows = end_right (sum_by (rows_beside objects) done) height (rows.start + rows.count)
+
+-- an image that stands in a slot, beside what it is in the end
 pub record IsPartOf (objects : List Named) (height : ℕ) (done : List Node) (rows : Band) (now final : Option ObjectValue) : Type 0 where
   pub part : ImageValue
   pub image : ImageValue
   pub there : now ≡ Some (ImageObject part)
   pub in_the_end : final ≡ Some (ImageObject image)
   pub part_is : IsImage part
-  pub stands : StandsFor rows.start rows.count (first_right (sum_by (rows_beside objects) done) rows.start)
-      (end_right (sum_by (rows_beside objects) done) height (rows.start + rows.count)) part image
+  pub stands : StandsFor rows.start rows.count (right_from objects done rows) (right_to objects height done rows) part image
 
 -- the valid rectangles of what the steps write in the end
 pub record AreAreas (final : List Named) (steps : List Node) (areas : List Rectangle) : Type 0 where
