@@ -32,5 +32,8 @@ pub mod AgreeLemmas
 pub mod SceneLemmas
 pub mod SlotPoolLemmas
 pub mod BandLemmas
+pub mod FinalLemmas
 pub mod SeesLemmas
 pub mod StripLemmas
+pub mod StripStepLemmas
+pub mod StripRunLemmas

@@ -102,7 +102,7 @@ both_held (o ∷ one) (p ∷ other) labels name x at =
     ]
 
 -- a virtual image stays where it was
-stays_virtual : (old now : List Named) → map label_of now ≡ map label_of old → forgotten old now ≡ now → (name : ℕ) (image : VirtualImage)
+pub stays_virtual : (old now : List Named) → map label_of now ≡ map label_of old → forgotten old now ≡ now → (name : ℕ) (image : VirtualImage)
     → object_held old name ≡ Some (VirtualObject image) → object_held now name ≡ Some (VirtualObject image)
 stays_virtual old now labels kept name image at =
     grind (arith, both_held, labels, object_held-forgotten)

@@ -144,6 +144,15 @@ module _ (rows : Band) (from to : ℕ) (slots : List Slot) (now final : List Nam
       let final_is : cell_object final cell ≡ s.object = grind (arith, s.ends_as) in
       rw now_is (is_read n.function (object_kind s.object) (wanted ∙ ap (λ o. Some (object_kind o)) final_is))
 
+  -- what is seen is an object
+  pub seen_is_object : (second : Option Cell) → IfSome second (SeesBeside rows from to slots now final) → IfSome (option_map seen_cell second) IsObject
+  seen_is_object None h = tt
+  seen_is_object (Some cell) (inl s) = rw s.seen_is s.part_is
+  seen_is_object (Some cell) (inr s) =
+      let now_is : cell_object now cell ≡ s.object = grind (arith, s.here) in
+      let seen_is : seen_cell cell ≡ s.object = ap (seen_in (slot_of slots cell.name) rows) now_is ∙ other_seen (slot_of slots cell.name) rows s.object s.other in
+      rw seen_is s.is
+
   pub second_rows : (second : Option Cell) → IfSome second (SeesBeside rows from to slots now final)
       → IfSome second (λ cell. slot_of slots cell.name ≡ None → HasRowsIn rows (cell_object now cell))
   second_rows None h = tt
