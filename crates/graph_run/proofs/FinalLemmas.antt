@@ -1,10 +1,9 @@
 -- What a graph that runs in bands leaves in the end, cell by cell.
-use Rattle.std.proofs.Common.{◌≡◌, ◌≢◌, ℕ, Bool, true, false, eqb, List, [], ◌∷◌, ◌++◌, map, length, drop, Option, Some, None, ◌⊎◌, inl, inr, refl, sym, ap, subst, ◌∙◌, arith}
+use Rattle.std.proofs.Common.{◌≡◌, ℕ, Bool, true, false, eqb, List, [], ◌∷◌, ◌++◌, map, length, drop, Option, Some, None, inl, inr, refl, sym, ap, subst, ◌∙◌, arith}
 use Rattle.std.specs.Prelude.{◌==◌, ◌&&◌, ◌||◌, not, if◌then◌else◌, IsTrue, is_some, is_none, All, IfSome, unwrap_or}
 use Rattle.std.specs.List.Sorted.{IsStrictlyIncreasing}
 use Rattle.std.specs.Option.{option_map, option_and_then}
-use Rattle.std.proofs.lemmas.Bool.{cases_Bool, eqb-true, eq-eqb, and_parts, or_cases, or_left, or_right, false_from_ne_true}
-use Rattle.vx_base.specs.declared.format.Format.{Format}
+use Rattle.std.proofs.lemmas.Bool.{cases_Bool, eqb-true, eq-eqb, and_parts, or_left, or_right, false_from_ne_true}
 use Rattle.vx_base.specs.declared.format.Format.TheVariants.{U8}
 use Rattle.vx_base.specs.declared.kind.Kind.{Kind}
 use Rattle.vx_base.specs.declared.kind.Kind.TheVariants as kind
@@ -30,7 +29,7 @@ use Rattle.object_table.proofs.HeldLemmas.{names_of, held_by_name}
 use Rattle.object_table.proofs.SkeletonLaws.{map-told}
 use Rattle.graph_verify.specs.declared.known.VirtualOutput.{VirtualOutput}
 use Rattle.graph_verify.specs.declared.operand.Operand.{Operand}
-use Rattle.graph_verify.specs.declared.operand.Operand.TheVariants.{Image}
+use Rattle.graph_verify.specs.declared.operand.Operand.TheVariants.{Image, Delay}
 use Rattle.graph_verify.specs.declared.verified.Verified.{Verified}
 use Rattle.graph_verify.specs.Links.{reads, writes, is_written}
 use Rattle.graph_verify.specs.Members.{In, AllIn}
@@ -44,10 +43,10 @@ use Rattle.node_rows.specs.Reach.{reach, matrix_in}
 use Rattle.graph_run.specs.Bands.{RunsInBands, HasHeight, final_of, is_target, is_virtual_name, reach_of, rows_beside}
 use Rattle.graph_run.specs.Graph.{begun_as, begun, forgotten, is_virtual_object, one_by_one, rounds_of_nodes, run_of_graph}
 use Rattle.graph_run.specs.Lasting.{Lasts}
-use Rattle.graph_run.specs.Operands.{HoldsOperand, names_cell, StandsFor, CellsStand, IsReady, operand_held}
+use Rattle.graph_run.specs.Operands.{HoldsOperand, names_cell, StandsFor, CellsStand, operand_held}
 use Rattle.graph_run.specs.Solution.{Solves, label_of}
 use Rattle.graph_run.specs.Stage.{HoldsVirtual}
-use Rattle.graph_run.specs.Steps.{Holds, AreApart, RunsTo}
+use Rattle.graph_run.specs.Steps.{AreApart, RunsTo}
 use Rattle.graph_run.specs.Turns.{HoldsKind, CanRunNow}
 use Rattle.graph_run.proofs.AgreeLemmas.{begin, begins, written_before}
 use Rattle.graph_run.proofs.BegunLaws.{kept_virtual, labels-begun, labels-forgotten, object_held-forgotten, object_held-unwritten, virtual_as_operand}
@@ -64,7 +63,7 @@ use Rattle.graph_run.proofs.RoundLaws.{labels-one_by_one}
 use Rattle.graph_run.proofs.RunLemmas.{runs_first, has_of_node, runs_second, two_outputs, written_is, Lasts-outputs}
 use Rattle.graph_run.proofs.SolutionLaws.{rounds_are_solution}
 use Rattle.graph_run.proofs.TurnLaws.{at_its_turn, run_in_order}
-use Rattle.graph_run.proofs.VerifiedLemmas.{in_outputs, output_known, output_object, output_whole, output_written, can, can_run_now, own_operand, pairs_of}
+use Rattle.graph_run.proofs.VerifiedLemmas.{in_outputs, output_known, output_object, output_whole, output_written, can, can_run_now, pairs_of}
 
 -- ---- objects as a run begins
 
@@ -112,7 +111,7 @@ second_seen : (l : List Named) (cell : Option Cell) (k : Kind) → IfSome cell (
 second_seen l None k holds = refl
 second_seen l (Some c) k holds = there_is l c (holds_there l (c, k) holds)
 
--- where a cell holds what a node writes to it, and the node adds nothing, it holds what the node makes
+-- a cell that holds what a node writes to it, which adds nothing, holds what the node makes
 made_in_cell : (n : Node) (which : Output) (c : Cell) (now : Cell → Option ObjectValue) (old second : Option ObjectValue) (a b : ImageValue)
     → now n.in1 ≡ Some (ImageObject a) → old ≡ Some (ImageObject b) → accumulates n.function ≡ false
     → ((w : Cell × ObjectValue) → In w (written_to n which c (now n.in1) second old) → now w.0 ≡ Some w.1)
@@ -204,10 +203,13 @@ no_matrix_image x e = grind arith
 -- a node has a second input where its function has one
 inputs_given : (n : Node) → is_node n ≡ true → (f : Cell → ObjectValue) (second : Option Cell) → n.in2 ≡ second → accumulates n.function ≡ false → HasInputs n.function (option_map f second)
 inputs_given n shape f (Some c) at plain = tt
-inputs_given n shape f None at plain = (none_wanted (parameters n.function).second_input (rw at (and_parts _ _ (has_of_node n shape)).0), plain)
+inputs_given n shape f None at plain = (none_wanted (parameters n.function).second_input (ap (λ o. if is_some (parameters n.function).second_input then is_some o else is_none o) (sym at) ∙ (and_parts _ _ (has_of_node n shape)).0), plain)
   where
     none_wanted : (wanted : Option Kind) → (if is_some wanted then false else true) ≡ true → wanted ≡ None
     none_wanted x e = grind arith
+
+own_operand : (objects : List Named) (name : ℕ) (x : ObjectValue) → object_held objects name ≡ Some x → operand_held objects (cell_of name) ≡ operand_of x
+own_operand objects name x there = ap (λ found. unwrap_or (option_map operand_of (option_and_then (in_slot None) found)) Delay) there
 
 -- ---- a graph that can run in bands
 
@@ -236,10 +238,10 @@ module _ (objects : List Named) (nodes : List Node) (v : Verified) (height besid
   graph_can : CanRun work is nodes
   graph_can = can objects nodes v work r.ready.verified r.ready.runs.1
 
-  in_nodes : (n : Node) → In n steps → In n nodes
+  pub in_nodes : (n : Node) → In n steps → In n nodes
   in_nodes n i = AllIn-permutation_back nodes steps r.ready.verified.order.same_nodes n i
 
-  in_steps : (n : Node) → In n nodes → In n steps
+  pub in_steps : (n : Node) → In n nodes → In n steps
   in_steps n i = AllIn-permutation nodes steps r.ready.verified.order.same_nodes n i
 
   -- ---- labels, objects
@@ -260,11 +262,11 @@ module _ (objects : List Named) (nodes : List Node) (v : Verified) (height besid
   virtual_is_output o i w image same =
       let there : object_held objects o.name ≡ Some o.object = In-from_All (λ (p : Named). object_held objects p.name ≡ Some p.object) objects (held_by_name objects r.names) o i in
       in_outputs is nodes v r.ready.verified (cell_of o.name) w
-      (ap is_virtual_operand (own_operand objects nodes v work r.ready.verified r.ready.runs.1 o there ∙ ap operand_of same))
+      (ap is_virtual_operand (own_operand objects o.name o.object there ∙ ap operand_of same))
 
   begun_is : (o : Named) → In o objects → IsObject (begun known nodes o).object
   begun_is o i =
-      begun_object (is_written nodes (cell_of o.name)) o (known (cell_of o.name)) (In-from_All (λ (p : Named). IsObject p.object) objects r.objects o i)
+      begun_object (is_written nodes (cell_of o.name)) o (known (cell_of o.name)) (In-from_All (λ (p : Named). IsObject p.object) objects r.are_objects o i)
       (λ w image d same found.
       let output = virtual_is_output o i w image same in
       let known_so : Image d ≡ Image output.0.desc = sym found ∙ ap known output.2 ∙ output_known is nodes v r.ready.verified output.0 output.1 in
@@ -299,7 +301,7 @@ module _ (objects : List Named) (nodes : List Node) (v : Verified) (height besid
 
   -- ---- nodes in the end
 
-  final_stands : CellsStand known nodes final
+  pub final_stands : CellsStand known nodes final
   final_stands = stand_at steps in_nodes
 
   pub final_can : (n : Node) → In n steps → CanRunNow final n
@@ -329,16 +331,16 @@ module _ (objects : List Named) (nodes : List Node) (v : Verified) (height besid
       (no_delay known nodes first_objects (begun_stands work is nodes graph_can objects r.ready.cells)))
       first_solves
 
-  writes_images : (n : Node) → In n steps → ((parameters n.function).output ≡ kind.Image) × (accumulates n.function ≡ false)
+  pub writes_images : (n : Node) → In n steps → ((parameters n.function).output ≡ kind.Image) × (accumulates n.function ≡ false)
   writes_images n i = In-from_All (λ m. ((parameters m.function).output ≡ kind.Image) × (accumulates m.function ≡ false)) steps r.images n i
 
-  of_final : (n : Node) → In n steps → OfOperands (HoldsKind final) n
+  pub of_final : (n : Node) → In n steps → OfOperands (HoldsKind final) n
   of_final n i = of_operands (HoldsKind final) n (final_can n i).kinds
 
   of_first : (n : Node) → In n steps → OfOperands (HoldsKind first_objects) n
   of_first n i = of_operands (HoldsKind first_objects) n (can_at [] (λ m j. absurd j) n (in_nodes n i)).kinds
 
-  held_second : (n : Node) → In n steps → option_and_then (held final) n.in2 ≡ option_map (cell_object final) n.in2
+  pub held_second : (n : Node) → In n steps → option_and_then (held final) n.in2 ≡ option_map (cell_object final) n.in2
   held_second n i = second_seen final n.in2 (second_kind n) (of_final n i).in2
 
   made_at : (n : Node) → In n steps → (which : Output) (cell : Option Cell) → IfSome cell (λ c. HoldsKind first_objects (c, (parameters n.function).output))
@@ -351,7 +353,7 @@ module _ (objects : List Named) (nodes : List Node) (v : Verified) (height besid
       let made = made_in_cell n which c (held final) (held first_objects c) (option_and_then (held final) n.in2) a.0 b.0 a.1 b.1 (writes_images n i).1 written in
       let image : ImageValue = node_image n which b.0.format a.0 (option_and_then (held final) n.in2) in
       let format : b.0.format ≡ (image_held final c).format =
-          sym (format-node_image n which b.0.format a.0 (option_and_then (held final) n.in2)) ∙ ap (λ (m : ImageValue). m.format) (sym (image_there final c image made)) in
+      sym (format-node_image n which b.0.format a.0 (option_and_then (held final) n.in2)) ∙ ap (λ (m : ImageValue). m.format) (sym (image_there final c image made)) in
       let first : a.0 ≡ image_held final n.in1 = sym (image_there final n.in1 a.0 a.1) in
       made
       ∙ ap (λ f. Some (ImageObject (node_image n which f a.0 (option_and_then (held final) n.in2)))) format
@@ -377,7 +379,7 @@ module _ (objects : List Named) (nodes : List Node) (v : Verified) (height besid
 
   -- ---- heights
 
-  found_in_the_end : (n : Node) → In n steps → (c : Cell) → names_cell n c ≡ true → HoldsOperand final c (known c)
+  pub found_in_the_end : (n : Node) → In n steps → (c : Cell) → names_cell n c ≡ true → HoldsOperand final c (known c)
   found_in_the_end n i c named = final_stands.found n c (in_nodes n i) named
 
   pub out_height : (n : Node) → In n steps → (c : Cell) → In c (outputs n) → ((image_held final c).height ≡ height) × (c.slot ≡ None) × HoldsImage final c
@@ -387,13 +389,13 @@ module _ (objects : List Named) (nodes : List Node) (v : Verified) (height besid
       let image = high_image height (held final c) (known c) found high in
       (image.0, In-from_All (λ (d : Cell). d.slot ≡ None) (outputs n) (In-from_All (λ m. All (λ d. d.slot ≡ None) (outputs m)) steps r.wholes n i) c j, image.1)
 
-  runs_to : (n : Node) → In n steps → (c : Cell) → In c (outputs n) → RunsTo final n c
+  pub runs_to : (n : Node) → In n steps → (c : Cell) → In c (outputs n) → RunsTo final n c
   runs_to n i c j = elim (In-append c (given n.out1) (given n.out2) j) [
     | inl one ↦ of_given (RunsTo final n) n.out1 (final_first n i) c one
     | inr other ↦ of_given (RunsTo final n) n.out2 (final_second n i) c other
   ]
 
-  is_node_of : (n : Node) → In n steps → IsNode n
+  pub is_node_of : (n : Node) → In n steps → IsNode n
   is_node_of n i = In-from_All IsNode nodes r.ready.are_nodes n (in_nodes n i)
 
   pub in_height : (n : Node) → In n steps → (image_held final n.in1).height ≡ height
@@ -405,7 +407,7 @@ module _ (objects : List Named) (nodes : List Node) (v : Verified) (height besid
 
   -- ---- the client's objects
 
-  cell_is_whole : (n : Node) → In n steps → (c : Cell) → writes n c ≡ true → cell_of c.name ≡ c
+  pub cell_is_whole : (n : Node) → In n steps → (c : Cell) → writes n c ≡ true → cell_of c.name ≡ c
   cell_is_whole n i c w = whole_cell c (out_height n i c (In-from_same c (outputs n) w)).1
 
   -- what is no virtual image that the nodes write, and no target, stays
@@ -415,7 +417,7 @@ module _ (objects : List Named) (nodes : List Node) (v : Verified) (height besid
       (λ n c i w. false_from_ne_true (eqb name c.name) (λ e.
       let at : cell_of name ≡ c = ap cell_of (eqb-true name c.name e) ∙ cell_is_whole n i c w in
       let yes : is_written steps (cell_of name) ≡ true = any-from_In (λ m. writes m (cell_of name)) n steps i (ap (writes n) at ∙ w) in
-      let not = not_target (is_written steps (cell_of name)) (is_virtual_name v name) none real in
+      let unwritten = not_target (is_written steps (cell_of name)) (is_virtual_name v name) none real in
       cc))
       ∙ sym ((begins objects nodes v r.ready).same name (inl real))
 
@@ -439,8 +441,7 @@ module _ (objects : List Named) (nodes : List Node) (v : Verified) (height besid
       let j = in_steps n writer.1 in
       let out = In-from_same o.cell (outputs n) writer.2 in
       let known_as : known o.cell ≡ Image o.desc = output_known is nodes v r.ready.verified o i in
-      let desc = described_as (held final o.cell) o.desc (found_in_the_end n j o.cell (or_right (reads n o.cell) (writes n o.cell) writer.2) ∙ ap Some known_as) in
-      (
+      let desc = described_as (held final o.cell) o.desc (found_in_the_end n j o.cell (or_right (reads n o.cell) (writes n o.cell) writer.2) ∙ ap Some known_as) in (
         output_whole objects nodes v work r.ready.verified r.ready.runs.1 o i,
         ap (option_map object_kind) (output_object objects nodes v work r.ready.verified r.ready.runs.1 o i).1.1,
         desc,
@@ -449,24 +450,23 @@ module _ (objects : List Named) (nodes : List Node) (v : Verified) (height besid
       )
 
   -- an output of a virtual name
-  output_of_name : (name : ℕ) → is_virtual_name v name ≡ true → (o : VirtualOutput) × In o outs × (name ≡ o.cell.name)
+  pub output_of_name : (name : ℕ) → is_virtual_name v name ≡ true → (o : VirtualOutput) × In o outs × (name ≡ o.cell.name)
   output_of_name name virtual =
       let output = In-from_any (λ (o : VirtualOutput). name == o.cell.name) outs virtual in
       (output.0, output.1, eqb-true name output.0.cell.name output.2)
 
   -- a cell of a virtual name is that of the virtual image
-  virtual_cell : (n : Node) → In n nodes → (cell : Cell) → names_cell n cell ≡ true → is_virtual_name v cell.name ≡ true → (o : VirtualOutput) × In o outs × (cell ≡ o.cell)
+  pub virtual_cell : (n : Node) → In n nodes → (cell : Cell) → names_cell n cell ≡ true → is_virtual_name v cell.name ≡ true → (o : VirtualOutput) × In o outs × (cell ≡ o.cell)
   virtual_cell n i cell named virtual =
       let output = output_of_name cell.name virtual in
       let object = (output_object objects nodes v work r.ready.verified r.ready.runs.1 output.0 output.1).1 in
       let at : object_held objects cell.name ≡ Some (VirtualObject object.0) = ap (object_held objects) output.2 ∙ object.1 in
       let found : option_map operand_of (in_slot cell.slot (VirtualObject object.0)) ≡ Some (is cell) =
-          sym (ap (λ o. option_map operand_of (option_and_then (in_slot cell.slot) o)) at) ∙ r.ready.cells.found n cell i named in
-      (
+      sym (ap (λ o. option_map operand_of (option_and_then (in_slot cell.slot) o)) at) ∙ r.ready.cells.found n cell i named in (
         output.0,
         output.1,
         sym (whole_cell cell (virtual_whole cell.slot object.0 (is cell) found)) ∙ ap cell_of output.2
-        ∙ sym (output_whole objects nodes v work r.ready.verified r.ready.runs.1 output.0 output.1),
+            ∙ sym (output_whole objects nodes v work r.ready.verified r.ready.runs.1 output.0 output.1),
       )
 
   -- a virtual image that a node reads was written before
@@ -474,8 +474,7 @@ module _ (objects : List Named) (nodes : List Node) (v : Verified) (height besid
       → (o : VirtualOutput) × In o outs × (cell ≡ o.cell) × (is_written before cell ≡ true)
   virtual_read before after n parts cell read virtual =
       let i = subst (λ l. In n l) (sym parts) (In-right n before (n ∷ after) (inl refl)) in
-      let output = virtual_cell n (in_nodes n i) cell (or_left (reads n cell) (writes n cell) read) virtual in
-      (
+      let output = virtual_cell n (in_nodes n i) cell (or_left (reads n cell) (writes n cell) read) virtual in (
         output.0,
         output.1,
         output.2,
@@ -489,10 +488,10 @@ module _ (objects : List Named) (nodes : List Node) (v : Verified) (height besid
   target_is_real name real target x at = false_from_ne_true (is_virtual_object x) (λ virtual.
       let writer = In-from_any (λ m. writes m (cell_of name)) steps (and_parts (is_written steps (cell_of name)) (not (is_virtual_name v name)) target).0 in
       let written = any-from_In (λ m. writes m (cell_of name)) writer.0 nodes (in_nodes writer.0 writer.1) writer.2 in
-      let operand : is (cell_of name) ≡ operand_of x = own_operand objects nodes v work r.ready.verified r.ready.runs.1 (record { name = name; live = true; object = x }) at in
+      let operand : is (cell_of name) ≡ operand_of x = own_operand objects name x at in
       let output = in_outputs is nodes v r.ready.verified (cell_of name) written (ap is_virtual_operand operand ∙ virtual_as_operand x virtual) in
       let named : is_virtual_name v name ≡ true =
-          any-from_In (λ (o : VirtualOutput). name == o.cell.name) output.0 outs output.1 (eq-eqb name output.0.cell.name (ap (λ (c : Cell). c.name) output.2)) in
+      any-from_In (λ (o : VirtualOutput). name == o.cell.name) output.0 outs output.1 (eq-eqb name output.0.cell.name (ap (λ (c : Cell). c.name) output.2)) in
       cc)
 
   end_held : (name : ℕ) → (if is_target v name then object_held final name else object_held objects name) ≡ kept_virtual (object_held objects name) (object_held final name)
@@ -530,7 +529,7 @@ module _ (objects : List Named) (nodes : List Node) (v : Verified) (height besid
         let object = (output_object objects nodes v work r.ready.verified r.ready.runs.1 output.0 output.1).1 in
         let held_at : object_held objects c.name ≡ Some (VirtualObject object.0) = ap (λ (d : Cell). object_held objects d.name) output.2 ∙ object.1 in
         let image = described_kind (held final c) output.0.desc
-            (found_in_the_end n i c (or_left (reads n c) (writes n c) read) ∙ ap (λ d. Some (known d)) output.2 ∙ ap Some (output_known is nodes v r.ready.verified output.0 output.1)) in
+        (found_in_the_end n i c (or_left (reads n c) (writes n c) read) ∙ ap (λ d. Some (known d)) output.2 ∙ ap Some (output_known is nodes v r.ready.verified output.0 output.1)) in
         no_matrix_image (cell_object final c) image
         ∙ sym (ap (λ o. matrix_in (option_and_then (in_slot c.slot) o)) held_at ∙ no_matrix_virtual c.slot object.0))
     | inr real ↦
@@ -545,8 +544,7 @@ module _ (objects : List Named) (nodes : List Node) (v : Verified) (height besid
   pub second_near : (n : Node) → In n steps
       → IsTrue (is_some (reach n.function (matrix_in (option_map (cell_object final) n.in2)))) × (unwrap_or (reach n.function (matrix_in (option_map (cell_object final) n.in2))) 0 ≡ rows_beside objects n)
   second_near n i =
-      let same = matrix_same n i n.in2 refl in
-      (
+      let same = matrix_same n i n.in2 refl in (
         ap (λ m. is_some (reach n.function m)) same ∙ In-from_All (λ m. IsTrue (is_some (reach_of objects m))) steps r.near n i,
         ap (λ m. unwrap_or (reach n.function m) 0) same,
       )
