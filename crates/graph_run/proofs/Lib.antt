@@ -30,6 +30,7 @@ pub mod VerifiedLemmas
 pub mod SharingLemmas
 pub mod AgreeLemmas
 pub mod SceneLemmas
+pub mod PartClaimLemmas
 pub mod SlotPoolLemmas
 pub mod BandLemmas
 pub mod FinalLemmas

@@ -124,7 +124,7 @@ fn clear_slots(stage: &mut Stage)
     ensures empty { AreEmpty stage.new.slots.items }
     ensures rooms { map room_of stage.new.slots.items ≡ map room_of stage.old.slots.items }
 {
-    for slot in &mut stage.slots {
+    for slot in stage.slots.iter_mut() {
         slot.holder = None;
     }
 }
@@ -195,6 +195,7 @@ fn claim_part(
         return;
     };
     let at = place_of(plan, desc.format(), slot);
+    desc.has_sides();
     let desc = Desc::with_sides(desc.width(), rows.count, desc.format());
     stage.claim(at, VirtualOutput { cell, desc });
 }
