@@ -40,6 +40,12 @@ use Rattle.graph_verify.proofs.MemberLemmas.{In-left, In-right, In-append, In-fr
 use Rattle.graph_verify.proofs.VerdictLemmas.{CanRun}
 use Rattle.node_rows.specs.Parts.{HasInputs}
 use Rattle.node_rows.specs.Reach.{reach, matrix_in}
+use Rattle.graph_verify.proofs.LinkLemmas.{once_across, In-outputs, two_writers-permutation}
+use Rattle.graph_verify.specs.Verdict.{two_writers}
+use Rattle.graph_verify.specs.Links.{has_twice}
+use Rattle.std.specs.List.{flat_map}
+use Rattle.std.proofs.lemmas.Grind.{flat_map-append}
+use Rattle.graph_run.proofs.CellLemmas.{kind_there}
 use Rattle.graph_run.specs.Bands.{RunsInBands, HasHeight, final_of, is_target, is_virtual_name, reach_of, rows_beside}
 use Rattle.graph_run.specs.Graph.{begun_as, begun, forgotten, is_virtual_object, one_by_one, rounds_of_nodes, run_of_graph}
 use Rattle.graph_run.specs.Lasting.{Lasts}
@@ -405,6 +411,24 @@ module _ (objects : List Named) (nodes : List Node) (v : Verified) (height besid
       same_height (cell_object final n.in1) (cell_object final output.0) runs.first_kind (runs.out_kind ∙ (writes_images n i).0) runs.out_size
       ∙ (out_height n i output.0 output.1).0
 
+  -- an image beside that is as high
+  pub second_height : (n : Node) → In n steps → (c : Cell) → n.in2 ≡ Some c → HoldsImage final c → (image_held final c).height ≡ height
+  second_height n i c at image =
+      let output = has_output n (is_node_of n i).shape in
+      let runs = (runs_to n i output.0 output.1).runs in
+      let kind_of : object_kind (cell_object final c) ≡ kind.Image = kind_there final (c, kind.Image) image in
+      sym (same_height (cell_object final n.in1) (cell_object final c) runs.first_kind kind_of
+      (subst (λ (o : Option Cell). SecondHasSize (image_value (cell_object final n.in1)) (option_map (cell_object final) o)) at runs.second_size))
+      ∙ in_height n i
+
+  -- what one node writes, none before it writes
+  pub written_later : (before after : List Node) (n : Node) → steps ≡ before ++ n ∷ after → (c : Cell) → writes n c ≡ true → is_written before c ≡ true → ⊥
+  written_later before after n parts c w earlier =
+      let writer = In-from_any (λ m. writes m c) before earlier in
+      let one : two_writers (before ++ n ∷ after) ≡ false = ap two_writers (sym parts) ∙ two_writers-permutation nodes steps r.ready.verified.order.same_nodes graph_can.one_writer in
+      once_across c (flat_map outputs before) (flat_map outputs (n ∷ after)) (ap has_twice (sym (flat_map-append outputs before (n ∷ after))) ∙ one)
+      (In-outputs writer.0 c before writer.1 writer.2) (In-outputs n c (n ∷ after) (inl refl) w)
+
   -- ---- the client's objects
 
   pub cell_is_whole : (n : Node) → In n steps → (c : Cell) → writes n c ≡ true → cell_of c.name ≡ c
@@ -448,6 +472,11 @@ module _ (objects : List Named) (nodes : List Node) (v : Verified) (height besid
         ap (λ (d : Description). d.height) (sym desc) ∙ (out_height n j o.cell out).0,
         any-from_In (λ m. writes m o.cell) n steps j writer.2,
       )
+
+  pub virtual_image : (o : VirtualOutput) → In o outs → HoldsImage final o.cell
+  virtual_image o i =
+      let writer = In-from_any (λ m. writes m o.cell) steps (virtual_here o i).4 in
+      (out_height writer.0 writer.1 o.cell (In-from_same o.cell (outputs writer.0) writer.2)).2
 
   -- an output of a virtual name
   pub output_of_name : (name : ℕ) → is_virtual_name v name ≡ true → (o : VirtualOutput) × In o outs × (name ≡ o.cell.name)

@@ -1,6 +1,6 @@
 -- The nodes of a graph on the rows of a strip, one after the other.
 use Rattle.std.proofs.Common.{◌≡◌, ◌≢◌, ℕ, ◌+◌, ◌*◌, ◌≤◌, ◌<◌, Bool, true, false, List, [], ◌∷◌, ◌++◌, map, length, take, drop, get_or, Option, Some, None, ◌⊎◌, inl, inr, IfSome, refl, sym, ap, subst, ◌∙◌, arith}
-use Rattle.std.specs.Prelude.{IsTrue, unwrap_or, All, ◌==◌, ◌||◌, ◌&&◌, not, sum_by}
+use Rattle.std.specs.Prelude.{IsTrue, unwrap_or, All, ◌==◌, ◌||◌, ◌&&◌, not, sum_by, slice_get, if◌then◌else◌}
 use Rattle.std.specs.List.{list_any}
 use Rattle.std.specs.Option.{option_map, option_and_then}
 use Rattle.std.proofs.lemmas.List.{take-append-drop, take_more, take_all, drop_more}
@@ -30,7 +30,7 @@ use Rattle.graph_run.specs.declared.stage.Stage.{Stage}
 use Rattle.graph_run.specs.Bands.{RunsInBands, final_of, IsStrip, is_virtual_name, is_target, IsFinished, RowsAreAs, rows_by_now, IsPartOf, output_part, right_from, right_to, HasPlaceIn}
 use Rattle.graph_run.specs.Slots.{AreShared, room_of, planned_rooms, AreEmpty}
 use Rattle.graph_run.specs.Solution.{label_of}
-use Rattle.graph_run.specs.Stage.{scene, shown, slot_of, standing, shown_as, IsStage, HoldsVirtual, Keeps, virtual_named}
+use Rattle.graph_run.specs.Stage.{scene, shown, slot_of, standing_image, IsStage, HoldsVirtual, Keeps, virtual_named}
 use Rattle.graph_run.specs.Steps.{RunsTo}
 use Rattle.graph_run.specs.Turns.{AreVirtual}
 use Rattle.object_table.proofs.SkeletonLaws.{map-told}
@@ -45,11 +45,14 @@ use Rattle.graph_run.proofs.BandLemmas.{right_above, right_below}
 use Rattle.graph_run.specs.Bands.{rows_beside}
 use Rattle.graph_run.specs.Turns.{HoldsKind}
 use Rattle.graph_run.proofs.ClaimLemmas.{virtual_there}
-use Rattle.graph_run.proofs.FinalLemmas.{final_are, final_can, in_height, out_height, second_height, real_read, virtual_read, virtual_here, written_once}
+use Rattle.graph_run.proofs.FinalLemmas.{final_are, final_can, in_height, out_height, second_height, real_read, virtual_read, virtual_here, virtual_image, written_later}
 use Rattle.graph_run.proofs.FoundLemmas.{OfOperands, of_operands}
 use Rattle.graph_run.proofs.LinkLaws.{All-from_In, In-from_All, reads_first, reads_second}
 use Rattle.graph_run.proofs.StageLemmas.{found_as_it_is}
-use Rattle.graph_run.proofs.SceneLemmas.{stays_virtual, shared_stay, written_stay}
+use Rattle.buffer_plan.specs.Plan.{IsPlan}
+use Rattle.graph_run.specs.Slots.{claimed_at}
+use Rattle.graph_run.proofs.PartClaimLemmas.{PartsClaimed, first_part_shared, parts_claimed}
+use Rattle.graph_run.proofs.SceneLemmas.{IsItsTurn, turn_of, stays_virtual, shared_stay, written_stay}
 use Rattle.graph_run.proofs.VerifiedLemmas.{are_virtual}
 use Rattle.graph_run.proofs.StepLemmas.{nothing, forgotten_kept, none_standing}
 use Rattle.graph_run.proofs.SharingLemmas.{WereWritten, name_of_output}
@@ -187,7 +190,7 @@ module _ (objects : List Named) (nodes : List Node) (v : Verified) (height besid
               object = object;
               here = real_held cell rd (false_from_ne_true (is_virtual_name v cell.name) (λ virtual.
                   let from = virtual_read objects nodes v height beside r before after n parts cell rd virtual in
-                  let image = (virtual_here objects nodes v height beside r from.0 from.1).2 in
+                  let image = virtual_image objects nodes v height beside r from.0 from.1 in
                   other (kind_of object (ap (option_map object_kind) (sym there) ∙ ap (λ c. option_map object_kind (held final c)) from.2 ∙ image)))) ∙ there;
               ends_as = there;
               other = other;
@@ -238,7 +241,7 @@ module _ (objects : List Named) (nodes : List Node) (v : Verified) (height besid
               let claimed = h.claimed o found.1 writer in
               let here : held now c ≡ Some (ImageObject claimed.image) = whole_held now c none claimed.image (ap (object_held now) name ∙ claimed.there) in
               let image : image_held now c ≡ claimed.image = grind (arith, here) in
-              let desc : description_of (image_held final c) ≡ o.desc = ap (λ q. description_of (image_held final q)) same ∙ ends.3 in
+              let desc : description_of (image_held final c) ≡ o.desc = ap (λ q. description_of (image_held final q)) same ∙ ends.2 in
               record {
                 place =
                     record {
@@ -257,7 +260,7 @@ module _ (objects : List Named) (nodes : List Node) (v : Verified) (height besid
               let writer : writes n c ≡ true = any-from_In (same_cell c) c (outputs n) i (same_cell-refl c) in
               let itself : cell_of c.name ≡ c = one_cell (cell_of c.name) c refl refl none in
               let target : is_target v c.name ≡ true = and_from (is_written v.steps.items (cell_of c.name)) (not (is_virtual_name v c.name)) (any-from_In (λ m. writes m (cell_of c.name)) n v.steps.items in_steps (ap (writes n) itself ∙ writer)) (ap not real) in
-              let not_yet : is_written before (cell_of c.name) ≡ false = false_from_ne_true (is_written before (cell_of c.name)) (λ early. written_once objects nodes v height beside r before after n parts c writer (ap (is_written before) (sym itself) ∙ early)) in
+              let not_yet : is_written before (cell_of c.name) ≡ false = false_from_ne_true (is_written before (cell_of c.name)) (λ early. written_later objects nodes v height beside r before after n parts c writer (ap (is_written before) (sym itself) ∙ early)) in
               let slot = h.real c.name real in
               let before_band : RowsAreAs strip.band.start (object_held s.table.objects c.name) (object_held final c.name) =
               subst (λ y. RowsAreAs y (object_held s.table.objects c.name) (object_held final c.name)) (ap (λ (b : Bool). if b then strip.band.start + strip.band.count else strip.band.start) not_yet) (h.finished.targets c.name target) in
@@ -419,8 +422,12 @@ module _ (objects : List Named) (nodes : List Node) (v : Verified) (height besid
             ∙ In-from_All (λ (q : VirtualOutput). HoldsVirtual objects q.cell.name) outs virtual.held o i);
       }
 
+  -- what nodes write is as high as the images are
+  low : (o : VirtualOutput) → In o outs → strip.rows.count ≤ o.desc.height
+  low o i = omega (arith, is_strip.rows, (virtual_here objects nodes v height beside r o i).3)
+
   -- one node more
-  module _ (p : PlanValue) (k : ℕ) (n : Node) (below : k < length v.steps.items) (item : n ≡ get_or v.steps.items k n) where
+  module _ (p : PlanValue) (plan : IsPlan v.steps.items v.virtual_outputs.items p) (k : ℕ) (n : Node) (below : k < length v.steps.items) (item : n ≡ get_or v.steps.items k n) where
     abbrev before : List Node
     before = take k v.steps.items
 
@@ -432,6 +439,42 @@ module _ (objects : List Named) (nodes : List Node) (v : Verified) (height besid
 
     pub parts : v.steps.items ≡ before ++ n ∷ after
     parts = sym (take-append-drop k v.steps.items) ∙ ap (λ rest. before ++ rest) here_on
+
+    module _ (l : List Named) (slots one : List Slot) (h : IsInStrip p k l slots) (first : (j : ℕ) → slice_get one j ≡ claimed_at p (map (output_part strip.rows.count) outs) n.out1 j (slice_get slots j)) where
+      turn : IsItsTurn outs p before after n
+      turn = turn_of objects nodes v r.ready p plan before after n parts
+
+      pub first_shared : AreShared p (map (output_part strip.rows.count) outs) one
+      first_shared = first_part_shared strip.rows.count outs low p before after n turn l (still_virtual p k l slots h) slots one h.shared h.written first
+
+      module _ (both : List Slot) (second : (j : ℕ) → slice_get both j ≡ claimed_at p (map (output_part strip.rows.count) outs) n.out2 j (slice_get one j)) where
+        pub claims : PartsClaimed strip.rows.count outs p before after n l slots both
+        claims = parts_claimed strip.rows.count outs low p before after n turn l (still_virtual p k l slots h) slots one h.shared h.written first both second
+
+        pub strip_claimed : (s : Stage) → IsStage s → s.table.objects ≡ l → s.slots.items ≡ both → IsClaimed before after n parts s
+        strip_claimed s is table items =
+            record {
+              is = is;
+              virtual = subst (λ (m : List Named). AreVirtual m outs) (sym table) (still_virtual p k l slots h);
+              finished = subst (IsFinished (rows_by_now before strip) v objects final) (sym table) h.finished;
+              stood = λ o i written used.
+                  subst (λ (found : Option ObjectValue). IsPartOf objects height before strip.rows found (object_held final o.cell.name))
+                  (sym (claims.kept o i written used) ∙ sym (found_there o.cell.name))
+                  (h.stands o i written (ap (λ ns. is_used ns o.cell) here_on ∙ used));
+              claimed = λ o i w.
+                  let stands = claims.stand o i w in
+                  record {
+                    image = standing_image (output_part strip.rows.count o) stands.slot;
+                    there = found_there o.cell.name ∙ stands.there;
+                    described = refl;
+                    slot = stands.slot;
+                    found = ap (λ (q : List Slot). slot_of q o.cell.name) items ∙ stands.place;
+                  };
+              real = λ name none. ap (λ (q : List Slot). slot_of q name) items ∙ claims.no_place name none;
+            }
+          where
+            found_there : (name : ℕ) → object_held (scene s).objects name ≡ object_held (shown both l) name
+            found_there name = ap (λ (m : List Named). object_held (shown s.slots.items m) name) table ∙ ap (λ (q : List Slot). object_held (shown q l) name) items
 
     pub strip_more : (s later : Stage) → IsClaimed before after n parts s → IsStage later → Keeps s later
         → HasRun objects nodes v height beside r strip is_strip before after n parts s later
