@@ -1,4 +1,4 @@
-use Rattle.std.proofs.Common.{◌≡◌, ◌<◌, ◌∙◌, List, length, None, refl, subst, sym, arith}
+use Rattle.std.proofs.Common.{◌<◌, ◌∙◌, length, None, refl, subst, sym, arith}
 use Rattle.std.specs.Prelude.{slice_index_or}
 use Rattle.std.specs.Vec.{with_items}
 use Rattle.std.proofs.lemmas.List.{with_items_is, take_all}
@@ -26,7 +26,7 @@ returns-clause-stage c =
     let old = c.args.stage.now in
     let slots = c.loop-slot.slot-items in
     let are : AreEmpty slots = subst AreEmpty (take_all c.loop-slot.slot-index slots (omega (arith, c.loop-slot-test.false, c.loop-slot.auto.slot-items))) c.loop-slot.invariant.empty in
-    let items = with_items_is old.slots slots (omega (arith, c.loop-slot.auto.slot-items, c.deref_mut-slot-items.ensures.len, c.deref_mut-slot-items.ensures.value, old.slots.ok.0)) in
+    let items = with_items_is old.slots slots (omega (arith, c.loop-slot.auto.slot-items, c.deref_mut-slot-items.ensures.len, old.slots.ok.0)) in
     let new : Stage = record { table = old.table; slots = with_items old.slots slots } in
     empty_stage new (subst AreEmpty (sym items) are) c.requires.names c.requires.held
 
@@ -35,5 +35,5 @@ returns-clause-empty c =
     let old = c.args.stage.now in
     let slots = c.loop-slot.slot-items in
     let are : AreEmpty slots = subst AreEmpty (take_all c.loop-slot.slot-index slots (omega (arith, c.loop-slot-test.false, c.loop-slot.auto.slot-items))) c.loop-slot.invariant.empty in
-    let items = with_items_is old.slots slots (omega (arith, c.loop-slot.auto.slot-items, c.deref_mut-slot-items.ensures.len, c.deref_mut-slot-items.ensures.value, old.slots.ok.0)) in
+    let items = with_items_is old.slots slots (omega (arith, c.loop-slot.auto.slot-items, c.deref_mut-slot-items.ensures.len, old.slots.ok.0)) in
     subst AreEmpty (sym items) are
