@@ -1,9 +1,7 @@
--- Parts of virtual images that claim their slots, which a plan has for the whole ones: what stands in slots before and after.
-use Rattle.std.proofs.Common.{◌≡◌, ◌≢◌, ℕ, zero, suc, ◌+◌, ◌*◌, ◌<◌, ◌≤◌, true, false, List, [], ◌∷◌, ◌++◌, map, take, drop, length, get_or, set, Option, Some, None, inr, refl, sym, ap, subst, ◌∙◌, arith}
+-- Parts of virtual images that claim the slots of the whole ones: what stands there then.
+use Rattle.std.proofs.Common.{◌≡◌, ◌≢◌, ℕ, zero, suc, ◌+◌, ◌*◌, ◌<◌, ◌≤◌, true, false, List, [], ◌∷◌, ◌++◌, map, take, length, get_or, set, Some, None, inr, refl, sym, ap, subst, ◌∙◌, arith}
 use Rattle.std.specs.Prelude.{◌==◌, ◌&&◌, IsTrue, slice_get, IfSome}
 use Rattle.std.specs.List.{AllPairs}
-use Rattle.std.specs.Option.{option_map}
-use Rattle.std.proofs.lemmas.Bool.{cases_Bool}
 use Rattle.std.proofs.lemmas.Bool.Decides.{nat_tests}
 use Rattle.std.proofs.lemmas.List.{length-map, get_or-map, take_more_set}
 use Rattle.std.proofs.lemmas.List.Elements.{All-map, All-push}
@@ -25,7 +23,7 @@ use Rattle.buffer_plan.specs.Slots.{of_format, live_images}
 use Rattle.graph_run.specs.declared.stage.Slot.{Slot}
 use Rattle.graph_run.specs.Bands.{output_part}
 use Rattle.graph_run.specs.Slots.{place_of, room_of, AreEmpty, AreShared, claimed_at}
-use Rattle.graph_run.specs.Stage.{is_named, shown, holder_at, HoldsVirtual, slot_of, fixed}
+use Rattle.graph_run.specs.Stage.{shown, holder_at, HoldsVirtual, slot_of}
 use Rattle.graph_run.specs.Turns.{AreVirtual}
 use Rattle.graph_run.proofs.AgreeLemmas.{Keeps}
 use Rattle.graph_run.proofs.SceneLemmas.{IsItsTurn, StandsIn, first_claims, second_claims, slot_kept, found_kept, stands_there, stands_in}
@@ -133,7 +131,7 @@ part_made count width format o d is wide alike =
 
 -- ---- slots once both outputs of a node have claimed theirs
 
--- of these rows what the node writes stands in its slot; what is used still is as it was, and what is no output's as it is held
+-- what the node writes stands in its slot by so many rows; what is used still is as it was
 pub record PartsClaimed (count : ℕ) (outs : List VirtualOutput) (p : PlanValue) (before after : List Node) (n : Node) (l : List Named) (slots both : List Slot) : Type 0 where
   pub shared : AreShared p (map (output_part count) outs) both
   pub written : WereWritten (before ++ n ∷ []) both
@@ -182,21 +180,6 @@ module _ (count : ℕ) (outs : List VirtualOutput) (low : (o : VirtualOutput) �
 
       keeps : (o : VirtualOutput) → In o outs → is_written before o.cell ≡ true → is_used (n ∷ after) o.cell ≡ true → Keeps rows before (n ∷ after) o.cell.name
       keeps o i w used = inr (ap (is_written before) (sym (turn.itself o i)) ∙ w, ap (is_used (n ∷ after)) (sym (turn.itself o i)) ∙ used)
-
--- ---- slots that keep their formats, their sizes, and what stands in them
-
--- under each name the same image stands in a slot, or none
-pub places_stay : (old new : List Slot) → map fixed new ≡ map fixed old → (name : ℕ) → option_map (λ s. s.holder) (slot_of new name) ≡ option_map (λ s. s.holder) (slot_of old name)
-places_stay [] [] same name = refl
-places_stay [] (t ∷ new) same name = absurd (cc)
-places_stay (s ∷ old) [] same name = absurd (cc)
-places_stay (s ∷ old) (t ∷ new) same name =
-    let fixed_here : fixed t ≡ fixed s = cc in
-    let here : t.holder ≡ s.holder = ap (λ (f : Format × ℕ × Option VirtualOutput). f.2) fixed_here in
-    grind (arith, here, places_stay old new (ap (drop 1) same) name, cases_Bool (is_named name s.holder))
-
-pub no_place_stays : (old new : List Slot) → map fixed new ≡ map fixed old → (name : ℕ) → slot_of old name ≡ None → slot_of new name ≡ None
-no_place_stays old new same name none = grind (arith, places_stay old new same name, none)
 
 -- ---- slots that are cleared
 

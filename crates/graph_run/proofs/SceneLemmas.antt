@@ -120,7 +120,7 @@ outputs_stay old now outs labels kept virtual =
 
 -- ---- outputs of a node that have claimed their slots
 
--- a node whose turn it is: its outputs have slots, are named as a whole, and none of them was written before
+-- a node whose turn it is: each output has a slot, and no node before writes what it writes
 pub record IsItsTurn (outs : List VirtualOutput) (p : PlanValue) (before after : List Node) (n : Node) : Type 0 where
   pub slots : HasSlots (before ++ n ∷ after) outs p
   pub itself : (o : VirtualOutput) → In o outs → o.cell ≡ whole o.cell.name
