@@ -1,6 +1,6 @@
 -- Bands of what nodes make of parts, as values.
 use Rattle.std.proofs.Common.{◌≡◌, ◌≤◌, ◌<◌, ◌+◌, ◌-◌, ◌*◌, ℕ, ℤ, List, ◌++◌, take, drop, length, Option, Some, None, refl, sym, ap, subst, ◌∙◌, arith}
-use Rattle.std.proofs.lemmas.List.{take-append-le, take_all, length-append, length-take-le, append_assoc}
+use Rattle.std.proofs.lemmas.List.{take-append-le, take_all, length-append, length-take-le}
 use Rattle.vx_base.specs.Description.{Description}
 use Rattle.vx_base.specs.Image.{ImageValue, IsImage, description_of, band, at}
 use Rattle.vx_base.proofs.ImageLaws.{whole_band}
@@ -39,6 +39,7 @@ pub rows_after : (a : ImageValue) (y count : ℕ) → IsImage a → y + count �
 rows_after a y count is within =
     first_rows a (y + count) is within ∙ band-append a.width 0 y count (at a)
     ∙ ap (λ l. l ++ band a.width (0 + y) count (at a)) (sym (first_rows a y is (omega (arith, within))))
+    ∙ ap (λ n. take (y * a.width) a.samples ++ band a.width n count (at a)) {x = 0 + y} {y = y} (omega arith)
 
 -- ---- a band that is written
 
@@ -81,7 +82,6 @@ module _ (strip : Strip) (part old final : ImageValue) (within : IsWithinRows st
       let middle_long : length middle ≡ count * old.width = length-band old.width (start - strip.rows.start) count (at part) in
       let long : length (first ++ middle) ≡ (start + count) * old.width = length-append first middle ∙ sums first_long middle_long in
       ap (λ n. take ((start + count) * n) (first ++ middle ++ last)) (sym wide)
-      ∙ ap (take ((start + count) * old.width)) (sym (append_assoc first middle last))
       ∙ take-append-le ((start + count) * old.width) (first ++ middle) last (omega (arith, long))
       ∙ take_all ((start + count) * old.width) (first ++ middle) (omega (arith, long))
       ∙ ap (λ l. l ++ middle) (ap (λ n. take (start * n) old.samples) wide ∙ before)

@@ -1,6 +1,6 @@
 -- What nodes see of cells in a strip, beside what the cells hold in the end.
 use Rattle.std.proofs.Common.{◌≡◌, ◌≢◌, ℕ, ◌+◌, ◌≤◌, Bool, true, false, List, [], Option, Some, None, ◌⊎◌, inl, inr, IfSome, refl, sym, ap, subst, ◌∙◌, arith}
-use Rattle.std.specs.Prelude.{IsTrue, ◌&&◌, ◌==◌, ⊤}
+use Rattle.std.specs.Prelude.{IsTrue, ◌&&◌, ◌==◌, ⊤, unwrap_or}
 use Rattle.std.specs.Option.{option_map, option_and_then}
 use Rattle.std.proofs.lemmas.Bool.{and_parts, and_from, eqb-true, eq-eqb}
 use Rattle.vx_base.specs.declared.kind.Kind.TheVariants as kind
@@ -24,6 +24,7 @@ use Rattle.graph_run.specs.Bands.{part_seen, seen_in, HasRowsIn}
 use Rattle.graph_run.specs.Stage.{slot_of}
 use Rattle.graph_run.specs.Steps.{CanRunTo, Holds, IsRead}
 use Rattle.graph_run.proofs.OutputLemmas.{is_read}
+use Rattle.graph_run.proofs.StepLemmas.{nothing}
 
 -- ---- one cell
 
@@ -129,7 +130,7 @@ module _ (rows : Band) (from to : ℕ) (slots : List Slot) (now final : List Nam
   second_is None h = tt
   second_is (Some cell) (inl s) = image_is_object (held now cell) s.here s.here_is
     where
-      image_is_object : (found : Option ObjectValue) → option_map object_kind found ≡ Some kind.Image → IsImage (image_value (unwrap found)) → IsObject (unwrap found)
+      image_is_object : (found : Option ObjectValue) → option_map object_kind found ≡ Some kind.Image → IsImage (image_value (unwrap_or found nothing)) → IsObject (unwrap_or found nothing)
       image_is_object x e f = grind arith
   second_is (Some cell) (inr s) = grind (arith, s.here, s.is)
 

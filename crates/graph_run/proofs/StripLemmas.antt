@@ -2,6 +2,7 @@
 use Rattle.std.proofs.Common.{◌≡◌, ◌≢◌, ℕ, ◌+◌, ◌≤◌, Bool, true, false, List, [], ◌∷◌, ◌++◌, Option, Some, None, IfSome, refl, sym, ap, subst, ◌∙◌, arith}
 use Rattle.std.specs.Prelude.{IsTrue, is_some, sum_by, unwrap_or, All}
 use Rattle.std.specs.Option.{option_map, option_and_then}
+use Rattle.std.proofs.lemmas.Bool.Decides.{nat_tests}
 use Rattle.std.proofs.lemmas.List.Sums.{sum_by-append}
 use Rattle.vx_base.specs.declared.kind.Kind.TheVariants as kind
 use Rattle.vx_base.specs.declared.node.Node.{Node}
@@ -24,6 +25,7 @@ use Rattle.graph_run.specs.Bands.{seen, part_made, SeesParts, HasPlaceIn, IsSeen
 use Rattle.graph_run.specs.Stage.{scene, slot_of}
 use Rattle.graph_run.specs.Steps.{AreApart, Holds, RunsTo}
 use Rattle.graph_run.proofs.OutputLemmas.{can_run}
+use Rattle.graph_run.proofs.StepLemmas.{nothing}
 use Rattle.graph_run.proofs.SeesLemmas.{SeesImage, SeesBeside, second_stands, second_holds, second_is, second_read, second_rows, parts_can_run}
 
 -- an output that is an image, as wide as it is in the end, of the same format
@@ -123,4 +125,8 @@ module _ (objects final : List Named) (height beside : ℕ) (strip : Strip) (is_
                 below near far height to less = grind (arith, nat_tests)
 
             stands_as : {f g t u : ℕ} {a b : ImageValue} → StandsFor strip.rows.start strip.rows.count f t a b → {x y : ImageValue} → a ≡ x → b ≡ y → f ≡ g → t ≡ u → StandsFor strip.rows.start strip.rows.count g u x y
-            stands_as h refl refl refl refl = h
+            stands_as {f} {g} {t} {u} {a} {b} h {x} {y} one other from to =
+                subst (λ i. StandsFor strip.rows.start strip.rows.count g i x y) to
+                (subst (λ i. StandsFor strip.rows.start strip.rows.count i t x y) from
+                (subst (λ i. StandsFor strip.rows.start strip.rows.count f t x i) other
+                (subst (λ i. StandsFor strip.rows.start strip.rows.count f t i b) one h)))

@@ -137,7 +137,7 @@ module _ (objects : List Named) (nodes : List Node) (v : Verified) (height besid
       final_image cell image = grind (arith, image)
 
       final_image_is : (cell : Cell) → HoldsImage final cell → IsImage (image_held final cell)
-      final_image_is cell image = of_held (held final cell) (held_is cell (final_are objects nodes v height beside r)) image
+      final_image_is cell image = of_held (held final cell) (held_is final cell (final_are objects nodes v height beside r)) image
         where
           of_held : (o : Option ObjectValue) → IfSome o IsObject → option_map object_kind o ≡ Some kind.Image → IsImage (image_value (unwrap_or o nothing))
           of_held x is e = grind arith
@@ -194,7 +194,7 @@ module _ (objects : List Named) (nodes : List Node) (v : Verified) (height besid
                   other (kind_of object (ap (option_map object_kind) (sym there) ∙ ap (λ c. option_map object_kind (held final c)) from.2 ∙ image)))) ∙ there;
               ends_as = there;
               other = other;
-              is = subst (λ (o : Option ObjectValue). IfSome o IsObject) there (held_is cell (final_are objects nodes v height beside r));
+              is = subst (λ (o : Option ObjectValue). IfSome o IsObject) there (held_is final cell (final_are objects nodes v height beside r));
             })
             where
               kind_of : (x : ObjectValue) → option_map object_kind (Some x) ≡ Some kind.Image → object_kind x ≡ kind.Image
@@ -228,7 +228,7 @@ module _ (objects : List Named) (nodes : List Node) (v : Verified) (height besid
           elim (cases_Bool (is_virtual_name v c.name)) [ | inl virtual ↦ of_virtual high.1 virtual | inr real ↦ of_real high.1 high.2 real ]
         where
           is_image : (image : ImageValue) → held now c ≡ Some (ImageObject image) → IsImage (image_held now c)
-          is_image image here = grind (arith, here, subst (λ (o : Option ObjectValue). IfSome o IsObject) here (held_is c h.is.objects))
+          is_image image here = grind (arith, here, subst (λ (o : Option ObjectValue). IfSome o IsObject) here (held_is now c h.is.objects))
 
           of_virtual : c.slot ≡ None → is_virtual_name v c.name ≡ true → IsOpen objects nodes v height beside r strip is_strip before after n parts s c
           of_virtual none virtual =

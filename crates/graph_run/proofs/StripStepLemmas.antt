@@ -49,7 +49,7 @@ use Rattle.graph_run.specs.Bands.{seen}
 use Rattle.graph_run.specs.Stage.{is_named}
 use Rattle.graph_run.specs.Steps.{AreApart}
 use Rattle.graph_run.proofs.AgreeLemmas.{output_cases}
-use Rattle.graph_run.proofs.FinalLemmas.{second_near, second_given, in_height, out_height, final_first, final_second, final_apart, made_first, made_second}
+use Rattle.graph_run.proofs.FinalLemmas.{second_near, second_given, in_height, out_height, final_first, final_second, final_apart, made_first, made_second, writes_images}
 use Rattle.graph_run.proofs.HeldLaws.{object_held-with_object}
 use Rattle.graph_run.proofs.LinkLaws.{In-from_All}
 use Rattle.graph_run.proofs.OutputLemmas.{image_of_object, out_is_image}
@@ -75,7 +75,9 @@ none_alike : (a b : Option Slot) → Alike a b → b ≡ None → a ≡ None
 none_alike x y h e = grind arith
 
 some_alike : (a b : Option Slot) → Alike a b → (t : Slot) → a ≡ Some t → (u : Slot) × (b ≡ Some u)
-some_alike x y h t e = grind arith
+some_alike (Some s) (Some u) h t e = (u, refl)
+some_alike None y h t e = absurd (cc)
+some_alike (Some s) None h t e = absurd h
 
 pub none_back : (a b : Option Slot) → Alike a b → a ≡ None → b ≡ None
 none_back x y h e = grind arith
@@ -196,10 +198,10 @@ module _ (objects : List Named) (nodes : List Node) (v : Verified) (height besid
 
     module _ (s : Stage) (sees : SeesInputs s) (which : Output) (c : Cell) (out : In c (outputs n)) (is : IsOpen s c) (runs : RunsTo final n c) where
       abbrev images : (parameters n.function).output ≡ kind.Image
-      images = (In-from_All _ v.steps.items r.images n in_steps).0
+      images = (writes_images objects nodes v height beside r n in_steps).0
 
       abbrev plain : accumulates n.function ≡ false
-      plain = (In-from_All _ v.steps.items r.images n in_steps).1
+      plain = (writes_images objects nodes v height beside r n in_steps).1
 
       pub seen_output : IsSeen strip s n c
       seen_output = is_seen objects final height beside strip is_strip s before n which c sees.first sees.second is.place runs images plain
@@ -246,10 +248,10 @@ module _ (objects : List Named) (nodes : List Node) (v : Verified) (height besid
           where
             of_rows : slot_of s.slots.items c.name ≡ None → RowsAreAs strip.band.start (object_held (scene s).objects c.name) (object_held final c.name)
                 → RowsAreAs end (Some (made_seen strip s n which c)) (object_held final c.name)
-            of_rows none before =
+            of_rows none earlier =
                 let old = image_held (scene s).objects c in
                 let here : object_held (scene s).objects c.name ≡ Some (ImageObject old) = held_image (scene s).objects c (out_height objects nodes v height beside r n in_steps c out).1 is.place.here in
-                let rows = rw_rows strip.band.start (object_held (scene s).objects c.name) (object_held final c.name) old (image_held final c) here at_name before in
+                let rows = rw_rows strip.band.start (object_held (scene s).objects c.name) (object_held final c.name) old (image_held final c) here at_name earlier in
                 let less = beside_less before after n parts in
                 let right = rows_right strip (part_made strip.rows s n which c) old (image_held final c) is_strip.within (right_from objects done strip.rows) (right_to objects height done strip.rows) stands
                 (omega (arith, right_above (sum_by (rows_beside objects) done) beside strip.rows.start less, is_strip.above))
@@ -275,8 +277,8 @@ module _ (objects : List Named) (nodes : List Node) (v : Verified) (height besid
     runs_second : (c : Cell) → n.out2 ≡ Some c → RunsTo final n c
     runs_second c e = subst (λ (o : Option Cell). IfSome o (RunsTo final n)) e (final_second objects nodes v height beside r n in_steps)
 
-    second_apart : {P : Cell → Type 0} (a : Cell) → n.in2 ≡ Some a → IfSome n.in2 P → P a
-    second_apart {P} a e h = subst (λ (o : Option Cell). IfSome o P) e h
+    second_apart : (P : Cell → Type 0) (a : Cell) → n.in2 ≡ Some a → IfSome n.in2 P → P a
+    second_apart P a e h = subst (λ (o : Option Cell). IfSome o P) e h
 
     -- a cell of an output
     out_whole : (c : Cell) → In c (outputs n) → c.slot ≡ None
@@ -298,17 +300,17 @@ module _ (objects : List Named) (nodes : List Node) (v : Verified) (height besid
         → IfSome n.in2 (λ a. object_held (scene later).objects a.name ≡ object_held (scene s).objects a.name) → SeesInputs later
     sees_kept s later sees same first_same second_same =
         record {
-          first = sees_image_kept strip.rows _ _ s.slots.items later.slots.items (scene s).objects (scene later).objects final n.in1 (slots_alike s.slots.items later.slots.items same n.in1.name)
+          first = sees_image_kept strip.rows (right_from objects before strip.rows) (right_to objects height before strip.rows) s.slots.items later.slots.items (scene s).objects (scene later).objects final n.in1 (slots_alike s.slots.items later.slots.items same n.in1.name)
               (ap (option_and_then (in_slot n.in1.slot)) first_same) sees.first;
           second = each n.in2 second_same sees.second;
         }
       where
         each : (second : Option Cell) → IfSome second (λ a. object_held (scene later).objects a.name ≡ object_held (scene s).objects a.name)
-            → IfSome second (SeesBeside strip.rows _ _ s.slots.items (scene s).objects final)
-            → IfSome second (SeesBeside strip.rows _ _ later.slots.items (scene later).objects final)
+            → IfSome second (SeesBeside strip.rows (right_from objects before strip.rows) (right_to objects height before strip.rows) s.slots.items (scene s).objects final)
+            → IfSome second (SeesBeside strip.rows (right_from objects before strip.rows) (right_to objects height before strip.rows) later.slots.items (scene later).objects final)
         each None kept h = tt
         each (Some a) kept h =
-            sees_beside_kept strip.rows _ _ s.slots.items later.slots.items (scene s).objects (scene later).objects final a (slots_alike s.slots.items later.slots.items same a.name)
+            sees_beside_kept strip.rows (right_from objects before strip.rows) (right_to objects height before strip.rows) s.slots.items later.slots.items (scene s).objects (scene later).objects final a (slots_alike s.slots.items later.slots.items same a.name)
             (ap (option_and_then (in_slot a.slot)) kept) h
 
     -- so does another output
@@ -364,7 +366,7 @@ module _ (objects : List Named) (nodes : List Node) (v : Verified) (height besid
         sees_between : SeesInputs between
         sees_between =
             sees_kept s between sees first_slots (first_kept n.in1.name (λ c e. read_apart n.in1 c (first_in c e) (runs_first c e).in1_apart))
-            (each n.in2 (λ a e. first_kept a.name (λ c f. read_apart a c (first_in c f) (second_apart a e (runs_first c f).in2_apart))))
+            (each n.in2 (λ a e. first_kept a.name (λ c f. read_apart a c (first_in c f) (second_apart (λ b. AreApart b c) a e (runs_first c f).in2_apart))))
           where
             each : (second : Option Cell) → ((a : Cell) → second ≡ Some a → object_held (scene between).objects a.name ≡ object_held (scene s).objects a.name)
                 → IfSome second (λ a. object_held (scene between).objects a.name ≡ object_held (scene s).objects a.name)
@@ -397,7 +399,7 @@ module _ (objects : List Named) (nodes : List Node) (v : Verified) (height besid
               let i = first_in c e in
               subst (AsMade done c)
               (sym (second_kept c.name (λ d f same. outputs_differ c d e f same) ∙ at_output s between c _ (out_whole c i) (opens c i).place.here value))
-              (as_made s sees First c i (opens c i) (runs_first c e) (subst (λ (o : Option Cell). IfSome o _) e (made_first objects nodes v height beside r n in_steps)))
+              (as_made s sees First c i (opens c i) (runs_first c e) (subst (λ (o : Option Cell). IfSome o (λ c. held final c ≡ Some (ImageObject (node_image n First (image_held final c).format (image_held final n.in1) (option_map (cell_object final) n.in2))))) e (made_first objects nodes v height beside r n in_steps)))
 
           second_made : (c : Cell) → n.out2 ≡ Some c → AsMade done c (object_held (scene later).objects c.name)
           second_made c e =
@@ -405,7 +407,7 @@ module _ (objects : List Named) (nodes : List Node) (v : Verified) (height besid
               let i = second_in c e in
               subst (AsMade done c)
               (sym (at_output between later c _ (out_whole c i) (open_between c e).place.here value))
-              (as_made between sees_between Second c i (open_between c e) (runs_second c e) (subst (λ (o : Option Cell). IfSome o _) e (made_second objects nodes v height beside r n in_steps)))
+              (as_made between sees_between Second c i (open_between c e) (runs_second c e) (subst (λ (o : Option Cell). IfSome o (λ c. held final c ≡ Some (ImageObject (node_image n Second (image_held final c).format (image_held final n.in1) (option_map (cell_object final) n.in2))))) e (made_second objects nodes v height beside r n in_steps)))
 
           pub has_run : HasRun s later
           has_run =
