@@ -31,3 +31,5 @@ pub mod SharingLemmas
 pub mod AgreeLemmas
 pub mod SceneLemmas
 pub mod SlotPoolLemmas
+pub mod PartSeenLemmas
+pub mod BandRowsLemmas
