@@ -9,7 +9,10 @@ use Rattle.std.proofs.lemmas.Option.{slice_get_cases}
 use Rattle.std.proofs.lemmas.List.{length-map, drop_at, take_at, take-map, drop-map}
 use Rattle.vx_base.specs.declared.kind.Kind.TheVariants as kind
 use Rattle.vx_base.specs.Cell.{Cell}
-use Rattle.vx_base.specs.Image.{ImageValue, IsImage, band, at}
+use Rattle.vx_base.specs.declared.format.Format.{Format}
+use Rattle.vx_base.specs.Description.{Description}
+use Rattle.vx_base.specs.Rectangle.{Rectangle}
+use Rattle.vx_base.specs.Image.{ImageValue, IsImage, image_over, description_of, band, at}
 use Rattle.vx_base.specs.Object.{ObjectValue, ImageObject, IsObject, object_kind}
 use Rattle.vx_base.proofs.ImageLaws.{samples_are_band}
 use Rattle.vx_base.proofs.TableLaws.{band-append, length-band}
@@ -18,7 +21,8 @@ use Rattle.image_core.specs.Bands.{IsInRows}
 use Rattle.object_table.specs.Named.{Named, object_held}
 use Rattle.object_table.specs.Object.{image_value}
 use Rattle.object_table.specs.Table.{cell_object, image_held, HoldsImage}
-use Rattle.node_rows.specs.Parts.{part_of}
+use Rattle.node_rows.specs.Parts.{part_of, rows_of}
+use Rattle.node_rows.proofs.PartLaws.{part_is}
 use Rattle.graph_run.specs.declared.stage.Slot.{Slot}
 use Rattle.graph_run.specs.declared.stage.Stage.{Stage}
 use Rattle.graph_run.specs.Bands.{HasRowsIn, part_seen, seen_in}
@@ -42,7 +46,7 @@ band_part width height start count f room =
     ∙ take_at (band width start count f) (band width (start + count) rest f) (count * width) (length-band width start count f)
 
 -- a slice of whole rows, as numbers
-pub rows_lent : {T : Type 0} (value : T → ℤ) (xs : List T) (image : ImageValue) (rows : Band) (from to : ℕ) → IsImage image → IsInRows image.height rows → map value xs ≡ image.samples
+rows_lent : {T : Type 0} (value : T → ℤ) (xs : List T) (image : ImageValue) (rows : Band) (from to : ℕ) → IsImage image → IsInRows image.height rows → map value xs ≡ image.samples
     → from ≡ rows.start * image.width → to ≡ from + rows.count * image.width → map value (take (to - from) (drop from xs)) ≡ band image.width rows.start rows.count (at image)
 rows_lent value xs image rows from to is room same first last =
     let long : to - from ≡ rows.count * image.width = omega (arith, last) in
@@ -51,6 +55,51 @@ rows_lent value xs image rows from to is room same first last =
     ∙ sym (take-map value (rows.count * image.width) (drop (rows.start * image.width) xs))
     ∙ ap (take (rows.count * image.width)) (sym (drop-map value (rows.start * image.width) xs) ∙ ap (drop (rows.start * image.width)) (same ∙ sym (samples_are_band image.samples image.width image.height is.size)))
     ∙ band_part image.width image.height rows.start rows.count (at image) room
+
+-- whole rows end within all
+rows_fit : (width height start count : ℕ) → start + count ≤ height → start * width + count * width ≤ height * width
+rows_fit width height start count room = parted (height - start - count) (omega arith)
+  where
+    parted : (rest : ℕ) → height ≡ start + count + rest → start * width + count * width ≤ height * width
+    parted rest e = let more : height * width ≡ (start + count + rest) * width = ap (λ n. n * width) e in omega (arith, more)
+
+-- a slice of an image's samples from row to row, with the description and the rectangle of these rows
+module _ {T : Type 0} (value : T → ℤ) (xs : List T) (image : ImageValue) (rows : Band) (desc d : Description) (w side width s n : ℕ) (f : Format) (area valid : Rectangle)
+    (is : IsImage image) (room : IsInRows image.height rows) (same : map value xs ≡ image.samples) (desc_is : desc ≡ description_of image)
+    (w_is : w ≡ desc.width) (f_is : f ≡ desc.format) (d_is : d ≡ record { width = w; height = rows.count; format = f }) (area_is : area ≡ image.valid) (valid_is : valid ≡ rows_of rows.start rows.count area)
+    (side_is : side ≡ desc.width) (width_is : width ≡ side) (s_is : s ≡ rows.start) (n_is : n ≡ rows.count) where
+  wide : width ≡ image.width
+  wide = width_is ∙ side_is ∙ ap (λ (e : Description). e.width) desc_is
+
+  from_is : s * width ≡ rows.start * image.width
+  from_is = ap (λ k. k * width) s_is ∙ ap (λ k. rows.start * k) wide
+
+  count_is : n * width ≡ rows.count * image.width
+  count_is = ap (λ k. k * width) n_is ∙ ap (λ k. rows.count * k) wide
+
+  pub ends_within : s * width + n * width ≤ length xs
+  ends_within =
+      let long : length xs ≡ image.height * image.width = sym (length-map xs value) ∙ ap length same ∙ is.size in
+      omega (arith, long, from_is, count_is, rows_fit image.width image.height rows.start rows.count room)
+
+  described : d ≡ record { width = image.width; height = rows.count; format = image.format }
+  described =
+      d_is
+      ∙ ap (λ k. let e : Description = record { width = k; height = rows.count; format = f } in e) (w_is ∙ ap (λ (e : Description). e.width) desc_is)
+      ∙ ap (λ k. let e : Description = record { width = image.width; height = rows.count; format = k } in e) (f_is ∙ ap (λ (e : Description). e.format) desc_is)
+
+  abbrev lent : List ℤ
+  lent = map value (take (s * width + n * width - s * width) (drop (s * width) xs))
+
+  pub part_lent : image_over d valid lent ≡ part_of rows.start rows.count image
+  part_lent =
+      ap (λ e. image_over e valid lent) described
+      ∙ ap (λ r. image_over (record { width = image.width; height = rows.count; format = image.format }) r lent) (valid_is ∙ ap (rows_of rows.start rows.count) area_is)
+      ∙ ap (λ zs. image_over (record { width = image.width; height = rows.count; format = image.format }) (rows_of rows.start rows.count image.valid) zs)
+      (rows_lent value xs image rows (s * width) (s * width + n * width) is room same from_is (ap (λ k. s * width + k) count_is))
+
+  pub lent_is : IsImage (image_over d valid lent)
+  lent_is = subst IsImage (sym part_lent) (part_is rows.start rows.count image is room)
 
 -- ---- objects
 

@@ -1,5 +1,5 @@
 -- Graphs that run in bands of rows: each band goes through all nodes before the next one does. Nodes see parts of images, which are a band and some rows beside it.
-use Rattle.std.specs.Prelude.{ℕ, ◌+◌, ◌-◌, ◌*◌, ◌≤◌, ◌<◌, ◌≡◌, ◌≢◌, IsTrue, is_some, ⊤, Bool, true, false, not, ◌&&◌, if◌then◌else◌, List, [], ◌∷◌, ◌++◌, map, take, drop, length, sum_by, slice_get, All, Option, Some, None, IfSome, unwrap_or}
+use Rattle.std.specs.Prelude.{ℕ, ◌+◌, ◌-◌, ◌*◌, ◌≤◌, ◌<◌, ◌≡◌, ◌≢◌, IsTrue, is_some, ⊤, Bool, true, false, not, ◌&&◌, ◌==◌, if◌then◌else◌, List, [], ◌∷◌, ◌++◌, map, take, drop, length, sum_by, slice_get, All, Option, Some, None, IfSome, unwrap_or}
 use Rattle.std.specs.Option.{option_map, option_and_then}
 use Rattle.std.specs.List.{list_any}
 use Rattle.std.specs.List.Sorted.{IsStrictlyIncreasing}
@@ -150,11 +150,11 @@ is_virtual_name v name = list_any (λ (o : VirtualOutput). name == o.cell.name) 
 pub record RunsInBands (objects : List Named) (nodes : List Node) (v : Verified) (height beside : ℕ) : Type 0 where
   pub ready : IsReady objects nodes v
   pub names : IsStrictlyIncreasing (map (λ o. o.name) objects)
-  pub objects : All (λ o. IsObject o.object) objects
+  pub are_objects : All (λ o. IsObject o.object) objects
   pub described : All (λ o. IsDescription o.desc) v.virtual_outputs.items
   pub images : All (λ n. ((parameters n.function).output ≡ kind.Image) × (accumulates n.function ≡ false)) v.steps.items
   pub near : All (λ n. IsTrue (is_some (reach_of objects n))) v.steps.items
-  pub beside : sum_by (rows_beside objects) v.steps.items ≡ beside
+  pub together : sum_by (rows_beside objects) v.steps.items ≡ beside
   pub heights : All (λ n. All (λ c. HasHeight height (resolved (operand_held objects) nodes c)) (outputs n)) v.steps.items
   pub wholes : All (λ n. All (λ c. c.slot ≡ None) (outputs n)) v.steps.items
   pub apart : (n m : Node) (c d : Cell) → In n v.steps.items → In m v.steps.items → reads n c ≡ true → writes m d ≡ true
@@ -194,15 +194,36 @@ pub record IsFinished (rows : ℕ → ℕ) (v : Verified) (objects final now : L
 abbrev pub rows_by_now : List Node → Strip → ℕ → ℕ
 rows_by_now done strip name = if is_written done (cell_of name) then strip.band.start + strip.band.count else strip.band.start
 
--- an image that stands in a slot, beside what it is in the end: right but for as many rows at each end as these nodes look up and down
+-- of rows that nodes see, from which to which what these nodes made of them is right, where each looks so far up and down
+abbrev pub right_from : List Named → List Node → Band → ℕ
+right_from objects done rows = first_right (sum_by (rows_beside objects) done) rows.start
+
+abbrev pub right_to : List Named → ℕ → List Node → Band → ℕ
+right_to objects height done rows = end_right (sum_by (rows_beside objects) done) height (rows.start + rows.count)
+
+-- an image that stands in a slot, beside what it is in the end
 pub record IsPartOf (objects : List Named) (height : ℕ) (done : List Node) (rows : Band) (now final : Option ObjectValue) : Type 0 where
   pub part : ImageValue
   pub image : ImageValue
   pub there : now ≡ Some (ImageObject part)
   pub in_the_end : final ≡ Some (ImageObject image)
   pub part_is : IsImage part
-  pub stands : StandsFor rows.start rows.count (first_right (sum_by (rows_beside objects) done) rows.start)
-      (end_right (sum_by (rows_beside objects) done) height (rows.start + rows.count)) part image
+  pub stands : StandsFor rows.start rows.count (right_from objects done rows) (right_to objects height done rows) part image
+
+-- whether this is an image
+abbrev pub is_image_held : Option ObjectValue → Bool
+is_image_held (Some (ImageObject image)) = true
+is_image_held other = false
+
+-- the image under a name, with another valid rectangle and the samples that it has
+abbrev pub with_area_in : Rectangle → List Named → Cell → Option ObjectValue → List Named
+with_area_in area objects cell (Some (ImageObject image)) = with_object objects cell (ImageObject (image_over (description_of image) area image.samples))
+with_area_in area objects cell other = objects
+
+-- the objects once an output has this rectangle, if it is an image of the client's
+abbrev pub with_area : Rectangle → Option Cell → List Named → List Named
+with_area area None objects = objects
+with_area area (Some cell) objects = with_area_in area objects cell (object_held objects cell.name)
 
 -- the valid rectangles of what the steps write in the end
 pub record AreAreas (final : List Named) (steps : List Node) (areas : List Rectangle) : Type 0 where

@@ -1,12 +1,13 @@
 //! Graphs that run in bands of rows: each band goes through all nodes before the next one does, so
 //! that what lies between two nodes stays in the cache.
-ghost use Rattle.std.specs.Prelude.{◌≡◌, ◌≤◌, ◌+◌, ◌-◌, ◌*◌, ◌++◌, [], ℕ, List, map, pos, take, drop, length};
-ghost use Rattle.std.specs.Prelude.{IfSome, IsSome, slice_get, None, Some, false};
+ghost use Rattle.std.specs.Prelude.{◌≡◌, ◌≤◌, ◌<◌, ◌+◌, ◌-◌, ◌*◌, ◌++◌, [], ℕ, List, map, pos, take, drop, length};
+ghost use Rattle.std.specs.Prelude.{All, IfSome, IsSome, slice_get, None, Some, false};
 ghost use Rattle.vx_base.specs.declared.format.Format.TheVariants.{U8, S16, U32};
 ghost use Rattle.vx_base.specs.declared.node.Node.{Node as NodeFields};
 ghost use Rattle.vx_base.specs.Cell.{Cell};
 ghost use Rattle.vx_base.specs.Function.{accumulates};
 ghost use Rattle.vx_base.specs.Image.{IsImage, image_over, band, at};
+ghost use Rattle.vx_base.specs.Object.{ImageObject, IsObject};
 ghost use Rattle.vx_base.specs.Outputs.{node_image};
 ghost use Rattle.vx_base.specs.Picture.{values, samples_format};
 ghost use Rattle.vx_base.specs.Rectangle.{empty};
@@ -14,7 +15,7 @@ ghost use Rattle.image_core.specs.Bands.{IsInRows};
 ghost use Rattle.image_core.specs.Second.{second_object};
 ghost use Rattle.image_core.specs.Target.{written, SameSlices};
 ghost use Rattle.object_table.specs.Context.{with_objects};
-ghost use Rattle.object_table.specs.Named.{Named, with_object};
+ghost use Rattle.object_table.specs.Named.{Named, object_held, with_object};
 ghost use Rattle.object_table.specs.Table.{image_held};
 ghost use Rattle.graph_verify.specs.Outlines.{resolved};
 ghost use Rattle.graph_verify.specs.declared.operand.Operand.{Operand};
@@ -25,7 +26,7 @@ ghost use Rattle.buffer_plan.specs.Places.{told};
 ghost use Rattle.buffer_plan.specs.Plan.{IsPlan};
 ghost use Rattle.graph_run.specs.Bands.{SeesParts, part_made, with_band, with_seen, made_seen, IsWithinRows};
 ghost use Rattle.graph_run.specs.Bands.{IsSeen, HasPlaceIn, output_part, RunsInBands, final_of, IsStrip};
-ghost use Rattle.graph_run.specs.Bands.{IsFinished, AreAreas};
+ghost use Rattle.graph_run.specs.Bands.{IsFinished, AreAreas, is_image_held, with_area};
 ghost use Rattle.graph_run.specs.Graph.{run_of_graph};
 ghost use Rattle.graph_run.specs.Lasting.{Lasts};
 ghost use Rattle.graph_run.specs.Operands.{operand_held, IsReady};
@@ -42,6 +43,7 @@ use crate::step::write_samples;
 use buffer_plan::Plan;
 use graph_verify::{Verified, VirtualOutput};
 use image_core::{Band, Image, ImageMut, Second};
+use object_table::{Content, Table};
 use vx_base::{Desc, Node, ObjRef, Output, Rect, Samples};
 
 /// Rows that nodes see, and the band of them that is right in the end.
@@ -71,8 +73,12 @@ pub fn run_bands(stage: &mut Stage, verified: &Verified, plan: &Plan, bands: &Ba
     requires plan { IsPlan verified.now.steps.items verified.now.virtual_outputs.items
         (told plan.now) }
     requires some { 1 ≤ bands.now.rows }
-    requires bands { (nodes : List NodeFields) × RunsInBands stage.old.table.objects nodes
-        verified.now bands.now.height bands.now.beside }
+    requires ready { (nodes : List NodeFields) ×
+        IsReady stage.old.table.objects nodes verified.now }
+    requires bands { (nodes : List NodeFields) →
+        IsReady stage.old.table.objects nodes verified.now →
+        RunsInBands stage.old.table.objects nodes verified.now bands.now.height
+        bands.now.beside }
     requires areas { (nodes : List NodeFields) → IsReady stage.old.table.objects nodes verified.now →
         AreAreas (final_of stage.old.table.objects nodes verified.now) verified.now.steps.items
         bands.now.areas.items }
@@ -90,7 +96,7 @@ pub fn run_bands(stage: &mut Stage, verified: &Verified, plan: &Plan, bands: &Ba
         run_strip(stage, verified, plan, bands, strip);
         y += strip.band.count;
     }
-    set_areas(stage, verified, bands);
+    set_areas(&mut stage.table, verified, bands);
 }
 
 /// The strip whose band begins with a row.
@@ -120,7 +126,7 @@ fn clear_slots(stage: &mut Stage)
     ensures empty { AreEmpty stage.new.slots.items }
     ensures rooms { map room_of stage.new.slots.items ≡ map room_of stage.old.slots.items }
 {
-    for slot in &mut stage.slots {
+    for slot in stage.slots.iter_mut() {
         slot.holder = None;
     }
 }
@@ -191,6 +197,7 @@ fn claim_part(
         return;
     };
     let at = place_of(plan, desc.format(), slot);
+    desc.has_sides();
     let desc = Desc::with_sides(desc.width(), rows.count, desc.format());
     stage.claim(at, VirtualOutput { cell, desc });
 }
@@ -401,36 +408,50 @@ fn rows_u32(
 }
 
 /// Makes the rectangles of the client's images that the nodes write what they are in the end.
-fn set_areas(stage: &mut Stage, verified: &Verified, bands: &Bands)
-    requires stage { IsStage stage.old }
+fn set_areas(table: &mut Table, verified: &Verified, bands: &Bands)
+    requires objects { All (λ o. IsObject o.object) table.old.objects }
     requires runs { (objects : List Named) × (nodes : List NodeFields) ×
         RunsInBands objects nodes verified.now bands.now.height bands.now.beside ×
         AreAreas (final_of objects nodes verified.now) verified.now.steps.items
         bands.now.areas.items ×
         IsFinished (λ _. bands.now.height) verified.now objects
-        (final_of objects nodes verified.now) stage.old.table.objects }
-    ensures next { stage.new.table.next ≡ stage.old.table.next }
-    ensures rooms { map room_of stage.new.slots.items ≡ map room_of stage.old.slots.items }
+        (final_of objects nodes verified.now) table.old.objects }
+    ensures next { table.new.next ≡ table.old.next }
     ensures value { (objects : List Named) → (nodes : List NodeFields) →
         RunsInBands objects nodes verified.now bands.now.height bands.now.beside →
         AreAreas (final_of objects nodes verified.now) verified.now.steps.items
         bands.now.areas.items →
         IsFinished (λ _. bands.now.height) verified.now objects
-        (final_of objects nodes verified.now) stage.old.table.objects →
-        stage.new.table.objects ≡ run_of_graph (resolved (operand_held objects) nodes) nodes objects }
+        (final_of objects nodes verified.now) table.old.objects →
+        table.new.objects ≡ run_of_graph (resolved (operand_held objects) nodes) nodes objects }
 {
-    for (node, area) in verified.steps.iter().zip(&bands.areas) {
-        set_area(stage, verified, node.out1, *area);
-        set_area(stage, verified, node.out2, *area);
+    for k in 0..bands.areas.len() {
+        let (node, area) = (&verified.steps[k], bands.areas[k]);
+        set_area(table, node.out1, area);
+        set_area(table, node.out2, area);
     }
 }
 
 /// Makes this the rectangle of an output, if it is an image of the client's.
-fn set_area(stage: &mut Stage, verified: &Verified, output: Option<ObjRef>, area: Rect) {
-    if let Some(cell) = output {
-        if verified.desc_of(cell).is_none() {
-            let (_, samples) = stage.table.take(cell);
-            stage.table.put(cell, samples, area);
-        }
+fn set_area(table: &mut Table, output: Option<ObjRef>, area: Rect)
+    requires { IfSome output (λ cell. cell.slot ≡ None) }
+    ensures { table.new ≡ with_objects table.old (with_area area output table.old.objects) }
+{
+    let Some(cell) = output else {
+        return;
+    };
+    if is_image(table, cell.name()) {
+        let (_, samples) = table.take(cell);
+        table.put(cell, samples, area);
+    }
+}
+
+/// Whether an image is held under a name.
+fn is_image(table: &Table, name: u32) -> bool
+    ensures { result ≡ is_image_held (object_held table.now.objects name) }
+{
+    match table.get_held(name) {
+        Some(object) => matches!(object.content(), Content::Image(_)),
+        None => false,
     }
 }

@@ -13,7 +13,7 @@ use Rattle.graph_run.specs.Stage.{scene, slot_of}
 use Rattle.graph_run.specs.Steps.{Holds, IsRead}
 use Rattle.graph_run.proofs.PartSeenLemmas.{real_nowhere}
 use Rattle.graph_run.proofs.StepLemmas.{none_found, virtual_read, real_cell, not_virtual}
-use Rattle.graph_run.proofs.part.Stage.second_part.Goals as goal
+use Rattle.graph_run.proofs.stage.Stage.second_part.Goals as goal
 
 pub part-requires-clause-there : goal.part-requires-clause-there
 part-requires-clause-there c = grind (arith, virtual_read)

@@ -10,7 +10,7 @@ use Rattle.graph_run.specs.Bands.{seen_in}
 use Rattle.graph_run.specs.Stage.{scene}
 use Rattle.graph_run.proofs.PartSeenLemmas.{as_itself, held_kind, rows_there, part_shown, stands_seen}
 use Rattle.graph_run.proofs.StandingLemmas.{place_is, nowhere, as_image, as_object, has_holder, of_format, is_standing, stood}
-use Rattle.graph_run.proofs.part.Stage.part.Goals as goal
+use Rattle.graph_run.proofs.stage.Stage.part.Goals as goal
 
 pub image-requires : goal.image-requires
 image-requires c =
