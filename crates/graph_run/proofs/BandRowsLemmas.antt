@@ -1,6 +1,6 @@
 -- Rows that are written, among the samples of the image to which they belong.
-use Rattle.std.proofs.Common.{◌≡◌, ℕ, ℤ, List, ◌++◌, ◌+◌, ◌≤◌, length, map, take, drop, Option, sym, ap, ◌∙◌, arith, length-append}
-use Rattle.std.proofs.lemmas.List.{length-take, length-drop, take_all, drop_all, drop-drop, append-nil, map-append, take-map, drop-map}
+use Rattle.std.proofs.Common.{◌≡◌, ℕ, ℤ, List, ◌++◌, ◌+◌, ◌*◌, ◌≤◌, length, map, take, drop, Option, sym, ap, ◌∙◌, arith, length-append}
+use Rattle.std.proofs.lemmas.List.{append_assoc, length-take, length-drop, take_all, drop_all, drop-drop, append-nil, map-append, take-map, drop-map}
 use Rattle.vx_base.specs.declared.node.Node.{Node}
 use Rattle.vx_base.specs.declared.output.Output.{Output}
 use Rattle.vx_base.specs.Description.{Description}
@@ -26,6 +26,16 @@ module _ (n : Node) (which : Output) (a : ImageValue) (second : Option ObjectVal
   pub rows_written : (written new).samples ≡ band old.desc.width old.rows.start old.rows.count (at image)
   rows_written = ap (λ (v : ImageValue). v.samples) is.value ∙ ap (λ (d : Description). band d.width old.rows.start old.rows.count (at image)) kept
 
+-- where a band begins and ends among samples
+module _ (a b w start count width : ℕ) (a_is : a ≡ start) (b_is : b ≡ count) (w_is : w ≡ width) where
+  pub band_from : a * w ≡ start * width
+  band_from = ap (λ k. k * w) a_is ∙ ap (λ k. start * k) w_is
+
+  pub band_end : a * w + b * w ≡ (start + count) * width
+  band_end =
+      let more : b * w ≡ count * width = ap (λ k. k * w) b_is ∙ ap (λ k. count * k) w_is in
+      omega (arith, band_from, more)
+
 -- what was written among others, between those before it and those after it
 module _ {X : Type 0} (start count stop len : ℕ) (front to back rest items : List X) (first : front ≡ take start items) (others : rest ≡ drop start items) (last : back ≡ drop count rest)
     (long : length to ≡ count) (all : length items ≡ len) (end : start + count ≡ stop) (room : stop ≤ len) where
@@ -48,7 +58,7 @@ module _ {X : Type 0} (start count stop len : ℕ) (front to back rest items : L
 
   -- they stand there as they were made
   pub stand_among : (value : X → ℤ) (old made : List ℤ) (from : ℕ) → map value items ≡ old → map value to ≡ made → start ≡ from
-      → map value (take len ((front ++ (to ++ back)) ++ drop (length (front ++ (to ++ back))) items)) ≡ take from old ++ (made ++ drop stop old)
+      → map value (take len ((front ++ (to ++ back)) ++ drop (length (front ++ (to ++ back))) items)) ≡ (take from old ++ made) ++ drop stop old
   stand_among value old made from were are at =
       ap (map value) among_others
       ∙ map-append value (take start items) (to ++ drop stop items)
@@ -56,3 +66,4 @@ module _ {X : Type 0} (start count stop len : ℕ) (front to back rest items : L
       ∙ ap (λ l. l ++ (map value to ++ map value (drop stop items))) (sym (take-map value start items) ∙ ap (take start) were ∙ ap (λ n. take n old) at)
       ∙ ap (λ l. take from old ++ (map value to ++ l)) (sym (drop-map value stop items) ∙ ap (drop stop) were)
       ∙ ap (λ l. take from old ++ (l ++ drop stop old)) are
+      ∙ sym (append_assoc (take from old) made (drop stop old))
