@@ -1,4 +1,4 @@
-use Rattle.std.proofs.Common.{◌≡◌, Option, Some, None, IsTrue, ap, sym, subst, ◌∙◌, arith}
+use Rattle.std.proofs.Common.{◌≡◌, Option, Some, IsTrue, ap, sym, subst, ◌∙◌, arith}
 use Rattle.std.specs.Prelude.{is_some, unwrap_or, IfSome}
 use Rattle.std.specs.Option.{option_map}
 use Rattle.vx_base.specs.declared.format.Format.TheVariants.{U8}
@@ -9,7 +9,7 @@ use Rattle.object_table.specs.Named.{object_held}
 use Rattle.object_table.specs.Table.{cell_object}
 use Rattle.graph_run.specs.declared.stage.Slot.{Slot}
 use Rattle.graph_run.specs.Bands.{HasRows, HasRowsIn, part_seen, seen, seen_in}
-use Rattle.graph_run.specs.Stage.{scene, slot_of}
+use Rattle.graph_run.specs.Stage.{scene}
 use Rattle.graph_run.specs.Steps.{Holds, IsRead}
 use Rattle.graph_run.proofs.PartSeenLemmas.{real_nowhere}
 use Rattle.graph_run.proofs.StepLemmas.{none_found, virtual_read, real_cell, not_virtual}
