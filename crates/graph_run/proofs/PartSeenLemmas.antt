@@ -62,7 +62,7 @@ rows_fit width height start count room = parted (height - start - count) (omega 
     parted : (rest : ℕ) → height ≡ start + count + rest → start * width + count * width ≤ height * width
     parted rest e = let more : height * width ≡ (start + count + rest) * width = ap (λ n. n * width) e in omega (arith, more)
 
--- a slice of an image's samples from row to row, with the description and the rectangle of these rows
+-- a slice of whole rows of an image's samples, with these rows' description and rectangle
 module _ {T : Type 0} (value : T → ℤ) (xs : List T) (image : ImageValue) (rows : Band) (desc d : Description) (w side width s n : ℕ) (f : Format) (area valid : Rectangle)
     (is : IsImage image) (room : IsInRows image.height rows) (same : map value xs ≡ image.samples) (desc_is : desc ≡ description_of image)
     (w_is : w ≡ desc.width) (f_is : f ≡ desc.format) (d_is : d ≡ record { width = w; height = rows.count; format = f }) (area_is : area ≡ image.valid) (valid_is : valid ≡ rows_of rows.start rows.count area)
