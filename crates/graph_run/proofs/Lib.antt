@@ -32,6 +32,8 @@ pub mod AgreeLemmas
 pub mod SceneLemmas
 pub mod PartClaimLemmas
 pub mod SlotPoolLemmas
+pub mod PartSeenLemmas
+pub mod BandRowsLemmas
 pub mod BandLemmas
 pub mod FinalLemmas
 pub mod SeesLemmas

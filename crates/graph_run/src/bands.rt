@@ -13,6 +13,7 @@ ghost use Rattle.vx_base.specs.Picture.{values, samples_format};
 ghost use Rattle.vx_base.specs.Rectangle.{empty};
 ghost use Rattle.image_core.specs.Bands.{IsInRows};
 ghost use Rattle.image_core.specs.Second.{second_object};
+ghost use Rattle.image_core.specs.Target.{written, SameSlices};
 ghost use Rattle.object_table.specs.Context.{with_objects};
 ghost use Rattle.object_table.specs.Named.{Named, object_held, with_object};
 ghost use Rattle.object_table.specs.Table.{image_held};
@@ -29,6 +30,7 @@ ghost use Rattle.graph_run.specs.Bands.{IsFinished, AreAreas, is_image_held, wit
 ghost use Rattle.graph_run.specs.Graph.{run_of_graph};
 ghost use Rattle.graph_run.specs.Lasting.{Lasts};
 ghost use Rattle.graph_run.specs.Operands.{operand_held, IsReady};
+ghost use Rattle.graph_run.specs.Run.{CanRun};
 ghost use Rattle.graph_run.specs.Slots.{room_of, planned_rooms, AreEmpty, AreShared, claimed_at};
 ghost use Rattle.graph_run.specs.Stage.{scene, slot_of, IsStage, IsArranged, Keeps};
 ghost use Rattle.graph_run.specs.Steps.{CanRunTo};
@@ -313,11 +315,29 @@ fn write_rows(
     }
 }
 
-/// Runs a node to some rows of an output.
+/// Writes rows of one of a node's outputs, an image.
+fn run_rows(
+    node: &Node,
+    which: Output,
+    first: &Image<'_>,
+    second: &Second<'_>,
+    output: &mut ImageMut<'_>,
+)
+    requires { CanRun node.now first.now (second_object second.now) output.old }
+    ensures format { (written output.new).format ≡ (written output.old).format }
+    ensures samples { (written output.new).samples ≡ band (written output.old).width
+        output.old.rows.start output.old.rows.count (at (node_image node.now which
+        (written output.old).format first.now (second_object second.now))) }
+    ensures slices { SameSlices output.old output.new }
+{
+    run_node(node, which, first, second, output);
+}
+
+/// Runs a node to rows of an output in one format.
 macro_rules! run_to_rows {
     ($desc:expr, $rows:expr, $samples:expr, $node:expr, $which:expr, $first:expr, $second:expr) => {{
         let mut output = ImageMut::of_rows($desc, $rows, $samples);
-        run_node($node, $which, $first, $second, &mut output);
+        run_rows($node, $which, $first, $second, &mut output);
     }};
 }
 

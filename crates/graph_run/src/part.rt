@@ -66,12 +66,25 @@ fn second_in(object: &Object, slot: Option<u8>, rows: Band) -> Second<'_>
     requires rows { HasRowsIn rows (object_in slot object.now) }
     ensures { second_object result ≡ Some (part_seen rows (object_in slot object.now)) }
 {
-    match (slot, object.content()) {
-        (Some(_), _) => Second::Image(part_of(object.image(slot), rows)),
-        (None, Content::Image(stored)) => Second::Image(part_of(stored, rows)),
-        (None, Content::Lut(lut)) => Second::Lut(lut),
-        (None, Content::Threshold(threshold)) => Second::Threshold(*threshold),
-        (None, Content::Convolution(convolution)) => Second::Convolution(convolution),
+    match slot {
+        None => second_of(object, rows),
+        Some(_) => Second::Image(part_of(object.image(slot), rows)),
+    }
+}
+
+/// An object beside the first input, by these rows where it is an image.
+fn second_of(object: &Object, rows: Band) -> Second<'_>
+    requires object { IsObject object.now }
+    requires kind { IsRead (object_kind object.now) }
+    requires some { 1 ≤ rows.count }
+    requires rows { HasRowsIn rows object.now }
+    ensures { second_object result ≡ Some (part_seen rows object.now) }
+{
+    match object.content() {
+        Content::Image(stored) => Second::Image(part_of(stored, rows)),
+        Content::Lut(lut) => Second::Lut(lut),
+        Content::Threshold(threshold) => Second::Threshold(*threshold),
+        Content::Convolution(convolution) => Second::Convolution(convolution),
         _ => unreachable!(),
     }
 }
