@@ -169,13 +169,16 @@ module _ (rows : Band) (s : Stage) (n : Node) (output : Cell) (h : SeesParts row
   abbrev target : Description
   target = record { width = out.width; height = rows.count; format = out.format }
 
-  -- these rows can be described
-  pub target_sides : (width : ℕ) → 1 ≤ width → width ≤ GREATEST_SIDE → (height : ℕ) → height ≤ GREATEST_SIDE → rows.start + rows.count ≤ height → IsTrue (is_side width && is_side rows.count)
-  target_sides width some wide height high room = grind (arith, nat_tests, h.some_rows)
-
   -- an output as high as these rows is described as they are
   pub as_high : (d : Description) → d ≡ description_of out → out.height ≡ rows.count → d ≡ target
   as_high d d_is high = d_is ∙ ap (λ k. let e : Description = record { width = out.width; height = k; format = out.format } in e) high
+
+  -- so is what has its width and format and is as high
+  pub as_target : (d part : Description) (width : ℕ) (format : Format) → d ≡ description_of out → width ≡ d.width → format ≡ d.format → part ≡ record { width = width; height = rows.count; format = format } → part ≡ target
+  as_target d part width format d_is wide of_format is =
+      is
+      ∙ ap (λ k. let e : Description = record { width = k; height = rows.count; format = format } in e) (wide ∙ ap (λ (e : Description). e.width) d_is)
+      ∙ ap (λ f. let e : Description = record { width = out.width; height = rows.count; format = f } in e) (of_format ∙ ap (λ (e : Description). e.format) d_is)
 
   -- ---- what the node makes of what it sees
 
