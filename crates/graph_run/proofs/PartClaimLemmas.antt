@@ -69,8 +69,7 @@ module _ (count : ℕ) (outs : List VirtualOutput) where
       let alike = λ (o : VirtualOutput). same_format o.desc.format format in
       let now = In-from_filter live a (of_format format parts) i in
       let here = In-from_filter alike a parts now.0 in
-      let from = In-from_map (output_part count) a outs here.0 in
-      (
+      let from = In-from_map (output_part count) a outs here.0 in (
         from.0,
         In-filter live from.0 (of_format format outs) (In-filter alike from.0 outs from.1 (ap alike (sym from.2) ∙ here.1)) (ap live (sym from.2) ∙ now.1),
         from.2,

@@ -1,6 +1,6 @@
 -- What nodes that see parts of images write: whole parts to slots, and bands to the client's images.
 use Rattle.std.proofs.Common.{◌≡◌, ℕ, ℤ, ◌+◌, ◌-◌, ◌*◌, ◌≤◌, ◌<◌, pos, Bool, List, [], ◌++◌, map, length, take, drop, get_or, Option, Some, None, IfSome, refl, sym, ap, subst, ◌∙◌, arith}
-use Rattle.std.specs.Prelude.{All, IsTrue, IsSome, ◌&&◌, find, position}
+use Rattle.std.specs.Prelude.{All, IsSome, find, position}
 use Rattle.std.specs.List.{position_or_len}
 use Rattle.std.specs.List.Sorted.{IsStrictlyIncreasing}
 use Rattle.std.specs.Option.{option_map}
@@ -16,7 +16,7 @@ use Rattle.vx_base.specs.declared.kind.Kind.TheVariants as kind
 use Rattle.vx_base.specs.declared.node.Node.{Node}
 use Rattle.vx_base.specs.declared.output.Output.{Output}
 use Rattle.vx_base.specs.Cell.{Cell}
-use Rattle.vx_base.specs.Description.{Description, is_side, sample_count}
+use Rattle.vx_base.specs.Description.{Description, sample_count}
 use Rattle.vx_base.specs.Image.{ImageValue, IsImage, image_over, description_of, band, at}
 use Rattle.vx_base.specs.Object.{ObjectValue, ImageObject, IsObject, object_kind}
 use Rattle.vx_base.specs.Outputs.{node_image}
@@ -27,25 +27,24 @@ use Rattle.vx_base.proofs.NodeLaws.{node_image_is}
 use Rattle.vx_base.proofs.TableLaws.{length-band}
 use Rattle.image_core.specs.declared.band.Band.{Band}
 use Rattle.image_core.specs.Bands.{IsInRows}
-use Rattle.image_core.specs.Fits.{HaveSameSize}
 use Rattle.object_table.specs.Context.{Context, with_objects}
 use Rattle.object_table.specs.Named.{Named, held, with_object}
 use Rattle.object_table.specs.Object.{image_value, with_samples}
 use Rattle.object_table.specs.Table.{cell_object, image_held, HoldsImage}
-use Rattle.object_table.proofs.HeldLemmas.{names_of}
 use Rattle.node_rows.specs.Parts.{part_of}
 use Rattle.node_rows.proofs.PartLaws.{part_is}
 use Rattle.graph_run.specs.declared.bands.Strip.{Strip}
 use Rattle.graph_run.specs.declared.stage.Slot.{Slot}
 use Rattle.graph_run.specs.declared.stage.Stage.{Stage}
-use Rattle.graph_run.specs.Bands.{seen_in, seen, HasRowsIn, HasRows, part_made, SeesParts, IsWithinRows, with_band, made_in, made_seen, HasPlaceIn, IsSeen}
+use Rattle.graph_run.specs.Bands.{seen_in, seen, HasRowsIn, HasRows, part_made, SeesParts, IsWithinRows, with_band, made_in, made_seen, with_seen, HasPlaceIn, IsSeen}
 use Rattle.graph_run.specs.Lasting.{lasting, Lasts}
-use Rattle.graph_run.specs.Stage.{scene, slot_of, fixed, Resized, IsStage, IsArranged, Keeps}
+use Rattle.graph_run.specs.Stage.{is_named, scene, slot_of, fixed, Resized, IsStage, IsArranged, Keeps}
 use Rattle.graph_run.specs.Steps.{Holds, IsRead, AreApart, CanRunTo}
 use Rattle.graph_run.proofs.CellLemmas.{object_beside, object_if_beside, hold_beside, image_beside, object_after, image_after, with_object_twice, Lasts-with_object}
 use Rattle.graph_run.proofs.LastingLemmas.{images-last}
 use Rattle.graph_run.proofs.OutputLemmas.{description_kept, stored_is}
-use Rattle.graph_run.proofs.StageLemmas.{names-shown, placed}
+use Rattle.graph_run.proofs.StageLemmas.{names-shown, placed, not_placed}
+use Rattle.graph_run.proofs.StandingLemmas.{place_is}
 use Rattle.graph_run.proofs.StepLemmas.{any_named, none_named, no_slot, any_resized, kept_stage}
 
 -- ---- slots while samples are out
@@ -152,8 +151,8 @@ object_seen None rows object is has = grind arith
 held_there : (objects : List Named) (cell : Cell) → HoldsImage objects cell → held objects cell ≡ Some (ImageObject (image_held objects cell))
 held_there objects cell there = grind arith
 
--- where a name is found, a slot has it
-pub stands_there : {X : Type 0} (p : X → Bool) (xs : List X) (k : ℕ) → position p xs ≡ Some k → IsSome (find p xs)
+-- what is found has a place
+stands_there : {X : Type 0} (p : X → Bool) (xs : List X) (k : ℕ) → position p xs ≡ Some k → IsSome (find p xs)
 stands_there p xs k at = grind (arith, nat_tests, find_at, slice_get_cases xs (position_or_len p xs), placed p xs k at)
 
 -- ---- a node's output, written by what the node sees
@@ -346,37 +345,73 @@ in_some : (x : Option Slot) (strip : Strip) (part old : ImageValue) → IsSome x
 in_some None strip part old some = absurd (cc)
 in_some (Some t) strip part old some = refl
 
-pub high_in : (x : Option Slot) (strip : Strip) (image : ImageValue) → IsSome x → HasPlaceIn x strip image → image.height ≡ strip.rows.count
+high_in : (x : Option Slot) (strip : Strip) (image : ImageValue) → IsSome x → HasPlaceIn x strip image → image.height ≡ strip.rows.count
 high_in None strip image some place = absurd (cc)
 high_in (Some t) strip image some place = place
 
-module _ (strip : Strip) (a : Stage) (n : Node) (which : Output) (output : Cell) (sees : IsSeen strip a n output) where
-  abbrev part : ImageValue
-  part = part_made strip.rows a n which output
+module _ (s : Stage) (name asked : ℕ) (same : asked ≡ name) (found : Option ℕ) (is : found ≡ position (λ t. is_named asked t.holder) s.slots.items) where
+  abbrev has_name : Slot → Bool
+  has_name t = is_named name t.holder
+
+  -- where a search ends, a slot has the name
+  pub found_here : (k : ℕ) → found ≡ Some k → IsSome (slot_of s.slots.items name)
+  found_here k at = stands_there has_name s.slots.items k (place_is s name asked same found is (Some k) at)
+
+  pub found_nowhere : found ≡ None → slot_of s.slots.items name ≡ None
+  found_nowhere none = not_placed has_name s.slots.items (place_is s name asked same found is None none)
+
+module _ (strip : Strip) (s : Stage) (n : Node) (given : Option Cell) (output : Cell) (there : given ≡ Some output) (sees : IfSome given (IsSeen strip s n)) where
+  abbrev here : Option Slot
+  here = slot_of s.slots.items output.name
 
   abbrev held_now : ImageValue
-  held_now = image_held (scene a).objects output
+  held_now = image_held (scene s).objects output
 
-  pub part_is_made : IsSome (slot_of a.slots.items output.name) → ImageObject part ≡ made_seen strip a n which output
-  part_is_made some = ap ImageObject (in_some (slot_of a.slots.items output.name) strip part held_now some)
+  this : IsSeen strip s n output
+  this = subst (λ (o : Option Cell). IfSome o (IsSeen strip s n)) there sees
 
-  pub band_is_made : slot_of a.slots.items output.name ≡ None → ImageObject (with_band strip part held_now) ≡ made_seen strip a n which output
-  band_is_made none = ap (λ x. ImageObject (made_in x strip part held_now)) (sym none)
+  pub as_high_there : IsSome here → held_now.height ≡ strip.rows.count
+  as_high_there some = high_in here strip held_now some this.1
 
-  -- it is an image as before
-  made_there_is : (x : Option Slot) → IsWithinRows strip → HasPlaceIn x strip held_now → IsImage (made_in x strip part held_now) × (description_of (made_in x strip part held_now) ≡ description_of held_now)
-  made_there_is None within room =
-      (with_band_is strip part held_now (made_is strip.rows a n output sees.0 which) sees.0.out_image (made_described strip.rows a n output sees.0 which) within room, refl)
-  made_there_is (Some t) within high =
-      (made_is strip.rows a n output sees.0 which, made_described strip.rows a n output sees.0 which
-      ∙ ap (λ k. let d : Description = record { width = held_now.width; height = k; format = held_now.format } in d) (sym high))
+  pub has_rows_there : here ≡ None → IsInRows held_now.height strip.rows
+  has_rows_there none = subst (λ x. HasPlaceIn x strip held_now) none this.1
 
-  -- so a stage is one again
-  pub seen_stage : (b : Stage) → IsWithinRows strip → IsStage a → IsArranged b → Keeps a b → scene b ≡ with_objects (scene a) (with_object (scene a).objects output (made_seen strip a n which output)) → IsStage b
-  seen_stage b within is arranged keeps written =
-      let made = made_there_is (slot_of a.slots.items output.name) within sees.1 in
-      let names = subst IsStrictlyIncreasing (sym (names-shown a.slots.items a.table.objects)) is.names in
-      let lasts = ap (option_map lasting) (held_there (scene a).objects output sees.0.out) ∙ ap Some (sym (images-last (made_in (slot_of a.slots.items output.name) strip part held_now) held_now made.1)) in
-      kept_stage a b is arranged keeps
-      (subst (λ (k : Context). Lasts (scene a).objects k.objects) (sym written)
-      (Lasts-with_object (scene a).objects (output, made_seen strip a n which output) (record { is_object = made.0; lasts = lasts }) names is.objects))
+  module _ (which : Output) where
+    abbrev part : ImageValue
+    part = part_made strip.rows s n which output
+
+    -- it is an image of the same description
+    made_so : (x : Option Slot) → IsWithinRows strip → HasPlaceIn x strip held_now → IsImage (made_in x strip part held_now) × (description_of (made_in x strip part held_now) ≡ description_of held_now)
+    made_so None within room = (with_band_is strip part held_now (made_is strip.rows s n output this.0 which) this.0.out_image (made_described strip.rows s n output this.0 which) within room, refl)
+    made_so (Some t) within high = (
+      made_is strip.rows s n output this.0 which,
+      made_described strip.rows s n output this.0 which ∙ sym (as_high strip.rows s n output this.0 (description_of held_now) refl high),
+    )
+
+    module _ (b : Stage) where
+      abbrev HasWritten : ObjectValue → Type 0
+      HasWritten object = scene b ≡ with_objects (scene s) (with_object (scene s).objects output object)
+
+      -- what is written is what the output becomes
+      pub part_written : IsSome here → HasWritten (ImageObject part) → scene b ≡ with_objects (scene s) (with_seen strip s n which given)
+      part_written some is =
+          is
+          ∙ ap (λ i. with_objects (scene s) (with_object (scene s).objects output (ImageObject i))) (in_some here strip part held_now some)
+          ∙ ap (λ o. with_objects (scene s) (with_seen strip s n which o)) (sym there)
+
+      pub band_written : here ≡ None → HasWritten (ImageObject (with_band strip part held_now)) → scene b ≡ with_objects (scene s) (with_seen strip s n which given)
+      band_written none is =
+          is
+          ∙ ap (λ x. with_objects (scene s) (with_object (scene s).objects output (ImageObject (made_in x strip part held_now)))) (sym none)
+          ∙ ap (λ o. with_objects (scene s) (with_seen strip s n which o)) (sym there)
+
+      -- and the stage is one again
+      pub seen_stage : IsWithinRows strip → IsStage s → IsArranged b → Keeps s b → scene b ≡ with_objects (scene s) (with_seen strip s n which given) → IsStage b
+      seen_stage within is arranged keeps written =
+          let made = made_so here within this.1 in
+          let names = subst IsStrictlyIncreasing (sym (names-shown s.slots.items s.table.objects)) is.names in
+          let lasts = ap (option_map lasting) (held_there (scene s).objects output this.0.out) ∙ ap Some (sym (images-last (made_in here strip part held_now) held_now made.1)) in
+          let now = written ∙ ap (λ o. with_objects (scene s) (with_seen strip s n which o)) there in
+          kept_stage s b is arranged keeps
+          (subst (λ (k : Context). Lasts (scene s).objects k.objects) (sym now)
+          (Lasts-with_object (scene s).objects (output, made_seen strip s n which output) (record { is_object = made.0; lasts = lasts }) names is.objects))

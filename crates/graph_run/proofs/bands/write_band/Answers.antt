@@ -1,6 +1,4 @@
-use Rattle.std.proofs.Common.{◌∙◌, ap, sym}
-use Rattle.vx_base.specs.Description.{Description}
-use Rattle.vx_base.specs.Rectangle.{whole}
+use Rattle.std.proofs.Common.{◌∙◌, sym}
 use Rattle.graph_run.proofs.SeenLemmas.{first_there, first_image, first_rows, second_holds, second_is, second_read, second_rows, as_target, runs_there, takes_back, left_described, has_room, band_count, band_put}
 use Rattle.graph_run.proofs.StepLemmas.{put_keeps, still_for}
 use Rattle.graph_run.proofs.bands.write_band.Goals as goal
