@@ -110,7 +110,7 @@ sees_beside_kept : (rows : _) (from to : ℕ) (slots others : List Slot) (now la
     → held later cell ≡ held now cell → SeesBeside rows from to slots now final cell → SeesBeside rows from to others later final cell
 sees_beside_kept rows from to slots others now later final cell alike same (inl s) = inl (sees_image_kept rows from to slots others now later final cell alike same s)
 sees_beside_kept rows from to slots others now later final cell alike same (inr s) = inr (
-  record { object = s.object; here = same ∙ s.here; ends_as = s.ends_as; other = s.other; is = s.is })
+    record { object = s.object; here = same ∙ s.here; ends_as = s.ends_as; other = s.other; is = s.is })
 
 -- ---- whole cells
 
@@ -155,7 +155,6 @@ module _ (s later : Stage) (c : Cell) (x : ObjectValue) (none : c.slot ≡ None)
   at_output =
       ap (λ l. object_held l c.name) objects_are
       ∙ grind (arith, object_held-with_object (scene s).objects c x c.name, held_image (scene s).objects c none here, eq-eqb c.name c.name refl, none)
-
 
 module _ (objects : List Named) (nodes : List Node) (v : Verified) (height beside : ℕ) (r : RunsInBands objects nodes v height beside) (strip : Strip) (is_strip : IsStrip height beside strip) where
   abbrev final : List Named
@@ -412,7 +411,7 @@ module _ (objects : List Named) (nodes : List Node) (v : Verified) (height besid
           pub has_run : HasRun s later
           has_run =
               record {
-                made = λ c i. elim (output_cases n c (written_output c i)) [ | inl e ↦ first_made c e | inr e ↦ second_made c e ];
+                made = λ c i. elim (output_cases n c (written_output c i)) [ inl e ↦ first_made c e | inr e ↦ second_made c e ];
                 others = λ name other. second_kept name (λ c e. other c (second_in c e)) ∙ first_kept name (λ c e. other c (first_in c e));
                 slots = second_slots ∙ first_slots;
               }
