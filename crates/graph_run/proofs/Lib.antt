@@ -40,3 +40,4 @@ pub mod SeesLemmas
 pub mod StripLemmas
 pub mod StripStepLemmas
 pub mod StripRunLemmas
+pub mod SettledLemmas
