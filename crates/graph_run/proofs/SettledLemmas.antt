@@ -4,6 +4,7 @@ use Rattle.std.specs.Prelude.{◌==◌, ◌&&◌, not, if◌then◌else◌, All,
 use Rattle.std.specs.Option.{option_map, option_and_then}
 use Rattle.std.proofs.lemmas.Bool.{cases_Bool, eqb-true, eq-eqb, and_parts, and_from}
 use Rattle.std.proofs.lemmas.List.{take_all, take_more}
+use Rattle.std.proofs.lemmas.Option.{slice_get-get_or}
 use Rattle.vx_base.specs.declared.format.Format.TheVariants.{U8}
 use Rattle.vx_base.specs.declared.kind.Kind.TheVariants as kind
 use Rattle.vx_base.specs.declared.node.Node.{Node}
@@ -343,3 +344,31 @@ module _ (objects : List Named) (nodes : List Node) (v : Verified) (height besid
   pub outputs_whole : (n : Node) → In n steps → (o : Option Cell) → ((c : Cell) → In c (given o) → In c (outputs n)) → IfSome o (λ c. c.slot ≡ None)
   outputs_whole n i None each = tt
   outputs_whole n i (Some c) each = (out_height objects nodes v height beside r n i c (each c (inl refl))).1
+
+  -- the step of a place, and its area
+  module _ (areas : List Rectangle) (are : AreAreas final steps areas) (k : ℕ) (n : Node) (area : Rectangle) (below : k < length areas) (step : n ≡ get_or steps k n) (its : area ≡ get_or areas k area) where
+    within : k < length steps
+    within = subst (λ m. k < m) are.count below
+
+    pub step_in : In n steps
+    step_in = subst (λ m. In m steps) (sym step) (In-at steps k n within)
+
+    pub first_whole : IfSome n.out1 (λ c. c.slot ≡ None)
+    first_whole = outputs_whole n step_in n.out1 (λ c j. In-left c (given n.out1) (given n.out2) j)
+
+    pub second_whole : IfSome n.out2 (λ c. c.slot ≡ None)
+    second_whole = outputs_whole n step_in n.out2 (λ c j. In-right c (given n.out1) (given n.out2) j)
+
+    pub step_settled : (now mid new : List Named) → mid ≡ with_area area n.out1 now → new ≡ with_area area n.out2 mid
+        → AreSettled v objects final (take k steps) now → AreSettled v objects final (take (k + 1) steps) new
+    step_settled now mid new first second s =
+        let more : take (k + 1) steps ≡ take k steps ++ n ∷ [] = take_more steps k n within ∙ ap (λ m. take k steps ++ m ∷ []) (sym step) in
+        let valid = are.each k n area (slice_get-get_or steps k n within ∙ ap Some (sym step)) (slice_get-get_or areas k area below ∙ ap Some (sym its)) in
+        subst (λ l. AreSettled v objects final l new) (sym more)
+        (subst (λ l. AreSettled v objects final (take k steps ++ n ∷ []) l) (sym (second ∙ ap (with_area area n.out2) first))
+        (node_settled n step_in area (take k steps) now s valid))
+
+  pub all_settled : (areas : List Rectangle) → AreAreas final steps areas → (k : ℕ) → length areas ≤ k → (now : List Named) → AreSettled v objects final (take k steps) now
+      → now ≡ run_of_graph (resolved (operand_held objects) nodes) nodes objects
+  all_settled areas are k past now s =
+      settled_ends now (subst (λ l. AreSettled v objects final l now) (take_all k steps (subst (λ m. m ≤ k) are.count past)) s)
