@@ -295,7 +295,7 @@ module _ (objects : List Named) (nodes : List Node) (v : Verified) (height besid
       (In-from_All (λ m. All (λ operand. StandsFor (is operand.0) operand.1) (operands m)) nodes r.ready.kinds n i)
       (λ cell named. (stand_at before within).found n cell i named)
 
-  final_lasts : Lasts first_objects final
+  pub final_lasts : Lasts first_objects final
   final_lasts =
       lasts_through steps first_objects first_are (names_by_labels first_objects (labels-begun known nodes objects))
       (λ before after n parts.

@@ -41,3 +41,4 @@ pub mod StripLemmas
 pub mod StripStepLemmas
 pub mod StripRunLemmas
 pub mod SeenLemmas
+pub mod SettledLemmas
