@@ -38,3 +38,4 @@ pub mod SeesLemmas
 pub mod StripLemmas
 pub mod StripStepLemmas
 pub mod StripRunLemmas
+pub mod SettleLemmas
