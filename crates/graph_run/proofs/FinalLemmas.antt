@@ -107,10 +107,10 @@ stays_through (n ∷ steps) l name none =
 
 -- ---- what cells hold
 
-image_of_kind : (found : Option ObjectValue) → option_map object_kind found ≡ Some kind.Image → (a : ImageValue) × (found ≡ Some (ImageObject a))
+pub image_of_kind : (found : Option ObjectValue) → option_map object_kind found ≡ Some kind.Image → (a : ImageValue) × (found ≡ Some (ImageObject a))
 image_of_kind x e = grind arith
 
-image_there : (l : List Named) (c : Cell) (image : ImageValue) → held l c ≡ Some (ImageObject image) → image_held l c ≡ image
+pub image_there : (l : List Named) (c : Cell) (image : ImageValue) → held l c ≡ Some (ImageObject image) → image_held l c ≡ image
 image_there l c image e = ap (λ o. image_value (unwrap_or o (ImageObject (new_image 0 0 U8)))) e
 
 second_seen : (l : List Named) (cell : Option Cell) (k : Kind) → IfSome cell (λ c. HoldsKind l (c, k)) → option_and_then (held l) cell ≡ option_map (cell_object l) cell
@@ -132,7 +132,7 @@ high_image height x operand e high = grind arith
 
 -- ---- outputs
 
-of_given : (P : Cell → Type 0) (cell : Option Cell) → IfSome cell P → (c : Cell) → In c (given cell) → P c
+pub of_given : (P : Cell → Type 0) (cell : Option Cell) → IfSome cell P → (c : Cell) → In c (given cell) → P c
 of_given P None holds c i = absurd i
 of_given P (Some d) holds c (inl same) = subst P (sym same) holds
 of_given P (Some d) holds c (inr i) = absurd i
@@ -550,7 +550,7 @@ module _ (objects : List Named) (nodes : List Node) (v : Verified) (height besid
   -- ---- second inputs
 
   -- the matrix of a second input is that of the client's object
-  matrix_same : (n : Node) → In n steps → (second : Option Cell) → n.in2 ≡ second → matrix_in (option_map (cell_object final) second) ≡ matrix_in (option_and_then (held objects) second)
+  pub matrix_same : (n : Node) → In n steps → (second : Option Cell) → n.in2 ≡ second → matrix_in (option_map (cell_object final) second) ≡ matrix_in (option_and_then (held objects) second)
   matrix_same n i None at = refl
   matrix_same n i (Some c) at = elim (cases_Bool (is_virtual_name v c.name)) [
     | inl virtual ↦

@@ -42,3 +42,4 @@ pub mod StripStepLemmas
 pub mod StripRunLemmas
 pub mod SeenLemmas
 pub mod SettledLemmas
+pub mod SettleLemmas

@@ -9,3 +9,4 @@ pub mod Examples
 pub mod Stage
 pub mod Slots
 pub mod Bands
+pub mod Settle

@@ -14,6 +14,7 @@
 //! - `step`: a node that runs on what its cells hold
 //! - `verify`: the verdict on a graph, and the order in which its nodes run
 //! - `runs`: a graph that runs
+//! - `settle`: whether a graph runs in bands of rows, and how
 //! - `laws`: what the definitions of runs mean
 //! - `examples`: runs of small graphs
 #![tactic(auto)]
@@ -25,6 +26,7 @@ pub mod laws;
 mod operand;
 mod part;
 mod runs;
+mod settle;
 mod stage;
 mod step;
 mod verify;

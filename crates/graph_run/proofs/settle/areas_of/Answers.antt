@@ -1,0 +1,9 @@
+use Rattle.std.proofs.Common.{◌≡◌, sym, ap, subst, ◌∙◌, arith}
+use Rattle.graph_run.proofs.SettleLemmas.{areas_more}
+use Rattle.graph_run.proofs.settle.areas_of.Goals as goal
+
+pub loop-node-preserved : goal.loop-node-preserved
+loop-node-preserved c = ?
+
+pub returns : goal.returns
+returns c = ?
