@@ -14,7 +14,6 @@
 //! - `step`: a node that runs on what its cells hold
 //! - `verify`: the verdict on a graph, and the order in which its nodes run
 //! - `runs`: a graph that runs
-//! - `settle`: whether a graph runs in bands of rows, and how
 //! - `laws`: what the definitions of runs mean
 //! - `examples`: runs of small graphs
 #![tactic(auto)]
