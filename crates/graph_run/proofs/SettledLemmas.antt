@@ -167,6 +167,55 @@ module _ (now : List Named) (c : Cell) (whole : c.slot ≡ None) (a image : Imag
   others_stay : (name : ℕ) → eqb name c.name ≡ false → object_held (with_object now c (ImageObject image)) name ≡ object_held now name
   others_stay name beside = grind (arith, object_held-with_object now c (ImageObject image) name, beside)
 
+-- ---- objects as a run begins and ends
+
+image_of : (found : Option ObjectValue) → option_map object_kind (option_and_then (in_slot None) found) ≡ Some kind.Image → (f : ImageValue) × (found ≡ Some (ImageObject f))
+image_of x e = grind arith
+
+-- what lasts of an image is its description
+lasts_as_image : (x : ObjectValue) (f : ImageValue) → lasting x ≡ lasting (ImageObject f) → (i : ImageValue) × (x ≡ ImageObject i) × (description_of i ≡ description_of f)
+lasts_as_image x f e = grind arith
+
+no_rows : (width : ℕ) (l m : List ℤ) → take (0 * width) l ≡ take (0 * width) m
+no_rows width l m = let none : 0 * width ≡ 0 = omega arith in ap (λ n. take n l) none ∙ sym (ap (λ n. take n m) none)
+
+none_yet : (now final : Option ObjectValue) (f : ImageValue) → final ≡ Some (ImageObject f) → option_map lasting final ≡ option_map lasting now → RowsAreAs 0 now final
+none_yet None final f is same = absurd (cc)
+none_yet (Some x) final f is same =
+    let left : lasting x ≡ lasting (ImageObject f) = cc in
+    let image = lasts_as_image x f left in
+    subst (λ o. RowsAreAs 0 (Some x) o) (sym is) (subst (λ y. RowsAreAs 0 (Some y) (Some (ImageObject f))) (sym image.1) (image.2, no_rows f.width image.0.samples f.samples))
+
+-- what a run leaves is what was there, or what the nodes left
+in_forgotten : (before after : List Named) (x : Named) → In x (forgotten before after) → In x before ⊎ In x after
+in_forgotten [] after x i = inr i
+in_forgotten (o ∷ before) [] x i = inr i
+in_forgotten (o ∷ before) (p ∷ after) x (inl same) = elim (cases_Bool (is_virtual_object o.object)) [
+  | inl virtual ↦ inl (inl (same ∙ ap (λ b. if b then o else p) virtual))
+  | inr real ↦ inr (inl (same ∙ ap (λ b. if b then o else p) real))
+]
+in_forgotten (o ∷ before) (p ∷ after) x (inr i) = elim (in_forgotten before after x i) [
+  | inl old ↦ inl (inr old)
+  | inr new ↦ inr (inr new)
+]
+
+-- as much lasts of what a run leaves as of what was there, if it does of what the nodes left beside what they began with
+forgotten_lasts : (is : Cell → Operand) (nodes : List Node) (objects after : List Named) → map lasting_named after ≡ map lasting_named (map (begun is nodes) objects)
+    → map lasting_named (forgotten objects after) ≡ map lasting_named objects
+forgotten_lasts is nodes [] [] same = refl
+forgotten_lasts is nodes [] (p ∷ after) same = absurd (cc)
+forgotten_lasts is nodes (o ∷ objects) [] same = absurd (cc)
+forgotten_lasts is nodes (o ∷ objects) (p ∷ after) same =
+    let first : lasting_named p ≡ lasting_named (begun is nodes o) = ap (λ l. get_or l 0 (lasting_named p)) same in
+    let rest = forgotten_lasts is nodes objects after (ap (drop 1) same) in
+    elim (cases_Bool (is_virtual_object o.object)) [
+      | inl virtual ↦ rw virtual (ap (λ l. lasting_named o ∷ l) rest)
+      | inr real ↦ rw real (ap (λ x. x ∷ map lasting_named (forgotten objects after)) (first ∙ ap lasting_named (begun_real o real)) ∙ ap (λ l. lasting_named o ∷ l) rest)
+    ]
+  where
+    begun_real : (q : Named) → is_virtual_object q.object ≡ false → begun is nodes q ≡ q
+    begun_real q real = grind (arith, begun_stays q.object (is_written nodes (cell_of q.name)) (is (cell_of q.name)) real, cases_Bool (is_written nodes (cell_of q.name)))
+
 -- ---- a graph that runs in bands
 
 module _ (objects : List Named) (nodes : List Node) (v : Verified) (height beside : ℕ) (r : RunsInBands objects nodes v height beside) where
@@ -372,3 +421,44 @@ module _ (objects : List Named) (nodes : List Node) (v : Verified) (height besid
       → now ≡ run_of_graph (resolved (operand_held objects) nodes) nodes objects
   all_settled areas are k past now s =
       settled_ends now (subst (λ l. AreSettled v objects final l now) (take_all k steps (subst (λ m. m ≤ k) are.count past)) s)
+
+  -- ---- the begin
+
+  -- as the run begins, none of the rows of what will be written needs to be right
+  pub begins_finished : IsFinished (λ _. 0) v objects final objects
+  begins_finished =
+      record {
+        labels = refl;
+        others = λ name none. refl;
+        targets = λ name target.
+            let parts = and_parts (is_written steps (cell_of name)) (not (is_virtual_name v name)) target in
+            let same = (begins objects nodes v r.ready).same name (inl (unnamed (is_virtual_name v name) parts.1)) in
+            let n = writer_of name target in
+            let image = final_image name (out_height objects nodes v height beside r n.0 n.1 (cell_of name) (In-from_same (cell_of name) (outputs n.0) n.2)).2 in
+            let lasts = held-lasts (begin objects nodes v r.ready) final name (final_lasts objects nodes v height beside r).lasting in
+            none_yet (object_held objects name) (object_held final name) image.0 image.1 (lasts ∙ ap (option_map lasting) (sym same));
+      }
+    where
+      unnamed : (b : Bool) → not b ≡ true → b ≡ false
+      unnamed true e = absurd (cc e)
+      unnamed false e = refl
+
+      final_image : (name : ℕ) → HoldsImage final (cell_of name) → (f : ImageValue) × (object_held final name ≡ Some (ImageObject f))
+      final_image name h = image_of (object_held final name) h
+
+  -- ---- what lasts
+
+  pub lasts_in_the_end : Lasts objects (run_of_graph (resolved (operand_held objects) nodes) nodes objects)
+  lasts_in_the_end =
+      let known = resolved (operand_held objects) nodes in
+      let ended = run_in_order r.ready.runs.0 (operand_held objects) nodes r.ready.runs.1 objects r.ready.cells (pairs_of objects r.names) steps r.ready.verified.order in
+      subst (λ l. Lasts objects l) (sym ended)
+      (record {
+        objects =
+            All-from_In (λ (o : Named). IsObject o.object) (forgotten objects final)
+            (λ o i. elim (in_forgotten objects final o i) [
+              | inl old ↦ In-from_All (λ (p : Named). IsObject p.object) objects r.are_objects o old
+              | inr new ↦ In-from_All (λ (p : Named). IsObject p.object) final (final_are objects nodes v height beside r) o new
+            ]);
+        lasting = forgotten_lasts known nodes objects final (final_lasts objects nodes v height beside r).lasting;
+      })
