@@ -1,4 +1,4 @@
--- What nodes that see parts of images write: whole parts to slots, and bands to the client's images.
+-- What nodes that see parts of images write: parts to slots, and bands to images of the client's.
 use Rattle.std.proofs.Common.{◌≡◌, ℕ, ℤ, ◌+◌, ◌-◌, ◌*◌, ◌≤◌, ◌<◌, pos, Bool, List, [], ◌++◌, map, length, take, drop, get_or, Option, Some, None, IfSome, refl, sym, ap, subst, ◌∙◌, arith}
 use Rattle.std.specs.Prelude.{All, IsSome, find, position}
 use Rattle.std.specs.List.{position_or_len}
