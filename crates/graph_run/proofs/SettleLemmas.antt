@@ -1,11 +1,13 @@
 -- Whether a graph runs in bands, and where its images are valid.
 use Rattle.std.proofs.Common.{◌≡◌, ◌≢◌, ℕ, zero, suc, ◌<◌, ◌+◌, ◌/◌, take, drop, Bool, true, false, List, ◌∷◌, ◌++◌, [], map, length, get_or, Option, Some, None, inl, inr, refl, sym, ap, subst, ◌∙◌, arith}
-use Rattle.std.specs.Prelude.{◌==◌, if◌then◌else◌, IsTrue, is_some, is_none, All, IfSome, slice_get, position, sum_by, unwrap_or}
+use Rattle.std.specs.Prelude.{◌==◌, not, if◌then◌else◌, IsTrue, is_some, is_none, All, IfSome, slice_get, position, sum_by, unwrap_or}
 use Rattle.std.specs.List.{list_any}
 use Rattle.std.specs.List.Sorted.{IsStrictlyIncreasing}
 use Rattle.std.specs.Option.{option_map, option_and_then}
 use Rattle.std.proofs.lemmas.Bool.{cases_Bool, eqb-true, eq-eqb, and_parts}
 use Rattle.std.proofs.lemmas.List.{get_or_default, take_more, take-append-drop, append_assoc, length-append}
+use Rattle.std.proofs.lemmas.List.Elements.{All-more}
+use Rattle.std.proofs.lemmas.List.Sums.{sum_by_more}
 use Rattle.std.proofs.lemmas.Option.{slice_get-get_or}
 use Rattle.vx_base.specs.declared.format.Format.{Format}
 use Rattle.vx_base.specs.declared.format.Format.TheVariants.{U8}
@@ -47,6 +49,10 @@ use Rattle.graph_run.proofs.RunLemmas.{has_of_node}
 use Rattle.graph_run.proofs.StageLemmas.{placed, placed_passes}
 
 -- ---- names
+
+pub false_from_not : (b : Bool) → not b ≡ true → b ≡ false
+false_from_not true e = absurd (cc e)
+false_from_not false e = refl
 
 -- where no input has a name, no cell that a node reads has it
 pub unread : (steps : List Node) (name : ℕ) → list_any (λ n. list_any (λ c. c.name == name) (inputs n)) steps ≡ false
@@ -257,3 +263,15 @@ areas_more objects v k n areas more area within is count pushed right nodes heig
       count = length-append areas (area ∷ []) ∙ ap (λ (i : ℕ). i + 1) are.count ∙ sym (length-append (take k steps) (n ∷ []));
       each = push_each (λ m a. All (λ c. (image_held (final_of objects nodes v) c).valid ≡ a) (outputs m)) n area (take k steps) areas are.count are.each valid;
     }))
+
+-- ---- nodes one after the other
+
+-- one more node is near
+pub near_more : (objects : List Named) (steps : List Node) (k : ℕ) (n : Node) (rows beside more : ℕ) → k < length steps → n ≡ get_or steps k n → reach_of objects n ≡ Some rows
+    → All (λ m. IsTrue (is_some (reach_of objects m))) (take k steps) × (sum_by (rows_beside objects) (take k steps) ≡ beside) → more ≡ beside + rows
+    → All (λ m. IsTrue (is_some (reach_of objects m))) (take (k + 1) steps) × (sum_by (rows_beside objects) (take (k + 1) steps) ≡ more)
+near_more objects steps k n rows beside more within is reaches was sum = (
+    All-more (λ (m : Node). IsTrue (is_some (reach_of objects m))) steps k n within was.0 (subst (λ m. IsTrue (is_some (reach_of objects m))) is (ap is_some reaches)),
+    sum_by_more (rows_beside objects) steps k n within ∙ ap (λ i. i + rows_beside objects (get_or steps k n)) was.1
+        ∙ ap (λ m. beside + rows_beside objects m) (sym is) ∙ ap (λ o. beside + unwrap_or o 0) reaches ∙ sym sum,
+)

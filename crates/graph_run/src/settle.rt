@@ -1,12 +1,15 @@
 //! Whether a graph runs in bands of rows, and how.
-ghost use Rattle.std.specs.Prelude.{◌≡◌, ◌≤◌, ℕ, List, length, take, map, sum_by, position};
+ghost use Rattle.std.specs.Prelude.{◌≡◌, ◌≢◌, ◌≤◌, ℕ, List, length, take, map, sum_by, position};
 ghost use Rattle.std.specs.Prelude.{All, IfOk, IfSome, IsTrue, is_some, slice_get, unwrap_or};
-ghost use Rattle.std.specs.Prelude.{true, false, ◌==◌};
+ghost use Rattle.std.specs.Prelude.{true, false, ◌==◌, Some};
 ghost use Rattle.std.specs.List.{list_any};
 ghost use Rattle.std.specs.List.Sorted.{IsStrictlyIncreasing};
 ghost use Rattle.std.specs.Option.{option_and_then, option_copied};
 ghost use Rattle.vx_base.specs.declared.node.Node.{Node as NodeFields};
+ghost use Rattle.vx_base.specs.declared.kind.Kind.TheVariants as kind;
+ghost use Rattle.vx_base.specs.Cell.{Cell};
 ghost use Rattle.vx_base.specs.Description.{IsDescription};
+ghost use Rattle.vx_base.specs.Function.{parameters};
 ghost use Rattle.vx_base.specs.Node.{inputs};
 ghost use Rattle.vx_base.specs.Object.{IsObject};
 ghost use Rattle.object_table.specs.Delay.{object_in};
@@ -14,7 +17,8 @@ ghost use Rattle.object_table.specs.Named.{held};
 ghost use Rattle.object_table.specs.Object.{image_value};
 ghost use Rattle.object_table.specs.Table.{image_held};
 ghost use Rattle.graph_verify.specs.declared.operand.Operand.TheVariants.{Image};
-ghost use Rattle.graph_verify.specs.Links.{writes};
+ghost use Rattle.graph_verify.specs.Links.{reads, writes};
+ghost use Rattle.graph_verify.specs.Members.{In};
 ghost use Rattle.graph_verify.specs.Outlines.{resolved};
 ghost use Rattle.node_rows.specs.Reach.{matrix_in};
 ghost use Rattle.graph_run.specs.Bands.{RunsInBands, AreAreas, final_of, is_virtual_name};
@@ -211,7 +215,7 @@ fn output_suits(table: &Table, verified: &Verified, height: u16, output: Option<
     };
     cell.slot().is_none()
         && has_height(table, verified, height, cell)
-        && (is_virtual(verified, cell.name()) || !is_read(&verified.steps, cell.name()))
+        && is_unread(verified, cell.name())
 }
 
 /// Whether a cell that nodes of a graph name is an image of this height.
@@ -226,6 +230,15 @@ fn has_height(table: &Table, verified: &Verified, height: u16, cell: ObjRef) -> 
     }
 }
 
+/// Whether no node reads what has a name, unless that is a virtual image's.
+fn is_unread(verified: &Verified, name: u32) -> bool
+    ensures { result ≡ true → is_virtual_name verified.now name ≡ false →
+        (n : NodeFields) (d : Cell) → In n verified.now.steps.items → reads n d ≡ true →
+        d.name ≢ name }
+{
+    is_virtual(verified, name) || !is_read(verified, name)
+}
+
 /// Whether the nodes write a virtual image of this name.
 fn is_virtual(verified: &Verified, name: u32) -> bool
     ensures { result ≡ is_virtual_name verified.now name }
@@ -237,10 +250,11 @@ fn is_virtual(verified: &Verified, name: u32) -> bool
 }
 
 /// Whether a node reads what has this name.
-fn is_read(steps: &[Node], name: u32) -> bool
-    ensures { result ≡ list_any (λ n. list_any (λ c. c.name == name) (inputs n)) steps.now }
+fn is_read(verified: &Verified, name: u32) -> bool
+    ensures { result ≡ list_any (λ n. list_any (λ c. c.name == name) (inputs n))
+        verified.now.steps.items }
 {
-    steps.iter().any(|node| names_input(node, name))
+    verified.steps.iter().any(|node| names_input(node, name))
 }
 
 /// Whether an input of a node has this name.
@@ -279,16 +293,24 @@ fn area_after(table: &Table, before: &[Node], areas: &[Rect], node: &Node) -> Re
     let Some(second) = node.in2 else {
         return area_alone(node, first);
     };
-    match node.function.parameters().second_input {
-        Some(Kind::Image) => first.meet(area_of(table, before, areas, second)),
-        _ => match matrix_of(table, node) {
-            Some(matrix) => {
-                let (columns, rows) = (matrix.columns() / 2, matrix.rows() / 2);
-                window_valid(node.border, u16::from(columns), u16::from(rows), first)
-            }
-            None => first,
-        },
+    if takes_image(node.function) {
+        return first.meet(area_of(table, before, areas, second));
     }
+    match matrix_of(table, node) {
+        Some(matrix) => {
+            let (columns, rows) = (matrix.columns() / 2, matrix.rows() / 2);
+            window_valid(node.border, u16::from(columns), u16::from(rows), first)
+        }
+        None => first,
+    }
+}
+
+/// Whether a function has an image as its second input.
+fn takes_image(function: Function) -> bool
+    ensures image { result ≡ true → (parameters function).second_input ≡ Some kind.Image }
+    ensures other { result ≡ false → (parameters function).second_input ≢ Some kind.Image }
+{
+    matches!(function.parameters().second_input, Some(Kind::Image))
 }
 
 /// The valid rectangle of what a node writes that has one input, which is valid here.
