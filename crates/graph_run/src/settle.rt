@@ -76,11 +76,14 @@ pub fn bands_of(
     let Some(desc) = first_desc(table, verified) else {
         return Ok(None);
     };
+    let (height, rows) = (desc.height(), rows_of(desc));
+    if !is_large(desc, rows) || !all_suit(table, verified, height) {
+        return Ok(None);
+    }
     let Some(beside) = rows_beside(table, &verified.steps) else {
         return Ok(None);
     };
-    let (height, rows) = (desc.height(), rows_of(desc));
-    if !pays(desc, rows, beside) || !all_suit(table, verified, height) {
+    if beside > rows / LEAST_BANDS {
         return Ok(None);
     }
     let areas = areas_of(alloc, table, verified)?;
@@ -135,12 +138,9 @@ fn rows_of(desc: Desc) -> u16
     rows.max(LEAST_ROWS).min(GREATEST_ROWS) as u16
 }
 
-/// Whether bands of so many rows are faster than whole images, where nodes look so many rows up and
-/// down together.
-fn pays(desc: Desc, rows: u16, beside: u16) -> bool {
-    desc.sample_count() >= LEAST_SAMPLES
-        && desc.height() / LEAST_BANDS >= rows
-        && beside <= rows / LEAST_BANDS
+/// Whether images are so large that bands of so many rows are faster than whole images.
+fn is_large(desc: Desc, rows: u16) -> bool {
+    desc.sample_count() >= LEAST_SAMPLES && desc.height() / LEAST_BANDS >= rows
 }
 
 /// How many rows up and down nodes look together. `None`: one of them looks at all rows.
