@@ -49,6 +49,10 @@ use Rattle.graph_run.proofs.VerifiedLemmas.{output_object, pairs_of}
 held_image : (found : Option ObjectValue) → is_image_held found ≡ true → (a : ImageValue) × (found ≡ Some (ImageObject a))
 held_image x e = grind arith
 
+-- a cell as a whole
+whole_of : (output : Option Cell) (cell : Cell) → output ≡ Some cell → IfSome output (λ c. c.slot ≡ None) → cell.slot ≡ None
+whole_of output cell e whole = subst (λ (o : Option Cell). IfSome o (λ c. c.slot ≡ None)) e whole
+
 module _ (l : List Named) (cell : Cell) (whole : cell.slot ≡ None) (a : ImageValue) (at : object_held l cell.name ≡ Some (ImageObject a)) where
   held_at : held l cell ≡ Some (ImageObject a)
   held_at = grind (arith, whole, at)
@@ -63,8 +67,12 @@ module _ (l : List Named) (cell : Cell) (whole : cell.slot ≡ None) (a : ImageV
   area_at area = ap (with_area_in area l cell) at ∙ ap (λ (i : ImageValue). with_object l cell (ImageObject (image_over (description_of i) area i.samples))) (sym value_at)
 
 -- samples are taken from an image, and put back with another area
-module _ (before after : Context) (cell : Cell) (whole : cell.slot ≡ None) (is : is_image_held (object_held before.objects cell.name) ≡ true)
+module _ (before after : Context) (output : Option Cell) (all_whole : IfSome output (λ c. c.slot ≡ None)) (cell : Cell) (given_is : output ≡ Some cell)
+    (is : is_image_held (object_held before.objects cell.name) ≡ true)
     (taken : after ≡ with_objects before (with_object before.objects cell (with_samples (cell_object before.objects cell) (image_held before.objects cell).valid []))) where
+  whole : cell.slot ≡ None
+  whole = whole_of output cell given_is all_whole
+
   found : (a : ImageValue) × (object_held before.objects cell.name ≡ Some (ImageObject a))
   found = held_image (object_held before.objects cell.name) is
 
@@ -87,7 +95,7 @@ module _ (before after : Context) (cell : Cell) (whole : cell.slot ≡ None) (is
   format_left = ap (λ (x : ObjectValue). (image_value x).format) left_there
 
   pub area_put : (back : Context) (area : Rectangle) (samples : List ℤ) → back ≡ with_objects after (with_object after.objects cell (with_samples (cell_object after.objects cell) area samples))
-      → samples ≡ (image_held before.objects cell).samples → back ≡ with_objects before (with_area area (Some cell) before.objects)
+      → samples ≡ (image_held before.objects cell).samples → back ≡ with_objects before (with_area area output before.objects)
   area_put back area samples put same =
       put
       ∙ ap (λ (x : ObjectValue). with_objects after (with_object after.objects cell (with_samples x area samples))) left_there
@@ -95,6 +103,7 @@ module _ (before after : Context) (cell : Cell) (whole : cell.slot ≡ None) (is
       ∙ ap (with_objects before) (with_object_twice before.objects cell (ImageObject left) (image_over desc area samples))
       ∙ ap (λ s. with_objects before (with_object before.objects cell (ImageObject (image_over desc area s)))) same
       ∙ ap (with_objects before) (sym (area_at before.objects cell whole found.0 found.1 area))
+      ∙ ap (λ (o : Option Cell). with_objects before (with_area area o before.objects)) (sym given_is)
 
 -- ---- images that are as they will be but for their areas
 

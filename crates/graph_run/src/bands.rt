@@ -89,8 +89,9 @@ pub fn run_bands(stage: &mut Stage, verified: &Verified, plan: &Plan, bands: &Ba
     ensures lasts { Lasts stage.old.table.objects stage.new.table.objects }
     ensures rooms { map room_of stage.new.slots.items ≡ map room_of stage.old.slots.items }
 {
+    let height = bands.height;
     let mut y = 0;
-    while y < bands.height {
+    while y < height {
         let strip = strip_at(bands, y);
         clear_slots(stage);
         run_strip(stage, verified, plan, bands, strip);
