@@ -28,12 +28,11 @@ use Rattle.vx_base.specs.Outputs.{image_of_one, node_image}
 use Rattle.vx_base.specs.Rectangle.{Rectangle, meet_of}
 use Rattle.vx_base.specs.Window.{window_valid}
 use Rattle.object_table.specs.Delay.{in_slot}
-use Rattle.object_table.specs.Named.{Named, object_held, held}
+use Rattle.object_table.specs.Named.{Named, held}
 use Rattle.object_table.specs.Object.{image_value}
 use Rattle.object_table.specs.Table.{cell_object, image_held}
-use Rattle.graph_verify.specs.declared.known.VirtualOutput.{VirtualOutput}
 use Rattle.graph_verify.specs.declared.verified.Verified.{Verified}
-use Rattle.graph_verify.specs.Links.{reads, writes, is_written}
+use Rattle.graph_verify.specs.Links.{reads, writes}
 use Rattle.graph_verify.specs.Members.{In}
 use Rattle.graph_verify.specs.Outlines.{resolved}
 use Rattle.graph_verify.proofs.LinkLemmas.{In-from_same}
@@ -127,114 +126,114 @@ area_among objects before areas cell = unwrap_or (option_and_then (slice_get are
 module _ (objects : List Named) (nodes : List Node) (v : Verified) (height beside : ℕ) (r : RunsInBands objects nodes v height beside)
     (before after : List Node) (n : Node) (parts : v.steps.items ≡ before ++ n ∷ after) (areas : List Rectangle) (are : AreAreas (final_of objects nodes v) before areas)
   where
-  abbrev final : List Named
-  final = final_of objects nodes v
+    abbrev final : List Named
+    final = final_of objects nodes v
 
-  member : In n v.steps.items
-  member = subst (λ l. In n l) (sym parts) (In-right n before (n ∷ after) (inl refl))
+    member : In n v.steps.items
+    member = subst (λ l. In n l) (sym parts) (In-right n before (n ∷ after) (inl refl))
 
-  written_area : (cell : Cell) (k : ℕ) → position (λ m. writes m cell) before ≡ Some k → unwrap_or (slice_get areas k) (image_held objects cell).valid ≡ (image_held final cell).valid
-  written_area cell k at =
-      let within : k < length before = placed (λ m. writes m cell) before k at in
-      let m : Node = get_or before k n in
-      let write : writes m cell ≡ true = placed_passes (λ (q : Node). writes q cell) before k m at (get_or_default before k n m within) in
-      let default : Rectangle = (image_held objects cell).valid in
-      let area : Rectangle = get_or areas k default in
-      let here : slice_get areas k ≡ Some area = slice_get-get_or areas k default (subst (λ l. k < l) (sym are.count) within) in
-      let valid : (image_held final cell).valid ≡ area =
-      In-from_All (λ (c : Cell). (image_held final c).valid ≡ area) (outputs m) (are.each k m area (slice_get-get_or before k n within) here) cell (In-from_same cell (outputs m) write) in
-      ap (λ o. unwrap_or o default) here ∙ sym valid
+    written_area : (cell : Cell) (k : ℕ) → position (λ m. writes m cell) before ≡ Some k → unwrap_or (slice_get areas k) (image_held objects cell).valid ≡ (image_held final cell).valid
+    written_area cell k at =
+        let within : k < length before = placed (λ m. writes m cell) before k at in
+        let m : Node = get_or before k n in
+        let write : writes m cell ≡ true = placed_passes (λ (q : Node). writes q cell) before k m at (get_or_default before k n m within) in
+        let default : Rectangle = (image_held objects cell).valid in
+        let area : Rectangle = get_or areas k default in
+        let here : slice_get areas k ≡ Some area = slice_get-get_or areas k default (subst (λ l. k < l) (sym are.count) within) in
+        let valid : (image_held final cell).valid ≡ area =
+        In-from_All (λ (c : Cell). (image_held final c).valid ≡ area) (outputs m) (are.each k m area (slice_get-get_or before k n within) here) cell (In-from_same cell (outputs m) write) in
+        ap (λ o. unwrap_or o default) here ∙ sym valid
 
-  unwritten_area : (cell : Cell) → reads n cell ≡ true → position (λ m. writes m cell) before ≡ None → (image_held objects cell).valid ≡ (image_held final cell).valid
-  unwritten_area cell read none = elim (cases_Bool (is_virtual_name v cell.name)) [
-    | inl virtual ↦
-        (let unwritten = is_unwritten before cell (position-None (λ (m : Node). writes m cell) before none) in
-        let written = (final_lemmas.virtual_read objects nodes v height beside r before after n parts cell read virtual).3 in
-        absurd (cc))
-    | inr real ↦
-        ap (λ o. (image_value (unwrap_or (option_and_then (in_slot cell.slot) o) (ImageObject (new_image 0 0 U8)))).valid)
-        (sym (final_lemmas.real_read objects nodes v height beside r n member cell read real).0)
-  ]
+    unwritten_area : (cell : Cell) → reads n cell ≡ true → position (λ m. writes m cell) before ≡ None → (image_held objects cell).valid ≡ (image_held final cell).valid
+    unwritten_area cell read none = elim (cases_Bool (is_virtual_name v cell.name)) [
+      | inl virtual ↦
+          (let unwritten = is_unwritten before cell (position-None (λ (m : Node). writes m cell) before none) in
+          let written = (final_lemmas.virtual_read objects nodes v height beside r before after n parts cell read virtual).3 in
+          absurd (cc))
+      | inr real ↦
+          ap (λ o. (image_value (unwrap_or (option_and_then (in_slot cell.slot) o) (ImageObject (new_image 0 0 U8)))).valid)
+          (sym (final_lemmas.real_read objects nodes v height beside r n member cell read real).0)
+    ]
 
-  -- a cell that the node reads is valid there in the end
-  area_right : (cell : Cell) → reads n cell ≡ true → area_among objects before areas cell ≡ (image_held final cell).valid
-  area_right cell read = by_writer (position (λ m. writes m cell) before) refl
-    where
-      by_writer : (found : Option ℕ) → position (λ m. writes m cell) before ≡ found → unwrap_or (option_and_then (slice_get areas) found) (image_held objects cell).valid ≡ (image_held final cell).valid
-      by_writer (Some k) at = written_area cell k at
-      by_writer None none = unwritten_area cell read none
+    -- a cell that the node reads is valid there in the end
+    area_right : (cell : Cell) → reads n cell ≡ true → area_among objects before areas cell ≡ (image_held final cell).valid
+    area_right cell read = by_writer (position (λ m. writes m cell) before) refl
+      where
+        by_writer : (found : Option ℕ) → position (λ m. writes m cell) before ≡ found → unwrap_or (option_and_then (slice_get areas) found) (image_held objects cell).valid ≡ (image_held final cell).valid
+        by_writer (Some k) at = written_area cell k at
+        by_writer None none = unwritten_area cell read none
 
-  -- what the node makes is valid there
-  all_valid : (area : Rectangle) → ((which : Output) (format : Format) → (node_image n which format (image_held final n.in1) (option_map (cell_object final) n.in2)).valid ≡ area)
-      → All (λ c. (image_held final c).valid ≡ area) (outputs n)
-  all_valid area made = All-from_In (λ (c : Cell). (image_held final c).valid ≡ area) (outputs n) (λ c j. elim (In-append c (given n.out1) (given n.out2) j) [
-    | inl one ↦ output First n.out1 (final_lemmas.made_first objects nodes v height beside r n member) c one
-    | inr other ↦ output Second n.out2 (final_lemmas.made_second objects nodes v height beside r n member) c other
-  ])
-    where
-      output : (which : Output) (cell : Option Cell)
-          → IfSome cell (λ c. held final c ≡ Some (ImageObject (node_image n which (image_held final c).format (image_held final n.in1) (option_map (cell_object final) n.in2))))
-          → (c : Cell) → In c (given cell) → (image_held final c).valid ≡ area
-      output which cell holds c j =
-          let image : ImageValue = node_image n which (image_held final c).format (image_held final n.in1) (option_map (cell_object final) n.in2) in
-          let at : held final c ≡ Some (ImageObject image) =
-          final_lemmas.of_given (λ (d : Cell). held final d ≡ Some (ImageObject (node_image n which (image_held final d).format (image_held final n.in1) (option_map (cell_object final) n.in2)))) cell holds c j in
-          ap (λ (i : ImageValue). i.valid) (final_lemmas.image_there final c image at) ∙ made which (image_held final c).format
+    -- what the node makes is valid there
+    all_valid : (area : Rectangle) → ((which : Output) (format : Format) → (node_image n which format (image_held final n.in1) (option_map (cell_object final) n.in2)).valid ≡ area)
+        → All (λ c. (image_held final c).valid ≡ area) (outputs n)
+    all_valid area made = All-from_In (λ (c : Cell). (image_held final c).valid ≡ area) (outputs n) (λ c j. elim (In-append c (given n.out1) (given n.out2) j) [
+      | inl one ↦ output First n.out1 (final_lemmas.made_first objects nodes v height beside r n member) c one
+      | inr other ↦ output Second n.out2 (final_lemmas.made_second objects nodes v height beside r n member) c other
+    ])
+      where
+        output : (which : Output) (cell : Option Cell)
+            → IfSome cell (λ c. held final c ≡ Some (ImageObject (node_image n which (image_held final c).format (image_held final n.in1) (option_map (cell_object final) n.in2))))
+            → (c : Cell) → In c (given cell) → (image_held final c).valid ≡ area
+        output which cell holds c j =
+            let image : ImageValue = node_image n which (image_held final c).format (image_held final n.in1) (option_map (cell_object final) n.in2) in
+            let at : held final c ≡ Some (ImageObject image) =
+            final_lemmas.of_given (λ (d : Cell). held final d ≡ Some (ImageObject (node_image n which (image_held final d).format (image_held final n.in1) (option_map (cell_object final) n.in2)))) cell holds c j in
+            ap (λ (i : ImageValue). i.valid) (final_lemmas.image_there final c image at) ∙ made which (image_held final c).format
 
-  pub area_of_one : (first : Rectangle) → first ≡ area_among objects before areas n.in1 → n.in2 ≡ None → All (λ c. (image_held final c).valid ≡ area_alone n first) (outputs n)
-  area_of_one first is none =
-      let at : first ≡ (image_held final n.in1).valid = is ∙ area_right n.in1 (reads_first n) in
-      let second : option_map (cell_object final) n.in2 ≡ None = ap (option_map (cell_object final)) none in
-      let near : IsTrue (is_some (reach n.function None)) =
-      subst (λ o. IsTrue (is_some (reach n.function (matrix_in o)))) second (final_lemmas.second_near objects nodes v height beside r n member).0 in
-      all_valid (area_alone n first) (λ which format.
-      ap (λ o. (node_image n which format (image_held final n.in1) o).valid) second ∙ valid_alone n which format (image_held final n.in1) near ∙ ap (area_alone n) (sym at))
-
-  module _ (cell : Cell) (there : n.in2 ≡ Some cell) where
-    of_kind : HoldsKind final (cell, second_kind n)
-    of_kind = subst (λ o. IfSome o (λ c. HoldsKind final (c, second_kind n))) there (final_lemmas.of_final objects nodes v height beside r n member).in2
-
-    with_second : (which : Output) (format : Format)
-        → (node_image n which format (image_held final n.in1) (option_map (cell_object final) n.in2)).valid ≡ (node_image n which format (image_held final n.in1) (Some (cell_object final cell))).valid
-    with_second which format = ap (λ o. (node_image n which format (image_held final n.in1) (option_map (cell_object final) o)).valid) there
-
-    pub area_of_two : (first second : Rectangle) → first ≡ area_among objects before areas n.in1 → second ≡ area_among objects before areas cell
-        → (parameters n.function).second_input ≡ Some kind.Image → All (λ c. (image_held final c).valid ≡ meet_of first second) (outputs n)
-    area_of_two first second is is_second wanted =
+    pub area_of_one : (first : Rectangle) → first ≡ area_among objects before areas n.in1 → n.in2 ≡ None → All (λ c. (image_held final c).valid ≡ area_alone n first) (outputs n)
+    area_of_one first is none =
         let at : first ≡ (image_held final n.in1).valid = is ∙ area_right n.in1 (reads_first n) in
-        let beside_at : second ≡ (image_held final cell).valid = is_second ∙ area_right cell (reads_second n cell there) in
-        let image = final_lemmas.image_of_kind (held final cell) (of_kind ∙ ap (λ o. Some (unwrap_or o kind.Image)) wanted) in
-        let object : cell_object final cell ≡ ImageObject image.0 = ap (λ o. unwrap_or o (ImageObject (new_image 0 0 U8))) image.1 in
-        let same : image_held final cell ≡ image.0 = final_lemmas.image_there final cell image.0 image.1 in
-        all_valid (meet_of first second) (λ which format.
-        with_second which format
-        ∙ ap (λ o. (node_image n which format (image_held final n.in1) (Some o)).valid) object
-        ∙ ap (λ (i : ImageValue). meet_of (image_held final n.in1).valid i.valid) (sym same)
-        ∙ ap (λ q. meet_of q (image_held final cell).valid) (sym at) ∙ ap (meet_of first) (sym beside_at))
+        let second : option_map (cell_object final) n.in2 ≡ None = ap (option_map (cell_object final)) none in
+        let near : IsTrue (is_some (reach n.function None)) =
+        subst (λ o. IsTrue (is_some (reach n.function (matrix_in o)))) second (final_lemmas.second_near objects nodes v height beside r n member).0 in
+        all_valid (area_alone n first) (λ which format.
+        ap (λ o. (node_image n which format (image_held final n.in1) o).valid) second ∙ valid_alone n which format (image_held final n.in1) near ∙ ap (area_alone n) (sym at))
 
-    -- the matrix is that of the client's object
-    matrix_here : matrix_in (Some (cell_object final cell)) ≡ matrix_in (option_and_then (held objects) n.in2)
-    matrix_here = ap (λ o. matrix_in (option_map (cell_object final) o)) (sym there) ∙ final_lemmas.matrix_same objects nodes v height beside r n member n.in2 refl
+    module _ (cell : Cell) (there : n.in2 ≡ Some cell) where
+      of_kind : HoldsKind final (cell, second_kind n)
+      of_kind = subst (λ o. IfSome o (λ c. HoldsKind final (c, second_kind n))) there (final_lemmas.of_final objects nodes v height beside r n member).in2
 
-    pub area_by_matrix : (first : Rectangle) (m : ConvolutionValue) → first ≡ area_among objects before areas n.in1 → matrix_in (option_and_then (held objects) n.in2) ≡ Some m
-        → All (λ c. (image_held final c).valid ≡ window_valid n.border (m.columns / 2) (m.rows / 2) first) (outputs n)
-    area_by_matrix first m is matrix =
-        let at : first ≡ (image_held final n.in1).valid = is ∙ area_right n.in1 (reads_first n) in
-        all_valid (window_valid n.border (m.columns / 2) (m.rows / 2) first) (λ which format.
-        with_second which format
-        ∙ valid_matrix n which format (image_held final n.in1) (cell_object final cell) m (matrix_here ∙ matrix)
-        ∙ ap (window_valid n.border (m.columns / 2) (m.rows / 2)) (sym at))
+      with_second : (which : Output) (format : Format)
+          → (node_image n which format (image_held final n.in1) (option_map (cell_object final) n.in2)).valid ≡ (node_image n which format (image_held final n.in1) (Some (cell_object final cell))).valid
+      with_second which format = ap (λ o. (node_image n which format (image_held final n.in1) (option_map (cell_object final) o)).valid) there
 
-    pub area_as_first : (first : Rectangle) → first ≡ area_among objects before areas n.in1 → matrix_in (option_and_then (held objects) n.in2) ≡ None
-        → (parameters n.function).second_input ≢ Some kind.Image → All (λ c. (image_held final c).valid ≡ first) (outputs n)
-    area_as_first first is none other =
-        let at : first ≡ (image_held final n.in1).valid = is ∙ area_right n.in1 (reads_first n) in
-        all_valid first (λ which format.
-        with_second which format
-        ∙ valid_other n which format (image_held final n.in1) (cell_object final cell) (matrix_here ∙ none)
-        (not_image (parameters n.function).second_input (held final cell) n.in2 cell there
-        (and_parts _ _ (has_of_node n (final_lemmas.is_node_of objects nodes v height beside r n member).shape)).0 of_kind other)
-        ∙ sym at)
+      pub area_of_two : (first second : Rectangle) → first ≡ area_among objects before areas n.in1 → second ≡ area_among objects before areas cell
+          → (parameters n.function).second_input ≡ Some kind.Image → All (λ c. (image_held final c).valid ≡ meet_of first second) (outputs n)
+      area_of_two first second is is_second wanted =
+          let at : first ≡ (image_held final n.in1).valid = is ∙ area_right n.in1 (reads_first n) in
+          let beside_at : second ≡ (image_held final cell).valid = is_second ∙ area_right cell (reads_second n cell there) in
+          let image = final_lemmas.image_of_kind (held final cell) (of_kind ∙ ap (λ o. Some (unwrap_or o kind.Image)) wanted) in
+          let object : cell_object final cell ≡ ImageObject image.0 = ap (λ o. unwrap_or o (ImageObject (new_image 0 0 U8))) image.1 in
+          let same : image_held final cell ≡ image.0 = final_lemmas.image_there final cell image.0 image.1 in
+          all_valid (meet_of first second) (λ which format.
+          with_second which format
+          ∙ ap (λ o. (node_image n which format (image_held final n.in1) (Some o)).valid) object
+          ∙ ap (λ (i : ImageValue). meet_of (image_held final n.in1).valid i.valid) (sym same)
+          ∙ ap (λ q. meet_of q (image_held final cell).valid) (sym at) ∙ ap (meet_of first) (sym beside_at))
+
+      -- the matrix is that of the client's object
+      matrix_here : matrix_in (Some (cell_object final cell)) ≡ matrix_in (option_and_then (held objects) n.in2)
+      matrix_here = ap (λ o. matrix_in (option_map (cell_object final) o)) (sym there) ∙ final_lemmas.matrix_same objects nodes v height beside r n member n.in2 refl
+
+      pub area_by_matrix : (first : Rectangle) (m : ConvolutionValue) → first ≡ area_among objects before areas n.in1 → matrix_in (option_and_then (held objects) n.in2) ≡ Some m
+          → All (λ c. (image_held final c).valid ≡ window_valid n.border (m.columns / 2) (m.rows / 2) first) (outputs n)
+      area_by_matrix first m is matrix =
+          let at : first ≡ (image_held final n.in1).valid = is ∙ area_right n.in1 (reads_first n) in
+          all_valid (window_valid n.border (m.columns / 2) (m.rows / 2) first) (λ which format.
+          with_second which format
+          ∙ valid_matrix n which format (image_held final n.in1) (cell_object final cell) m (matrix_here ∙ matrix)
+          ∙ ap (window_valid n.border (m.columns / 2) (m.rows / 2)) (sym at))
+
+      pub area_as_first : (first : Rectangle) → first ≡ area_among objects before areas n.in1 → matrix_in (option_and_then (held objects) n.in2) ≡ None
+          → (parameters n.function).second_input ≢ Some kind.Image → All (λ c. (image_held final c).valid ≡ first) (outputs n)
+      area_as_first first is none other =
+          let at : first ≡ (image_held final n.in1).valid = is ∙ area_right n.in1 (reads_first n) in
+          all_valid first (λ which format.
+          with_second which format
+          ∙ valid_other n which format (image_held final n.in1) (cell_object final cell) (matrix_here ∙ none)
+          (not_image (parameters n.function).second_input (held final cell) n.in2 cell there
+          (and_parts _ _ (has_of_node n (final_lemmas.is_node_of objects nodes v height beside r n member).shape)).0 of_kind other)
+          ∙ sym at)
 
 -- ---- areas one after the other
 
@@ -271,7 +270,7 @@ pub near_more : (objects : List Named) (steps : List Node) (k : ℕ) (n : Node) 
     → All (λ m. IsTrue (is_some (reach_of objects m))) (take k steps) × (sum_by (rows_beside objects) (take k steps) ≡ beside) → more ≡ beside + rows
     → All (λ m. IsTrue (is_some (reach_of objects m))) (take (k + 1) steps) × (sum_by (rows_beside objects) (take (k + 1) steps) ≡ more)
 near_more objects steps k n rows beside more within is reaches was sum = (
-    All-more (λ (m : Node). IsTrue (is_some (reach_of objects m))) steps k n within was.0 (subst (λ m. IsTrue (is_some (reach_of objects m))) is (ap is_some reaches)),
-    sum_by_more (rows_beside objects) steps k n within ∙ ap (λ i. i + rows_beside objects (get_or steps k n)) was.1
-        ∙ ap (λ m. beside + rows_beside objects m) (sym is) ∙ ap (λ o. beside + unwrap_or o 0) reaches ∙ sym sum,
+  All-more (λ (m : Node). IsTrue (is_some (reach_of objects m))) steps k n within was.0 (subst (λ m. IsTrue (is_some (reach_of objects m))) is (ap is_some reaches)),
+  sum_by_more (rows_beside objects) steps k n within ∙ ap (λ i. i + rows_beside objects (get_or steps k n)) was.1
+      ∙ ap (λ m. beside + rows_beside objects m) (sym is) ∙ ap (λ o. beside + unwrap_or o 0) reaches ∙ sym sum,
 )

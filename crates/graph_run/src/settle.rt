@@ -38,18 +38,21 @@ use vx_base::{Convolution, Desc, Function, Kind, Node, ObjRef, Rect};
 /// Images of fewer samples than this stay in the cache as a whole.
 const LEAST_SAMPLES: usize = 131_072;
 
-/// About so many samples of each image make a band: those of some images fit in the cache.
+/// About so many samples of an image make a band: those of a few images stay in the cache.
 const BAND_SAMPLES: u32 = 65_536;
 
-/// Of fewer rows than this a band would have too many beside it.
+/// In a band of fewer rows than this, those beside it would be too great a part.
 const LEAST_ROWS: u32 = 16;
 
-/// More rows than this in a band gain nothing.
+/// Bands of more rows than this gain nothing over whole images that are narrow.
 const GREATEST_ROWS: u32 = 64;
 
-/// In fewer bands than this a graph gains nothing, and of this part of a band's rows there are at
-/// most so many above and below it, which nodes go over twice.
+/// In fewer bands than this a graph gains nothing.
 const LEAST_BANDS: u16 = 4;
+
+/// A band has at least so many rows for each that nodes see above it, and for each below it: those
+/// beside it they go over twice.
+const ROWS_FOR_ONE_BESIDE: u16 = 4;
 
 /// How a verified graph runs in bands of rows. `None`: its nodes run one after another on whole
 /// images: these are small, or of several heights; a node looks at all rows of an image, adds to
@@ -72,20 +75,20 @@ pub fn bands_of(
         AreAreas (final_of table.now.objects nodes verified.now) verified.now.steps.items
         bands.areas.items)) }
 {
-    are_described(&verified.virtual_outputs);
     let Some(desc) = first_desc(table, verified) else {
         return Ok(None);
     };
     let (height, rows) = (desc.height(), rows_of(desc));
-    if !is_large(desc, rows) || !all_suit(table, verified, height) {
+    if desc.sample_count() < LEAST_SAMPLES || height / LEAST_BANDS < rows {
         return Ok(None);
     }
     let Some(beside) = rows_beside(table, &verified.steps) else {
         return Ok(None);
     };
-    if beside > rows / LEAST_BANDS {
+    if beside > rows / ROWS_FOR_ONE_BESIDE || !all_suit(table, verified, height) {
         return Ok(None);
     }
+    are_described(&verified.virtual_outputs);
     let areas = areas_of(alloc, table, verified)?;
     Ok(Some(Bands {
         height,
@@ -136,11 +139,6 @@ fn rows_of(desc: Desc) -> u16
 {
     let rows = BAND_SAMPLES / u32::from(desc.width());
     rows.max(LEAST_ROWS).min(GREATEST_ROWS) as u16
-}
-
-/// Whether images are so large that bands of so many rows are faster than whole images.
-fn is_large(desc: Desc, rows: u16) -> bool {
-    desc.sample_count() >= LEAST_SAMPLES && desc.height() / LEAST_BANDS >= rows
 }
 
 /// How many rows up and down nodes look together. `None`: one of them looks at all rows.
