@@ -1,5 +1,5 @@
 -- What stands in a slot as another image takes it.
-use Rattle.std.proofs.Common.{◌≡◌, ◌≢◌, ◌+◌, ◌-◌, suc, true, false, List, [], ◌∷◌, ◌++◌, length, take, drop, refl, ◌∙◌, ap, arith}
+use Rattle.std.proofs.Common.{◌≡◌, ◌≢◌, ℕ, ◌+◌, ◌-◌, suc, true, false, List, [], ◌∷◌, ◌++◌, length, take, drop, Option, refl, ◌∙◌, ap, arith}
 use Rattle.std.specs.Prelude.{◌||◌}
 use Rattle.std.proofs.Math.Bool.{or-false}
 use Rattle.std.proofs.Math.Seq.{drop-append_seam}
@@ -13,7 +13,7 @@ use Rattle.graph_verify.specs.Members.{In}
 use Rattle.graph_verify.proofs.MemberLemmas.{In-filter}
 use Rattle.buffer_plan.specs.Lives.{is_used, is_live}
 use Rattle.buffer_plan.specs.Plan.{IsPlan, PlanValue}
-use Rattle.buffer_plan.specs.Slots.{of_format}
+use Rattle.buffer_plan.specs.Slots.{of_format, IsValid}
 use Rattle.buffer_plan.proofs.PlanLemmas.{In-format}
 
 take_one : (before after : List Node) (n : Node) → take (length before + 1) (before ++ n ∷ after) ≡ before ++ n ∷ []
@@ -33,21 +33,21 @@ live_now before after n c written used =
     and_from (is_written (take (length before + 1) steps) c) (is_used (drop (length before + 1 - 1) steps) c) begun later
 
 -- of two images in one slot, of which a step writes one, the other is that one if it has been written and is used again
-pub one_when_taken : (before after : List Node) (n : Node) (images : List VirtualOutput) (p : PlanValue) → IsPlan (before ++ n ∷ after) images p → (taken held : VirtualOutput)
+pub one_when_taken : (before after : List Node) (n : Node) (images : List VirtualOutput) (slot : Cell → Option ℕ) → IsValid (before ++ n ∷ after) images slot → (taken held : VirtualOutput)
     → In taken images → In held images → held.desc.format ≡ taken.desc.format → writes n taken.cell ≡ true → (is_written before held.cell || writes n held.cell) ≡ true
-    → is_used (n ∷ after) held.cell ≡ true → p.slot_of held.cell ≡ p.slot_of taken.cell → held ≡ taken
-one_when_taken before after n images p plan taken held i j format writer written used same =
+    → is_used (n ∷ after) held.cell ≡ true → slot held.cell ≡ slot taken.cell → held ≡ taken
+one_when_taken before after n images slot valid taken held i j format writer written used same =
     let uses = or_left (reads n taken.cell || writes n taken.cell) (is_used after taken.cell) (or_right (reads n taken.cell) (writes n taken.cell) writer) in
     let a = live_now before after n taken.cell (or_right (is_written before taken.cell) (writes n taken.cell) writer) uses in
     let live = λ (o : VirtualOutput). is_live (before ++ n ∷ after) o.cell (length before + 1) in
     let f = taken.desc.format in
     let taken_live = In-filter live taken (of_format f images) (In-format f taken images i refl) a in
     let held_live = In-filter live held (of_format f images) (In-format f held images j format) (live_now before after n held.cell written used) in
-    plan.valid f (length before + 1) held taken held_live taken_live same
+    valid f (length before + 1) held taken held_live taken_live same
 
 pub free_when_taken : (before after : List Node) (n : Node) (images : List VirtualOutput) (p : PlanValue) → IsPlan (before ++ n ∷ after) images p → (taken held : VirtualOutput)
     → In taken images → In held images → held.desc.format ≡ taken.desc.format → writes n taken.cell ≡ true → is_written before held.cell ≡ true
     → p.slot_of held.cell ≡ p.slot_of taken.cell → held.cell ≢ taken.cell → is_used (n ∷ after) held.cell ≡ false
 free_when_taken before after n images p plan taken held i j format writer written same other = false_from_ne_true (is_used (n ∷ after) held.cell) (λ used.
     let both = or_left (is_written before held.cell) (writes n held.cell) written in
-    other (ap (λ (o : VirtualOutput). o.cell) (one_when_taken before after n images p plan taken held i j format writer both used same)))
+    other (ap (λ (o : VirtualOutput). o.cell) (one_when_taken before after n images p.slot_of plan.valid taken held i j format writer both used same)))

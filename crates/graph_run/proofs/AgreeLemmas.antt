@@ -200,7 +200,7 @@ module _ (objects : List Named) (nodes : List Node) (v : Verified) (h : IsReady 
     ideal_stands = at_its_turn h.runs.0 is nodes h.runs.1 objects h.cells before before_in
 
     -- what it reads, if a node writes it, has been written
-    written_before : (cell : Cell) → reads n cell ≡ true → is_written nodes cell ≡ true → is_written before cell ≡ true
+    pub written_before : (cell : Cell) → reads n cell ≡ true → is_written nodes cell ≡ true → is_written before cell ≡ true
     written_before cell r w =
         let writer = In-from_any (λ m. writes m cell) nodes w in
         let m = writer.0 in

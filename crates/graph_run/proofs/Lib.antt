@@ -30,4 +30,16 @@ pub mod VerifiedLemmas
 pub mod SharingLemmas
 pub mod AgreeLemmas
 pub mod SceneLemmas
+pub mod PartClaimLemmas
 pub mod SlotPoolLemmas
+pub mod PartSeenLemmas
+pub mod BandRowsLemmas
+pub mod BandLemmas
+pub mod FinalLemmas
+pub mod SeesLemmas
+pub mod StripLemmas
+pub mod StripStepLemmas
+pub mod StripRunLemmas
+pub mod SeenLemmas
+pub mod SettledLemmas
+pub mod SettleLemmas

@@ -95,7 +95,7 @@ can_run n first second (ImageObject b) runs e = record { node = runs.node; kind 
 can_run n first second other runs e = cc
 
 -- what a function reads beside its first input can be lent to a kernel
-is_read : (function : Function) (k : Kind) → (parameters function).second_input ≡ Some k → IsRead k
+pub is_read : (function : Function) (k : Kind) → (parameters function).second_input ≡ Some k → IsRead k
 is_read function kind.Distribution e = absurd (takes_no_distribution function e)
 is_read function y e = grind arith
 

@@ -15,7 +15,7 @@ use Rattle.vx_base.specs.declared.virtual_image.VirtualImage.{VirtualImage}
 use Rattle.vx_base.specs.Cell.{Cell}
 use Rattle.vx_base.specs.Node.{outputs}
 use Rattle.vx_base.specs.Outputs.{written_by}
-use Rattle.vx_base.specs.Object.{ObjectValue, VirtualObject, object_kind}
+use Rattle.vx_base.specs.Object.{ObjectValue, ImageObject, VirtualObject, object_kind}
 use Rattle.object_table.specs.Named.{Named, object_held, held, with_written}
 use Rattle.object_table.proofs.HeldLemmas.{names_of, held_by_name}
 use Rattle.object_table.proofs.SkeletonLaws.{map-told}
@@ -42,6 +42,7 @@ use Rattle.graph_run.proofs.BegunLaws.{kept_virtual, object_held-forgotten, labe
 use Rattle.graph_run.proofs.ClaimLemmas.{virtual_there}
 use Rattle.graph_run.proofs.LinkLaws.{In-from_All}
 use Rattle.graph_run.proofs.NameLaws.{Rising, by_names, rising}
+use Rattle.graph_run.proofs.SlotLemmas.{HasSlots, planned_slots}
 use Rattle.graph_run.proofs.SharingLemmas.{one_of_name, name_of_output, WereWritten, used_now, AreClaimed, output_claims}
 use Rattle.graph_run.proofs.StageLemmas.{shown_same, as_it_is, held-shown, found_as_it_is, real_as_it_is, stands_nowhere, alone_at, alone_found}
 use Rattle.graph_run.proofs.StepLemmas.{none_standing, nothing_stands}
@@ -102,7 +103,7 @@ both_held (o ∷ one) (p ∷ other) labels name x at =
     ]
 
 -- a virtual image stays where it was
-stays_virtual : (old now : List Named) → map label_of now ≡ map label_of old → forgotten old now ≡ now → (name : ℕ) (image : VirtualImage)
+pub stays_virtual : (old now : List Named) → map label_of now ≡ map label_of old → forgotten old now ≡ now → (name : ℕ) (image : VirtualImage)
     → object_held old name ≡ Some (VirtualObject image) → object_held now name ≡ Some (VirtualObject image)
 stays_virtual old now labels kept name image at =
     grind (arith, both_held, labels, object_held-forgotten)
@@ -119,88 +120,101 @@ outputs_stay old now outs labels kept virtual =
 
 -- ---- outputs of a node that have claimed their slots
 
-module _ (objects : List Named) (nodes : List Node) (v : Verified) (h : IsReady objects nodes v) (p : PlanValue) (plan : IsPlan v.steps.items v.virtual_outputs.items p)
-    (before after : List Node) (n : Node) (parts : v.steps.items ≡ before ++ n ∷ after) where
-  abbrev outs : List VirtualOutput
-  outs = v.virtual_outputs.items
-
-  pub plan_here : IsPlan (before ++ n ∷ after) outs p
-  plan_here = subst (λ steps. IsPlan steps outs p) parts plan
-
+-- a node whose turn it is: each output has a slot, and no node before writes what it writes
+pub record IsItsTurn (outs : List VirtualOutput) (p : PlanValue) (before after : List Node) (n : Node) : Type 0 where
+  pub slots : HasSlots (before ++ n ∷ after) outs p
   pub itself : (o : VirtualOutput) → In o outs → o.cell ≡ whole o.cell.name
-  itself o i = output_whole objects nodes v h.runs.0 h.verified h.runs.1 o i
+  pub once : (c : Cell) → writes n c ≡ true → is_written before c ≡ true → ⊥
 
-  -- no node before writes what it writes
-  written_once : (c : Cell) → writes n c ≡ true → is_written before c ≡ true → ⊥
-  written_once c w earlier =
-      let writer = In-from_any (λ m. writes m c) before earlier in
-      let one : two_writers (before ++ n ∷ after) ≡ false =
-      ap two_writers (sym parts) ∙ two_writers-permutation nodes v.steps.items h.verified.order.same_nodes (can objects nodes v h.runs.0 h.verified h.runs.1).one_writer in
-      once_across c (flat_map outputs before) (flat_map outputs (n ∷ after))
-      (ap has_twice (sym (flat_map-append outputs before (n ∷ after))) ∙ one)
-      (In-outputs writer.0 c before writer.1 writer.2) (In-outputs n c (n ∷ after) (inl refl) w)
+-- each node of a verified graph has its turn
+pub turn_of : (objects : List Named) (nodes : List Node) (v : Verified) → IsReady objects nodes v → (p : PlanValue) → IsPlan v.steps.items v.virtual_outputs.items p
+    → (before after : List Node) (n : Node) → v.steps.items ≡ before ++ n ∷ after → IsItsTurn v.virtual_outputs.items p before after n
+turn_of objects nodes v h p plan before after n parts =
+    record {
+      slots = planned_slots (before ++ n ∷ after) v.virtual_outputs.items p (subst (λ steps. IsPlan steps v.virtual_outputs.items p) parts plan);
+      itself = output_whole objects nodes v h.runs.0 h.verified h.runs.1;
+      once = λ c w earlier.
+          let writer = In-from_any (λ m. writes m c) before earlier in
+          let one : two_writers (before ++ n ∷ after) ≡ false =
+          ap two_writers (sym parts) ∙ two_writers-permutation nodes v.steps.items h.verified.order.same_nodes (can objects nodes v h.runs.0 h.verified h.runs.1).one_writer in
+          once_across c (flat_map outputs before) (flat_map outputs (n ∷ after))
+          (ap has_twice (sym (flat_map-append outputs before (n ∷ after))) ∙ one)
+          (In-outputs writer.0 c before writer.1 writer.2) (In-outputs n c (n ∷ after) (inl refl) w);
+    }
 
-  module _ (l : List Named) (virtual : AreVirtual l outs) (slots one : List Slot) (shared : AreShared p outs slots) (written : WereWritten before slots)
-      (first : (k : ℕ) → slice_get one k ≡ claimed_at p outs n.out1 k (slice_get slots k)) where
-    abbrev done : List Node
-    done = before ++ n ∷ []
+-- an output stands in a slot, and is found as the image there
+pub record StandsIn (slots : List Slot) (here : List Named) (o : VirtualOutput) : Type 0 where
+  pub slot : Slot
+  pub holder : slot.holder ≡ Some o
+  pub place : slot_of slots o.cell.name ≡ Some slot
+  pub there : object_held here o.cell.name ≡ Some (ImageObject (standing_image o slot))
 
-    written_more : WereWritten done slots
-    written_more k a at = list_any-append (λ m. writes m a.cell) before (n ∷ []) ∙ or_left (is_written before a.cell) (is_written (n ∷ []) a.cell) (written k a at)
+module _ (outs : List VirtualOutput) (p : PlanValue) (before after : List Node) (n : Node) (turn : IsItsTurn outs p before after n)
+    (l : List Named) (virtual : AreVirtual l outs) (slots one : List Slot) (shared : AreShared p outs slots) (written : WereWritten before slots)
+    (first : (k : ℕ) → slice_get one k ≡ claimed_at p outs n.out1 k (slice_get slots k)) where
+  abbrev done : List Node
+  done = before ++ n ∷ []
 
-    pub first_claims : AreClaimed outs p before after n plan_here virtual.apart itself n.out1 slots one
-    first_claims = output_claims outs p before after n plan_here virtual.apart itself n.out1 slots one shared written_more (λ c e. first_output n c e) first
+  written_more : WereWritten done slots
+  written_more k a at = list_any-append (λ m. writes m a.cell) before (n ∷ []) ∙ or_left (is_written before a.cell) (is_written (n ∷ []) a.cell) (written k a at)
 
-    module _ (both : List Slot) (second : (k : ℕ) → slice_get both k ≡ claimed_at p outs n.out2 k (slice_get one k)) where
-      pub second_claims : AreClaimed outs p before after n plan_here virtual.apart itself n.out2 one both
-      second_claims =
-          output_claims outs p before after n plan_here virtual.apart itself n.out2 one both first_claims.shared first_claims.written (λ c e. second_output n c e) second
+  pub first_claims : AreClaimed outs p before after n turn.slots virtual.apart turn.itself n.out1 slots one
+  first_claims = output_claims outs p before after n turn.slots virtual.apart turn.itself n.out1 slots one shared written_more (λ c e. first_output n c e) first
 
-      -- what is as it would be stays so
-      kept_name : (name : ℕ) → Keeps outs before (n ∷ after) name → (o : VirtualOutput) → In o outs → writes n o.cell ≡ true → o.cell.name ≢ name
-      kept_name name (inl none) o i w same = let some = name_of_output outs o i name (sym same) in cc
-      kept_name name (inr used) o i w same = written_once o.cell w (ap (is_written before) (itself o i ∙ ap whole same) ∙ used.0)
+  module _ (both : List Slot) (second : (k : ℕ) → slice_get both k ≡ claimed_at p outs n.out2 k (slice_get one k)) where
+    pub second_claims : AreClaimed outs p before after n turn.slots virtual.apart turn.itself n.out2 one both
+    second_claims =
+        output_claims outs p before after n turn.slots virtual.apart turn.itself n.out2 one both first_claims.shared first_claims.written (λ c e. second_output n c e) second
 
-      kept_for : (name : ℕ) → Keeps outs before (n ∷ after) name → (is_output outs name ≡ false) ⊎ (is_used (n ∷ after) (whole name) ≡ true)
-      kept_for name y = grind arith
+    -- what is as it would be stays so
+    kept_name : (name : ℕ) → Keeps outs before (n ∷ after) name → (o : VirtualOutput) → In o outs → writes n o.cell ≡ true → o.cell.name ≢ name
+    kept_name name (inl none) o i w same = let some = name_of_output outs o i name (sym same) in cc
+    kept_name name (inr used) o i w same = turn.once o.cell w (ap (is_written before) (turn.itself o i ∙ ap whole same) ∙ used.0)
 
-      pub claims_agree : (ideal : List Named) → Agrees outs before (n ∷ after) (shown slots l) ideal → Agrees outs before (n ∷ after) (shown both l) ideal
-      claims_agree ideal agrees =
-          record {
-            labels = labels-shown both l ∙ sym (labels-shown slots l) ∙ agrees.labels;
-            same = λ name keeps.
-                found_same both slots l name
-                (second_claims.finds name (λ o i e. kept_name name keeps o i (second_output n o.cell e)) (kept_for name keeps)
-                ∙ first_claims.finds name (λ o i e. kept_name name keeps o i (first_output n o.cell e)) (kept_for name keeps))
-                ∙ agrees.same name keeps;
-          }
+    kept_for : (name : ℕ) → Keeps outs before (n ∷ after) name → (is_output outs name ≡ false) ⊎ (is_used (n ∷ after) (whole name) ≡ true)
+    kept_for name y = grind arith
 
-      -- what it writes that is virtual stands in its slot
-      stands_there : (o : VirtualOutput) → In o outs → writes n o.cell ≡ true → holder_at both (place_of p o) ≡ Some o
-      stands_there o i w = elim (output_cases n o.cell w) [
-        | inl e ↦ second_claims.keeps o i (used_now outs p before after n plan_here virtual.apart itself o.cell w) (first_claims.stands o i e)
-        | inr e ↦ second_claims.stands o i e
-      ]
+    pub slot_kept : (name : ℕ) → Keeps outs before (n ∷ after) name → slot_of both name ≡ slot_of slots name
+    slot_kept name keeps =
+        second_claims.finds name (λ o i e. kept_name name keeps o i (second_output n o.cell e)) (kept_for name keeps)
+        ∙ first_claims.finds name (λ o i e. kept_name name keeps o i (first_output n o.cell e)) (kept_for name keeps)
 
-      pub claims_stand : (o : VirtualOutput) → In o outs → writes n o.cell ≡ true → StandsAs (shown both l) o
-      claims_stand o i w = of_slot (slice_get both (place_of p o)) refl (stands_there o i w)
-        where
-          name : ℕ
-          name = o.cell.name
+    pub found_kept : (name : ℕ) → Keeps outs before (n ∷ after) name → object_held (shown both l) name ≡ object_held (shown slots l) name
+    found_kept name keeps = found_same both slots l name (slot_kept name keeps)
 
-          of_slot : (s : Option Slot) → slice_get both (place_of p o) ≡ s → option_and_then (λ (t : Slot). t.holder) s ≡ Some o → StandsAs (shown both l) o
-          of_slot None at e = absurd (cc)
-          of_slot (Some s) at e =
-              let image = virtual_there l name (In-from_All (λ (q : VirtualOutput). HoldsVirtual l q.cell.name) outs virtual.held o i) in
-              let named : is_named name s.holder ≡ true = ap (is_named name) e ∙ eq-eqb name name refl in
-              let alone = alone_at both name (place_of p o) s at named (λ j a here same.
-              let home = second_claims.shared.homes j a here in
-              sym home.1 ∙ ap (place_of p) (one_of_name outs virtual.apart a o home.0 i same)) in
-              record {
-                image = standing_image o s;
-                there = grind (arith, held-shown both l name, image.1, alone_found name s both (place_of p o) alone, e);
-                desc = refl;
-              }
+    pub claims_agree : (ideal : List Named) → Agrees outs before (n ∷ after) (shown slots l) ideal → Agrees outs before (n ∷ after) (shown both l) ideal
+    claims_agree ideal agrees =
+        record {
+          labels = labels-shown both l ∙ sym (labels-shown slots l) ∙ agrees.labels;
+          same = λ name keeps. found_kept name keeps ∙ agrees.same name keeps;
+        }
+
+    -- what it writes that is virtual stands in its slot
+    pub stands_there : (o : VirtualOutput) → In o outs → writes n o.cell ≡ true → holder_at both (place_of p o) ≡ Some o
+    stands_there o i w = elim (output_cases n o.cell w) [
+      | inl e ↦ second_claims.keeps o i (used_now outs p before after n turn.slots virtual.apart turn.itself o.cell w) (first_claims.stands o i e)
+      | inr e ↦ second_claims.stands o i e
+    ]
+
+    pub stands_in : (o : VirtualOutput) → In o outs → writes n o.cell ≡ true → StandsIn both (shown both l) o
+    stands_in o i w = of_slot (slice_get both (place_of p o)) refl (stands_there o i w)
+      where
+        name : ℕ
+        name = o.cell.name
+
+        of_slot : (s : Option Slot) → slice_get both (place_of p o) ≡ s → option_and_then (λ (t : Slot). t.holder) s ≡ Some o → StandsIn both (shown both l) o
+        of_slot None at e = absurd (cc)
+        of_slot (Some s) at e =
+            let image = virtual_there l name (In-from_All (λ (q : VirtualOutput). HoldsVirtual l q.cell.name) outs virtual.held o i) in
+            let named : is_named name s.holder ≡ true = ap (is_named name) e ∙ eq-eqb name name refl in
+            let alone = alone_at both name (place_of p o) s at named (λ j a here same.
+            let home = second_claims.shared.homes j a here in
+            sym home.1 ∙ ap (place_of p) (one_of_name outs virtual.apart a o home.0 i same)) in
+            let place = alone_found name s both (place_of p o) alone in
+            record { slot = s; holder = e; place = place; there = grind (arith, held-shown both l name, image.1, place, e) }
+
+    pub claims_stand : (o : VirtualOutput) → In o outs → writes n o.cell ≡ true → StandsAs (shown both l) o
+    claims_stand o i w = let stands = stands_in o i w in record { image = standing_image o stands.slot; there = stands.there; desc = refl }
 
 -- ---- what lasts of the table
 
@@ -282,18 +296,18 @@ module _ (objects : List Named) (v : Verified) (p : PlanValue) (plan : IsPlan v.
     module _ (nodes : List Node) (h : IsReady objects nodes v) (one : List Slot) (first : (j : ℕ) → slice_get one j ≡ claimed_at p images n.out1 j (slice_get slots j)) where
       -- once its first output has claimed its slot
       pub first_shared : AreShared p images one
-      first_shared = (first_claims objects nodes v h p plan before after n parts l (course_outputs nodes h) slots one course.shared course.written first).shared
+      first_shared = (first_claims images p before after n (turn_of objects nodes v h p plan before after n parts) l (course_outputs nodes h) slots one course.shared course.written first).shared
 
       -- once both outputs have
       module _ (both : List Slot) (second : (j : ℕ) → slice_get both j ≡ claimed_at p images n.out2 j (slice_get one j)) where
         claimed_agree : (ms : List Node) (g : IsReady objects ms v) → Agrees images before (n ∷ after) (shown both l) (one_by_one before (begin objects ms v g))
         claimed_agree ms g =
-            claims_agree objects ms v g p plan before after n parts l (course_outputs ms g) slots one course.shared course.written first both second
+            claims_agree images p before after n (turn_of objects ms v g p plan before after n parts) l (course_outputs ms g) slots one course.shared course.written first both second
             (one_by_one before (begin objects ms v g))
             (subst (λ rest. Agrees images before rest (shown slots l) (one_by_one before (begin objects ms v g))) here_on (course.agrees ms g))
 
         claimed_stand : (ms : List Node) (g : IsReady objects ms v) (o : VirtualOutput) → In o images → writes n o.cell ≡ true → StandsAs (shown both l) o
-        claimed_stand ms g = claims_stand objects ms v g p plan before after n parts l (course_outputs ms g) slots one course.shared course.written first both second
+        claimed_stand ms g = claims_stand images p before after n (turn_of objects ms v g p plan before after n parts) l (course_outputs ms g) slots one course.shared course.written first both second
 
         -- its node can run
         pub course_runs : CanRunNow (shown both l) n
@@ -304,7 +318,7 @@ module _ (objects : List Named) (v : Verified) (p : PlanValue) (plan : IsPlan v.
             → shown next m ≡ with_written (shown both l) (written_by n (held (shown both l))) → map lasting_named (shown next m) ≡ map lasting_named (shown both l)
             → IsOnCourse objects v p (k + 1) m next
         course_next m next names fixed kept value lasts =
-            let claims = second_claims objects nodes v h p plan before after n parts l (course_outputs nodes h) slots one course.shared course.written first both second in
+            let claims = second_claims images p before after n (turn_of objects nodes v h p plan before after n parts) l (course_outputs nodes h) slots one course.shared course.written first both second in
             let shared = shared_stay p images both next fixed claims.shared in
             let more : take (k + 1) v.steps.items ≡ before ++ n ∷ [] = take_more v.steps.items k n below ∙ ap (λ x. before ++ x ∷ []) (sym read) in
             let free : (o : Named) → In o l → is_virtual_object o.object ≡ false → slot_of next o.name ≡ None =

@@ -19,13 +19,13 @@ use Rattle.graph_verify.proofs.LinkLemmas.{same_cell-refl, same_cell-true}
 use Rattle.graph_verify.proofs.MemberLemmas.{any-from_In, Contains-from_In}
 use Rattle.graph_verify.proofs.KnownLemmas.{find_cases}
 use Rattle.buffer_plan.specs.Lives.{is_used}
-use Rattle.buffer_plan.specs.Plan.{IsPlan, PlanValue}
+use Rattle.buffer_plan.specs.Plan.{PlanValue}
 use Rattle.buffer_plan.proofs.TakenLemmas.{one_when_taken}
 use Rattle.graph_run.specs.declared.stage.Slot.{Slot}
 use Rattle.graph_run.specs.Slots.{slot_place, place_of, room_of, planned_rooms, AreShared, claimed_if, claimed_at}
 use Rattle.graph_run.specs.Stage.{is_named, holder_at, claimed}
 use Rattle.graph_run.proofs.NameLaws.{same_at_each}
-use Rattle.graph_run.proofs.SlotLemmas.{Fails, find_agree, HasRoomAt, room_at_home, one_home}
+use Rattle.graph_run.proofs.SlotLemmas.{Fails, find_agree, HasRoomAt, HasSlots, room_at_home, one_home}
 use Rattle.graph_run.proofs.VerifiedLemmas.{whole, is_output, described_output, output_described}
 
 -- ---- outputs by name
@@ -59,7 +59,7 @@ name_of_output outs o i name same = any-from_In (λ (q : VirtualOutput). name ==
 abbrev pub WereWritten : List Node → List Slot → Type 0
 WereWritten done slots = (k : ℕ) (a : VirtualOutput) → holder_at slots k ≡ Some a → is_written done a.cell ≡ true
 
-module _ (outs : List VirtualOutput) (p : PlanValue) (before after : List Node) (n : Node) (plan : IsPlan (before ++ n ∷ after) outs p)
+module _ (outs : List VirtualOutput) (p : PlanValue) (before after : List Node) (n : Node) (plan : HasSlots (before ++ n ∷ after) outs p)
     (apart : AllPairs (λ a b. a.cell.name ≢ b.cell.name) outs) (wholes : (o : VirtualOutput) → In o outs → o.cell ≡ whole o.cell.name) where
   abbrev done : List Node
   done = before ++ n ∷ []
@@ -78,7 +78,7 @@ module _ (outs : List VirtualOutput) (p : PlanValue) (before after : List Node) 
       → place_of p a ≡ place_of p o → a ≡ o
   one_claims o a i j writer written used same =
       let home = one_home (before ++ n ∷ after) outs p plan a o j i same in
-      one_when_taken before after n outs p plan o a i j home.0 writer (written_either a.cell written) used home.1
+      one_when_taken before after n outs p.slot_of plan.valid o a i j home.0 writer (written_either a.cell written) used home.1
 
   -- ---- one output claims its slot
 
@@ -200,53 +200,55 @@ module _ (outs : List VirtualOutput) (p : PlanValue) (before after : List Node) 
 abbrev pub output_at : Cell → Description → VirtualOutput
 output_at cell d = record { cell = cell; desc = d }
 
-module _ (is : Cell → Operand) (nodes : List Node) (v : Verified) (how : IsVerified is nodes v) (p : PlanValue)
-    (plan : IsPlan v.steps.items v.virtual_outputs.items p) (apart : AllPairs (λ a b. a.cell.name ≢ b.cell.name) v.virtual_outputs.items) where
-  abbrev written : List VirtualOutput
-  written = v.virtual_outputs.items
-
+module _ (steps : List Node) (outs : List VirtualOutput) (p : PlanValue) (plan : HasSlots steps outs p) (apart : AllPairs (λ a b. a.cell.name ≢ b.cell.name) outs) where
   -- the output of its cell is found
-  output_found : (o : VirtualOutput) → In o written → find (λ q. same_cell q.cell o.cell) written ≡ Some o
-  output_found o i = elim (find_cases (λ (q : VirtualOutput). same_cell q.cell o.cell) written) [
-    | inl found ↦ found.1 ∙ ap (λ q. Some q) (one_of_name written apart found.0 o found.2 i (ap (λ (c : Cell). c.name) (same_cell-true found.0.cell o.cell found.3)))
+  output_found : (o : VirtualOutput) → In o outs → find (λ q. same_cell q.cell o.cell) outs ≡ Some o
+  output_found o i = elim (find_cases (λ (q : VirtualOutput). same_cell q.cell o.cell) outs) [
+    | inl found ↦ found.1 ∙ ap (λ q. Some q) (one_of_name outs apart found.0 o found.2 i (ap (λ (c : Cell). c.name) (same_cell-true found.0.cell o.cell found.3)))
     | inr none ↦ (let miss = none.1 o i in let hit = same_cell-refl o.cell in absurd (cc))
   ]
 
-  -- a cell that is described and has a slot is an output, which can claim its slot
-  pub can_claim : (slots : List Slot) → map room_of slots ≡ planned_rooms p → (cell : Cell) (d : Description) (k : ℕ) → Some d ≡ written_description is nodes cell → Some k ≡ p.slot_of cell
-      → (at : ℕ) → at ≡ slot_place p d.format k → In (output_at cell d) written × (at ≡ place_of p (output_at cell d)) × HasRoomAt at (output_at cell d) slots
-  can_claim slots rooms cell d k described placed at is_at =
-      let output = described_output is nodes v how cell d (sym described) in
-      let member = subst (λ (q : VirtualOutput). In q written) output.2 output.1 in
-      let place : at ≡ place_of p (output_at cell d) = is_at ∙ ap (λ s. slot_place p d.format (unwrap_or s 0)) placed in
-      (member, place, subst (λ n. HasRoomAt n (output_at cell d) slots) (sym place) (room_at_home v.steps.items written p plan slots rooms (output_at cell d) member))
+  -- an output that has a slot can claim it
+  pub output_can_claim : (slots : List Slot) → map room_of slots ≡ planned_rooms p → (o : VirtualOutput) → In o outs → (k : ℕ) → Some k ≡ p.slot_of o.cell
+      → (at : ℕ) → at ≡ slot_place p o.desc.format k → (at ≡ place_of p o) × HasRoomAt at o slots
+  output_can_claim slots rooms o i k placed at is_at =
+      let place : at ≡ place_of p o = is_at ∙ ap (λ s. slot_place p o.desc.format (unwrap_or s 0)) placed in
+      (place, subst (λ n. HasRoomAt n o slots) (sym place) (room_at_home steps outs p plan slots rooms o i))
 
   -- what a slot is then
-  pub claims_slot : (o : VirtualOutput) → In o written → (at : ℕ) → at ≡ place_of p o → (output : Option Cell) → output ≡ Some o.cell → (k : ℕ) (slot : Option Slot)
-      → (if k == at then option_map (claimed o) slot else slot) ≡ claimed_at p written output k slot
+  pub claims_slot : (o : VirtualOutput) → In o outs → (at : ℕ) → at ≡ place_of p o → (output : Option Cell) → output ≡ Some o.cell → (k : ℕ) (slot : Option Slot)
+      → (if k == at then option_map (claimed o) slot else slot) ≡ claimed_at p outs output k slot
   claims_slot o i at place output is_cell k slot =
       ap (λ n. if k == n then option_map (claimed o) slot else slot) place
-      ∙ sym (ap (λ f. claimed_if p f k slot) (output_found o i)) ∙ sym (ap (λ q. claimed_at p written q k slot) is_cell)
+      ∙ sym (ap (λ f. claimed_if p f k slot) (output_found o i)) ∙ sym (ap (λ q. claimed_at p outs q k slot) is_cell)
 
   -- none changes where no output is of a cell
-  none_claims : (cell : Cell) → ((o : VirtualOutput) → In o written → o.cell ≢ cell) → (output : Option Cell) → output ≡ Some cell → (k : ℕ) (slot : Option Slot) → slot ≡ claimed_at p written output k slot
-  none_claims cell other output is_cell k slot = elim (find_cases (λ (q : VirtualOutput). same_cell q.cell cell) written) [
+  pub none_claims : (cell : Cell) → ((o : VirtualOutput) → In o outs → o.cell ≢ cell) → (output : Option Cell) → output ≡ Some cell → (k : ℕ) (slot : Option Slot) → slot ≡ claimed_at p outs output k slot
+  none_claims cell other output is_cell k slot = elim (find_cases (λ (q : VirtualOutput). same_cell q.cell cell) outs) [
     | inl found ↦ absurd (other found.0 found.2 (same_cell-true found.0.cell cell found.3))
-    | inr none ↦ sym (ap (λ q. claimed_at p written q k slot) is_cell ∙ ap (λ f. claimed_if p f k slot) none.0)
+    | inr none ↦ sym (ap (λ q. claimed_at p outs q k slot) is_cell ∙ ap (λ f. claimed_if p f k slot) none.0)
   ]
 
-  -- as where it isn't described, or has no slot
-  pub undescribed : (cell : Cell) → None ≡ written_description is nodes cell → (output : Option Cell) → output ≡ Some cell → (k : ℕ) (slot : Option Slot) → slot ≡ claimed_at p written output k slot
-  undescribed cell none = none_claims cell (λ o i same.
-      let no : ◌≡◌ {A = Option Description} None (Some o.desc) = none ∙ ap (written_description is nodes) (sym same) ∙ output_described is nodes v how o i in
-      cc)
-
-  pub unplaced : (cell : Cell) → None ≡ p.slot_of cell → (output : Option Cell) → output ≡ Some cell → (k : ℕ) (slot : Option Slot) → slot ≡ claimed_at p written output k slot
+  -- as where it has no slot
+  pub unplaced : (cell : Cell) → None ≡ p.slot_of cell → (output : Option Cell) → output ≡ Some cell → (k : ℕ) (slot : Option Slot) → slot ≡ claimed_at p outs output k slot
   unplaced cell none = grind (arith, none_claims, any-from_In, same_cell-refl)
 
   -- who claims stands in no other slot
-  pub stands_nowhere_else : (slots : List Slot) → AreShared p written slots → (o : VirtualOutput) → In o written → (k : ℕ) (a : VirtualOutput) → holder_at slots k ≡ Some a
+  pub stands_nowhere_else : (slots : List Slot) → AreShared p outs slots → (o : VirtualOutput) → In o outs → (k : ℕ) (a : VirtualOutput) → holder_at slots k ≡ Some a
       → a.cell.name ≡ o.cell.name → k ≡ place_of p o
   stands_nowhere_else slots shared o i k a at same =
       let home = shared.homes k a at in
-      sym home.1 ∙ ap (place_of p) (one_of_name written apart a o home.0 i same)
+      sym home.1 ∙ ap (place_of p) (one_of_name outs apart a o home.0 i same)
+
+module _ (is : Cell → Operand) (nodes : List Node) (v : Verified) (how : IsVerified is nodes v) where
+  -- a cell that is described is an output
+  pub described_here : (cell : Cell) (d : Description) → Some d ≡ written_description is nodes cell → In (output_at cell d) v.virtual_outputs.items
+  described_here cell d described =
+      let output = described_output is nodes v how cell d (sym described) in
+      subst (λ (q : VirtualOutput). In q v.virtual_outputs.items) output.2 output.1
+
+  -- no output is of a cell that isn't described
+  pub undescribed : (cell : Cell) → None ≡ written_description is nodes cell → (o : VirtualOutput) → In o v.virtual_outputs.items → o.cell ≢ cell
+  undescribed cell none o i same =
+      let no : ◌≡◌ {A = Option Description} None (Some o.desc) = none ∙ ap (written_description is nodes) (sym same) ∙ output_described is nodes v how o i in
+      cc

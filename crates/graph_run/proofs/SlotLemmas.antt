@@ -1,7 +1,7 @@
 -- Slots of a plan: where they stand, what they have room for, and what is found in them.
 use Rattle.std.proofs.Common.{◌≡◌, ℕ, ◌+◌, ◌<◌, ◌≤◌, Bool, true, false, cond, List, [], ◌∷◌, ◌++◌, map, length, suc, Option, Some, None, ◌⊎◌, inl, inr, refl, sym, ap, subst, ◌∙◌, arith}
 use Rattle.std.specs.Prelude.{IfSome, find, slice_get, is_some, unwrap_or}
-use Rattle.std.specs.List.{range_with_len, filter}
+use Rattle.std.specs.List.{range_with_len, filter, list_any}
 use Rattle.std.specs.Option.{option_map}
 use Rattle.std.proofs.lemmas.Bool.{eq-eqb}
 use Rattle.std.proofs.lemmas.Bool.Decides.{nat_tests}
@@ -10,7 +10,7 @@ use Rattle.std.proofs.lemmas.List.{length-append}
 use Rattle.std.proofs.lemmas.Option.{slice_get-map, slice_get-get_or}
 use Rattle.vx_base.specs.declared.format.Format.{Format}
 use Rattle.vx_base.specs.declared.format.Format.TheVariants.{U8, S16, U32}
-use Rattle.vx_base.specs.Cell.{same_cell}
+use Rattle.vx_base.specs.Cell.{Cell, same_cell}
 use Rattle.vx_base.specs.Description.{sample_count}
 use Rattle.vx_base.specs.Sample.{same_format}
 use Rattle.graph_verify.specs.declared.known.VirtualOutput.{VirtualOutput}
@@ -19,7 +19,7 @@ use Rattle.graph_verify.specs.Members.{In}
 use Rattle.graph_verify.proofs.LinkLemmas.{same_cell-refl}
 use Rattle.graph_verify.proofs.MemberLemmas.{any-from_In, In-filter, In-map}
 use Rattle.buffer_plan.specs.Plan.{IsPlan, PlanValue}
-use Rattle.buffer_plan.specs.Slots.{of_format, is_slot, greatest}
+use Rattle.buffer_plan.specs.Slots.{of_format, is_slot, greatest, IsValid}
 use Rattle.buffer_plan.proofs.PlanLemmas.{same_format-refl}
 use Rattle.graph_run.specs.declared.stage.Slot.{Slot}
 use Rattle.graph_run.specs.Slots.{slot_place, place_of, room_of, rooms_for, planned_rooms}
@@ -104,7 +104,31 @@ pub record HasRoomAt (k : ℕ) (o : VirtualOutput) (slots : List Slot) : Type 0 
   pub there : slice_get slots k ≡ Some slot
   pub room : HasRoomFor slot o.desc
 
-module _ (steps : List Node) (outs : List VirtualOutput) (p : PlanValue) (plan : IsPlan steps outs p) where
+-- slots as a plan has them, with room for each image, and maybe for more
+pub record HasSlots (steps : List Node) (outs : List VirtualOutput) (p : PlanValue) : Type 0 where
+  pub given : (cell : Cell) → is_some (p.slot_of cell) ≡ list_any (λ o. same_cell o.cell cell) outs
+  pub valid : IsValid steps outs p.slot_of
+  pub below : (o : VirtualOutput) → In o outs → IfSome (p.slot_of o.cell) (λ k. k < p.slot_count o.desc.format)
+  pub room : (o : VirtualOutput) → In o outs → IfSome (p.slot_of o.cell) (λ k. sample_count o.desc ≤ p.slot_samples o.desc.format k)
+
+-- a plan's slots hold the greatest of their images
+pub planned_slots : (steps : List Node) (outs : List VirtualOutput) (p : PlanValue) → IsPlan steps outs p → HasSlots steps outs p
+planned_slots steps outs p plan = record { given = plan.given; valid = plan.valid; below = plan.below; room = λ o i. with_room o i (p.slot_of o.cell) refl }
+  where
+    with_room : (o : VirtualOutput) → In o outs → (slot : Option ℕ) → p.slot_of o.cell ≡ slot → IfSome slot (λ k. sample_count o.desc ≤ p.slot_samples o.desc.format k)
+    with_room o i None e = tt
+    with_room o i (Some k) e =
+        let format = o.desc.format in
+        let sharers = filter (λ (q : VirtualOutput). is_slot k (p.slot_of q.cell)) (of_format format outs) in
+        let shares : In o sharers =
+        In-filter (λ (q : VirtualOutput). is_slot k (p.slot_of q.cell)) o (of_format format outs)
+        (In-filter (λ (q : VirtualOutput). same_format q.desc.format format) o outs i (same_format-refl format))
+        (ap (is_slot k) e ∙ eq-eqb k k refl) in
+        subst (λ n. sample_count o.desc ≤ n) (sym (plan.samples format k))
+        (below_greatest (sample_count o.desc) (map (λ (q : VirtualOutput). sample_count q.desc) sharers)
+        (In-map (λ (q : VirtualOutput). sample_count q.desc) o sharers shares))
+
+module _ (steps : List Node) (outs : List VirtualOutput) (p : PlanValue) (plan : HasSlots steps outs p) where
   pub has_slot : (o : VirtualOutput) → In o outs → HasSlot p o
   has_slot o i = of_slot (p.slot_of o.cell) refl
     where
@@ -114,20 +138,11 @@ module _ (steps : List Node) (outs : List VirtualOutput) (p : PlanValue) (plan :
       of_slot : (slot : Option ℕ) → p.slot_of o.cell ≡ slot → HasSlot p o
       of_slot None e = let no = subst (λ (s : Option ℕ). is_some s ≡ true) e given in absurd (cc)
       of_slot (Some k) e =
-          let format = o.desc.format in
-          let sharers = filter (λ (q : VirtualOutput). is_slot k (p.slot_of q.cell)) (of_format format outs) in
-          let shares : In o sharers =
-          In-filter (λ (q : VirtualOutput). is_slot k (p.slot_of q.cell)) o (of_format format outs)
-          (In-filter (λ (q : VirtualOutput). same_format q.desc.format format) o outs i (same_format-refl format))
-          (ap (is_slot k) e ∙ eq-eqb k k refl) in
           record {
             slot = k;
             is = e;
-            below = subst (λ (s : Option ℕ). IfSome s (λ j. j < p.slot_count format)) e (plan.below o i);
-            room =
-                subst (λ n. sample_count o.desc ≤ n) (sym (plan.samples format k))
-                (below_greatest (sample_count o.desc) (map (λ (q : VirtualOutput). sample_count q.desc) sharers)
-                (In-map (λ (q : VirtualOutput). sample_count q.desc) o sharers shares));
+            below = subst (λ (s : Option ℕ). IfSome s (λ j. j < p.slot_count o.desc.format)) e (plan.below o i);
+            room = subst (λ (s : Option ℕ). IfSome s (λ j. sample_count o.desc ≤ p.slot_samples o.desc.format j)) e (plan.room o i);
           }
 
   home_at : (o : VirtualOutput) (h : HasSlot p o) → place_of p o ≡ slot_place p o.desc.format h.slot

@@ -75,7 +75,7 @@ not_virtual content object is other = grind arith
 
 -- ---- slots while samples are out
 
-abbrev Fixed : Type 0
+abbrev pub Fixed : Type 0
 Fixed = Format × ℕ × Option VirtualOutput
 
 resized_twice : (name m n : ℕ) (fs : List Fixed) → map (resized name n) (map (resized name m) fs) ≡ map (resized name n) fs
@@ -92,18 +92,18 @@ still_out a b c name n change keeps = record { virtual = keeps.virtual ∙ chang
 pub Keeps-trans : (a b c : Stage) → Keeps a b → Keeps b c → Keeps a c
 Keeps-trans a b c one other = record { virtual = other.virtual ∙ one.virtual; slots = other.slots ∙ one.slots }
 
-abbrev any_named : ℕ → List Fixed → Bool
+abbrev pub any_named : ℕ → List Fixed → Bool
 any_named name fs = list_any (λ (f : Fixed). is_named name f.2) fs
 
-none_named : (slots : List Slot) (name : ℕ) → slot_of slots name ≡ None → any_named name (map fixed slots) ≡ false
+pub none_named : (slots : List Slot) (name : ℕ) → slot_of slots name ≡ None → any_named name (map fixed slots) ≡ false
 none_named [] name none = refl
 none_named (s ∷ slots) name none = grind (arith, none_named slots name, cases_Bool (is_named name s.holder))
 
-no_slot : (slots : List Slot) (name : ℕ) → any_named name (map fixed slots) ≡ false → slot_of slots name ≡ None
+pub no_slot : (slots : List Slot) (name : ℕ) → any_named name (map fixed slots) ≡ false → slot_of slots name ≡ None
 no_slot [] name none = refl
 no_slot (s ∷ slots) name none = grind (arith, no_slot slots name, cases_Bool (is_named name s.holder))
 
-any_resized : (other name n : ℕ) (fs : List Fixed) → any_named other (map (resized name n) fs) ≡ any_named other fs
+pub any_resized : (other name n : ℕ) (fs : List Fixed) → any_named other (map (resized name n) fs) ≡ any_named other fs
 any_resized other name n [] = refl
 any_resized other name n (f ∷ fs) = grind (arith, any_resized other name n fs, cases_Bool (is_named name f.2))
 

@@ -8,3 +8,5 @@ pub mod Turns
 pub mod Examples
 pub mod Stage
 pub mod Slots
+pub mod Bands
+pub mod Settle

@@ -7,6 +7,9 @@
 //!
 //! - `kernel`: the kernel of each function
 //! - `operand`: objects as operands
+//! - `settle`: whether a graph runs in bands of rows, and how
+//! - `bands`: a graph that runs so, each band going through all nodes before the next one does
+//! - `part`: rows of images, lent to kernels as images of their own
 //! - `stage`: what nodes run on: a table, and slots in which virtual images are images for a while
 //! - `step`: a node that runs on what its cells hold
 //! - `verify`: the verdict on a graph, and the order in which its nodes run
@@ -15,11 +18,14 @@
 //! - `examples`: runs of small graphs
 #![tactic(auto)]
 
+mod bands;
 pub mod examples;
 mod kernel;
 pub mod laws;
 mod operand;
+mod part;
 mod runs;
+mod settle;
 mod stage;
 mod step;
 mod verify;

@@ -1,7 +1,7 @@
 //! Graphs that run: the virtual images that their nodes write stand in slots as they do, and are
 //! themselves again afterwards.
 ghost use Rattle.std.specs.Prelude.{◌≡◌, ◌≤◌, ◌<◌, ◌+◌, ◌++◌, ◌^◌, [], List, length, map, All};
-ghost use Rattle.std.specs.Prelude.{IfOk, OnOk, OnErr, slice_get, ℕ, if◌then◌else◌};
+ghost use Rattle.std.specs.Prelude.{IfOk, IfSome, OnOk, OnErr, slice_get, ℕ, if◌then◌else◌};
 ghost use Rattle.std.specs.List.Sorted.{IsStrictlyIncreasing};
 ghost use Rattle.vx_base.specs.declared.format.Format.{Format as SampleFormat};
 ghost use Rattle.vx_base.specs.declared.node.Node.{Node as NodeFields};
@@ -16,6 +16,7 @@ ghost use Rattle.graph_verify.specs.Outlines.{resolved};
 ghost use Rattle.graph_verify.specs.Verified.{IsVerified};
 ghost use Rattle.buffer_plan.specs.Places.{told};
 ghost use Rattle.buffer_plan.specs.Plan.{IsPlan};
+ghost use Rattle.graph_run.specs.Bands.{RunsInBands, AreAreas, final_of};
 ghost use Rattle.graph_run.specs.Graph.{run_of_graph};
 ghost use Rattle.graph_run.specs.Lasting.{Lasts};
 ghost use Rattle.graph_run.specs.Operands.{operand_held, IsReady};
@@ -24,6 +25,8 @@ ghost use Rattle.graph_run.specs.Slots.{room_of, rooms_for, planned_rooms, slot_
 ghost use Rattle.graph_run.specs.Slots.{AreEmpty, AreShared, claimed_at, slot_blocks};
 ghost use Rattle.graph_run.specs.Turns.{AreVirtual};
 
+use crate::bands::{Bands, run_bands};
+use crate::settle::bands_of;
 use crate::stage::{Slot, Stage};
 use crate::step::run_step;
 use buffer_plan::Plan;
@@ -35,7 +38,7 @@ use std::mem;
 use vx_base::{Format, ObjRef, Rect};
 
 /// Runs a verified graph on what the cells of its nodes hold in a table: its nodes in an order in
-/// which they can run, each once. The virtual images that the nodes write stand in blocks of the
+/// which they can run, each once, or each once for each band of rows. The virtual images that the nodes write stand in blocks of the
 /// pool, which those share that the plan says; they are themselves again at the end, and the blocks
 /// are given back. All memory is taken first: an error has changed nothing but what is free in the
 /// pool.
@@ -62,17 +65,48 @@ pub fn run(
     ensures adds { (format : SampleFormat) → blocks_of pool.new format
         ≤ blocks_of pool.old format + (told plan.now).slot_count format }
 {
+    let bands = bands_of(alloc, table, verified)?;
     let slots = slots_for(alloc, pool, plan)?;
     let empty = Table::new(table.allocator());
     let mut stage = Stage {
         table: mem::replace(table, empty),
         slots,
     };
-    run_steps(&mut stage, verified, plan);
+    run_nodes(&mut stage, verified, plan, bands);
     let Stage { table: own, slots } = stage;
     *table = own;
     give_back(slots, pool);
     Ok(())
+}
+
+/// Runs the nodes of a verified graph in bands of rows, or one after the other. It takes no memory.
+fn run_nodes(stage: &mut Stage, verified: &Verified, plan: &Plan, bands: Option<Bands>)
+    requires stage { IsStage stage.old }
+    requires empty { AreEmpty stage.old.slots.items }
+    requires rooms { map room_of stage.old.slots.items ≡ planned_rooms (told plan.now) }
+    requires ready { (nodes : List NodeFields) ×
+        IsReady stage.old.table.objects nodes verified.now }
+    requires plan { IsPlan verified.now.steps.items verified.now.virtual_outputs.items
+        (told plan.now) }
+    requires rows { IfSome bands (λ b. 1 ≤ b.rows) }
+    requires bands { IfSome bands (λ b. (nodes : List NodeFields) →
+        IsReady stage.old.table.objects nodes verified.now →
+        RunsInBands stage.old.table.objects nodes verified.now b.height b.beside) }
+    requires areas { IfSome bands (λ b. (nodes : List NodeFields) →
+        IsReady stage.old.table.objects nodes verified.now →
+        AreAreas (final_of stage.old.table.objects nodes verified.now) verified.now.steps.items
+        b.areas.items) }
+    ensures value { (nodes : List NodeFields) →
+        IsReady stage.old.table.objects nodes verified.now →
+        stage.new.table ≡ with_objects stage.old.table (run_of_graph
+        (resolved (operand_held stage.old.table.objects) nodes) nodes stage.old.table.objects) }
+    ensures lasts { Lasts stage.old.table.objects stage.new.table.objects }
+    ensures rooms { map room_of stage.new.slots.items ≡ map room_of stage.old.slots.items }
+{
+    match bands {
+        Some(bands) => run_bands(stage, verified, plan, &bands),
+        None => run_steps(stage, verified, plan),
+    }
 }
 
 /// Runs the nodes of a verified graph one after the other. Before a node runs, the virtual images
@@ -129,7 +163,7 @@ fn claim_for(stage: &mut Stage, verified: &Verified, plan: &Plan, output: Option
 }
 
 /// The place of a slot of a format among all slots.
-fn place_of(plan: &Plan, format: Format, slot: usize) -> usize
+pub fn place_of(plan: &Plan, format: Format, slot: usize) -> usize
     requires { slot_place (told plan.now) format slot < 2 ^ 64 }
     ensures { result ≡ slot_place (told plan.now) format slot }
 {

@@ -63,7 +63,7 @@ impl Slot {
     }
 
     /// The image that stands here, lent to who reads it.
-    fn image(&self) -> Image<'_>
+    pub fn image(&self) -> Image<'_>
         requires there { IsSome self.now.holder }
         requires format { IfSome self.now.holder
             (λ o. samples_format self.now.samples ≡ o.desc.format) }
@@ -106,7 +106,7 @@ impl Stage {
     }
 
     /// The place of the slot in which the virtual image of this name stands.
-    fn place_of(&self, name: u32) -> Option<usize>
+    pub fn place_of(&self, name: u32) -> Option<usize>
         ensures { result ≡ position (λ s. is_named name s.holder) self.now.slots.items }
     {
         self.slots.iter().position(|slot| slot.is_of(name))

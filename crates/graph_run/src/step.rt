@@ -271,7 +271,7 @@ fn second_of(object: &Object) -> Second<'_>
 }
 
 /// Writes the first samples, one for each place of an output, and gives its valid rectangle.
-fn write_samples(
+pub fn write_samples(
     desc: Desc,
     samples: &mut Samples,
     node: &Node,

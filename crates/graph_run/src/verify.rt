@@ -75,7 +75,7 @@ fn operand_held_if(table: &Table, cell: Option<ObjRef>) -> Option<Operand>
 }
 
 /// What a cell is to a node of a graph, for which its name needn't be live.
-fn operand_held(table: &Table, cell: ObjRef) -> Operand
+pub fn operand_held(table: &Table, cell: ObjRef) -> Operand
     ensures { result ≡ operand_held table.now.objects cell }
 {
     match table.get_held(cell.name()) {

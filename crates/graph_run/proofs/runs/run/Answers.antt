@@ -12,26 +12,27 @@ use Rattle.graph_run.proofs.StepLemmas.{empty_stage}
 use Rattle.graph_run.proofs.SlotPoolLemmas.{blocks_stay}
 use Rattle.graph_run.proofs.runs.run.Goals as goal
 
-pub run_steps-requires-clause-stage : goal.run_steps-requires-clause-stage
-run_steps-requires-clause-stage c =
+pub run_nodes-requires-clause-stage : goal.run_nodes-requires-clause-stage
+run_nodes-requires-clause-stage c =
     empty_stage _ c.in_ok-slots.ensures.empty
     (subst (λ (t : Context). IsStrictlyIncreasing (names_of t.objects)) (sym c.replace.ensures.value) c.requires.names)
     (subst (λ (t : Context). All (λ o. IsObject o.object) t.objects) (sym c.replace.ensures.value) c.requires.objects)
 
 pub give_back-requires : goal.give_back-requires
 give_back-requires c = λ f.
-    omega (arith, blocks_stay c.in_ok-slots.slots.items c.run_steps.new.stage.slots.items c.run_steps.ensures.rooms f, c.in_ok-slots.ensures.lends f)
+    omega (arith, blocks_stay c.in_ok-slots.slots.items c.run_nodes.new.stage.slots.items c.run_nodes.ensures.rooms f, c.in_ok-slots.ensures.lends f)
 
 pub returns-clause-value : goal.returns-clause-value
 returns-clause-value c =
     let v = c.args.verified.now in
-    let left = c.run_steps.new.stage.table in
+    let left = c.run_nodes.new.stage.table in
     subst
     (λ (t : Context). (nodes : List Node) → IsReady t.objects nodes v
     → left ≡ with_objects t (run_of_graph (resolved (operand_held t.objects) nodes) nodes t.objects))
-    c.replace.ensures.value c.run_steps.ensures.value
+    c.replace.ensures.value c.run_nodes.ensures.value
 
 pub returns-clause-lent : goal.returns-clause-lent
 returns-clause-lent c = λ f.
     omega
-    (arith, blocks_stay c.in_ok-slots.slots.items c.run_steps.new.stage.slots.items c.run_steps.ensures.rooms f, c.in_ok-slots.ensures.lends f, c.give_back.ensures.lent f)
+    (arith, blocks_stay c.in_ok-slots.slots.items c.run_nodes.new.stage.slots.items c.run_nodes.ensures.rooms f, c.in_ok-slots.ensures.lends f, c.give_back.ensures.lent f)
+

@@ -1,0 +1,194 @@
+-- Parts of virtual images that claim the slots of the whole ones: what stands there then.
+use Rattle.std.proofs.Common.{◌≡◌, ◌≢◌, ℕ, zero, suc, ◌+◌, ◌*◌, ◌<◌, ◌≤◌, true, false, List, [], ◌∷◌, ◌++◌, map, take, length, get_or, set, Some, None, inr, refl, sym, ap, subst, ◌∙◌, arith}
+use Rattle.std.specs.Prelude.{◌==◌, ◌&&◌, IsTrue, slice_get, IfSome}
+use Rattle.std.specs.List.{AllPairs}
+use Rattle.std.proofs.lemmas.Bool.Decides.{nat_tests}
+use Rattle.std.proofs.lemmas.List.{length-map, get_or-map, take_more_set}
+use Rattle.std.proofs.lemmas.List.Elements.{All-map, All-push}
+use Rattle.std.proofs.Math.Nat.{mul-le-mul_right}
+use Rattle.std.proofs.lemmas.Option.{IfSome_then}
+use Rattle.vx_base.specs.declared.node.Node.{Node}
+use Rattle.vx_base.specs.Cell.{Cell, same_cell}
+use Rattle.vx_base.specs.Description.{Description, IsDescription, is_side, sample_count}
+use Rattle.vx_base.specs.Sample.{same_format}
+use Rattle.vx_base.specs.declared.format.Format.{Format}
+use Rattle.object_table.specs.Named.{Named, object_held}
+use Rattle.graph_verify.specs.declared.known.VirtualOutput.{VirtualOutput}
+use Rattle.graph_verify.specs.Links.{writes, is_written}
+use Rattle.graph_verify.specs.Members.{In}
+use Rattle.graph_verify.proofs.MemberLemmas.{In-filter, In-from_filter, In-map, In-from_map, any-map}
+use Rattle.buffer_plan.specs.Lives.{is_used, is_live}
+use Rattle.buffer_plan.specs.Plan.{PlanValue}
+use Rattle.buffer_plan.specs.Slots.{of_format, live_images}
+use Rattle.graph_run.specs.declared.stage.Slot.{Slot}
+use Rattle.graph_run.specs.Bands.{output_part}
+use Rattle.graph_run.specs.Slots.{place_of, room_of, AreEmpty, AreShared, claimed_at}
+use Rattle.graph_run.specs.Stage.{shown, holder_at, HoldsVirtual, slot_of}
+use Rattle.graph_run.specs.Turns.{AreVirtual}
+use Rattle.graph_run.proofs.AgreeLemmas.{Keeps}
+use Rattle.graph_run.proofs.SceneLemmas.{IsItsTurn, StandsIn, first_claims, second_claims, slot_kept, found_kept, stands_there, stands_in}
+use Rattle.graph_run.proofs.SharingLemmas.{output_at, AreClaimed, WereWritten, name_of_output}
+use Rattle.graph_run.proofs.SlotLemmas.{HasSlots}
+use Rattle.graph_run.proofs.StageLemmas.{found_as_it_is, stands_nowhere}
+use Rattle.graph_run.proofs.VerifiedLemmas.{whole, is_output}
+
+-- ---- images by so many of their rows
+
+module _ (count : ℕ) (outs : List VirtualOutput) where
+  abbrev parts : List VirtualOutput
+  parts = map (output_part count) outs
+
+  -- the names of parts are those of the whole images
+  pub part_names : (name : ℕ) → is_output parts name ≡ is_output outs name
+  part_names name = sym (any-map (output_part count) (λ (o : VirtualOutput). name == o.cell.name) outs)
+
+  pub parts_apart : AllPairs (λ a b. a.cell.name ≢ b.cell.name) outs → AllPairs (λ a b. a.cell.name ≢ b.cell.name) parts
+  parts_apart apart i j d less within same =
+      let long : j < length outs = omega (arith, within, length-map outs (output_part count)) in
+      let name = λ (o : VirtualOutput). o.cell.name in
+      apart i j d less long
+      (sym (ap name (get_or-map (output_part count) outs i d d (omega (arith, less, long)))) ∙ same ∙ ap name (get_or-map (output_part count) outs j d d long))
+
+  pub parts_virtual : (l : List Named) → AreVirtual l outs → AreVirtual l parts
+  parts_virtual l virtual =
+      record { apart = parts_apart virtual.apart; held = All-map (λ (o : VirtualOutput). HoldsVirtual l o.cell.name) (output_part count) outs virtual.held }
+
+  -- no part is of a cell of which no image is
+  pub other_cells : (cell : Cell) → ((o : VirtualOutput) → In o outs → o.cell ≢ cell) → (a : VirtualOutput) → In a parts → a.cell ≢ cell
+  other_cells cell others a i same =
+      let from = In-from_map (output_part count) a outs i in
+      others from.0 from.1 (ap (λ (o : VirtualOutput). o.cell) (sym from.2) ∙ same)
+
+  -- a part that is live is of an image that is
+  live_part : (steps : List Node) (format : Format) (step : ℕ) (a : VirtualOutput) → In a (live_images steps parts format step)
+      → (o : VirtualOutput) × In o (live_images steps outs format step) × (a ≡ output_part count o)
+  live_part steps format step a i =
+      let live = λ (o : VirtualOutput). is_live steps o.cell step in
+      let alike = λ (o : VirtualOutput). same_format o.desc.format format in
+      let now = In-from_filter live a (of_format format parts) i in
+      let here = In-from_filter alike a parts now.0 in
+      let from = In-from_map (output_part count) a outs here.0 in (
+        from.0,
+        In-filter live from.0 (of_format format outs) (In-filter alike from.0 outs from.1 (ap alike (sym from.2) ∙ here.1)) (ap live (sym from.2) ∙ now.1),
+        from.2,
+      )
+
+  module _ (low : (o : VirtualOutput) → In o outs → count ≤ o.desc.height) where
+    -- the slots of images are slots of their parts
+    pub part_slots : (steps : List Node) (p : PlanValue) → HasSlots steps outs p → HasSlots steps parts p
+    part_slots steps p slots =
+        record {
+          given = λ cell. slots.given cell ∙ any-map (output_part count) (λ (o : VirtualOutput). same_cell o.cell cell) outs;
+          valid = λ format step a b i j same.
+              let one = live_part steps format step a i in
+              let other = live_part steps format step b j in
+              one.2
+              ∙ ap (output_part count)
+              (slots.valid format step one.0 other.0 one.1 other.1
+              (ap (λ (o : VirtualOutput). p.slot_of o.cell) (sym one.2) ∙ same ∙ ap (λ (o : VirtualOutput). p.slot_of o.cell) other.2))
+              ∙ sym other.2;
+          below = λ a i.
+              let from = In-from_map (output_part count) a outs i in
+              subst (λ (o : VirtualOutput). IfSome (p.slot_of o.cell) (λ k. k < p.slot_count o.desc.format)) (sym from.2) (slots.below from.0 from.1);
+          room = λ a i.
+              let from = In-from_map (output_part count) a outs i in
+              subst (λ (o : VirtualOutput). IfSome (p.slot_of o.cell) (λ k. sample_count o.desc ≤ p.slot_samples o.desc.format k)) (sym from.2)
+              (IfSome_then (p.slot_of from.0.cell) (slots.room from.0 from.1) (λ k room. less from.0 from.1 (p.slot_samples from.0.desc.format k) room));
+        }
+      where
+        less : (o : VirtualOutput) → In o outs → (n : ℕ) → sample_count o.desc ≤ n → count * o.desc.width ≤ n
+        less o i n room = omega (arith, room, mul-le-mul_right o.desc.width (low o i))
+
+    -- the turn of a node is also that of parts
+    pub part_turn : (p : PlanValue) (before after : List Node) (n : Node) → IsItsTurn outs p before after n → IsItsTurn parts p before after n
+    part_turn p before after n turn =
+        record {
+          slots = part_slots (before ++ n ∷ after) p turn.slots;
+          itself = λ a i. let from = In-from_map (output_part count) a outs i in subst (λ (o : VirtualOutput). o.cell ≡ whole o.cell.name) (sym from.2) (turn.itself from.0 from.1);
+          once = turn.once;
+        }
+
+  -- under a name that is no output's nothing stands
+  pub none_stands : (p : PlanValue) (slots : List Slot) → AreShared p parts slots → (name : ℕ) → is_output outs name ≡ false → slot_of slots name ≡ None
+  none_stands p slots shared name none =
+      stands_nowhere slots name (λ k a at same.
+      let some = name_of_output parts a (shared.homes k a at).0 name (sym same) in
+      let is_none = part_names name ∙ none in
+      cc)
+
+-- ---- the part that claims a slot
+
+-- its sides are allowed
+pub part_sides : (count : ℕ) (d : Description) → IsDescription d → 1 ≤ count → count ≤ d.height → IsTrue (is_side d.width && is_side count)
+part_sides count d is some low = grind (arith, nat_tests, is.width, is.height, some, low)
+
+-- it is of the image's width and format, and has so many rows
+pub part_made : (count width : ℕ) (format : Format) (o : VirtualOutput) (d : Description) → d ≡ record { width = width; height = count; format = format } → width ≡ o.desc.width → format ≡ o.desc.format
+    → output_at o.cell d ≡ output_part count o
+part_made count width format o d is wide alike =
+    ap (output_at o.cell) (is ∙ ap (λ (w : ℕ). let e : Description = record { width = w; height = count; format = format } in e) wide
+    ∙ ap (λ (f : Format). let e : Description = record { width = o.desc.width; height = count; format = f } in e) alike)
+
+-- ---- slots once both outputs of a node have claimed theirs
+
+-- what the node writes stands in its slot by so many rows; what is used still is as it was
+pub record PartsClaimed (count : ℕ) (outs : List VirtualOutput) (p : PlanValue) (before after : List Node) (n : Node) (l : List Named) (slots both : List Slot) : Type 0 where
+  pub shared : AreShared p (map (output_part count) outs) both
+  pub written : WereWritten (before ++ n ∷ []) both
+  pub homes : (o : VirtualOutput) → In o outs → writes n o.cell ≡ true → holder_at both (place_of p o) ≡ Some (output_part count o)
+  pub stand : (o : VirtualOutput) → In o outs → writes n o.cell ≡ true → StandsIn both (shown both l) (output_part count o)
+  pub places_kept : (o : VirtualOutput) → In o outs → is_written before o.cell ≡ true → is_used (n ∷ after) o.cell ≡ true → slot_of both o.cell.name ≡ slot_of slots o.cell.name
+  pub kept : (o : VirtualOutput) → In o outs → is_written before o.cell ≡ true → is_used (n ∷ after) o.cell ≡ true
+      → object_held (shown both l) o.cell.name ≡ object_held (shown slots l) o.cell.name
+  pub no_place : (name : ℕ) → is_output outs name ≡ false → slot_of both name ≡ None
+  pub others : (name : ℕ) → is_output outs name ≡ false → object_held (shown both l) name ≡ object_held l name
+
+module _ (count : ℕ) (outs : List VirtualOutput) (low : (o : VirtualOutput) → In o outs → count ≤ o.desc.height) (p : PlanValue)
+    (before after : List Node) (n : Node) (turn : IsItsTurn outs p before after n)
+    (l : List Named) (virtual : AreVirtual l outs) (slots one : List Slot) (shared : AreShared p (map (output_part count) outs) slots) (written : WereWritten before slots)
+    (first : (k : ℕ) → slice_get one k ≡ claimed_at p (map (output_part count) outs) n.out1 k (slice_get slots k)) where
+  abbrev rows : List VirtualOutput
+  rows = map (output_part count) outs
+
+  -- once the first output has claimed its slot
+  pub first_part_shared : AreShared p rows one
+  first_part_shared = (first_claims rows p before after n (part_turn count outs low p before after n turn) l (parts_virtual count outs l virtual) slots one shared written first).shared
+
+  -- once both have
+  pub parts_claimed : (both : List Slot) → ((k : ℕ) → slice_get both k ≡ claimed_at p rows n.out2 k (slice_get one k))
+      → PartsClaimed count outs p before after n l slots both
+  parts_claimed both second =
+      record {
+        shared = claims.shared;
+        written = claims.written;
+        homes = λ o i w. stands_there rows p before after n its_turn l are_virtual slots one shared written first both second (output_part count o) (In-map (output_part count) o outs i) w;
+        stand = λ o i w. stands_in rows p before after n its_turn l are_virtual slots one shared written first both second (output_part count o) (In-map (output_part count) o outs i) w;
+        places_kept = λ o i w used. slot_kept rows p before after n its_turn l are_virtual slots one shared written first both second o.cell.name (keeps o i w used);
+        kept = λ o i w used. found_kept rows p before after n its_turn l are_virtual slots one shared written first both second o.cell.name (keeps o i w used);
+        no_place = none_stands count outs p both claims.shared;
+        others = λ name none. found_as_it_is both l name (none_stands count outs p both claims.shared name none);
+      }
+    where
+      its_turn : IsItsTurn rows p before after n
+      its_turn = part_turn count outs low p before after n turn
+
+      are_virtual : AreVirtual l rows
+      are_virtual = parts_virtual count outs l virtual
+
+      claims : AreClaimed rows p before after n its_turn.slots are_virtual.apart its_turn.itself n.out2 one both
+      claims = second_claims rows p before after n its_turn l are_virtual slots one shared written first both second
+
+      keeps : (o : VirtualOutput) → In o outs → is_written before o.cell ≡ true → is_used (n ∷ after) o.cell ≡ true → Keeps rows before (n ∷ after) o.cell.name
+      keeps o i w used = inr (ap (is_written before) (sym (turn.itself o i)) ∙ w, ap (is_used (n ∷ after)) (sym (turn.itself o i)) ∙ used)
+
+-- ---- slots that are cleared
+
+-- a slot that has as much room as the one in whose place it comes
+pub room_kept : (slots : List Slot) (k : ℕ) (s new : Slot) → k < length slots → room_of new ≡ room_of (get_or slots k s) → map room_of (set slots k new) ≡ map room_of slots
+room_kept [] k s new below same = refl
+room_kept (t ∷ slots) zero s new below same = ap (λ r. r ∷ map room_of slots) same
+room_kept (t ∷ slots) (suc k) s new below same = ap (λ rs. room_of t ∷ rs) (room_kept slots k s new (omega (arith, below)) same)
+
+-- one more in which nothing stands
+pub empty_more : (slots : List Slot) (k : ℕ) (new : Slot) → k < length slots → new.holder ≡ None → AreEmpty (take k slots) → AreEmpty (take (k + 1) (set slots k new))
+empty_more slots k new below none empty = subst AreEmpty (sym (take_more_set slots k new below)) (All-push (λ (t : Slot). t.holder ≡ None) (take k slots) new empty none)

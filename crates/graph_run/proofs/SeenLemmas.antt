@@ -1,0 +1,417 @@
+-- What nodes that see parts of images write: parts to slots, and bands to images of the client's.
+use Rattle.std.proofs.Common.{◌≡◌, ℕ, ℤ, ◌+◌, ◌-◌, ◌*◌, ◌≤◌, ◌<◌, pos, Bool, List, [], ◌++◌, map, length, take, drop, get_or, Option, Some, None, IfSome, refl, sym, ap, subst, ◌∙◌, arith}
+use Rattle.std.specs.Prelude.{All, IsSome, find, position}
+use Rattle.std.specs.List.{position_or_len}
+use Rattle.std.specs.List.Sorted.{IsStrictlyIncreasing}
+use Rattle.std.specs.Option.{option_map}
+use Rattle.std.proofs.Math.Nat.{mul-le-mul_right}
+use Rattle.std.proofs.lemmas.Bool.Decides.{nat_tests}
+use Rattle.std.proofs.lemmas.List.{length-append, length-take, length-drop, take_all}
+use Rattle.std.proofs.lemmas.List.Elements.{All-append, All-take, All-drop, All-get_or, All-from_get_or}
+use Rattle.std.proofs.lemmas.List.Folds.{find_at}
+use Rattle.std.proofs.lemmas.Option.{slice_get_cases}
+use Rattle.vx_base.specs.declared.desc.TheConstants.{GREATEST_SIDE}
+use Rattle.vx_base.specs.declared.format.Format.{Format}
+use Rattle.vx_base.specs.declared.kind.Kind.TheVariants as kind
+use Rattle.vx_base.specs.declared.node.Node.{Node}
+use Rattle.vx_base.specs.declared.output.Output.{Output}
+use Rattle.vx_base.specs.Cell.{Cell}
+use Rattle.vx_base.specs.Description.{Description, sample_count}
+use Rattle.vx_base.specs.Image.{ImageValue, IsImage, image_over, description_of, band, at}
+use Rattle.vx_base.specs.Object.{ObjectValue, ImageObject, IsObject, object_kind}
+use Rattle.vx_base.specs.Outputs.{node_image}
+use Rattle.vx_base.specs.Rectangle.{Rectangle, whole, empty}
+use Rattle.vx_base.specs.Sample.{IsSample}
+use Rattle.vx_base.proofs.ImageLaws.{above, index_of_place, inside_whole}
+use Rattle.vx_base.proofs.NodeLaws.{node_image_is}
+use Rattle.vx_base.proofs.TableLaws.{length-band}
+use Rattle.image_core.specs.declared.band.Band.{Band}
+use Rattle.image_core.specs.Bands.{IsInRows}
+use Rattle.object_table.specs.Context.{Context, with_objects}
+use Rattle.object_table.specs.Named.{Named, held, with_object}
+use Rattle.object_table.specs.Object.{image_value, with_samples}
+use Rattle.object_table.specs.Table.{cell_object, image_held, HoldsImage}
+use Rattle.node_rows.specs.Parts.{part_of}
+use Rattle.node_rows.proofs.PartLaws.{part_is}
+use Rattle.graph_run.specs.declared.bands.Strip.{Strip}
+use Rattle.graph_run.specs.declared.stage.Slot.{Slot}
+use Rattle.graph_run.specs.declared.stage.Stage.{Stage}
+use Rattle.graph_run.specs.Bands.{seen_in, seen, HasRowsIn, HasRows, part_made, SeesParts, IsWithinRows, with_band, made_in, made_seen, with_seen, HasPlaceIn, IsSeen}
+use Rattle.graph_run.specs.Lasting.{lasting, Lasts}
+use Rattle.graph_run.specs.Stage.{is_named, scene, slot_of, fixed, Resized, IsStage, IsArranged, Keeps}
+use Rattle.graph_run.specs.Steps.{Holds, IsRead, AreApart, CanRunTo}
+use Rattle.graph_run.proofs.CellLemmas.{object_beside, object_if_beside, hold_beside, image_beside, object_after, image_after, with_object_twice, Lasts-with_object}
+use Rattle.graph_run.proofs.LastingLemmas.{images-last}
+use Rattle.graph_run.proofs.OutputLemmas.{description_kept, stored_is}
+use Rattle.graph_run.proofs.StageLemmas.{names-shown, placed, not_placed}
+use Rattle.graph_run.proofs.StandingLemmas.{place_is}
+use Rattle.graph_run.proofs.StepLemmas.{any_named, none_named, no_slot, any_resized, kept_stage}
+
+-- ---- slots while samples are out
+
+module _ (a b : Stage) (name n : ℕ) (change : Resized name n a b) (other : ℕ) where
+  same_named : any_named other (map fixed b.slots.items) ≡ any_named other (map fixed a.slots.items)
+  same_named = ap (any_named other) change.slots ∙ any_resized other name n (map fixed a.slots.items)
+
+  still_none : slot_of a.slots.items other ≡ None → slot_of b.slots.items other ≡ None
+  still_none none = no_slot b.slots.items other (same_named ∙ none_named a.slots.items other none)
+
+  was_none : slot_of b.slots.items other ≡ None → slot_of a.slots.items other ≡ None
+  was_none none = no_slot a.slots.items other (sym same_named ∙ none_named b.slots.items other none)
+
+-- what is seen depends on a slot only by whether there is one
+seen_alike : (x y : Option Slot) → (x ≡ None → y ≡ None) → (y ≡ None → x ≡ None) → (rows : Band) (object : ObjectValue) → seen_in x rows object ≡ seen_in y rows object
+seen_alike None None f g rows object = refl
+seen_alike (Some s) (Some t) f g rows object = refl
+seen_alike None (Some t) f g rows object = let no = f refl in absurd (cc)
+seen_alike (Some s) None f g rows object = let no = g refl in absurd (cc)
+
+-- ---- a band among the samples of an image
+
+whole_rows : (width height count : ℕ) → count ≤ height → count * width ≤ height * width
+whole_rows width height count room = mul-le-mul_right width room
+
+-- samples are as many as before, where those of a band are others
+length-banded : (width height start count from : ℕ) (f : ℕ → ℕ → ℤ) (zs : List ℤ) → length zs ≡ height * width → start + count ≤ height
+    → length (take (start * width) zs ++ band width from count f ++ drop ((start + count) * width) zs) ≡ length zs
+length-banded width height start count from f zs long room =
+    omega (
+      arith,
+      long,
+      whole_rows width height (start + count) room,
+      length-append (take (start * width) zs ++ band width from count f) (drop ((start + count) * width) zs),
+      length-append (take (start * width) zs) (band width from count f),
+      length-take (start * width) zs,
+      length-band width from count f,
+      length-drop ((start + count) * width) zs,
+    )
+
+all_samples : (a : ImageValue) → IsImage a → All (IsSample a.format) a.samples
+all_samples a is = All-from_get_or (IsSample a.format) a.samples (pos 0) each
+  where
+    each : (k : ℕ) → k < length a.samples → IsSample a.format (get_or a.samples k (pos 0))
+    each k below =
+        let p = index_of_place a.width a.height k (omega (arith, is.size)) in
+        let P : ℕ → Type 0 = λ n. IsSample a.format (get_or a.samples n (pos 0)) in
+        subst P p.4 (is.sampled p.0 p.1 p.2 p.3)
+
+-- samples of its format make an image that is wholly valid
+wholly_valid : (d : Description) (zs : List ℤ) → d.width ≤ GREATEST_SIDE → d.height ≤ GREATEST_SIDE → length zs ≡ d.height * d.width → All (IsSample d.format) zs
+    → IsImage (image_over d (whole d.width d.height) zs)
+wholly_valid d zs wide high long are =
+    record {
+      sides = (wide, high);
+      size = long;
+      ordered = record { columns = omega arith; rows = omega arith };
+      room = record { columns = omega arith; rows = omega arith };
+      sampled = λ x y a b.
+          let below : y * d.width + x < length zs = omega (arith, long, above d.width d.height x y a b) in
+          All-get_or (IsSample d.format) zs (y * d.width + x) (pos 0) below are;
+      outside = λ x y a b e. let i = inside_whole d.width d.height x y a b in absurd (cc);
+    }
+
+module _ (strip : Strip) (part old : ImageValue) (is : IsImage part) (was : IsImage old) (described : description_of part ≡ record { width = old.width; height = strip.rows.count; format = old.format })
+    (within : IsWithinRows strip) (room : IsInRows old.height strip.rows) where
+  abbrev from : ℕ
+  from = strip.band.start - strip.rows.start
+
+  band_is : IsImage (part_of from strip.band.count part)
+  band_is = part_is from strip.band.count part is (omega (arith, within.above, within.below, ap (λ (d : Description). d.height) described))
+
+  band_samples : All (IsSample old.format) (band old.width from strip.band.count (at part))
+  band_samples =
+      subst (λ (d : Description). All (IsSample d.format) (band d.width from strip.band.count (at part))) described
+      (all_samples (part_of from strip.band.count part) band_is)
+
+  with_band_is : IsImage (with_band strip part old)
+  with_band_is =
+      let before = take (strip.band.start * old.width) old.samples in
+      let among = band old.width from strip.band.count (at part) in
+      let after = drop ((strip.band.start + strip.band.count) * old.width) old.samples in
+      let all = all_samples old was in
+      wholly_valid (description_of old) (before ++ among ++ after) was.sides.0 was.sides.1
+      (length-banded old.width old.height strip.band.start strip.band.count from (at part) old.samples was.size (omega (arith, within.below, room)) ∙ was.size)
+      (All-append (IsSample old.format) (before ++ among) after
+      (All-append (IsSample old.format) before among (All-take (IsSample old.format) (strip.band.start * old.width) old.samples all) band_samples)
+      (All-drop (IsSample old.format) ((strip.band.start + strip.band.count) * old.width) old.samples all))
+
+-- ---- what is seen of objects
+
+image_seen : (slot : Option Slot) (rows : Band) (object : ObjectValue) → object_kind object ≡ kind.Image → IsImage (image_value object) → (slot ≡ None → HasRowsIn rows object)
+    → IsImage (image_value (seen_in slot rows object))
+image_seen None rows (ImageObject image) of_kind is has = part_is rows.start rows.count image is (has refl)
+image_seen (Some s) rows object of_kind is has = is
+image_seen None rows object of_kind is has = absurd (cc)
+
+object_seen : (slot : Option Slot) (rows : Band) (object : ObjectValue) → IsObject object → (slot ≡ None → HasRowsIn rows object) → IsObject (seen_in slot rows object)
+object_seen None rows (ImageObject image) is has = part_is rows.start rows.count image is (has refl)
+object_seen (Some s) rows object is has = is
+object_seen None rows object is has = grind arith
+
+held_there : (objects : List Named) (cell : Cell) → HoldsImage objects cell → held objects cell ≡ Some (ImageObject (image_held objects cell))
+held_there objects cell there = grind arith
+
+-- what is found has a place
+stands_there : {X : Type 0} (p : X → Bool) (xs : List X) (k : ℕ) → position p xs ≡ Some k → IsSome (find p xs)
+stands_there p xs k at = grind (arith, nat_tests, find_at, slice_get_cases xs (position_or_len p xs), placed p xs k at)
+
+-- ---- a node's output, written by what the node sees
+
+module _ (rows : Band) (s : Stage) (n : Node) (output : Cell) (h : SeesParts rows s n output) where
+  abbrev objects : List Named
+  objects = (scene s).objects
+
+  abbrev out : ImageValue
+  out = image_held objects output
+
+  -- as many rows of the output as are seen
+  abbrev target : Description
+  target = record { width = out.width; height = rows.count; format = out.format }
+
+  -- an output as high as these rows is described as they are
+  pub as_high : (d : Description) → d ≡ description_of out → out.height ≡ rows.count → d ≡ target
+  as_high d d_is high = d_is ∙ ap (λ k. let e : Description = record { width = out.width; height = k; format = out.format } in e) high
+
+  -- so is what has its width and format and is as high
+  pub as_target : (d part : Description) (width : ℕ) (format : Format) → d ≡ description_of out → width ≡ d.width → format ≡ d.format → part ≡ record { width = width; height = rows.count; format = format } → part ≡ target
+  as_target d part width format d_is wide of_format is =
+      is
+      ∙ ap (λ k. let e : Description = record { width = k; height = rows.count; format = format } in e) (wide ∙ ap (λ (e : Description). e.width) d_is)
+      ∙ ap (λ f. let e : Description = record { width = out.width; height = rows.count; format = f } in e) (of_format ∙ ap (λ (e : Description). e.format) d_is)
+
+  -- ---- what the node makes of what it sees
+
+  seen_image : IsImage (image_value (seen rows s n.in1))
+  seen_image =
+      let of_kind : object_kind (cell_object objects n.in1) ≡ kind.Image = grind (arith, h.in1) in
+      image_seen (slot_of s.slots.items n.in1.name) rows (cell_object objects n.in1) of_kind h.first h.in1_rows
+
+  seen_beside : IfSome (option_map (seen rows s) n.in2) IsObject
+  seen_beside = each n.in2 h.second h.in2_rows
+    where
+      each : (cell : Option Cell) → IfSome (option_map (cell_object objects) cell) IsObject → IfSome cell (HasRows rows s) → IfSome (option_map (seen rows s) cell) IsObject
+      each None is has = tt
+      each (Some cell) is has = object_seen (slot_of s.slots.items cell.name) rows (cell_object objects cell) is has
+
+  made_is : (which : Output) → IsImage (part_made rows s n which output)
+  made_is which =
+      node_image_is n out.format (image_value (seen rows s n.in1)) h.can_run.node seen_image which (option_map (seen rows s) n.in2) seen_beside h.can_run.kind h.can_run.formats
+
+  made_described : (which : Output) → description_of (part_made rows s n which output) ≡ target
+  made_described which = description_kept n which (image_value (seen rows s n.in1)) (option_map (seen rows s) n.in2) (image_over target empty []) h.can_run.size
+
+  -- ---- a band of it
+
+  module _ (strip : Strip) (within : IsWithinRows strip) (room : IsInRows out.height strip.rows) (d part : Description) (d_is : d ≡ description_of out) (part_is : part ≡ target)
+      (old : List ℤ) (long : length old ≡ sample_count d) where
+    abbrev end : ℕ
+    end = strip.band.start + strip.band.count
+
+    abbrev start : ℕ
+    start = strip.band.start - strip.rows.start
+
+    above_end : end ≤ out.height
+    above_end = omega (arith, within.below, room)
+
+    as_long : length old ≡ out.height * part.width
+    as_long = long ∙ ap sample_count d_is ∙ ap (λ (e : Description). out.height * e.width) (sym part_is)
+
+    pub has_room : end * part.width ≤ length old
+    has_room = omega (arith, as_long, whole_rows part.width out.height end above_end)
+
+    pub band_count : (f : ℕ → ℕ → ℤ) (zs : List ℤ) → zs ≡ take (strip.band.start * part.width) old ++ band part.width start strip.band.count f ++ drop (end * part.width) old → length zs ≡ length old
+    band_count f zs is = ap length is ∙ length-banded part.width out.height strip.band.start strip.band.count start f old as_long above_end
+
+  -- ---- once the samples of the output are out
+
+  module _ (t : Stage) (taken : scene t ≡ with_objects (scene s) (with_object objects output (with_samples (cell_object objects output) out.valid []))) (change : Resized output.name 0 s t) where
+    abbrev left : ImageValue
+    left = image_over (description_of out) out.valid []
+
+    object_there : (cell : Cell) → AreApart cell output → cell_object (scene t).objects cell ≡ cell_object objects cell
+    object_there cell apart = ap (λ (c : Context). cell_object c.objects cell) taken ∙ object_beside objects output cell (ImageObject left) apart
+
+    seen_there : (cell : Cell) → AreApart cell output → seen rows t cell ≡ seen rows s cell
+    seen_there cell apart =
+        seen_alike (slot_of t.slots.items cell.name) (slot_of s.slots.items cell.name) (was_none s t output.name 0 change cell.name) (still_none s t output.name 0 change cell.name) rows
+        (cell_object (scene t).objects cell)
+        ∙ ap (seen_in (slot_of s.slots.items cell.name) rows) (object_there cell apart)
+
+    rows_there : (cell : Cell) → AreApart cell output → HasRows rows s cell → HasRows rows t cell
+    rows_there cell apart has none = subst (HasRowsIn rows) (sym (object_there cell apart)) (has (was_none s t output.name 0 change cell.name none))
+
+    -- the inputs stand where they stood
+    pub first_there : HoldsImage (scene t).objects n.in1
+    first_there = subst (λ (c : Context). HoldsImage c.objects n.in1) (sym taken) (image_beside objects output n.in1 (ImageObject left) h.in1_apart h.in1)
+
+    pub first_image : IsImage (image_held (scene t).objects n.in1)
+    first_image = subst (λ (o : ObjectValue). IsImage (image_value o)) (sym (object_there n.in1 h.in1_apart)) h.first
+
+    pub first_rows : HasRows rows t n.in1
+    first_rows = rows_there n.in1 h.in1_apart h.in1_rows
+
+    second_there : option_map (cell_object (scene t).objects) n.in2 ≡ option_map (cell_object objects) n.in2
+    second_there = ap (λ (c : Context). option_map (cell_object c.objects) n.in2) taken ∙ object_if_beside objects output n.in2 (ImageObject left) h.in2_apart
+
+    pub second_holds : IfSome n.in2 (Holds (scene t).objects)
+    second_holds = subst (λ (c : Context). IfSome n.in2 (Holds c.objects)) (sym taken) (hold_beside objects output n.in2 (ImageObject left) h.in2_apart h.in2)
+
+    pub second_is : IfSome (option_map (cell_object (scene t).objects) n.in2) IsObject
+    second_is = subst (λ (o : Option ObjectValue). IfSome o IsObject) (sym second_there) h.second
+
+    pub second_read : IfSome (option_map (cell_object (scene t).objects) n.in2) (λ object. IsRead (object_kind object))
+    second_read = subst (λ (o : Option ObjectValue). IfSome o (λ object. IsRead (object_kind object))) (sym second_there) h.second_kind
+
+    pub second_rows : IfSome n.in2 (HasRows rows t)
+    second_rows = each n.in2 h.in2_apart h.in2_rows
+      where
+        each : (cell : Option Cell) → IfSome cell (λ c. AreApart c output) → IfSome cell (HasRows rows s) → IfSome cell (HasRows rows t)
+        each None apart has = tt
+        each (Some cell) apart has = rows_there cell apart has
+
+    second_seen : option_map (seen rows t) n.in2 ≡ option_map (seen rows s) n.in2
+    second_seen = each n.in2 h.in2_apart
+      where
+        each : (cell : Option Cell) → IfSome cell (λ c. AreApart c output) → option_map (seen rows t) cell ≡ option_map (seen rows s) cell
+        each None apart = refl
+        each (Some cell) apart = ap Some (seen_there cell apart)
+
+    -- samples can be put back
+    pub takes_back : HoldsImage (scene t).objects output
+    takes_back = subst (λ (c : Context). HoldsImage c.objects output) (sym taken) (image_after objects output h.out left)
+
+    pub left_described : description_of (image_held (scene t).objects output) ≡ description_of out
+    left_described = ap (λ (c : Context). description_of (image_held c.objects output)) taken ∙ ap (λ (o : ObjectValue). description_of (image_value o)) (object_after objects output h.out left)
+
+    put_there : (back : Context) (image : ImageValue) → back ≡ with_objects (scene t) (with_object (scene t).objects output (ImageObject image)) → back ≡ with_objects (scene s) (with_object objects output (ImageObject image))
+    put_there back image is =
+        is
+        ∙ ap (λ (c : Context). with_objects c (with_object c.objects output (ImageObject image))) taken
+        ∙ ap (with_objects (scene s)) (with_object_twice objects output (ImageObject left) image)
+
+    -- what is lent to the kernel
+    module _ (a : ImageValue) (b : Option ObjectValue) (is_first : ImageObject a ≡ seen rows t n.in1) (is_second : b ≡ option_map (seen rows t) n.in2) where
+      first_is : a ≡ image_value (seen rows s n.in1)
+      first_is = ap image_value (is_first ∙ seen_there n.in1 h.in1_apart)
+
+      pub runs_there : (d : Description) → d ≡ target → CanRunTo n a b (image_over d empty [])
+      runs_there d is = rw (first_is, is_second ∙ second_seen, is) h.can_run
+
+      made_there : (which : Output) (format : Format) → format ≡ out.format → node_image n which format a b ≡ part_made rows s n which output
+      made_there which format is = rw (first_is, is_second ∙ second_seen, is) refl
+
+      -- samples that are put back, of a stage with this scene
+      module _ (which : Output) (d : Description) (d_is : d ≡ description_of out) (back : Context) (area : Rectangle) (zs : List ℤ)
+          (is : back ≡ with_objects (scene t) (with_object (scene t).objects output (with_samples (cell_object (scene t).objects output) area (take (sample_count (description_of (image_held (scene t).objects output))) zs)))) where
+        put_so : back ≡ with_objects (scene s) (with_object objects output (ImageObject (image_over d area (take (sample_count d) zs))))
+        put_so =
+            put_there back (image_over (description_of (image_held (scene t).objects output)) area (take (sample_count (description_of (image_held (scene t).objects output))) zs)) is
+            ∙ ap (λ (e : Description). with_objects (scene s) (with_object objects output (ImageObject (image_over e area (take (sample_count e) zs))))) (left_described ∙ sym d_is)
+
+        -- a part
+        pub part_put : out.height ≡ rows.count → area ≡ (node_image n which d.format a b).valid → take (sample_count d) zs ≡ (node_image n which d.format a b).samples
+            → back ≡ with_objects (scene s) (with_object objects output (ImageObject (part_made rows s n which output)))
+        part_put high valid written =
+            put_so
+            ∙ ap (λ (i : ImageValue). with_objects (scene s) (with_object objects output (ImageObject i)))
+            (stored_is n which a b d (image_over target empty []) area (take (sample_count d) zs) (sym (as_high d d_is high)) (runs_there target refl).size valid written
+            ∙ made_there which d.format (ap (λ (e : Description). e.format) d_is))
+
+        -- a band, beside all other samples
+        pub band_put : (strip : Strip) (within : IsWithinRows strip) (room : IsInRows out.height strip.rows) (part : Description) (part_is : part ≡ target) (old : List ℤ) (long : length old ≡ sample_count d)
+            → take (sample_count d) old ≡ out.samples → area ≡ whole d.width d.height
+            → zs ≡ take (strip.band.start * part.width) old
+            ++ band part.width (strip.band.start - strip.rows.start) strip.band.count (at (node_image n which part.format a b))
+            ++ drop ((strip.band.start + strip.band.count) * part.width) old
+            → back ≡ with_objects (scene s) (with_object objects output (ImageObject (with_band strip (part_made rows s n which output) out)))
+        band_put strip within room part part_is old long old_is valid written =
+            let end = strip.band.start + strip.band.count in
+            let start = strip.band.start - strip.rows.start in
+            let banded : Description → ImageValue → List ℤ → List ℤ = λ e image l. take (strip.band.start * e.width) l ++ band e.width start strip.band.count (at image) ++ drop (end * e.width) l in
+            let same : old ≡ out.samples = sym (take_all (sample_count d) old (omega (arith, long))) ∙ old_is in
+            let count = band_count strip within room d part d_is part_is old long (at (node_image n which part.format a b)) zs written in
+            put_so
+            ∙ ap (λ (i : ImageValue). with_objects (scene s) (with_object objects output (ImageObject i)))
+            (ap (image_over d area) (take_all (sample_count d) zs (omega (arith, count, long)) ∙ written)
+            ∙ ap (λ (e : Description). image_over d area (banded e (node_image n which e.format a b) old)) part_is
+            ∙ ap (λ (i : ImageValue). image_over d area (banded target i old)) (made_there which out.format refl)
+            ∙ ap (λ l. image_over d area (banded target (part_made rows s n which output) l)) same
+            ∙ ap (λ r. image_over d r (banded target (part_made rows s n which output) out.samples)) valid
+            ∙ ap (λ (e : Description). image_over e (whole e.width e.height) (banded target (part_made rows s n which output) out.samples)) d_is)
+
+-- ---- an output, wherever it stands
+
+in_some : (x : Option Slot) (strip : Strip) (part old : ImageValue) → IsSome x → part ≡ made_in x strip part old
+in_some None strip part old some = absurd (cc)
+in_some (Some t) strip part old some = refl
+
+high_in : (x : Option Slot) (strip : Strip) (image : ImageValue) → IsSome x → HasPlaceIn x strip image → image.height ≡ strip.rows.count
+high_in None strip image some place = absurd (cc)
+high_in (Some t) strip image some place = place
+
+module _ (s : Stage) (name asked : ℕ) (same : asked ≡ name) (found : Option ℕ) (is : found ≡ position (λ t. is_named asked t.holder) s.slots.items) where
+  abbrev has_name : Slot → Bool
+  has_name t = is_named name t.holder
+
+  -- where a search ends, a slot has the name
+  pub found_here : (k : ℕ) → found ≡ Some k → IsSome (slot_of s.slots.items name)
+  found_here k at = stands_there has_name s.slots.items k (place_is s name asked same found is (Some k) at)
+
+  pub found_nowhere : found ≡ None → slot_of s.slots.items name ≡ None
+  found_nowhere none = not_placed has_name s.slots.items (place_is s name asked same found is None none)
+
+module _ (strip : Strip) (s : Stage) (n : Node) (given : Option Cell) (output : Cell) (there : given ≡ Some output) (sees : IfSome given (IsSeen strip s n)) where
+  abbrev here : Option Slot
+  here = slot_of s.slots.items output.name
+
+  abbrev held_now : ImageValue
+  held_now = image_held (scene s).objects output
+
+  this : IsSeen strip s n output
+  this = subst (λ (o : Option Cell). IfSome o (IsSeen strip s n)) there sees
+
+  pub as_high_there : IsSome here → held_now.height ≡ strip.rows.count
+  as_high_there some = high_in here strip held_now some this.1
+
+  pub has_rows_there : here ≡ None → IsInRows held_now.height strip.rows
+  has_rows_there none = subst (λ x. HasPlaceIn x strip held_now) none this.1
+
+  module _ (which : Output) where
+    abbrev part : ImageValue
+    part = part_made strip.rows s n which output
+
+    -- it is an image of the same description
+    made_so : (x : Option Slot) → IsWithinRows strip → HasPlaceIn x strip held_now → IsImage (made_in x strip part held_now) × (description_of (made_in x strip part held_now) ≡ description_of held_now)
+    made_so None within room = (with_band_is strip part held_now (made_is strip.rows s n output this.0 which) this.0.out_image (made_described strip.rows s n output this.0 which) within room, refl)
+    made_so (Some t) within high = (
+      made_is strip.rows s n output this.0 which,
+      made_described strip.rows s n output this.0 which ∙ sym (as_high strip.rows s n output this.0 (description_of held_now) refl high),
+    )
+
+    module _ (b : Stage) where
+      abbrev HasWritten : ObjectValue → Type 0
+      HasWritten object = scene b ≡ with_objects (scene s) (with_object (scene s).objects output object)
+
+      -- what is written is what the output becomes
+      pub part_written : IsSome here → HasWritten (ImageObject part) → scene b ≡ with_objects (scene s) (with_seen strip s n which given)
+      part_written some is =
+          is
+          ∙ ap (λ i. with_objects (scene s) (with_object (scene s).objects output (ImageObject i))) (in_some here strip part held_now some)
+          ∙ ap (λ o. with_objects (scene s) (with_seen strip s n which o)) (sym there)
+
+      pub band_written : here ≡ None → HasWritten (ImageObject (with_band strip part held_now)) → scene b ≡ with_objects (scene s) (with_seen strip s n which given)
+      band_written none is =
+          is
+          ∙ ap (λ x. with_objects (scene s) (with_object (scene s).objects output (ImageObject (made_in x strip part held_now)))) (sym none)
+          ∙ ap (λ o. with_objects (scene s) (with_seen strip s n which o)) (sym there)
+
+      -- and the stage is one again
+      pub seen_stage : IsWithinRows strip → IsStage s → IsArranged b → Keeps s b → scene b ≡ with_objects (scene s) (with_seen strip s n which given) → IsStage b
+      seen_stage within is arranged keeps written =
+          let made = made_so here within this.1 in
+          let names = subst IsStrictlyIncreasing (sym (names-shown s.slots.items s.table.objects)) is.names in
+          let lasts = ap (option_map lasting) (held_there (scene s).objects output this.0.out) ∙ ap Some (sym (images-last (made_in here strip part held_now) held_now made.1)) in
+          let now = written ∙ ap (λ o. with_objects (scene s) (with_seen strip s n which o)) there in
+          kept_stage s b is arranged keeps
+          (subst (λ (k : Context). Lasts (scene s).objects k.objects) (sym now)
+          (Lasts-with_object (scene s).objects (output, made_seen strip s n which output) (record { is_object = made.0; lasts = lasts }) names is.objects))

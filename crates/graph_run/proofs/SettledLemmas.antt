@@ -1,0 +1,473 @@
+-- Areas that are set at the end of a run in bands, and what the run leaves then.
+use Rattle.std.proofs.Common.{◌≡◌, ℕ, ℤ, ◌+◌, ◌*◌, ◌≤◌, ◌<◌, Bool, true, false, eqb, List, [], ◌∷◌, ◌++◌, map, length, take, drop, get_or, Option, Some, None, ◌⊎◌, inl, inr, refl, sym, ap, subst, ◌∙◌, arith}
+use Rattle.std.specs.Prelude.{◌==◌, ◌&&◌, not, if◌then◌else◌, All, IfSome, unwrap_or, slice_get}
+use Rattle.std.specs.Option.{option_map, option_and_then}
+use Rattle.std.proofs.lemmas.Bool.{cases_Bool, eqb-true, eq-eqb, and_parts, and_from}
+use Rattle.std.proofs.lemmas.List.{take_all, take_more}
+use Rattle.std.proofs.lemmas.Option.{slice_get-get_or}
+use Rattle.vx_base.specs.declared.format.Format.TheVariants.{U8}
+use Rattle.vx_base.specs.declared.kind.Kind.TheVariants as kind
+use Rattle.vx_base.specs.declared.node.Node.{Node}
+use Rattle.vx_base.specs.declared.virtual_image.VirtualImage.{VirtualImage}
+use Rattle.vx_base.specs.Cell.{Cell, cell_of}
+use Rattle.vx_base.specs.Description.{Description}
+use Rattle.vx_base.specs.Image.{ImageValue, IsImage, image_over, new_image, description_of}
+use Rattle.vx_base.specs.Node.{outputs, given}
+use Rattle.vx_base.specs.Object.{ObjectValue, ImageObject, VirtualObject, IsObject, object_kind}
+use Rattle.vx_base.specs.Rectangle.{Rectangle, empty}
+use Rattle.object_table.specs.Context.{Context, with_objects}
+use Rattle.object_table.specs.Delay.{in_slot, with_slot}
+use Rattle.object_table.specs.Named.{Named, object_held, held, with_object}
+use Rattle.object_table.specs.Object.{image_value, with_samples}
+use Rattle.object_table.specs.Table.{cell_object, image_held, HoldsImage}
+use Rattle.object_table.proofs.HeldLemmas.{object_held_has}
+use Rattle.graph_verify.specs.declared.known.VirtualOutput.{VirtualOutput}
+use Rattle.graph_verify.specs.declared.operand.Operand.{Operand}
+use Rattle.graph_verify.specs.declared.verified.Verified.{Verified}
+use Rattle.graph_verify.specs.Links.{writes, is_written}
+use Rattle.graph_verify.specs.Members.{In}
+use Rattle.graph_verify.specs.Outlines.{resolved}
+use Rattle.graph_verify.proofs.LinkLemmas.{In-from_same, same-from_In}
+use Rattle.graph_verify.proofs.MemberLemmas.{In-left, In-right, In-append, In-from_any, any-from_In, In-at}
+use Rattle.graph_run.specs.Bands.{RunsInBands, final_of, is_target, is_virtual_name, IsFinished, RowsAreAs, AreAreas, is_image_held, with_area_in, with_area}
+use Rattle.graph_run.specs.Graph.{begun_as, begun, forgotten, is_virtual_object, run_of_graph}
+use Rattle.graph_run.specs.Lasting.{lasting, lasting_named, Lasts}
+use Rattle.graph_run.specs.Operands.{operand_held}
+use Rattle.graph_run.specs.Solution.{label_of}
+use Rattle.graph_run.proofs.AgreeLemmas.{begin, begins}
+use Rattle.graph_run.proofs.BegunLaws.{begun_stays}
+use Rattle.graph_run.proofs.CellLemmas.{object_after, image_after, with_object_twice}
+use Rattle.graph_run.proofs.FinalLemmas.{final_are, final_lasts, out_height, cell_is_whole, output_of_name, in_the_end}
+use Rattle.graph_run.proofs.HeldLaws.{object_held-with_object, labels-with_object}
+use Rattle.graph_run.proofs.LastingLemmas.{held-lasts}
+use Rattle.graph_run.proofs.LinkLaws.{All-from_In, In-from_All}
+use Rattle.graph_run.proofs.TurnLaws.{run_in_order}
+use Rattle.graph_run.proofs.VerifiedLemmas.{output_object, pairs_of}
+
+-- ---- the area of one image
+
+held_image : (found : Option ObjectValue) → is_image_held found ≡ true → (a : ImageValue) × (found ≡ Some (ImageObject a))
+held_image x e = grind arith
+
+-- a cell as a whole
+whole_of : (output : Option Cell) (cell : Cell) → output ≡ Some cell → IfSome output (λ c. c.slot ≡ None) → cell.slot ≡ None
+whole_of output cell e whole = subst (λ (o : Option Cell). IfSome o (λ c. c.slot ≡ None)) e whole
+
+module _ (l : List Named) (cell : Cell) (whole : cell.slot ≡ None) (a : ImageValue) (at : object_held l cell.name ≡ Some (ImageObject a)) where
+  held_at : held l cell ≡ Some (ImageObject a)
+  held_at = grind (arith, whole, at)
+
+  image_at : HoldsImage l cell
+  image_at = ap (option_map object_kind) held_at
+
+  value_at : image_held l cell ≡ a
+  value_at = ap (λ o. image_value (unwrap_or o (ImageObject (new_image 0 0 U8)))) held_at
+
+  area_at : (area : Rectangle) → with_area area (Some cell) l ≡ with_object l cell (ImageObject (image_over (description_of (image_held l cell)) area (image_held l cell).samples))
+  area_at area = ap (with_area_in area l cell) at ∙ ap (λ (i : ImageValue). with_object l cell (ImageObject (image_over (description_of i) area i.samples))) (sym value_at)
+
+-- samples are taken from an image, and put back with another area
+module _ (before after : Context) (output : Option Cell) (all_whole : IfSome output (λ c. c.slot ≡ None)) (cell : Cell) (given_is : output ≡ Some cell)
+    (is : is_image_held (object_held before.objects cell.name) ≡ true)
+    (taken : after ≡ with_objects before (with_object before.objects cell (with_samples (cell_object before.objects cell) (image_held before.objects cell).valid []))) where
+  whole : cell.slot ≡ None
+  whole = whole_of output cell given_is all_whole
+
+  found : (a : ImageValue) × (object_held before.objects cell.name ≡ Some (ImageObject a))
+  found = held_image (object_held before.objects cell.name) is
+
+  was : HoldsImage before.objects cell
+  was = image_at before.objects cell whole found.0 found.1
+
+  abbrev desc : Description
+  desc = description_of (image_held before.objects cell)
+
+  abbrev left : ImageValue
+  left = image_over desc (image_held before.objects cell).valid []
+
+  left_there : cell_object after.objects cell ≡ ImageObject left
+  left_there = ap (λ (t : Context). cell_object t.objects cell) taken ∙ object_after before.objects cell was left
+
+  pub image_left : HoldsImage after.objects cell
+  image_left = subst (λ (t : Context). HoldsImage t.objects cell) (sym taken) (image_after before.objects cell was left)
+
+  pub format_left : (image_held after.objects cell).format ≡ (image_held before.objects cell).format
+  format_left = ap (λ (x : ObjectValue). (image_value x).format) left_there
+
+  pub area_put : (back : Context) (area : Rectangle) (samples : List ℤ) → back ≡ with_objects after (with_object after.objects cell (with_samples (cell_object after.objects cell) area samples))
+      → samples ≡ (image_held before.objects cell).samples → back ≡ with_objects before (with_area area output before.objects)
+  area_put back area samples put same =
+      put
+      ∙ ap (λ (x : ObjectValue). with_objects after (with_object after.objects cell (with_samples x area samples))) left_there
+      ∙ ap (λ (t : Context). with_objects t (with_object t.objects cell (ImageObject (image_over desc area samples)))) taken
+      ∙ ap (with_objects before) (with_object_twice before.objects cell (ImageObject left) (image_over desc area samples))
+      ∙ ap (λ s. with_objects before (with_object before.objects cell (ImageObject (image_over desc area s)))) same
+      ∙ ap (with_objects before) (sym (area_at before.objects cell whole found.0 found.1 area))
+      ∙ ap (λ (o : Option Cell). with_objects before (with_area area o before.objects)) (sym given_is)
+
+-- ---- images that are as they will be but for their areas
+
+record ButArea (now final : Option ObjectValue) : Type 0 where
+  area : Rectangle
+  image : ImageValue
+  there : now ≡ Some (ImageObject (image_over (description_of image) area image.samples))
+  in_the_end : final ≡ Some (ImageObject image)
+
+record Rows (y : ℕ) (now final : Option ObjectValue) : Type 0 where
+  one : ImageValue
+  other : ImageValue
+  there : now ≡ Some (ImageObject one)
+  in_the_end : final ≡ Some (ImageObject other)
+  desc : description_of one ≡ description_of other
+  rows : take (y * other.width) one.samples ≡ take (y * other.width) other.samples
+
+rows_of : (y : ℕ) (now final : Option ObjectValue) → RowsAreAs y now final → Rows y now final
+rows_of y (Some (ImageObject i)) (Some (ImageObject f)) rows = record { one = i; other = f; there = refl; in_the_end = refl; desc = rows.0; rows = rows.1 }
+rows_of y now final rows = absurd (grind arith)
+
+-- an image all of whose rows are as they will be
+all_rows : (y : ℕ) (now final : Option ObjectValue) → IfSome now IsObject → IfSome final IsObject → ((f : ImageValue) → final ≡ Some (ImageObject f) → f.height ≡ y) → RowsAreAs y now final → ButArea now final
+all_rows y now final now_is final_is high as_final =
+    let r = rows_of y now final as_final in
+    let i = r.one in
+    let f = r.other in
+    let is_i : IsImage i = subst (λ o. IfSome o IsObject) r.there now_is in
+    let is_f : IsImage f = subst (λ o. IfSome o IsObject) r.in_the_end final_is in
+    let tall : f.height ≡ y = high f r.in_the_end in
+    let wide : i.width ≡ f.width = ap (λ (d : Description). d.width) r.desc in
+    let as_tall : i.height ≡ f.height = ap (λ (d : Description). d.height) r.desc in
+    let count : length f.samples ≡ y * f.width = is_f.size ∙ ap (λ n. n * f.width) tall in
+    let count_i : length i.samples ≡ y * f.width = is_i.size ∙ ap (λ n. n * i.width) (as_tall ∙ tall) ∙ ap (λ n. y * n) wide in
+    let same : i.samples ≡ f.samples = sym (take_all (y * f.width) i.samples (omega (arith, count_i))) ∙ r.rows ∙ take_all (y * f.width) f.samples (omega (arith, count)) in
+    record {
+      area = i.valid;
+      image = f;
+      there = r.there ∙ ap (λ (d : Description). Some (ImageObject (image_over d i.valid i.samples))) r.desc ∙ ap (λ s. Some (ImageObject (image_over (description_of f) i.valid s))) same;
+      in_the_end = r.in_the_end;
+    }
+
+-- a client's objects that are as they will be but for areas
+record AreNear (v : Verified) (objects final now : List Named) : Type 0 where
+  labels : map label_of now ≡ map label_of objects
+  others : (name : ℕ) → is_target v name ≡ false → object_held now name ≡ object_held objects name
+  targets : (name : ℕ) → is_target v name ≡ true → ButArea (object_held now name) (object_held final name)
+
+-- what a cell holds is as it will be, if it is a target
+abbrev IsSet : Verified → List Named → List Named → Cell → Type 0
+IsSet v final now c = is_target v c.name ≡ true → object_held now c.name ≡ object_held final c.name
+
+-- others that are near, where these cells are set beside those that were
+record NextNear (v : Verified) (objects final now new : List Named) (cells : List Cell) : Type 0 where
+  near : AreNear v objects final new
+  keeps : (c : Cell) → IsSet v final now c → IsSet v final new c
+  makes : (c : Cell) → In c cells → IsSet v final new c
+
+-- once the areas of these nodes are set
+pub record AreSettled (v : Verified) (objects final : List Named) (done : List Node) (now : List Named) : Type 0 where
+  near : AreNear v objects final now
+  settled : (m : Node) (c : Cell) → In m done → In c (outputs m) → IsSet v final now c
+
+-- ---- an object that stands in its cell as a whole
+
+module _ (now : List Named) (c : Cell) (whole : c.slot ≡ None) (a image : ImageValue) (at : object_held now c.name ≡ Some (ImageObject a)) where
+  stands_there : object_held (with_object now c (ImageObject image)) c.name ≡ Some (ImageObject image)
+  stands_there = grind (arith, object_held-with_object now c (ImageObject image) c.name, eq-eqb c.name c.name refl, whole, at)
+
+  others_stay : (name : ℕ) → eqb name c.name ≡ false → object_held (with_object now c (ImageObject image)) name ≡ object_held now name
+  others_stay name beside = grind (arith, object_held-with_object now c (ImageObject image) name, beside)
+
+-- ---- objects as a run begins and ends
+
+image_of : (found : Option ObjectValue) → option_map object_kind (option_and_then (in_slot None) found) ≡ Some kind.Image → (f : ImageValue) × (found ≡ Some (ImageObject f))
+image_of x e = grind arith
+
+-- what lasts of an image is its description
+lasts_as_image : (x : ObjectValue) (f : ImageValue) → lasting x ≡ lasting (ImageObject f) → (i : ImageValue) × (x ≡ ImageObject i) × (description_of i ≡ description_of f)
+lasts_as_image x f e = grind arith
+
+no_rows : (width : ℕ) (l m : List ℤ) → take (0 * width) l ≡ take (0 * width) m
+no_rows width l m = let none : 0 * width ≡ 0 = omega arith in ap (λ n. take n l) none ∙ sym (ap (λ n. take n m) none)
+
+none_yet : (now final : Option ObjectValue) (f : ImageValue) → final ≡ Some (ImageObject f) → option_map lasting final ≡ option_map lasting now → RowsAreAs 0 now final
+none_yet None final f is same = absurd (cc)
+none_yet (Some x) final f is same =
+    let left : lasting x ≡ lasting (ImageObject f) = cc in
+    let image = lasts_as_image x f left in
+    subst (λ o. RowsAreAs 0 (Some x) o) (sym is) (subst (λ y. RowsAreAs 0 (Some y) (Some (ImageObject f))) (sym image.1) (image.2, no_rows f.width image.0.samples f.samples))
+
+-- what a run leaves is what was there, or what the nodes left
+in_forgotten : (before after : List Named) (x : Named) → In x (forgotten before after) → In x before ⊎ In x after
+in_forgotten [] after x i = inr i
+in_forgotten (o ∷ before) [] x i = inr i
+in_forgotten (o ∷ before) (p ∷ after) x (inl same) = elim (cases_Bool (is_virtual_object o.object)) [
+  | inl virtual ↦ inl (inl (same ∙ ap (λ b. if b then o else p) virtual))
+  | inr real ↦ inr (inl (same ∙ ap (λ b. if b then o else p) real))
+]
+in_forgotten (o ∷ before) (p ∷ after) x (inr i) = elim (in_forgotten before after x i) [
+  | inl old ↦ inl (inr old)
+  | inr new ↦ inr (inr new)
+]
+
+-- as much lasts of what a run leaves as of what was there, if it does of what the nodes left beside what they began with
+forgotten_lasts : (is : Cell → Operand) (nodes : List Node) (objects after : List Named) → map lasting_named after ≡ map lasting_named (map (begun is nodes) objects)
+    → map lasting_named (forgotten objects after) ≡ map lasting_named objects
+forgotten_lasts is nodes [] [] same = refl
+forgotten_lasts is nodes [] (p ∷ after) same = absurd (cc)
+forgotten_lasts is nodes (o ∷ objects) [] same = absurd (cc)
+forgotten_lasts is nodes (o ∷ objects) (p ∷ after) same =
+    let first : lasting_named p ≡ lasting_named (begun is nodes o) = ap (λ l. get_or l 0 (lasting_named p)) same in
+    let rest = forgotten_lasts is nodes objects after (ap (drop 1) same) in
+    elim (cases_Bool (is_virtual_object o.object)) [
+      | inl virtual ↦ rw virtual (ap (λ l. lasting_named o ∷ l) rest)
+      | inr real ↦ rw real (ap (λ x. x ∷ map lasting_named (forgotten objects after)) (first ∙ ap lasting_named (begun_real o real)) ∙ ap (λ l. lasting_named o ∷ l) rest)
+    ]
+  where
+    begun_real : (q : Named) → is_virtual_object q.object ≡ false → begun is nodes q ≡ q
+    begun_real q real = grind (arith, begun_stays q.object (is_written nodes (cell_of q.name)) (is (cell_of q.name)) real, cases_Bool (is_written nodes (cell_of q.name)))
+
+-- ---- a graph that runs in bands
+
+module _ (objects : List Named) (nodes : List Node) (v : Verified) (height beside : ℕ) (r : RunsInBands objects nodes v height beside) where
+  abbrev steps : List Node
+  steps = v.steps.items
+
+  abbrev final : List Named
+  final = final_of objects nodes v
+
+  -- the writer of a target
+  writer_of : (name : ℕ) → is_target v name ≡ true → (n : Node) × In n steps × (writes n (cell_of name) ≡ true)
+  writer_of name target = In-from_any (λ m. writes m (cell_of name)) steps (and_parts (is_written steps (cell_of name)) (not (is_virtual_name v name)) target).0
+
+  target_image : (name : ℕ) → is_target v name ≡ true → (f : ImageValue) → object_held final name ≡ Some (ImageObject f) → f.height ≡ height
+  target_image name target f at =
+      let n = writer_of name target in
+      ap (λ (i : ImageValue). i.height) (sym (value_at final (cell_of name) refl f at))
+      ∙ (out_height objects nodes v height beside r n.0 n.1 (cell_of name) (In-from_same (cell_of name) (outputs n.0) n.2)).0
+
+  begins_near : (now : List Named) → All (λ o. IsObject o.object) now → IsFinished (λ _. height) v objects final now → AreNear v objects final now
+  begins_near now are f =
+      record {
+        labels = f.labels;
+        others = f.others;
+        targets = λ name target.
+            all_rows height (object_held now name) (object_held final name) (object_held_has IsObject now name are)
+            (object_held_has IsObject final name (final_are objects nodes v height beside r)) (target_image name target) (f.targets name target);
+      }
+
+  pub begins_settled : (now : List Named) → All (λ o. IsObject o.object) now → IsFinished (λ _. height) v objects final now → AreSettled v objects final [] now
+  begins_settled now are f = record { near = begins_near now are f; settled = λ m c i j. absurd i }
+
+  -- a virtual image stays
+  virtual_stays : (now : List Named) → AreNear v objects final now → (c : Cell) (area : Rectangle) → is_virtual_name v c.name ≡ true → is_target v c.name ≡ false → with_area area (Some c) now ≡ now
+  virtual_stays now near c area virtual none =
+      let output = output_of_name objects nodes v height beside r c.name virtual in
+      let object = (output_object objects nodes v r.ready.runs.0 r.ready.verified r.ready.runs.1 output.0 output.1).1 in
+      let at : object_held now c.name ≡ Some (VirtualObject object.0) = near.others c.name none ∙ ap (object_held objects) output.2 ∙ object.1 in
+      ap (with_area_in area now c) at
+
+  module _ (n : Node) (i : In n steps) (area : Rectangle) where
+    -- a target is as it will be once it has its area
+    target_set : (now : List Named) → AreNear v objects final now → (c : Cell) → In c (outputs n) → (image_held final c).valid ≡ area → is_target v c.name ≡ true
+        → NextNear v objects final now (with_area area (Some c) now) (c ∷ [])
+    target_set now near c j valid target =
+        subst (λ l. NextNear v objects final now l (c ∷ [])) (sym becomes)
+        (record {
+          near =
+              record {
+                labels = labels-with_object now c (ImageObject f) ∙ near.labels;
+                others = λ name none. others_stay now c whole was f there.there name (apart name none) ∙ near.others name none;
+                targets = near_again;
+              };
+          keeps = keeps_set;
+          makes = makes_set;
+        })
+      where
+        whole : c.slot ≡ None
+        whole = (out_height objects nodes v height beside r n i c j).1
+
+        there : ButArea (object_held now c.name) (object_held final c.name)
+        there = near.targets c.name target
+
+        f : ImageValue
+        f = there.image
+
+        was : ImageValue
+        was = image_over (description_of f) there.area f.samples
+
+        right : f.valid ≡ area
+        right = ap (λ (k : ImageValue). k.valid) (sym (value_at final c whole f there.in_the_end)) ∙ valid
+
+        new : List Named
+        new = with_object now c (ImageObject f)
+
+        becomes : with_area area (Some c) now ≡ new
+        becomes = ap (with_area_in area now c) there.there ∙ ap (λ (a : Rectangle). with_object now c (ImageObject (image_over (description_of f) a f.samples))) (sym right)
+
+        set_there : object_held new c.name ≡ object_held final c.name
+        set_there = stands_there now c whole was f there.there ∙ sym there.in_the_end
+
+        apart : (name : ℕ) → is_target v name ≡ false → eqb name c.name ≡ false
+        apart name none = elim (cases_Bool (eqb name c.name)) [
+          | inl e ↦ (let same : name ≡ c.name = eqb-true name c.name e in let target_too : is_target v name ≡ true = ap (is_target v) same ∙ target in absurd (cc))
+          | inr e ↦ e
+        ]
+
+        near_again : (name : ℕ) → is_target v name ≡ true → ButArea (object_held new name) (object_held final name)
+        near_again name target_too = elim (cases_Bool (eqb name c.name)) [
+          | inl e ↦
+              subst (λ k. ButArea (object_held new k) (object_held final k)) (sym (eqb-true name c.name e))
+              (record { area = f.valid; image = f; there = stands_there now c whole was f there.there; in_the_end = there.in_the_end })
+          | inr e ↦ subst (λ o. ButArea o (object_held final name)) (sym (others_stay now c whole was f there.there name e)) (near.targets name target_too)
+        ]
+
+        keeps_set : (d : Cell) → IsSet v final now d → IsSet v final new d
+        keeps_set d is target_too = elim (cases_Bool (eqb d.name c.name)) [
+          | inl e ↦ subst (λ k. object_held new k ≡ object_held final k) (sym (eqb-true d.name c.name e)) set_there
+          | inr e ↦ others_stay now c whole was f there.there d.name e ∙ is target_too
+        ]
+
+        makes_set : (d : Cell) → In d (c ∷ []) → IsSet v final new d
+        makes_set d (inl same) = subst (λ (e : Cell). IsSet v final new e) (sym same) (λ _. set_there)
+        makes_set d (inr k) = absurd k
+
+    cell_set : (now : List Named) → AreNear v objects final now → (c : Cell) → In c (outputs n) → (image_held final c).valid ≡ area → NextNear v objects final now (with_area area (Some c) now) (c ∷ [])
+    cell_set now near c j valid = elim (cases_Bool (is_virtual_name v c.name)) [
+      | inl virtual ↦
+          (let none : is_target v c.name ≡ false = ap (λ b. is_written steps (cell_of c.name) && not b) virtual ∙ never (is_written steps (cell_of c.name)) in
+          subst (λ l. NextNear v objects final now l (c ∷ [])) (sym (virtual_stays now near c area virtual none))
+          (record { near = near; keeps = λ d is. is; makes = λ d k. of_virtual d k none }))
+      | inr real ↦
+          target_set now near c j valid
+          (and_from (is_written steps (cell_of c.name)) (not (is_virtual_name v c.name))
+          (any-from_In (λ m. writes m (cell_of c.name)) n steps i
+          (ap (writes n) (cell_is_whole objects nodes v height beside r n i c (same-from_In c (outputs n) j)) ∙ same-from_In c (outputs n) j)) (ap not real))
+    ]
+      where
+        never : (b : Bool) → (b && false) ≡ false
+        never true = refl
+        never false = refl
+
+        of_virtual : (d : Cell) → In d (c ∷ []) → is_target v c.name ≡ false → IsSet v final now d
+        of_virtual d (inl same) none = λ target_too. let no : is_target v d.name ≡ false = ap (λ (e : Cell). is_target v e.name) same ∙ none in absurd (cc)
+        of_virtual d (inr k) none = absurd k
+
+    given_set : (now : List Named) → AreNear v objects final now → (o : Option Cell) → ((c : Cell) → In c (given o) → In c (outputs n) × ((image_held final c).valid ≡ area))
+        → NextNear v objects final now (with_area area o now) (given o)
+    given_set now near None each = record { near = near; keeps = λ d is. is; makes = λ d k. absurd k }
+    given_set now near (Some c) each = let of_cell = each c (inl refl) in cell_set now near c of_cell.0 of_cell.1
+
+    -- once both outputs of a node have their areas, it is settled beside those that are
+    pub node_settled : (done : List Node) (now : List Named) → AreSettled v objects final done now → All (λ c. (image_held final c).valid ≡ area) (outputs n)
+        → AreSettled v objects final (done ++ n ∷ []) (with_area area n.out2 (with_area area n.out1 now))
+    node_settled done now s valid = record { near = second.near; settled = settled_now }
+      where
+        valid_of : (c : Cell) → In c (outputs n) → In c (outputs n) × ((image_held final c).valid ≡ area)
+        valid_of c j = (j, In-from_All (λ (d : Cell). (image_held final d).valid ≡ area) (outputs n) valid c j)
+
+        mid : List Named
+        mid = with_area area n.out1 now
+
+        first : NextNear v objects final now mid (given n.out1)
+        first = given_set now s.near n.out1 (λ c j. valid_of c (In-left c (given n.out1) (given n.out2) j))
+
+        second : NextNear v objects final mid (with_area area n.out2 mid) (given n.out2)
+        second = given_set mid first.near n.out2 (λ c j. valid_of c (In-right c (given n.out1) (given n.out2) j))
+
+        by_this : (c : Cell) → In c (outputs n) → IsSet v final (with_area area n.out2 mid) c
+        by_this c j = elim (In-append c (given n.out1) (given n.out2) j) [
+          | inl one ↦ second.keeps c (first.makes c one)
+          | inr other ↦ second.makes c other
+        ]
+
+        of_last : (m : Node) (c : Cell) → In m (n ∷ []) → In c (outputs m) → IsSet v final (with_area area n.out2 mid) c
+        of_last m c (inl same) j = by_this c (subst (λ (l : Node). In c (outputs l)) same j)
+        of_last m c (inr k) j = absurd k
+
+        settled_now : (m : Node) (c : Cell) → In m (done ++ n ∷ []) → In c (outputs m) → IsSet v final (with_area area n.out2 mid) c
+        settled_now m c a j = elim (In-append m done (n ∷ []) a) [
+          | inl before ↦ second.keeps c (first.keeps c (s.settled m c before j))
+          | inr last ↦ of_last m c last j
+        ]
+
+  -- once all nodes are settled, the run has ended
+  pub settled_ends : (now : List Named) → AreSettled v objects final steps now → now ≡ run_of_graph (resolved (operand_held objects) nodes) nodes objects
+  settled_ends now s =
+      in_the_end objects nodes v height beside r now s.near.labels
+      (λ name. elim (cases_Bool (is_target v name)) [
+        | inl target ↦ (let w = writer_of name target in rw target (s.settled w.0 (cell_of name) w.1 (In-from_same (cell_of name) (outputs w.0) w.2) target))
+        | inr none ↦ rw none (s.near.others name none)
+      ])
+
+  -- outputs are cells as a whole
+  pub outputs_whole : (n : Node) → In n steps → (o : Option Cell) → ((c : Cell) → In c (given o) → In c (outputs n)) → IfSome o (λ c. c.slot ≡ None)
+  outputs_whole n i None each = tt
+  outputs_whole n i (Some c) each = (out_height objects nodes v height beside r n i c (each c (inl refl))).1
+
+  -- the step of a place, and its area
+  module _ (areas : List Rectangle) (are : AreAreas final steps areas) (k : ℕ) (n : Node) (area : Rectangle) (below : k < length areas) (step : n ≡ get_or steps k n) (its : area ≡ get_or areas k area) where
+    within : k < length steps
+    within = subst (λ m. k < m) are.count below
+
+    pub step_in : In n steps
+    step_in = subst (λ m. In m steps) (sym step) (In-at steps k n within)
+
+    pub first_whole : IfSome n.out1 (λ c. c.slot ≡ None)
+    first_whole = outputs_whole n step_in n.out1 (λ c j. In-left c (given n.out1) (given n.out2) j)
+
+    pub second_whole : IfSome n.out2 (λ c. c.slot ≡ None)
+    second_whole = outputs_whole n step_in n.out2 (λ c j. In-right c (given n.out1) (given n.out2) j)
+
+    pub step_settled : (now mid new : List Named) → mid ≡ with_area area n.out1 now → new ≡ with_area area n.out2 mid
+        → AreSettled v objects final (take k steps) now → AreSettled v objects final (take (k + 1) steps) new
+    step_settled now mid new first second s =
+        let more : take (k + 1) steps ≡ take k steps ++ n ∷ [] = take_more steps k n within ∙ ap (λ m. take k steps ++ m ∷ []) (sym step) in
+        let valid = are.each k n area (slice_get-get_or steps k n within ∙ ap Some (sym step)) (slice_get-get_or areas k area below ∙ ap Some (sym its)) in
+        subst (λ l. AreSettled v objects final l new) (sym more)
+        (subst (λ l. AreSettled v objects final (take k steps ++ n ∷ []) l) (sym (second ∙ ap (with_area area n.out2) first))
+        (node_settled n step_in area (take k steps) now s valid))
+
+  pub all_settled : (areas : List Rectangle) → AreAreas final steps areas → (k : ℕ) → length areas ≤ k → (now : List Named) → AreSettled v objects final (take k steps) now
+      → now ≡ run_of_graph (resolved (operand_held objects) nodes) nodes objects
+  all_settled areas are k past now s =
+      settled_ends now (subst (λ l. AreSettled v objects final l now) (take_all k steps (subst (λ m. m ≤ k) are.count past)) s)
+
+  -- ---- the begin
+
+  -- as the run begins, none of the rows of what will be written needs to be right
+  pub begins_finished : IsFinished (λ _. 0) v objects final objects
+  begins_finished =
+      record {
+        labels = refl;
+        others = λ name none. refl;
+        targets = λ name target.
+            let parts = and_parts (is_written steps (cell_of name)) (not (is_virtual_name v name)) target in
+            let same = (begins objects nodes v r.ready).same name (inl (unnamed (is_virtual_name v name) parts.1)) in
+            let n = writer_of name target in
+            let image = final_image name (out_height objects nodes v height beside r n.0 n.1 (cell_of name) (In-from_same (cell_of name) (outputs n.0) n.2)).2 in
+            let lasts = held-lasts (begin objects nodes v r.ready) final name (final_lasts objects nodes v height beside r).lasting in
+            none_yet (object_held objects name) (object_held final name) image.0 image.1 (lasts ∙ ap (option_map lasting) (sym same));
+      }
+    where
+      unnamed : (b : Bool) → not b ≡ true → b ≡ false
+      unnamed true e = absurd (cc e)
+      unnamed false e = refl
+
+      final_image : (name : ℕ) → HoldsImage final (cell_of name) → (f : ImageValue) × (object_held final name ≡ Some (ImageObject f))
+      final_image name h = image_of (object_held final name) h
+
+  -- ---- what lasts
+
+  pub lasts_in_the_end : Lasts objects (run_of_graph (resolved (operand_held objects) nodes) nodes objects)
+  lasts_in_the_end =
+      let known = resolved (operand_held objects) nodes in
+      let ended = run_in_order r.ready.runs.0 (operand_held objects) nodes r.ready.runs.1 objects r.ready.cells (pairs_of objects r.names) steps r.ready.verified.order in
+      subst (λ l. Lasts objects l) (sym ended)
+      (record {
+        objects =
+            All-from_In (λ (o : Named). IsObject o.object) (forgotten objects final)
+            (λ o i. elim (in_forgotten objects final o i) [
+              | inl old ↦ In-from_All (λ (p : Named). IsObject p.object) objects r.are_objects o old
+              | inr new ↦ In-from_All (λ (p : Named). IsObject p.object) final (final_are objects nodes v height beside r) o new
+            ]);
+        lasting = forgotten_lasts known nodes objects final (final_lasts objects nodes v height beside r).lasting;
+      })

@@ -1,0 +1,132 @@
+-- A node that runs on the rows of a strip: what it sees, and what it makes.
+use Rattle.std.proofs.Common.{◌≡◌, ◌≢◌, ℕ, ◌+◌, ◌≤◌, Bool, true, false, List, [], ◌∷◌, ◌++◌, Option, Some, None, IfSome, refl, sym, ap, subst, ◌∙◌, arith}
+use Rattle.std.specs.Prelude.{IsTrue, is_some, sum_by, unwrap_or, All}
+use Rattle.std.specs.Option.{option_map, option_and_then}
+use Rattle.std.proofs.lemmas.Bool.Decides.{nat_tests}
+use Rattle.std.proofs.lemmas.List.Sums.{sum_by-append}
+use Rattle.vx_base.specs.declared.kind.Kind.TheVariants as kind
+use Rattle.vx_base.specs.declared.node.Node.{Node}
+use Rattle.vx_base.specs.declared.output.Output.{Output}
+use Rattle.vx_base.specs.Cell.{Cell}
+use Rattle.vx_base.specs.Description.{Description}
+use Rattle.vx_base.specs.Function.{parameters, accumulates}
+use Rattle.vx_base.specs.Image.{ImageValue, IsImage, description_of}
+use Rattle.vx_base.specs.Object.{ObjectValue, ImageObject, IsObject, object_kind}
+use Rattle.vx_base.specs.Outputs.{node_image}
+use Rattle.object_table.specs.Named.{Named, held, object_held}
+use Rattle.object_table.specs.Object.{image_value}
+use Rattle.object_table.specs.Table.{cell_object, image_held, HoldsImage}
+use Rattle.node_rows.specs.Parts.{StandsFor, StandsBeside, HasInputs, first_right, end_right}
+use Rattle.node_rows.specs.Reach.{reach, matrix_in}
+use Rattle.node_rows.proofs.PartRowLaws.{node_right}
+use Rattle.graph_run.specs.declared.bands.Strip.{Strip}
+use Rattle.graph_run.specs.declared.stage.Stage.{Stage}
+use Rattle.graph_run.specs.Bands.{seen, part_made, SeesParts, HasPlaceIn, IsSeen, IsStrip, rows_beside, right_from, right_to}
+use Rattle.graph_run.specs.Stage.{scene, slot_of}
+use Rattle.graph_run.specs.Steps.{AreApart, Holds, RunsTo}
+use Rattle.graph_run.proofs.OutputLemmas.{can_run}
+use Rattle.graph_run.proofs.StepLemmas.{nothing}
+use Rattle.graph_run.proofs.SeesLemmas.{SeesImage, SeesBeside, second_stands, second_holds, second_is, second_read, second_rows, parts_can_run}
+
+-- an output that is an image, as wide as it is in the end, of the same format
+pub record HasPlace (strip : Strip) (s : Stage) (final : List Named) (cell : Cell) : Type 0 where
+  pub here : HoldsImage (scene s).objects cell
+  pub is : IsImage (image_held (scene s).objects cell)
+  pub wide : (image_held (scene s).objects cell).width ≡ (image_held final cell).width
+  pub format : (image_held (scene s).objects cell).format ≡ (image_held final cell).format
+  pub place : HasPlaceIn (slot_of s.slots.items cell.name) strip (image_held (scene s).objects cell)
+
+module _ (objects final : List Named) (height beside : ℕ) (strip : Strip) (is_strip : IsStrip height beside strip) where
+  module _ (s : Stage) (before : List Node) (n : Node) (which : Output) (c : Cell)
+      (first : SeesImage strip.rows (right_from objects before strip.rows) (right_to objects height before strip.rows) s.slots.items (scene s).objects final n.in1)
+      (second : IfSome n.in2 (SeesBeside strip.rows (right_from objects before strip.rows) (right_to objects height before strip.rows) s.slots.items (scene s).objects final))
+      (out : HasPlace strip s final c) (runs : RunsTo final n c) (images : (parameters n.function).output ≡ kind.Image) (plain : accumulates n.function ≡ false) where
+    abbrev seconds : Option ObjectValue
+    seconds = option_map (cell_object final) n.in2
+
+    stands_beside : StandsBeside strip.rows.start strip.rows.count (right_from objects before strip.rows) (right_to objects height before strip.rows) (option_map (seen strip.rows s) n.in2) seconds
+    stands_beside = second_stands strip.rows (right_from objects before strip.rows) (right_to objects height before strip.rows) s.slots.items (scene s).objects final n.in2 second
+
+    stands_first : StandsFor strip.rows.start strip.rows.count (right_from objects before strip.rows) (right_to objects height before strip.rows) (image_value (seen strip.rows s n.in1)) (image_held final n.in1)
+    stands_first = rw (first.seen_is, first.ends_as) first.stands
+
+    some_rows : 1 ≤ strip.rows.count
+    some_rows = omega (arith, is_strip.some, is_strip.within.above, is_strip.within.below)
+
+    -- it can run
+    sees_parts : SeesParts strip.rows s n c
+    sees_parts =
+        record {
+          in1 = first.here;
+          in2 = second_holds strip.rows (right_from objects before strip.rows) (right_to objects height before strip.rows) s.slots.items (scene s).objects final n.in2 second;
+          out = out.here;
+          first = first.here_is;
+          second = second_is strip.rows (right_from objects before strip.rows) (right_to objects height before strip.rows) s.slots.items (scene s).objects final n.in2 second;
+          second_kind = second_read strip.rows (right_from objects before strip.rows) (right_to objects height before strip.rows) s.slots.items (scene s).objects final n.in2 second n runs.runs.second_kind;
+          out_image = out.is;
+          some_rows = some_rows;
+          in1_rows = first.has_rows;
+          in2_rows = second_rows strip.rows (right_from objects before strip.rows) (right_to objects height before strip.rows) s.slots.items (scene s).objects final n.in2 second;
+          in1_apart = runs.in1_apart;
+          in2_apart = runs.in2_apart;
+          plain = plain;
+          can_run =
+              parts_can_run n strip.rows.start strip.rows.count (right_from objects before strip.rows) (right_to objects height before strip.rows) (image_value (seen strip.rows s n.in1)) (image_held final n.in1)
+              (option_map (seen strip.rows s) n.in2) seconds (image_held final c) _
+              (can_run n (cell_object final n.in1) seconds (cell_object final c) runs.runs (runs.runs.out_kind ∙ images)) stands_first stands_beside
+              (described (image_held (scene s).objects c) (image_held final c) out.wide out.format);
+        }
+      where
+        described : (a b : ImageValue) → a.width ≡ b.width → a.format ≡ b.format
+            → ◌≡◌ {A = Description} (record { width = a.width; height = strip.rows.count; format = a.format }) (record { width = b.width; height = strip.rows.count; format = b.format })
+        described a b w f = cc
+
+    pub is_seen : IsSeen strip s n c
+    is_seen = (sees_parts, out.place)
+
+    -- what it makes stands for what comes in the end
+    module _ (high : (image_held final n.in1).height ≡ height) (given : HasInputs n.function seconds) (near : IsTrue (is_some (reach n.function (matrix_in seconds))))
+        (rows : unwrap_or (reach n.function (matrix_in seconds)) 0 ≡ rows_beside objects n) (seconds_are : IfSome seconds IsObject)
+        (ends : held final c ≡ Some (ImageObject (node_image n which (image_held final c).format (image_held final n.in1) seconds))) where
+      abbrev made : ImageValue
+      made = part_made strip.rows s n which c
+
+      reaches : (found : Option ℕ) → IsTrue (is_some found) → unwrap_or found 0 ≡ rows_beside objects n → found ≡ Some (rows_beside objects n)
+      reaches x is e = grind arith
+
+      end_image : image_held final c ≡ node_image n which (image_held final c).format (image_held final n.in1) seconds
+      end_image = ap (λ o. image_value (unwrap_or o nothing)) ends
+
+      together : sum_by (rows_beside objects) (before ++ n ∷ []) ≡ sum_by (rows_beside objects) before + rows_beside objects n
+      together = grind (arith, sum_by-append (rows_beside objects) before (n ∷ []))
+
+      -- and right in the rows of the band, once all nodes look no further than the strip has rows
+      module _ (in1_is : IsImage (image_value (seen strip.rows s n.in1))) (end_is : IsImage (image_held final n.in1)) where
+        pub made_stands : StandsFor strip.rows.start strip.rows.count (right_from objects (before ++ n ∷ []) strip.rows) (right_to objects height (before ++ n ∷ []) strip.rows) made (image_held final c)
+        made_stands =
+            let far = reaches (reach n.function (matrix_in seconds)) near rows in
+            let right = node_right n which (image_held final c).format (image_value (seen strip.rows s n.in1)) (image_held final n.in1) (rows_beside objects n) strip.rows.start strip.rows.count (right_from objects before strip.rows) (right_to objects height before strip.rows)
+            in1_is end_is stands_first (option_map (seen strip.rows s) n.in2) seconds seconds_are given far stands_beside in
+            stands_as right (ap (λ f. node_image n which f (image_value (seen strip.rows s n.in1)) (option_map (seen strip.rows s) n.in2)) (sym out.format)) (sym end_image) from_is to_is
+          where
+            from_is : first_right (rows_beside objects n) (right_from objects before strip.rows) ≡ right_from objects (before ++ n ∷ []) strip.rows
+            from_is = above (sum_by (rows_beside objects) before) (rows_beside objects n) strip.rows.start ∙ ap (λ t. first_right t strip.rows.start) (sym together)
+              where
+                above : (near far from : ℕ) → first_right far (first_right near from) ≡ first_right (near + far) from
+                above near far from = grind (arith, nat_tests)
+
+            to_is : end_right (rows_beside objects n) (image_held final n.in1).height (right_to objects height before strip.rows) ≡ right_to objects height (before ++ n ∷ []) strip.rows
+            to_is =
+                ap (λ h. end_right (rows_beside objects n) h (right_to objects height before strip.rows)) high
+                ∙ below (sum_by (rows_beside objects) before) (rows_beside objects n) height (strip.rows.start + strip.rows.count) is_strip.rows
+                ∙ ap (λ t. end_right t height (strip.rows.start + strip.rows.count)) (sym together)
+              where
+                below : (near far height to : ℕ) → to ≤ height → end_right far height (end_right near height to) ≡ end_right (near + far) height to
+                below near far height to less = grind (arith, nat_tests)
+
+            stands_as : {f g t u : ℕ} {a b : ImageValue} → StandsFor strip.rows.start strip.rows.count f t a b → {x y : ImageValue} → a ≡ x → b ≡ y → f ≡ g → t ≡ u → StandsFor strip.rows.start strip.rows.count g u x y
+            stands_as {f} {g} {t} {u} {a} {b} h {x} {y} one other from to =
+                subst (λ i. StandsFor strip.rows.start strip.rows.count g i x y) to
+                (subst (λ i. StandsFor strip.rows.start strip.rows.count i t x y) from
+                (subst (λ i. StandsFor strip.rows.start strip.rows.count f t x i) other
+                (subst (λ i. StandsFor strip.rows.start strip.rows.count f t i b) one h)))

@@ -1,0 +1,522 @@
+-- The nodes of a graph on the rows of a strip, one after the other.
+use Rattle.std.proofs.Common.{◌≡◌, ◌≢◌, ℕ, ◌+◌, ◌*◌, ◌≤◌, ◌<◌, Bool, true, false, List, [], ◌∷◌, ◌++◌, map, length, take, drop, get_or, Option, Some, None, ◌⊎◌, inl, inr, IfSome, refl, sym, ap, subst, ◌∙◌, arith}
+use Rattle.std.specs.Prelude.{IsTrue, unwrap_or, All, ◌==◌, ◌||◌, ◌&&◌, not, sum_by, slice_get, if◌then◌else◌}
+use Rattle.std.specs.List.{list_any}
+use Rattle.std.specs.Option.{option_map, option_and_then}
+use Rattle.std.proofs.lemmas.List.{take-append-drop, take_more, take_all, drop_more}
+use Rattle.std.proofs.lemmas.List.Folds.{list_any-append}
+use Rattle.std.proofs.lemmas.List.Sums.{sum_by-append}
+use Rattle.std.proofs.lemmas.Bool.{cases_Bool, eqb-true, eq-eqb, or_left, or_right, and_parts, and_from, false_from_ne_true}
+use Rattle.vx_base.specs.declared.kind.Kind.TheVariants as kind
+use Rattle.vx_base.specs.declared.node.Node.{Node}
+use Rattle.vx_base.specs.declared.output.Output.TheVariants.{First, Second}
+use Rattle.vx_base.specs.Cell.{Cell, cell_of}
+use Rattle.vx_base.specs.Description.{Description}
+use Rattle.vx_base.specs.Image.{ImageValue, IsImage, description_of}
+use Rattle.vx_base.specs.Node.{outputs, given}
+use Rattle.vx_base.specs.Object.{ObjectValue, ImageObject, VirtualObject, IsObject, object_kind}
+use Rattle.object_table.specs.Context.{with_objects}
+use Rattle.object_table.specs.Delay.{in_slot}
+use Rattle.object_table.specs.Named.{Named, held, object_held}
+use Rattle.object_table.specs.Object.{image_value}
+use Rattle.object_table.specs.Table.{cell_object, image_held, HoldsImage}
+use Rattle.graph_verify.specs.declared.known.VirtualOutput.{VirtualOutput}
+use Rattle.graph_verify.specs.declared.verified.Verified.{Verified}
+use Rattle.graph_verify.specs.Links.{reads, writes, is_written}
+use Rattle.graph_verify.specs.Members.{In}
+use Rattle.buffer_plan.specs.Lives.{is_used}
+use Rattle.buffer_plan.specs.Plan.{PlanValue}
+use Rattle.graph_run.specs.declared.bands.Strip.{Strip}
+use Rattle.graph_run.specs.declared.stage.Slot.{Slot}
+use Rattle.graph_run.specs.declared.stage.Stage.{Stage}
+use Rattle.graph_run.specs.Bands.{RunsInBands, final_of, IsStrip, is_virtual_name, is_target, IsFinished, RowsAreAs, rows_by_now, IsPartOf, output_part, right_from, right_to, HasPlaceIn, IsSeen, with_seen}
+use Rattle.graph_run.specs.Slots.{AreShared, room_of, planned_rooms, AreEmpty}
+use Rattle.graph_run.specs.Solution.{label_of}
+use Rattle.graph_run.specs.Stage.{scene, shown, slot_of, standing_image, IsStage, HoldsVirtual, Keeps, virtual_named}
+use Rattle.graph_run.specs.Steps.{RunsTo}
+use Rattle.graph_run.specs.Turns.{AreVirtual}
+use Rattle.object_table.proofs.SkeletonLaws.{map-told}
+use Rattle.graph_verify.proofs.LinkLemmas.{same_cell-refl, same_cell-true}
+use Rattle.graph_verify.proofs.MemberLemmas.{In-right, In-from_any, any-from_In}
+use Rattle.vx_base.specs.Cell.{same_cell}
+use Rattle.vx_base.specs.Node.{second_kind}
+use Rattle.object_table.proofs.HeldLemmas.{held_is}
+use Rattle.node_rows.proofs.PartLaws.{stands_fewer}
+use Rattle.node_rows.proofs.PartLookLaws.{first_within, end_within}
+use Rattle.graph_run.proofs.BandLemmas.{right_above, right_below}
+use Rattle.graph_run.specs.Bands.{rows_beside}
+use Rattle.graph_run.specs.Turns.{HoldsKind}
+use Rattle.graph_run.proofs.ClaimLemmas.{virtual_there}
+use Rattle.graph_run.proofs.FinalLemmas.{final_are, final_can, in_height, out_height, second_height, real_read, virtual_read, virtual_here, virtual_image, written_later}
+use Rattle.graph_run.proofs.FoundLemmas.{OfOperands, of_operands}
+use Rattle.graph_run.proofs.LinkLaws.{All-from_In, In-from_All, reads_first, reads_second}
+use Rattle.graph_run.proofs.StageLemmas.{found_as_it_is}
+use Rattle.buffer_plan.specs.Plan.{IsPlan}
+use Rattle.graph_run.specs.Slots.{claimed_at}
+use Rattle.graph_run.proofs.PartClaimLemmas.{PartsClaimed, first_part_shared, parts_claimed}
+use Rattle.graph_run.proofs.SceneLemmas.{IsItsTurn, turn_of, stays_virtual, shared_stay, written_stay}
+use Rattle.graph_run.proofs.VerifiedLemmas.{are_virtual}
+use Rattle.graph_run.proofs.StepLemmas.{nothing, forgotten_kept, none_standing, Keeps-trans}
+use Rattle.graph_run.proofs.SharingLemmas.{WereWritten, name_of_output}
+use Rattle.graph_run.proofs.SeesLemmas.{SeesImage, SeesObject, SeesBeside, sees_standing, sees_rows}
+use Rattle.graph_run.proofs.StripLemmas.{HasPlace}
+use Rattle.graph_run.proofs.StripStepLemmas.{SeesInputs, IsOpen, AsMade, HasRun, slots_alike, none_back, first_seen, second_seen, has_run}
+
+-- what is shown as an image and is virtual stands in a slot
+stands_somewhere : (slots : List Slot) (l : List Named) (name : ℕ) (image : ImageValue) → HoldsVirtual l name → object_held (shown slots l) name ≡ Some (ImageObject image)
+    → (s : Slot) × (slot_of slots name ≡ Some s)
+stands_somewhere slots l name image virtual found = by_slot (slot_of slots name) refl
+  where
+    by_slot : (s : Option Slot) → slot_of slots name ≡ s → (t : Slot) × (slot_of slots name ≡ Some t)
+    by_slot (Some s) e = (s, e)
+    by_slot None e =
+        let there = virtual_there l name virtual in
+        let as_it_was : object_held (shown slots l) name ≡ Some (VirtualObject there.0) = found_as_it_is slots l name e ∙ there.1 in
+        absurd (cc)
+
+-- a cell as a whole
+one_cell : (a b : Cell) → a.name ≡ b.name → a.slot ≡ None → b.slot ≡ None → a ≡ b
+one_cell a b name one other = grind (arith, name, one, other)
+
+whole_held : (l : List Named) (c : Cell) → c.slot ≡ None → (a : ImageValue) → object_held l c.name ≡ Some (ImageObject a) → held l c ≡ Some (ImageObject a)
+whole_held l c none a e = grind (arith, none, e)
+
+-- two images, of which one has rows of the other
+as_image : (now final : Option ObjectValue) (y : ℕ) → RowsAreAs y now final
+    → (i : ImageValue) × (f : ImageValue) × (now ≡ Some (ImageObject i)) × (final ≡ Some (ImageObject f)) × (description_of i ≡ description_of f)
+as_image (Some (ImageObject i)) (Some (ImageObject f)) y rows = (i, f, refl, refl, rows.0)
+as_image x z y rows = grind (arith, rows)
+
+and_false : (a b : Bool) → b ≡ true → (a && not b) ≡ false
+and_false a b e = grind arith
+
+not_true : (b : Bool) → not b ≡ true → b ≡ false
+not_true b e = grind arith
+
+none_or : (a b : Bool) → b ≡ false → (a || b) ≡ a
+none_or a b e = grind arith
+
+-- what a node writes is one of its outputs
+output_in : (n : Node) (c : Cell) → writes n c ≡ true → In c (outputs n)
+output_in n c w = let found = In-from_any (same_cell c) (outputs n) w in subst (λ q. In q (outputs n)) (sym (same_cell-true c found.0 found.2)) found.1
+
+module _ (objects : List Named) (nodes : List Node) (v : Verified) (height beside : ℕ) (r : RunsInBands objects nodes v height beside) (strip : Strip) (is_strip : IsStrip height beside strip) where
+  abbrev final : List Named
+  final = final_of objects nodes v
+
+  abbrev outs : List VirtualOutput
+  outs = v.virtual_outputs.items
+
+  module _ (before after : List Node) (n : Node) (parts : v.steps.items ≡ before ++ n ∷ after) where
+    abbrev in_steps : In n v.steps.items
+    in_steps = subst (λ l. In n l) (sym parts) (In-right n before (n ∷ after) (inl refl))
+
+    -- an output that has claimed its slot: what stands there is of its description, by the rows of the strip
+    pub record HasClaimed (s : Stage) (o : VirtualOutput) : Type 0 where
+      pub image : ImageValue
+      pub there : object_held (scene s).objects o.cell.name ≡ Some (ImageObject image)
+      pub described : description_of image ≡ (output_part strip.rows.count o).desc
+      pub slot : Slot
+      pub found : slot_of s.slots.items o.cell.name ≡ Some slot
+
+    -- a stage as a node finds it
+    pub record IsClaimed (s : Stage) : Type 0 where
+      pub is : IsStage s
+      pub virtual : AreVirtual s.table.objects outs
+      pub finished : IsFinished (rows_by_now before strip) v objects final s.table.objects
+      pub stood : (o : VirtualOutput) → In o outs → is_written before o.cell ≡ true → is_used (n ∷ after) o.cell ≡ true
+          → IsPartOf objects height before strip.rows (object_held (scene s).objects o.cell.name) (object_held final o.cell.name)
+      pub claimed : (o : VirtualOutput) → In o outs → writes n o.cell ≡ true → HasClaimed s o
+      pub real : (name : ℕ) → is_virtual_name v name ≡ false → slot_of s.slots.items name ≡ None
+
+    module _ (s : Stage) (h : IsClaimed s) where
+      abbrev now : List Named
+      now = (scene s).objects
+
+      -- ---- what it reads
+
+      final_image : (cell : Cell) → HoldsImage final cell → held final cell ≡ Some (ImageObject (image_held final cell))
+      final_image cell image = grind (arith, image)
+
+      final_image_is : (cell : Cell) → HoldsImage final cell → IsImage (image_held final cell)
+      final_image_is cell image = of_held (held final cell) (held_is final cell (final_are objects nodes v height beside r)) image
+        where
+          of_held : (o : Option ObjectValue) → IfSome o IsObject → option_map object_kind o ≡ Some kind.Image → IsImage (image_value (unwrap_or o nothing))
+          of_held x is e = grind arith
+
+      -- a client's object is what it is in the end
+      real_held : (cell : Cell) → reads n cell ≡ true → is_virtual_name v cell.name ≡ false → held now cell ≡ held final cell
+      real_held cell rd real =
+          let same = real_read objects nodes v height beside r n in_steps cell rd real in
+          ap (option_and_then (in_slot cell.slot))
+          (found_as_it_is s.slots.items s.table.objects cell.name (h.real cell.name real) ∙ h.finished.others cell.name same.1 ∙ sym same.0)
+
+      reads_image : (cell : Cell) → reads n cell ≡ true → HoldsImage final cell → (image_held final cell).height ≡ height
+          → SeesImage strip.rows (right_from objects before strip.rows) (right_to objects height before strip.rows) s.slots.items now final cell
+      reads_image cell rd image high = elim (cases_Bool (is_virtual_name v cell.name)) [
+        | inl virtual ↦
+            (let from = virtual_read objects nodes v height beside r before after n parts cell rd virtual in
+            let o = from.0 in
+            let here = virtual_here objects nodes v height beside r o from.1 in
+            let name : cell.name ≡ o.cell.name = ap (λ (c : Cell). c.name) from.2 in
+            let used : is_used (n ∷ after) o.cell ≡ true = or_left (reads n o.cell || writes n o.cell) (is_used after o.cell) (or_left (reads n o.cell) (writes n o.cell) (ap (reads n) (sym from.2) ∙ rd)) in
+            let stood = h.stood o from.1 (ap (is_written before) (sym from.2) ∙ from.3) used in
+            let slot = stands_somewhere s.slots.items s.table.objects o.cell.name stood.part (In-from_All (λ (q : VirtualOutput). HoldsVirtual s.table.objects q.cell.name) outs h.virtual.held o from.1) stood.there in
+            let none : cell.slot ≡ None = ap (λ (c : Cell). c.slot) (from.2 ∙ here.0) in
+            let now_is : held now cell ≡ Some (ImageObject stood.part) = whole_held now cell none stood.part (ap (object_held now) name ∙ stood.there) in
+            let final_is : held final cell ≡ Some (ImageObject stood.image) = whole_held final cell none stood.image (ap (object_held final) name ∙ stood.in_the_end) in
+            sees_standing strip.rows (right_from objects before strip.rows) (right_to objects height before strip.rows) s.slots.items now final cell stood.part stood.image slot.0
+            (ap (slot_of s.slots.items) name ∙ slot.1) now_is final_is stood.part_is
+            (subst (λ (o : Option ObjectValue). IsImage (image_value (unwrap_or o nothing))) final_is (final_image_is cell image)) stood.stands)
+        | inr real ↦
+            sees_rows strip.rows (right_from objects before strip.rows) (right_to objects height before strip.rows) s.slots.items now final cell (image_held final cell) (h.real cell.name real)
+            (real_held cell rd real ∙ final_image cell image) (final_image cell image) (final_image_is cell image)
+            (omega (arith, is_strip.rows, high)) (first_within (sum_by (rows_beside objects) before) strip.rows.start)
+            (end_within (sum_by (rows_beside objects) before) height (strip.rows.start + strip.rows.count))
+      ]
+
+      -- what it can read in the end
+      can_read : OfOperands (HoldsKind final) n
+      can_read = of_operands (HoldsKind final) n (final_can objects nodes v height beside r n in_steps).kinds
+
+      reads_beside : (cell : Cell) → n.in2 ≡ Some cell → SeesBeside strip.rows (right_from objects before strip.rows) (right_to objects height before strip.rows) s.slots.items now final cell
+      reads_beside cell e = of_object (held final cell) refl (subst (λ (o : Option Cell). IfSome o (λ c. HoldsKind final (c, second_kind n))) e can_read.in2)
+        where
+          rd : reads n cell ≡ true
+          rd = reads_second n cell e
+
+          of_other : (object : ObjectValue) → held final cell ≡ Some object → object_kind object ≢ kind.Image
+              → SeesBeside strip.rows (right_from objects before strip.rows) (right_to objects height before strip.rows) s.slots.items now final cell
+          of_other object there other = inr (
+            record {
+              object = object;
+              here = real_held cell rd (false_from_ne_true (is_virtual_name v cell.name) (λ virtual.
+                  let from = virtual_read objects nodes v height beside r before after n parts cell rd virtual in
+                  let image = virtual_image objects nodes v height beside r from.0 from.1 in
+                  other (kind_of object (ap (option_map object_kind) (sym there) ∙ ap (λ c. option_map object_kind (held final c)) from.2 ∙ image)))) ∙ there;
+              ends_as = there;
+              other = other;
+              is = subst (λ (o : Option ObjectValue). IfSome o IsObject) there (held_is final cell (final_are objects nodes v height beside r));
+            })
+            where
+              kind_of : (x : ObjectValue) → option_map object_kind (Some x) ≡ Some kind.Image → object_kind x ≡ kind.Image
+              kind_of x f = grind arith
+
+          of_object : (o : Option ObjectValue) → held final cell ≡ o → option_map object_kind (held final cell) ≡ Some (second_kind n)
+              → SeesBeside strip.rows (right_from objects before strip.rows) (right_to objects height before strip.rows) s.slots.items now final cell
+          of_object None there of_kind = absurd (cc)
+          of_object (Some (ImageObject image)) there of_kind =
+              let holds : HoldsImage final cell = ap (option_map object_kind) there in
+              inl (reads_image cell rd holds (second_height objects nodes v height beside r n in_steps cell e holds))
+          of_object (Some other) there of_kind = of_other other there (λ image. grind arith)
+
+      pub sees_inputs : SeesInputs objects nodes v height beside r strip is_strip before after n parts s
+      sees_inputs =
+          record {
+            first = reads_image n.in1 (reads_first n) can_read.in1 (in_height objects nodes v height beside r n in_steps);
+            second = each n.in2 reads_beside;
+          }
+        where
+          each : (second : Option Cell) → ((cell : Cell) → second ≡ Some cell → SeesBeside strip.rows (right_from objects before strip.rows) (right_to objects height before strip.rows) s.slots.items now final cell)
+              → IfSome second (SeesBeside strip.rows (right_from objects before strip.rows) (right_to objects height before strip.rows) s.slots.items now final)
+          each None f = tt
+          each (Some cell) f = f cell refl
+
+      -- ---- what it writes
+
+      pub output_open : (c : Cell) → In c (outputs n) → IsOpen objects nodes v height beside r strip is_strip before after n parts s c
+      output_open c i =
+          let high = out_height objects nodes v height beside r n in_steps c i in
+          elim (cases_Bool (is_virtual_name v c.name)) [ | inl virtual ↦ of_virtual high.1 virtual | inr real ↦ of_real high.1 high.2 real ]
+        where
+          is_image : (image : ImageValue) → held now c ≡ Some (ImageObject image) → IsImage (image_held now c)
+          is_image image here = grind (arith, here, subst (λ (o : Option ObjectValue). IfSome o IsObject) here (held_is now c h.is.objects))
+
+          of_virtual : c.slot ≡ None → is_virtual_name v c.name ≡ true → IsOpen objects nodes v height beside r strip is_strip before after n parts s c
+          of_virtual none virtual =
+              let found = In-from_any (λ (q : VirtualOutput). c.name == q.cell.name) outs virtual in
+              let o = found.0 in
+              let ends = virtual_here objects nodes v height beside r o found.1 in
+              let name : c.name ≡ o.cell.name = eqb-true c.name o.cell.name found.2 in
+              let same : c ≡ o.cell = one_cell c o.cell name none (ap (λ (q : Cell). q.slot) ends.0) in
+              let writer : writes n o.cell ≡ true = ap (writes n) (sym same) ∙ any-from_In (same_cell c) c (outputs n) i (same_cell-refl c) in
+              let claimed = h.claimed o found.1 writer in
+              let here : held now c ≡ Some (ImageObject claimed.image) = whole_held now c none claimed.image (ap (object_held now) name ∙ claimed.there) in
+              let image : image_held now c ≡ claimed.image = grind (arith, here) in
+              let desc : description_of (image_held final c) ≡ o.desc = ap (λ q. description_of (image_held final q)) same ∙ ends.2 in
+              record {
+                place =
+                    record {
+                      here = ap (option_map object_kind) here;
+                      is = is_image claimed.image here;
+                      wide = ap (λ (a : ImageValue). a.width) image ∙ ap (λ (d : Description). d.width) claimed.described ∙ sym (ap (λ (d : Description). d.width) desc);
+                      format = ap (λ (a : ImageValue). a.format) image ∙ ap (λ (d : Description). d.format) claimed.described ∙ sym (ap (λ (d : Description). d.format) desc);
+                      place = rw (ap (slot_of s.slots.items) name ∙ claimed.found) (ap (λ (a : ImageValue). a.height) image ∙ ap (λ (d : Description). d.height) claimed.described);
+                    };
+                virtual = λ _. (claimed.slot, ap (slot_of s.slots.items) name ∙ claimed.found);
+                real = λ real. absurd (cc);
+              }
+
+          of_real : c.slot ≡ None → HoldsImage final c → is_virtual_name v c.name ≡ false → IsOpen objects nodes v height beside r strip is_strip before after n parts s c
+          of_real none image real =
+              let writer : writes n c ≡ true = any-from_In (same_cell c) c (outputs n) i (same_cell-refl c) in
+              let itself : cell_of c.name ≡ c = one_cell (cell_of c.name) c refl refl none in
+              let target : is_target v c.name ≡ true = and_from (is_written v.steps.items (cell_of c.name)) (not (is_virtual_name v c.name)) (any-from_In (λ m. writes m (cell_of c.name)) n v.steps.items in_steps (ap (writes n) itself ∙ writer)) (ap not real) in
+              let not_yet : is_written before (cell_of c.name) ≡ false = false_from_ne_true (is_written before (cell_of c.name)) (λ early. written_later objects nodes v height beside r before after n parts c writer (ap (is_written before) (sym itself) ∙ early)) in
+              let slot = h.real c.name real in
+              let before_band : RowsAreAs strip.band.start (object_held s.table.objects c.name) (object_held final c.name) =
+              subst (λ y. RowsAreAs y (object_held s.table.objects c.name) (object_held final c.name)) (ap (λ (b : Bool). if b then strip.band.start + strip.band.count else strip.band.start) not_yet) (h.finished.targets c.name target) in
+              let found : object_held now c.name ≡ object_held s.table.objects c.name = found_as_it_is s.slots.items s.table.objects c.name slot in
+              let old = as_image (object_held s.table.objects c.name) (object_held final c.name) strip.band.start before_band in
+              let here : held now c ≡ Some (ImageObject old.0) = whole_held now c none old.0 (found ∙ old.2) in
+              let there : held final c ≡ Some (ImageObject old.1) = whole_held final c none old.1 old.3 in
+              let image_now : image_held now c ≡ old.0 = grind (arith, here) in
+              let image_end : image_held final c ≡ old.1 = grind (arith, there) in
+              record {
+                place =
+                    record {
+                      here = ap (option_map object_kind) here;
+                      is = is_image old.0 here;
+                      wide = ap (λ (a : ImageValue). a.width) image_now ∙ ap (λ (d : Description). d.width) old.4 ∙ sym (ap (λ (a : ImageValue). a.width) image_end);
+                      format = ap (λ (a : ImageValue). a.format) image_now ∙ ap (λ (d : Description). d.format) old.4 ∙ sym (ap (λ (a : ImageValue). a.format) image_end);
+                      place = rw slot (omega (arith, is_strip.rows, ap (λ (a : ImageValue). a.height) image_now ∙ ap (λ (d : Description). d.height) old.4 ∙ sym (ap (λ (a : ImageValue). a.height) image_end) ∙ (out_height objects nodes v height beside r n in_steps c i).0));
+                    };
+                virtual = λ virtual. absurd (cc);
+                real = λ _. (slot, subst (λ o. RowsAreAs strip.band.start o (object_held final c.name)) (sym found) before_band);
+              }
+
+    -- ---- once it has run
+
+    module _ (s later : Stage) (h : IsClaimed s) (is_later : IsStage later) (keeps : Keeps s later)
+        (run : HasRun objects nodes v height beside r strip is_strip before after n parts s later) where
+      abbrev done : List Node
+      done = before ++ n ∷ []
+
+      -- a name that its outputs don't have
+      other_output : (name : ℕ) → writes n (cell_of name) ≡ false → (c : Cell) → In c (outputs n) → name ≢ c.name
+      other_output name none c i same =
+          let none_slot = (out_height objects nodes v height beside r n in_steps c i).1 in
+          let itself : c ≡ cell_of name = one_cell c (cell_of name) (sym same) none_slot refl in
+          let some : writes n (cell_of name) ≡ true = any-from_In (same_cell (cell_of name)) c (outputs n) i (subst (λ q. same_cell q c ≡ true) itself (same_cell-refl c)) in
+          cc
+
+      written_done : (c : Cell) → is_written done c ≡ (is_written before c || writes n c)
+      written_done c = grind (arith, list_any-append (λ m. writes m c) before (n ∷ []))
+
+      -- what a client holds is what is found
+      real_found : (name : ℕ) → is_virtual_name v name ≡ false → object_held (scene later).objects name ≡ object_held later.table.objects name
+      real_found name real =
+          found_as_it_is later.slots.items later.table.objects name
+          (none_back (slot_of s.slots.items name) (slot_of later.slots.items name) (slots_alike s.slots.items later.slots.items run.slots name) (h.real name real))
+
+      real_before : (name : ℕ) → is_virtual_name v name ≡ false → object_held (scene s).objects name ≡ object_held s.table.objects name
+      real_before name real = found_as_it_is s.slots.items s.table.objects name (h.real name real)
+
+      labels_kept : map label_of later.table.objects ≡ map label_of s.table.objects
+      labels_kept = map-told virtual_named label_of (λ o. (o.name, o.live)) (λ _. refl) later.table.objects s.table.objects keeps.virtual
+
+      others_kept : (name : ℕ) → is_target v name ≡ false → object_held later.table.objects name ≡ object_held s.table.objects name
+      others_kept name not_target = elim (cases_Bool (is_virtual_name v name)) [
+        | inl virtual ↦
+            (let found = In-from_any (λ (o : VirtualOutput). name == o.cell.name) outs virtual in
+            let same = eqb-true name found.0.cell.name found.2 in
+            let there = virtual_there s.table.objects found.0.cell.name (In-from_All (λ (q : VirtualOutput). HoldsVirtual s.table.objects q.cell.name) outs h.virtual.held found.0 found.1) in
+            let at : object_held s.table.objects name ≡ Some (VirtualObject there.0) = ap (object_held s.table.objects) same ∙ there.1 in
+            stays_virtual s.table.objects later.table.objects labels_kept (forgotten_kept s.table.objects later.table.objects keeps.virtual) name there.0 at ∙ sym at)
+        | inr real ↦
+            (let not_written : writes n (cell_of name) ≡ false =
+            false_from_ne_true (writes n (cell_of name)) (λ w.
+            let all = any-from_In (λ m. writes m (cell_of name)) n v.steps.items in_steps w in
+            let target = and_from (is_written v.steps.items (cell_of name)) (not (is_virtual_name v name)) all (ap not real) in
+            cc) in
+            sym (real_found name real) ∙ run.others name (other_output name not_written) ∙ real_before name real)
+      ]
+
+      finished_more : IsFinished (rows_by_now done strip) v objects final later.table.objects
+      finished_more =
+          record {
+            labels = labels_kept ∙ h.finished.labels;
+            others = λ name not_target. others_kept name not_target ∙ h.finished.others name not_target;
+            targets = λ name target. of_target name target (cases_Bool (writes n (cell_of name)));
+          }
+        where
+          of_target : (name : ℕ) → is_target v name ≡ true → (writes n (cell_of name) ≡ true) ⊎ (writes n (cell_of name) ≡ false)
+              → RowsAreAs (rows_by_now done strip name) (object_held later.table.objects name) (object_held final name)
+          of_target name target (inl w) =
+              let real = not_true (is_virtual_name v name) (and_parts (is_written v.steps.items (cell_of name)) (not (is_virtual_name v name)) target).1 in
+              let made = run.made (cell_of name) (output_in n (cell_of name) w) in
+              let rows : strip.band.start + strip.band.count ≡ rows_by_now done strip name =
+              sym (ap (λ (b : Bool). if b then strip.band.start + strip.band.count else strip.band.start) (written_done (cell_of name) ∙ or_right (is_written before (cell_of name)) (writes n (cell_of name)) w)) in
+              subst (λ y. RowsAreAs y (object_held later.table.objects name) (object_held final name)) rows
+              (subst (λ o. RowsAreAs (strip.band.start + strip.band.count) o (object_held final name)) (real_found name real) (made.rows real))
+          of_target name target (inr none) =
+              let real = not_true (is_virtual_name v name) (and_parts (is_written v.steps.items (cell_of name)) (not (is_virtual_name v name)) target).1 in
+              let same : object_held s.table.objects name ≡ object_held later.table.objects name = sym (sym (real_found name real) ∙ run.others name (other_output name none) ∙ real_before name real) in
+              let rows : rows_by_now before strip name ≡ rows_by_now done strip name =
+              ap (λ (b : Bool). if b then strip.band.start + strip.band.count else strip.band.start) (sym (written_done (cell_of name) ∙ none_or (is_written before (cell_of name)) (writes n (cell_of name)) none)) in
+              subst (λ y. RowsAreAs y (object_held later.table.objects name) (object_held final name)) rows
+              (subst (λ o. RowsAreAs (rows_by_now before strip name) o (object_held final name)) same (h.finished.targets name target))
+
+      stands_more : (o : VirtualOutput) → In o outs → is_written done o.cell ≡ true → is_used after o.cell ≡ true
+          → IsPartOf objects height done strip.rows (object_held (scene later).objects o.cell.name) (object_held final o.cell.name)
+      stands_more o i written used = elim (cases_Bool (writes n o.cell)) [
+        | inl w ↦ (run.made o.cell (output_in n o.cell w)).part (name_of_output outs o i o.cell.name refl)
+        | inr none ↦
+            (let itself = (virtual_here objects nodes v height beside r o i).0 in
+            let early : is_written before o.cell ≡ true = sym (none_or (is_written before o.cell) (writes n o.cell) none) ∙ sym (written_done o.cell) ∙ written in
+            let still : is_used (n ∷ after) o.cell ≡ true = or_right (reads n o.cell || writes n o.cell) (is_used after o.cell) used in
+            let stood = h.stood o i early still in
+            let same = run.others o.cell.name (other_output o.cell.name (ap (writes n) (sym itself) ∙ none)) in
+            let more : sum_by (rows_beside objects) before ≤ sum_by (rows_beside objects) done = omega (arith, sum_by-append (rows_beside objects) before (n ∷ [])) in
+            record {
+              part = stood.part;
+              image = stood.image;
+              there = same ∙ stood.there;
+              in_the_end = stood.in_the_end;
+              part_is = stood.part_is;
+              stands =
+                  stands_fewer strip.rows.start strip.rows.count _ _ _ _ stood.part stood.image
+                  (right_above (sum_by (rows_beside objects) before) (sum_by (rows_beside objects) done) strip.rows.start more)
+                  (right_below (sum_by (rows_beside objects) before) (sum_by (rows_beside objects) done) height (strip.rows.start + strip.rows.count) more) stood.stands;
+            })
+      ]
+
+  -- ---- how far a strip is
+
+  -- a stage after so many nodes
+  pub record IsInStrip (p : PlanValue) (k : ℕ) (l : List Named) (slots : List Slot) : Type 0 where
+    pub shared : AreShared p (map (output_part strip.rows.count) outs) slots
+    pub written : WereWritten (take k v.steps.items) slots
+    pub finished : IsFinished (rows_by_now (take k v.steps.items) strip) v objects final l
+    pub stands : (o : VirtualOutput) → In o outs → is_written (take k v.steps.items) o.cell ≡ true → is_used (drop k v.steps.items) o.cell ≡ true
+        → IsPartOf objects height (take k v.steps.items) strip.rows (object_held (shown slots l) o.cell.name) (object_held final o.cell.name)
+
+  pub strip_begins : (p : PlanValue) (l : List Named) (slots : List Slot) → AreEmpty slots → map room_of slots ≡ planned_rooms p
+      → IsFinished (λ _. strip.band.start) v objects final l → IsInStrip p 0 l slots
+  strip_begins p l slots empty rooms finished =
+      record {
+        shared = record { rooms = rooms; homes = λ k a at. absurd (none_standing slots empty k a at) };
+        written = λ k a at. absurd (none_standing slots empty k a at);
+        finished = record { labels = finished.labels; others = finished.others; targets = finished.targets };
+        stands = λ o i written used. absurd (cc);
+      }
+
+  pub strip_ends : (p : PlanValue) (k : ℕ) (l : List Named) (slots : List Slot) → length v.steps.items ≤ k → IsInStrip p k l slots
+      → IsFinished (λ _. strip.band.start + strip.band.count) v objects final l
+  strip_ends p k l slots past h =
+      record {
+        labels = h.finished.labels;
+        others = h.finished.others;
+        targets = λ name target.
+            let all : is_written (take k v.steps.items) (cell_of name) ≡ true =
+            ap (λ done. is_written done (cell_of name)) (take_all k v.steps.items past) ∙ (and_parts (is_written v.steps.items (cell_of name)) (not (is_virtual_name v name)) target).0 in
+            subst (λ y. RowsAreAs y (object_held l name) (object_held final name)) (ap (λ (b : Bool). if b then strip.band.start + strip.band.count else strip.band.start) all) (h.finished.targets name target);
+      }
+
+  -- virtual images stay where they are
+  pub still_virtual : (p : PlanValue) (k : ℕ) (l : List Named) (slots : List Slot) → IsInStrip p k l slots → AreVirtual l outs
+  still_virtual p k l slots h =
+      let virtual = are_virtual objects nodes v r.ready.runs.0 r.ready.verified r.ready.runs.1 in
+      record {
+        apart = virtual.apart;
+        held = All-from_In (λ (o : VirtualOutput). HoldsVirtual l o.cell.name) outs (λ o i.
+            ap (option_map object_kind) (h.finished.others o.cell.name (and_false (is_written v.steps.items (cell_of o.cell.name)) (is_virtual_name v o.cell.name) (name_of_output outs o i o.cell.name refl)))
+            ∙ In-from_All (λ (q : VirtualOutput). HoldsVirtual objects q.cell.name) outs virtual.held o i);
+      }
+
+  -- what nodes write is as high as the images are
+  pub low : (o : VirtualOutput) → In o outs → strip.rows.count ≤ o.desc.height
+  low o i = omega (arith, is_strip.rows, (virtual_here objects nodes v height beside r o i).3)
+
+  -- one node more
+  module _ (p : PlanValue) (plan : IsPlan v.steps.items v.virtual_outputs.items p) (k : ℕ) (n : Node) (below : k < length v.steps.items) (item : n ≡ get_or v.steps.items k n) where
+    abbrev before : List Node
+    before = take k v.steps.items
+
+    abbrev after : List Node
+    after = drop (k + 1) v.steps.items
+
+    pub here_on : drop k v.steps.items ≡ n ∷ after
+    here_on = drop_more v.steps.items k n below ∙ ap (λ m. m ∷ after) (sym item)
+
+    pub parts : v.steps.items ≡ before ++ n ∷ after
+    parts = sym (take-append-drop k v.steps.items) ∙ ap (λ rest. before ++ rest) here_on
+
+    module _ (l : List Named) (slots one : List Slot) (h : IsInStrip p k l slots) (first : (j : ℕ) → slice_get one j ≡ claimed_at p (map (output_part strip.rows.count) outs) n.out1 j (slice_get slots j)) where
+      turn : IsItsTurn outs p before after n
+      turn = turn_of objects nodes v r.ready p plan before after n parts
+
+      pub first_shared : AreShared p (map (output_part strip.rows.count) outs) one
+      first_shared = first_part_shared strip.rows.count outs low p before after n turn l (still_virtual p k l slots h) slots one h.shared h.written first
+
+      module _ (both : List Slot) (second : (j : ℕ) → slice_get both j ≡ claimed_at p (map (output_part strip.rows.count) outs) n.out2 j (slice_get one j)) where
+        pub claims : PartsClaimed strip.rows.count outs p before after n l slots both
+        claims = parts_claimed strip.rows.count outs low p before after n turn l (still_virtual p k l slots h) slots one h.shared h.written first both second
+
+        pub strip_claimed : (s : Stage) → IsStage s → s.table.objects ≡ l → s.slots.items ≡ both → IsClaimed before after n parts s
+        strip_claimed s is table items =
+            record {
+              is = is;
+              virtual = subst (λ (m : List Named). AreVirtual m outs) (sym table) (still_virtual p k l slots h);
+              finished = subst (IsFinished (rows_by_now before strip) v objects final) (sym table) h.finished;
+              stood = λ o i written used.
+                  subst (λ (found : Option ObjectValue). IsPartOf objects height before strip.rows found (object_held final o.cell.name))
+                  (sym (claims.kept o i written used) ∙ sym (found_there o.cell.name))
+                  (h.stands o i written (ap (λ ns. is_used ns o.cell) here_on ∙ used));
+              claimed = λ o i w.
+                  let stands = claims.stand o i w in
+                  record {
+                    image = standing_image (output_part strip.rows.count o) stands.slot;
+                    there = found_there o.cell.name ∙ stands.there;
+                    described = refl;
+                    slot = stands.slot;
+                    found = ap (λ (q : List Slot). slot_of q o.cell.name) items ∙ stands.place;
+                  };
+              real = λ name none. ap (λ (q : List Slot). slot_of q name) items ∙ claims.no_place name none;
+            }
+          where
+            found_there : (name : ℕ) → object_held (scene s).objects name ≡ object_held (shown both l) name
+            found_there name = ap (λ (m : List Named). object_held (shown s.slots.items m) name) table ∙ ap (λ (q : List Slot). object_held (shown q l) name) items
+
+    pub strip_more : (s later : Stage) → IsClaimed before after n parts s → IsStage later → Keeps s later
+        → HasRun objects nodes v height beside r strip is_strip before after n parts s later
+        → AreShared p (map (output_part strip.rows.count) outs) s.slots.items → WereWritten (before ++ n ∷ []) s.slots.items
+        → IsInStrip p (k + 1) later.table.objects later.slots.items
+    strip_more s later h is_later keeps run shared written =
+        let more : take (k + 1) v.steps.items ≡ before ++ n ∷ [] = take_more v.steps.items k n below ∙ ap (λ x. before ++ x ∷ []) (sym item) in
+        record {
+          shared = shared_stay p (map (output_part strip.rows.count) outs) s.slots.items later.slots.items run.slots shared;
+          written = subst (λ done. WereWritten done later.slots.items) (sym more) (written_stay (before ++ n ∷ []) s.slots.items later.slots.items run.slots written);
+          finished = subst (λ done. IsFinished (rows_by_now done strip) v objects final later.table.objects) (sym more) (finished_more before after n parts s later h is_later keeps run);
+          stands = λ o i done used.
+              subst (λ ns. IsPartOf objects height ns strip.rows (object_held (shown later.slots.items later.table.objects) o.cell.name) (object_held final o.cell.name)) (sym more)
+              (stands_more before after n parts s later h is_later keeps run o i (subst (λ ns. is_written ns o.cell ≡ true) more done) used);
+        }
+
+    -- a node runs: its outputs claim their slots, and are written one after the other
+    module _ (l : List Named) (slots one both : List Slot) (h : IsInStrip p k l slots)
+        (first : (j : ℕ) → slice_get one j ≡ claimed_at p (map (output_part strip.rows.count) outs) n.out1 j (slice_get slots j))
+        (second : (j : ℕ) → slice_get both j ≡ claimed_at p (map (output_part strip.rows.count) outs) n.out2 j (slice_get one j))
+        (s : Stage) (is : IsStage s) (table : s.table.objects ≡ l) (items : s.slots.items ≡ both) where
+      here : IsClaimed before after n parts s
+      here = strip_claimed l slots one h first both second s is table items
+
+      pub node_first : IfSome n.out1 (IsSeen strip s n)
+      node_first =
+          first_seen objects nodes v height beside r strip is_strip before after n parts s (sees_inputs before after n parts s here) (output_open before after n parts s here)
+
+      module _ (between : Stage) (first_value : scene between ≡ with_objects (scene s) (with_seen strip s n First n.out1)) (first_keeps : Keeps s between) where
+        pub node_second : IfSome n.out2 (IsSeen strip between n)
+        node_second =
+            second_seen objects nodes v height beside r strip is_strip before after n parts s (sees_inputs before after n parts s here) (output_open before after n parts s here)
+            between first_value first_keeps.slots
+
+        pub node_runs : (later : Stage) → IsStage later → scene later ≡ with_objects (scene between) (with_seen strip between n Second n.out2) → Keeps between later
+            → IsInStrip p (k + 1) later.table.objects later.slots.items
+        node_runs later is_later second_value second_keeps =
+            let claimed = claims l slots one h first both second in
+            strip_more s later here is_later (Keeps-trans s between later first_keeps second_keeps)
+            (has_run objects nodes v height beside r strip is_strip before after n parts s (sees_inputs before after n parts s here) (output_open before after n parts s here)
+            between first_value first_keeps.slots later second_value second_keeps.slots)
+            (subst (AreShared p (map (output_part strip.rows.count) outs)) (sym items) claimed.shared)
+            (subst (WereWritten (before ++ n ∷ [])) (sym items) claimed.written)

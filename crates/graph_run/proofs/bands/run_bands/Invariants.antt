@@ -1,0 +1,22 @@
+use Rattle.std.proofs.Common.{◌≡◌, ◌≤◌, ◌-◌, List, map}
+use Rattle.vx_base.specs.declared.node.Node.{Node}
+use Rattle.graph_run.specs.Bands.{final_of, IsFinished}
+use Rattle.graph_run.specs.Operands.{IsReady}
+use Rattle.graph_run.specs.Slots.{room_of}
+use Rattle.graph_run.specs.Stage.{IsStage}
+use Rattle.graph_run.proofs.bands.run_bands.Given as goal
+
+-- so many rows are as they will be
+abbrev pub invariant-loop-y : goal.invariant-loop-y
+invariant-loop-y l =
+    record {
+      within : l.y ≤ l.bands.height;
+      stage : IsStage l.stage;
+      rooms : map room_of l.stage.slots.items ≡ map room_of l.fn.stage.slots.items;
+      next : l.stage.table.next ≡ l.fn.stage.table.next;
+      finished : (nodes : List Node) → IsReady l.fn.stage.table.objects nodes l.verified
+          → IsFinished (λ _. l.y) l.verified l.fn.stage.table.objects (final_of l.fn.stage.table.objects nodes l.verified) l.stage.table.objects;
+    }
+
+abbrev pub decreases-loop-y : goal.decreases-loop-y
+decreases-loop-y l = l.bands.height - l.y

@@ -1,0 +1,62 @@
+use Rattle.std.proofs.Common.{map, pos, ap, sym, ◌∙◌}
+use Rattle.std.proofs.lemmas.List.{map-id}
+use Rattle.vx_base.specs.Picture.{values}
+use Rattle.graph_run.proofs.PartSeenLemmas.{ends_within, part_lent, lent_is}
+use Rattle.graph_run.proofs.part.part_of.Goals as goal
+
+pub slice_bounds-new-end : goal.slice_bounds-new-end
+slice_bounds-new-end c =
+    ends_within pos c.deref.result.now c.args.image.now c.args.rows c.desc-desc.result c.with_sides-part.result c.width.result c.width-2.result c.from-width.result c.from.result c.from-2.result c.format.result c.valid.result c.rows_of-valid.result
+    c.requires.image c.requires.rows (ap (map pos) c.deref.ensures.value ∙ ap values (sym c.in-U8.is) ∙ c.samples.ensures.value) c.desc-desc.ensures c.width.ensures.value c.format.ensures c.with_sides-part.ensures c.valid.ensures c.rows_of-valid.ensures
+    c.width-2.ensures.value c.from-width.ensures c.from.ensures c.from-2.ensures
+
+pub new-requires-clause-image : goal.new-requires-clause-image
+new-requires-clause-image c =
+    lent_is pos c.deref.result.now c.args.image.now c.args.rows c.desc-desc.result c.with_sides-part.result c.width.result c.width-2.result c.from-width.result c.from.result c.from-2.result c.format.result c.valid.result c.rows_of-valid.result
+    c.requires.image c.requires.rows (ap (map pos) c.deref.ensures.value ∙ ap values (sym c.in-U8.is) ∙ c.samples.ensures.value) c.desc-desc.ensures c.width.ensures.value c.format.ensures c.with_sides-part.ensures c.valid.ensures c.rows_of-valid.ensures
+    c.width-2.ensures.value c.from-width.ensures c.from.ensures c.from-2.ensures
+
+pub returns-in-U8 : goal.returns-in-U8
+returns-in-U8 c =
+    c.new.ensures
+    ∙ part_lent pos c.deref.result.now c.args.image.now c.args.rows c.desc-desc.result c.with_sides-part.result c.width.result c.width-2.result c.from-width.result c.from.result c.from-2.result c.format.result c.valid.result c.rows_of-valid.result
+    c.requires.image c.requires.rows (ap (map pos) c.deref.ensures.value ∙ ap values (sym c.in-U8.is) ∙ c.samples.ensures.value) c.desc-desc.ensures c.width.ensures.value c.format.ensures c.with_sides-part.ensures c.valid.ensures c.rows_of-valid.ensures
+    c.width-2.ensures.value c.from-width.ensures c.from.ensures c.from-2.ensures
+
+pub slice_bounds-new-end-in-S16 : goal.slice_bounds-new-end-in-S16
+slice_bounds-new-end-in-S16 c =
+    ends_within (λ z. z) c.deref-in-S16.result.now c.args.image.now c.args.rows c.desc-desc.result c.with_sides-part.result c.width.result c.width-2.result c.from-width.result c.from.result c.from-2.result c.format.result c.valid.result c.rows_of-valid.result
+    c.requires.image c.requires.rows (map-id c.deref-in-S16.result.now ∙ c.deref-in-S16.ensures.value ∙ ap values (sym c.in-S16.is) ∙ c.samples.ensures.value) c.desc-desc.ensures c.width.ensures.value c.format.ensures c.with_sides-part.ensures c.valid.ensures c.rows_of-valid.ensures
+    c.width-2.ensures.value c.from-width.ensures c.from.ensures c.from-2.ensures
+
+pub new-requires-in-S16-clause-image : goal.new-requires-in-S16-clause-image
+new-requires-in-S16-clause-image c =
+    lent_is (λ z. z) c.deref-in-S16.result.now c.args.image.now c.args.rows c.desc-desc.result c.with_sides-part.result c.width.result c.width-2.result c.from-width.result c.from.result c.from-2.result c.format.result c.valid.result c.rows_of-valid.result
+    c.requires.image c.requires.rows (map-id c.deref-in-S16.result.now ∙ c.deref-in-S16.ensures.value ∙ ap values (sym c.in-S16.is) ∙ c.samples.ensures.value) c.desc-desc.ensures c.width.ensures.value c.format.ensures c.with_sides-part.ensures c.valid.ensures c.rows_of-valid.ensures
+    c.width-2.ensures.value c.from-width.ensures c.from.ensures c.from-2.ensures
+
+pub returns-in-S16 : goal.returns-in-S16
+returns-in-S16 c =
+    c.new-in-S16.ensures
+    ∙ part_lent (λ z. z) c.deref-in-S16.result.now c.args.image.now c.args.rows c.desc-desc.result c.with_sides-part.result c.width.result c.width-2.result c.from-width.result c.from.result c.from-2.result c.format.result c.valid.result c.rows_of-valid.result
+    c.requires.image c.requires.rows (map-id c.deref-in-S16.result.now ∙ c.deref-in-S16.ensures.value ∙ ap values (sym c.in-S16.is) ∙ c.samples.ensures.value) c.desc-desc.ensures c.width.ensures.value c.format.ensures c.with_sides-part.ensures c.valid.ensures c.rows_of-valid.ensures
+    c.width-2.ensures.value c.from-width.ensures c.from.ensures c.from-2.ensures
+
+pub slice_bounds-new-end-in-U32 : goal.slice_bounds-new-end-in-U32
+slice_bounds-new-end-in-U32 c =
+    ends_within pos c.deref-in-U32.result.now c.args.image.now c.args.rows c.desc-desc.result c.with_sides-part.result c.width.result c.width-2.result c.from-width.result c.from.result c.from-2.result c.format.result c.valid.result c.rows_of-valid.result
+    c.requires.image c.requires.rows (ap (map pos) c.deref-in-U32.ensures.value ∙ ap values (sym c.in-U32.is) ∙ c.samples.ensures.value) c.desc-desc.ensures c.width.ensures.value c.format.ensures c.with_sides-part.ensures c.valid.ensures c.rows_of-valid.ensures
+    c.width-2.ensures.value c.from-width.ensures c.from.ensures c.from-2.ensures
+
+pub new-requires-in-U32-clause-image : goal.new-requires-in-U32-clause-image
+new-requires-in-U32-clause-image c =
+    lent_is pos c.deref-in-U32.result.now c.args.image.now c.args.rows c.desc-desc.result c.with_sides-part.result c.width.result c.width-2.result c.from-width.result c.from.result c.from-2.result c.format.result c.valid.result c.rows_of-valid.result
+    c.requires.image c.requires.rows (ap (map pos) c.deref-in-U32.ensures.value ∙ ap values (sym c.in-U32.is) ∙ c.samples.ensures.value) c.desc-desc.ensures c.width.ensures.value c.format.ensures c.with_sides-part.ensures c.valid.ensures c.rows_of-valid.ensures
+    c.width-2.ensures.value c.from-width.ensures c.from.ensures c.from-2.ensures
+
+pub returns-in-U32 : goal.returns-in-U32
+returns-in-U32 c =
+    c.new-in-U32.ensures
+    ∙ part_lent pos c.deref-in-U32.result.now c.args.image.now c.args.rows c.desc-desc.result c.with_sides-part.result c.width.result c.width-2.result c.from-width.result c.from.result c.from-2.result c.format.result c.valid.result c.rows_of-valid.result
+    c.requires.image c.requires.rows (ap (map pos) c.deref-in-U32.ensures.value ∙ ap values (sym c.in-U32.is) ∙ c.samples.ensures.value) c.desc-desc.ensures c.width.ensures.value c.format.ensures c.with_sides-part.ensures c.valid.ensures c.rows_of-valid.ensures
+    c.width-2.ensures.value c.from-width.ensures c.from.ensures c.from-2.ensures

@@ -1,0 +1,11 @@
+use Rattle.std.proofs.Common.{◌≡◌, ℕ, List, length, take}
+use Rattle.vx_base.specs.declared.node.Node.{Node}
+use Rattle.graph_run.specs.Bands.{RunsInBands, AreAreas, final_of}
+use Rattle.graph_run.proofs.settle.areas_of.Given as goal
+
+abbrev pub invariant-loop-node : goal.invariant-loop-node
+invariant-loop-node l = record {
+  count : length l.areas.items ≡ l.node-index;
+  areas : (nodes : List Node) (height beside : ℕ) → RunsInBands l.table.objects nodes l.verified height beside
+      → AreAreas (final_of l.table.objects nodes l.verified) (take l.node-index l.verified.steps.items) l.areas.items;
+}

@@ -1,0 +1,7 @@
+use Rattle.std.proofs.Common.{sym, ◌∙◌}
+use Rattle.graph_run.proofs.SettleLemmas.{false_from_not, unread}
+use Rattle.graph_run.proofs.settle.is_unread.Goals as goal
+
+pub returns-else-is_virtual : goal.returns-else-is_virtual
+returns-else-is_virtual c = λ passes real.
+    unread c.args.verified.now.steps.items c.args.name (sym c.is_read.ensures ∙ false_from_not c.is_read.result passes)

@@ -1,0 +1,232 @@
+-- Graphs that run in bands of rows: each band goes through all nodes before the next one does. Nodes see parts of images, which are a band and some rows beside it.
+use Rattle.std.specs.Prelude.{ℕ, ◌+◌, ◌-◌, ◌*◌, ◌≤◌, ◌<◌, ◌≡◌, ◌≢◌, IsTrue, is_some, ⊤, Bool, true, false, not, ◌&&◌, ◌==◌, if◌then◌else◌, List, [], ◌∷◌, ◌++◌, map, take, drop, length, sum_by, slice_get, All, Option, Some, None, IfSome, unwrap_or}
+use Rattle.std.specs.Option.{option_map, option_and_then}
+use Rattle.std.specs.List.{list_any}
+use Rattle.std.specs.List.Sorted.{IsStrictlyIncreasing}
+use Rattle.vx_base.specs.declared.format.Format.{Format}
+use Rattle.vx_base.specs.declared.kind.Kind.TheVariants as kind
+use Rattle.vx_base.specs.declared.node.Node.{Node}
+use Rattle.vx_base.specs.declared.output.Output.{Output}
+use Rattle.vx_base.specs.Cell.{Cell, cell_of}
+use Rattle.vx_base.specs.Description.{Description, IsDescription}
+use Rattle.vx_base.specs.Function.{parameters, accumulates}
+use Rattle.vx_base.specs.Image.{ImageValue, IsImage, image_over, description_of, band, at}
+use Rattle.vx_base.specs.Node.{outputs}
+use Rattle.vx_base.specs.Object.{ObjectValue, ImageObject, IsObject, object_kind}
+use Rattle.vx_base.specs.Outputs.{node_image}
+use Rattle.vx_base.specs.Rectangle.{Rectangle, whole, empty}
+use Rattle.image_core.specs.declared.band.Band.{Band}
+use Rattle.image_core.specs.Bands.{IsInRows}
+use Rattle.object_table.specs.Named.{Named, object_held, held, with_object}
+use Rattle.object_table.specs.Object.{image_value}
+use Rattle.object_table.specs.Table.{cell_object, image_held, HoldsImage}
+use Rattle.graph_verify.specs.declared.known.VirtualOutput.{VirtualOutput}
+use Rattle.graph_verify.specs.declared.operand.Operand.{Operand}
+use Rattle.graph_verify.specs.declared.operand.Operand.TheVariants.{Image}
+use Rattle.graph_verify.specs.declared.verified.Verified.{Verified}
+use Rattle.graph_verify.specs.Links.{reads, writes, is_written}
+use Rattle.graph_verify.specs.Members.{In}
+use Rattle.graph_verify.specs.Outlines.{resolved}
+use Rattle.node_rows.specs.Parts.{part_of, StandsFor, first_right, end_right}
+use Rattle.node_rows.specs.Reach.{reach, matrix_in}
+use Rattle.graph_run.specs.declared.bands.Strip.{Strip}
+use Rattle.graph_run.specs.declared.stage.Slot.{Slot}
+use Rattle.graph_run.specs.declared.stage.Stage.{Stage}
+use Rattle.graph_run.specs.Graph.{begun, one_by_one}
+use Rattle.graph_run.specs.Operands.{operand_held, IsReady}
+use Rattle.graph_run.specs.Solution.{label_of}
+use Rattle.graph_run.specs.Stage.{scene, slot_of}
+use Rattle.graph_run.specs.Steps.{AreApart, Holds, CanRunTo, IsRead}
+
+-- ---- what nodes see
+
+-- these rows of an image; any other object as it is
+abbrev pub part_seen : Band → ObjectValue → ObjectValue
+part_seen rows (ImageObject image) = ImageObject (part_of rows.start rows.count image)
+part_seen rows other = other
+
+-- of a client's image these rows; of a virtual image what stands in its slot, which is a part already
+abbrev pub seen_in : Option Slot → Band → ObjectValue → ObjectValue
+seen_in None rows object = part_seen rows object
+seen_in (Some slot) rows object = object
+
+-- what a node sees of a cell
+abbrev pub seen : Band → Stage → Cell → ObjectValue
+seen rows s cell = seen_in (slot_of s.slots.items cell.name) rows (cell_object (scene s).objects cell)
+
+-- an image has these rows
+abbrev pub HasRowsIn : Band → ObjectValue → Type 0
+HasRowsIn rows (ImageObject image) = IsInRows image.height rows
+HasRowsIn rows other = ⊤
+
+-- so has what a cell holds, where that stands in no slot
+abbrev pub HasRows : Band → Stage → Cell → Type 0
+HasRows rows s cell = slot_of s.slots.items cell.name ≡ None → HasRowsIn rows (cell_object (scene s).objects cell)
+
+-- what a node makes of what it sees
+abbrev pub part_made : Band → Stage → Node → Output → Cell → ImageValue
+part_made rows s n which output =
+    node_image n which (image_held (scene s).objects output).format (image_value (seen rows s n.in1)) (option_map (seen rows s) n.in2)
+
+-- an output of a node that sees parts, apart from what the node reads
+pub record SeesParts (rows : Band) (s : Stage) (n : Node) (output : Cell) : Type 0 where
+  pub in1 : HoldsImage (scene s).objects n.in1
+  pub in2 : IfSome n.in2 (Holds (scene s).objects)
+  pub out : HoldsImage (scene s).objects output
+  pub first : IsImage (image_held (scene s).objects n.in1)
+  pub second : IfSome (option_map (cell_object (scene s).objects) n.in2) IsObject
+  pub second_kind : IfSome (option_map (cell_object (scene s).objects) n.in2) (λ object. IsRead (object_kind object))
+  pub out_image : IsImage (image_held (scene s).objects output)
+  pub some_rows : 1 ≤ rows.count
+  pub in1_rows : HasRows rows s n.in1
+  pub in2_rows : IfSome n.in2 (HasRows rows s)
+  pub in1_apart : AreApart n.in1 output
+  pub in2_apart : IfSome n.in2 (λ cell. AreApart cell output)
+  pub plain : accumulates n.function ≡ false
+  pub can_run : CanRunTo n (image_value (seen rows s n.in1)) (option_map (seen rows s) n.in2)
+      (image_over (record { width = (image_held (scene s).objects output).width; height = rows.count; format = (image_held (scene s).objects output).format }) empty [])
+
+-- ---- what nodes write
+
+-- a band that stands in the rows that nodes see
+pub record IsWithinRows (strip : Strip) : Type 0 where
+  pub above : strip.rows.start ≤ strip.band.start
+  pub below : strip.band.start + strip.band.count ≤ strip.rows.start + strip.rows.count
+
+-- an image once the band's rows of a part are written to it; it counts as wholly valid until the run ends
+abbrev pub with_band : Strip → ImageValue → ImageValue → ImageValue
+with_band strip part old =
+    image_over (description_of old) (whole old.width old.height)
+    (take (strip.band.start * old.width) old.samples
+    ++ band old.width (strip.band.start - strip.rows.start) strip.band.count (at part)
+    ++ drop ((strip.band.start + strip.band.count) * old.width) old.samples)
+
+-- what an output becomes: in a slot the part, else the image with the part's band
+abbrev pub made_in : Option Slot → Strip → ImageValue → ImageValue → ImageValue
+made_in None strip part old = with_band strip part old
+made_in (Some slot) strip part old = part
+
+abbrev pub made_seen : Strip → Stage → Node → Output → Cell → ObjectValue
+made_seen strip s n which output =
+    ImageObject (made_in (slot_of s.slots.items output.name) strip (part_made strip.rows s n which output) (image_held (scene s).objects output))
+
+abbrev pub with_seen : Strip → Stage → Node → Output → Option Cell → List Named
+with_seen strip s n which None = (scene s).objects
+with_seen strip s n which (Some output) = with_object (scene s).objects output (made_seen strip s n which output)
+
+-- what stands in a slot has as many rows as nodes see; another image has these rows
+abbrev pub HasPlaceIn : Option Slot → Strip → ImageValue → Type 0
+HasPlaceIn None strip image = IsInRows image.height strip.rows
+HasPlaceIn (Some slot) strip image = image.height ≡ strip.rows.count
+
+-- an output of a node that sees parts, and can be written
+abbrev pub IsSeen : Strip → Stage → Node → Cell → Type 0
+IsSeen strip s n output = SeesParts strip.rows s n output × HasPlaceIn (slot_of s.slots.items output.name) strip (image_held (scene s).objects output)
+
+-- ---- graphs that can run so
+
+-- a virtual image by so many of its rows
+abbrev pub output_part : ℕ → VirtualOutput → VirtualOutput
+output_part count o = record { cell = o.cell; desc = record { width = o.desc.width; height = count; format = o.desc.format } }
+
+-- how far a node looks up and down, beside the matrix that its second cell holds
+abbrev pub reach_of : List Named → Node → Option ℕ
+reach_of objects n = reach n.function (matrix_in (option_and_then (held objects) n.in2))
+
+abbrev pub rows_beside : List Named → Node → ℕ
+rows_beside objects n = unwrap_or (reach_of objects n) 0
+
+-- an image of this height
+abbrev pub HasHeight : ℕ → Operand → Type 0
+HasHeight height (Image d) = d.height ≡ height
+HasHeight height other = ⊥
+
+-- the name is that of a virtual image that the nodes write
+abbrev pub is_virtual_name : Verified → ℕ → Bool
+is_virtual_name v name = list_any (λ (o : VirtualOutput). name == o.cell.name) v.virtual_outputs.items
+
+-- a graph that can run, in bands of rows of images of this height: its nodes write whole images of this height, each from rows that are near,
+-- and read no client's image that one of them writes; together they look so many rows up and down
+pub record RunsInBands (objects : List Named) (nodes : List Node) (v : Verified) (height beside : ℕ) : Type 0 where
+  pub ready : IsReady objects nodes v
+  pub names : IsStrictlyIncreasing (map (λ o. o.name) objects)
+  pub are_objects : All (λ o. IsObject o.object) objects
+  pub described : All (λ o. IsDescription o.desc) v.virtual_outputs.items
+  pub images : All (λ n. ((parameters n.function).output ≡ kind.Image) × (accumulates n.function ≡ false)) v.steps.items
+  pub near : All (λ n. IsTrue (is_some (reach_of objects n))) v.steps.items
+  pub together : sum_by (rows_beside objects) v.steps.items ≡ beside
+  pub heights : All (λ n. All (λ c. HasHeight height (resolved (operand_held objects) nodes c)) (outputs n)) v.steps.items
+  pub wholes : All (λ n. All (λ c. c.slot ≡ None) (outputs n)) v.steps.items
+  pub apart : (n m : Node) (c d : Cell) → In n v.steps.items → In m v.steps.items → reads n c ≡ true → writes m d ≡ true
+      → is_virtual_name v d.name ≡ false → c.name ≢ d.name
+
+-- what the nodes leave, one after the other, each on whole images
+abbrev pub final_of : List Named → List Node → Verified → List Named
+final_of objects nodes v = one_by_one v.steps.items (map (begun (resolved (operand_held objects) nodes) nodes) objects)
+
+-- ---- how far a run is
+
+-- rows of images of this height that nodes see, and the band of them that is right in the end: a node may look so many rows up and down
+pub record IsStrip (height beside : ℕ) (strip : Strip) : Type 0 where
+  pub within : IsWithinRows strip
+  pub some : 1 ≤ strip.band.count
+  pub rows : IsInRows height strip.rows
+  pub above : first_right beside strip.rows.start ≤ strip.band.start
+  pub below : strip.band.start + strip.band.count ≤ end_right beside height (strip.rows.start + strip.rows.count)
+
+-- the first rows of an image are those of another of its description
+abbrev pub RowsAreAs : ℕ → Option ObjectValue → Option ObjectValue → Type 0
+RowsAreAs y (Some (ImageObject i)) (Some (ImageObject f)) =
+    (description_of i ≡ description_of f) × (take (y * f.width) i.samples ≡ take (y * f.width) f.samples)
+RowsAreAs y now final = ⊥
+
+-- a client's image that the nodes write, by its name
+abbrev pub is_target : Verified → ℕ → Bool
+is_target v name = is_written v.steps.items (cell_of name) && not (is_virtual_name v name)
+
+-- a client's objects while a graph runs in bands: of what the nodes write so many rows are as they are in the end; all else is as it was
+pub record IsFinished (rows : ℕ → ℕ) (v : Verified) (objects final now : List Named) : Type 0 where
+  pub labels : map label_of now ≡ map label_of objects
+  pub others : (name : ℕ) → is_target v name ≡ false → object_held now name ≡ object_held objects name
+  pub targets : (name : ℕ) → is_target v name ≡ true → RowsAreAs (rows name) (object_held now name) (object_held final name)
+
+-- in the part of a strip: those written by now are finished down to its end, others down to its start
+abbrev pub rows_by_now : List Node → Strip → ℕ → ℕ
+rows_by_now done strip name = if is_written done (cell_of name) then strip.band.start + strip.band.count else strip.band.start
+
+-- of rows that nodes see, from which to which what these nodes made of them is right, where each looks so far up and down
+abbrev pub right_from : List Named → List Node → Band → ℕ
+right_from objects done rows = first_right (sum_by (rows_beside objects) done) rows.start
+
+abbrev pub right_to : List Named → ℕ → List Node → Band → ℕ
+right_to objects height done rows = end_right (sum_by (rows_beside objects) done) height (rows.start + rows.count)
+
+-- an image that stands in a slot, beside what it is in the end
+pub record IsPartOf (objects : List Named) (height : ℕ) (done : List Node) (rows : Band) (now final : Option ObjectValue) : Type 0 where
+  pub part : ImageValue
+  pub image : ImageValue
+  pub there : now ≡ Some (ImageObject part)
+  pub in_the_end : final ≡ Some (ImageObject image)
+  pub part_is : IsImage part
+  pub stands : StandsFor rows.start rows.count (right_from objects done rows) (right_to objects height done rows) part image
+
+-- whether this is an image
+abbrev pub is_image_held : Option ObjectValue → Bool
+is_image_held (Some (ImageObject image)) = true
+is_image_held other = false
+
+-- the image under a name, with another valid rectangle and the samples that it has
+abbrev pub with_area_in : Rectangle → List Named → Cell → Option ObjectValue → List Named
+with_area_in area objects cell (Some (ImageObject image)) = with_object objects cell (ImageObject (image_over (description_of image) area image.samples))
+with_area_in area objects cell other = objects
+
+-- the objects once an output has this rectangle, if it is an image of the client's
+abbrev pub with_area : Rectangle → Option Cell → List Named → List Named
+with_area area None objects = objects
+with_area area (Some cell) objects = with_area_in area objects cell (object_held objects cell.name)
+
+-- the valid rectangles of what the steps write in the end
+pub record AreAreas (final : List Named) (steps : List Node) (areas : List Rectangle) : Type 0 where
+  pub count : length areas ≡ length steps
+  pub each : (k : ℕ) (n : Node) (area : Rectangle) → slice_get steps k ≡ Some n → slice_get areas k ≡ Some area
+      → All (λ c. (image_held final c).valid ≡ area) (outputs n)

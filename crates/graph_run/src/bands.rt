@@ -1,0 +1,458 @@
+//! Graphs that run in bands of rows: each band goes through all nodes before the next one does, so
+//! that what lies between two nodes stays in the cache.
+ghost use Rattle.std.specs.Prelude.{◌≡◌, ◌≤◌, ◌<◌, ◌+◌, ◌-◌, ◌*◌, ◌++◌, [], ℕ, List, map, pos, take, drop, length};
+ghost use Rattle.std.specs.Prelude.{All, IfSome, IsSome, slice_get, None, Some, false};
+ghost use Rattle.vx_base.specs.declared.format.Format.TheVariants.{U8, S16, U32};
+ghost use Rattle.vx_base.specs.declared.node.Node.{Node as NodeFields};
+ghost use Rattle.vx_base.specs.Cell.{Cell};
+ghost use Rattle.vx_base.specs.Function.{accumulates};
+ghost use Rattle.vx_base.specs.Image.{IsImage, image_over, band, at};
+ghost use Rattle.vx_base.specs.Object.{ImageObject, IsObject};
+ghost use Rattle.vx_base.specs.Outputs.{node_image};
+ghost use Rattle.vx_base.specs.Picture.{values, samples_format};
+ghost use Rattle.vx_base.specs.Rectangle.{empty};
+ghost use Rattle.image_core.specs.Bands.{IsInRows};
+ghost use Rattle.image_core.specs.Second.{second_object};
+ghost use Rattle.image_core.specs.Target.{written, SameSlices};
+ghost use Rattle.object_table.specs.Context.{with_objects};
+ghost use Rattle.object_table.specs.Named.{Named, object_held, with_object};
+ghost use Rattle.object_table.specs.Table.{image_held};
+ghost use Rattle.graph_verify.specs.Outlines.{resolved};
+ghost use Rattle.graph_verify.specs.declared.operand.Operand.{Operand};
+ghost use Rattle.graph_verify.specs.declared.known.VirtualOutput.{VirtualOutput};
+ghost use Rattle.graph_verify.specs.Members.{In};
+ghost use Rattle.graph_verify.specs.Verified.{IsVerified};
+ghost use Rattle.buffer_plan.specs.Places.{told};
+ghost use Rattle.buffer_plan.specs.Plan.{IsPlan};
+ghost use Rattle.graph_run.specs.Bands.{SeesParts, part_made, with_band, with_seen, made_seen, IsWithinRows};
+ghost use Rattle.graph_run.specs.Bands.{IsSeen, HasPlaceIn, output_part, RunsInBands, final_of, IsStrip};
+ghost use Rattle.graph_run.specs.Bands.{IsFinished, AreAreas, is_image_held, with_area};
+ghost use Rattle.graph_run.specs.Graph.{run_of_graph};
+ghost use Rattle.graph_run.specs.Lasting.{Lasts};
+ghost use Rattle.graph_run.specs.Operands.{operand_held, IsReady};
+ghost use Rattle.graph_run.specs.Run.{CanRun};
+ghost use Rattle.graph_run.specs.Slots.{room_of, planned_rooms, AreEmpty, AreShared, claimed_at};
+ghost use Rattle.graph_run.specs.Stage.{scene, slot_of, IsStage, IsArranged, Keeps};
+ghost use Rattle.graph_run.specs.Steps.{CanRunTo};
+ghost use Rattle.graph_run.specs.Turns.{AreVirtual};
+
+use crate::kernel::run_node;
+use crate::runs::place_of;
+use crate::stage::Stage;
+use crate::step::write_samples;
+use buffer_plan::Plan;
+use graph_verify::{Verified, VirtualOutput};
+use image_core::{Band, Image, ImageMut, Second};
+use object_table::{Content, Table};
+use vx_base::{Desc, Node, ObjRef, Output, Rect, Samples};
+
+/// Rows that nodes see, and the band of them that is right in the end.
+#[derive(Clone, Copy)]
+pub struct Strip {
+    pub rows: Band,
+    pub band: Band,
+}
+
+/// How a graph runs in bands of rows.
+#[derive(Drop)]
+pub struct Bands {
+    /// The rows of each image.
+    pub height: u16,
+    /// The rows of a band, or fewer in the last one.
+    pub rows: u16,
+    /// How many rows above and below a band nodes see.
+    pub beside: u16,
+    /// The valid rectangles of what the steps write.
+    pub areas: Vec<Rect>,
+}
+
+/// Runs all nodes of a verified graph band by band. It takes no memory.
+pub fn run_bands(stage: &mut Stage, verified: &Verified, plan: &Plan, bands: &Bands)
+    requires stage { IsStage stage.old }
+    requires rooms { map room_of stage.old.slots.items ≡ planned_rooms (told plan.now) }
+    requires plan { IsPlan verified.now.steps.items verified.now.virtual_outputs.items
+        (told plan.now) }
+    requires some { 1 ≤ bands.now.rows }
+    requires ready { (nodes : List NodeFields) ×
+        IsReady stage.old.table.objects nodes verified.now }
+    requires bands { (nodes : List NodeFields) →
+        IsReady stage.old.table.objects nodes verified.now →
+        RunsInBands stage.old.table.objects nodes verified.now bands.now.height
+        bands.now.beside }
+    requires areas { (nodes : List NodeFields) → IsReady stage.old.table.objects nodes verified.now →
+        AreAreas (final_of stage.old.table.objects nodes verified.now) verified.now.steps.items
+        bands.now.areas.items }
+    ensures value { (nodes : List NodeFields) →
+        IsReady stage.old.table.objects nodes verified.now →
+        stage.new.table ≡ with_objects stage.old.table (run_of_graph
+        (resolved (operand_held stage.old.table.objects) nodes) nodes stage.old.table.objects) }
+    ensures lasts { Lasts stage.old.table.objects stage.new.table.objects }
+    ensures rooms { map room_of stage.new.slots.items ≡ map room_of stage.old.slots.items }
+{
+    let height = bands.height;
+    let mut y = 0;
+    while y < height {
+        let strip = strip_at(bands, y);
+        clear_slots(stage);
+        run_strip(stage, verified, plan, bands, strip);
+        y += strip.band.count;
+    }
+    set_areas(&mut stage.table, verified, bands);
+}
+
+/// The strip whose band begins with a row.
+fn strip_at(bands: &Bands, y: u16) -> Strip
+    requires some { 1 ≤ bands.now.rows }
+    requires below { y < bands.now.height }
+    ensures strip { IsStrip bands.now.height bands.now.beside result }
+    ensures start { result.band.start ≡ y }
+{
+    let count = bands.rows.min(bands.height - y);
+    let start = y.saturating_sub(bands.beside);
+    let end = (y + count).saturating_add(bands.beside).min(bands.height);
+    Strip {
+        rows: Band {
+            start,
+            count: end - start,
+        },
+        band: Band { start: y, count },
+    }
+}
+
+/// Nothing stands in the slots from now on.
+fn clear_slots(stage: &mut Stage)
+    requires { IsStage stage.old }
+    ensures stage { IsStage stage.new }
+    ensures table { stage.new.table ≡ stage.old.table }
+    ensures empty { AreEmpty stage.new.slots.items }
+    ensures rooms { map room_of stage.new.slots.items ≡ map room_of stage.old.slots.items }
+{
+    for slot in stage.slots.iter_mut() {
+        slot.holder = None;
+    }
+}
+
+/// Runs all nodes on the rows of a strip. Before a node runs, the virtual images that it writes
+/// claim their slots: they stand there by these rows.
+fn run_strip(stage: &mut Stage, verified: &Verified, plan: &Plan, bands: &Bands, strip: Strip)
+    requires stage { IsStage stage.old }
+    requires empty { AreEmpty stage.old.slots.items }
+    requires rooms { map room_of stage.old.slots.items ≡ planned_rooms (told plan.now) }
+    requires plan { IsPlan verified.now.steps.items verified.now.virtual_outputs.items
+        (told plan.now) }
+    requires strip { IsStrip bands.now.height bands.now.beside strip }
+    requires runs { (objects : List Named) × (nodes : List NodeFields) ×
+        RunsInBands objects nodes verified.now bands.now.height bands.now.beside ×
+        IsFinished (λ _. strip.band.start) verified.now objects
+        (final_of objects nodes verified.now) stage.old.table.objects }
+    ensures stage { IsStage stage.new }
+    ensures next { stage.new.table.next ≡ stage.old.table.next }
+    ensures rooms { map room_of stage.new.slots.items ≡ map room_of stage.old.slots.items }
+    ensures finished { (objects : List Named) → (nodes : List NodeFields) →
+        RunsInBands objects nodes verified.now bands.now.height bands.now.beside →
+        IsFinished (λ _. strip.band.start) verified.now objects
+        (final_of objects nodes verified.now) stage.old.table.objects →
+        IsFinished (λ _. strip.band.start + strip.band.count) verified.now objects
+        (final_of objects nodes verified.now) stage.new.table.objects }
+{
+    for node in &verified.steps {
+        claim_part(stage, verified, plan, node.out1, strip.rows);
+        claim_part(stage, verified, plan, node.out2, strip.rows);
+        run_output(stage, node, Output::First, node.out1, strip);
+        run_output(stage, node, Output::Second, node.out2, strip);
+    }
+}
+
+/// An output of a node claims its slot by these rows, if it is a virtual image.
+fn claim_part(
+    stage: &mut Stage,
+    verified: &Verified,
+    plan: &Plan,
+    output: Option<ObjRef>,
+    rows: Band,
+)
+    requires stage { IsStage stage.old }
+    requires verified { (is : Cell → Operand) × (nodes : List NodeFields) ×
+        IsVerified is nodes verified.now × ((o : VirtualOutput) →
+        In o verified.now.virtual_outputs.items → rows.count ≤ o.desc.height) }
+    requires some { 1 ≤ rows.count }
+    requires plan { IsPlan verified.now.steps.items verified.now.virtual_outputs.items
+        (told plan.now) }
+    requires outputs { AreVirtual stage.old.table.objects verified.now.virtual_outputs.items }
+    requires shared { AreShared (told plan.now)
+        (map (output_part rows.count) verified.now.virtual_outputs.items) stage.old.slots.items }
+    ensures stage { IsStage stage.new }
+    ensures table { stage.new.table ≡ stage.old.table }
+    ensures slots { (k : ℕ) → slice_get stage.new.slots.items k
+        ≡ claimed_at (told plan.now)
+        (map (output_part rows.count) verified.now.virtual_outputs.items) output k
+        (slice_get stage.old.slots.items k) }
+{
+    let Some(cell) = output else {
+        return;
+    };
+    let Some(desc) = verified.desc_of(cell) else {
+        return;
+    };
+    let Some(slot) = plan.slot_of(cell) else {
+        return;
+    };
+    let at = place_of(plan, desc.format(), slot);
+    desc.has_sides();
+    let desc = Desc::with_sides(desc.width(), rows.count, desc.format());
+    stage.claim(at, VirtualOutput { cell, desc });
+}
+
+/// Runs a node to one of its outputs, if it has that: of a virtual image all rows that it sees are
+/// written to its slot, of another image the band.
+fn run_output(stage: &mut Stage, node: &Node, which: Output, output: Option<ObjRef>, strip: Strip)
+    requires stage { IsStage stage.old }
+    requires strip { IsWithinRows strip }
+    requires sees { IfSome output (IsSeen strip stage.old node.now) }
+    ensures value { scene stage.new ≡ with_objects (scene stage.old)
+        (with_seen strip stage.old node.now which output) }
+    ensures stage { IsStage stage.new }
+    ensures keeps { Keeps stage.old stage.new }
+{
+    if let Some(output) = output {
+        match stage.place_of(output.name()) {
+            Some(_) => write_part(stage, node, which, output, strip.rows),
+            None => write_band(stage, node, which, output, strip),
+        }
+    }
+}
+
+/// Writes what a node makes of the rows that it sees to what stands in a slot.
+fn write_part(stage: &mut Stage, node: &Node, which: Output, output: ObjRef, rows: Band)
+    requires stage { IsArranged stage.old }
+    requires sees { SeesParts rows stage.old node.now output }
+    requires slot { IsSome (slot_of stage.old.slots.items output.name) }
+    requires height { (image_held (scene stage.old).objects output).height ≡ rows.count }
+    ensures value { scene stage.new ≡ with_objects (scene stage.old)
+        (with_object (scene stage.old).objects output
+        (ImageObject (part_made rows stage.old node.now which output))) }
+    ensures stage { IsArranged stage.new }
+    ensures keeps { Keeps stage.old stage.new }
+{
+    let (desc, mut samples) = stage.take(output);
+    let first = stage.part(node.in1, rows);
+    let second = stage.second_part(node.in2, rows);
+    let valid = write_samples(desc, &mut samples, node, which, &first, &second);
+    stage.put(output, samples, valid);
+}
+
+/// Writes the band of what a node makes of the rows that it sees to an image of the client's, which
+/// counts as wholly valid until the run ends.
+fn write_band(stage: &mut Stage, node: &Node, which: Output, output: ObjRef, strip: Strip)
+    requires stage { IsArranged stage.old }
+    requires sees { SeesParts strip.rows stage.old node.now output }
+    requires slot { slot_of stage.old.slots.items output.name ≡ None }
+    requires strip { IsWithinRows strip }
+    requires rows { IsInRows (image_held (scene stage.old).objects output).height strip.rows }
+    ensures value { scene stage.new ≡ with_objects (scene stage.old)
+        (with_object (scene stage.old).objects output (ImageObject (with_band strip
+        (part_made strip.rows stage.old node.now which output)
+        (image_held (scene stage.old).objects output)))) }
+    ensures stage { IsArranged stage.new }
+    ensures keeps { Keeps stage.old stage.new }
+{
+    let (desc, mut samples) = stage.take(output);
+    let first = stage.part(node.in1, strip.rows);
+    let second = stage.second_part(node.in2, strip.rows);
+    let part = Desc::with_sides(desc.width(), strip.rows.count, desc.format());
+    write_rows(part, &mut samples, strip, node, which, &first, &second);
+    stage.put(output, samples, desc.whole());
+}
+
+/// Writes the band's rows of what a node makes of the rows that it sees, an image of this
+/// description; all rows of the image to which they belong are there.
+fn write_rows(
+    part: Desc,
+    samples: &mut Samples,
+    strip: Strip,
+    node: &Node,
+    which: Output,
+    first: &Image<'_>,
+    second: &Second<'_>,
+)
+    requires function { accumulates node.now.function ≡ false }
+    requires format { samples_format samples.old ≡ part.format }
+    requires strip { IsWithinRows strip }
+    requires height { part.height ≡ strip.rows.count }
+    requires room { (strip.band.start + strip.band.count) * part.width
+        ≤ length (values samples.old) }
+    requires can_run { CanRunTo node.now first.now (second_object second.now)
+        (image_over part empty []) }
+    ensures samples { values samples.new
+        ≡ take (strip.band.start * part.width) (values samples.old)
+        ++ band part.width (strip.band.start - strip.rows.start) strip.band.count
+        (at (node_image node.now which part.format first.now (second_object second.now)))
+        ++ drop ((strip.band.start + strip.band.count) * part.width) (values samples.old) }
+    ensures format { samples_format samples.new ≡ samples_format samples.old }
+{
+    let width = usize::from(part.width());
+    let start = usize::from(strip.band.start) * width;
+    let count = usize::from(strip.band.count) * width;
+    let rows = Band {
+        start: strip.band.start - strip.rows.start,
+        count: strip.band.count,
+    };
+    match samples {
+        Samples::U8(samples) => {
+            let (_, rest) = samples.split_at_mut(start);
+            let (to, _) = rest.split_at_mut(count);
+            rows_u8(part, rows, to, node, which, first, second);
+        }
+        Samples::S16(samples) => {
+            let (_, rest) = samples.split_at_mut(start);
+            let (to, _) = rest.split_at_mut(count);
+            rows_s16(part, rows, to, node, which, first, second);
+        }
+        Samples::U32(samples) => {
+            let (_, rest) = samples.split_at_mut(start);
+            let (to, _) = rest.split_at_mut(count);
+            rows_u32(part, rows, to, node, which, first, second);
+        }
+    }
+}
+
+/// Writes rows of one of a node's outputs, an image.
+fn run_rows(
+    node: &Node,
+    which: Output,
+    first: &Image<'_>,
+    second: &Second<'_>,
+    output: &mut ImageMut<'_>,
+)
+    requires { CanRun node.now first.now (second_object second.now) output.old }
+    ensures format { (written output.new).format ≡ (written output.old).format }
+    ensures samples { (written output.new).samples ≡ band (written output.old).width
+        output.old.rows.start output.old.rows.count (at (node_image node.now which
+        (written output.old).format first.now (second_object second.now))) }
+    ensures slices { SameSlices output.old output.new }
+{
+    run_node(node, which, first, second, output);
+}
+
+/// Runs a node to rows of an output in one format.
+macro_rules! run_to_rows {
+    ($desc:expr, $rows:expr, $samples:expr, $node:expr, $which:expr, $first:expr, $second:expr) => {{
+        let mut output = ImageMut::of_rows($desc, $rows, $samples);
+        run_rows($node, $which, $first, $second, &mut output);
+    }};
+}
+
+/// Writes rows of a U8 output.
+fn rows_u8(
+    desc: Desc,
+    rows: Band,
+    samples: &mut [u8],
+    node: &Node,
+    which: Output,
+    first: &Image<'_>,
+    second: &Second<'_>,
+)
+    requires function { accumulates node.now.function ≡ false }
+    requires format { desc.format ≡ U8 }
+    requires rows { IsInRows desc.height rows }
+    requires size { length samples.old ≡ rows.count * desc.width }
+    requires can_run { CanRunTo node.now first.now (second_object second.now)
+        (image_over desc empty []) }
+    ensures { map pos samples.new ≡ band desc.width rows.start rows.count
+        (at (node_image node.now which U8 first.now (second_object second.now))) }
+{
+    run_to_rows!(desc, rows, samples, node, which, first, second);
+}
+
+/// Writes rows of an S16 output, as `rows_u8` does.
+fn rows_s16(
+    desc: Desc,
+    rows: Band,
+    samples: &mut [i16],
+    node: &Node,
+    which: Output,
+    first: &Image<'_>,
+    second: &Second<'_>,
+)
+    requires function { accumulates node.now.function ≡ false }
+    requires format { desc.format ≡ S16 }
+    requires rows { IsInRows desc.height rows }
+    requires size { length samples.old ≡ rows.count * desc.width }
+    requires can_run { CanRunTo node.now first.now (second_object second.now)
+        (image_over desc empty []) }
+    ensures { samples.new ≡ band desc.width rows.start rows.count
+        (at (node_image node.now which S16 first.now (second_object second.now))) }
+{
+    run_to_rows!(desc, rows, samples, node, which, first, second);
+}
+
+/// Writes rows of a U32 output, as `rows_u8` does.
+fn rows_u32(
+    desc: Desc,
+    rows: Band,
+    samples: &mut [u32],
+    node: &Node,
+    which: Output,
+    first: &Image<'_>,
+    second: &Second<'_>,
+)
+    requires function { accumulates node.now.function ≡ false }
+    requires format { desc.format ≡ U32 }
+    requires rows { IsInRows desc.height rows }
+    requires size { length samples.old ≡ rows.count * desc.width }
+    requires can_run { CanRunTo node.now first.now (second_object second.now)
+        (image_over desc empty []) }
+    ensures { map pos samples.new ≡ band desc.width rows.start rows.count
+        (at (node_image node.now which U32 first.now (second_object second.now))) }
+{
+    run_to_rows!(desc, rows, samples, node, which, first, second);
+}
+
+/// Makes the rectangles of the client's images that the nodes write what they are in the end.
+fn set_areas(table: &mut Table, verified: &Verified, bands: &Bands)
+    requires objects { All (λ o. IsObject o.object) table.old.objects }
+    requires runs { (objects : List Named) × (nodes : List NodeFields) ×
+        RunsInBands objects nodes verified.now bands.now.height bands.now.beside ×
+        AreAreas (final_of objects nodes verified.now) verified.now.steps.items
+        bands.now.areas.items ×
+        IsFinished (λ _. bands.now.height) verified.now objects
+        (final_of objects nodes verified.now) table.old.objects }
+    ensures next { table.new.next ≡ table.old.next }
+    ensures value { (objects : List Named) → (nodes : List NodeFields) →
+        RunsInBands objects nodes verified.now bands.now.height bands.now.beside →
+        AreAreas (final_of objects nodes verified.now) verified.now.steps.items
+        bands.now.areas.items →
+        IsFinished (λ _. bands.now.height) verified.now objects
+        (final_of objects nodes verified.now) table.old.objects →
+        table.new.objects ≡ run_of_graph (resolved (operand_held objects) nodes) nodes objects }
+{
+    for k in 0..bands.areas.len() {
+        let (node, area) = (&verified.steps[k], bands.areas[k]);
+        set_area(table, node.out1, area);
+        set_area(table, node.out2, area);
+    }
+}
+
+/// Makes this the rectangle of an output, if it is an image of the client's.
+fn set_area(table: &mut Table, output: Option<ObjRef>, area: Rect)
+    requires { IfSome output (λ cell. cell.slot ≡ None) }
+    ensures { table.new ≡ with_objects table.old (with_area area output table.old.objects) }
+{
+    let Some(cell) = output else {
+        return;
+    };
+    if is_image(table, cell.name()) {
+        let (_, samples) = table.take(cell);
+        table.put(cell, samples, area);
+    }
+}
+
+/// Whether an image is held under a name.
+fn is_image(table: &Table, name: u32) -> bool
+    ensures { result ≡ is_image_held (object_held table.now.objects name) }
+{
+    match table.get_held(name) {
+        Some(object) => matches!(object.content(), Content::Image(_)),
+        None => false,
+    }
+}
