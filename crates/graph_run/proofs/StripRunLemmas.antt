@@ -188,16 +188,16 @@ module _ (objects : List Named) (nodes : List Node) (v : Verified) (height besid
           of_other : (object : ObjectValue) → held final cell ≡ Some object → object_kind object ≢ kind.Image
               → SeesBeside strip.rows (right_from objects before strip.rows) (right_to objects height before strip.rows) s.slots.items now final cell
           of_other object there other = inr (
-            record {
-              object = object;
-              here = real_held cell rd (false_from_ne_true (is_virtual_name v cell.name) (λ virtual.
-                  let from = virtual_read objects nodes v height beside r before after n parts cell rd virtual in
-                  let image = virtual_image objects nodes v height beside r from.0 from.1 in
-                  other (kind_of object (ap (option_map object_kind) (sym there) ∙ ap (λ c. option_map object_kind (held final c)) from.2 ∙ image)))) ∙ there;
-              ends_as = there;
-              other = other;
-              is = subst (λ (o : Option ObjectValue). IfSome o IsObject) there (held_is final cell (final_are objects nodes v height beside r));
-            })
+              record {
+                object = object;
+                here = real_held cell rd (false_from_ne_true (is_virtual_name v cell.name) (λ virtual.
+                    let from = virtual_read objects nodes v height beside r before after n parts cell rd virtual in
+                    let image = virtual_image objects nodes v height beside r from.0 from.1 in
+                    other (kind_of object (ap (option_map object_kind) (sym there) ∙ ap (λ c. option_map object_kind (held final c)) from.2 ∙ image)))) ∙ there;
+                ends_as = there;
+                other = other;
+                is = subst (λ (o : Option ObjectValue). IfSome o IsObject) there (held_is final cell (final_are objects nodes v height beside r));
+              })
             where
               kind_of : (x : ObjectValue) → option_map object_kind (Some x) ≡ Some kind.Image → object_kind x ≡ kind.Image
               kind_of x f = grind arith
@@ -227,7 +227,7 @@ module _ (objects : List Named) (nodes : List Node) (v : Verified) (height besid
       pub output_open : (c : Cell) → In c (outputs n) → IsOpen objects nodes v height beside r strip is_strip before after n parts s c
       output_open c i =
           let high = out_height objects nodes v height beside r n in_steps c i in
-          elim (cases_Bool (is_virtual_name v c.name)) [ | inl virtual ↦ of_virtual high.1 virtual | inr real ↦ of_real high.1 high.2 real ]
+          elim (cases_Bool (is_virtual_name v c.name)) [ inl virtual ↦ of_virtual high.1 virtual | inr real ↦ of_real high.1 high.2 real ]
         where
           is_image : (image : ImageValue) → held now c ≡ Some (ImageObject image) → IsImage (image_held now c)
           is_image image here = grind (arith, here, subst (λ (o : Option ObjectValue). IfSome o IsObject) here (held_is now c h.is.objects))
