@@ -1,11 +1,10 @@
 -- Bands of what nodes make of parts, as values.
-use Rattle.std.proofs.Common.{◌≡◌, ◌≤◌, ◌<◌, ◌+◌, ◌-◌, ◌*◌, ℕ, ℤ, List, ◌++◌, take, drop, length, Option, Some, None, refl, sym, ap, subst, ◌∙◌, arith}
+use Rattle.std.proofs.Common.{◌≡◌, ◌≤◌, ◌+◌, ◌-◌, ◌*◌, ℕ, ◌++◌, take, drop, length, sym, ap, ◌∙◌, arith}
 use Rattle.std.proofs.lemmas.List.{take-append-le, take_all, length-append, length-take-le}
 use Rattle.vx_base.specs.Description.{Description}
 use Rattle.vx_base.specs.Image.{ImageValue, IsImage, description_of, band, at}
 use Rattle.vx_base.proofs.ImageLaws.{whole_band}
 use Rattle.vx_base.proofs.TableLaws.{band-append, length-band}
-use Rattle.image_core.specs.declared.band.Band.{Band}
 use Rattle.node_rows.specs.Parts.{StandsFor, first_right, end_right}
 use Rattle.node_rows.proofs.PartLaws.{band_moved}
 use Rattle.graph_run.specs.declared.bands.Strip.{Strip}

@@ -1,5 +1,5 @@
 -- Rounds and runs of objects, as rounds and runs of what is seen at each cell.
-use Rattle.std.proofs.Common.{◌≡◌, ℕ, zero, suc, Bool, true, false, List, [], ◌∷◌, map, refl, sym, ap, ◌∙◌, inl, inr, Option, None, arith, rules}
+use Rattle.std.proofs.Common.{◌≡◌, ℕ, zero, suc, Bool, true, false, List, [], ◌∷◌, map, refl, sym, ap, ◌∙◌, inl, inr, Option, None, arith}
 use Rattle.std.specs.Option.{option_map, option_or}
 use Rattle.std.specs.List.{list_any, flat_map}
 use Rattle.std.proofs.lemmas.Bool.{cases_Bool, or_parts}

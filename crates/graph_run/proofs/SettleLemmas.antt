@@ -119,7 +119,7 @@ not_image None found second cell there has of_kind other = absurd (let none : is
 
 -- ---- areas of a graph that runs in bands
 
--- what of the areas of these nodes is that of a cell, or as these objects have it
+-- where a cell is valid: the area of the first of these nodes that writes it, else as it is among these objects
 abbrev pub area_among : List Named → List Node → List Rectangle → Cell → Rectangle
 area_among objects before areas cell = unwrap_or (option_and_then (slice_get areas) (position (λ n. writes n cell) before)) (image_held objects cell).valid
 

@@ -1,6 +1,6 @@
 -- Areas that are set at the end of a run in bands, and what the run leaves then.
 use Rattle.std.proofs.Common.{◌≡◌, ℕ, ℤ, ◌+◌, ◌*◌, ◌≤◌, ◌<◌, Bool, true, false, eqb, List, [], ◌∷◌, ◌++◌, map, length, take, drop, get_or, Option, Some, None, ◌⊎◌, inl, inr, refl, sym, ap, subst, ◌∙◌, arith}
-use Rattle.std.specs.Prelude.{◌==◌, ◌&&◌, not, if◌then◌else◌, All, IfSome, unwrap_or, slice_get}
+use Rattle.std.specs.Prelude.{◌&&◌, not, if◌then◌else◌, All, IfSome, unwrap_or}
 use Rattle.std.specs.Option.{option_map, option_and_then}
 use Rattle.std.proofs.lemmas.Bool.{cases_Bool, eqb-true, eq-eqb, and_parts, and_from}
 use Rattle.std.proofs.lemmas.List.{take_all, take_more}
@@ -8,20 +8,18 @@ use Rattle.std.proofs.lemmas.Option.{slice_get-get_or}
 use Rattle.vx_base.specs.declared.format.Format.TheVariants.{U8}
 use Rattle.vx_base.specs.declared.kind.Kind.TheVariants as kind
 use Rattle.vx_base.specs.declared.node.Node.{Node}
-use Rattle.vx_base.specs.declared.virtual_image.VirtualImage.{VirtualImage}
 use Rattle.vx_base.specs.Cell.{Cell, cell_of}
 use Rattle.vx_base.specs.Description.{Description}
 use Rattle.vx_base.specs.Image.{ImageValue, IsImage, image_over, new_image, description_of}
 use Rattle.vx_base.specs.Node.{outputs, given}
 use Rattle.vx_base.specs.Object.{ObjectValue, ImageObject, VirtualObject, IsObject, object_kind}
-use Rattle.vx_base.specs.Rectangle.{Rectangle, empty}
+use Rattle.vx_base.specs.Rectangle.{Rectangle}
 use Rattle.object_table.specs.Context.{Context, with_objects}
-use Rattle.object_table.specs.Delay.{in_slot, with_slot}
+use Rattle.object_table.specs.Delay.{in_slot}
 use Rattle.object_table.specs.Named.{Named, object_held, held, with_object}
 use Rattle.object_table.specs.Object.{image_value, with_samples}
 use Rattle.object_table.specs.Table.{cell_object, image_held, HoldsImage}
 use Rattle.object_table.proofs.HeldLemmas.{object_held_has}
-use Rattle.graph_verify.specs.declared.known.VirtualOutput.{VirtualOutput}
 use Rattle.graph_verify.specs.declared.operand.Operand.{Operand}
 use Rattle.graph_verify.specs.declared.verified.Verified.{Verified}
 use Rattle.graph_verify.specs.Links.{writes, is_written}
@@ -30,7 +28,7 @@ use Rattle.graph_verify.specs.Outlines.{resolved}
 use Rattle.graph_verify.proofs.LinkLemmas.{In-from_same, same-from_In}
 use Rattle.graph_verify.proofs.MemberLemmas.{In-left, In-right, In-append, In-from_any, any-from_In, In-at}
 use Rattle.graph_run.specs.Bands.{RunsInBands, final_of, is_target, is_virtual_name, IsFinished, RowsAreAs, AreAreas, is_image_held, with_area_in, with_area}
-use Rattle.graph_run.specs.Graph.{begun_as, begun, forgotten, is_virtual_object, run_of_graph}
+use Rattle.graph_run.specs.Graph.{begun, forgotten, is_virtual_object, run_of_graph}
 use Rattle.graph_run.specs.Lasting.{lasting, lasting_named, Lasts}
 use Rattle.graph_run.specs.Operands.{operand_held}
 use Rattle.graph_run.specs.Solution.{label_of}

@@ -8,7 +8,7 @@ use Rattle.vx_base.specs.declared.kind.Kind.TheVariants as kind
 use Rattle.vx_base.specs.declared.node.Node.{Node}
 use Rattle.vx_base.specs.declared.output.Output.{Output}
 use Rattle.vx_base.specs.Cell.{Cell}
-use Rattle.vx_base.specs.Object.{ObjectValue, ImageObject, object_kind}
+use Rattle.vx_base.specs.Object.{ObjectValue, object_kind}
 use Rattle.vx_base.specs.Outputs.{written_from}
 use Rattle.object_table.specs.Named.{Named, held}
 use Rattle.graph_verify.specs.Members.{In}
@@ -28,7 +28,7 @@ use Rattle.graph_run.proofs.ObjectLaws.{is_delay, shown, is_delay-shown, not_del
 use Rattle.graph_run.proofs.HeldLaws.{seen, kind-form_seen}
 use Rattle.graph_run.proofs.NameLaws.{Rising, rising, same_objects}
 use Rattle.graph_run.proofs.NodeLaws.{output_at, output_of, given_to, given_from, form-output_of, shown-given_to, shown-given_from, given_holds, holds_given}
-use Rattle.graph_run.proofs.RoundLaws.{form-rounds, seen-rounds, labels-rounds, WritesNo-forms}
+use Rattle.graph_run.proofs.RoundLaws.{form-rounds, seen-rounds, labels-rounds}
 use Rattle.graph_run.proofs.ValueLaws.{given_first, reads_alone, given_same, same_rounds, Follows-rounds}
 
 -- what is seen of a cell that holds no delay as a whole is what it holds

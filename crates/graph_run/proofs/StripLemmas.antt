@@ -1,7 +1,7 @@
 -- A node that runs on the rows of a strip: what it sees, and what it makes.
-use Rattle.std.proofs.Common.{◌≡◌, ◌≢◌, ℕ, ◌+◌, ◌≤◌, Bool, true, false, List, [], ◌∷◌, ◌++◌, Option, Some, None, IfSome, refl, sym, ap, subst, ◌∙◌, arith}
-use Rattle.std.specs.Prelude.{IsTrue, is_some, sum_by, unwrap_or, All}
-use Rattle.std.specs.Option.{option_map, option_and_then}
+use Rattle.std.proofs.Common.{◌≡◌, ℕ, ◌+◌, ◌≤◌, false, List, [], ◌∷◌, ◌++◌, Option, Some, IfSome, sym, ap, subst, ◌∙◌, arith}
+use Rattle.std.specs.Prelude.{IsTrue, is_some, sum_by, unwrap_or}
+use Rattle.std.specs.Option.{option_map}
 use Rattle.std.proofs.lemmas.Bool.Decides.{nat_tests}
 use Rattle.std.proofs.lemmas.List.Sums.{sum_by-append}
 use Rattle.vx_base.specs.declared.kind.Kind.TheVariants as kind
@@ -10,10 +10,10 @@ use Rattle.vx_base.specs.declared.output.Output.{Output}
 use Rattle.vx_base.specs.Cell.{Cell}
 use Rattle.vx_base.specs.Description.{Description}
 use Rattle.vx_base.specs.Function.{parameters, accumulates}
-use Rattle.vx_base.specs.Image.{ImageValue, IsImage, description_of}
-use Rattle.vx_base.specs.Object.{ObjectValue, ImageObject, IsObject, object_kind}
+use Rattle.vx_base.specs.Image.{ImageValue, IsImage}
+use Rattle.vx_base.specs.Object.{ObjectValue, ImageObject, IsObject}
 use Rattle.vx_base.specs.Outputs.{node_image}
-use Rattle.object_table.specs.Named.{Named, held, object_held}
+use Rattle.object_table.specs.Named.{Named, held}
 use Rattle.object_table.specs.Object.{image_value}
 use Rattle.object_table.specs.Table.{cell_object, image_held, HoldsImage}
 use Rattle.node_rows.specs.Parts.{StandsFor, StandsBeside, HasInputs, first_right, end_right}
@@ -23,7 +23,7 @@ use Rattle.graph_run.specs.declared.bands.Strip.{Strip}
 use Rattle.graph_run.specs.declared.stage.Stage.{Stage}
 use Rattle.graph_run.specs.Bands.{seen, part_made, SeesParts, HasPlaceIn, IsSeen, IsStrip, rows_beside, right_from, right_to}
 use Rattle.graph_run.specs.Stage.{scene, slot_of}
-use Rattle.graph_run.specs.Steps.{AreApart, Holds, RunsTo}
+use Rattle.graph_run.specs.Steps.{RunsTo}
 use Rattle.graph_run.proofs.OutputLemmas.{can_run}
 use Rattle.graph_run.proofs.StepLemmas.{nothing}
 use Rattle.graph_run.proofs.SeesLemmas.{SeesImage, SeesBeside, second_stands, second_holds, second_is, second_read, second_rows, parts_can_run}

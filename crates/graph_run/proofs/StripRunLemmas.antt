@@ -1,25 +1,24 @@
 -- The nodes of a graph on the rows of a strip, one after the other.
-use Rattle.std.proofs.Common.{◌≡◌, ◌≢◌, ℕ, ◌+◌, ◌*◌, ◌≤◌, ◌<◌, Bool, true, false, List, [], ◌∷◌, ◌++◌, map, length, take, drop, get_or, Option, Some, None, ◌⊎◌, inl, inr, IfSome, refl, sym, ap, subst, ◌∙◌, arith}
-use Rattle.std.specs.Prelude.{IsTrue, unwrap_or, All, ◌==◌, ◌||◌, ◌&&◌, not, sum_by, slice_get, if◌then◌else◌}
-use Rattle.std.specs.List.{list_any}
+use Rattle.std.proofs.Common.{◌≡◌, ◌≢◌, ℕ, ◌+◌, ◌≤◌, ◌<◌, Bool, true, false, List, [], ◌∷◌, ◌++◌, map, length, take, drop, get_or, Option, Some, None, ◌⊎◌, inl, inr, IfSome, refl, sym, ap, subst, ◌∙◌, arith}
+use Rattle.std.specs.Prelude.{unwrap_or, ◌==◌, ◌||◌, ◌&&◌, not, sum_by, slice_get, if◌then◌else◌}
 use Rattle.std.specs.Option.{option_map, option_and_then}
 use Rattle.std.proofs.lemmas.List.{take-append-drop, take_more, take_all, drop_more}
 use Rattle.std.proofs.lemmas.List.Folds.{list_any-append}
 use Rattle.std.proofs.lemmas.List.Sums.{sum_by-append}
-use Rattle.std.proofs.lemmas.Bool.{cases_Bool, eqb-true, eq-eqb, or_left, or_right, and_parts, and_from, false_from_ne_true}
+use Rattle.std.proofs.lemmas.Bool.{cases_Bool, eqb-true, or_left, or_right, and_parts, and_from, false_from_ne_true}
 use Rattle.vx_base.specs.declared.kind.Kind.TheVariants as kind
 use Rattle.vx_base.specs.declared.node.Node.{Node}
 use Rattle.vx_base.specs.declared.output.Output.TheVariants.{First, Second}
 use Rattle.vx_base.specs.Cell.{Cell, cell_of}
 use Rattle.vx_base.specs.Description.{Description}
 use Rattle.vx_base.specs.Image.{ImageValue, IsImage, description_of}
-use Rattle.vx_base.specs.Node.{outputs, given}
+use Rattle.vx_base.specs.Node.{outputs}
 use Rattle.vx_base.specs.Object.{ObjectValue, ImageObject, VirtualObject, IsObject, object_kind}
 use Rattle.object_table.specs.Context.{with_objects}
 use Rattle.object_table.specs.Delay.{in_slot}
 use Rattle.object_table.specs.Named.{Named, held, object_held}
 use Rattle.object_table.specs.Object.{image_value}
-use Rattle.object_table.specs.Table.{cell_object, image_held, HoldsImage}
+use Rattle.object_table.specs.Table.{image_held, HoldsImage}
 use Rattle.graph_verify.specs.declared.known.VirtualOutput.{VirtualOutput}
 use Rattle.graph_verify.specs.declared.verified.Verified.{Verified}
 use Rattle.graph_verify.specs.Links.{reads, writes, is_written}
@@ -29,11 +28,10 @@ use Rattle.buffer_plan.specs.Plan.{PlanValue}
 use Rattle.graph_run.specs.declared.bands.Strip.{Strip}
 use Rattle.graph_run.specs.declared.stage.Slot.{Slot}
 use Rattle.graph_run.specs.declared.stage.Stage.{Stage}
-use Rattle.graph_run.specs.Bands.{RunsInBands, final_of, IsStrip, is_virtual_name, is_target, IsFinished, RowsAreAs, rows_by_now, IsPartOf, output_part, right_from, right_to, HasPlaceIn, IsSeen, with_seen}
+use Rattle.graph_run.specs.Bands.{RunsInBands, final_of, IsStrip, is_virtual_name, is_target, IsFinished, RowsAreAs, rows_by_now, IsPartOf, output_part, right_from, right_to, IsSeen, with_seen}
 use Rattle.graph_run.specs.Slots.{AreShared, room_of, planned_rooms, AreEmpty}
 use Rattle.graph_run.specs.Solution.{label_of}
 use Rattle.graph_run.specs.Stage.{scene, shown, slot_of, standing_image, IsStage, HoldsVirtual, Keeps, virtual_named}
-use Rattle.graph_run.specs.Steps.{RunsTo}
 use Rattle.graph_run.specs.Turns.{AreVirtual}
 use Rattle.object_table.proofs.SkeletonLaws.{map-told}
 use Rattle.graph_verify.proofs.LinkLemmas.{same_cell-refl, same_cell-true}
@@ -58,9 +56,8 @@ use Rattle.graph_run.proofs.SceneLemmas.{IsItsTurn, turn_of, stays_virtual, shar
 use Rattle.graph_run.proofs.VerifiedLemmas.{are_virtual}
 use Rattle.graph_run.proofs.StepLemmas.{nothing, forgotten_kept, none_standing, Keeps-trans}
 use Rattle.graph_run.proofs.SharingLemmas.{WereWritten, name_of_output}
-use Rattle.graph_run.proofs.SeesLemmas.{SeesImage, SeesObject, SeesBeside, sees_standing, sees_rows}
-use Rattle.graph_run.proofs.StripLemmas.{HasPlace}
-use Rattle.graph_run.proofs.StripStepLemmas.{SeesInputs, IsOpen, AsMade, HasRun, slots_alike, none_back, first_seen, second_seen, has_run}
+use Rattle.graph_run.proofs.SeesLemmas.{SeesImage, SeesBeside, sees_standing, sees_rows}
+use Rattle.graph_run.proofs.StripStepLemmas.{SeesInputs, IsOpen, HasRun, slots_alike, none_back, first_seen, second_seen, has_run}
 
 -- what is shown as an image and is virtual stands in a slot
 stands_somewhere : (slots : List Slot) (l : List Named) (name : ℕ) (image : ImageValue) → HoldsVirtual l name → object_held (shown slots l) name ≡ Some (ImageObject image)
@@ -188,16 +185,16 @@ module _ (objects : List Named) (nodes : List Node) (v : Verified) (height besid
           of_other : (object : ObjectValue) → held final cell ≡ Some object → object_kind object ≢ kind.Image
               → SeesBeside strip.rows (right_from objects before strip.rows) (right_to objects height before strip.rows) s.slots.items now final cell
           of_other object there other = inr (
-            record {
-              object = object;
-              here = real_held cell rd (false_from_ne_true (is_virtual_name v cell.name) (λ virtual.
-                  let from = virtual_read objects nodes v height beside r before after n parts cell rd virtual in
-                  let image = virtual_image objects nodes v height beside r from.0 from.1 in
-                  other (kind_of object (ap (option_map object_kind) (sym there) ∙ ap (λ c. option_map object_kind (held final c)) from.2 ∙ image)))) ∙ there;
-              ends_as = there;
-              other = other;
-              is = subst (λ (o : Option ObjectValue). IfSome o IsObject) there (held_is final cell (final_are objects nodes v height beside r));
-            })
+              record {
+                object = object;
+                here = real_held cell rd (false_from_ne_true (is_virtual_name v cell.name) (λ virtual.
+                    let from = virtual_read objects nodes v height beside r before after n parts cell rd virtual in
+                    let image = virtual_image objects nodes v height beside r from.0 from.1 in
+                    other (kind_of object (ap (option_map object_kind) (sym there) ∙ ap (λ c. option_map object_kind (held final c)) from.2 ∙ image)))) ∙ there;
+                ends_as = there;
+                other = other;
+                is = subst (λ (o : Option ObjectValue). IfSome o IsObject) there (held_is final cell (final_are objects nodes v height beside r));
+              })
             where
               kind_of : (x : ObjectValue) → option_map object_kind (Some x) ≡ Some kind.Image → object_kind x ≡ kind.Image
               kind_of x f = grind arith
@@ -227,7 +224,7 @@ module _ (objects : List Named) (nodes : List Node) (v : Verified) (height besid
       pub output_open : (c : Cell) → In c (outputs n) → IsOpen objects nodes v height beside r strip is_strip before after n parts s c
       output_open c i =
           let high = out_height objects nodes v height beside r n in_steps c i in
-          elim (cases_Bool (is_virtual_name v c.name)) [ | inl virtual ↦ of_virtual high.1 virtual | inr real ↦ of_real high.1 high.2 real ]
+          elim (cases_Bool (is_virtual_name v c.name)) [ inl virtual ↦ of_virtual high.1 virtual | inr real ↦ of_real high.1 high.2 real ]
         where
           is_image : (image : ImageValue) → held now c ≡ Some (ImageObject image) → IsImage (image_held now c)
           is_image image here = grind (arith, here, subst (λ (o : Option ObjectValue). IfSome o IsObject) here (held_is now c h.is.objects))

@@ -1,43 +1,34 @@
 -- How a stage is after so many nodes of a strip, and after one more.
-use Rattle.std.proofs.Common.{◌≡◌, ◌≢◌, ℕ, ◌+◌, ◌*◌, ◌≤◌, ◌<◌, Bool, true, false, List, [], ◌∷◌, ◌++◌, map, length, take, drop, Option, Some, None, ◌⊎◌, inl, inr, IfSome, refl, sym, ap, subst, ◌∙◌, arith}
-use Rattle.std.specs.Prelude.{IsTrue, is_some, sum_by, unwrap_or, All, slice_get, ◌==◌, ◌||◌, not, ⊤}
-use Rattle.std.specs.List.{list_any}
+use Rattle.std.proofs.Common.{◌≡◌, ◌≢◌, ℕ, ◌+◌, ◌*◌, ◌≤◌, true, false, List, [], ◌∷◌, ◌++◌, map, take, drop, Option, Some, None, inl, inr, IfSome, refl, sym, ap, subst, ◌∙◌, arith}
+use Rattle.std.specs.Prelude.{sum_by, unwrap_or, ⊤}
 use Rattle.std.specs.Option.{option_map, option_and_then}
-use Rattle.std.proofs.lemmas.Bool.{cases_Bool, eqb-true, eq-eqb, ne_eqb, or_left, or_right, or_cases, and_parts, and_from, false_from_ne_true}
+use Rattle.std.proofs.lemmas.Bool.{cases_Bool, eq-eqb}
 use Rattle.std.proofs.lemmas.List.{append_assoc}
-use Rattle.std.proofs.lemmas.List.Folds.{list_any-append}
 use Rattle.std.proofs.lemmas.List.Sums.{sum_by-append}
 use Rattle.vx_base.specs.declared.kind.Kind.TheVariants as kind
 use Rattle.vx_base.specs.declared.node.Node.{Node}
 use Rattle.vx_base.specs.declared.output.Output.{Output}
 use Rattle.vx_base.specs.declared.output.Output.TheVariants.{First, Second}
 use Rattle.vx_base.specs.Cell.{Cell, cell_of, same_cell}
-use Rattle.vx_base.specs.Description.{Description}
 use Rattle.vx_base.specs.Image.{ImageValue, IsImage, description_of}
 use Rattle.vx_base.specs.Node.{outputs, given}
-use Rattle.vx_base.specs.Object.{ObjectValue, ImageObject, VirtualObject, IsObject, object_kind}
+use Rattle.vx_base.specs.Object.{ObjectValue, ImageObject, object_kind}
 use Rattle.object_table.specs.Context.{Context, with_objects}
 use Rattle.object_table.specs.Named.{Named, held, object_held, with_object}
 use Rattle.object_table.specs.Object.{image_value}
 use Rattle.object_table.specs.Table.{cell_object, image_held, HoldsImage}
 use Rattle.graph_verify.specs.declared.known.VirtualOutput.{VirtualOutput}
 use Rattle.graph_verify.specs.declared.verified.Verified.{Verified}
-use Rattle.graph_verify.specs.Links.{reads, writes, is_written}
+use Rattle.graph_verify.specs.Links.{writes}
 use Rattle.graph_verify.specs.Members.{In}
-use Rattle.buffer_plan.specs.Lives.{is_used}
-use Rattle.buffer_plan.specs.Plan.{PlanValue}
 use Rattle.graph_run.specs.declared.bands.Strip.{Strip}
 use Rattle.graph_run.specs.declared.stage.Slot.{Slot}
 use Rattle.graph_run.specs.declared.stage.Stage.{Stage}
-use Rattle.graph_run.specs.Bands.{seen_in, part_made, made_in, made_seen, with_seen, with_band, HasPlaceIn, IsSeen, IsStrip, rows_beside, RunsInBands, final_of, is_virtual_name, is_target, IsFinished, RowsAreAs, rows_by_now, IsPartOf, output_part, right_from, right_to}
-use Rattle.graph_run.specs.Slots.{AreShared}
-use Rattle.graph_run.specs.Solution.{label_of}
-use Rattle.graph_run.specs.Stage.{scene, shown, slot_of, IsStage, Keeps, HoldsVirtual, fixed}
+use Rattle.graph_run.specs.Bands.{seen_in, part_made, made_in, made_seen, with_seen, HasPlaceIn, IsSeen, IsStrip, rows_beside, RunsInBands, final_of, is_virtual_name, RowsAreAs, IsPartOf, right_from, right_to}
+use Rattle.graph_run.specs.Stage.{scene, slot_of, fixed}
 use Rattle.graph_run.specs.Steps.{RunsTo}
-use Rattle.graph_run.specs.Turns.{AreVirtual}
 use Rattle.graph_run.proofs.BandLemmas.{right_above, right_below, rows_right}
-use Rattle.graph_run.proofs.SharingLemmas.{WereWritten}
-use Rattle.graph_run.proofs.SeesLemmas.{SeesImage, SeesObject, SeesBeside, sees_standing, sees_rows}
+use Rattle.graph_run.proofs.SeesLemmas.{SeesImage, SeesBeside}
 use Rattle.vx_base.proofs.NodeLaws.{node_image_is}
 use Rattle.vx_base.specs.Function.{parameters, accumulates}
 use Rattle.vx_base.specs.Outputs.{node_image}
@@ -51,11 +42,10 @@ use Rattle.graph_run.specs.Steps.{AreApart}
 use Rattle.graph_run.proofs.AgreeLemmas.{output_cases}
 use Rattle.graph_run.proofs.FinalLemmas.{second_near, second_given, in_height, out_height, final_first, final_second, final_apart, made_first, made_second, writes_images}
 use Rattle.graph_run.proofs.HeldLaws.{object_held-with_object}
-use Rattle.graph_run.proofs.LinkLaws.{In-from_All}
 use Rattle.graph_run.proofs.OutputLemmas.{image_of_object, out_is_image}
 use Rattle.graph_run.proofs.SeesLemmas.{seen_is_object}
 use Rattle.graph_run.proofs.StepLemmas.{nothing}
-use Rattle.graph_run.proofs.StageLemmas.{found_as_it_is, held-shown, held_beside}
+use Rattle.graph_run.proofs.StageLemmas.{held_beside}
 use Rattle.graph_run.proofs.StripLemmas.{HasPlace, is_seen, made_stands}
 
 -- ---- slots that hold what they held

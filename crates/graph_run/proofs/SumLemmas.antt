@@ -1,9 +1,9 @@
 -- Nodes that add to the image that they write: its samples are taken out, and put back once they are added to.
-use Rattle.std.proofs.Common.{◌≡◌, ◌*◌, true, ℤ, List, Option, Some, None, refl, sym, ap, subst, ◌∙◌, arith}
+use Rattle.std.proofs.Common.{◌≡◌, ◌*◌, true, ℤ, List, Option, None, refl, sym, ap, ◌∙◌, arith}
 use Rattle.std.specs.Prelude.{◌==◌}
 use Rattle.std.specs.Option.{option_map}
 use Rattle.vx_base.specs.declared.format.Format.{Format}
-use Rattle.vx_base.specs.declared.format.Format.TheVariants.{U8, S16}
+use Rattle.vx_base.specs.declared.format.Format.TheVariants.{S16}
 use Rattle.vx_base.specs.declared.function.Function.{Function}
 use Rattle.vx_base.specs.declared.function.Function.TheVariants.{Accumulate, AccumulateSquare}
 use Rattle.vx_base.specs.declared.kind.Kind.TheVariants as kind

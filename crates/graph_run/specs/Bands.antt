@@ -1,14 +1,14 @@
--- Graphs that run in bands of rows: each band goes through all nodes before the next one does. Nodes see parts of images, which are a band and some rows beside it.
-use Rattle.std.specs.Prelude.{ℕ, ◌+◌, ◌-◌, ◌*◌, ◌≤◌, ◌<◌, ◌≡◌, ◌≢◌, IsTrue, is_some, ⊤, Bool, true, false, not, ◌&&◌, ◌==◌, if◌then◌else◌, List, [], ◌∷◌, ◌++◌, map, take, drop, length, sum_by, slice_get, All, Option, Some, None, IfSome, unwrap_or}
+-- Graphs that run in bands of rows: each band goes through all nodes before the next one does. Nodes see parts of images, which are a
+-- band and some rows beside it.
+use Rattle.std.specs.Prelude.{ℕ, ◌+◌, ◌-◌, ◌*◌, ◌≤◌, ◌≡◌, ◌≢◌, IsTrue, is_some, ⊤, Bool, true, false, not, ◌&&◌, ◌==◌, if◌then◌else◌, List, [], ◌++◌, map, take, drop, length, sum_by, slice_get, All, Option, Some, None, IfSome, unwrap_or}
 use Rattle.std.specs.Option.{option_map, option_and_then}
 use Rattle.std.specs.List.{list_any}
 use Rattle.std.specs.List.Sorted.{IsStrictlyIncreasing}
-use Rattle.vx_base.specs.declared.format.Format.{Format}
 use Rattle.vx_base.specs.declared.kind.Kind.TheVariants as kind
 use Rattle.vx_base.specs.declared.node.Node.{Node}
 use Rattle.vx_base.specs.declared.output.Output.{Output}
 use Rattle.vx_base.specs.Cell.{Cell, cell_of}
-use Rattle.vx_base.specs.Description.{Description, IsDescription}
+use Rattle.vx_base.specs.Description.{IsDescription}
 use Rattle.vx_base.specs.Function.{parameters, accumulates}
 use Rattle.vx_base.specs.Image.{ImageValue, IsImage, image_over, description_of, band, at}
 use Rattle.vx_base.specs.Node.{outputs}
@@ -145,8 +145,8 @@ HasHeight height other = ⊥
 abbrev pub is_virtual_name : Verified → ℕ → Bool
 is_virtual_name v name = list_any (λ (o : VirtualOutput). name == o.cell.name) v.virtual_outputs.items
 
--- a graph that can run, in bands of rows of images of this height: its nodes write whole images of this height, each from rows that are near,
--- and read no client's image that one of them writes; together they look so many rows up and down
+-- a graph that can run in bands of rows of images of this height: its nodes write images of this height, each from rows that are near, and
+-- read no client's image that one of them writes; together they look so many rows up and down
 pub record RunsInBands (objects : List Named) (nodes : List Node) (v : Verified) (height beside : ℕ) : Type 0 where
   pub ready : IsReady objects nodes v
   pub names : IsStrictlyIncreasing (map (λ o. o.name) objects)

@@ -44,7 +44,7 @@ const BAND_SAMPLES: u32 = 65_536;
 /// In a band of fewer rows than this, those beside it would be too great a part.
 const LEAST_ROWS: u32 = 16;
 
-/// Bands of more rows than this gain nothing over whole images that are narrow.
+/// More rows than this in a band gain nothing.
 const GREATEST_ROWS: u32 = 64;
 
 /// In fewer bands than this a graph gains nothing.
@@ -282,7 +282,7 @@ fn areas_of(alloc: Global, table: &Table, verified: &Verified) -> Result<Vec<Rec
     Ok(areas)
 }
 
-/// The valid rectangle of what a node writes, after nodes whose outputs are valid there.
+/// The valid rectangle of what a node writes that runs after these, whose areas are these.
 fn area_after(table: &Table, before: &[Node], areas: &[Rect], node: &Node) -> Rect
     requires { length areas.now ≡ length before.now }
     ensures { IsArea table.now.objects before.now areas.now node.now result }
@@ -321,8 +321,8 @@ fn area_alone(node: &Node, first: Rect) -> Rect
     }
 }
 
-/// The valid rectangle of the image that a cell holds: after the node that writes it, if one does
-/// of these, else as it is.
+/// The valid rectangle of the image that a cell holds: the area of the node that writes it, if one
+/// of these does, else that of the table's image.
 fn area_of(table: &Table, before: &[Node], areas: &[Rect], cell: ObjRef) -> Rect
     requires { length areas.now ≡ length before.now }
     ensures { result ≡ unwrap_or (option_and_then (slice_get areas.now)

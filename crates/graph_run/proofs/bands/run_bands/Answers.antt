@@ -1,12 +1,7 @@
-use Rattle.std.proofs.Common.{◌≡◌, ◌≤◌, ◌+◌, ◌∙◌, ℕ, List, refl, sym, ap, subst, arith}
-use Rattle.vx_base.specs.declared.node.Node.{Node}
+use Rattle.std.proofs.Common.{◌≡◌, ◌+◌, ◌∙◌, ℕ, refl, sym, ap, subst, arith}
 use Rattle.object_table.specs.Context.{Context, with_objects}
-use Rattle.object_table.specs.Named.{Named}
-use Rattle.graph_verify.specs.Outlines.{resolved}
 use Rattle.graph_run.specs.Bands.{final_of, IsFinished}
-use Rattle.graph_run.specs.Graph.{run_of_graph}
 use Rattle.graph_run.specs.Lasting.{Lasts}
-use Rattle.graph_run.specs.Operands.{operand_held, IsReady}
 use Rattle.graph_run.proofs.SettledLemmas.{begins_finished, lasts_in_the_end}
 use Rattle.graph_run.proofs.bands.run_bands.Goals as goal
 

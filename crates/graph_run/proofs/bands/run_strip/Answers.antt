@@ -1,16 +1,11 @@
-use Rattle.std.proofs.Common.{◌≡◌, ◌<◌, ◌≤◌, ℕ, List, ◌∷◌, ◌++◌, length, get_or, take, drop, map, refl, ap, sym, subst, ◌∙◌}
+use Rattle.std.proofs.Common.{◌<◌, ◌≤◌, ℕ, List, length, get_or, refl, ap, sym, subst, ◌∙◌}
 use Rattle.vx_base.specs.declared.node.Node.{Node}
-use Rattle.vx_base.specs.Cell.{Cell}
-use Rattle.vx_base.specs.Node.{outputs}
 use Rattle.object_table.specs.Context.{Context}
 use Rattle.object_table.specs.Named.{Named}
-use Rattle.graph_verify.specs.Members.{In}
 use Rattle.buffer_plan.specs.Places.{told}
-use Rattle.graph_run.specs.Bands.{RunsInBands, IsStrip, IsFinished, final_of}
 use Rattle.graph_run.specs.Operands.{operand_held}
-use Rattle.graph_run.specs.Stage.{scene}
 use Rattle.graph_run.specs.Turns.{AreVirtual}
-use Rattle.graph_run.proofs.StripRunLemmas.{IsInStrip, IsClaimed, low, still_virtual, strip_begins, strip_ends, first_shared, node_first, node_second, node_runs}
+use Rattle.graph_run.proofs.StripRunLemmas.{low, still_virtual, strip_begins, strip_ends, first_shared, node_first, node_second, node_runs}
 use Rattle.graph_run.proofs.bands.run_strip.Goals as goal
 
 abbrev objects_of : Context → List Named

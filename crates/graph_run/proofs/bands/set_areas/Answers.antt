@@ -1,7 +1,6 @@
 use Rattle.std.proofs.Common.{◌<◌, ◌∙◌, List, length, refl, ap, arith}
 use Rattle.object_table.specs.Context.{Context}
 use Rattle.object_table.specs.Named.{Named}
-use Rattle.graph_run.specs.Bands.{with_area}
 use Rattle.graph_run.proofs.SettledLemmas.{begins_settled, first_whole, second_whole, step_settled, all_settled}
 use Rattle.graph_run.proofs.bands.set_areas.Goals as goal
 

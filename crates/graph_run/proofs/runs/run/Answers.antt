@@ -1,11 +1,12 @@
 use Rattle.std.proofs.Common.{◌≡◌, List, sym, subst, arith}
-use Rattle.std.specs.Prelude.{All}
+use Rattle.std.specs.Prelude.{All, IfSome}
 use Rattle.std.specs.List.Sorted.{IsStrictlyIncreasing}
 use Rattle.vx_base.specs.declared.node.Node.{Node}
 use Rattle.vx_base.specs.Object.{IsObject}
 use Rattle.object_table.specs.Context.{Context, with_objects}
 use Rattle.object_table.proofs.HeldLemmas.{names_of}
 use Rattle.graph_verify.specs.Outlines.{resolved}
+use Rattle.graph_run.specs.Bands.{AreAreas, final_of}
 use Rattle.graph_run.specs.Graph.{run_of_graph}
 use Rattle.graph_run.specs.Operands.{operand_held, IsReady}
 use Rattle.graph_run.proofs.StepLemmas.{empty_stage}
@@ -17,6 +18,13 @@ run_nodes-requires-clause-stage c =
     empty_stage _ c.in_ok-slots.ensures.empty
     (subst (λ (t : Context). IsStrictlyIncreasing (names_of t.objects)) (sym c.replace.ensures.value) c.requires.names)
     (subst (λ (t : Context). All (λ o. IsObject o.object) t.objects) (sym c.replace.ensures.value) c.requires.objects)
+
+pub run_nodes-requires-clause-areas : goal.run_nodes-requires-clause-areas
+run_nodes-requires-clause-areas c =
+    let v = c.args.verified.now in
+    subst
+    (λ (t : Context). IfSome c.in_ok-bands.bands (λ b. (nodes : List Node) → IsReady t.objects nodes v → AreAreas (final_of t.objects nodes v) v.steps.items b.areas.items))
+    (sym c.replace.ensures.value) c.in_ok-bands.ensures.areas
 
 pub give_back-requires : goal.give_back-requires
 give_back-requires c = λ f.
@@ -35,4 +43,3 @@ pub returns-clause-lent : goal.returns-clause-lent
 returns-clause-lent c = λ f.
     omega
     (arith, blocks_stay c.in_ok-slots.slots.items c.run_nodes.new.stage.slots.items c.run_nodes.ensures.rooms f, c.in_ok-slots.ensures.lends f, c.give_back.ensures.lent f)
-
