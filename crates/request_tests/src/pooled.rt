@@ -214,3 +214,45 @@ fn images_in_turn_use_one_block(rt: HostRuntime) -> Result<(), Fail> {
     assert!(rt; has(&runtime, [0; 3], [0; 3]));
     Ok(())
 }
+
+/// Whether so many blocks of U8 are lent once client 1 has asked for something, whatever the reply.
+fn leaves(
+    alloc: Global,
+    runtime: &mut Runtime,
+    request: &Request,
+    lent: usize,
+) -> Result<bool, Fail> {
+    reply(alloc, runtime, request)?;
+    Ok(has(runtime, [lent, 0, 0], [runtime.blocks(Format::U8), 0, 0]))
+}
+
+#[test]
+fn so_many_blocks_are_lent_after_each_call(rt: HostRuntime) -> Result<(), Fail> {
+    let alloc = rt.alloc();
+    let slots = SlotCount::new(3).ok_or("within the limits")?;
+    let mut runtime = with_a_graph(alloc, Limits::default())?;
+    add_not(alloc, &mut runtime, 1, 4)?;
+    add_not(alloc, &mut runtime, 4, 2)?;
+    for (request, lent) in [
+        (Request::VerifyGraph(3), 2),
+        (Request::ProcessGraph(3), 2),
+        // A node reads it still.
+        (Request::Release(1), 2),
+        (Request::ProcessGraph(3), 2),
+        (Request::RemoveNode(3, 1), 1),
+        (Request::CreateDelay(ObjRef::new(2, None), slots), 4),
+        // There is no image 1.
+        (Request::CreateDelay(ObjRef::new(1, None), slots), 4),
+        (Request::AgeDelay(5), 4),
+        // A node writes it still, as long as its graph is there.
+        (Request::Release(2), 4),
+        (Request::Release(3), 3),
+        (Request::Release(5), 0),
+        (Request::Release(5), 0),
+    ] {
+        assert!(rt; leaves(alloc, &mut runtime, &request, lent)?);
+    }
+    // Never were more lent at once.
+    assert!(rt; has(&runtime, [0; 3], [4, 0, 0]));
+    Ok(())
+}
