@@ -38,10 +38,10 @@ use std::mem;
 use vx_base::{Format, ObjRef, Rect};
 
 /// Runs a verified graph on what the cells of its nodes hold in a table: its nodes in an order in
-/// which they can run, each once, or each once for each band of rows. The virtual images that the nodes write stand in blocks of the
-/// pool, which those share that the plan says; they are themselves again at the end, and the blocks
-/// are given back. All memory is taken first: an error has changed nothing but what is free in the
-/// pool.
+/// which they can run, each once, or on large images each once for each band of rows. The virtual
+/// images that the nodes write stand in blocks of the pool, which those share that the plan says;
+/// they are themselves again at the end, and the blocks are given back. All memory is taken first:
+/// an error has changed nothing but what is free in the pool.
 pub fn run(
     alloc: Global,
     verified: &Verified,
