@@ -28,14 +28,22 @@ def addressed(frame: bytes, client: int) -> bytes:
 
 def image_difference(made: Made, one: bytes, other: bytes) -> str:
     """Of two replies to ReadImage that aren't the same."""
-    if len(one) != len(other):
-        return f"{len(one)} bytes, and {len(other)}"
-    at = next(at for at, pair in enumerate(zip(one, other)) if pair[0] != pair[1])
-    if at < 13:
-        return f"{wire.size_of(one)}, and {wire.size_of(other)}"
-    row, column = divmod((at - 13) // SAMPLE_BYTES[wire.Format(made.fmt)], made.width)
+    if wire.size_of(one) != wire.size_of(other):
+        return f"{wire.size_of(one)}, not {wire.size_of(other)}"
+    pairs = enumerate(zip(one[13:], other[13:]))
+    at = next(at for at, pair in pairs if pair[0] != pair[1])
+    row, column = divmod(at // SAMPLE_BYTES[wire.Format(made.fmt)], made.width)
     samples = [wire.rows_of(reply)[row][column] for reply in (one, other)]
-    return f"{samples[0]} in row {row} and column {column}, and {samples[1]}"
+    return f"in row {row}, column {column}, {samples[0]}, not {samples[1]}"
+
+
+def difference(made: Made, op: int, one: bytes, other: bytes) -> str:
+    if op == wire.READ_IMAGE:
+        return image_difference(made, one, other)
+    if op == wire.QUERY_IMAGE:
+        return f"valid {wire.description_of(one)[3]}, not {wire.description_of(other)[3]}"
+    at = next(at for at in range(8, len(one)) if one[at] != other[at])
+    return f"in byte {at}, {one[at]}, not {other[at]}"
 
 
 class Beside:
@@ -52,11 +60,8 @@ class Beside:
 
     def same(self, frame: bytes, words: str, made: Made) -> None:
         one, other = self.both(frame)
-        if one[6:] == other[6:]:
-            return
-        read = frame[6] == wire.READ_IMAGE
-        told = image_difference(made, one, other) if read else f"{wire.say(one)}, {wire.say(other)}"
-        raise Wrong(f"{words}: {told}, node by node")
+        if one[6:] != other[6:]:
+            raise Wrong(f"{words}: {difference(made, frame[6], one, other)} as node by node")
 
     def make(self) -> None:
         self.both(wire.open_context(0))
@@ -88,7 +93,7 @@ class Beside:
     def compare(self, turn: int) -> None:
         for cell, made in self.graph.cells():
             words = f"after run {turn + 1}, image {shown(cell)}"
-            self.same(wire.query_image(0, cell), f"{words}, valid", made)
+            self.same(wire.query_image(0, cell), words, made)
             self.same(wire.read_image(0, cell), words, made)
         for name, made in self.graph.named():
             read = {wire.CREATE_DISTRIBUTION: wire.read_distribution,

@@ -1,14 +1,15 @@
 """Servers that run graphs in bands wrongly: faults in what is asked and answered."""
 
+import struct
 import subprocess
 import sys
-from typing import Dict, NamedTuple, Tuple, Type
+from typing import Dict, List, NamedTuple, Sequence, Set, Type
 
 from feqyldan import wire
 from checks.bands.compared import AS_A_WHOLE, fault_of
 from checks.bands.draw import graph_of
-from checks.bands.graph import GRAPH
-from checks.bands.pictures import SAMPLE_BYTES
+from checks.bands.graph import LARGE
+from checks.bands.pictures import SAMPLE_BYTES, Rectangle
 from checks.bands.server import Server
 
 # A fault is found in so many graphs, or never.
@@ -18,47 +19,62 @@ EDGE = 16
 
 
 class Wrongly(Server):
-    """Changes what the client is answered that runs graphs; `request` is for other faults."""
+    """Changes what the client is answered that runs graphs: of large images that nodes write, since
+    those are of graphs that run in bands."""
 
     def __init__(self, process: "subprocess.Popen[bytes]") -> None:
         super().__init__(process)
-        # The replies so far to each request that reads, since the client's context was opened.
+        # Since the client's context was opened: the replies to requests that read, what the nodes
+        # write, and how many runs there were.
         self.before: Dict[bytes, bytes] = {}
+        self.written: Set[bytes] = set()
         self.runs = 0
 
     def answer(self, request: bytes) -> bytes:
         if int.from_bytes(request[4:6], "big") != AS_A_WHOLE:
             return super().answer(request)
-        if request[6] == wire.OPEN_CONTEXT:
-            self.before, self.runs = {}, 0
-        self.runs += request[6] == wire.PROCESS_GRAPH
+        self.note(request)
         if self.is_left_out(request):
             return wire.reply_frame(AS_A_WHOLE, request[6])
         right = super().answer(request)
         if wire.code_of(right) != wire.SUCCESS:
             return right
         reply = self.changed(request, right)
-        self.before[request] = right
+        if len(right) > 8:
+            self.before[request] = right
         return reply
+
+    def note(self, request: bytes) -> None:
+        if request[6] == wire.OPEN_CONTEXT:
+            self.before, self.written, self.runs = {}, set(), 0
+        elif request[6] == wire.PROCESS_GRAPH:
+            self.runs += 1
+        elif request[6] == wire.ADD_NODE:
+            self.written |= {request[-10:-5], request[-5:]}
 
     def is_left_out(self, _: bytes) -> bool:
+        """Whether this isn't done."""
         return False
 
+    def concerns(self, cell: bytes) -> bool:
+        return cell in self.written
+
     def changed(self, request: bytes, reply: bytes) -> bytes:
+        if request[6] not in (wire.READ_IMAGE, wire.QUERY_IMAGE) or not self.concerns(request[7:]):
+            return reply
+        fmt, width, height = wire.size_of(reply)
+        if width * height < LARGE:
+            return reply
         if request[6] == wire.READ_IMAGE:
-            fmt, width, height = wire.size_of(reply)
             return self.image(request, reply, width * SAMPLE_BYTES[wire.Format(fmt)], height)
-        if request[6] == wire.QUERY_IMAGE:
-            valid = list(wire.description_of(reply)[3])
-            return reply[:13] + b"".join(side.to_bytes(2, "big") for side in self.valid(
-                request, (valid[0], valid[1], valid[2], valid[3])))
-        return reply
+        left, top, right, bottom = wire.description_of(reply)[3]
+        return reply[:13] + struct.pack(">4H", *self.valid(request, (left, top, right, bottom)))
 
     def image(self, _: bytes, reply: bytes, __: int, ___: int) -> bytes:
         """The reply to ReadImage; a row has so many bytes, and there are so many rows."""
         return reply
 
-    def valid(self, _: bytes, valid: Tuple[int, int, int, int]) -> Tuple[int, ...]:
+    def valid(self, _: bytes, valid: Rectangle) -> Sequence[int]:
         return valid
 
 
@@ -120,39 +136,40 @@ class OldRow(Wrongly):
 
 
 class SourceChanged(Wrongly):
-    """A row of an image that nodes only read is cleared: the one with the first name."""
+    """A row of an image that nodes only read is cleared."""
 
-    def image(self, request: bytes, reply: bytes, length: int, height: int) -> bytes:
-        if request[7:] != wire.reference(GRAPH + 1):
-            return reply
+    def concerns(self, cell: bytes) -> bool:
+        return cell not in self.written
+
+    def image(self, _: bytes, reply: bytes, length: int, height: int) -> bytes:
         return with_row(reply, length, height // 2, bytes(length))
 
 
 class ShorterValid(Wrongly):
     """A valid rectangle ends a row sooner."""
 
-    def valid(self, _: bytes, valid: Tuple[int, int, int, int]) -> Tuple[int, ...]:
+    def valid(self, _: bytes, valid: Rectangle) -> Sequence[int]:
         return (*valid[:3], valid[3] - 1) if valid[3] - valid[1] > 1 else valid
 
 
 class ValidOfBand(Wrongly):
     """A valid rectangle is that of the first band."""
 
-    def valid(self, _: bytes, valid: Tuple[int, int, int, int]) -> Tuple[int, ...]:
+    def valid(self, _: bytes, valid: Rectangle) -> Sequence[int]:
         return (*valid[:3], min(valid[3], EDGE)) if valid[1] < EDGE else valid
 
 
 class ValidInRows(Wrongly):
     """A rectangle of one row, which isn't the first, is told as the empty one."""
 
-    def valid(self, _: bytes, valid: Tuple[int, int, int, int]) -> Tuple[int, ...]:
+    def valid(self, _: bytes, valid: Rectangle) -> Sequence[int]:
         return (0, 0, 0, 0) if valid[1] and valid[3] == valid[1] + 1 else valid
 
 
 class OldValid(Wrongly):
     """A valid rectangle is that of the run before."""
 
-    def valid(self, request: bytes, valid: Tuple[int, int, int, int]) -> Tuple[int, ...]:
+    def valid(self, request: bytes, valid: Rectangle) -> Sequence[int]:
         old = self.before.get(request)
         return valid if old is None else wire.description_of(old)[3]
 
@@ -210,20 +227,19 @@ PLANTED = (
 )
 
 
-def found_at(program: str, kind: Type[Server], seed: int) -> int:
-    """In which graph a fault is found, from 1 on; 0 where it isn't."""
-    found = fault_of(program, map(graph_of, range(seed, seed + FAULT_GRAPHS)), kind)
-    return 0 if found is None else found[0].seed - seed + 1
-
-
 def check_faults(program: str, seed: int) -> None:
-    missed = []
+    missed: List[str] = []
+    graphs = [graph_of(at) for at in range(seed, seed + FAULT_GRAPHS)]
     for fault in PLANTED:
-        at = found_at(program, fault.server, seed)
-        print(f"  found in graph {at or 'none':>4}: {fault.words}", flush=True)
-        missed += [] if at else [f"not found in {FAULT_GRAPHS} graphs: {fault.words}"]
-    if found_at(program, LostRequests, seed):
-        missed.append("no fault, but found: a third client asks too")
+        found = fault_of(program, graphs, fault.server)
+        if found is None:
+            missed.append(f"not found in {FAULT_GRAPHS} graphs: {fault.words}")
+            continue
+        at = found[0].seed - seed + 1
+        print(f"  found in graph {at:2}: {fault.words}: {found[1]}", flush=True)
+    found = fault_of(program, graphs, LostRequests)
+    if found is not None:
+        missed.append(f"no fault, but found: {found[1]}")
     if missed:
         sys.exit("\n".join(f"check_bands: {words}" for words in missed))
     print(f"check_bands: {len(PLANTED)} servers that run graphs wrongly were all found, with seeds "
