@@ -91,7 +91,11 @@ class Beside:
             self.ask(ONE_BY_ONE, wire.age_delay(0, name))
 
     def compare(self, turn: int) -> None:
+        """After the first run what is written alone: the second one reads the rest."""
+        written = self.graph.written()
         for cell, made in self.graph.cells():
+            if turn == 0 and cell not in written and not made.slots:
+                continue
             words = f"after run {turn + 1}, image {shown(cell)}"
             self.same(wire.query_image(0, cell), words, made)
             self.same(wire.read_image(0, cell), words, made)

@@ -262,8 +262,8 @@ class Draw:
     def graph(self) -> Graph:
         rng = self.rng
         self.sources()
-        columns, rows = max(self.sizes)
-        most = max(3, min(40, GREATEST_SUM // (columns * rows)))
+        greatest = max(columns * rows for columns, rows in self.sizes)
+        most = max(3, min(40, GREATEST_SUM // greatest))
         count = min(most, rng.choices(
             (rng.randint(1, 4), rng.randint(5, 12), rng.randint(13, 40)), (4, 5, 3))[0])
         for _ in range(count):

@@ -41,13 +41,13 @@ def constant(rng: random.Random, made: Made) -> bytes:
 def steps_down(rng: random.Random, made: Made) -> bytes:
     """Each row is another than those beside it, or than those some rows away."""
     thick = rng.choice((1, 1, 2, 7, 16))
-    rows = [encoded(rng, made.fmt) * made.width for _ in range(-(-made.height // thick))]
-    return b"".join(rows[y // thick] for y in range(made.height))
+    samples, length = rng.randbytes(4 * made.height), SAMPLE_BYTES[wire.Format(made.fmt)]
+    starts = (y // thick * length for y in range(made.height))
+    return b"".join(samples[start : start + length] * made.width for start in starts)
 
 
 def steps_across(rng: random.Random, made: Made) -> bytes:
-    row = b"".join(encoded(rng, made.fmt) for _ in range(made.width))
-    return row * made.height
+    return rng.randbytes(made.width * SAMPLE_BYTES[wire.Format(made.fmt)]) * made.height
 
 
 KINDS: Tuple[Callable[[random.Random, Made], bytes], ...] = (
