@@ -4,7 +4,7 @@ import argparse
 import os
 import random
 
-from checks.bands.compared import check_bands
+from checks.bands.many import check_bands
 from checks.bands.planted import check_faults
 
 

@@ -1,25 +1,14 @@
 """Graphs that are run, and beside them their nodes one by one."""
 
-import collections
-import sys
-import time
-from typing import Counter, Iterable, Iterator, List, Optional, Sequence, Tuple, Type
+from typing import Iterable, Optional, Tuple, Type
 
 from feqyldan import wire
-from checks.bands.draw import graph_of
-from checks.bands.graph import (
-    ADDING, GRAPH, LARGE, STATISTICS, WINDOWED, Graph, Made, graph_words, shown)
+from checks.bands.graph import GRAPH, Graph, Made, shown
 from checks.bands.pictures import SAMPLE_BYTES, picture_for
 from checks.bands.server import Server, Wrong, serving
 
 # The client that runs graphs, and the one that runs their nodes.
 AS_A_WHOLE, ONE_BY_ONE = 1, 2
-# So many graphs run on one server.
-TOGETHER = 10
-# Among so many graphs everything comes.
-ALL_COMES = 200
-# Seconds in which a graph is made smaller.
-CUTTING = 60
 
 
 def addressed(frame: bytes, client: int) -> bytes:
@@ -127,113 +116,3 @@ def fault_of(program: str, graphs: Iterable[Graph],
         assert graph is not None
         return graph, str(wrong)
     return None
-
-
-# ---- a graph that fails
-
-
-def cut_down(program: str, graph: Graph, words: str) -> Tuple[Graph, str]:
-    """The graph without the nodes that aren't needed for it to fail, and how it fails then."""
-    end = time.monotonic() + CUTTING
-    for number in reversed(range(len(graph.nodes))):
-        shorter = graph.without(number)
-        if time.monotonic() > end or not shorter.nodes:
-            break
-        found = fault_of(program, [shorter])
-        if found is not None:
-            graph, words = found
-    return graph, words
-
-
-def tell(program: str, seeds: Sequence[int], graph: Graph, words: str) -> None:
-    """Ends with a graph that failed, the last of those with these seeds on one server."""
-    again = f"--seed {graph.seed} --graphs 1"
-    alone = fault_of(program, [graph])
-    if alone is None:
-        again = f"--seed {seeds[0]} --graphs {len(seeds)}"
-        words += "; not where it runs on a server of its own"
-    else:
-        graph, words = cut_down(program, *alone)
-    lines = [*graph_words(graph), *picture_words(graph)]
-    sys.exit("\n  ".join((f"check_bands: seed {graph.seed}: {words}", *lines))
-             + f"\nthe whole graph runs again with {again}")
-
-
-def picture_words(graph: Graph) -> Iterator[str]:
-    used = graph.written() | graph.read()
-    for turn in range(2):
-        for cell, made in graph.cells():
-            picture = picture_for(graph, cell, made, turn) if cell in used else None
-            if picture is not None:
-                yield (f"written before run {turn + 1}: {shown(cell)}, {picture.kind}, valid "
-                       f"{picture.valid}")
-
-
-# ---- many graphs
-
-
-class Counts:
-    """What was run: graphs by kind, and of those that may run in bands, on large images, functions
-    with their borders."""
-
-    def __init__(self) -> None:
-        self.graphs = self.nodes = self.large = self.may = self.nodes_in_bands = 0
-        self.functions: Counter[Tuple[int, int]] = collections.Counter()
-        self.ran: Counter[int] = collections.Counter()
-
-    def add(self, graph: Graph) -> None:
-        self.graphs += 1
-        self.nodes += len(graph.nodes)
-        self.ran.update(node.function for node in graph.nodes)
-        if graph.largest() < LARGE:
-            return
-        self.large += 1
-        if graph.may_run_in_bands():
-            self.may += 1
-            self.nodes_in_bands += len(graph.nodes)
-            self.functions.update((node.function, node.border) for node in graph.nodes)
-
-    def lacks(self) -> Iterator[str]:
-        for function in wire.Function:
-            if not self.ran[function]:
-                yield f"{function.name} never ran"
-            elif function not in (*STATISTICS, *ADDING) and not self.borders_of(function):
-                yield f"{function.name} never ran where a graph may run in bands"
-            elif function in WINDOWED and len(self.borders_of(function)) < len(wire.Border):
-                yield f"{function.name} never ran so with some border"
-
-    def borders_of(self, function: int) -> List[int]:
-        return [border for border in wire.Border if self.functions[function, border]]
-
-    def words(self) -> str:
-        return (f"{self.graphs} graphs of {self.nodes} nodes gave what their nodes give one by "
-                f"one; {self.large} on images of {LARGE} samples and more, of which {self.may}, of "
-                f"{self.nodes_in_bands} nodes, may run in bands whatever their nodes look at")
-
-
-def check_bands(program: str, seconds: float, graphs: Optional[int], seed: int) -> None:
-    """So many graphs, or where it is None as many as the seconds allow."""
-    counts, end, following = Counts(), time.monotonic() + seconds, seed
-    least = ALL_COMES if graphs is None else graphs
-
-    def some() -> Iterator[Graph]:
-        nonlocal following
-        for _ in range(TOGETHER):
-            is_enough = following >= seed + least
-            if is_enough and (graphs is not None or time.monotonic() > end):
-                return
-            following += 1
-            graph = graph_of(following - 1)
-            counts.add(graph)
-            yield graph
-
-    before = None
-    while before != following:
-        before = following
-        found = fault_of(program, some())
-        if found is not None:
-            tell(program, range(before, following), *found)
-    print(f"check_bands: seeds {seed} to {following - 1}: {counts.words()}")
-    lacks = [*counts.lacks()] if graphs is None else []
-    if lacks:
-        sys.exit("\n".join(f"check_bands: {words}" for words in lacks))
