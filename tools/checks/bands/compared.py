@@ -9,6 +9,8 @@ from checks.bands.server import Server, Wrong, serving
 
 # The client that runs graphs, and the one that runs their nodes.
 AS_A_WHOLE, ONE_BY_ONE = 1, 2
+# How what statistics found is read, by what made the object.
+READS = {wire.CREATE_DISTRIBUTION: wire.read_distribution, wire.CREATE_MIN_MAX: wire.read_min_max}
 
 
 def addressed(frame: bytes, client: int) -> bytes:
@@ -52,12 +54,15 @@ class Beside:
         if one[6:] != other[6:]:
             raise Wrong(f"{words}: {difference(made, frame[6], one, other)} as node by node")
 
-    def make(self) -> None:
+    def make_objects(self) -> None:
+        """Both have the same names for the same."""
         self.both(wire.open_context(0))
         self.both(wire.create_graph(0))
         for made in self.graph.objects:
             self.ask(AS_A_WHOLE, made.virtual or made.frame)
             self.ask(ONE_BY_ONE, made.frame)
+
+    def make_graph(self) -> None:
         for node in self.graph.added():
             self.ask(AS_A_WHOLE, wire.add_node(0, GRAPH, *node))
         for name in self.graph.delays:
@@ -79,7 +84,7 @@ class Beside:
         for name in self.graph.delays:
             self.ask(ONE_BY_ONE, wire.age_delay(0, name))
 
-    def compare(self, turn: int) -> None:
+    def compare_images(self, turn: int) -> None:
         """After the first run what is written alone: the second one reads the rest."""
         written = self.graph.written()
         for cell, made in self.graph.cells():
@@ -88,18 +93,21 @@ class Beside:
             words = f"after run {turn + 1}, image {shown(cell)}"
             self.same(wire.query_image(0, cell), words, made)
             self.same(wire.read_image(0, cell), words, made)
+
+    def compare_found(self, turn: int) -> None:
         for name, made in self.graph.named():
-            read = {wire.CREATE_DISTRIBUTION: wire.read_distribution,
-                    wire.CREATE_MIN_MAX: wire.read_min_max}.get(wire.Op(made.frame[6]))
+            read = READS.get(wire.Op(made.frame[6]))
             if read:
                 self.same(read(0, name), f"after run {turn + 1}, object {name}", made)
 
     def check(self) -> None:
-        self.make()
+        self.make_objects()
+        self.make_graph()
         for turn in range(2):
             self.write(turn)
             self.run()
-            self.compare(turn)
+            self.compare_images(turn)
+            self.compare_found(turn)
         self.both(wire.release_context(0))
 
 

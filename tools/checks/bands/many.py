@@ -71,9 +71,9 @@ class Many:
             self.counts.graphs >= ALL_COMES or not any(self.counts.lacks()))
 
     def some(self) -> Iterator[Graph]:
-        """Those that come next, for one server."""
-        for _ in range(TOGETHER):
-            if self.is_enough():
+        """Those that come next, for one server; at least one."""
+        for number in range(TOGETHER):
+            if number and self.is_enough():
                 return
             graph = graph_of(self.following)
             self.following += 1

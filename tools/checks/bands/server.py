@@ -26,6 +26,8 @@ class Server:
             self.process.stdin.write(request)
             self.process.stdin.flush()
         except BrokenPipeError:
+            with contextlib.suppress(BrokenPipeError):
+                self.process.stdin.close()
             raise Wrong("the server ended") from None
         head = self.process.stdout.read(4)
         reply = head + self.process.stdout.read(int.from_bytes(head, "big"))
