@@ -1,0 +1,119 @@
+"""Samples of images, and where they are valid."""
+
+import random
+import struct
+from typing import Callable, NamedTuple, Optional, Tuple
+
+from feqyldan import wire
+from checks.bands.graph import Graph, Made
+
+SAMPLE_BYTES = {wire.U8: 1, wire.S16: 2, wire.U32: 4}
+Rectangle = Tuple[int, int, int, int]
+# The upper bytes of S16 samples whose sums and products are often samples too: mostly small ones.
+UPPER = bytes((0, 0, 0, 1, 2, 255, 255, 254)[byte % 8] for byte in range(256))
+
+
+def noise(rng: random.Random, made: Made) -> bytes:
+    return rng.randbytes(made.width * made.height * SAMPLE_BYTES[wire.Format(made.fmt)])
+
+
+def near_zero(rng: random.Random, made: Made) -> bytes:
+    if made.fmt != wire.S16:
+        return noise(rng, made)
+    samples = bytearray(noise(rng, made))
+    samples[::2] = samples[::2].translate(UPPER)
+    return bytes(samples)
+
+
+def encoded(rng: random.Random, fmt: int) -> bytes:
+    """A sample, often one of the least and the greatest."""
+    letter = wire.letter_of(fmt)
+    ends = {wire.U8: (0, 1, 255), wire.S16: (-32768, -1, 0, 255, 32767), wire.U32: (0,)}
+    if rng.random() < 0.3:
+        return struct.pack(f">{letter}", rng.choice(ends[wire.Format(fmt)]))
+    return rng.randbytes(SAMPLE_BYTES[wire.Format(fmt)])
+
+
+def constant(rng: random.Random, made: Made) -> bytes:
+    return encoded(rng, made.fmt) * (made.width * made.height)
+
+
+def steps_down(rng: random.Random, made: Made) -> bytes:
+    """Each row is another than those beside it, or than those some rows away."""
+    thick = rng.choice((1, 1, 2, 7, 16))
+    samples, length = rng.randbytes(4 * made.height), SAMPLE_BYTES[wire.Format(made.fmt)]
+    starts = (y // thick * length for y in range(made.height))
+    return b"".join(samples[start : start + length] * made.width for start in starts)
+
+
+def steps_across(rng: random.Random, made: Made) -> bytes:
+    return rng.randbytes(made.width * SAMPLE_BYTES[wire.Format(made.fmt)]) * made.height
+
+
+KINDS: Tuple[Callable[[random.Random, Made], bytes], ...] = (
+    noise, near_zero, steps_down, steps_across, constant)
+SHARES = (5, 6, 3, 1, 1)
+
+
+def whole(made: Made) -> Rectangle:
+    return 0, 0, made.width, made.height
+
+
+def small(rng: random.Random, made: Made) -> Rectangle:
+    left, top = rng.randrange(made.width), rng.randrange(made.height)
+    return left, top, min(made.width, left + rng.randint(1, 4)), min(
+        made.height, top + rng.randint(1, 4))
+
+
+def empty(_: random.Random, __: Made) -> Rectangle:
+    return 0, 0, 0, 0
+
+
+def row(rng: random.Random, made: Made) -> Rectangle:
+    top = rng.randrange(made.height)
+    return 0, top, made.width, top + 1
+
+
+def at_edge(rng: random.Random, made: Made) -> Rectangle:
+    """All but some columns or rows at a side or two."""
+    left, top = rng.randrange(made.width), rng.randrange(made.height)
+    right, bottom = rng.randint(left + 1, made.width), rng.randint(top + 1, made.height)
+    return rng.choice((
+        (0, 0, made.width, bottom), (0, top, made.width, made.height),
+        (0, 0, right, made.height), (left, 0, made.width, made.height),
+        (left, top, made.width, made.height), (0, 0, right, bottom)))
+
+
+def within(rng: random.Random, made: Made) -> Rectangle:
+    """All but a few columns and rows at each side, as far as there are so many."""
+    left, top = rng.randint(0, min(9, made.width - 1)), rng.randint(0, min(40, made.height - 1))
+    right = max(left + 1, made.width - rng.randint(0, 9))
+    return left, top, right, max(top + 1, made.height - rng.randint(0, 40))
+
+
+RECTANGLES: Tuple[Callable[[random.Random, Made], Rectangle], ...] = (
+    small, empty, row, at_edge, within)
+RECTANGLE_SHARES = (1, 1, 1, 4, 5)
+
+
+class Picture(NamedTuple):
+    """What is written to an image before a run."""
+
+    samples: bytes
+    valid: Rectangle
+    kind: str
+
+
+def picture_for(graph: Graph, cell: bytes, made: Made, turn: int) -> Optional[Picture]:
+    """Before the second run many images stay as they are, and those that nodes write stay more
+    often. It is the same whatever nodes are left out, but for that."""
+    rng = random.Random(f"{graph.seed} {cell.hex()} {turn}")
+    share = 0.9 if turn == 0 else 0.5
+    if rng.random() > (share / 2 if cell in graph.written() else share):
+        return None
+    kind = rng.choices(KINDS, SHARES)[0]
+    samples = kind(rng, made)
+    is_whole = random.Random(f"{graph.seed} valid").random() < 0.4 or rng.random() < 0.5
+    rectangle = rng.choices(RECTANGLES, RECTANGLE_SHARES)[0]
+    valid = whole(made) if is_whole else rectangle(rng, made)
+    return Picture(samples, valid, kind.__name__)
