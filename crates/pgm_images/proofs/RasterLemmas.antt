@@ -31,6 +31,11 @@ so_many-more take is_end (suc left) n done rest others whole some is next =
     let less : suc left - 1 ≡ left = omega arith in
     rw less (is ∙ rw next (after_one done n (so_many take is_end left others)))
 
+so_many-none : (take : List ℕ → BeginsWith ℕ) (is_end : List ℕ → Bool) (left : ℕ) (done rest : List ℕ) (whole : Option (List ℕ)) → 0 < left
+    → whole ≡ after done (so_many take is_end left rest) → take rest ≡ None → whole ≡ None
+so_many-none take is_end zero done rest whole some is none = absurd (omega arith)
+so_many-none take is_end (suc left) done rest whole some is none = is ∙ rw none refl
+
 -- ---- numbers that were written over samples
 
 -- These numbers of a text are the samples, unless one is above the maxval. A number above 65535 was
