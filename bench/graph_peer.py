@@ -1,6 +1,6 @@
 """The time of OpenCV's calls for the chains of bench/graphs on one thread, as JSON: python3
-graph_peer.py WIDTH HEIGHT COUNT. Each call writes to an array that is there already; the arrays are
-as many as a chain has links."""
+graph_peer.py WIDTH HEIGHT COUNT CHAIN.., of the chains that are named, as they are called there.
+Each call writes to an array that is there already; the arrays are as many as a chain has links."""
 
 import json
 import random
@@ -12,40 +12,88 @@ import numpy
 sys.dont_write_bytecode = True
 from shared import best_seconds  # noqa: E402
 
-width, height, count = map(int, sys.argv[1:])
+width, height, count = map(int, sys.argv[1:4])
 cv2.setNumThreads(1)
-samples = numpy.frombuffer(random.Random(1).randbytes(width * height), numpy.uint8)
-first = samples.reshape(height, width).copy()
+
+
+def noise(seed):
+    samples = numpy.frombuffer(random.Random(seed).randbytes(width * height), numpy.uint8)
+    return samples.reshape(height, width).copy()
+
+
+first, second = noise(1), noise(2)
 arrays = [numpy.empty_like(first) for _ in range(16)]
+gradients = [numpy.empty_like(first, numpy.int16) for _ in range(2)]
 square = numpy.ones((3, 3), numpy.uint8)
 REPLICATE = cv2.BORDER_REPLICATE
 
-CHAINS = {
-    "pixelwise": (
-        lambda a, out: cv2.bitwise_not(a, out),
-        lambda a, out: cv2.absdiff(a, first, out),
-        lambda a, out: cv2.min(a, first, out),
-        lambda a, out: cv2.add(a, first, out),
-    ),
-    "windows": (
-        lambda a, out: cv2.GaussianBlur(a, (3, 3), 0, out, borderType=REPLICATE),
-        lambda a, out: cv2.medianBlur(a, 3, out),
-        lambda a, out: cv2.erode(a, square, out, borderType=REPLICATE),
-        lambda a, out: cv2.dilate(a, square, out, borderType=REPLICATE),
-    ),
-}
+
+def gaussian(a, out):
+    cv2.GaussianBlur(a, (3, 3), 0, out, borderType=REPLICATE)
 
 
-def run(calls, length):
+def erode(a, out):
+    cv2.erode(a, square, out, borderType=REPLICATE)
+
+
+def dilate(a, out):
+    cv2.dilate(a, square, out, borderType=REPLICATE)
+
+
+PIXELWISE = (
+    lambda a, out: cv2.bitwise_not(a, out),
+    lambda a, out: cv2.absdiff(a, first, out),
+    lambda a, out: cv2.min(a, first, out),
+    lambda a, out: cv2.add(a, first, out),
+)
+WINDOWS = (gaussian, lambda a, out: cv2.medianBlur(a, 3, out), erode, dilate)
+MOTION = (
+    lambda a, out: cv2.absdiff(a, second, out),
+    lambda a, out: cv2.threshold(a, 100, 255, cv2.THRESH_BINARY, out),
+    erode,
+    dilate,
+)
+
+
+def run(calls, length=4):
     source = first
     for k in range(length):
         calls[k % len(calls)](source, arrays[k])
         source = arrays[k]
 
 
+# A quarter of a gradient, rounded down, is this with what OpenCV does, which rounds to nearest.
+QUARTER, DOWN = 1 / 4, -3 / 8
+
+
+def edges_of_both():
+    smooth, *outputs = arrays[:3]
+    gaussian(first, smooth)
+    cv2.spatialGradient(smooth, *gradients, 3, REPLICATE)
+    for gradient, out in zip(gradients, outputs):
+        # What is below 0 becomes 0 first: convertScaleAbs would take it without its sign.
+        cv2.threshold(gradient, 0, 0, cv2.THRESH_TOZERO, gradient)
+        cv2.convertScaleAbs(gradient, out, QUARTER, DOWN)
+
+
+def edges_of_each():
+    smooth, *outputs = arrays[:3]
+    gaussian(first, smooth)
+    for (dx, dy), out in zip(((1, 0), (0, 1)), outputs):
+        cv2.Sobel(smooth, cv2.CV_8U, dx, dy, out, 3, QUARTER, DOWN, REPLICATE)
+
+
+# The ways to do what a chain does, of which the fastest counts.
+CHAINS = {
+    "4 nodes, pixelwise": (lambda: run(PIXELWISE),),
+    "16 nodes, pixelwise": (lambda: run(PIXELWISE, 16),),
+    "4 nodes, windows": (lambda: run(WINDOWS),),
+    "16 nodes, windows": (lambda: run(WINDOWS, 16),),
+    "motion": (lambda: run(MOTION),),
+    "edges": (edges_of_both, edges_of_each),
+}
 times = {
-    f"{kind} {length}": best_seconds(lambda: run(calls, length), count)
-    for kind, calls in CHAINS.items()
-    for length in (4, 16)
+    name: min(best_seconds(way, count) for way in CHAINS[name])
+    for name in sys.argv[4:]
 }
 print(json.dumps(times))

@@ -39,6 +39,12 @@ class Server:
     def create(self, request):
         return int.from_bytes(self.run([request])[0], "big")
 
+    def memory(self, field):
+        """A line of /proc/PID/status in megabytes: VmRSS now, VmHWM at most so far."""
+        with open(f"/proc/{self.process.pid}/status", encoding="ascii") as status:
+            lines = dict(line.split(":", 1) for line in status)
+        return int(lines[field].split()[0]) * 1024 / 1e6
+
     def close(self):
         self.process.stdin.close()
         self.process.wait()
