@@ -1,8 +1,10 @@
 -- What nodes find on a stage, beside what they would find if each virtual image were an image of its own from the beginning.
 use Rattle.std.proofs.Common.{◌≡◌, ℕ, true, false, eqb, List, [], ◌∷◌, ◌++◌, map, Option, Some, None, ◌⊎◌, inl, inr, refl, sym, ap, subst, ◌∙◌, arith}
 use Rattle.std.specs.Prelude.{◌==◌, ◌||◌, All, if◌then◌else◌}
+use Rattle.std.specs.List.{flat_map}
 use Rattle.std.specs.Option.{option_map, option_and_then}
 use Rattle.std.proofs.lemmas.Bool.{cases_Bool, eqb-true, eq-eqb, or_left, or_right, or_cases, false_from_ne_true}
+use Rattle.std.proofs.lemmas.Grind.{flat_map-append}
 use Rattle.std.proofs.lemmas.List.Folds.{list_any-append}
 use Rattle.vx_base.specs.declared.node.Node.{Node}
 use Rattle.vx_base.specs.declared.output.Output.{Output}
@@ -13,7 +15,7 @@ use Rattle.vx_base.specs.Cell.{Cell}
 use Rattle.vx_base.specs.Description.{Description}
 use Rattle.vx_base.specs.Function.{accumulates}
 use Rattle.vx_base.specs.Image.{ImageValue, description_of}
-use Rattle.vx_base.specs.Node.{IsNode, operands}
+use Rattle.vx_base.specs.Node.{IsNode, operands, outputs}
 use Rattle.vx_base.specs.Object.{ObjectValue, ImageObject, VirtualObject, object_kind}
 use Rattle.vx_base.specs.Outputs.{node_output, written_in, written_by}
 use Rattle.object_table.specs.Delay.{in_slot, with_slot}
@@ -22,12 +24,13 @@ use Rattle.graph_verify.specs.declared.known.VirtualOutput.{VirtualOutput}
 use Rattle.graph_verify.specs.declared.operand.Operand.{Operand}
 use Rattle.graph_verify.specs.declared.operand.Operand.TheVariants.{Image}
 use Rattle.graph_verify.specs.declared.verified.Verified.{Verified}
-use Rattle.graph_verify.specs.Links.{reads, writes, feeds, is_written}
+use Rattle.graph_verify.specs.Links.{reads, writes, feeds, is_written, has_twice}
 use Rattle.graph_verify.specs.Members.{In, AllIn}
 use Rattle.graph_verify.specs.Operand.{operand_of, is_virtual}
 use Rattle.graph_verify.specs.Order.{InTurn}
 use Rattle.graph_verify.specs.Outlines.{resolved}
-use Rattle.graph_verify.proofs.LinkLemmas.{same_cell-refl, feeds_is}
+use Rattle.graph_verify.specs.Verdict.{two_writers}
+use Rattle.graph_verify.proofs.LinkLemmas.{same_cell-refl, feeds_is, once_across, In-outputs, two_writers-permutation}
 use Rattle.graph_verify.proofs.MemberLemmas.{In-left, In-right, In-append, In-from_any, any-from_In, AllIn-permutation, AllIn-permutation_back}
 use Rattle.buffer_plan.specs.Lives.{is_used}
 use Rattle.graph_run.specs.Graph.{begun, one_by_one}
@@ -212,6 +215,16 @@ module _ (objects : List Named) (nodes : List Node) (v : Verified) (h : IsReady 
               let yes = feeds_is m n cell writer.2 r in
               absurd (cc))
         ]
+
+    -- what it writes, none before it writes
+    pub written_once : (cell : Cell) → writes n cell ≡ true → is_written before cell ≡ true → ⊥
+    written_once cell w earlier =
+        let writer = In-from_any (λ m. writes m cell) before earlier in
+        let one : two_writers (before ++ n ∷ after) ≡ false =
+        ap two_writers (sym parts) ∙ two_writers-permutation nodes v.steps.items h.verified.order.same_nodes (can objects nodes v h.runs.0 h.verified h.runs.1).one_writer in
+        once_across cell (flat_map outputs before) (flat_map outputs (n ∷ after))
+        (ap has_twice (sym (flat_map-append outputs before (n ∷ after))) ∙ one)
+        (In-outputs writer.0 cell before writer.1 writer.2) (In-outputs n cell (n ∷ after) (inl refl) w)
 
     module _ (here : List Named) (agrees : Agrees outs before (n ∷ after) here ideal) (images : (o : VirtualOutput) → In o outs → writes n o.cell ≡ true → StandsAs here o) where
       -- what isn't virtual has no output's name

@@ -1,14 +1,15 @@
 -- Bands of what nodes make of parts, as values.
-use Rattle.std.proofs.Common.{◌≡◌, ◌≤◌, ◌+◌, ◌-◌, ◌*◌, ℕ, ◌++◌, take, drop, length, sym, ap, ◌∙◌, arith}
+use Rattle.std.proofs.Common.{◌≡◌, ◌≤◌, ◌+◌, ◌-◌, ◌*◌, ℕ, ◌++◌, take, drop, length, Option, Some, refl, sym, ap, ◌∙◌, arith}
 use Rattle.std.proofs.lemmas.List.{take-append-le, take_all, length-append, length-take-le}
 use Rattle.vx_base.specs.Description.{Description}
 use Rattle.vx_base.specs.Image.{ImageValue, IsImage, description_of, band, at}
+use Rattle.vx_base.specs.Object.{ObjectValue, ImageObject}
 use Rattle.vx_base.proofs.ImageLaws.{whole_band}
 use Rattle.vx_base.proofs.TableLaws.{band-append, length-band}
 use Rattle.node_rows.specs.Parts.{StandsFor, first_right, end_right}
 use Rattle.node_rows.proofs.PartLaws.{band_moved}
 use Rattle.graph_run.specs.declared.bands.Strip.{Strip}
-use Rattle.graph_run.specs.Bands.{IsWithinRows, with_band}
+use Rattle.graph_run.specs.Bands.{IsWithinRows, with_band, RowsAreAs}
 
 -- ---- how far rows are right
 
@@ -92,3 +93,18 @@ module _ (strip : Strip) (part old final : ImageValue) (within : IsWithinRows st
 
       sums : {a b : ℕ} → a ≡ start * old.width → b ≡ count * old.width → a + b ≡ (start + count) * old.width
       sums e f = grind (arith, e, f)
+
+-- ---- images of which rows are alike
+
+-- two images, of which one has the first rows of the other
+pub record Rows (y : ℕ) (now final : Option ObjectValue) : Type 0 where
+  pub one : ImageValue
+  pub other : ImageValue
+  pub there : now ≡ Some (ImageObject one)
+  pub in_the_end : final ≡ Some (ImageObject other)
+  pub desc : description_of one ≡ description_of other
+  pub rows : take (y * other.width) one.samples ≡ take (y * other.width) other.samples
+
+pub rows_of : (y : ℕ) (now final : Option ObjectValue) → RowsAreAs y now final → Rows y now final
+rows_of y (Some (ImageObject i)) (Some (ImageObject f)) rows = record { one = i; other = f; there = refl; in_the_end = refl; desc = rows.0; rows = rows.1 }
+rows_of y now final rows = absurd (grind arith)

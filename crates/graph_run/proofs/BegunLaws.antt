@@ -1,5 +1,6 @@
 -- What virtual images are as a run begins and ends.
-use Rattle.std.proofs.Common.{◌≡◌, ℕ, true, false, if◌then◌else◌, eqb, List, [], ◌∷◌, map, refl, sym, subst, ◌∙◌, inr, Option, Some, None, Bool, arith}
+use Rattle.std.proofs.Common.{◌≡◌, ℕ, true, false, if◌then◌else◌, eqb, List, [], ◌∷◌, map, drop, refl, sym, ap, subst, ◌∙◌, inl, inr, Option, Some, None, Bool, arith}
+use Rattle.std.specs.Prelude.{◌==◌}
 use Rattle.std.specs.Option.{option_map}
 use Rattle.std.proofs.lemmas.Bool.{cases_Bool}
 use Rattle.vx_base.specs.declared.kind.Kind.TheVariants as kind
@@ -59,6 +60,19 @@ pub object_held-unwritten : (ws : List (Cell × ObjectValue)) (objects : List Na
     → object_held (with_written objects ws) name ≡ object_held objects name
 object_held-unwritten [] objects name h = refl
 object_held-unwritten (w ∷ ws) objects name h = grind (arith, object_held-unwritten ws (with_object objects w.0 w.1) name (λ v i. h v (inr i)), object_held-with_object objects w.0 w.1 name)
+
+-- lists of the same labels hold something under the same names
+pub both_held : (one other : List Named) → map label_of one ≡ map label_of other → (name : ℕ) (x : ObjectValue) → object_held one name ≡ Some x
+    → (y : ObjectValue) × (object_held other name ≡ Some y)
+both_held [] other labels name x at = absurd (cc)
+both_held (o ∷ one) [] labels name x at = absurd (cc)
+both_held (o ∷ one) (p ∷ other) labels name x at =
+    let label : label_of o ≡ label_of p = cc in
+    let same : o.name ≡ p.name = ap (λ (m : ℕ × Bool). m.0) label in
+    elim (cases_Bool (p.name == name)) [
+      | inl here ↦ (p.object, rw here refl)
+      | inr later ↦ rw later (both_held one other (ap (drop 1) labels) name x (rw (same, later) at at))
+    ]
 
 abbrev pub kept_virtual : Option ObjectValue → Option ObjectValue → Option ObjectValue
 kept_virtual (Some x) (Some y) = Some (if is_virtual_object x then x else y)

@@ -14,7 +14,7 @@ use Rattle.vx_base.specs.Image.{ImageValue, new_image}
 use Rattle.vx_base.specs.Object.{ObjectValue, ImageObject, IsObject, object_kind}
 use Rattle.object_table.specs.Delay.{in_slot, with_slot}
 use Rattle.object_table.specs.Named.{Named, object_held, held, with_object, with_written}
-use Rattle.object_table.specs.Table.{cell_object, HoldsImage}
+use Rattle.object_table.specs.Table.{cell_object, image_held, HoldsImage}
 use Rattle.object_table.proofs.HeldLemmas.{names_of, HasObject, held_alone, All-with_object, map-with_object}
 use Rattle.object_table.proofs.SkeletonLaws.{IsObject-with_slot}
 use Rattle.object_table.proofs.SlotLemmas.{with_slot_twice, with_slot_there, with_slot_beside}
@@ -88,6 +88,17 @@ holds_there objects operand h = grind arith
 -- an operand is what the cell holds
 pub operand_there : (objects : List Named) (cell : Cell) → Holds objects cell → operand_held objects cell ≡ operand_of (cell_object objects cell)
 operand_there objects cell h = ap (λ o. unwrap_or (option_map operand_of o) Delay) (there_is objects cell h)
+
+pub held_image : (objects : List Named) (cell : Cell) → HoldsImage objects cell → held objects cell ≡ Some (ImageObject (image_held objects cell))
+held_image objects cell h = grind arith
+
+-- where a cell is no slot, it holds what stands under its name
+pub held_whole : (objects : List Named) (cell : Cell) → cell.slot ≡ None → held objects cell ≡ object_held objects cell.name
+held_whole objects cell none = grind (arith, none)
+
+-- and is the cell of that name
+pub one_cell : (a b : Cell) → a.name ≡ b.name → a.slot ≡ None → b.slot ≡ None → a ≡ b
+one_cell a b name one other = grind (arith, name, one, other)
 
 -- ---- what lasts
 

@@ -1,5 +1,5 @@
 -- What a graph that runs in bands leaves in the end, cell by cell.
-use Rattle.std.proofs.Common.{◌≡◌, ℕ, Bool, true, false, eqb, List, [], ◌∷◌, ◌++◌, map, length, drop, Option, Some, None, inl, inr, refl, sym, ap, subst, ◌∙◌, arith}
+use Rattle.std.proofs.Common.{◌≡◌, ℕ, Bool, true, false, eqb, List, [], ◌∷◌, ◌++◌, map, length, Option, Some, None, inl, inr, refl, sym, ap, subst, ◌∙◌, arith}
 use Rattle.std.specs.Prelude.{◌==◌, ◌&&◌, ◌||◌, not, if◌then◌else◌, IsTrue, is_some, is_none, All, IfSome, unwrap_or}
 use Rattle.std.specs.List.Sorted.{IsStrictlyIncreasing}
 use Rattle.std.specs.Option.{option_map, option_and_then}
@@ -40,11 +40,6 @@ use Rattle.graph_verify.proofs.MemberLemmas.{In-left, In-right, In-append, In-fr
 use Rattle.graph_verify.proofs.VerdictLemmas.{CanRun}
 use Rattle.node_rows.specs.Parts.{HasInputs}
 use Rattle.node_rows.specs.Reach.{reach, matrix_in}
-use Rattle.graph_verify.proofs.LinkLemmas.{once_across, In-outputs, two_writers-permutation}
-use Rattle.graph_verify.specs.Verdict.{two_writers}
-use Rattle.graph_verify.specs.Links.{has_twice}
-use Rattle.std.specs.List.{flat_map}
-use Rattle.std.proofs.lemmas.Grind.{flat_map-append}
 use Rattle.graph_run.proofs.CellLemmas.{kind_there}
 use Rattle.graph_run.specs.Bands.{RunsInBands, HasHeight, final_of, is_target, is_virtual_name, reach_of, rows_beside}
 use Rattle.graph_run.specs.Graph.{begun_as, begun, forgotten, is_virtual_object, one_by_one, rounds_of_nodes, run_of_graph}
@@ -55,8 +50,8 @@ use Rattle.graph_run.specs.Stage.{HoldsVirtual}
 use Rattle.graph_run.specs.Steps.{AreApart, RunsTo}
 use Rattle.graph_run.specs.Turns.{HoldsKind, CanRunNow}
 use Rattle.graph_run.proofs.AgreeLemmas.{begin, begins, written_before}
-use Rattle.graph_run.proofs.BegunLaws.{kept_virtual, labels-begun, labels-forgotten, object_held-forgotten, object_held-unwritten, virtual_as_operand}
-use Rattle.graph_run.proofs.CellLemmas.{there_is, holds_there}
+use Rattle.graph_run.proofs.BegunLaws.{both_held, kept_virtual, labels-begun, labels-forgotten, object_held-forgotten, object_held-unwritten, virtual_as_operand}
+use Rattle.graph_run.proofs.CellLemmas.{there_is, holds_there, one_cell}
 use Rattle.graph_run.proofs.FoundLemmas.{OfOperands, of_operands}
 use Rattle.graph_run.proofs.LastingLemmas.{Lasts-trans, Lasts-names}
 use Rattle.graph_run.proofs.LinkLaws.{All-from_In, In-from_All, reads_second}
@@ -117,6 +112,10 @@ second_seen : (l : List Named) (cell : Option Cell) (k : Kind) → IfSome cell (
 second_seen l None k holds = refl
 second_seen l (Some c) k holds = there_is l c (holds_there l (c, k) holds)
 
+-- an output that holds what its node makes of what the inputs hold
+abbrev pub IsMade : List Named → Node → Output → Cell → Type 0
+IsMade l n which c = held l c ≡ Some (ImageObject (node_image n which (image_held l c).format (image_held l n.in1) (option_map (cell_object l) n.in2)))
+
 -- a cell that holds what a node writes to it, which adds nothing, holds what the node makes
 made_in_cell : (n : Node) (which : Output) (c : Cell) (now : Cell → Option ObjectValue) (old second : Option ObjectValue) (a b : ImageValue)
     → now n.in1 ≡ Some (ImageObject a) → old ≡ Some (ImageObject b) → accumulates n.function ≡ false
@@ -160,9 +159,6 @@ not_target true true none real = absurd (cc)
 not_target true false none real = absurd (cc)
 not_target false virtual none real = refl
 
-whole_cell : (c : Cell) → c.slot ≡ None → cell_of c.name ≡ c
-whole_cell c none = ap (λ (slot : Option ℕ). let q : Cell = record { name = c.name; slot = slot } in q) (sym none)
-
 -- a virtual image stands in no slot
 virtual_whole : (slot : Option ℕ) (image : VirtualImage) (operand : Operand) → option_map operand_of (in_slot slot (VirtualObject image)) ≡ Some operand → ◌≡◌ {A = Option ℕ} slot None
 virtual_whole None image operand e = refl
@@ -170,18 +166,6 @@ virtual_whole (Some k) image operand e = absurd (cc)
 
 described_as : (found : Option ObjectValue) (d : Description) → option_map operand_of found ≡ Some (Image d) → description_of (image_value (unwrap_or found (ImageObject (new_image 0 0 U8)))) ≡ d
 described_as x d e = grind arith
-
--- what stands under a name among objects stands there among others of the same labels
-there_too : (one other : List Named) → map label_of one ≡ map label_of other → (name : ℕ) (x : ObjectValue) → object_held one name ≡ Some x → (y : ObjectValue) × (object_held other name ≡ Some y)
-there_too [] other labels name x at = absurd (cc)
-there_too (o ∷ one) [] labels name x at = absurd (cc)
-there_too (o ∷ one) (p ∷ other) labels name x at =
-    let label : label_of o ≡ label_of p = cc in
-    let same : o.name ≡ p.name = ap (λ (m : ℕ × Bool). m.0) label in
-    elim (cases_Bool (p.name == name)) [
-      | inl here ↦ (p.object, rw here refl)
-      | inr later ↦ rw later (there_too one other (ap (drop 1) labels) name x (rw (same, later) at at))
-    ]
 
 kept_real : (o p : Option ObjectValue) → ((x : ObjectValue) → o ≡ Some x → is_virtual_object x ≡ false) → kept_virtual o p ≡ p
 kept_real (Some x) (Some y) real = let plain = real x refl in rw plain refl
@@ -351,7 +335,7 @@ module _ (objects : List Named) (nodes : List Node) (v : Verified) (height besid
 
   made_at : (n : Node) → In n steps → (which : Output) (cell : Option Cell) → IfSome cell (λ c. HoldsKind first_objects (c, (parameters n.function).output))
       → ((w : Cell × ObjectValue) → In w (written_in n which cell (held first_objects) (held final)) → held final w.0 ≡ Some w.1)
-      → IfSome cell (λ c. held final c ≡ Some (ImageObject (node_image n which (image_held final c).format (image_held final n.in1) (option_map (cell_object final) n.in2))))
+      → IfSome cell (IsMade final n which)
   made_at n i which None old written = tt
   made_at n i which (Some c) old written =
       let a = image_of_kind (held final n.in1) (of_final n i).in1 in
@@ -371,14 +355,12 @@ module _ (objects : List Named) (nodes : List Node) (v : Verified) (height besid
       In-from_All (λ (x : Cell × ObjectValue). held final x.0 ≡ Some x.1) (written_from (held first_objects) n (held final))
       (In-from_All (λ m. All (λ x. held final x.0 ≡ Some x.1) (written_from (held first_objects) m (held final))) nodes final_solves.written n (in_nodes n i)) w j
 
-  pub made_first : (n : Node) → In n steps
-      → IfSome n.out1 (λ c. held final c ≡ Some (ImageObject (node_image n First (image_held final c).format (image_held final n.in1) (option_map (cell_object final) n.in2))))
+  pub made_first : (n : Node) → In n steps → IfSome n.out1 (IsMade final n First)
   made_first n i =
       made_at n i First n.out1 (of_first n i).out1
       (λ w j. all_made n i w (In-left w (written_in n First n.out1 (held first_objects) (held final)) (written_in n Second n.out2 (held first_objects) (held final)) j))
 
-  pub made_second : (n : Node) → In n steps
-      → IfSome n.out2 (λ c. held final c ≡ Some (ImageObject (node_image n Second (image_held final c).format (image_held final n.in1) (option_map (cell_object final) n.in2))))
+  pub made_second : (n : Node) → In n steps → IfSome n.out2 (IsMade final n Second)
   made_second n i =
       made_at n i Second n.out2 (of_first n i).out2
       (λ w j. all_made n i w (In-right w (written_in n First n.out1 (held first_objects) (held final)) (written_in n Second n.out2 (held first_objects) (held final)) j))
@@ -421,18 +403,10 @@ module _ (objects : List Named) (nodes : List Node) (v : Verified) (height besid
       (subst (λ (o : Option Cell). SecondHasSize (image_value (cell_object final n.in1)) (option_map (cell_object final) o)) at runs.second_size))
       ∙ in_height n i
 
-  -- what one node writes, none before it writes
-  pub written_later : (before after : List Node) (n : Node) → steps ≡ before ++ n ∷ after → (c : Cell) → writes n c ≡ true → is_written before c ≡ true → ⊥
-  written_later before after n parts c w earlier =
-      let writer = In-from_any (λ m. writes m c) before earlier in
-      let one : two_writers (before ++ n ∷ after) ≡ false = ap two_writers (sym parts) ∙ two_writers-permutation nodes steps r.ready.verified.order.same_nodes graph_can.one_writer in
-      once_across c (flat_map outputs before) (flat_map outputs (n ∷ after)) (ap has_twice (sym (flat_map-append outputs before (n ∷ after))) ∙ one)
-      (In-outputs writer.0 c before writer.1 writer.2) (In-outputs n c (n ∷ after) (inl refl) w)
-
   -- ---- the client's objects
 
   pub cell_is_whole : (n : Node) → In n steps → (c : Cell) → writes n c ≡ true → cell_of c.name ≡ c
-  cell_is_whole n i c w = whole_cell c (out_height n i c (In-from_same c (outputs n) w)).1
+  cell_is_whole n i c w = one_cell (cell_of c.name) c refl refl (out_height n i c (In-from_same c (outputs n) w)).1
 
   -- what is no virtual image that the nodes write, and no target, stays
   pub real_same : (name : ℕ) → is_virtual_name v name ≡ false → is_target v name ≡ false → object_held final name ≡ object_held objects name
@@ -484,18 +458,24 @@ module _ (objects : List Named) (nodes : List Node) (v : Verified) (height besid
       let output = In-from_any (λ (o : VirtualOutput). name == o.cell.name) outs virtual in
       (output.0, output.1, eqb-true name output.0.cell.name output.2)
 
+  -- under such a name the client has a virtual image
+  virtual_held : (name : ℕ) → is_virtual_name v name ≡ true → (image : VirtualImage) × (object_held objects name ≡ Some (VirtualObject image))
+  virtual_held name virtual =
+      let output = output_of_name name virtual in
+      let object = (output_object objects nodes v work r.ready.verified r.ready.runs.1 output.0 output.1).1 in
+      (object.0, ap (object_held objects) output.2 ∙ object.1)
+
   -- a cell of a virtual name is that of the virtual image
   pub virtual_cell : (n : Node) → In n nodes → (cell : Cell) → names_cell n cell ≡ true → is_virtual_name v cell.name ≡ true → (o : VirtualOutput) × In o outs × (cell ≡ o.cell)
   virtual_cell n i cell named virtual =
       let output = output_of_name cell.name virtual in
-      let object = (output_object objects nodes v work r.ready.verified r.ready.runs.1 output.0 output.1).1 in
-      let at : object_held objects cell.name ≡ Some (VirtualObject object.0) = ap (object_held objects) output.2 ∙ object.1 in
+      let object = virtual_held cell.name virtual in
       let found : option_map operand_of (in_slot cell.slot (VirtualObject object.0)) ≡ Some (is cell) =
-      sym (ap (λ o. option_map operand_of (option_and_then (in_slot cell.slot) o)) at) ∙ r.ready.cells.found n cell i named in (
+      sym (ap (λ o. option_map operand_of (option_and_then (in_slot cell.slot) o)) object.1) ∙ r.ready.cells.found n cell i named in (
         output.0,
         output.1,
-        sym (whole_cell cell (virtual_whole cell.slot object.0 (is cell) found)) ∙ ap cell_of output.2
-            ∙ sym (output_whole objects nodes v work r.ready.verified r.ready.runs.1 output.0 output.1),
+        one_cell cell output.0.cell output.2 (virtual_whole cell.slot object.0 (is cell) found)
+            (ap (λ (c : Cell). c.slot) (output_whole objects nodes v work r.ready.verified r.ready.runs.1 output.0 output.1)),
       )
 
   -- a virtual image that a node reads was written before
@@ -526,11 +506,9 @@ module _ (objects : List Named) (nodes : List Node) (v : Verified) (height besid
   end_held : (name : ℕ) → (if is_target v name then object_held final name else object_held objects name) ≡ kept_virtual (object_held objects name) (object_held final name)
   end_held name = elim (cases_Bool (is_virtual_name v name)) [
     | inl virtual ↦
-        (let output = output_of_name name virtual in
-        let object = (output_object objects nodes v work r.ready.verified r.ready.runs.1 output.0 output.1).1 in
-        let at : object_held objects name ≡ Some (VirtualObject object.0) = ap (object_held objects) output.2 ∙ object.1 in
-        let there = there_too objects final (sym final_labels) name (VirtualObject object.0) at in
-        virtual_end (is_written steps (cell_of name)) (is_virtual_name v name) (object_held objects name) (object_held final name) object.0 there.0 virtual at there.1)
+        (let object = virtual_held name virtual in
+        let there = both_held objects final (sym final_labels) name (VirtualObject object.0) object.1 in
+        virtual_end (is_written steps (cell_of name)) (is_virtual_name v name) (object_held objects name) (object_held final name) object.0 there.0 virtual object.1 there.1)
     | inr real ↦ elim (cases_Bool (is_target v name)) [
       | inl target ↦ rw target (sym (kept_real (object_held objects name) (object_held final name) (target_is_real name real target)))
       | inr none ↦ rw none (sym (ap (kept_virtual (object_held objects name)) (real_same name real none) ∙ kept_same (object_held objects name)))
@@ -555,12 +533,11 @@ module _ (objects : List Named) (nodes : List Node) (v : Verified) (height besid
   matrix_same n i (Some c) at = elim (cases_Bool (is_virtual_name v c.name)) [
     | inl virtual ↦
         (let output = virtual_cell n (in_nodes n i) c (or_left (reads n c) (writes n c) read) virtual in
-        let object = (output_object objects nodes v work r.ready.verified r.ready.runs.1 output.0 output.1).1 in
-        let held_at : object_held objects c.name ≡ Some (VirtualObject object.0) = ap (λ (d : Cell). object_held objects d.name) output.2 ∙ object.1 in
+        let object = virtual_held c.name virtual in
         let image = described_kind (held final c) output.0.desc
         (found_in_the_end n i c (or_left (reads n c) (writes n c) read) ∙ ap (λ d. Some (known d)) output.2 ∙ ap Some (output_known is nodes v r.ready.verified output.0 output.1)) in
         no_matrix_image (cell_object final c) image
-        ∙ sym (ap (λ o. matrix_in (option_and_then (in_slot c.slot) o)) held_at ∙ no_matrix_virtual c.slot object.0))
+        ∙ sym (ap (λ o. matrix_in (option_and_then (in_slot c.slot) o)) object.1 ∙ no_matrix_virtual c.slot object.0))
     | inr real ↦
         second_matrix (held objects c) (held final c) (cell_object final c)
         (there_is final c (holds_there final (c, second_kind n) (subst (λ o. IfSome o (λ d. HoldsKind final (d, second_kind n))) at (of_final n i).in2)))

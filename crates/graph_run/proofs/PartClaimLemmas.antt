@@ -1,5 +1,5 @@
--- Parts of virtual images that claim the slots of the whole ones: what stands there then.
-use Rattle.std.proofs.Common.{◌≡◌, ◌≢◌, ℕ, zero, suc, ◌+◌, ◌*◌, ◌<◌, ◌≤◌, true, false, List, [], ◌∷◌, ◌++◌, map, take, length, get_or, set, Some, None, inr, refl, sym, ap, subst, ◌∙◌, arith}
+-- Parts of virtual images that claim their slots: what stands there then.
+use Rattle.std.proofs.Common.{◌≡◌, ◌≢◌, ℕ, zero, suc, ◌+◌, ◌*◌, ◌/◌, ◌<◌, ◌≤◌, true, false, List, [], ◌∷◌, ◌++◌, map, take, length, get_or, set, Some, None, inr, refl, sym, ap, subst, ◌∙◌, arith, mul_comm, le-div_iff_mul-le}
 use Rattle.std.specs.Prelude.{◌==◌, ◌&&◌, IsTrue, slice_get, IfSome}
 use Rattle.std.specs.List.{AllPairs}
 use Rattle.std.proofs.lemmas.Bool.Decides.{nat_tests}
@@ -20,9 +20,10 @@ use Rattle.graph_verify.proofs.MemberLemmas.{In-filter, In-from_filter, In-map, 
 use Rattle.buffer_plan.specs.Lives.{is_used, is_live}
 use Rattle.buffer_plan.specs.Plan.{PlanValue}
 use Rattle.buffer_plan.specs.Slots.{of_format, live_images}
+use Rattle.graph_run.specs.declared.bands.Bands.{Bands}
 use Rattle.graph_run.specs.declared.stage.Slot.{Slot}
 use Rattle.graph_run.specs.Bands.{output_part}
-use Rattle.graph_run.specs.Slots.{place_of, room_of, AreEmpty, AreShared, claimed_at}
+use Rattle.graph_run.specs.Slots.{place_of, strip_plan, plan_in, most_rows, room_of, AreEmpty, AreShared, claimed_at}
 use Rattle.graph_run.specs.Stage.{shown, holder_at, HoldsVirtual, slot_of}
 use Rattle.graph_run.specs.Turns.{AreVirtual}
 use Rattle.graph_run.proofs.AgreeLemmas.{Keeps}
@@ -33,6 +34,13 @@ use Rattle.graph_run.proofs.StageLemmas.{found_as_it_is, stands_nowhere}
 use Rattle.graph_run.proofs.VerifiedLemmas.{whole, is_output}
 
 -- ---- images by so many of their rows
+
+-- what has room for a whole image has room for so many of its rows, once it is cut down to more of them
+strip_room : (height width count most samples : ℕ) → count ≤ height → count ≤ most → height * width ≤ samples → count * width ≤ samples / height * most
+strip_room zero width count most samples low fits room = omega (arith, mul-le-mul_right width low)
+strip_room (suc h) width count most samples low fits room =
+    let wide : width ≤ samples / suc h = (le-div_iff_mul-le {k = suc h} {x = width} {y = samples} (omega arith)).1 (subst (λ n. n ≤ samples) (mul_comm (suc h) width) room) in
+    omega (arith, mul-le-mul_right most wide, mul-le-mul_right width fits, mul_comm most width)
 
 module _ (count : ℕ) (outs : List VirtualOutput) where
   abbrev parts : List VirtualOutput
@@ -73,9 +81,9 @@ module _ (count : ℕ) (outs : List VirtualOutput) where
         from.2,
       )
 
-  module _ (low : (o : VirtualOutput) → In o outs → count ≤ o.desc.height) where
-    -- the slots of images are slots of their parts
-    pub part_slots : (steps : List Node) (p : PlanValue) → HasSlots steps outs p → HasSlots steps parts p
+  module _ (height most : ℕ) (high : (o : VirtualOutput) → In o outs → o.desc.height ≡ height) (low : count ≤ height) (fits : count ≤ most) where
+    -- the slots of images are slots of their parts, with less room
+    pub part_slots : (steps : List Node) (p : PlanValue) → HasSlots steps outs p → HasSlots steps parts (strip_plan height most p)
     part_slots steps p slots =
         record {
           given = λ cell. slots.given cell ∙ any-map (output_part count) (λ (o : VirtualOutput). same_cell o.cell cell) outs;
@@ -92,21 +100,26 @@ module _ (count : ℕ) (outs : List VirtualOutput) where
               subst (λ (o : VirtualOutput). IfSome (p.slot_of o.cell) (λ k. k < p.slot_count o.desc.format)) (sym from.2) (slots.below from.0 from.1);
           room = λ a i.
               let from = In-from_map (output_part count) a outs i in
-              subst (λ (o : VirtualOutput). IfSome (p.slot_of o.cell) (λ k. sample_count o.desc ≤ p.slot_samples o.desc.format k)) (sym from.2)
+              subst (λ (o : VirtualOutput). IfSome (p.slot_of o.cell) (λ k. sample_count o.desc ≤ p.slot_samples o.desc.format k / height * most)) (sym from.2)
               (IfSome_then (p.slot_of from.0.cell) (slots.room from.0 from.1) (λ k room. less from.0 from.1 (p.slot_samples from.0.desc.format k) room));
         }
       where
-        less : (o : VirtualOutput) → In o outs → (n : ℕ) → sample_count o.desc ≤ n → count * o.desc.width ≤ n
-        less o i n room = omega (arith, room, mul-le-mul_right o.desc.width (low o i))
+        less : (o : VirtualOutput) → In o outs → (n : ℕ) → sample_count o.desc ≤ n → count * o.desc.width ≤ n / height * most
+        less o i n room = strip_room height o.desc.width count most n low fits (subst (λ h. h * o.desc.width ≤ n) (high o i) room)
 
     -- the turn of a node is also that of parts
-    pub part_turn : (p : PlanValue) (before after : List Node) (n : Node) → IsItsTurn outs p before after n → IsItsTurn parts p before after n
+    pub part_turn : (p : PlanValue) (before after : List Node) (n : Node) → IsItsTurn outs p before after n → IsItsTurn parts (strip_plan height most p) before after n
     part_turn p before after n turn =
         record {
           slots = part_slots (before ++ n ∷ after) p turn.slots;
           itself = λ a i. let from = In-from_map (output_part count) a outs i in subst (λ (o : VirtualOutput). o.cell ≡ whole o.cell.name) (sym from.2) (turn.itself from.0 from.1);
           once = turn.once;
         }
+
+  -- so a plan for strips has slots for their rows
+  pub strip_slots : (b : Bands) → count ≤ most_rows b → ((o : VirtualOutput) → In o outs → o.desc.height ≡ b.height) → (steps : List Node) (p : PlanValue) → HasSlots steps outs p
+      → HasSlots steps parts (plan_in (Some b) p)
+  strip_slots b fits high = part_slots b.height (most_rows b) high (omega (arith, fits)) fits
 
   -- under a name that is no output's nothing stands
   pub none_stands : (p : PlanValue) (slots : List Slot) → AreShared p parts slots → (name : ℕ) → is_output outs name ≡ false → slot_of slots name ≡ None
@@ -117,6 +130,10 @@ module _ (count : ℕ) (outs : List VirtualOutput) where
       cc)
 
 -- ---- the part that claims a slot
+
+-- it has no more rows than the image
+pub part_low : (count : ℕ) (b : Bands) → count ≤ most_rows b → (o : VirtualOutput) → o.desc.height ≡ b.height → count ≤ o.desc.height
+part_low count b fits o high = omega (arith, fits, high)
 
 -- its sides are allowed
 pub part_sides : (count : ℕ) (d : Description) → IsDescription d → 1 ≤ count → count ≤ d.height → IsTrue (is_side d.width && is_side count)
@@ -143,40 +160,43 @@ pub record PartsClaimed (count : ℕ) (outs : List VirtualOutput) (p : PlanValue
   pub no_place : (name : ℕ) → is_output outs name ≡ false → slot_of both name ≡ None
   pub others : (name : ℕ) → is_output outs name ≡ false → object_held (shown both l) name ≡ object_held l name
 
-module _ (count : ℕ) (outs : List VirtualOutput) (low : (o : VirtualOutput) → In o outs → count ≤ o.desc.height) (p : PlanValue)
+module _ (count : ℕ) (outs : List VirtualOutput) (height most : ℕ) (high : (o : VirtualOutput) → In o outs → o.desc.height ≡ height) (low : count ≤ height) (fits : count ≤ most) (p : PlanValue)
     (before after : List Node) (n : Node) (turn : IsItsTurn outs p before after n)
-    (l : List Named) (virtual : AreVirtual l outs) (slots one : List Slot) (shared : AreShared p (map (output_part count) outs) slots) (written : WereWritten before slots)
-    (first : (k : ℕ) → slice_get one k ≡ claimed_at p (map (output_part count) outs) n.out1 k (slice_get slots k)) where
+    (l : List Named) (virtual : AreVirtual l outs) (slots one : List Slot) (shared : AreShared (strip_plan height most p) (map (output_part count) outs) slots) (written : WereWritten before slots)
+    (first : (k : ℕ) → slice_get one k ≡ claimed_at (strip_plan height most p) (map (output_part count) outs) n.out1 k (slice_get slots k)) where
   abbrev rows : List VirtualOutput
   rows = map (output_part count) outs
 
+  abbrev strips : PlanValue
+  strips = strip_plan height most p
+
   -- once the first output has claimed its slot
-  pub first_part_shared : AreShared p rows one
-  first_part_shared = (first_claims rows p before after n (part_turn count outs low p before after n turn) l (parts_virtual count outs l virtual) slots one shared written first).shared
+  pub first_part_shared : AreShared strips rows one
+  first_part_shared = (first_claims rows strips before after n (part_turn count outs height most high low fits p before after n turn) l (parts_virtual count outs l virtual) slots one shared written first).shared
 
   -- once both have
-  pub parts_claimed : (both : List Slot) → ((k : ℕ) → slice_get both k ≡ claimed_at p rows n.out2 k (slice_get one k))
-      → PartsClaimed count outs p before after n l slots both
+  pub parts_claimed : (both : List Slot) → ((k : ℕ) → slice_get both k ≡ claimed_at strips rows n.out2 k (slice_get one k))
+      → PartsClaimed count outs strips before after n l slots both
   parts_claimed both second =
       record {
         shared = claims.shared;
         written = claims.written;
-        homes = λ o i w. stands_there rows p before after n its_turn l are_virtual slots one shared written first both second (output_part count o) (In-map (output_part count) o outs i) w;
-        stand = λ o i w. stands_in rows p before after n its_turn l are_virtual slots one shared written first both second (output_part count o) (In-map (output_part count) o outs i) w;
-        places_kept = λ o i w used. slot_kept rows p before after n its_turn l are_virtual slots one shared written first both second o.cell.name (keeps o i w used);
-        kept = λ o i w used. found_kept rows p before after n its_turn l are_virtual slots one shared written first both second o.cell.name (keeps o i w used);
-        no_place = none_stands count outs p both claims.shared;
-        others = λ name none. found_as_it_is both l name (none_stands count outs p both claims.shared name none);
+        homes = λ o i w. stands_there rows strips before after n its_turn l are_virtual slots one shared written first both second (output_part count o) (In-map (output_part count) o outs i) w;
+        stand = λ o i w. stands_in rows strips before after n its_turn l are_virtual slots one shared written first both second (output_part count o) (In-map (output_part count) o outs i) w;
+        places_kept = λ o i w used. slot_kept rows strips before after n its_turn l are_virtual slots one shared written first both second o.cell.name (keeps o i w used);
+        kept = λ o i w used. found_kept rows strips before after n its_turn l are_virtual slots one shared written first both second o.cell.name (keeps o i w used);
+        no_place = none_stands count outs strips both claims.shared;
+        others = λ name none. found_as_it_is both l name (none_stands count outs strips both claims.shared name none);
       }
     where
-      its_turn : IsItsTurn rows p before after n
-      its_turn = part_turn count outs low p before after n turn
+      its_turn : IsItsTurn rows strips before after n
+      its_turn = part_turn count outs height most high low fits p before after n turn
 
       are_virtual : AreVirtual l rows
       are_virtual = parts_virtual count outs l virtual
 
-      claims : AreClaimed rows p before after n its_turn.slots are_virtual.apart its_turn.itself n.out2 one both
-      claims = second_claims rows p before after n its_turn l are_virtual slots one shared written first both second
+      claims : AreClaimed rows strips before after n its_turn.slots are_virtual.apart its_turn.itself n.out2 one both
+      claims = second_claims rows strips before after n its_turn l are_virtual slots one shared written first both second
 
       keeps : (o : VirtualOutput) → In o outs → is_written before o.cell ≡ true → is_used (n ∷ after) o.cell ≡ true → Keeps rows before (n ∷ after) o.cell.name
       keeps o i w used = inr (ap (is_written before) (sym (turn.itself o i)) ∙ w, ap (is_used (n ∷ after)) (sym (turn.itself o i)) ∙ used)

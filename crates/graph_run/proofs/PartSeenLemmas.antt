@@ -1,13 +1,8 @@
 -- Rows of images that nodes see, as images of their own.
-use Rattle.std.proofs.Common.{◌≡◌, ℕ, ℤ, ◌+◌, ◌-◌, ◌*◌, ◌≤◌, Bool, false, List, map, length, take, drop, Option, Some, None, refl, sym, ap, subst, ◌∙◌, arith, zero-add}
-use Rattle.std.specs.Prelude.{find, position}
-use Rattle.std.specs.List.{position_or_len}
-use Rattle.std.proofs.lemmas.Bool.Decides.{nat_tests}
-use Rattle.std.proofs.lemmas.List.Folds.{find_at}
-use Rattle.std.proofs.lemmas.Option.{slice_get_cases}
+use Rattle.std.proofs.Common.{◌≡◌, ℕ, ℤ, ◌+◌, ◌-◌, ◌*◌, ◌≤◌, false, List, map, length, take, drop, Option, Some, None, sym, ap, subst, ◌∙◌, arith, zero-add}
+use Rattle.std.specs.Prelude.{IsSome, position}
 use Rattle.std.proofs.lemmas.List.{length-map, drop_at, take_at, take-map, drop-map}
 use Rattle.vx_base.specs.declared.kind.Kind.TheVariants as kind
-use Rattle.vx_base.specs.Cell.{Cell}
 use Rattle.vx_base.specs.declared.format.Format.{Format}
 use Rattle.vx_base.specs.Description.{Description}
 use Rattle.vx_base.specs.Rectangle.{Rectangle}
@@ -17,9 +12,11 @@ use Rattle.vx_base.proofs.ImageLaws.{samples_are_band}
 use Rattle.vx_base.proofs.TableLaws.{band-append, length-band}
 use Rattle.image_core.specs.declared.band.Band.{Band}
 use Rattle.image_core.specs.Bands.{IsInRows}
+use Rattle.vx_base.specs.Cell.{Cell}
 use Rattle.object_table.specs.Named.{Named, object_held}
 use Rattle.object_table.specs.Object.{image_value}
 use Rattle.object_table.specs.Table.{cell_object, HoldsImage}
+use Rattle.object_table.proofs.SlotLemmas.{image_of_kind}
 use Rattle.node_rows.specs.Parts.{part_of, rows_of}
 use Rattle.node_rows.proofs.PartLaws.{part_is}
 use Rattle.graph_run.specs.declared.stage.Slot.{Slot}
@@ -27,8 +24,10 @@ use Rattle.graph_run.specs.declared.stage.Stage.{Stage}
 use Rattle.graph_run.specs.Bands.{HasRowsIn, part_seen, seen_in}
 use Rattle.graph_run.specs.Graph.{is_virtual_object}
 use Rattle.graph_run.specs.Stage.{is_named, slot_of, IsArranged}
+use Rattle.graph_run.proofs.CellLemmas.{kind_there}
 use Rattle.graph_run.proofs.ClaimLemmas.{virtual_there}
-use Rattle.graph_run.proofs.StageLemmas.{stands_nowhere, placed}
+use Rattle.graph_run.proofs.StageLemmas.{stands_nowhere, placed_found}
+use Rattle.graph_run.proofs.StepLemmas.{Alike}
 
 -- ---- samples
 
@@ -104,7 +103,7 @@ module _ {T : Type 0} (value : T → ℤ) (xs : List T) (image : ImageValue) (ro
 
 -- an object that is an image
 pub as_itself : (object : ObjectValue) → object_kind object ≡ kind.Image → ImageObject (image_value object) ≡ object
-as_itself object is = grind arith
+as_itself object is = sym (image_of_kind object is)
 
 pub rows_there : (rows : Band) (object : ObjectValue) → object_kind object ≡ kind.Image → HasRowsIn rows object → IsInRows (image_value object).height rows
 rows_there rows object is room = grind arith
@@ -113,18 +112,18 @@ pub part_shown : (rows : Band) (object : ObjectValue) → object_kind object ≡
 part_shown rows object is = ap (part_seen rows) (as_itself object is)
 
 pub held_kind : (objects : List Named) (cell : Cell) → HoldsImage objects cell → object_kind (cell_object objects cell) ≡ kind.Image
-held_kind objects cell there = grind arith
+held_kind objects cell there = kind_there objects (cell, kind.Image) there
 
 -- what stands in a slot is seen as it is
-placed_found : {X : Type 0} (p : X → Bool) (xs : List X) (k : ℕ) → position p xs ≡ Some k → find p xs ≡ None → ⊥
-placed_found p xs k at none = grind (arith, nat_tests, find_at, slice_get_cases xs (position_or_len p xs), placed p xs k at)
-
-in_slot_seen : (rows : Band) (found : Option Slot) (object : ObjectValue) → (found ≡ None → ⊥) → seen_in found rows object ≡ object
-in_slot_seen rows None object some = absurd (some refl)
-in_slot_seen rows (Some slot) object some = refl
+in_slot_seen : (rows : Band) (found : Option Slot) (object : ObjectValue) → IsSome found → seen_in found rows object ≡ object
+in_slot_seen rows found object some = grind (arith, some)
 
 pub stands_seen : (rows : Band) (slots : List Slot) (name k : ℕ) (object : ObjectValue) → position (λ t. is_named name t.holder) slots ≡ Some k → seen_in (slot_of slots name) rows object ≡ object
 stands_seen rows slots name k object at = in_slot_seen rows (slot_of slots name) object (placed_found (λ t. is_named name t.holder) slots k at)
+
+-- what is seen depends on a slot only by whether there is one
+pub seen_alike : (one other : Option Slot) → Alike one other → (rows : Band) (object : ObjectValue) → seen_in one rows object ≡ seen_in other rows object
+seen_alike one other alike rows object = grind (arith, alike)
 
 -- what isn't virtual stands in no slot
 pub real_nowhere : (s : Stage) → IsArranged s → (name : ℕ) (object : ObjectValue) → object_held s.table.objects name ≡ Some object → is_virtual_object object ≡ false → slot_of s.slots.items name ≡ None

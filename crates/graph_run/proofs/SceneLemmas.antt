@@ -1,19 +1,16 @@
 -- What nodes find on a stage: as outputs claim their slots, as nodes run, and at the end.
 use Rattle.std.proofs.Common.{◌≡◌, ◌≢◌, ◌<◌, ℕ, Bool, true, false, List, [], ◌∷◌, ◌++◌, map, length, get_or, Option, Some, None, ◌⊎◌, inl, inr, refl, sym, ap, subst, ◌∙◌, arith, ◌+◌, ◌≤◌, take, drop}
 use Rattle.std.specs.Prelude.{◌==◌, slice_get}
-use Rattle.std.specs.List.{flat_map}
 use Rattle.std.specs.List.Sorted.{IsStrictlyIncreasing}
 use Rattle.std.specs.Option.{option_map, option_and_then}
 use Rattle.std.proofs.lemmas.Bool.{cases_Bool, eqb-true, eq-eqb, or_left}
 use Rattle.std.proofs.lemmas.List.Folds.{list_any-append}
-use Rattle.std.proofs.lemmas.Grind.{flat_map-append}
 use Rattle.std.proofs.lemmas.List.{take-append-drop, take_more, take_all, drop_more, drop_all}
 use Rattle.std.proofs.lemmas.Option.{slice_get-map}
 use Rattle.vx_base.specs.declared.kind.Kind.TheVariants as kind
 use Rattle.vx_base.specs.declared.node.Node.{Node}
 use Rattle.vx_base.specs.declared.virtual_image.VirtualImage.{VirtualImage}
 use Rattle.vx_base.specs.Cell.{Cell}
-use Rattle.vx_base.specs.Node.{outputs}
 use Rattle.vx_base.specs.Outputs.{written_by}
 use Rattle.vx_base.specs.Object.{ObjectValue, ImageObject, VirtualObject, object_kind}
 use Rattle.object_table.specs.Named.{Named, object_held, held, with_written}
@@ -21,11 +18,9 @@ use Rattle.object_table.proofs.HeldLemmas.{names_of, held_by_name}
 use Rattle.object_table.proofs.SkeletonLaws.{map-told}
 use Rattle.graph_verify.specs.declared.known.VirtualOutput.{VirtualOutput}
 use Rattle.graph_verify.specs.declared.verified.Verified.{Verified}
-use Rattle.graph_verify.specs.Links.{writes, has_twice, is_written}
+use Rattle.graph_verify.specs.Links.{writes, is_written}
 use Rattle.graph_verify.specs.Members.{In}
 use Rattle.graph_verify.specs.Outlines.{resolved}
-use Rattle.graph_verify.specs.Verdict.{two_writers}
-use Rattle.graph_verify.proofs.LinkLemmas.{once_across, In-outputs, two_writers-permutation}
 use Rattle.graph_verify.proofs.MemberLemmas.{In-from_any}
 use Rattle.buffer_plan.specs.Lives.{is_used}
 use Rattle.buffer_plan.specs.Plan.{IsPlan, PlanValue}
@@ -37,8 +32,8 @@ use Rattle.graph_run.specs.Slots.{place_of, room_of, AreEmpty, AreShared, claime
 use Rattle.graph_run.specs.Solution.{label_of}
 use Rattle.graph_run.specs.Stage.{is_named, standing_image, shown_as, shown, holder_at, HoldsVirtual, slot_of, fixed}
 use Rattle.graph_run.specs.Turns.{AreVirtual, CanRunNow}
-use Rattle.graph_run.proofs.AgreeLemmas.{Keeps, Agrees, StandsAs, first_output, second_output, output_cases, begin, begins, can_run_here, next_agrees}
-use Rattle.graph_run.proofs.BegunLaws.{kept_virtual, object_held-forgotten, labels-forgotten}
+use Rattle.graph_run.proofs.AgreeLemmas.{written_once, Keeps, Agrees, StandsAs, first_output, second_output, output_cases, begin, begins, can_run_here, next_agrees}
+use Rattle.graph_run.proofs.BegunLaws.{both_held, kept_virtual, object_held-forgotten, labels-forgotten}
 use Rattle.graph_run.proofs.ClaimLemmas.{virtual_there}
 use Rattle.graph_run.proofs.LinkLaws.{In-from_All}
 use Rattle.graph_run.proofs.NameLaws.{Rising, by_names, rising}
@@ -47,7 +42,7 @@ use Rattle.graph_run.proofs.SharingLemmas.{one_of_name, name_of_output, WereWrit
 use Rattle.graph_run.proofs.StageLemmas.{shown_same, as_it_is, held-shown, found_as_it_is, real_as_it_is, stands_nowhere, alone_at, alone_found}
 use Rattle.graph_run.proofs.StepLemmas.{none_standing, nothing_stands}
 use Rattle.graph_run.proofs.TurnLaws.{run_in_order}
-use Rattle.graph_run.proofs.VerifiedLemmas.{whole, is_output, output_whole, are_virtual, can, output_object, pairs_of}
+use Rattle.graph_run.proofs.VerifiedLemmas.{whole, is_output, output_whole, are_virtual, output_object, pairs_of}
 
 -- ---- what is shown
 
@@ -89,19 +84,6 @@ forgotten-twice (o ∷ old) (p ∷ now) (q ∷ new) labels one other =
     grind (arith, forgotten-twice old now new (ap (drop 1) labels) (ap (drop 1) one) (ap (drop 1) other), cases_Bool (is_virtual_object o.object))
 forgotten-twice x now new labels one other = grind arith
 
--- lists of the same names hold something under the same names
-both_held : (one other : List Named) → map label_of one ≡ map label_of other → (name : ℕ) (x : ObjectValue) → object_held one name ≡ Some x
-    → (y : ObjectValue) × (object_held other name ≡ Some y)
-both_held [] other labels name x at = absurd (cc)
-both_held (o ∷ one) [] labels name x at = absurd (cc)
-both_held (o ∷ one) (p ∷ other) labels name x at =
-    let label : label_of o ≡ label_of p = cc in
-    let same : o.name ≡ p.name = ap (λ (m : ℕ × Bool). m.0) label in
-    elim (cases_Bool (p.name == name)) [
-      | inl here ↦ (p.object, rw here refl)
-      | inr later ↦ rw later (both_held one other (ap (drop 1) labels) name x (rw (same, later) at at))
-    ]
-
 -- a virtual image stays where it was
 pub stays_virtual : (old now : List Named) → map label_of now ≡ map label_of old → forgotten old now ≡ now → (name : ℕ) (image : VirtualImage)
     → object_held old name ≡ Some (VirtualObject image) → object_held now name ≡ Some (VirtualObject image)
@@ -133,13 +115,7 @@ turn_of objects nodes v h p plan before after n parts =
     record {
       slots = planned_slots (before ++ n ∷ after) v.virtual_outputs.items p (subst (λ steps. IsPlan steps v.virtual_outputs.items p) parts plan);
       itself = output_whole objects nodes v h.runs.0 h.verified h.runs.1;
-      once = λ c w earlier.
-          let writer = In-from_any (λ m. writes m c) before earlier in
-          let one : two_writers (before ++ n ∷ after) ≡ false =
-          ap two_writers (sym parts) ∙ two_writers-permutation nodes v.steps.items h.verified.order.same_nodes (can objects nodes v h.runs.0 h.verified h.runs.1).one_writer in
-          once_across c (flat_map outputs before) (flat_map outputs (n ∷ after))
-          (ap has_twice (sym (flat_map-append outputs before (n ∷ after))) ∙ one)
-          (In-outputs writer.0 c before writer.1 writer.2) (In-outputs n c (n ∷ after) (inl refl) w);
+      once = written_once objects nodes v h before after n parts;
     }
 
 -- an output stands in a slot, and is found as the image there

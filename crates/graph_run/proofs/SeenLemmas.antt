@@ -1,15 +1,11 @@
 -- What nodes that see parts of images write: parts to slots, and bands to images of the client's.
-use Rattle.std.proofs.Common.{◌≡◌, ℕ, ℤ, ◌+◌, ◌-◌, ◌*◌, ◌≤◌, ◌<◌, pos, Bool, List, [], ◌++◌, map, length, take, drop, get_or, Option, Some, None, IfSome, refl, sym, ap, subst, ◌∙◌, arith}
-use Rattle.std.specs.Prelude.{All, IsSome, find, position}
-use Rattle.std.specs.List.{position_or_len}
+use Rattle.std.proofs.Common.{◌≡◌, ℕ, ℤ, ◌+◌, ◌-◌, ◌*◌, ◌≤◌, ◌<◌, pos, Bool, List, [], ◌++◌, length, take, drop, get_or, Option, Some, None, IfSome, refl, sym, ap, subst, ◌∙◌, arith}
+use Rattle.std.specs.Prelude.{All, IsSome, position}
 use Rattle.std.specs.List.Sorted.{IsStrictlyIncreasing}
 use Rattle.std.specs.Option.{option_map}
 use Rattle.std.proofs.Math.Nat.{mul-le-mul_right}
-use Rattle.std.proofs.lemmas.Bool.Decides.{nat_tests}
 use Rattle.std.proofs.lemmas.List.{length-append, length-take, length-drop, take_all}
 use Rattle.std.proofs.lemmas.List.Elements.{All-append, All-take, All-drop, All-get_or, All-from_get_or}
-use Rattle.std.proofs.lemmas.List.Folds.{find_at}
-use Rattle.std.proofs.lemmas.Option.{slice_get_cases}
 use Rattle.vx_base.specs.declared.desc.TheConstants.{GREATEST_SIDE}
 use Rattle.vx_base.specs.declared.format.Format.{Format}
 use Rattle.vx_base.specs.declared.kind.Kind.TheVariants as kind
@@ -28,7 +24,7 @@ use Rattle.vx_base.proofs.TableLaws.{length-band}
 use Rattle.image_core.specs.declared.band.Band.{Band}
 use Rattle.image_core.specs.Bands.{IsInRows}
 use Rattle.object_table.specs.Context.{Context, with_objects}
-use Rattle.object_table.specs.Named.{Named, held, with_object}
+use Rattle.object_table.specs.Named.{Named, with_object}
 use Rattle.object_table.specs.Object.{image_value, with_samples}
 use Rattle.object_table.specs.Table.{cell_object, image_held, HoldsImage}
 use Rattle.node_rows.specs.Parts.{part_of}
@@ -38,33 +34,15 @@ use Rattle.graph_run.specs.declared.stage.Slot.{Slot}
 use Rattle.graph_run.specs.declared.stage.Stage.{Stage}
 use Rattle.graph_run.specs.Bands.{seen_in, seen, HasRowsIn, HasRows, part_made, SeesParts, IsWithinRows, with_band, made_in, made_seen, with_seen, HasPlaceIn, IsSeen}
 use Rattle.graph_run.specs.Lasting.{lasting, Lasts}
-use Rattle.graph_run.specs.Stage.{is_named, scene, slot_of, fixed, Resized, IsStage, IsArranged, Keeps}
+use Rattle.graph_run.specs.Stage.{is_named, scene, slot_of, Resized, IsStage, IsArranged, Keeps}
 use Rattle.graph_run.specs.Steps.{Holds, IsRead, AreApart, CanRunTo}
-use Rattle.graph_run.proofs.CellLemmas.{object_beside, object_if_beside, hold_beside, image_beside, object_after, image_after, with_object_twice, Lasts-with_object}
+use Rattle.graph_run.proofs.CellLemmas.{held_image, object_beside, object_if_beside, hold_beside, image_beside, object_after, image_after, with_object_twice, Lasts-with_object}
 use Rattle.graph_run.proofs.LastingLemmas.{images-last}
 use Rattle.graph_run.proofs.OutputLemmas.{description_kept, stored_is}
-use Rattle.graph_run.proofs.StageLemmas.{names-shown, placed, not_placed}
+use Rattle.graph_run.proofs.PartSeenLemmas.{seen_alike}
+use Rattle.graph_run.proofs.StageLemmas.{names-shown, placed_found, not_placed}
 use Rattle.graph_run.proofs.StandingLemmas.{place_is}
-use Rattle.graph_run.proofs.StepLemmas.{any_named, none_named, no_slot, any_resized, kept_stage}
-
--- ---- slots while samples are out
-
-module _ (a b : Stage) (name n : ℕ) (change : Resized name n a b) (other : ℕ) where
-  same_named : any_named other (map fixed b.slots.items) ≡ any_named other (map fixed a.slots.items)
-  same_named = ap (any_named other) change.slots ∙ any_resized other name n (map fixed a.slots.items)
-
-  still_none : slot_of a.slots.items other ≡ None → slot_of b.slots.items other ≡ None
-  still_none none = no_slot b.slots.items other (same_named ∙ none_named a.slots.items other none)
-
-  was_none : slot_of b.slots.items other ≡ None → slot_of a.slots.items other ≡ None
-  was_none none = no_slot a.slots.items other (sym same_named ∙ none_named b.slots.items other none)
-
--- what is seen depends on a slot only by whether there is one
-seen_alike : (x y : Option Slot) → (x ≡ None → y ≡ None) → (y ≡ None → x ≡ None) → (rows : Band) (object : ObjectValue) → seen_in x rows object ≡ seen_in y rows object
-seen_alike None None f g rows object = refl
-seen_alike (Some s) (Some t) f g rows object = refl
-seen_alike None (Some t) f g rows object = let no = f refl in absurd (cc)
-seen_alike (Some s) None f g rows object = let no = g refl in absurd (cc)
+use Rattle.graph_run.proofs.StepLemmas.{Alike, none_alike, resized_alike, kept_stage}
 
 -- ---- a band among the samples of an image
 
@@ -148,13 +126,6 @@ object_seen None rows (ImageObject image) is has = part_is rows.start rows.count
 object_seen (Some s) rows object is has = is
 object_seen None rows object is has = grind arith
 
-held_there : (objects : List Named) (cell : Cell) → HoldsImage objects cell → held objects cell ≡ Some (ImageObject (image_held objects cell))
-held_there objects cell there = grind arith
-
--- what is found has a place
-stands_there : {X : Type 0} (p : X → Bool) (xs : List X) (k : ℕ) → position p xs ≡ Some k → IsSome (find p xs)
-stands_there p xs k at = grind (arith, nat_tests, find_at, slice_get_cases xs (position_or_len p xs), placed p xs k at)
-
 -- ---- a node's output, written by what the node sees
 
 module _ (rows : Band) (s : Stage) (n : Node) (output : Cell) (h : SeesParts rows s n output) where
@@ -231,14 +202,16 @@ module _ (rows : Band) (s : Stage) (n : Node) (output : Cell) (h : SeesParts row
     object_there : (cell : Cell) → AreApart cell output → cell_object (scene t).objects cell ≡ cell_object objects cell
     object_there cell apart = ap (λ (c : Context). cell_object c.objects cell) taken ∙ object_beside objects output cell (ImageObject left) apart
 
+    alike : (cell : Cell) → Alike (slot_of s.slots.items cell.name) (slot_of t.slots.items cell.name)
+    alike cell = resized_alike s t output.name 0 change cell.name
+
     seen_there : (cell : Cell) → AreApart cell output → seen rows t cell ≡ seen rows s cell
     seen_there cell apart =
-        seen_alike (slot_of t.slots.items cell.name) (slot_of s.slots.items cell.name) (was_none s t output.name 0 change cell.name) (still_none s t output.name 0 change cell.name) rows
-        (cell_object (scene t).objects cell)
+        seen_alike (slot_of t.slots.items cell.name) (slot_of s.slots.items cell.name) (sym (alike cell)) rows (cell_object (scene t).objects cell)
         ∙ ap (seen_in (slot_of s.slots.items cell.name) rows) (object_there cell apart)
 
     rows_there : (cell : Cell) → AreApart cell output → HasRows rows s cell → HasRows rows t cell
-    rows_there cell apart has none = subst (HasRowsIn rows) (sym (object_there cell apart)) (has (was_none s t output.name 0 change cell.name none))
+    rows_there cell apart has none = subst (HasRowsIn rows) (sym (object_there cell apart)) (has (none_alike (slot_of s.slots.items cell.name) (slot_of t.slots.items cell.name) (alike cell) none))
 
     -- the inputs stand where they stood
     pub first_there : HoldsImage (scene t).objects n.in1
@@ -355,7 +328,7 @@ module _ (s : Stage) (name asked : ℕ) (same : asked ≡ name) (found : Option 
 
   -- where a search ends, a slot has the name
   pub found_here : (k : ℕ) → found ≡ Some k → IsSome (slot_of s.slots.items name)
-  found_here k at = stands_there has_name s.slots.items k (place_is s name asked same found is (Some k) at)
+  found_here k at = placed_found has_name s.slots.items k (place_is s name asked same found is (Some k) at)
 
   pub found_nowhere : found ≡ None → slot_of s.slots.items name ≡ None
   found_nowhere none = not_placed has_name s.slots.items (place_is s name asked same found is None none)
@@ -410,7 +383,7 @@ module _ (strip : Strip) (s : Stage) (n : Node) (given : Option Cell) (output : 
       seen_stage within is arranged keeps written =
           let made = made_so here within this.1 in
           let names = subst IsStrictlyIncreasing (sym (names-shown s.slots.items s.table.objects)) is.names in
-          let lasts = ap (option_map lasting) (held_there (scene s).objects output this.0.out) ∙ ap Some (sym (images-last (made_in here strip part held_now) held_now made.1)) in
+          let lasts = ap (option_map lasting) (held_image (scene s).objects output this.0.out) ∙ ap Some (sym (images-last (made_in here strip part held_now) held_now made.1)) in
           let now = written ∙ ap (λ o. with_objects (scene s) (with_seen strip s n which o)) there in
           kept_stage s b is arranged keeps
           (subst (λ (k : Context). Lasts (scene s).objects k.objects) (sym now)

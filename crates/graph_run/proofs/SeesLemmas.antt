@@ -19,8 +19,9 @@ use Rattle.object_table.specs.Table.{cell_object, image_held, HoldsImage}
 use Rattle.node_rows.specs.Parts.{StandsFor, StandsBeside, part_of}
 use Rattle.node_rows.proofs.PartLaws.{part_is, part_stands, stands_fewer}
 use Rattle.graph_run.specs.declared.stage.Slot.{Slot}
-use Rattle.graph_run.specs.Bands.{seen_in, HasRowsIn}
-use Rattle.graph_run.specs.Stage.{slot_of}
+use Rattle.graph_run.specs.declared.stage.Stage.{Stage}
+use Rattle.graph_run.specs.Bands.{seen_in, HasRowsIn, right_from, right_to}
+use Rattle.graph_run.specs.Stage.{scene, slot_of}
 use Rattle.graph_run.specs.Steps.{CanRunTo, Holds, IsRead}
 use Rattle.graph_run.proofs.OutputLemmas.{is_read}
 use Rattle.graph_run.proofs.StepLemmas.{nothing}
@@ -158,6 +159,20 @@ module _ (rows : Band) (from to : ℕ) (slots : List Slot) (now final : List Nam
   second_rows None h = tt
   second_rows (Some cell) (inl s) = s.has_rows
   second_rows (Some cell) (inr s) = λ _. let now_is : cell_object now cell ≡ s.object = grind (arith, s.here) in rw now_is (other_rows rows s.object s.other)
+
+-- ---- the rows of a strip
+
+-- a part is right as far as these nodes made it so
+abbrev pub IsRightFor : List Named → ℕ → List Node → Band → ImageValue → ImageValue → Type 0
+IsRightFor objects height done rows part image = StandsFor rows.start rows.count (right_from objects done rows) (right_to objects height done rows) part image
+
+-- so is what is seen of a cell, which is an image
+abbrev pub SeesRight : List Named → List Named → ℕ → List Node → Band → Stage → Cell → Type 0
+SeesRight objects final height done rows s cell = SeesImage rows (right_from objects done rows) (right_to objects height done rows) s.slots.items (scene s).objects final cell
+
+-- or another object
+abbrev pub SeesRightBeside : List Named → List Named → ℕ → List Node → Band → Stage → Cell → Type 0
+SeesRightBeside objects final height done rows s cell = SeesBeside rows (right_from objects done rows) (right_to objects height done rows) s.slots.items (scene s).objects final cell
 
 -- ---- a node on parts
 

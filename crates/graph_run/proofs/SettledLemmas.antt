@@ -34,9 +34,10 @@ use Rattle.graph_run.specs.Operands.{operand_held}
 use Rattle.graph_run.specs.Solution.{label_of}
 use Rattle.graph_run.proofs.AgreeLemmas.{begin, begins}
 use Rattle.graph_run.proofs.BegunLaws.{begun_stays}
-use Rattle.graph_run.proofs.CellLemmas.{object_after, image_after, with_object_twice}
+use Rattle.graph_run.proofs.CellLemmas.{object_after, image_after, with_object_twice, held_whole}
 use Rattle.graph_run.proofs.FinalLemmas.{final_are, final_lasts, out_height, cell_is_whole, output_of_name, in_the_end}
 use Rattle.graph_run.proofs.HeldLaws.{object_held-with_object, labels-with_object}
+use Rattle.graph_run.proofs.BandLemmas.{rows_of}
 use Rattle.graph_run.proofs.LastingLemmas.{held-lasts}
 use Rattle.graph_run.proofs.LinkLaws.{All-from_In, In-from_All}
 use Rattle.graph_run.proofs.TurnLaws.{run_in_order}
@@ -53,7 +54,7 @@ whole_of output cell e whole = subst (λ (o : Option Cell). IfSome o (λ c. c.sl
 
 module _ (l : List Named) (cell : Cell) (whole : cell.slot ≡ None) (a : ImageValue) (at : object_held l cell.name ≡ Some (ImageObject a)) where
   held_at : held l cell ≡ Some (ImageObject a)
-  held_at = grind (arith, whole, at)
+  held_at = held_whole l cell whole ∙ at
 
   image_at : HoldsImage l cell
   image_at = ap (option_map object_kind) held_at
@@ -110,18 +111,6 @@ record ButArea (now final : Option ObjectValue) : Type 0 where
   image : ImageValue
   there : now ≡ Some (ImageObject (image_over (description_of image) area image.samples))
   in_the_end : final ≡ Some (ImageObject image)
-
-record Rows (y : ℕ) (now final : Option ObjectValue) : Type 0 where
-  one : ImageValue
-  other : ImageValue
-  there : now ≡ Some (ImageObject one)
-  in_the_end : final ≡ Some (ImageObject other)
-  desc : description_of one ≡ description_of other
-  rows : take (y * other.width) one.samples ≡ take (y * other.width) other.samples
-
-rows_of : (y : ℕ) (now final : Option ObjectValue) → RowsAreAs y now final → Rows y now final
-rows_of y (Some (ImageObject i)) (Some (ImageObject f)) rows = record { one = i; other = f; there = refl; in_the_end = refl; desc = rows.0; rows = rows.1 }
-rows_of y now final rows = absurd (grind arith)
 
 -- an image all of whose rows are as they will be
 all_rows : (y : ℕ) (now final : Option ObjectValue) → IfSome now IsObject → IfSome final IsObject → ((f : ImageValue) → final ≡ Some (ImageObject f) → f.height ≡ y) → RowsAreAs y now final → ButArea now final

@@ -1,6 +1,6 @@
 -- What nodes find of objects, where images stand in slots.
 use Rattle.std.proofs.Common.{◌≡◌, ◌≢◌, ℕ, zero, suc, ◌<◌, Bool, true, false, List, [], ◌∷◌, map, length, get_or, set, Option, Some, None, inl, inr, refl, sym, ap, ◌∙◌, arith}
-use Rattle.std.specs.Prelude.{All, ◌==◌, if◌then◌else◌, find, slice_get, position}
+use Rattle.std.specs.Prelude.{All, IsSome, ◌==◌, if◌then◌else◌, find, slice_get, position}
 use Rattle.std.specs.List.{position_or_len}
 use Rattle.std.specs.Option.{option_map, option_and_then}
 use Rattle.std.proofs.lemmas.Bool.{cases_Bool, cases_lt, eqb-true, eqb-false, ne_eqb, false_from_ne_true}
@@ -8,7 +8,7 @@ use Rattle.std.proofs.lemmas.Bool.Decides.{nat_tests}
 use Rattle.std.proofs.lemmas.List.Elements.{All-head, All-tail}
 use Rattle.std.proofs.lemmas.List.Folds.{find_at}
 use Rattle.std.proofs.lemmas.List.Sums.{passes_at_first}
-use Rattle.std.proofs.lemmas.Option.{slice_get_past}
+use Rattle.std.proofs.lemmas.Option.{slice_get_cases, slice_get_past}
 use Rattle.vx_base.specs.declared.virtual_image.VirtualImage.{VirtualImage}
 use Rattle.vx_base.specs.Cell.{Cell, cell_of}
 use Rattle.vx_base.specs.Object.{ObjectValue, ImageObject, VirtualObject}
@@ -156,6 +156,10 @@ placed p xs k at = grind (arith, nat_tests, cases_lt (position_or_len p xs) (len
 
 pub placed_passes : {X : Type 0} (p : X → Bool) (xs : List X) (k : ℕ) (x : X) → position p xs ≡ Some k → x ≡ get_or xs k x → p x ≡ true
 placed_passes p xs k x at read = grind (arith, placed, nat_tests, passes_at_first)
+
+-- what has a place is found
+pub placed_found : {X : Type 0} (p : X → Bool) (xs : List X) (k : ℕ) → position p xs ≡ Some k → IsSome (find p xs)
+placed_found p xs k at = grind (arith, nat_tests, find_at, slice_get_cases xs (position_or_len p xs), placed p xs k at)
 
 pub not_placed : {X : Type 0} (p : X → Bool) (xs : List X) → position p xs ≡ None → find p xs ≡ None
 not_placed p xs none = grind (arith, nat_tests, find_at, slice_get_past)

@@ -1,6 +1,6 @@
 -- Nodes on a stage: what they read beside an image, what they write to objects that aren't images, and what stays.
 use Rattle.std.proofs.Common.{◌≡◌, ◌⊎◌, ℕ, ◌≤◌, Bool, true, false, cond, List, [], ◌∷◌, map, length, get_or, drop, Option, Some, None, IfSome, refl, sym, ap, subst, ◌∙◌, arith}
-use Rattle.std.specs.Prelude.{All, unwrap_or, slice_get, ⊤}
+use Rattle.std.specs.Prelude.{All, is_some, unwrap_or, slice_get, ⊤}
 use Rattle.std.specs.List.{list_any}
 use Rattle.std.specs.List.Sorted.{IsStrictlyIncreasing}
 use Rattle.std.specs.Option.{option_map, option_and_then}
@@ -92,20 +92,40 @@ still_out a b c name n change keeps = record { virtual = keeps.virtual ∙ chang
 pub Keeps-trans : (a b c : Stage) → Keeps a b → Keeps b c → Keeps a c
 Keeps-trans a b c one other = record { virtual = other.virtual ∙ one.virtual; slots = other.slots ∙ one.slots }
 
-abbrev pub any_named : ℕ → List Fixed → Bool
+abbrev any_named : ℕ → List Fixed → Bool
 any_named name fs = list_any (λ (f : Fixed). is_named name f.2) fs
 
-pub none_named : (slots : List Slot) (name : ℕ) → slot_of slots name ≡ None → any_named name (map fixed slots) ≡ false
-none_named [] name none = refl
-none_named (s ∷ slots) name none = grind (arith, none_named slots name, cases_Bool (is_named name s.holder))
+-- a slot is found where one was
+abbrev pub Alike : Option Slot → Option Slot → Type 0
+Alike before after = is_some before ≡ is_some after
 
-pub no_slot : (slots : List Slot) (name : ℕ) → any_named name (map fixed slots) ≡ false → slot_of slots name ≡ None
-no_slot [] name none = refl
-no_slot (s ∷ slots) name none = grind (arith, no_slot slots name, cases_Bool (is_named name s.holder))
+pub none_alike : (before after : Option Slot) → Alike before after → after ≡ None → before ≡ None
+none_alike before after alike none = grind (arith, alike, none)
 
-pub any_resized : (other name n : ℕ) (fs : List Fixed) → any_named other (map (resized name n) fs) ≡ any_named other fs
+-- whether a slot has a name is seen of what is fixed of slots
+some_named : (slots : List Slot) (name : ℕ) → is_some (slot_of slots name) ≡ any_named name (map fixed slots)
+some_named [] name = refl
+some_named (s ∷ slots) name = grind (arith, some_named slots name, cases_Bool (is_named name s.holder))
+
+none_named : (slots : List Slot) (name : ℕ) → slot_of slots name ≡ None → any_named name (map fixed slots) ≡ false
+none_named slots name none = sym (some_named slots name) ∙ ap is_some none
+
+no_slot : (slots : List Slot) (name : ℕ) → any_named name (map fixed slots) ≡ false → slot_of slots name ≡ None
+no_slot slots name none = none_alike (slot_of slots name) None (some_named slots name ∙ none) refl
+
+any_resized : (other name n : ℕ) (fs : List Fixed) → any_named other (map (resized name n) fs) ≡ any_named other fs
 any_resized other name n [] = refl
 any_resized other name n (f ∷ fs) = grind (arith, any_resized other name n fs, cases_Bool (is_named name f.2))
+
+pub resized_alike : (a b : Stage) (name n : ℕ) → Resized name n a b → (other : ℕ) → Alike (slot_of a.slots.items other) (slot_of b.slots.items other)
+resized_alike a b name n change other =
+    some_named a.slots.items other
+    ∙ sym (ap (any_named other) change.slots ∙ any_resized other name n (map fixed a.slots.items))
+    ∙ sym (some_named b.slots.items other)
+
+-- slots in which the same stands
+pub slots_alike : (a b : List Slot) → map fixed b ≡ map fixed a → (name : ℕ) → Alike (slot_of a name) (slot_of b name)
+slots_alike a b same name = some_named a name ∙ ap (any_named name) (sym same) ∙ sym (some_named b name)
 
 -- samples that were written are still for their image
 pub still_for : (a b : Stage) (name n cell : ℕ) (d e : Description) (samples written : Samples) → Resized name n a b → AreFor a.slots.items cell d samples → samples_format written ≡ samples_format samples

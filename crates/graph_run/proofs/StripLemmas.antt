@@ -11,9 +11,9 @@ use Rattle.vx_base.specs.Cell.{Cell}
 use Rattle.vx_base.specs.Description.{Description}
 use Rattle.vx_base.specs.Function.{parameters, accumulates}
 use Rattle.vx_base.specs.Image.{ImageValue, IsImage}
-use Rattle.vx_base.specs.Object.{ObjectValue, ImageObject, IsObject}
+use Rattle.vx_base.specs.Object.{ObjectValue, IsObject}
 use Rattle.vx_base.specs.Outputs.{node_image}
-use Rattle.object_table.specs.Named.{Named, held}
+use Rattle.object_table.specs.Named.{Named}
 use Rattle.object_table.specs.Object.{image_value}
 use Rattle.object_table.specs.Table.{cell_object, image_held, HoldsImage}
 use Rattle.node_rows.specs.Parts.{StandsFor, StandsBeside, HasInputs, first_right, end_right}
@@ -24,9 +24,10 @@ use Rattle.graph_run.specs.declared.stage.Stage.{Stage}
 use Rattle.graph_run.specs.Bands.{seen, part_made, SeesParts, HasPlaceIn, IsSeen, IsStrip, rows_beside, right_from, right_to}
 use Rattle.graph_run.specs.Stage.{scene, slot_of}
 use Rattle.graph_run.specs.Steps.{RunsTo}
+use Rattle.graph_run.proofs.FinalLemmas.{IsMade}
 use Rattle.graph_run.proofs.OutputLemmas.{can_run}
 use Rattle.graph_run.proofs.StepLemmas.{nothing}
-use Rattle.graph_run.proofs.SeesLemmas.{SeesImage, SeesBeside, second_stands, second_holds, second_is, second_read, second_rows, parts_can_run}
+use Rattle.graph_run.proofs.SeesLemmas.{IsRightFor, SeesRight, SeesRightBeside, second_stands, second_holds, second_is, second_read, second_rows, parts_can_run}
 
 -- an output that is an image, as wide as it is in the end, of the same format
 pub record HasPlace (strip : Strip) (s : Stage) (final : List Named) (cell : Cell) : Type 0 where
@@ -38,16 +39,16 @@ pub record HasPlace (strip : Strip) (s : Stage) (final : List Named) (cell : Cel
 
 module _ (objects final : List Named) (height beside : ℕ) (strip : Strip) (is_strip : IsStrip height beside strip) where
   module _ (s : Stage) (before : List Node) (n : Node) (which : Output) (c : Cell)
-      (first : SeesImage strip.rows (right_from objects before strip.rows) (right_to objects height before strip.rows) s.slots.items (scene s).objects final n.in1)
-      (second : IfSome n.in2 (SeesBeside strip.rows (right_from objects before strip.rows) (right_to objects height before strip.rows) s.slots.items (scene s).objects final))
+      (first : SeesRight objects final height before strip.rows s n.in1)
+      (second : IfSome n.in2 (SeesRightBeside objects final height before strip.rows s))
       (out : HasPlace strip s final c) (runs : RunsTo final n c) (images : (parameters n.function).output ≡ kind.Image) (plain : accumulates n.function ≡ false) where
     abbrev seconds : Option ObjectValue
     seconds = option_map (cell_object final) n.in2
 
     stands_beside : StandsBeside strip.rows.start strip.rows.count (right_from objects before strip.rows) (right_to objects height before strip.rows) (option_map (seen strip.rows s) n.in2) seconds
-    stands_beside = second_stands strip.rows (right_from objects before strip.rows) (right_to objects height before strip.rows) s.slots.items (scene s).objects final n.in2 second
+    stands_beside = second_stands _ _ _ _ _ _ n.in2 second
 
-    stands_first : StandsFor strip.rows.start strip.rows.count (right_from objects before strip.rows) (right_to objects height before strip.rows) (image_value (seen strip.rows s n.in1)) (image_held final n.in1)
+    stands_first : IsRightFor objects height before strip.rows (image_value (seen strip.rows s n.in1)) (image_held final n.in1)
     stands_first = rw (first.seen_is, first.ends_as) first.stands
 
     some_rows : 1 ≤ strip.rows.count
@@ -58,21 +59,20 @@ module _ (objects final : List Named) (height beside : ℕ) (strip : Strip) (is_
     sees_parts =
         record {
           in1 = first.here;
-          in2 = second_holds strip.rows (right_from objects before strip.rows) (right_to objects height before strip.rows) s.slots.items (scene s).objects final n.in2 second;
+          in2 = second_holds _ _ _ _ _ _ n.in2 second;
           out = out.here;
           first = first.here_is;
-          second = second_is strip.rows (right_from objects before strip.rows) (right_to objects height before strip.rows) s.slots.items (scene s).objects final n.in2 second;
-          second_kind = second_read strip.rows (right_from objects before strip.rows) (right_to objects height before strip.rows) s.slots.items (scene s).objects final n.in2 second n runs.runs.second_kind;
+          second = second_is _ _ _ _ _ _ n.in2 second;
+          second_kind = second_read _ _ _ _ _ _ n.in2 second n runs.runs.second_kind;
           out_image = out.is;
           some_rows = some_rows;
           in1_rows = first.has_rows;
-          in2_rows = second_rows strip.rows (right_from objects before strip.rows) (right_to objects height before strip.rows) s.slots.items (scene s).objects final n.in2 second;
+          in2_rows = second_rows _ _ _ _ _ _ n.in2 second;
           in1_apart = runs.in1_apart;
           in2_apart = runs.in2_apart;
           plain = plain;
           can_run =
-              parts_can_run n strip.rows.start strip.rows.count (right_from objects before strip.rows) (right_to objects height before strip.rows) (image_value (seen strip.rows s n.in1)) (image_held final n.in1)
-              (option_map (seen strip.rows s) n.in2) seconds (image_held final c) _
+              parts_can_run n _ _ _ _ (image_value (seen strip.rows s n.in1)) (image_held final n.in1) (option_map (seen strip.rows s) n.in2) seconds (image_held final c) _
               (can_run n (cell_object final n.in1) seconds (cell_object final c) runs.runs (runs.runs.out_kind ∙ images)) stands_first stands_beside
               (described (image_held (scene s).objects c) (image_held final c) out.wide out.format);
         }
@@ -87,7 +87,7 @@ module _ (objects final : List Named) (height beside : ℕ) (strip : Strip) (is_
     -- what it makes stands for what comes in the end
     module _ (high : (image_held final n.in1).height ≡ height) (given : HasInputs n.function seconds) (near : IsTrue (is_some (reach n.function (matrix_in seconds))))
         (rows : unwrap_or (reach n.function (matrix_in seconds)) 0 ≡ rows_beside objects n) (seconds_are : IfSome seconds IsObject)
-        (ends : held final c ≡ Some (ImageObject (node_image n which (image_held final c).format (image_held final n.in1) seconds))) where
+        (ends : IsMade final n which c) where
       abbrev made : ImageValue
       made = part_made strip.rows s n which c
 
@@ -102,7 +102,7 @@ module _ (objects final : List Named) (height beside : ℕ) (strip : Strip) (is_
 
       -- and right in the rows of the band, once all nodes look no further than the strip has rows
       module _ (in1_is : IsImage (image_value (seen strip.rows s n.in1))) (end_is : IsImage (image_held final n.in1)) where
-        pub made_stands : StandsFor strip.rows.start strip.rows.count (right_from objects (before ++ n ∷ []) strip.rows) (right_to objects height (before ++ n ∷ []) strip.rows) made (image_held final c)
+        pub made_stands : IsRightFor objects height (before ++ n ∷ []) strip.rows made (image_held final c)
         made_stands =
             let far = reaches (reach n.function (matrix_in seconds)) near rows in
             let right = node_right n which (image_held final c).format (image_value (seen strip.rows s n.in1)) (image_held final n.in1) (rows_beside objects n) strip.rows.start strip.rows.count (right_from objects before strip.rows) (right_to objects height before strip.rows)

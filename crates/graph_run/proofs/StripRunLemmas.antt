@@ -28,8 +28,8 @@ use Rattle.buffer_plan.specs.Plan.{PlanValue}
 use Rattle.graph_run.specs.declared.bands.Strip.{Strip}
 use Rattle.graph_run.specs.declared.stage.Slot.{Slot}
 use Rattle.graph_run.specs.declared.stage.Stage.{Stage}
-use Rattle.graph_run.specs.Bands.{RunsInBands, final_of, IsStrip, is_virtual_name, is_target, IsFinished, RowsAreAs, rows_by_now, IsPartOf, output_part, right_from, right_to, IsSeen, with_seen}
-use Rattle.graph_run.specs.Slots.{AreShared, room_of, planned_rooms, AreEmpty}
+use Rattle.graph_run.specs.Bands.{RunsInBands, final_of, IsStrip, is_virtual_name, is_target, IsFinished, RowsAreAs, rows_by_now, IsPartOf, output_part, IsSeen, with_seen}
+use Rattle.graph_run.specs.Slots.{AreShared, strip_plan, room_of, planned_rooms, AreEmpty}
 use Rattle.graph_run.specs.Solution.{label_of}
 use Rattle.graph_run.specs.Stage.{scene, shown, slot_of, standing_image, IsStage, HoldsVirtual, Keeps, virtual_named}
 use Rattle.graph_run.specs.Turns.{AreVirtual}
@@ -41,11 +41,13 @@ use Rattle.vx_base.specs.Node.{second_kind}
 use Rattle.object_table.proofs.HeldLemmas.{held_is}
 use Rattle.node_rows.proofs.PartLaws.{stands_fewer}
 use Rattle.node_rows.proofs.PartLookLaws.{first_within, end_within}
-use Rattle.graph_run.proofs.BandLemmas.{right_above, right_below}
+use Rattle.graph_run.proofs.BandLemmas.{right_above, right_below, rows_of}
 use Rattle.graph_run.specs.Bands.{rows_beside}
 use Rattle.graph_run.specs.Turns.{HoldsKind}
+use Rattle.graph_run.proofs.AgreeLemmas.{written_once}
+use Rattle.graph_run.proofs.CellLemmas.{held_image, held_whole, one_cell}
 use Rattle.graph_run.proofs.ClaimLemmas.{virtual_there}
-use Rattle.graph_run.proofs.FinalLemmas.{final_are, final_can, in_height, out_height, second_height, real_read, virtual_read, virtual_here, virtual_image, written_later}
+use Rattle.graph_run.proofs.FinalLemmas.{final_are, final_can, in_height, out_height, second_height, real_read, virtual_read, virtual_here, virtual_image}
 use Rattle.graph_run.proofs.FoundLemmas.{OfOperands, of_operands}
 use Rattle.graph_run.proofs.LinkLaws.{All-from_In, In-from_All, reads_first, reads_second}
 use Rattle.graph_run.proofs.StageLemmas.{found_as_it_is}
@@ -54,10 +56,10 @@ use Rattle.graph_run.specs.Slots.{claimed_at}
 use Rattle.graph_run.proofs.PartClaimLemmas.{PartsClaimed, first_part_shared, parts_claimed}
 use Rattle.graph_run.proofs.SceneLemmas.{IsItsTurn, turn_of, stays_virtual, shared_stay, written_stay}
 use Rattle.graph_run.proofs.VerifiedLemmas.{are_virtual}
-use Rattle.graph_run.proofs.StepLemmas.{nothing, forgotten_kept, none_standing, Keeps-trans}
+use Rattle.graph_run.proofs.StepLemmas.{nothing, none_alike, slots_alike, forgotten_kept, none_standing, Keeps-trans}
 use Rattle.graph_run.proofs.SharingLemmas.{WereWritten, name_of_output}
-use Rattle.graph_run.proofs.SeesLemmas.{SeesImage, SeesBeside, sees_standing, sees_rows}
-use Rattle.graph_run.proofs.StripStepLemmas.{SeesInputs, IsOpen, HasRun, slots_alike, none_back, first_seen, second_seen, has_run}
+use Rattle.graph_run.proofs.SeesLemmas.{SeesRight, SeesRightBeside, sees_standing, sees_rows}
+use Rattle.graph_run.proofs.StripStepLemmas.{SeesInputs, IsOpen, HasRun, first_seen, second_seen, has_run}
 
 -- what is shown as an image and is virtual stands in a slot
 stands_somewhere : (slots : List Slot) (l : List Named) (name : ℕ) (image : ImageValue) → HoldsVirtual l name → object_held (shown slots l) name ≡ Some (ImageObject image)
@@ -70,19 +72,6 @@ stands_somewhere slots l name image virtual found = by_slot (slot_of slots name)
         let there = virtual_there l name virtual in
         let as_it_was : object_held (shown slots l) name ≡ Some (VirtualObject there.0) = found_as_it_is slots l name e ∙ there.1 in
         absurd (cc)
-
--- a cell as a whole
-one_cell : (a b : Cell) → a.name ≡ b.name → a.slot ≡ None → b.slot ≡ None → a ≡ b
-one_cell a b name one other = grind (arith, name, one, other)
-
-whole_held : (l : List Named) (c : Cell) → c.slot ≡ None → (a : ImageValue) → object_held l c.name ≡ Some (ImageObject a) → held l c ≡ Some (ImageObject a)
-whole_held l c none a e = grind (arith, none, e)
-
--- two images, of which one has rows of the other
-as_image : (now final : Option ObjectValue) (y : ℕ) → RowsAreAs y now final
-    → (i : ImageValue) × (f : ImageValue) × (now ≡ Some (ImageObject i)) × (final ≡ Some (ImageObject f)) × (description_of i ≡ description_of f)
-as_image (Some (ImageObject i)) (Some (ImageObject f)) y rows = (i, f, refl, refl, rows.0)
-as_image x z y rows = grind (arith, rows)
 
 and_false : (a b : Bool) → b ≡ true → (a && not b) ≡ false
 and_false a b e = grind arith
@@ -132,9 +121,6 @@ module _ (objects : List Named) (nodes : List Node) (v : Verified) (height besid
 
       -- ---- what it reads
 
-      final_image : (cell : Cell) → HoldsImage final cell → held final cell ≡ Some (ImageObject (image_held final cell))
-      final_image cell image = grind (arith, image)
-
       final_image_is : (cell : Cell) → HoldsImage final cell → IsImage (image_held final cell)
       final_image_is cell image = of_held (held final cell) (held_is final cell (final_are objects nodes v height beside r)) image
         where
@@ -149,7 +135,7 @@ module _ (objects : List Named) (nodes : List Node) (v : Verified) (height besid
           (found_as_it_is s.slots.items s.table.objects cell.name (h.real cell.name real) ∙ h.finished.others cell.name same.1 ∙ sym same.0)
 
       reads_image : (cell : Cell) → reads n cell ≡ true → HoldsImage final cell → (image_held final cell).height ≡ height
-          → SeesImage strip.rows (right_from objects before strip.rows) (right_to objects height before strip.rows) s.slots.items now final cell
+          → SeesRight objects final height before strip.rows s cell
       reads_image cell rd image high = elim (cases_Bool (is_virtual_name v cell.name)) [
         | inl virtual ↦
             (let from = virtual_read objects nodes v height beside r before after n parts cell rd virtual in
@@ -160,14 +146,14 @@ module _ (objects : List Named) (nodes : List Node) (v : Verified) (height besid
             let stood = h.stood o from.1 (ap (is_written before) (sym from.2) ∙ from.3) used in
             let slot = stands_somewhere s.slots.items s.table.objects o.cell.name stood.part (In-from_All (λ (q : VirtualOutput). HoldsVirtual s.table.objects q.cell.name) outs h.virtual.held o from.1) stood.there in
             let none : cell.slot ≡ None = ap (λ (c : Cell). c.slot) (from.2 ∙ here.0) in
-            let now_is : held now cell ≡ Some (ImageObject stood.part) = whole_held now cell none stood.part (ap (object_held now) name ∙ stood.there) in
-            let final_is : held final cell ≡ Some (ImageObject stood.image) = whole_held final cell none stood.image (ap (object_held final) name ∙ stood.in_the_end) in
-            sees_standing strip.rows (right_from objects before strip.rows) (right_to objects height before strip.rows) s.slots.items now final cell stood.part stood.image slot.0
+            let now_is : held now cell ≡ Some (ImageObject stood.part) = held_whole now cell none ∙ ap (object_held now) name ∙ stood.there in
+            let final_is : held final cell ≡ Some (ImageObject stood.image) = held_whole final cell none ∙ ap (object_held final) name ∙ stood.in_the_end in
+            sees_standing _ _ _ _ now final cell stood.part stood.image slot.0
             (ap (slot_of s.slots.items) name ∙ slot.1) now_is final_is stood.part_is
             (subst (λ (o : Option ObjectValue). IsImage (image_value (unwrap_or o nothing))) final_is (final_image_is cell image)) stood.stands)
         | inr real ↦
-            sees_rows strip.rows (right_from objects before strip.rows) (right_to objects height before strip.rows) s.slots.items now final cell (image_held final cell) (h.real cell.name real)
-            (real_held cell rd real ∙ final_image cell image) (final_image cell image) (final_image_is cell image)
+            sees_rows _ _ _ _ now final cell (image_held final cell) (h.real cell.name real)
+            (real_held cell rd real ∙ held_image final cell image) (held_image final cell image) (final_image_is cell image)
             (omega (arith, is_strip.rows, high)) (first_within (sum_by (rows_beside objects) before) strip.rows.start)
             (end_within (sum_by (rows_beside objects) before) height (strip.rows.start + strip.rows.count))
       ]
@@ -176,14 +162,14 @@ module _ (objects : List Named) (nodes : List Node) (v : Verified) (height besid
       can_read : OfOperands (HoldsKind final) n
       can_read = of_operands (HoldsKind final) n (final_can objects nodes v height beside r n in_steps).kinds
 
-      reads_beside : (cell : Cell) → n.in2 ≡ Some cell → SeesBeside strip.rows (right_from objects before strip.rows) (right_to objects height before strip.rows) s.slots.items now final cell
+      reads_beside : (cell : Cell) → n.in2 ≡ Some cell → SeesRightBeside objects final height before strip.rows s cell
       reads_beside cell e = of_object (held final cell) refl (subst (λ (o : Option Cell). IfSome o (λ c. HoldsKind final (c, second_kind n))) e can_read.in2)
         where
           rd : reads n cell ≡ true
           rd = reads_second n cell e
 
           of_other : (object : ObjectValue) → held final cell ≡ Some object → object_kind object ≢ kind.Image
-              → SeesBeside strip.rows (right_from objects before strip.rows) (right_to objects height before strip.rows) s.slots.items now final cell
+              → SeesRightBeside objects final height before strip.rows s cell
           of_other object there other = inr (
               record {
                 object = object;
@@ -200,7 +186,7 @@ module _ (objects : List Named) (nodes : List Node) (v : Verified) (height besid
               kind_of x f = grind arith
 
           of_object : (o : Option ObjectValue) → held final cell ≡ o → option_map object_kind (held final cell) ≡ Some (second_kind n)
-              → SeesBeside strip.rows (right_from objects before strip.rows) (right_to objects height before strip.rows) s.slots.items now final cell
+              → SeesRightBeside objects final height before strip.rows s cell
           of_object None there of_kind = absurd (cc)
           of_object (Some (ImageObject image)) there of_kind =
               let holds : HoldsImage final cell = ap (option_map object_kind) there in
@@ -214,8 +200,8 @@ module _ (objects : List Named) (nodes : List Node) (v : Verified) (height besid
             second = each n.in2 reads_beside;
           }
         where
-          each : (second : Option Cell) → ((cell : Cell) → second ≡ Some cell → SeesBeside strip.rows (right_from objects before strip.rows) (right_to objects height before strip.rows) s.slots.items now final cell)
-              → IfSome second (SeesBeside strip.rows (right_from objects before strip.rows) (right_to objects height before strip.rows) s.slots.items now final)
+          each : (second : Option Cell) → ((cell : Cell) → second ≡ Some cell → SeesRightBeside objects final height before strip.rows s cell)
+              → IfSome second (SeesRightBeside objects final height before strip.rows s)
           each None f = tt
           each (Some cell) f = f cell refl
 
@@ -238,7 +224,7 @@ module _ (objects : List Named) (nodes : List Node) (v : Verified) (height besid
               let same : c ≡ o.cell = one_cell c o.cell name none (ap (λ (q : Cell). q.slot) ends.0) in
               let writer : writes n o.cell ≡ true = ap (writes n) (sym same) ∙ any-from_In (same_cell c) c (outputs n) i (same_cell-refl c) in
               let claimed = h.claimed o found.1 writer in
-              let here : held now c ≡ Some (ImageObject claimed.image) = whole_held now c none claimed.image (ap (object_held now) name ∙ claimed.there) in
+              let here : held now c ≡ Some (ImageObject claimed.image) = held_whole now c none ∙ ap (object_held now) name ∙ claimed.there in
               let image : image_held now c ≡ claimed.image = grind (arith, here) in
               let desc : description_of (image_held final c) ≡ o.desc = ap (λ q. description_of (image_held final q)) same ∙ ends.2 in
               record {
@@ -259,24 +245,24 @@ module _ (objects : List Named) (nodes : List Node) (v : Verified) (height besid
               let writer : writes n c ≡ true = any-from_In (same_cell c) c (outputs n) i (same_cell-refl c) in
               let itself : cell_of c.name ≡ c = one_cell (cell_of c.name) c refl refl none in
               let target : is_target v c.name ≡ true = and_from (is_written v.steps.items (cell_of c.name)) (not (is_virtual_name v c.name)) (any-from_In (λ m. writes m (cell_of c.name)) n v.steps.items in_steps (ap (writes n) itself ∙ writer)) (ap not real) in
-              let not_yet : is_written before (cell_of c.name) ≡ false = false_from_ne_true (is_written before (cell_of c.name)) (λ early. written_later objects nodes v height beside r before after n parts c writer (ap (is_written before) (sym itself) ∙ early)) in
+              let not_yet : is_written before (cell_of c.name) ≡ false = false_from_ne_true (is_written before (cell_of c.name)) (λ early. written_once objects nodes v r.ready before after n parts c writer (ap (is_written before) (sym itself) ∙ early)) in
               let slot = h.real c.name real in
               let before_band : RowsAreAs strip.band.start (object_held s.table.objects c.name) (object_held final c.name) =
               subst (λ y. RowsAreAs y (object_held s.table.objects c.name) (object_held final c.name)) (ap (λ (b : Bool). if b then strip.band.start + strip.band.count else strip.band.start) not_yet) (h.finished.targets c.name target) in
               let found : object_held now c.name ≡ object_held s.table.objects c.name = found_as_it_is s.slots.items s.table.objects c.name slot in
-              let old = as_image (object_held s.table.objects c.name) (object_held final c.name) strip.band.start before_band in
-              let here : held now c ≡ Some (ImageObject old.0) = whole_held now c none old.0 (found ∙ old.2) in
-              let there : held final c ≡ Some (ImageObject old.1) = whole_held final c none old.1 old.3 in
-              let image_now : image_held now c ≡ old.0 = grind (arith, here) in
-              let image_end : image_held final c ≡ old.1 = grind (arith, there) in
+              let old = rows_of strip.band.start (object_held s.table.objects c.name) (object_held final c.name) before_band in
+              let here : held now c ≡ Some (ImageObject old.one) = held_whole now c none ∙ found ∙ old.there in
+              let there : held final c ≡ Some (ImageObject old.other) = held_whole final c none ∙ old.in_the_end in
+              let image_now : image_held now c ≡ old.one = grind (arith, here) in
+              let image_end : image_held final c ≡ old.other = grind (arith, there) in
               record {
                 place =
                     record {
                       here = ap (option_map object_kind) here;
-                      is = is_image old.0 here;
-                      wide = ap (λ (a : ImageValue). a.width) image_now ∙ ap (λ (d : Description). d.width) old.4 ∙ sym (ap (λ (a : ImageValue). a.width) image_end);
-                      format = ap (λ (a : ImageValue). a.format) image_now ∙ ap (λ (d : Description). d.format) old.4 ∙ sym (ap (λ (a : ImageValue). a.format) image_end);
-                      place = rw slot (omega (arith, is_strip.rows, ap (λ (a : ImageValue). a.height) image_now ∙ ap (λ (d : Description). d.height) old.4 ∙ sym (ap (λ (a : ImageValue). a.height) image_end) ∙ (out_height objects nodes v height beside r n in_steps c i).0));
+                      is = is_image old.one here;
+                      wide = ap (λ (a : ImageValue). a.width) image_now ∙ ap (λ (d : Description). d.width) old.desc ∙ sym (ap (λ (a : ImageValue). a.width) image_end);
+                      format = ap (λ (a : ImageValue). a.format) image_now ∙ ap (λ (d : Description). d.format) old.desc ∙ sym (ap (λ (a : ImageValue). a.format) image_end);
+                      place = rw slot (omega (arith, is_strip.rows, ap (λ (a : ImageValue). a.height) image_now ∙ ap (λ (d : Description). d.height) old.desc ∙ sym (ap (λ (a : ImageValue). a.height) image_end) ∙ (out_height objects nodes v height beside r n in_steps c i).0));
                     };
                 virtual = λ virtual. absurd (cc);
                 real = λ _. (slot, subst (λ o. RowsAreAs strip.band.start o (object_held final c.name)) (sym found) before_band);
@@ -304,7 +290,7 @@ module _ (objects : List Named) (nodes : List Node) (v : Verified) (height besid
       real_found : (name : ℕ) → is_virtual_name v name ≡ false → object_held (scene later).objects name ≡ object_held later.table.objects name
       real_found name real =
           found_as_it_is later.slots.items later.table.objects name
-          (none_back (slot_of s.slots.items name) (slot_of later.slots.items name) (slots_alike s.slots.items later.slots.items run.slots name) (h.real name real))
+          (none_alike (slot_of later.slots.items name) (slot_of s.slots.items name) (slots_alike later.slots.items s.slots.items (sym run.slots) name) (h.real name real))
 
       real_before : (name : ℕ) → is_virtual_name v name ≡ false → object_held (scene s).objects name ≡ object_held s.table.objects name
       real_before name real = found_as_it_is s.slots.items s.table.objects name (h.real name real)
@@ -421,12 +407,18 @@ module _ (objects : List Named) (nodes : List Node) (v : Verified) (height besid
             ∙ In-from_All (λ (q : VirtualOutput). HoldsVirtual objects q.cell.name) outs virtual.held o i);
       }
 
-  -- what nodes write is as high as the images are
-  pub low : (o : VirtualOutput) → In o outs → strip.rows.count ≤ o.desc.height
-  low o i = omega (arith, is_strip.rows, (virtual_here objects nodes v height beside r o i).3)
+  -- what nodes write is of this height
+  pub high : (o : VirtualOutput) → In o outs → o.desc.height ≡ height
+  high o i = (virtual_here objects nodes v height beside r o i).3
+
+  low : strip.rows.count ≤ height
+  low = omega (arith, is_strip.rows)
 
   -- one node more
-  module _ (p : PlanValue) (plan : IsPlan v.steps.items v.virtual_outputs.items p) (k : ℕ) (n : Node) (below : k < length v.steps.items) (item : n ≡ get_or v.steps.items k n) where
+  module _ (most : ℕ) (fits : strip.rows.count ≤ most) (p : PlanValue) (plan : IsPlan v.steps.items v.virtual_outputs.items p) (k : ℕ) (n : Node) (below : k < length v.steps.items) (item : n ≡ get_or v.steps.items k n) where
+    abbrev strips : PlanValue
+    strips = strip_plan height most p
+
     abbrev before : List Node
     before = take k v.steps.items
 
@@ -439,22 +431,22 @@ module _ (objects : List Named) (nodes : List Node) (v : Verified) (height besid
     pub parts : v.steps.items ≡ before ++ n ∷ after
     parts = sym (take-append-drop k v.steps.items) ∙ ap (λ rest. before ++ rest) here_on
 
-    module _ (l : List Named) (slots one : List Slot) (h : IsInStrip p k l slots) (first : (j : ℕ) → slice_get one j ≡ claimed_at p (map (output_part strip.rows.count) outs) n.out1 j (slice_get slots j)) where
+    module _ (l : List Named) (slots one : List Slot) (h : IsInStrip strips k l slots) (first : (j : ℕ) → slice_get one j ≡ claimed_at strips (map (output_part strip.rows.count) outs) n.out1 j (slice_get slots j)) where
       turn : IsItsTurn outs p before after n
       turn = turn_of objects nodes v r.ready p plan before after n parts
 
-      pub first_shared : AreShared p (map (output_part strip.rows.count) outs) one
-      first_shared = first_part_shared strip.rows.count outs low p before after n turn l (still_virtual p k l slots h) slots one h.shared h.written first
+      pub first_shared : AreShared strips (map (output_part strip.rows.count) outs) one
+      first_shared = first_part_shared strip.rows.count outs height most high low fits p before after n turn l (still_virtual strips k l slots h) slots one h.shared h.written first
 
-      module _ (both : List Slot) (second : (j : ℕ) → slice_get both j ≡ claimed_at p (map (output_part strip.rows.count) outs) n.out2 j (slice_get one j)) where
-        pub claims : PartsClaimed strip.rows.count outs p before after n l slots both
-        claims = parts_claimed strip.rows.count outs low p before after n turn l (still_virtual p k l slots h) slots one h.shared h.written first both second
+      module _ (both : List Slot) (second : (j : ℕ) → slice_get both j ≡ claimed_at strips (map (output_part strip.rows.count) outs) n.out2 j (slice_get one j)) where
+        pub claims : PartsClaimed strip.rows.count outs strips before after n l slots both
+        claims = parts_claimed strip.rows.count outs height most high low fits p before after n turn l (still_virtual strips k l slots h) slots one h.shared h.written first both second
 
         pub strip_claimed : (s : Stage) → IsStage s → s.table.objects ≡ l → s.slots.items ≡ both → IsClaimed before after n parts s
         strip_claimed s is table items =
             record {
               is = is;
-              virtual = subst (λ (m : List Named). AreVirtual m outs) (sym table) (still_virtual p k l slots h);
+              virtual = subst (λ (m : List Named). AreVirtual m outs) (sym table) (still_virtual strips k l slots h);
               finished = subst (IsFinished (rows_by_now before strip) v objects final) (sym table) h.finished;
               stood = λ o i written used.
                   subst (λ (found : Option ObjectValue). IsPartOf objects height before strip.rows found (object_held final o.cell.name))
@@ -477,12 +469,12 @@ module _ (objects : List Named) (nodes : List Node) (v : Verified) (height besid
 
     pub strip_more : (s later : Stage) → IsClaimed before after n parts s → IsStage later → Keeps s later
         → HasRun objects nodes v height beside r strip is_strip before after n parts s later
-        → AreShared p (map (output_part strip.rows.count) outs) s.slots.items → WereWritten (before ++ n ∷ []) s.slots.items
-        → IsInStrip p (k + 1) later.table.objects later.slots.items
+        → AreShared strips (map (output_part strip.rows.count) outs) s.slots.items → WereWritten (before ++ n ∷ []) s.slots.items
+        → IsInStrip strips (k + 1) later.table.objects later.slots.items
     strip_more s later h is_later keeps run shared written =
         let more : take (k + 1) v.steps.items ≡ before ++ n ∷ [] = take_more v.steps.items k n below ∙ ap (λ x. before ++ x ∷ []) (sym item) in
         record {
-          shared = shared_stay p (map (output_part strip.rows.count) outs) s.slots.items later.slots.items run.slots shared;
+          shared = shared_stay strips (map (output_part strip.rows.count) outs) s.slots.items later.slots.items run.slots shared;
           written = subst (λ done. WereWritten done later.slots.items) (sym more) (written_stay (before ++ n ∷ []) s.slots.items later.slots.items run.slots written);
           finished = subst (λ done. IsFinished (rows_by_now done strip) v objects final later.table.objects) (sym more) (finished_more before after n parts s later h is_later keeps run);
           stands = λ o i done used.
@@ -491,9 +483,9 @@ module _ (objects : List Named) (nodes : List Node) (v : Verified) (height besid
         }
 
     -- a node runs: its outputs claim their slots, and are written one after the other
-    module _ (l : List Named) (slots one both : List Slot) (h : IsInStrip p k l slots)
-        (first : (j : ℕ) → slice_get one j ≡ claimed_at p (map (output_part strip.rows.count) outs) n.out1 j (slice_get slots j))
-        (second : (j : ℕ) → slice_get both j ≡ claimed_at p (map (output_part strip.rows.count) outs) n.out2 j (slice_get one j))
+    module _ (l : List Named) (slots one both : List Slot) (h : IsInStrip strips k l slots)
+        (first : (j : ℕ) → slice_get one j ≡ claimed_at strips (map (output_part strip.rows.count) outs) n.out1 j (slice_get slots j))
+        (second : (j : ℕ) → slice_get both j ≡ claimed_at strips (map (output_part strip.rows.count) outs) n.out2 j (slice_get one j))
         (s : Stage) (is : IsStage s) (table : s.table.objects ≡ l) (items : s.slots.items ≡ both) where
       here : IsClaimed before after n parts s
       here = strip_claimed l slots one h first both second s is table items
@@ -509,11 +501,11 @@ module _ (objects : List Named) (nodes : List Node) (v : Verified) (height besid
             between first_value first_keeps.slots
 
         pub node_runs : (later : Stage) → IsStage later → scene later ≡ with_objects (scene between) (with_seen strip between n Second n.out2) → Keeps between later
-            → IsInStrip p (k + 1) later.table.objects later.slots.items
+            → IsInStrip strips (k + 1) later.table.objects later.slots.items
         node_runs later is_later second_value second_keeps =
             let claimed = claims l slots one h first both second in
             strip_more s later here is_later (Keeps-trans s between later first_keeps second_keeps)
             (has_run objects nodes v height beside r strip is_strip before after n parts s (sees_inputs before after n parts s here) (output_open before after n parts s here)
             between first_value first_keeps.slots later second_value second_keeps.slots)
-            (subst (AreShared p (map (output_part strip.rows.count) outs)) (sym items) claimed.shared)
+            (subst (AreShared strips (map (output_part strip.rows.count) outs)) (sym items) claimed.shared)
             (subst (WereWritten (before ++ n ∷ [])) (sym items) claimed.written)

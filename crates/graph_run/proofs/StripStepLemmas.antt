@@ -1,16 +1,15 @@
 -- How a stage is after so many nodes of a strip, and after one more.
-use Rattle.std.proofs.Common.{◌≡◌, ◌≢◌, ℕ, ◌+◌, ◌*◌, ◌≤◌, true, false, List, [], ◌∷◌, ◌++◌, map, take, drop, Option, Some, None, inl, inr, IfSome, refl, sym, ap, subst, ◌∙◌, arith}
-use Rattle.std.specs.Prelude.{sum_by, unwrap_or, ⊤}
+use Rattle.std.proofs.Common.{◌≡◌, ◌≢◌, ℕ, ◌+◌, ◌≤◌, true, false, List, [], ◌∷◌, ◌++◌, map, Option, Some, None, inl, inr, IfSome, refl, sym, ap, subst, ◌∙◌, arith}
+use Rattle.std.specs.Prelude.{sum_by, unwrap_or}
 use Rattle.std.specs.Option.{option_map, option_and_then}
-use Rattle.std.proofs.lemmas.Bool.{cases_Bool, eq-eqb}
 use Rattle.std.proofs.lemmas.List.{append_assoc}
 use Rattle.std.proofs.lemmas.List.Sums.{sum_by-append}
 use Rattle.vx_base.specs.declared.kind.Kind.TheVariants as kind
 use Rattle.vx_base.specs.declared.node.Node.{Node}
 use Rattle.vx_base.specs.declared.output.Output.{Output}
 use Rattle.vx_base.specs.declared.output.Output.TheVariants.{First, Second}
-use Rattle.vx_base.specs.Cell.{Cell, cell_of, same_cell}
-use Rattle.vx_base.specs.Image.{ImageValue, IsImage, description_of}
+use Rattle.vx_base.specs.Cell.{Cell, same_cell}
+use Rattle.vx_base.specs.Image.{ImageValue, IsImage}
 use Rattle.vx_base.specs.Node.{outputs, given}
 use Rattle.vx_base.specs.Object.{ObjectValue, ImageObject, object_kind}
 use Rattle.object_table.specs.Context.{Context, with_objects}
@@ -21,6 +20,7 @@ use Rattle.graph_verify.specs.declared.known.VirtualOutput.{VirtualOutput}
 use Rattle.graph_verify.specs.declared.verified.Verified.{Verified}
 use Rattle.graph_verify.specs.Links.{writes}
 use Rattle.graph_verify.specs.Members.{In}
+use Rattle.image_core.specs.declared.band.Band.{Band}
 use Rattle.graph_run.specs.declared.bands.Strip.{Strip}
 use Rattle.graph_run.specs.declared.stage.Slot.{Slot}
 use Rattle.graph_run.specs.declared.stage.Stage.{Stage}
@@ -28,123 +28,74 @@ use Rattle.graph_run.specs.Bands.{seen_in, part_made, made_in, made_seen, with_s
 use Rattle.graph_run.specs.Stage.{scene, slot_of, fixed}
 use Rattle.graph_run.specs.Steps.{RunsTo}
 use Rattle.graph_run.proofs.BandLemmas.{right_above, right_below, rows_right}
-use Rattle.graph_run.proofs.SeesLemmas.{SeesImage, SeesBeside}
+use Rattle.graph_run.proofs.SeesLemmas.{SeesImage, SeesBeside, IsRightFor, SeesRight, SeesRightBeside, seen_is_object}
 use Rattle.vx_base.proofs.NodeLaws.{node_image_is}
 use Rattle.vx_base.specs.Function.{parameters, accumulates}
-use Rattle.vx_base.specs.Outputs.{node_image}
 use Rattle.graph_verify.proofs.LinkLemmas.{same_cell-refl}
 use Rattle.graph_verify.proofs.MemberLemmas.{In-left, In-right, any-from_In}
 use Rattle.object_table.specs.Delay.{in_slot}
-use Rattle.node_rows.specs.Parts.{StandsFor}
 use Rattle.graph_run.specs.Bands.{seen}
-use Rattle.graph_run.specs.Stage.{is_named}
 use Rattle.graph_run.specs.Steps.{AreApart}
 use Rattle.graph_run.proofs.AgreeLemmas.{output_cases}
-use Rattle.graph_run.proofs.FinalLemmas.{second_near, second_given, in_height, out_height, final_first, final_second, final_apart, made_first, made_second, writes_images}
-use Rattle.graph_run.proofs.HeldLaws.{object_held-with_object}
+use Rattle.graph_run.proofs.FinalLemmas.{IsMade, second_near, second_given, in_height, out_height, final_first, final_second, final_apart, made_first, made_second, writes_images}
+use Rattle.graph_run.proofs.CellLemmas.{held_after, held_image, held_whole}
 use Rattle.graph_run.proofs.OutputLemmas.{image_of_object, out_is_image}
-use Rattle.graph_run.proofs.SeesLemmas.{seen_is_object}
-use Rattle.graph_run.proofs.StepLemmas.{nothing}
+use Rattle.graph_run.proofs.PartSeenLemmas.{seen_alike}
+use Rattle.graph_run.proofs.StepLemmas.{nothing, Alike, none_alike, slots_alike}
 use Rattle.graph_run.proofs.StageLemmas.{held_beside}
 use Rattle.graph_run.proofs.StripLemmas.{HasPlace, is_seen, made_stands}
 
 -- ---- slots that hold what they held
 
--- a slot is found where one was
-abbrev pub Alike : Option Slot → Option Slot → Type 0
-Alike None None = ⊤
-Alike (Some s) (Some t) = ⊤
-Alike x y = ⊥
-
-seen_alike : (a b : Option Slot) → Alike a b → (rows : _) (object : ObjectValue) → seen_in a rows object ≡ seen_in b rows object
-seen_alike None None h rows object = refl
-seen_alike (Some s) (Some t) h rows object = refl
-seen_alike x y h rows object = absurd h
-
-none_alike : (a b : Option Slot) → Alike a b → b ≡ None → a ≡ None
-none_alike x y h e = grind arith
-
 some_alike : (a b : Option Slot) → Alike a b → (t : Slot) → a ≡ Some t → (u : Slot) × (b ≡ Some u)
-some_alike (Some s) (Some u) h t e = (u, refl)
-some_alike None y h t e = absurd (cc)
-some_alike (Some s) None h t e = absurd h
-
-pub none_back : (a b : Option Slot) → Alike a b → a ≡ None → b ≡ None
-none_back x y h e = grind arith
+some_alike a (Some u) h t e = (u, refl)
+some_alike a None h t e = absurd (cc)
 
 place_alike : (a b : Option Slot) → Alike a b → (strip : Strip) (image : ImageValue) → HasPlaceIn a strip image → HasPlaceIn b strip image
 place_alike None None h strip image place = place
 place_alike (Some s) (Some t) h strip image place = place
-place_alike x y h strip image place = absurd h
+place_alike a b h strip image place = absurd (cc)
 
 -- ---- what is seen stays
 
-sees_image_kept : (rows : _) (from to : ℕ) (slots others : List Slot) (now later final : List Named) (cell : Cell) → Alike (slot_of slots cell.name) (slot_of others cell.name)
-    → held later cell ≡ held now cell → SeesImage rows from to slots now final cell → SeesImage rows from to others later final cell
-sees_image_kept rows from to slots others now later final cell alike same s =
-    let object : cell_object later cell ≡ cell_object now cell = ap (λ (o : Option ObjectValue). unwrap_or o nothing) same in
-    record {
-      part = s.part;
-      image = s.image;
-      seen_is = ap (seen_in (slot_of others cell.name) rows) object ∙ sym (seen_alike (slot_of slots cell.name) (slot_of others cell.name) alike rows (cell_object now cell)) ∙ s.seen_is;
-      ends_as = s.ends_as;
-      here = ap (option_map object_kind) same ∙ s.here;
-      here_is = subst (λ (o : ObjectValue). IsImage (image_value o)) (sym object) s.here_is;
-      part_is = s.part_is;
-      image_is = s.image_is;
-      has_rows = λ none. rw object (s.has_rows (none_alike (slot_of slots cell.name) (slot_of others cell.name) alike none));
-      stands = s.stands;
-    }
+-- a cell that holds what it held, and stands in a slot where it did
+module _ {rows : Band} {from to : ℕ} {slots others : List Slot} {now later final : List Named} (cell : Cell) (alike : Alike (slot_of slots cell.name) (slot_of others cell.name)) (same : held later cell ≡ held now cell) where
+  sees_image_kept : SeesImage rows from to slots now final cell → SeesImage rows from to others later final cell
+  sees_image_kept s =
+      let object : cell_object later cell ≡ cell_object now cell = ap (λ (o : Option ObjectValue). unwrap_or o nothing) same in
+      record {
+        part = s.part;
+        image = s.image;
+        seen_is = ap (seen_in (slot_of others cell.name) rows) object ∙ sym (seen_alike (slot_of slots cell.name) (slot_of others cell.name) alike rows (cell_object now cell)) ∙ s.seen_is;
+        ends_as = s.ends_as;
+        here = ap (option_map object_kind) same ∙ s.here;
+        here_is = subst (λ (o : ObjectValue). IsImage (image_value o)) (sym object) s.here_is;
+        part_is = s.part_is;
+        image_is = s.image_is;
+        has_rows = λ none. rw object (s.has_rows (none_alike (slot_of slots cell.name) (slot_of others cell.name) alike none));
+        stands = s.stands;
+      }
 
-sees_beside_kept : (rows : _) (from to : ℕ) (slots others : List Slot) (now later final : List Named) (cell : Cell) → Alike (slot_of slots cell.name) (slot_of others cell.name)
-    → held later cell ≡ held now cell → SeesBeside rows from to slots now final cell → SeesBeside rows from to others later final cell
-sees_beside_kept rows from to slots others now later final cell alike same (inl s) = inl (sees_image_kept rows from to slots others now later final cell alike same s)
-sees_beside_kept rows from to slots others now later final cell alike same (inr s) = inr (
-    record { object = s.object; here = same ∙ s.here; ends_as = s.ends_as; other = s.other; is = s.is })
-
--- ---- whole cells
-
-whole_cell : (c : Cell) → c.slot ≡ None → cell_of c.name ≡ c
-whole_cell c none = ap (λ (slot : Option ℕ). let q : Cell = record { name = c.name; slot = slot } in q) (sym none)
-
-held_whole : (l : List Named) (c : Cell) → c.slot ≡ None → (image : ImageValue) → held l c ≡ Some (ImageObject image) → object_held l c.name ≡ Some (ImageObject image)
-held_whole l c none image e = grind (arith, none, e)
-
-held_image : (l : List Named) (c : Cell) → c.slot ≡ None → HoldsImage l c → object_held l c.name ≡ Some (ImageObject (image_held l c))
-held_image l c none e = grind (arith, none, e)
-
-rw_rows : (y : ℕ) (found final : Option ObjectValue) (i f : ImageValue) → found ≡ Some (ImageObject i) → final ≡ Some (ImageObject f) → RowsAreAs y found final
-    → (description_of i ≡ description_of f) × (take (y * f.width) i.samples ≡ take (y * f.width) f.samples)
-rw_rows y found final i f e g rows = grind (arith, e, g, rows)
+  sees_beside_kept : SeesBeside rows from to slots now final cell → SeesBeside rows from to others later final cell
+  sees_beside_kept (inl s) = inl (sees_image_kept s)
+  sees_beside_kept (inr s) = inr (record { object = s.object; here = same ∙ s.here; ends_as = s.ends_as; other = s.other; is = s.is })
 
 -- ---- a stage before and after an output is written
 
--- slots in which the same stands
-pub slots_alike : (a b : List Slot) → map fixed b ≡ map fixed a → (name : ℕ) → Alike (slot_of a name) (slot_of b name)
-slots_alike [] [] same name = tt
-slots_alike [] (t ∷ b) same name = absurd (cc)
-slots_alike (s ∷ a) [] same name = absurd (cc)
-slots_alike (s ∷ a) (t ∷ b) same name =
-    let head : fixed t ≡ fixed s = cc in
-    let holder : t.holder ≡ s.holder = ap (λ f. f.2) head in
-    elim (cases_Bool (is_named name s.holder)) [
-      | inl here ↦ rw (here, ap (is_named name) holder ∙ here) tt
-      | inr other ↦ rw (other, ap (is_named name) holder ∙ other) (slots_alike a b (ap (drop 1) same) name)
-    ]
-
 -- an output that is an image as a whole is written
-module _ (s later : Stage) (c : Cell) (x : ObjectValue) (none : c.slot ≡ None) (here : HoldsImage (scene s).objects c)
-    (value : scene later ≡ with_objects (scene s) (with_object (scene s).objects c x)) where
-  objects_are : (scene later).objects ≡ with_object (scene s).objects c x
+module _ (s later : Stage) (c : Cell) (image : ImageValue) (none : c.slot ≡ None) (here : HoldsImage (scene s).objects c)
+    (value : scene later ≡ with_objects (scene s) (with_object (scene s).objects c (ImageObject image))) where
+  objects_are : (scene later).objects ≡ with_object (scene s).objects c (ImageObject image)
   objects_are = ap (λ (t : Context). t.objects) value
 
   pub kept_name : (name : ℕ) → name ≢ c.name → object_held (scene later).objects name ≡ object_held (scene s).objects name
-  kept_name name other = ap (λ l. object_held l name) objects_are ∙ held_beside (scene s).objects c name x other
+  kept_name name other = ap (λ l. object_held l name) objects_are ∙ held_beside (scene s).objects c name (ImageObject image) other
 
-  pub at_output : object_held (scene later).objects c.name ≡ Some x
+  pub at_output : object_held (scene later).objects c.name ≡ Some (ImageObject image)
   at_output =
       ap (λ l. object_held l c.name) objects_are
-      ∙ grind (arith, object_held-with_object (scene s).objects c x c.name, held_image (scene s).objects c none here, eq-eqb c.name c.name refl, none)
+      ∙ sym (held_whole (with_object (scene s).objects c (ImageObject image)) c none)
+      ∙ held_after (scene s).objects c here image
 
 module _ (objects : List Named) (nodes : List Node) (v : Verified) (height beside : ℕ) (r : RunsInBands objects nodes v height beside) (strip : Strip) (is_strip : IsStrip height beside strip) where
   abbrev final : List Named
@@ -174,10 +125,14 @@ module _ (objects : List Named) (nodes : List Node) (v : Verified) (height besid
     in_steps : In n v.steps.items
     in_steps = subst (λ l. In n l) (sym parts) (In-right n before (n ∷ after) (inl refl))
 
-    -- what a node reads is seen as far as the nodes before made it right
+    -- its outputs are no slots
+    out_whole : (c : Cell) → In c (outputs n) → c.slot ≡ None
+    out_whole c i = (out_height objects nodes v height beside r n in_steps c i).1
+
+    -- what it reads is seen as far as the nodes before made it right
     pub record SeesInputs (s : Stage) : Type 0 where
-      pub first : SeesImage strip.rows (right_from objects before strip.rows) (right_to objects height before strip.rows) s.slots.items (scene s).objects final n.in1
-      pub second : IfSome n.in2 (SeesBeside strip.rows (right_from objects before strip.rows) (right_to objects height before strip.rows) s.slots.items (scene s).objects final)
+      pub first : SeesRight objects final height before strip.rows s n.in1
+      pub second : IfSome n.in2 (SeesRightBeside objects final height before strip.rows s)
 
     -- an output as a node finds it: its first rows are right as far as the strip's band begins
     pub record IsOpen (s : Stage) (c : Cell) : Type 0 where
@@ -195,9 +150,8 @@ module _ (objects : List Named) (nodes : List Node) (v : Verified) (height besid
       pub seen_output : IsSeen strip s n c
       seen_output = is_seen objects final height beside strip is_strip s before n which c sees.first sees.second is.place runs images plain
 
-      module _ (ends : held final c ≡ Some (ImageObject (node_image n which (image_held final c).format (image_held final n.in1) (option_map (cell_object final) n.in2)))) where
-        stands : StandsFor strip.rows.start strip.rows.count (right_from objects done strip.rows) (right_to objects height done strip.rows)
-            (part_made strip.rows s n which c) (image_held final c)
+      module _ (ends : IsMade final n which c) where
+        stands : IsRightFor objects height done strip.rows (part_made strip.rows s n which c) (image_held final c)
         stands =
             let near = second_near objects nodes v height beside r n in_steps in
             made_stands objects final height beside strip is_strip s before n which c sees.first sees.second is.place runs images plain
@@ -207,16 +161,13 @@ module _ (objects : List Named) (nodes : List Node) (v : Verified) (height besid
         final_is : IsImage (image_held final c)
         final_is = out_is_image final n which c runs images
 
-        whole : cell_of c.name ≡ c
-        whole = whole_cell c (out_height objects nodes v height beside r n in_steps c out).1
-
         at_name : object_held final c.name ≡ Some (ImageObject (image_held final c))
-        at_name = held_whole final c (out_height objects nodes v height beside r n in_steps c out).1 (image_held final c) (ends ∙ ap (λ i. Some (ImageObject i)) (sym (ap (λ o. image_value (unwrap_or o nothing)) ends)))
+        at_name = let high = out_height objects nodes v height beside r n in_steps c out in sym (held_whole final c high.1) ∙ held_image final c high.2
 
         made_is : IsImage (part_made strip.rows s n which c)
         made_is =
             node_image_is n (image_held (scene s).objects c).format (image_value (seen strip.rows s n.in1)) seen_output.0.can_run.node (rw sees.first.seen_is sees.first.part_is) which (option_map (seen strip.rows s) n.in2)
-            (seen_is_object strip.rows (right_from objects before strip.rows) (right_to objects height before strip.rows) s.slots.items (scene s).objects final n.in2 sees.second)
+            (seen_is_object _ _ _ _ _ _ n.in2 sees.second)
             seen_output.0.can_run.kind seen_output.0.can_run.formats
 
         pub as_made : AsMade done c (Some (made_seen strip s n which c))
@@ -239,8 +190,8 @@ module _ (objects : List Named) (nodes : List Node) (v : Verified) (height besid
                 → RowsAreAs end (Some (made_seen strip s n which c)) (object_held final c.name)
             of_rows none earlier =
                 let old = image_held (scene s).objects c in
-                let here : object_held (scene s).objects c.name ≡ Some (ImageObject old) = held_image (scene s).objects c (out_height objects nodes v height beside r n in_steps c out).1 is.place.here in
-                let rows = rw_rows strip.band.start (object_held (scene s).objects c.name) (object_held final c.name) old (image_held final c) here at_name earlier in
+                let here : object_held (scene s).objects c.name ≡ Some (ImageObject old) = sym (held_whole (scene s).objects c (out_whole c out)) ∙ held_image (scene s).objects c is.place.here in
+                let rows = subst (RowsAreAs strip.band.start (Some (ImageObject old))) at_name (subst (λ o. RowsAreAs strip.band.start o (object_held final c.name)) here earlier) in
                 let less = beside_less before after n parts in
                 let right = rows_right strip (part_made strip.rows s n which c) old (image_held final c) is_strip.within (right_from objects done strip.rows) (right_to objects height done strip.rows) stands
                 (omega (arith, right_above (sum_by (rows_beside objects) done) beside strip.rows.start less, is_strip.above))
@@ -269,10 +220,6 @@ module _ (objects : List Named) (nodes : List Node) (v : Verified) (height besid
     second_apart : (P : Cell → Type 0) (a : Cell) → n.in2 ≡ Some a → IfSome n.in2 P → P a
     second_apart P a e h = subst (λ (o : Option Cell). IfSome o P) e h
 
-    -- a cell of an output
-    out_whole : (c : Cell) → In c (outputs n) → c.slot ≡ None
-    out_whole c i = (out_height objects nodes v height beside r n in_steps c i).1
-
     -- two outputs have two names
     outputs_differ : (c d : Cell) → n.out1 ≡ Some c → n.out2 ≡ Some d → c.name ≢ d.name
     outputs_differ c d e f same =
@@ -289,23 +236,20 @@ module _ (objects : List Named) (nodes : List Node) (v : Verified) (height besid
         → IfSome n.in2 (λ a. object_held (scene later).objects a.name ≡ object_held (scene s).objects a.name) → SeesInputs later
     sees_kept s later sees same first_same second_same =
         record {
-          first = sees_image_kept strip.rows (right_from objects before strip.rows) (right_to objects height before strip.rows) s.slots.items later.slots.items (scene s).objects (scene later).objects final n.in1 (slots_alike s.slots.items later.slots.items same n.in1.name)
-              (ap (option_and_then (in_slot n.in1.slot)) first_same) sees.first;
+          first = sees_image_kept n.in1 (slots_alike s.slots.items later.slots.items same n.in1.name) (ap (option_and_then (in_slot n.in1.slot)) first_same) sees.first;
           second = each n.in2 second_same sees.second;
         }
       where
         each : (second : Option Cell) → IfSome second (λ a. object_held (scene later).objects a.name ≡ object_held (scene s).objects a.name)
-            → IfSome second (SeesBeside strip.rows (right_from objects before strip.rows) (right_to objects height before strip.rows) s.slots.items (scene s).objects final)
-            → IfSome second (SeesBeside strip.rows (right_from objects before strip.rows) (right_to objects height before strip.rows) later.slots.items (scene later).objects final)
+            → IfSome second (SeesRightBeside objects final height before strip.rows s) → IfSome second (SeesRightBeside objects final height before strip.rows later)
         each None kept h = tt
         each (Some a) kept h =
-            sees_beside_kept strip.rows (right_from objects before strip.rows) (right_to objects height before strip.rows) s.slots.items later.slots.items (scene s).objects (scene later).objects final a (slots_alike s.slots.items later.slots.items same a.name)
-            (ap (option_and_then (in_slot a.slot)) kept) h
+            sees_beside_kept a (slots_alike s.slots.items later.slots.items same a.name) (ap (option_and_then (in_slot a.slot)) kept) h
 
     -- so does another output
-    open_kept : (s later : Stage) (c other : Cell) → In other (outputs n) → map fixed later.slots.items ≡ map fixed s.slots.items
+    open_kept : (s later : Stage) (other : Cell) → In other (outputs n) → map fixed later.slots.items ≡ map fixed s.slots.items
         → object_held (scene later).objects other.name ≡ object_held (scene s).objects other.name → IsOpen s other → IsOpen later other
-    open_kept s later c other i same kept is =
+    open_kept s later other i same kept is =
         let alike = slots_alike s.slots.items later.slots.items same other.name in
         let cell : held (scene later).objects other ≡ held (scene s).objects other = ap (option_and_then (in_slot other.slot)) kept in
         let object : cell_object (scene later).objects other ≡ cell_object (scene s).objects other = ap (λ (o : Option ObjectValue). unwrap_or o nothing) cell in
@@ -322,7 +266,7 @@ module _ (objects : List Named) (nodes : List Node) (v : Verified) (height besid
               };
           virtual = λ yes. some_alike (slot_of s.slots.items other.name) (slot_of later.slots.items other.name) alike (is.virtual yes).0 (is.virtual yes).1;
           real = λ no. (
-            none_back (slot_of s.slots.items other.name) (slot_of later.slots.items other.name) alike (is.real no).0,
+            none_alike (slot_of later.slots.items other.name) (slot_of s.slots.items other.name) (sym alike) (is.real no).0,
             subst (λ o. RowsAreAs strip.band.start o (object_held final other.name)) (sym kept) (is.real no).1,
           );
         }
@@ -364,7 +308,7 @@ module _ (objects : List Named) (nodes : List Node) (v : Verified) (height besid
 
         open_between : (c : Cell) → n.out2 ≡ Some c → IsOpen between c
         open_between c e =
-            open_kept s between c c (second_in c e) first_slots (first_kept c.name (λ d f same. outputs_differ d c f e (sym same))) (opens c (second_in c e))
+            open_kept s between c (second_in c e) first_slots (first_kept c.name (λ d f same. outputs_differ d c f e (sym same))) (opens c (second_in c e))
 
         -- its second output can be written then
         pub second_seen : IfSome n.out2 (IsSeen strip between n)
@@ -388,7 +332,7 @@ module _ (objects : List Named) (nodes : List Node) (v : Verified) (height besid
               let i = first_in c e in
               subst (AsMade done c)
               (sym (second_kept c.name (λ d f same. outputs_differ c d e f same) ∙ at_output s between c _ (out_whole c i) (opens c i).place.here value))
-              (as_made s sees First c i (opens c i) (runs_first c e) (subst (λ (o : Option Cell). IfSome o (λ c. held final c ≡ Some (ImageObject (node_image n First (image_held final c).format (image_held final n.in1) (option_map (cell_object final) n.in2))))) e (made_first objects nodes v height beside r n in_steps)))
+              (as_made s sees First c i (opens c i) (runs_first c e) (subst (λ (o : Option Cell). IfSome o (IsMade final n First)) e (made_first objects nodes v height beside r n in_steps)))
 
           second_made : (c : Cell) → n.out2 ≡ Some c → AsMade done c (object_held (scene later).objects c.name)
           second_made c e =
@@ -396,7 +340,7 @@ module _ (objects : List Named) (nodes : List Node) (v : Verified) (height besid
               let i = second_in c e in
               subst (AsMade done c)
               (sym (at_output between later c _ (out_whole c i) (open_between c e).place.here value))
-              (as_made between sees_between Second c i (open_between c e) (runs_second c e) (subst (λ (o : Option Cell). IfSome o (λ c. held final c ≡ Some (ImageObject (node_image n Second (image_held final c).format (image_held final n.in1) (option_map (cell_object final) n.in2))))) e (made_second objects nodes v height beside r n in_steps)))
+              (as_made between sees_between Second c i (open_between c e) (runs_second c e) (subst (λ (o : Option Cell). IfSome o (IsMade final n Second)) e (made_second objects nodes v height beside r n in_steps)))
 
           pub has_run : HasRun s later
           has_run =

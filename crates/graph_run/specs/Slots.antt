@@ -1,5 +1,5 @@
 -- The slots that a plan has for the virtual images of a graph, in one list, and what stands in them while the graph runs.
-use Rattle.std.specs.Prelude.{ℕ, ◌≡◌, ◌+◌, ◌==◌, List, ◌++◌, map, length, sum_by, find, All, Option, Some, None, if◌then◌else◌, unwrap_or}
+use Rattle.std.specs.Prelude.{ℕ, ◌≡◌, ◌+◌, ◌*◌, ◌/◌, ◌==◌, min, List, ◌++◌, map, length, sum_by, find, All, Option, Some, None, if◌then◌else◌, unwrap_or}
 use Rattle.std.specs.List.{range_with_len}
 use Rattle.std.specs.Option.{option_map}
 use Rattle.vx_base.specs.declared.format.Format.{Format}
@@ -10,6 +10,7 @@ use Rattle.pixel_pool.specs.Pool.{one_of}
 use Rattle.graph_verify.specs.declared.known.VirtualOutput.{VirtualOutput}
 use Rattle.graph_verify.specs.Members.{In}
 use Rattle.buffer_plan.specs.Plan.{PlanValue}
+use Rattle.graph_run.specs.declared.bands.Bands.{Bands}
 use Rattle.graph_run.specs.declared.stage.Slot.{Slot}
 use Rattle.graph_run.specs.Stage.{holder_at, claimed}
 
@@ -33,6 +34,19 @@ rooms_for p format = map (λ k. (format, p.slot_samples format k)) (range_with_l
 
 abbrev pub planned_rooms : PlanValue → List (Format × ℕ)
 planned_rooms p = rooms_for p U8 ++ rooms_for p S16 ++ rooms_for p U32
+
+-- a plan of which each slot has room for so many rows of its images, which are of this height
+abbrev pub strip_plan : ℕ → ℕ → PlanValue → PlanValue
+strip_plan height most p = record p { slot_samples = λ format k. p.slot_samples format k / height * most }
+
+-- how many rows nodes see at most
+abbrev pub most_rows : Bands → ℕ
+most_rows b = min b.height (b.rows + 2 * b.beside)
+
+-- the plan by which a graph runs: as it is, or in bands
+abbrev pub plan_in : Option Bands → PlanValue → PlanValue
+plan_in None p = p
+plan_in (Some b) p = strip_plan b.height (most_rows b) p
 
 -- nothing stands in the slots
 abbrev pub AreEmpty : List Slot → Type 0

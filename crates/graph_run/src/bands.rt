@@ -1,6 +1,7 @@
 //! Graphs that run in bands of rows: each band goes through all nodes before the next one does, so
 //! that what lies between two nodes stays in the cache.
-ghost use Rattle.std.specs.Prelude.{◌≡◌, ◌≤◌, ◌<◌, ◌+◌, ◌-◌, ◌*◌, ◌++◌, [], ℕ, List, map, pos, take, drop, length};
+ghost use Rattle.std.specs.Prelude.{◌≡◌, ◌≤◌, ◌<◌, ◌+◌, ◌-◌, ◌*◌, ◌++◌, []};
+ghost use Rattle.std.specs.Prelude.{ℕ, List, map, pos, take, drop, length};
 ghost use Rattle.std.specs.Prelude.{All, IfSome, IsSome, slice_get, None, Some, false};
 ghost use Rattle.vx_base.specs.declared.format.Format.TheVariants.{U8, S16, U32};
 ghost use Rattle.vx_base.specs.declared.node.Node.{Node as NodeFields};
@@ -24,14 +25,17 @@ ghost use Rattle.graph_verify.specs.Members.{In};
 ghost use Rattle.graph_verify.specs.Verified.{IsVerified};
 ghost use Rattle.buffer_plan.specs.Places.{told};
 ghost use Rattle.buffer_plan.specs.Plan.{IsPlan};
-ghost use Rattle.graph_run.specs.Bands.{SeesParts, part_made, with_band, with_seen, made_seen, IsWithinRows};
-ghost use Rattle.graph_run.specs.Bands.{IsSeen, HasPlaceIn, output_part, RunsInBands, final_of, IsStrip};
+ghost use Rattle.graph_run.specs.Bands.{SeesParts, part_made, with_band, with_seen};
+ghost use Rattle.graph_run.specs.Bands.{IsWithinRows, IsSeen, IsStrip};
+ghost use Rattle.graph_run.specs.Bands.{output_part, RunsInBands, final_of};
 ghost use Rattle.graph_run.specs.Bands.{IsFinished, AreAreas, is_image_held, with_area};
 ghost use Rattle.graph_run.specs.Graph.{run_of_graph};
 ghost use Rattle.graph_run.specs.Lasting.{Lasts};
 ghost use Rattle.graph_run.specs.Operands.{operand_held, IsReady};
 ghost use Rattle.graph_run.specs.Run.{CanRun};
-ghost use Rattle.graph_run.specs.Slots.{room_of, planned_rooms, AreEmpty, AreShared, claimed_at};
+ghost use Rattle.graph_run.specs.declared.bands.Bands.{Bands as HowBands};
+ghost use Rattle.graph_run.specs.Slots.{room_of, planned_rooms, plan_in, most_rows};
+ghost use Rattle.graph_run.specs.Slots.{AreEmpty, AreShared, claimed_at};
 ghost use Rattle.graph_run.specs.Stage.{scene, slot_of, IsStage, IsArranged, Keeps};
 ghost use Rattle.graph_run.specs.Steps.{CanRunTo};
 ghost use Rattle.graph_run.specs.Turns.{AreVirtual};
@@ -66,10 +70,21 @@ pub struct Bands {
     pub areas: Vec<Rect>,
 }
 
+impl Bands {
+    /// How many rows nodes see at most.
+    pub fn most_rows(&self) -> usize
+        ensures { result ≡ most_rows self.now }
+    {
+        let rows = usize::from(self.rows) + 2 * usize::from(self.beside);
+        usize::from(self.height).min(rows)
+    }
+}
+
 /// Runs all nodes of a verified graph band by band. It takes no memory.
 pub fn run_bands(stage: &mut Stage, verified: &Verified, plan: &Plan, bands: &Bands)
     requires stage { IsStage stage.old }
-    requires rooms { map room_of stage.old.slots.items ≡ planned_rooms (told plan.now) }
+    requires rooms { map room_of stage.old.slots.items
+        ≡ planned_rooms (plan_in (Some bands.now) (told plan.now)) }
     requires plan { IsPlan verified.now.steps.items verified.now.virtual_outputs.items
         (told plan.now) }
     requires some { 1 ≤ bands.now.rows }
@@ -79,7 +94,8 @@ pub fn run_bands(stage: &mut Stage, verified: &Verified, plan: &Plan, bands: &Ba
         IsReady stage.old.table.objects nodes verified.now →
         RunsInBands stage.old.table.objects nodes verified.now bands.now.height
         bands.now.beside }
-    requires areas { (nodes : List NodeFields) → IsReady stage.old.table.objects nodes verified.now →
+    requires areas { (nodes : List NodeFields) →
+        IsReady stage.old.table.objects nodes verified.now →
         AreAreas (final_of stage.old.table.objects nodes verified.now) verified.now.steps.items
         bands.now.areas.items }
     ensures value { (nodes : List NodeFields) →
@@ -106,6 +122,7 @@ fn strip_at(bands: &Bands, y: u16) -> Strip
     requires below { y < bands.now.height }
     ensures strip { IsStrip bands.now.height bands.now.beside result }
     ensures start { result.band.start ≡ y }
+    ensures rows { result.rows.count ≤ most_rows bands.now }
 {
     let count = bands.rows.min(bands.height - y);
     let start = y.saturating_sub(bands.beside);
@@ -137,10 +154,12 @@ fn clear_slots(stage: &mut Stage)
 fn run_strip(stage: &mut Stage, verified: &Verified, plan: &Plan, bands: &Bands, strip: Strip)
     requires stage { IsStage stage.old }
     requires empty { AreEmpty stage.old.slots.items }
-    requires rooms { map room_of stage.old.slots.items ≡ planned_rooms (told plan.now) }
+    requires rooms { map room_of stage.old.slots.items
+        ≡ planned_rooms (plan_in (Some bands.now) (told plan.now)) }
     requires plan { IsPlan verified.now.steps.items verified.now.virtual_outputs.items
         (told plan.now) }
     requires strip { IsStrip bands.now.height bands.now.beside strip }
+    requires rows { strip.rows.count ≤ most_rows bands.now }
     requires runs { (objects : List Named) × (nodes : List NodeFields) ×
         RunsInBands objects nodes verified.now bands.now.height bands.now.beside ×
         IsFinished (λ _. strip.band.start) verified.now objects
@@ -173,13 +192,15 @@ fn claim_part(
 )
     requires stage { IsStage stage.old }
     requires verified { (is : Cell → Operand) × (nodes : List NodeFields) ×
-        IsVerified is nodes verified.now × ((o : VirtualOutput) →
-        In o verified.now.virtual_outputs.items → rows.count ≤ o.desc.height) }
+        IsVerified is nodes verified.now }
     requires some { 1 ≤ rows.count }
     requires plan { IsPlan verified.now.steps.items verified.now.virtual_outputs.items
         (told plan.now) }
     requires outputs { AreVirtual stage.old.table.objects verified.now.virtual_outputs.items }
-    requires shared { AreShared (told plan.now)
+    requires shared { (bands : HowBands) × rows.count ≤ most_rows bands ×
+        ((o : VirtualOutput) → In o verified.now.virtual_outputs.items →
+        o.desc.height ≡ bands.height) ×
+        AreShared (plan_in (Some bands) (told plan.now))
         (map (output_part rows.count) verified.now.virtual_outputs.items) stage.old.slots.items }
     ensures stage { IsStage stage.new }
     ensures table { stage.new.table ≡ stage.old.table }
@@ -336,8 +357,8 @@ fn run_rows(
 
 /// Runs a node to rows of an output in one format.
 macro_rules! run_to_rows {
-    ($desc:expr, $rows:expr, $samples:expr, $node:expr, $which:expr, $first:expr, $second:expr) => {{
-        let mut output = ImageMut::of_rows($desc, $rows, $samples);
+    ($desc:expr, $rows:expr, $out:expr, $node:expr, $which:expr, $first:expr, $second:expr) => {{
+        let mut output = ImageMut::of_rows($desc, $rows, $out);
         run_rows($node, $which, $first, $second, &mut output);
     }};
 }

@@ -69,7 +69,8 @@ pub fn each_at_its_turn()
     ensures cells { (work : ℕ) (is : Cell → Operand) (nodes before : List Node)
         (objects : List Named) → verdict work is nodes ≡ None →
         CellsStand is nodes objects → AllIn before nodes →
-        CellsStand (resolved is nodes) nodes (one_by_one before (map (begun (resolved is nodes) nodes) objects)) }
+        CellsStand (resolved is nodes) nodes
+        (one_by_one before (map (begun (resolved is nodes) nodes) objects)) }
 {}
 
 /// A run of a graph that can run is its nodes in an order in which they can run, each once, on what

@@ -21,7 +21,7 @@ ghost use Rattle.graph_run.specs.Graph.{run_of_graph};
 ghost use Rattle.graph_run.specs.Lasting.{Lasts};
 ghost use Rattle.graph_run.specs.Operands.{operand_held, IsReady};
 ghost use Rattle.graph_run.specs.Stage.{IsStage};
-ghost use Rattle.graph_run.specs.Slots.{room_of, rooms_for, planned_rooms, slot_place};
+ghost use Rattle.graph_run.specs.Slots.{room_of, rooms_for, planned_rooms, plan_in, slot_place};
 ghost use Rattle.graph_run.specs.Slots.{AreEmpty, AreShared, claimed_at, slot_blocks};
 ghost use Rattle.graph_run.specs.Turns.{AreVirtual};
 
@@ -66,7 +66,7 @@ pub fn run(
         ≤ blocks_of pool.old format + (told plan.now).slot_count format }
 {
     let bands = bands_of(alloc, table, verified)?;
-    let slots = slots_for(alloc, pool, plan)?;
+    let slots = slots_for(alloc, pool, plan, &bands)?;
     let empty = Table::new(table.allocator());
     let mut stage = Stage {
         table: mem::replace(table, empty),
@@ -83,7 +83,8 @@ pub fn run(
 fn run_nodes(stage: &mut Stage, verified: &Verified, plan: &Plan, bands: Option<Bands>)
     requires stage { IsStage stage.old }
     requires empty { AreEmpty stage.old.slots.items }
-    requires rooms { map room_of stage.old.slots.items ≡ planned_rooms (told plan.now) }
+    requires rooms { map room_of stage.old.slots.items
+        ≡ planned_rooms (plan_in bands (told plan.now)) }
     requires ready { (nodes : List NodeFields) ×
         IsReady stage.old.table.objects nodes verified.now }
     requires plan { IsPlan verified.now.steps.items verified.now.virtual_outputs.items
@@ -175,9 +176,15 @@ pub fn place_of(plan: &Plan, format: Format, slot: usize) -> usize
 }
 
 /// The slots of a plan, in which nothing stands. An error has given back what was taken.
-fn slots_for(alloc: Global, pool: &mut Pool, plan: &Plan) -> Result<Vec<Slot>, AllocError>
+fn slots_for(
+    alloc: Global,
+    pool: &mut Pool,
+    plan: &Plan,
+    bands: &Option<Bands>,
+) -> Result<Vec<Slot>, AllocError>
+    requires { IfSome bands.now (λ b. 1 ≤ b.height) }
     ensures rooms { IfOk result (λ slots.
-        map room_of slots.items ≡ planned_rooms (told plan.now)) }
+        map room_of slots.items ≡ planned_rooms (plan_in bands.now (told plan.now))) }
     ensures empty { IfOk result (λ slots. AreEmpty slots.items) }
     ensures lends { IfOk result (λ slots.
         LendsMore pool.old pool.new (slot_blocks slots.items)) }
@@ -186,7 +193,7 @@ fn slots_for(alloc: Global, pool: &mut Pool, plan: &Plan) -> Result<Vec<Slot>, A
         ≤ blocks_of pool.old format + (told plan.now).slot_count format }
 {
     let mut slots = Vec::new(alloc);
-    match add_all(&mut slots, pool, plan) {
+    match add_all(&mut slots, pool, plan, bands) {
         Ok(()) => Ok(slots),
         Err(fault) => {
             give_back(slots, pool);
@@ -196,17 +203,24 @@ fn slots_for(alloc: Global, pool: &mut Pool, plan: &Plan) -> Result<Vec<Slot>, A
 }
 
 /// Adds the slots of a plan to none.
-fn add_all(slots: &mut Vec<Slot>, pool: &mut Pool, plan: &Plan) -> Result<(), AllocError>
-    requires { slots.old.items ≡ [] }
-    ensures rooms { OnOk result (map room_of slots.new.items ≡ planned_rooms (told plan.now)) }
+fn add_all(
+    slots: &mut Vec<Slot>,
+    pool: &mut Pool,
+    plan: &Plan,
+    bands: &Option<Bands>,
+) -> Result<(), AllocError>
+    requires none { slots.old.items ≡ [] }
+    requires high { IfSome bands.now (λ b. 1 ≤ b.height) }
+    ensures rooms { OnOk result (map room_of slots.new.items
+        ≡ planned_rooms (plan_in bands.now (told plan.now))) }
     ensures empty { AreEmpty slots.new.items }
     ensures lends { LendsMore pool.old pool.new (slot_blocks slots.new.items) }
     ensures adds { (format : SampleFormat) → blocks_of pool.new format
         ≤ blocks_of pool.old format + (told plan.now).slot_count format }
 {
-    add_slots(slots, pool, plan, Format::U8)?;
-    add_slots(slots, pool, plan, Format::S16)?;
-    add_slots(slots, pool, plan, Format::U32)
+    add_slots(slots, pool, plan, bands, Format::U8)?;
+    add_slots(slots, pool, plan, bands, Format::S16)?;
+    add_slots(slots, pool, plan, bands, Format::U32)
 }
 
 /// Adds the slots of a format.
@@ -214,11 +228,13 @@ fn add_slots(
     slots: &mut Vec<Slot>,
     pool: &mut Pool,
     plan: &Plan,
+    bands: &Option<Bands>,
     format: Format,
 ) -> Result<(), AllocError>
-    requires { AreEmpty slots.old.items }
+    requires empty { AreEmpty slots.old.items }
+    requires high { IfSome bands.now (λ b. 1 ≤ b.height) }
     ensures rooms { OnOk result (map room_of slots.new.items
-        ≡ map room_of slots.old.items ++ rooms_for (told plan.now) format) }
+        ≡ map room_of slots.old.items ++ rooms_for (plan_in bands.now (told plan.now)) format) }
     ensures empty { AreEmpty slots.new.items }
     ensures lends { (f : SampleFormat) → lent_of pool.new f + slot_blocks slots.old.items f
         ≡ lent_of pool.old f + slot_blocks slots.new.items f }
@@ -228,7 +244,7 @@ fn add_slots(
     let count = plan.slot_count(format);
     slots.reserve(count)?;
     for k in 0..count {
-        let samples = pool.take(format, plan.slot_samples(format, k))?;
+        let samples = pool.take(format, slot_room(plan, bands, format, k))?;
         slots.push_reserved(Slot {
             samples,
             valid: Rect::empty(),
@@ -238,11 +254,24 @@ fn add_slots(
     Ok(())
 }
 
+/// How many samples a slot has to hold: those of whole images, or in bands those of a strip's rows.
+fn slot_room(plan: &Plan, bands: &Option<Bands>, format: Format, slot: usize) -> usize
+    requires { IfSome bands.now (λ b. 1 ≤ b.height) }
+    ensures { result ≡ (plan_in bands.now (told plan.now)).slot_samples format slot }
+{
+    let samples = plan.slot_samples(format, slot);
+    match bands {
+        Some(bands) => samples / usize::from(bands.height) * bands.most_rows(),
+        None => samples,
+    }
+}
+
 /// Gives the blocks of slots back.
 fn give_back(slots: Vec<Slot>, pool: &mut Pool)
     requires { LendsAtLeast pool.old (slot_blocks slots.items) }
     ensures lent { LendsLess pool.old pool.new (slot_blocks slots.items) }
-    ensures blocks { (format : SampleFormat) → blocks_of pool.new format ≤ blocks_of pool.old format }
+    ensures blocks { (format : SampleFormat) →
+        blocks_of pool.new format ≤ blocks_of pool.old format }
 {
     for slot in slots {
         pool.give_back(slot.samples);

@@ -38,10 +38,17 @@ use vx_base::{Convolution, Desc, Function, Kind, Node, ObjRef, Rect};
 /// Images of fewer samples than this stay in the cache as a whole.
 const LEAST_SAMPLES: usize = 131_072;
 
+/// Where a node looks up and down, computing counts for more than the cache: below so many samples
+/// the rows beside a band cost what the band gains.
+const LEAST_SAMPLES_BESIDE: usize = 500_000;
+
 /// About so many samples of an image make a band: those of a few images stay in the cache.
 const BAND_SAMPLES: u32 = 65_536;
 
-/// In a band of fewer rows than this, those beside it would be too great a part.
+/// A band has no more samples than this, whatever nodes look at.
+const GREATEST_BAND_SAMPLES: u32 = 131_072;
+
+/// In a band of fewer rows than this the calls for each node would be too great a part.
 const LEAST_ROWS: u32 = 16;
 
 /// More rows than this in a band gain nothing.
@@ -50,9 +57,12 @@ const GREATEST_ROWS: u32 = 64;
 /// In fewer bands than this a graph gains nothing.
 const LEAST_BANDS: u16 = 4;
 
-/// A band has at least so many rows for each that nodes see above it, and for each below it: those
+/// A band should have so many rows for each that nodes see above it, and for each below it: those
 /// beside it they go over twice.
-const ROWS_FOR_ONE_BESIDE: u16 = 4;
+const ROWS_FOR_ONE_BESIDE: u32 = 16;
+
+/// With fewer rows than this for each beside it a band costs more than it gains.
+const LEAST_FOR_ONE_BESIDE: u16 = 4;
 
 /// How a verified graph runs in bands of rows. `None`: its nodes run one after another on whole
 /// images: these are small, or of several heights; a node looks at all rows of an image, adds to
@@ -67,6 +77,7 @@ pub fn bands_of(
     requires names { IsStrictlyIncreasing (map (λ o. o.name) table.now.objects) }
     requires ready { (nodes : List NodeFields) × IsReady table.now.objects nodes verified.now }
     ensures rows { IfOk result (λ found. IfSome found (λ bands. 1 ≤ bands.rows)) }
+    ensures height { IfOk result (λ found. IfSome found (λ bands. 1 ≤ bands.height)) }
     ensures bands { IfOk result (λ found. IfSome found (λ bands. (nodes : List NodeFields) →
         IsReady table.now.objects nodes verified.now →
         RunsInBands table.now.objects nodes verified.now bands.height bands.beside)) }
@@ -78,14 +89,14 @@ pub fn bands_of(
     let Some(desc) = first_desc(table, verified) else {
         return Ok(None);
     };
-    let (height, rows) = (desc.height(), rows_of(desc));
-    if desc.sample_count() < LEAST_SAMPLES || height / LEAST_BANDS < rows {
-        return Ok(None);
-    }
     let Some(beside) = rows_beside(table, &verified.steps) else {
         return Ok(None);
     };
-    if beside > rows / ROWS_FOR_ONE_BESIDE || !all_suit(table, verified, height) {
+    let (height, rows) = (desc.height(), rows_of(desc, beside));
+    if desc.sample_count() < least_samples(beside) || height / LEAST_BANDS < rows {
+        return Ok(None);
+    }
+    if beside > rows / LEAST_FOR_ONE_BESIDE || !all_suit(table, verified, height) {
         return Ok(None);
     }
     are_described(&verified.virtual_outputs);
@@ -133,12 +144,25 @@ fn desc_of(table: &Table, verified: &Verified, cell: ObjRef) -> Option<Desc>
 
 // ---- sizes
 
-/// The rows of a band of images of this description.
-fn rows_of(desc: Desc) -> u16
+/// How many samples images need to have so that bands pay, for a graph that looks at so many rows
+/// beside one.
+fn least_samples(beside: u16) -> usize {
+    if beside == 0 {
+        LEAST_SAMPLES
+    } else {
+        LEAST_SAMPLES_BESIDE
+    }
+}
+
+/// The rows of a band of images of this description, for a graph that looks at so many rows beside
+/// it.
+fn rows_of(desc: Desc, beside: u16) -> u16
     ensures { 1 ≤ result }
 {
-    let rows = BAND_SAMPLES / u32::from(desc.width());
-    rows.max(LEAST_ROWS).min(GREATEST_ROWS) as u16
+    let width = u32::from(desc.width());
+    let rows = (BAND_SAMPLES / width).max(LEAST_ROWS).min(GREATEST_ROWS);
+    let greatest = (GREATEST_BAND_SAMPLES / width).max(LEAST_ROWS).min(GREATEST_ROWS);
+    rows.max(u32::from(beside) * ROWS_FOR_ONE_BESIDE).min(greatest) as u16
 }
 
 /// How many rows up and down nodes look together. `None`: one of them looks at all rows.

@@ -1,11 +1,12 @@
-use Rattle.std.proofs.Common.{◌<◌, ◌≤◌, ℕ, List, length, get_or, refl, ap, sym, subst, ◌∙◌}
+use Rattle.std.proofs.Common.{◌<◌, ◌≤◌, ℕ, List, length, get_or, Some, refl, ap, sym, subst, ◌∙◌}
 use Rattle.vx_base.specs.declared.node.Node.{Node}
 use Rattle.object_table.specs.Context.{Context}
 use Rattle.object_table.specs.Named.{Named}
 use Rattle.buffer_plan.specs.Places.{told}
 use Rattle.graph_run.specs.Operands.{operand_held}
+use Rattle.graph_run.specs.Slots.{plan_in, most_rows}
 use Rattle.graph_run.specs.Turns.{AreVirtual}
-use Rattle.graph_run.proofs.StripRunLemmas.{low, still_virtual, strip_begins, strip_ends, first_shared, node_first, node_second, node_runs}
+use Rattle.graph_run.proofs.StripRunLemmas.{high, still_virtual, strip_begins, strip_ends, first_shared, node_first, node_second, node_runs}
 use Rattle.graph_run.proofs.bands.run_strip.Goals as goal
 
 abbrev objects_of : Context → List Named
@@ -20,35 +21,39 @@ loop-node-init c =
       stage = c.requires.stage;
       next = refl;
       course = λ objects nodes r is_strip finished.
-          strip_begins objects nodes _ _ _ r c.args.strip is_strip (told c.args.plan.now) _ _ c.requires.empty c.requires.rooms finished;
+          strip_begins objects nodes _ _ _ r c.args.strip is_strip (plan_in (Some c.args.bands.now) (told c.args.plan.now)) _ _ c.requires.empty c.requires.rooms finished;
     }
 
 pub claim_part-requires-clause-verified : goal.claim_part-requires-clause-verified
 claim_part-requires-clause-verified c =
     let runs = c.requires.runs in
-    (operand_held runs.0, runs.1, runs.2.ready.verified, low runs.0 runs.1 _ _ _ runs.2 c.args.strip c.requires.strip)
+    (operand_held runs.0, runs.1, runs.2.ready.verified)
 
 pub claim_part-requires-clause-outputs : goal.claim_part-requires-clause-outputs
 claim_part-requires-clause-outputs c =
     let runs = c.requires.runs in
-    still_virtual runs.0 runs.1 _ _ _ runs.2 c.args.strip c.requires.strip (told c.args.plan.now) c.loop-node.node-index _ _
+    still_virtual runs.0 runs.1 _ _ _ runs.2 c.args.strip c.requires.strip (plan_in (Some c.args.bands.now) (told c.args.plan.now)) c.loop-node.node-index _ _
     (c.loop-node.invariant.course runs.0 runs.1 runs.2 c.requires.strip runs.3)
 
 pub claim_part-requires-clause-shared : goal.claim_part-requires-clause-shared
 claim_part-requires-clause-shared c =
-    let runs = c.requires.runs in
-    (c.loop-node.invariant.course runs.0 runs.1 runs.2 c.requires.strip runs.3).shared
+    let runs = c.requires.runs in (
+      c.args.bands.now,
+      c.requires.rows,
+      high runs.0 runs.1 _ _ _ runs.2 c.args.strip c.requires.strip,
+      (c.loop-node.invariant.course runs.0 runs.1 runs.2 c.requires.strip runs.3).shared,
+    )
 
 pub claim_part-requires-in-loop-node-clause-verified : goal.claim_part-requires-in-loop-node-clause-verified
 claim_part-requires-in-loop-node-clause-verified c =
     let runs = c.requires.runs in
-    (operand_held runs.0, runs.1, runs.2.ready.verified, low runs.0 runs.1 _ _ _ runs.2 c.args.strip c.requires.strip)
+    (operand_held runs.0, runs.1, runs.2.ready.verified)
 
 pub claim_part-requires-in-loop-node-clause-outputs : goal.claim_part-requires-in-loop-node-clause-outputs
 claim_part-requires-in-loop-node-clause-outputs c =
     let runs = c.requires.runs in
     subst (λ (t : Context). AreVirtual t.objects c.args.verified.now.virtual_outputs.items) (sym c.claim_part.ensures.table)
-    (still_virtual runs.0 runs.1 _ _ _ runs.2 c.args.strip c.requires.strip (told c.args.plan.now) c.loop-node.node-index _ _
+    (still_virtual runs.0 runs.1 _ _ _ runs.2 c.args.strip c.requires.strip (plan_in (Some c.args.bands.now) (told c.args.plan.now)) c.loop-node.node-index _ _
     (c.loop-node.invariant.course runs.0 runs.1 runs.2 c.requires.strip runs.3))
 
 pub claim_part-requires-in-loop-node-clause-shared : goal.claim_part-requires-in-loop-node-clause-shared
@@ -56,10 +61,14 @@ claim_part-requires-in-loop-node-clause-shared c =
     let runs = c.requires.runs in
     let items = c.deref-node-items.ensures.value in
     let k = c.loop-node.node-index in
-    let n = c.node-item.result in
-    first_shared runs.0 runs.1 _ _ _ runs.2 c.args.strip c.requires.strip (told c.args.plan.now) c.requires.plan k n
-    (subst (λ (l : List Node). k < length l) items c.loop-node-test.true) (c.node-item.is ∙ ap (λ (l : List Node). get_or l k n) items) _ _ _
-    (c.loop-node.invariant.course runs.0 runs.1 runs.2 c.requires.strip runs.3) c.claim_part.ensures.slots
+    let n = c.node-item.result in (
+      c.args.bands.now,
+      c.requires.rows,
+      high runs.0 runs.1 _ _ _ runs.2 c.args.strip c.requires.strip,
+      first_shared runs.0 runs.1 _ _ _ runs.2 c.args.strip c.requires.strip (most_rows c.args.bands.now) c.requires.rows (told c.args.plan.now) c.requires.plan k n
+          (subst (λ (l : List Node). k < length l) items c.loop-node-test.true) (c.node-item.is ∙ ap (λ (l : List Node). get_or l k n) items) _ _ _
+          (c.loop-node.invariant.course runs.0 runs.1 runs.2 c.requires.strip runs.3) c.claim_part.ensures.slots,
+    )
 
 pub run_output-requires-clause-sees : goal.run_output-requires-clause-sees
 run_output-requires-clause-sees c =
@@ -68,7 +77,7 @@ run_output-requires-clause-sees c =
     let k = c.loop-node.node-index in
     let n = c.node-item.result in
     let claimed = c.claim_part-in-loop-node.new.stage in
-    node_first runs.0 runs.1 _ _ _ runs.2 c.args.strip c.requires.strip (told c.args.plan.now) c.requires.plan k n
+    node_first runs.0 runs.1 _ _ _ runs.2 c.args.strip c.requires.strip (most_rows c.args.bands.now) c.requires.rows (told c.args.plan.now) c.requires.plan k n
     (subst (λ (l : List Node). k < length l) items c.loop-node-test.true) (c.node-item.is ∙ ap (λ (l : List Node). get_or l k n) items)
     c.loop-node.stage.table.objects c.loop-node.stage.slots.items c.claim_part.new.stage.slots.items claimed.slots.items
     (c.loop-node.invariant.course runs.0 runs.1 runs.2 c.requires.strip runs.3) c.claim_part.ensures.slots c.claim_part-in-loop-node.ensures.slots
@@ -81,7 +90,7 @@ run_output-requires-in-loop-node-clause-sees c =
     let k = c.loop-node.node-index in
     let n = c.node-item.result in
     let claimed = c.claim_part-in-loop-node.new.stage in
-    node_second runs.0 runs.1 _ _ _ runs.2 c.args.strip c.requires.strip (told c.args.plan.now) c.requires.plan k n
+    node_second runs.0 runs.1 _ _ _ runs.2 c.args.strip c.requires.strip (most_rows c.args.bands.now) c.requires.rows (told c.args.plan.now) c.requires.plan k n
     (subst (λ (l : List Node). k < length l) items c.loop-node-test.true) (c.node-item.is ∙ ap (λ (l : List Node). get_or l k n) items)
     c.loop-node.stage.table.objects c.loop-node.stage.slots.items c.claim_part.new.stage.slots.items claimed.slots.items
     (c.loop-node.invariant.course runs.0 runs.1 runs.2 c.requires.strip runs.3) c.claim_part.ensures.slots c.claim_part-in-loop-node.ensures.slots
@@ -98,7 +107,7 @@ loop-node-preserved c =
       stage = c.run_output-in-loop-node.ensures.stage;
       next = ap next_of c.run_output-in-loop-node.ensures.value ∙ ap next_of c.run_output.ensures.value ∙ ap next_of (c.claim_part-in-loop-node.ensures.table ∙ c.claim_part.ensures.table) ∙ c.loop-node.invariant.next;
       course = λ objects nodes r is_strip finished.
-          node_runs objects nodes _ _ _ r c.args.strip is_strip (told c.args.plan.now) c.requires.plan k n
+          node_runs objects nodes _ _ _ r c.args.strip is_strip (most_rows c.args.bands.now) c.requires.rows (told c.args.plan.now) c.requires.plan k n
           (subst (λ (l : List Node). k < length l) items c.loop-node-test.true) (c.node-item.is ∙ ap (λ (l : List Node). get_or l k n) items)
           c.loop-node.stage.table.objects c.loop-node.stage.slots.items c.claim_part.new.stage.slots.items claimed.slots.items
           (c.loop-node.invariant.course objects nodes r is_strip finished) c.claim_part.ensures.slots c.claim_part-in-loop-node.ensures.slots
@@ -114,6 +123,6 @@ returns-clause-rooms c =
 
 pub returns-clause-finished : goal.returns-clause-finished
 returns-clause-finished c = λ objects nodes r finished.
-    strip_ends objects nodes _ _ _ r c.args.strip c.requires.strip (told c.args.plan.now) c.loop-node.node-index _ _
+    strip_ends objects nodes _ _ _ r c.args.strip c.requires.strip (plan_in (Some c.args.bands.now) (told c.args.plan.now)) c.loop-node.node-index _ _
     (subst (λ (l : List Node). length l ≤ c.loop-node.node-index) c.deref-node-items.ensures.value c.loop-node-test.false)
     (c.loop-node.invariant.course objects nodes r c.requires.strip finished)

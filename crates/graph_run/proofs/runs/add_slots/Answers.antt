@@ -5,7 +5,7 @@ use Rattle.vx_base.specs.Picture.{values}
 use Rattle.pixel_pool.specs.Pool.{lent_of, blocks_of}
 use Rattle.buffer_plan.specs.Places.{told}
 use Rattle.graph_run.specs.declared.stage.Slot.{Slot}
-use Rattle.graph_run.specs.Slots.{room_of, AreEmpty, slot_blocks}
+use Rattle.graph_run.specs.Slots.{plan_in, room_of, AreEmpty, slot_blocks}
 use Rattle.graph_run.proofs.SlotPoolLemmas.{taken_adds, rooms_more, lends_more, adds_more}
 use Rattle.graph_run.proofs.runs.add_slots.Goals as goal
 
@@ -15,9 +15,9 @@ loop-k-preserved c =
     let s : Slot = record { samples = c.in_ok-samples.samples; valid = c.empty.result; holder = None } in
     let format = c.args.format in
     let k = c.loop-k.k in
-    let p = told c.args.plan.now in
+    let p = plan_in c.args.bands.now (told c.args.plan.now) in
     let pushed : c.push_reserved.new.self.items ≡ slots ++ s ∷ [] = c.push_reserved.ensures.items in
-    let count : length (values s.samples) ≡ p.slot_samples format k = c.in_ok-samples.ensures.count ∙ c.slot_samples.ensures in
+    let count : length (values s.samples) ≡ p.slot_samples format k = c.in_ok-samples.ensures.count ∙ c.slot_room.ensures in
     record {
       room = omega (arith, ap length pushed, length_push slots s, c.loop-k.invariant.room, c.push_reserved.ensures.capacity);
       rooms = ap (map room_of) pushed ∙ rooms_more slots s format (p.slot_samples format) k (map room_of c.args.slots.now.items) c.loop-k.invariant.rooms c.in_ok-samples.ensures.format count;
