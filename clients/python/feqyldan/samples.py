@@ -37,7 +37,7 @@ class Format(IntEnum):
 
     @property
     def sample_bytes(self) -> int:
-        return array.array(LETTERS[self]).itemsize
+        return wire.sample_bytes(self)
 
     def __str__(self) -> str:
         return self.name

@@ -224,6 +224,11 @@ def letter_of(fmt: int) -> str:
     return SAMPLE_LETTERS[Format(fmt)]
 
 
+def sample_bytes(fmt: int) -> int:
+    """How many bytes a sample of a format takes in a frame."""
+    return struct.calcsize(">" + letter_of(fmt))
+
+
 def frame(client: int, op: int, body: bytes = b"") -> bytes:
     return struct.pack(">IHB", len(body) + 3, client, op) + body
 
@@ -275,7 +280,7 @@ def write_image_head(client: int, named: Reference, fmt: int, width: int, height
     """The frame of WriteImage as far as its samples, which are to follow: width times height of
     them, by rows."""
     described = operand(named) + struct.pack(">BHH", fmt, width, height)
-    length = len(described) + width * height * struct.calcsize(">" + letter_of(fmt))
+    length = len(described) + width * height * sample_bytes(fmt)
     return frame_head(client, WRITE_IMAGE, length) + described
 
 

@@ -4,7 +4,7 @@ from typing import Iterable, Optional, Tuple, Type
 
 from feqyldan import wire
 from checks.bands.graph import GRAPH, Graph, Made, shown
-from checks.bands.pictures import SAMPLE_BYTES, picture_for
+from checks.bands.pictures import picture_for
 from checks.bands.server import Server, Wrong, serving
 
 # The client that runs graphs, and the one that runs their nodes.
@@ -23,7 +23,7 @@ def image_difference(made: Made, one: bytes, other: bytes) -> str:
         return f"{wire.size_of(one)}, not {wire.size_of(other)}"
     pairs = enumerate(zip(one[13:], other[13:]))
     at = next(at for at, pair in pairs if pair[0] != pair[1])
-    row, column = divmod(at // SAMPLE_BYTES[wire.Format(made.fmt)], made.width)
+    row, column = divmod(at // wire.sample_bytes(made.fmt), made.width)
     samples = [wire.rows_of(reply)[row][column] for reply in (one, other)]
     return f"in row {row}, column {column}, {samples[0]}, not {samples[1]}"
 

@@ -7,14 +7,13 @@ from typing import Callable, NamedTuple, Optional, Tuple
 from feqyldan import wire
 from checks.bands.graph import Graph, Made
 
-SAMPLE_BYTES = {wire.U8: 1, wire.S16: 2, wire.U32: 4}
 Rectangle = Tuple[int, int, int, int]
 # The upper bytes of S16 samples whose sums and products are often samples too: mostly small ones.
 UPPER = bytes((0, 0, 0, 1, 2, 255, 255, 254)[byte % 8] for byte in range(256))
 
 
 def noise(rng: random.Random, made: Made) -> bytes:
-    return rng.randbytes(made.width * made.height * SAMPLE_BYTES[wire.Format(made.fmt)])
+    return rng.randbytes(made.width * made.height * wire.sample_bytes(made.fmt))
 
 
 def near_zero(rng: random.Random, made: Made) -> bytes:
@@ -31,7 +30,7 @@ def encoded(rng: random.Random, fmt: int) -> bytes:
     ends = {wire.U8: (0, 1, 255), wire.S16: (-32768, -1, 0, 255, 32767), wire.U32: (0,)}
     if rng.random() < 0.3:
         return struct.pack(f">{letter}", rng.choice(ends[wire.Format(fmt)]))
-    return rng.randbytes(SAMPLE_BYTES[wire.Format(fmt)])
+    return rng.randbytes(wire.sample_bytes(fmt))
 
 
 def constant(rng: random.Random, made: Made) -> bytes:
@@ -41,13 +40,13 @@ def constant(rng: random.Random, made: Made) -> bytes:
 def steps_down(rng: random.Random, made: Made) -> bytes:
     """Each row is another than those beside it, or than those some rows away."""
     thick = rng.choice((1, 1, 2, 7, 16))
-    samples, length = rng.randbytes(4 * made.height), SAMPLE_BYTES[wire.Format(made.fmt)]
+    samples, length = rng.randbytes(4 * made.height), wire.sample_bytes(made.fmt)
     starts = (y // thick * length for y in range(made.height))
     return b"".join(samples[start : start + length] * made.width for start in starts)
 
 
 def steps_across(rng: random.Random, made: Made) -> bytes:
-    return rng.randbytes(made.width * SAMPLE_BYTES[wire.Format(made.fmt)]) * made.height
+    return rng.randbytes(made.width * wire.sample_bytes(made.fmt)) * made.height
 
 
 KINDS: Tuple[Callable[[random.Random, Made], bytes], ...] = (

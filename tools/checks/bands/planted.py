@@ -9,7 +9,7 @@ from feqyldan import wire
 from checks.bands.compared import AS_A_WHOLE, fault_of
 from checks.bands.draw import graph_of
 from checks.bands.graph import LARGE
-from checks.bands.pictures import SAMPLE_BYTES, Rectangle
+from checks.bands.pictures import Rectangle
 from checks.bands.server import Server
 
 # A fault is found in so many graphs, or never.
@@ -66,7 +66,7 @@ class Wrongly(Server):
         if width * height < LARGE:
             return reply
         if request[6] == wire.READ_IMAGE:
-            return self.image(request, reply, width * SAMPLE_BYTES[wire.Format(fmt)], height)
+            return self.image(request, reply, width * wire.sample_bytes(fmt), height)
         left, top, right, bottom = wire.description_of(reply)[3]
         return reply[:13] + struct.pack(">4H", *self.valid(request, (left, top, right, bottom)))
 

@@ -2,7 +2,7 @@
 
 from feqyldan import wire
 from checks.memory.server import (
-    MIB, QUOTA, SAMPLE_BYTES, Program, Server, TooLittleMemory, TooMuchMemory, in_mib, serving)
+    MIB, QUOTA, Program, Server, TooLittleMemory, TooMuchMemory, in_mib, serving)
 
 # No image has a greater side.
 GREATEST_SIDE = 8192
@@ -75,7 +75,7 @@ def rising(program: Program) -> str:
     with serving(program, QUOTA) as server:
         server.ask(wire.open_context(1))
         at_first, told = server.memory(), ""
-        for fmt in SAMPLE_BYTES:
+        for fmt in wire.Format:
             for count in (OBJECTS >> k for k in range(11)):
                 had_at_once(server, fmt, count)
                 told = compare_free(server, at_first)
@@ -84,7 +84,7 @@ def rising(program: Program) -> str:
 
 def had_at_once(server: Server, fmt: wire.Format, count: int) -> None:
     """So many images that fill the quota, where these have no side that is too great."""
-    places = QUOTA // count // SAMPLE_BYTES[fmt]
+    places = QUOTA // count // wire.sample_bytes(fmt)
     width = 1 << places.bit_length() // 2
     if max(width, places // width) <= GREATEST_SIDE:
         image = wire.create_image(1, fmt, width, places // width)
@@ -94,7 +94,7 @@ def had_at_once(server: Server, fmt: wire.Format, count: int) -> None:
 
 def compare_free(server: Server, at_first: int) -> str:
     taken = server.memory() - at_first
-    bound = KEPT * sum(SAMPLE_BYTES.values()) + BESIDE
+    bound = KEPT * sum(map(wire.sample_bytes, wire.Format)) + BESIDE
     told = f"{in_mib(taken)} after images of rising sizes, at most {in_mib(bound)}"
     if taken > bound:
         raise TooMuchMemory(told)

@@ -10,7 +10,7 @@ from feqyldan import wire
 from checks.memory.again import SIDE, again, registered
 from checks.memory.great import rising, small_in_great
 from checks.memory.server import (
-    SAMPLE_BYTES, Fault, Program, Server, TooLittleMemory, TooMuchMemory, WrongAnswer, memory_of)
+    Fault, Program, Server, TooLittleMemory, TooMuchMemory, WrongAnswer, memory_of)
 from checks.memory.soak import soak
 
 HERE = os.path.dirname(os.path.abspath(__file__))
@@ -83,7 +83,7 @@ def unclear(op: int) -> Type[Server]:
         def fill(self, client: int, name: int) -> None:
             cell: wire.Reference = name if op == wire.CREATE_IMAGE else wire.reference(name, 0)
             fmt, width, height = wire.size_of(super().answer(wire.read_image(client, cell)))
-            samples = b"\1" * (width * height * SAMPLE_BYTES[wire.Format(fmt)])
+            samples = b"\1" * (width * height * wire.sample_bytes(fmt))
             super().answer(wire.write_image(client, cell, fmt, width, height, samples))
 
     return Unclear

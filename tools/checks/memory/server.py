@@ -14,7 +14,6 @@ MIB = 1 << 20
 # The C library gives what is freed back to the system at once, so that it isn't taken for what the
 # server keeps.
 ENVIRONMENT = {**os.environ, "GLIBC_TUNABLES": "glibc.malloc.mmap_threshold=32768"}
-SAMPLE_BYTES = {wire.U8: 1, wire.S16: 2, wire.U32: 4}
 QUOTA = 256 * MIB
 
 

@@ -5,8 +5,8 @@ from typing import Dict, List, NamedTuple, Tuple
 
 from feqyldan import wire
 from checks.memory.server import (
-    MIB, PATIENCE, QUOTA, SAMPLE_BYTES, Program, Server, TooLittleMemory, TooMuchMemory,
-    WrongAnswer, in_mib, serving)
+    MIB, PATIENCE, QUOTA, Program, Server, TooLittleMemory, TooMuchMemory, WrongAnswer, in_mib,
+    serving)
 
 CLIENTS, REQUESTS, SEED = 8, 20_000, 1
 LONGEST_SIDE = 512
@@ -29,7 +29,7 @@ class Image(NamedTuple):
         return bytes([self.fill]) * self.bytes()
 
     def bytes(self) -> int:
-        return self.width * self.height * SAMPLE_BYTES[wire.Format(self.fmt)]
+        return self.width * self.height * wire.sample_bytes(self.fmt)
 
 
 class Client:
