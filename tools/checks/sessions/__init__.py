@@ -12,7 +12,8 @@ from checks.sessions.clients import (
     clients_have_their_own, contexts_released, first_names, without_context)
 from checks.sessions.delays import delays, delays_as_exemplars, nodes_on_slots, refusals_of_slots
 from checks.sessions.images import (
-    full_context, full_of_extremes, objects_released, pictures, refusals_of_pictures, sides, sizes)
+    full_context, full_of_extremes, objects_released, pictures, pictures_in_long_bodies,
+    refusals_of_pictures, sides, sizes)
 from checks.sessions.nodes import nodes_that_run, refusals_of_nodes
 from checks.sessions.rectangles import (
     refusals_of_rectangles, valid_blocks, valid_in_delays, valid_outputs, valid_rectangles)
@@ -28,6 +29,7 @@ SESSIONS = (
     ("clients have their own", clients_have_their_own),
     ("without a context", without_context),
     ("pictures", pictures),
+    ("pictures in long bodies", pictures_in_long_bodies),
     ("refusals of pictures", refusals_of_pictures),
     ("sides", sides),
     ("objects that are released", objects_released),

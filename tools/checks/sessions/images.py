@@ -1,14 +1,15 @@
-"""Sessions on images and on how many objects there are: what is written and read, released objects,
-full contexts, and pictures of all sizes."""
+"""Sessions on images and on how many objects there are: what is written and read, also in bodies of
+more than 64 bytes, released objects, full contexts, and pictures of all sizes."""
 
 from feqyldan import wire
 from feqyldan.wire import (
-    INVALID_DIMENSION, INVALID_FORMAT, INVALID_REFERENCE, INVALID_TYPE, INVALID_VALUE, NO_RESOURCES,
-    S16, U32, U8, reference)
+    INVALID_DIMENSION, INVALID_FORMAT, INVALID_PARAMETERS, INVALID_REFERENCE, INVALID_TYPE,
+    INVALID_VALUE, NO_RESOURCES, S16, U32, U8, reference)
 from checks.sessions.rows import (
     CLIENT, CREATES, EXTREMES, NOTHING_FOUND, NOWHERE, RANGES, SAME, THIRDS, TURNED, confined,
-    delayed, found, graph, holds, made, name, opened, ran, released, shows, threshold, told,
-    virtual, wrote)
+    delayed, found, graph, holds, holds_text, made, name, opened, picture, ran, released, shows,
+    threshold, told, virtual, wrote, wrote_text)
+from checks.sessions.texts import raw
 
 
 def pictures():
@@ -20,6 +21,35 @@ def pictures():
         holds(2, S16, [-2, -32768, 258], 1, 3), holds(3, U32, [4_294_967_294, 16_909_060], 2, 1),
         wrote(1, U8, [1, 2, 3], 3, 1), holds(1, U8, [1, 2, 3], 3, 1),
     ]
+
+
+def pictures_in_long_bodies():
+    """Pictures and texts in bodies of more than 64 bytes, each over another of its image; what is
+    refused, of a body as long, leaves what was there."""
+    sizes = (1, U8, 13, 5), (2, S16, 7, 5), (3, U32, 5, 4)
+    rows = [opened(), *(made(*image) for image in sizes)]
+    for seed in 1, 2:
+        for number, fmt, *size in sizes:
+            samples = samples_from(seed, fmt, *size)
+            rows += [wrote(number, fmt, samples, *size), holds(number, fmt, samples, *size)]
+    body = picture(U8, 13, 5, [9] * 65)
+    rows += [(wire.frame(CLIENT, wire.WRITE_IMAGE, wire.operand(of) + sent), code)
+             for of, sent, code in (
+                 (4, body, INVALID_REFERENCE), (2, body, INVALID_FORMAT),
+                 (1, picture(U8, 5, 13, [9] * 65), INVALID_DIMENSION),
+                 (1, body + b"\x09", INVALID_PARAMETERS))]
+    text = raw(13, 5, samples_from(3, U8, 13, 5))
+    # The last sample is above the greatest.
+    faulty = b"P5\n13 5\n254\n" + bytes(64) + b"\xff"
+    return [
+        *rows, holds(1, U8, samples_from(2, U8, 13, 5), 13, 5), wrote_text(1, text),
+        holds_text(1, text), wrote_text(1, faulty, INVALID_VALUE), holds_text(1, text),
+    ]
+
+
+def samples_from(seed, fmt, width, height):
+    low, high = RANGES[fmt]
+    return [low + (seed + at * 40_503) % (high - low + 1) for at in range(width * height)]
 
 
 def refusals_of_pictures():
@@ -117,7 +147,6 @@ def full_of_extremes():
 def sizes(fmt, size):
     """Pictures whose bodies, with 10 bytes before the samples, are about 64 bytes and about a
     buffer of 65,536."""
-    low, high = RANGES[fmt]
     rows, number = [opened()], 0
     shapes = [((body - 10) // size, 1) for body in range(56, 73, size)]
     # Of 65,535 and 65,536 samples, 32,767 and 32,768, 16,383 and 16,384; the longest row and
@@ -125,7 +154,7 @@ def sizes(fmt, size):
     shapes += [(3855, 17), (4096, 16), (1057, 31), (4096, 8), (381, 43), (4096, 4), (8192, 1),
                (1, 8192), (1500, 2), (641, 479)]
     for width, height in shapes:
-        samples = [low + (at * 40_503) % (high - low + 1) for at in range(width * height)]
+        samples = samples_from(0, fmt, width, height)
         number += 1
         rows += [made(number, fmt, width, height), wrote(number, fmt, samples, width, height),
                  holds(number, fmt, samples, width, height)]

@@ -1,15 +1,17 @@
-"""Devices that fail: a folder that is read, and a full one that is written; and those that move a
-byte at a call, one of which fails."""
+"""Devices that fail: a folder that is read, and a full one that is written; and those that move few
+bytes at a call, one of which fails."""
 
 import os
 import subprocess
 import tempfile
-from typing import List, Sequence, Tuple
+from typing import Sequence, Tuple
 
 from feqyldan import wire
 from feqyldan.wire import NOT_BITS, U8
-from checks.sessions.rows import CLIENT, holds, made, opened, ran, reply_to, wrote
+from checks.sessions.images import pictures_in_long_bodies
+from checks.sessions.rows import CLIENT, holds, made, opened, ran, wrote
 from checks.tables.apply import SQUARE
+from checks.tables.endings import Pairs, pairs_of
 from checks.tables.program import Program, check, shown
 
 HERE = os.path.dirname(os.path.abspath(__file__))
@@ -38,38 +40,52 @@ def run_into_a_full_device(program: Program, words: Sequence[str],
 
 
 def check_pieces(program: Program) -> None:
-    """The stored stream a byte at a call, with each read and each write failing in turn."""
+    """Streams in pieces of all sizes, and a byte at a call with each read and each write failing in
+    turn."""
     with tempfile.TemporaryDirectory() as folder:
         shim = os.path.join(folder, "fail_call.so")
         subprocess.run(["cc", "-O1", "-shared", "-fPIC", "-o", shim,
                         os.path.join(HERE, "fail_call.c"), "-ldl"], check=True)
-        stream = b"".join(request for request, _ in STORED)
-        replies = [reply_to(request, wanted) for request, wanted in STORED]
-        got = run_in_pieces(program, shim, stream)
-        check(got == (0, b"".join(replies), b""), f"in pieces of a byte: {got}")
-        check_failing_reads(program, shim, stream, replies)
-        check_failing_writes(program, shim, stream, replies)
+        for pairs in pairs_of(STORED), pairs_of(pictures_in_long_bodies()):
+            check_sizes(program, shim, pairs)
+            check_failing_reads(program, shim, pairs)
+            check_failing_writes(program, shim, pairs)
 
 
-def check_failing_reads(program: Program, shim: str, stream: bytes, replies: List[bytes]) -> None:
+def joined(pairs: Pairs) -> Tuple[bytes, bytes]:
+    """The stream of the requests, and that of the replies."""
+    return b"".join(request for request, _ in pairs), b"".join(reply for _, reply in pairs)
+
+
+def check_sizes(program: Program, shim: str, pairs: Pairs) -> None:
+    """In pieces of at most so many bytes, up to the longest frame."""
+    stream, output = joined(pairs)
+    for size in range(1, max(len(frame) for pair in pairs for frame in pair) + 1):
+        got = run_in_pieces(program, shim, stream, PIECE=size)
+        check(got == (0, output, b""), f"in pieces of {size}: {got}")
+
+
+def check_failing_reads(program: Program, shim: str, pairs: Pairs) -> None:
     """The replies of the frames that were read whole are there. The last read is that which finds
     the end of the stream."""
+    stream, output = joined(pairs)
     number = 0
-    for k, (request, _) in enumerate(STORED):
+    for k, (request, _) in enumerate(pairs):
+        answered = joined(pairs[:k])[1]
         for _ in request:
             number += 1
             got = run_in_pieces(program, shim, stream, FAIL_READ=number)
-            check(got == (4, b"".join(replies[:k]), b"read failed\n"), f"read {number}: {got}")
+            check(got == (4, answered, b"read failed\n"), f"read {number}: {got}")
     got = run_in_pieces(program, shim, stream, FAIL_READ=number + 1)
-    check(got == (4, b"".join(replies), b"read failed\n"), f"the read of the end: {got}")
+    check(got == (4, output, b"read failed\n"), f"the read of the end: {got}")
 
 
-def check_failing_writes(program: Program, shim: str, stream: bytes, replies: List[bytes]) -> None:
+def check_failing_writes(program: Program, shim: str, pairs: Pairs) -> None:
     """All that was written before is there, and nothing after the reply whose write failed: what is
     left of that one the program may still write as it ends."""
-    number = 0
-    for k, reply in enumerate(replies):
-        before, most = number, b"".join(replies[:k + 1])
+    stream, number = joined(pairs)[0], 0
+    for k, (_, reply) in enumerate(pairs):
+        before, most = number, joined(pairs[:k + 1])[1]
         for number in range(before + 1, before + 1 + len(reply)):
             status, output, line = run_in_pieces(program, shim, stream, FAIL_WRITE=number)
             check((status, line) == (4, b"write failed\n"), f"write {number}: {status}, {line!r}")
@@ -78,10 +94,11 @@ def check_failing_writes(program: Program, shim: str, stream: bytes, replies: Li
 
 
 def run_in_pieces(program: Program, shim: str, stream: bytes,
-                  **failing: int) -> Tuple[int, bytes, bytes]:
-    """The program's status, output and line where a call with this number fails."""
+                  **told: int) -> Tuple[int, bytes, bytes]:
+    """The program's status, output and line where pieces have so many bytes, or a call with this
+    number fails."""
     environment = {**os.environ, "LD_PRELOAD": shim}
-    environment.update({variable: str(number) for variable, number in failing.items()})
+    environment.update({variable: str(number) for variable, number in told.items()})
     program.runs += 1
     run = subprocess.run([program.path, "serve"], input=stream, capture_output=True,
                          env=environment, timeout=60)

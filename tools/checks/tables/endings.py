@@ -1,10 +1,11 @@
 """How a stream ends: what is read, what is written, the status and the line; and turns."""
 
 import subprocess
-from typing import List, Tuple
+from typing import List, Sequence, Tuple
 
 from checks.graphs.worked import graph_before_and_after_ageing
-from checks.sessions.rows import reply_to
+from checks.sessions.images import pictures_in_long_bodies
+from checks.sessions.rows import Row, reply_to
 from checks.tables.program import Program, check, shown
 
 # Requests, each with its reply.
@@ -51,6 +52,10 @@ TURNS = (
 )
 
 
+def pairs_of(rows: Sequence[Row]) -> Pairs:
+    return [(request, reply_to(request, wanted)) for request, wanted in rows]
+
+
 def check_streams(program: Program) -> None:
     for words, stream, output, status, line in ENDINGS:
         program.check(words, bytes.fromhex(stream), bytes.fromhex(output), status, line)
@@ -58,9 +63,8 @@ def check_streams(program: Program) -> None:
     check_prefixes(program, "the turns", turns)
     check_turns(program, turns)
     check_long_frames(program)
-    aged = [(request, reply_to(request, wanted))
-            for request, wanted in graph_before_and_after_ageing()]
-    check_prefixes(program, "a graph on a delay", aged)
+    check_prefixes(program, "a graph on a delay", pairs_of(graph_before_and_after_ageing()))
+    check_prefixes(program, "pictures in long bodies", pairs_of(pictures_in_long_bodies()))
 
 
 def check_long_frames(program: Program) -> None:

@@ -1,6 +1,7 @@
 /* Moves the program's input and output in pieces, one of which fails: preloaded before the C
- * library, `read` of standard input and `write` to standard output take one byte at a call, and the
- * call of either with the number in FAIL_READ or FAIL_WRITE (from 1) fails. */
+ * library, `read` of standard input and `write` to standard output take at most PIECE bytes at a
+ * call, or one, and the call of either with the number in FAIL_READ or FAIL_WRITE (from 1) fails.
+ */
 #define _GNU_SOURCE
 #include <dlfcn.h>
 #include <errno.h>
@@ -8,6 +9,12 @@
 #include <unistd.h>
 
 typedef ssize_t (*call)(int, void *, size_t);
+
+static size_t in_piece(size_t count) {
+  const char *told = getenv("PIECE");
+  size_t piece = told ? (size_t)atol(told) : 1;
+  return count > piece ? piece : count;
+}
 
 static int fails(const char *variable, long number) {
   const char *failing = getenv(variable);
@@ -24,7 +31,7 @@ ssize_t read(int file, void *bytes, size_t count) {
     errno = EIO;
     return -1;
   }
-  return whole(file, bytes, count > 1 ? 1 : count);
+  return whole(file, bytes, in_piece(count));
 }
 
 ssize_t write(int file, const void *bytes, size_t count) {
@@ -37,5 +44,5 @@ ssize_t write(int file, const void *bytes, size_t count) {
     errno = EIO;
     return -1;
   }
-  return whole(file, (void *)bytes, count > 1 ? 1 : count);
+  return whole(file, (void *)bytes, in_piece(count));
 }
