@@ -16,6 +16,7 @@ from checks.growths.graphs import graphs
 from checks.growths.kept import check_kept
 from checks.growths.refusing import check, op_of, refuse_each, refuse_in_apply
 from checks.growths.session import session
+from checks.sessions.images import pictures_in_long_bodies
 from checks.sessions.nodes import nodes_that_run
 from checks.sessions.statistics import histograms, places_of_extremes
 from checks.sessions.texts import pgm_texts
@@ -37,6 +38,7 @@ def streams() -> Iterator[Tuple[str, int, List[bytes]]]:
         ("with sums", DEFAULT, sums_in_rows()),
         ("with an image that is read twice", DEFAULT, image_read_twice()),
         ("with reused buffers", DEFAULT, reused_buffers()), ("under a small quota", quota, rows),
+        ("of pictures in long bodies", DEFAULT, pictures_in_long_bodies()),
         ("of nodes by themselves", DEFAULT, nodes_that_run()),
         ("of histograms", DEFAULT, histograms()), ("of extremes", DEFAULT, places_of_extremes()),
         ("of PGM texts", DEFAULT, pgm_texts()),

@@ -5,7 +5,7 @@ import os
 import sys
 
 from checks.memory.again import again, registered
-from checks.memory.great import rising, small_in_great
+from checks.memory.great import rising, small_in_great, written
 from checks.memory.planted import check_faults
 from checks.memory.server import Fault, Program
 from checks.memory.soak import REQUESTS, soak
@@ -24,7 +24,8 @@ def main() -> None:
         check_faults(program.path)
         return
     try:
-        told = [measure(program) for measure in (small_in_great, rising, registered, again)]
+        told = [measure(program)
+                for measure in (small_in_great, written, rising, registered, again)]
         told.append(soak(program, asked.requests))
     except Fault as fault:
         sys.exit(f"check_memory: {fault}")

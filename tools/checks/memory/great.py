@@ -1,8 +1,8 @@
-"""What great images leave, once they are released."""
+"""What great images take while they are written, and what they leave once they are released."""
 
 from feqyldan import wire
 from checks.memory.server import (
-    MIB, QUOTA, Program, Server, TooLittleMemory, TooMuchMemory, in_mib, serving)
+    MIB, QUOTA, Program, Server, TooLittleMemory, TooMuchMemory, WrongAnswer, in_mib, serving)
 
 # No image has a greater side.
 GREATEST_SIDE = 8192
@@ -66,6 +66,35 @@ def compare_held(server: Server, at_first: int, objects: int) -> str:
     told = f"{in_mib(taken)} for {objects} images of one sample, at most {in_mib(bound)}"
     if taken > bound:
         raise TooMuchMemory(told)
+    return told
+
+
+def written(program: Program) -> str:
+    """An image of each format that is written, written again and read: there is room for what comes
+    beside what the image has, and no more."""
+    return [written_in(program, fmt) for fmt in wire.Format][-1]
+
+
+def written_in(program: Program, fmt: wire.Format) -> str:
+    places = GREAT // wire.sample_bytes(fmt)
+    width = min(GREATEST_SIDE, places // SIDE)
+    size = width, places // width
+    with serving(program, GREAT) as server:
+        server.ask(wire.open_context(1))
+        at_first = server.memory()
+        name = server.create(wire.create_image(1, fmt, *size))
+        for sample in b"\1", b"\2":
+            server.ask(wire.write_image(1, name, fmt, *size, sample * GREAT))
+        if server.ask(wire.read_image(1, name))[13:] != b"\2" * GREAT:
+            raise WrongAnswer(f"an image of format {fmt} isn't what was written last")
+        taken = server.memory("VmHWM") - at_first
+    bound = 2 * GREAT + BESIDE
+    told = (f"at most {in_mib(taken)} while an image of {in_mib(GREAT)} was written and read, for "
+            f"which {in_mib(bound)} are allowed")
+    if taken > bound:
+        raise TooMuchMemory(told)
+    if taken < GREAT:
+        raise TooLittleMemory(told)
     return told
 
 

@@ -8,7 +8,7 @@ from typing import Callable, Dict, Iterator, List, NamedTuple, Tuple, Type
 
 from feqyldan import wire
 from checks.memory.again import SIDE, again, registered
-from checks.memory.great import rising, small_in_great
+from checks.memory.great import rising, small_in_great, written
 from checks.memory.server import (
     Fault, Program, Server, TooLittleMemory, TooMuchMemory, WrongAnswer, memory_of)
 from checks.memory.soak import soak
@@ -89,6 +89,16 @@ def unclear(op: int) -> Type[Server]:
     return Unclear
 
 
+class Copying(Server):
+    """Has as much memory as a picture takes, beside its image's and that into which it is read."""
+
+    def answer(self, request: bytes) -> bytes:
+        if request[6] == wire.WRITE_IMAGE:
+            super().answer(wire.open_context(KEEPER))
+            super().answer(wire.frame(KEEPER, wire.CREATE_IMAGE, request[12:17]))
+        return super().answer(request)
+
+
 class InKib(Server):
     def memory(self, field: str = "VmRSS") -> int:
         return super().memory(field) // 1024
@@ -130,11 +140,12 @@ class Planted(NamedTuple):
     keeps: str = ""
 
 
-MEASURES: Tuple[Measure, ...] = (small_in_great, rising, registered, again, soak)
+MEASURES: Tuple[Measure, ...] = (small_in_great, written, rising, registered, again, soak)
 # Those that find a memory that is too little.
 READERS: Tuple[Measure, ...] = (small_in_great, soak)
 PLANTED = (
     Planted("blocks that are far too large stay so", small_in_great, TooMuchMemory, keeps="shrunk"),
+    Planted("a picture is copied", written, TooMuchMemory, Copying),
     Planted("no free block is given up", rising, TooMuchMemory, keeps="great"),
     Planted("each block that is replaced is kept", soak, TooMuchMemory, keeps="great"),
     Planted("what is registered is kept", registered, TooMuchMemory, keeps="small"),
