@@ -145,7 +145,6 @@ MEASURES: Tuple[Measure, ...] = (small_in_great, written, rising, registered, ag
 READERS: Tuple[Measure, ...] = (small_in_great, soak)
 PLANTED = (
     Planted("blocks that are far too large stay so", small_in_great, TooMuchMemory, keeps="shrunk"),
-    Planted("a picture is copied", written, TooMuchMemory, Copying),
     Planted("no free block is given up", rising, TooMuchMemory, keeps="great"),
     Planted("each block that is replaced is kept", soak, TooMuchMemory, keeps="great"),
     Planted("what is registered is kept", registered, TooMuchMemory, keeps="small"),
@@ -172,6 +171,8 @@ PLANTED = (
     *(Planted(words, measure, TooLittleMemory, server) for words, server in (
         ("the memory is told in KiB", InKib), ("it is the check's own", OfTheCheck),
         ("it is told as it was at first", AsAtFirst)) for measure in READERS),
+    # Last, since the check itself takes memory for the pictures.
+    Planted("a picture is copied", written, TooMuchMemory, Copying),
 )
 
 
