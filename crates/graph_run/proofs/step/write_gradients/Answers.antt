@@ -1,0 +1,1 @@
+use Rattle.graph_run.proofs.step.write_gradients.Goals as goal
