@@ -1,1 +1,0 @@
-use Rattle.graph_run.proofs.step.write_gradients.Goals as goal
