@@ -41,5 +41,6 @@ pub mod StripLemmas
 pub mod StripStepLemmas
 pub mod StripRunLemmas
 pub mod SeenLemmas
+pub mod PairSeenLemmas
 pub mod SettledLemmas
 pub mod SettleLemmas

@@ -68,20 +68,16 @@ has_two n a b node first second = grind (arith, has_of_node, and_parts)
 sixteen_bits : (a : Format) (second : Option Format) (format : Format) → takes_formats Sobel a second (Some format) ≡ true → format ≡ S16
 sixteen_bits a second format h = grind arith
 
-image_of_sixteen : (a : Format) (second : Option Format) (out : ObjectValue) → object_kind out ≡ kind.Image → takes_formats Sobel a second (object_format out) ≡ true → (image_value out).format ≡ S16
-image_of_sixteen a second out e h = grind arith
-
 -- what it writes is of 16 bits
-pub writes_shorts : (objects : List Named) (n : Node) (output : Cell) → RunsTo objects n output → n.function ≡ Sobel → (image_held objects output).format ≡ S16
-writes_shorts objects n output h is = grind (arith, image_of_sixteen, writes_images)
+pub writes_shorts : (n : Node) (a : ImageValue) (d : Description) → n.function ≡ Sobel → CanRunTo n a None (image_over d empty []) → d.format ≡ S16
+writes_shorts n a d is can = sixteen_bits a.format None d.format (subst (λ (f : Function). takes_formats f a.format None (Some d.format) ≡ true) is can.formats)
 
 -- a gradient that is written to all rows of an output is what the node gives
 pub gradient_whole : (n : Node) (which : Output) (a : ImageValue) (d : Description) (samples : List ℤ) (old new : ImageMut) → n.function ≡ Sobel → CanRunTo n a None (image_over d empty [])
     → written old ≡ image_over d empty samples → old.rows ≡ all_rows d.height → Writes (from_nine S16 (formula_of_nine Sobel which) n.border a) old new → written new ≡ node_image n which S16 a None
 gradient_whole n which a d samples old new is can lent rows writes =
     let known : old.desc.format ≡ S16 =
-    ap (λ (v : ImageValue). v.format) lent
-    ∙ sixteen_bits a.format None d.format (subst (λ (f : Function). takes_formats f a.format None (Some d.format) ≡ true) is can.formats) in
+    ap (λ (v : ImageValue). v.format) lent ∙ writes_shorts n a d is can in
     all_written_is n which a None old new (rows ∙ ap (λ (v : ImageValue). all_rows v.height) (sym lent)) (subst (λ (v : ImageValue). HaveSameSize v a) (sym lent) can.size)
     (gradient_written n which which a old new is refl known writes)
     ∙ ap (λ (f : Format). node_image n which f a None) known
@@ -156,15 +152,14 @@ module _ (before : Context) (n : Node) (one other : Cell) (h : RunsTo before.obj
 
         module _ (d : Description) (described : d ≡ description_of (image_held one_out.objects other)) (other_back : Context) (area : Rectangle) (samples : List ℤ)
             (is_back : other_back ≡ with_objects both_out (with_object both_out.objects other (with_samples (cell_object both_out.objects other) area samples)))
-            (valid : area ≡ (node_image n Second S16 a None).valid) (written : samples ≡ (node_image n Second S16 a None).samples) where
+            (valid : area ≡ (node_image n Second d.format a None).valid) (written : samples ≡ (node_image n Second d.format a None).samples) where
           -- the second output is written; the first is out still
           abbrev out_late : ObjectValue
           out_late = with_samples (cell_object late one) (image_held late one).valid []
 
           back : other_back ≡ with_objects (with_objects before late) (with_object late one out_late)
           back =
-              put_back one_out.objects n Second other runs_other images d described both_out left_other one_out is_both_out a None is_a (nothing_beside one_out.objects (cell_object one_out.objects other)) refl other_back area samples S16 is_back
-              (ap (λ (e : Description). e.format) described ∙ writes_shorts one_out.objects n other runs_other is) valid written
+              put_back one_out.objects n Second other runs_other images d described both_out left_other one_out is_both_out a None is_a (nothing_beside one_out.objects (cell_object one_out.objects other)) refl other_back area samples d.format is_back refl valid written
               ∙ ap (λ (t : Context). with_objects t (with_object t.objects other (output_of t.objects n Second other))) is_one_out
               ∙ ap (λ (x : ObjectValue). with_objects before (with_object (with_object l one left_one) other x)) (output_beside l n one other left_one k h.in1_apart h.in2_apart apart Second)
               ∙ ap (with_objects before) (in_any_order l other one new_other left_one apart)
@@ -188,12 +183,11 @@ module _ (before : Context) (n : Node) (one other : Cell) (h : RunsTo before.obj
           -- both are written
           pub both_back : (e : Description) → e ≡ description_of (image_held l one) → (end : Context) (r : Rectangle) (zs : List ℤ)
               → end ≡ with_objects other_back (with_object other_back.objects one (with_samples (cell_object other_back.objects one) r zs))
-              → r ≡ (node_image n First S16 a None).valid → zs ≡ (node_image n First S16 a None).samples
+              → r ≡ (node_image n First e.format a None).valid → zs ≡ (node_image n First e.format a None).samples
               → end ≡ with_objects before (with_output (with_output l n First (Some one)) n Second (Some other))
           both_back e of_one end r zs is_end of_area of_samples =
               put_back late n First one late_runs images e (of_one ∙ ap (λ (x : ObjectValue). description_of (image_value x)) (sym late_one)) other_back out_late (with_objects before late) back a None image_late
-              (nothing_beside late (cell_object late one)) refl end r zs S16 is_end
-              (ap (λ (d : Description). d.format) of_one ∙ writes_shorts l n one h is) of_area of_samples
+              (nothing_beside late (cell_object late one)) refl end r zs e.format is_end refl of_area of_samples
               ∙ ap (with_objects before) both
 
       pub takes_other : HoldsImage both_out.objects other

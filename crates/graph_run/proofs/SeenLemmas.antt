@@ -1,16 +1,17 @@
 -- What nodes that see parts of images write: parts to slots, and bands to images of the client's.
-use Rattle.std.proofs.Common.{◌≡◌, ℕ, ℤ, ◌+◌, ◌-◌, ◌*◌, ◌≤◌, ◌<◌, pos, Bool, List, [], ◌++◌, length, take, drop, get_or, Option, Some, None, IfSome, refl, sym, ap, subst, ◌∙◌, arith}
+use Rattle.std.proofs.Common.{◌≡◌, ℕ, ℤ, ◌+◌, ◌-◌, ◌*◌, ◌≤◌, ◌<◌, pos, Bool, List, [], ◌∷◌, ◌++◌, length, take, drop, get_or, Option, Some, None, IfSome, refl, sym, ap, subst, ◌∙◌, arith}
 use Rattle.std.specs.Prelude.{All, IsSome, position}
 use Rattle.std.specs.List.Sorted.{IsStrictlyIncreasing}
 use Rattle.std.specs.Option.{option_map}
 use Rattle.std.proofs.Math.Nat.{mul-le-mul_right}
 use Rattle.std.proofs.lemmas.List.{length-append, length-take, length-drop, take_all}
-use Rattle.std.proofs.lemmas.List.Elements.{All-append, All-take, All-drop, All-get_or, All-from_get_or}
+use Rattle.std.proofs.lemmas.List.Elements.{All-append, All-take, All-drop, All-cons, All-nil, All-get_or, All-from_get_or}
 use Rattle.vx_base.specs.declared.desc.TheConstants.{GREATEST_SIDE}
 use Rattle.vx_base.specs.declared.format.Format.{Format}
 use Rattle.vx_base.specs.declared.kind.Kind.TheVariants as kind
 use Rattle.vx_base.specs.declared.node.Node.{Node}
 use Rattle.vx_base.specs.declared.output.Output.{Output}
+use Rattle.vx_base.specs.declared.output.Output.TheVariants.{First, Second}
 use Rattle.vx_base.specs.Cell.{Cell}
 use Rattle.vx_base.specs.Description.{Description, sample_count}
 use Rattle.vx_base.specs.Image.{ImageValue, IsImage, image_over, description_of, band, at}
@@ -24,7 +25,7 @@ use Rattle.vx_base.proofs.TableLaws.{length-band}
 use Rattle.image_core.specs.declared.band.Band.{Band}
 use Rattle.image_core.specs.Bands.{IsInRows}
 use Rattle.object_table.specs.Context.{Context, with_objects}
-use Rattle.object_table.specs.Named.{Named, with_object}
+use Rattle.object_table.specs.Named.{Named, with_object, with_written}
 use Rattle.object_table.specs.Object.{image_value, with_samples}
 use Rattle.object_table.specs.Table.{cell_object, image_held, HoldsImage}
 use Rattle.node_rows.specs.Parts.{part_of}
@@ -32,17 +33,17 @@ use Rattle.node_rows.proofs.PartLaws.{part_is}
 use Rattle.graph_run.specs.declared.bands.Strip.{Strip}
 use Rattle.graph_run.specs.declared.stage.Slot.{Slot}
 use Rattle.graph_run.specs.declared.stage.Stage.{Stage}
-use Rattle.graph_run.specs.Bands.{seen_in, seen, HasRowsIn, HasRows, part_made, SeesParts, IsWithinRows, with_band, made_in, made_seen, with_seen, HasPlaceIn, IsSeen}
+use Rattle.graph_run.specs.Bands.{seen_in, seen, HasRowsIn, HasRows, part_made, SeesParts, IsWithinRows, with_band, made_in, made_seen, HasPlaceIn, IsSeen}
 use Rattle.graph_run.specs.Lasting.{lasting, Lasts}
-use Rattle.graph_run.specs.Stage.{is_named, scene, slot_of, Resized, IsStage, IsArranged, Keeps}
+use Rattle.graph_run.specs.Stage.{is_named, scene, slot_of, IsStage, IsArranged, Keeps}
 use Rattle.graph_run.specs.Steps.{Holds, IsRead, AreApart, CanRunTo}
-use Rattle.graph_run.proofs.CellLemmas.{held_image, object_beside, object_if_beside, hold_beside, image_beside, object_after, image_after, with_object_twice, Lasts-with_object}
+use Rattle.graph_run.proofs.CellLemmas.{IsReplacement, held_image, object_beside, object_if_beside, hold_beside, image_beside, object_after, image_after, with_object_twice, Lasts-with_written}
 use Rattle.graph_run.proofs.LastingLemmas.{images-last}
 use Rattle.graph_run.proofs.OutputLemmas.{description_kept, stored_is}
 use Rattle.graph_run.proofs.PartSeenLemmas.{seen_alike}
 use Rattle.graph_run.proofs.StageLemmas.{names-shown, placed_found, not_placed}
 use Rattle.graph_run.proofs.StandingLemmas.{place_is}
-use Rattle.graph_run.proofs.StepLemmas.{Alike, none_alike, resized_alike, kept_stage}
+use Rattle.graph_run.proofs.StepLemmas.{Alike, none_alike, slots_alike, kept_stage}
 
 -- ---- a band among the samples of an image
 
@@ -193,25 +194,19 @@ module _ (rows : Band) (s : Stage) (n : Node) (output : Cell) (h : SeesParts row
     pub band_count : (f : ℕ → ℕ → ℤ) (zs : List ℤ) → zs ≡ take (strip.band.start * part.width) old ++ band part.width start strip.band.count f ++ drop (end * part.width) old → length zs ≡ length old
     band_count f zs is = ap length is ∙ length-banded part.width out.height strip.band.start strip.band.count start f old as_long above_end
 
-  -- ---- once the samples of the output are out
+  -- ---- once another image stands in the output, be it that its samples are out
 
-  module _ (t : Stage) (taken : scene t ≡ with_objects (scene s) (with_object objects output (with_samples (cell_object objects output) out.valid []))) (change : Resized output.name 0 s t) where
-    abbrev left : ImageValue
-    left = image_over (description_of out) out.valid []
-
-    object_there : (cell : Cell) → AreApart cell output → cell_object (scene t).objects cell ≡ cell_object objects cell
+  module _ (t : Stage) (left : ImageValue) (taken : scene t ≡ with_objects (scene s) (with_object objects output (ImageObject left))) (alike : (name : ℕ) → Alike (slot_of s.slots.items name) (slot_of t.slots.items name)) where
+    pub object_there : (cell : Cell) → AreApart cell output → cell_object (scene t).objects cell ≡ cell_object objects cell
     object_there cell apart = ap (λ (c : Context). cell_object c.objects cell) taken ∙ object_beside objects output cell (ImageObject left) apart
 
-    alike : (cell : Cell) → Alike (slot_of s.slots.items cell.name) (slot_of t.slots.items cell.name)
-    alike cell = resized_alike s t output.name 0 change cell.name
-
-    seen_there : (cell : Cell) → AreApart cell output → seen rows t cell ≡ seen rows s cell
+    pub seen_there : (cell : Cell) → AreApart cell output → seen rows t cell ≡ seen rows s cell
     seen_there cell apart =
-        seen_alike (slot_of t.slots.items cell.name) (slot_of s.slots.items cell.name) (sym (alike cell)) rows (cell_object (scene t).objects cell)
+        seen_alike (slot_of t.slots.items cell.name) (slot_of s.slots.items cell.name) (sym (alike cell.name)) rows (cell_object (scene t).objects cell)
         ∙ ap (seen_in (slot_of s.slots.items cell.name) rows) (object_there cell apart)
 
     rows_there : (cell : Cell) → AreApart cell output → HasRows rows s cell → HasRows rows t cell
-    rows_there cell apart has none = subst (HasRowsIn rows) (sym (object_there cell apart)) (has (none_alike (slot_of s.slots.items cell.name) (slot_of t.slots.items cell.name) (alike cell) none))
+    rows_there cell apart has none = subst (HasRowsIn rows) (sym (object_there cell apart)) (has (none_alike (slot_of s.slots.items cell.name) (slot_of t.slots.items cell.name) (alike cell.name) none))
 
     -- the inputs stand where they stood
     pub first_there : HoldsImage (scene t).objects n.in1
@@ -249,12 +244,40 @@ module _ (rows : Band) (s : Stage) (n : Node) (output : Cell) (h : SeesParts row
         each None apart = refl
         each (Some cell) apart = ap Some (seen_there cell apart)
 
+    -- another output is seen as before, and what the node makes for it is the same
+    module _ (other : Cell) (apart : AreApart other output) (k : SeesParts rows s n other) where
+      pub still_sees : SeesParts rows t n other
+      still_sees =
+          let there = object_there other apart in
+          record {
+            in1 = first_there;
+            in2 = second_holds;
+            out = subst (λ (c : Context). HoldsImage c.objects other) (sym taken) (image_beside objects output other (ImageObject left) apart k.out);
+            first = first_image;
+            second = second_is;
+            second_kind = second_read;
+            out_image = subst (λ (o : ObjectValue). IsImage (image_value o)) (sym there) k.out_image;
+            some_rows = k.some_rows;
+            in1_rows = first_rows;
+            in2_rows = second_rows;
+            in1_apart = k.in1_apart;
+            in2_apart = k.in2_apart;
+            plain = k.plain;
+            can_run = rw (seen_there n.in1 h.in1_apart, second_seen, there) k.can_run;
+          }
+
+      pub still_made : (which : Output) → part_made rows t n which other ≡ part_made rows s n which other
+      still_made which = rw (seen_there n.in1 h.in1_apart, second_seen, object_there other apart) refl
+
     -- samples can be put back
     pub takes_back : HoldsImage (scene t).objects output
     takes_back = subst (λ (c : Context). HoldsImage c.objects output) (sym taken) (image_after objects output h.out left)
 
-    pub left_described : description_of (image_held (scene t).objects output) ≡ description_of out
-    left_described = ap (λ (c : Context). description_of (image_held c.objects output)) taken ∙ ap (λ (o : ObjectValue). description_of (image_value o)) (object_after objects output h.out left)
+    left_there : cell_object (scene t).objects output ≡ ImageObject left
+    left_there = ap (λ (c : Context). cell_object c.objects output) taken ∙ object_after objects output h.out left
+
+    pub left_described : description_of (image_held (scene t).objects output) ≡ description_of left
+    left_described = ap (λ (o : ObjectValue). description_of (image_value o)) left_there
 
     put_there : (back : Context) (image : ImageValue) → back ≡ with_objects (scene t) (with_object (scene t).objects output (ImageObject image)) → back ≡ with_objects (scene s) (with_object objects output (ImageObject image))
     put_there back image is =
@@ -273,13 +296,20 @@ module _ (rows : Band) (s : Stage) (n : Node) (output : Cell) (h : SeesParts row
       made_there : (which : Output) (format : Format) → format ≡ out.format → node_image n which format a b ≡ part_made rows s n which output
       made_there which format is = rw (first_is, is_second ∙ second_seen, is) refl
 
+      -- samples that the kernel wrote make the part
+      pub is_part : (which : Output) (d : Description) (area : Rectangle) (ys : List ℤ) → d ≡ description_of out → out.height ≡ rows.count
+          → area ≡ (node_image n which d.format a b).valid → ys ≡ (node_image n which d.format a b).samples → image_over d area ys ≡ part_made rows s n which output
+      is_part which d area ys d_is high valid written =
+          stored_is n which a b d (image_over target empty []) area ys (sym (as_high d d_is high)) (runs_there target refl).size valid written
+          ∙ made_there which d.format (ap (λ (e : Description). e.format) d_is)
+
       -- samples that are put back, of a stage with this scene
-      module _ (which : Output) (d : Description) (d_is : d ≡ description_of out) (back : Context) (area : Rectangle) (zs : List ℤ)
+      module _ (which : Output) (same : description_of left ≡ description_of out) (d : Description) (d_is : d ≡ description_of out) (back : Context) (area : Rectangle) (zs : List ℤ)
           (is : back ≡ with_objects (scene t) (with_object (scene t).objects output (with_samples (cell_object (scene t).objects output) area (take (sample_count (description_of (image_held (scene t).objects output))) zs)))) where
         put_so : back ≡ with_objects (scene s) (with_object objects output (ImageObject (image_over d area (take (sample_count d) zs))))
         put_so =
             put_there back (image_over (description_of (image_held (scene t).objects output)) area (take (sample_count (description_of (image_held (scene t).objects output))) zs)) is
-            ∙ ap (λ (e : Description). with_objects (scene s) (with_object objects output (ImageObject (image_over e area (take (sample_count e) zs))))) (left_described ∙ sym d_is)
+            ∙ ap (λ (e : Description). with_objects (scene s) (with_object objects output (ImageObject (image_over e area (take (sample_count e) zs))))) (left_described ∙ same ∙ sym d_is)
 
         -- a part
         pub part_put : out.height ≡ rows.count → area ≡ (node_image n which d.format a b).valid → take (sample_count d) zs ≡ (node_image n which d.format a b).samples
@@ -287,8 +317,7 @@ module _ (rows : Band) (s : Stage) (n : Node) (output : Cell) (h : SeesParts row
         part_put high valid written =
             put_so
             ∙ ap (λ (i : ImageValue). with_objects (scene s) (with_object objects output (ImageObject i)))
-            (stored_is n which a b d (image_over target empty []) area (take (sample_count d) zs) (sym (as_high d d_is high)) (runs_there target refl).size valid written
-            ∙ made_there which d.format (ap (λ (e : Description). e.format) d_is))
+            (is_part which d area (take (sample_count d) zs) d_is high valid written)
 
         -- a band, beside all other samples
         pub band_put : (strip : Strip) (within : IsWithinRows strip) (room : IsInRows out.height strip.rows) (part : Description) (part_is : part ≡ target) (old : List ℤ) (long : length old ≡ sample_count d)
@@ -333,58 +362,103 @@ module _ (s : Stage) (name asked : ℕ) (same : asked ≡ name) (found : Option 
   pub found_nowhere : found ≡ None → slot_of s.slots.items name ≡ None
   found_nowhere none = not_placed has_name s.slots.items (place_is s name asked same found is None none)
 
-module _ (strip : Strip) (s : Stage) (n : Node) (given : Option Cell) (output : Cell) (there : given ≡ Some output) (sees : IfSome given (IsSeen strip s n)) where
+made_alike : (x y : Option Slot) (strip : Strip) (part old : ImageValue) → Alike x y → made_in x strip part old ≡ made_in y strip part old
+made_alike x y strip part old alike = grind (arith, alike)
+
+place_alike : (x y : Option Slot) (strip : Strip) (image : ImageValue) → Alike x y → HasPlaceIn x strip image → HasPlaceIn y strip image
+place_alike x y strip image alike place = grind (arith, alike)
+
+module _ (strip : Strip) (s : Stage) (n : Node) (output : Cell) (sees : IsSeen strip s n output) where
   abbrev here : Option Slot
   here = slot_of s.slots.items output.name
 
   abbrev held_now : ImageValue
   held_now = image_held (scene s).objects output
 
-  this : IsSeen strip s n output
-  this = subst (λ (o : Option Cell). IfSome o (IsSeen strip s n)) there sees
-
   pub as_high_there : IsSome here → held_now.height ≡ strip.rows.count
-  as_high_there some = high_in here strip held_now some this.1
+  as_high_there some = high_in here strip held_now some sees.1
 
   pub has_rows_there : here ≡ None → IsInRows held_now.height strip.rows
-  has_rows_there none = subst (λ x. HasPlaceIn x strip held_now) none this.1
+  has_rows_there none = subst (λ x. HasPlaceIn x strip held_now) none sees.1
 
   module _ (which : Output) where
     abbrev part : ImageValue
     part = part_made strip.rows s n which output
 
-    -- it is an image of the same description
-    made_so : (x : Option Slot) → IsWithinRows strip → HasPlaceIn x strip held_now → IsImage (made_in x strip part held_now) × (description_of (made_in x strip part held_now) ≡ description_of held_now)
-    made_so None within room = (with_band_is strip part held_now (made_is strip.rows s n output this.0 which) this.0.out_image (made_described strip.rows s n output this.0 which) within room, refl)
-    made_so (Some t) within high = (
-      made_is strip.rows s n output this.0 which,
-      made_described strip.rows s n output this.0 which ∙ sym (as_high strip.rows s n output this.0 (description_of held_now) refl high),
-    )
+    -- what is written is what the output becomes
+    pub part_becomes : IsSome here → ImageObject part ≡ made_seen strip s n which output
+    part_becomes some = ap ImageObject (in_some here strip part held_now some)
 
-    module _ (b : Stage) where
-      abbrev HasWritten : ObjectValue → Type 0
-      HasWritten object = scene b ≡ with_objects (scene s) (with_object (scene s).objects output object)
+    pub band_becomes : here ≡ None → ImageObject (with_band strip part held_now) ≡ made_seen strip s n which output
+    band_becomes none = ap (λ x. ImageObject (made_in x strip part held_now)) (sym none)
 
-      -- what is written is what the output becomes
-      pub part_written : IsSome here → HasWritten (ImageObject part) → scene b ≡ with_objects (scene s) (with_seen strip s n which given)
-      part_written some is =
-          is
-          ∙ ap (λ i. with_objects (scene s) (with_object (scene s).objects output (ImageObject i))) (in_some here strip part held_now some)
-          ∙ ap (λ o. with_objects (scene s) (with_seen strip s n which o)) (sym there)
+    module _ (within : IsWithinRows strip) where
+      -- it is an image of the same description
+      made_so : (x : Option Slot) → HasPlaceIn x strip held_now → IsImage (made_in x strip part held_now) × (description_of (made_in x strip part held_now) ≡ description_of held_now)
+      made_so None room = (with_band_is strip part held_now (made_is strip.rows s n output sees.0 which) sees.0.out_image (made_described strip.rows s n output sees.0 which) within room, refl)
+      made_so (Some t) high = (
+        made_is strip.rows s n output sees.0 which,
+        made_described strip.rows s n output sees.0 which ∙ sym (as_high strip.rows s n output sees.0 (description_of held_now) refl high),
+      )
 
-      pub band_written : here ≡ None → HasWritten (ImageObject (with_band strip part held_now)) → scene b ≡ with_objects (scene s) (with_seen strip s n which given)
-      band_written none is =
-          is
-          ∙ ap (λ x. with_objects (scene s) (with_object (scene s).objects output (ImageObject (made_in x strip part held_now)))) (sym none)
-          ∙ ap (λ o. with_objects (scene s) (with_seen strip s n which o)) (sym there)
+      -- so as much lasts of it
+      pub replaces : IsReplacement (scene s).objects (output, made_seen strip s n which output)
+      replaces =
+          let made = made_so here sees.1 in
+          record {
+            is_object = made.0;
+            lasts = ap (option_map lasting) (held_image (scene s).objects output sees.0.out) ∙ ap Some (sym (images-last (made_in here strip part held_now) held_now made.1));
+          }
 
-      -- and the stage is one again
-      pub seen_stage : IsWithinRows strip → IsStage s → IsArranged b → Keeps s b → scene b ≡ with_objects (scene s) (with_seen strip s n which given) → IsStage b
-      seen_stage within is arranged keeps written =
-          let made = made_so here within this.1 in
-          let names = subst IsStrictlyIncreasing (sym (names-shown s.slots.items s.table.objects)) is.names in
-          let lasts = ap (option_map lasting) (held_image (scene s).objects output this.0.out) ∙ ap Some (sym (images-last (made_in here strip part held_now) held_now made.1)) in
-          let now = written ∙ ap (λ o. with_objects (scene s) (with_seen strip s n which o)) there in
-          kept_stage s b is arranged keeps
-          (subst (λ (k : Context). Lasts (scene s).objects k.objects) (sym now)
-          (Lasts-with_object (scene s).objects (output, made_seen strip s n which output) (record { is_object = made.0; lasts = lasts }) names is.objects))
+    -- once it is written, another output is seen as before
+    module _ (t : Stage) (taken : scene t ≡ with_objects (scene s) (with_object (scene s).objects output (made_seen strip s n which output))) (keeps : Keeps s t)
+        (other : Cell) (apart : AreApart other output) (that : IsSeen strip s n other) where
+      abbrev made : ImageValue
+      made = made_in here strip part held_now
+
+      alike : (name : ℕ) → Alike (slot_of s.slots.items name) (slot_of t.slots.items name)
+      alike name = slots_alike s.slots.items t.slots.items keeps.slots name
+
+      same : cell_object (scene t).objects other ≡ cell_object (scene s).objects other
+      same = object_there strip.rows s n output sees.0 t made taken alike other apart
+
+      pub still_seen : IsSeen strip t n other
+      still_seen = (
+        still_sees strip.rows s n output sees.0 t made taken alike other apart that.0,
+        place_alike (slot_of s.slots.items other.name) (slot_of t.slots.items other.name) strip (image_held (scene t).objects other) (alike other.name)
+        (subst (λ (o : ObjectValue). HasPlaceIn (slot_of s.slots.items other.name) strip (image_value o)) (sym same) that.1),
+      )
+
+      -- and becomes the same
+      pub still_becomes : (what : Output) → made_seen strip t n what other ≡ made_seen strip s n what other
+      still_becomes what =
+          ap (λ i. ImageObject (made_in (slot_of t.slots.items other.name) strip i (image_held (scene t).objects other))) (still_made strip.rows s n output sees.0 t made taken alike other apart that.0 what)
+          ∙ ap (λ (o : ObjectValue). ImageObject (made_in (slot_of t.slots.items other.name) strip (part_made strip.rows s n what other) (image_value o))) same
+          ∙ ap ImageObject (made_alike (slot_of t.slots.items other.name) (slot_of s.slots.items other.name) strip (part_made strip.rows s n what other) (image_held (scene s).objects other) (sym (alike other.name)))
+
+-- a stage is one again once such objects are written
+written_stage : (s b : Stage) (written : List (Cell × ObjectValue)) → All (IsReplacement (scene s).objects) written → IsStage s → IsArranged b → Keeps s b
+    → scene b ≡ with_objects (scene s) (with_written (scene s).objects written) → IsStage b
+written_stage s b written may is arranged keeps now =
+    let names = subst IsStrictlyIncreasing (sym (names-shown s.slots.items s.table.objects)) is.names in
+    kept_stage s b is arranged keeps
+    (subst (λ (k : Context). Lasts (scene s).objects k.objects) (sym now) (Lasts-with_written (scene s).objects written names is.objects may))
+
+module _ (strip : Strip) (s b : Stage) (n : Node) (within : IsWithinRows strip) (is : IsStage s) (arranged : IsArranged b) (keeps : Keeps s b) where
+  abbrev becomes : Output → Cell → Cell × ObjectValue
+  becomes which output = (output, made_seen strip s n which output)
+
+  abbrev May : Cell × ObjectValue → Type 0
+  May = IsReplacement (scene s).objects
+
+  pub seen_stage : (output : Cell) → IsSeen strip s n output → (which : Output) → scene b ≡ with_objects (scene s) (with_object (scene s).objects output (made_seen strip s n which output)) → IsStage b
+  seen_stage output sees which now =
+      written_stage s b (becomes which output ∷ []) (All-cons May (becomes which output) [] (replaces strip s n output sees which within) (All-nil May)) is arranged keeps now
+
+  pub both_stage : (one other : Cell) → IsSeen strip s n one → IsSeen strip s n other
+      → scene b ≡ with_objects (scene s) (with_object (with_object (scene s).objects one (made_seen strip s n First one)) other (made_seen strip s n Second other)) → IsStage b
+  both_stage one other sees sees_other now =
+      written_stage s b (becomes First one ∷ becomes Second other ∷ [])
+      (All-cons May (becomes First one) (becomes Second other ∷ []) (replaces strip s n one sees First within)
+      (All-cons May (becomes Second other) [] (replaces strip s n other sees_other Second within) (All-nil May)))
+      is arranged keeps now

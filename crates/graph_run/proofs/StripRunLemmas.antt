@@ -28,7 +28,7 @@ use Rattle.buffer_plan.specs.Plan.{PlanValue}
 use Rattle.graph_run.specs.declared.bands.Strip.{Strip}
 use Rattle.graph_run.specs.declared.stage.Slot.{Slot}
 use Rattle.graph_run.specs.declared.stage.Stage.{Stage}
-use Rattle.graph_run.specs.Bands.{RunsInBands, final_of, IsStrip, is_virtual_name, is_target, IsFinished, RowsAreAs, rows_by_now, IsPartOf, output_part, IsSeen, with_seen}
+use Rattle.graph_run.specs.Bands.{AreSeen, RunsInBands, final_of, IsStrip, is_virtual_name, is_target, IsFinished, RowsAreAs, rows_by_now, IsPartOf, output_part, IsSeen, with_seen}
 use Rattle.graph_run.specs.Slots.{AreShared, strip_plan, room_of, planned_rooms, AreEmpty}
 use Rattle.graph_run.specs.Solution.{label_of}
 use Rattle.graph_run.specs.Stage.{scene, shown, slot_of, standing_image, IsStage, HoldsVirtual, Keeps, virtual_named}
@@ -56,10 +56,10 @@ use Rattle.graph_run.specs.Slots.{claimed_at}
 use Rattle.graph_run.proofs.PartClaimLemmas.{PartsClaimed, first_part_shared, parts_claimed}
 use Rattle.graph_run.proofs.SceneLemmas.{IsItsTurn, turn_of, stays_virtual, shared_stay, written_stay}
 use Rattle.graph_run.proofs.VerifiedLemmas.{are_virtual}
-use Rattle.graph_run.proofs.StepLemmas.{nothing, none_alike, slots_alike, forgotten_kept, none_standing, Keeps-trans}
+use Rattle.graph_run.proofs.StepLemmas.{nothing, none_alike, slots_alike, forgotten_kept, none_standing}
 use Rattle.graph_run.proofs.SharingLemmas.{WereWritten, name_of_output}
 use Rattle.graph_run.proofs.SeesLemmas.{SeesRight, SeesRightBeside, sees_standing, sees_rows}
-use Rattle.graph_run.proofs.StripStepLemmas.{SeesInputs, IsOpen, HasRun, first_seen, second_seen, has_run}
+use Rattle.graph_run.proofs.StripStepLemmas.{SeesInputs, IsOpen, HasRun, outputs_seen, has_run}
 
 -- what is shown as an image and is virtual stands in a slot
 stands_somewhere : (slots : List Slot) (l : List Named) (name : ℕ) (image : ImageValue) → HoldsVirtual l name → object_held (shown slots l) name ≡ Some (ImageObject image)
@@ -482,7 +482,7 @@ module _ (objects : List Named) (nodes : List Node) (v : Verified) (height besid
               (stands_more before after n parts s later h is_later keeps run o i (subst (λ ns. is_written ns o.cell ≡ true) more done) used);
         }
 
-    -- a node runs: its outputs claim their slots, and are written one after the other
+    -- a node runs: its outputs claim their slots, and are written
     module _ (l : List Named) (slots one both : List Slot) (h : IsInStrip strips k l slots)
         (first : (j : ℕ) → slice_get one j ≡ claimed_at strips (map (output_part strip.rows.count) outs) n.out1 j (slice_get slots j))
         (second : (j : ℕ) → slice_get both j ≡ claimed_at strips (map (output_part strip.rows.count) outs) n.out2 j (slice_get one j))
@@ -490,22 +490,15 @@ module _ (objects : List Named) (nodes : List Node) (v : Verified) (height besid
       here : IsClaimed before after n parts s
       here = strip_claimed l slots one h first both second s is table items
 
-      pub node_first : IfSome n.out1 (IsSeen strip s n)
-      node_first =
-          first_seen objects nodes v height beside r strip is_strip before after n parts s (sees_inputs before after n parts s here) (output_open before after n parts s here)
+      pub node_sees : AreSeen strip s n
+      node_sees =
+          outputs_seen objects nodes v height beside r strip is_strip before after n parts s (sees_inputs before after n parts s here) (output_open before after n parts s here)
 
-      module _ (between : Stage) (first_value : scene between ≡ with_objects (scene s) (with_seen strip s n First n.out1)) (first_keeps : Keeps s between) where
-        pub node_second : IfSome n.out2 (IsSeen strip between n)
-        node_second =
-            second_seen objects nodes v height beside r strip is_strip before after n parts s (sees_inputs before after n parts s here) (output_open before after n parts s here)
-            between first_value first_keeps.slots
-
-        pub node_runs : (later : Stage) → IsStage later → scene later ≡ with_objects (scene between) (with_seen strip between n Second n.out2) → Keeps between later
-            → IsInStrip strips (k + 1) later.table.objects later.slots.items
-        node_runs later is_later second_value second_keeps =
-            let claimed = claims l slots one h first both second in
-            strip_more s later here is_later (Keeps-trans s between later first_keeps second_keeps)
-            (has_run objects nodes v height beside r strip is_strip before after n parts s (sees_inputs before after n parts s here) (output_open before after n parts s here)
-            between first_value first_keeps.slots later second_value second_keeps.slots)
-            (subst (AreShared strips (map (output_part strip.rows.count) outs)) (sym items) claimed.shared)
-            (subst (WereWritten (before ++ n ∷ [])) (sym items) claimed.written)
+      pub node_runs : (later : Stage) → IsStage later → scene later ≡ with_objects (scene s) (with_seen strip s n Second n.out2 (with_seen strip s n First n.out1 (scene s).objects)) → Keeps s later
+          → IsInStrip strips (k + 1) later.table.objects later.slots.items
+      node_runs later is_later value keeps =
+          let claimed = claims l slots one h first both second in
+          strip_more s later here is_later keeps
+          (has_run objects nodes v height beside r strip is_strip before after n parts s (sees_inputs before after n parts s here) (output_open before after n parts s here) later value keeps.slots)
+          (subst (AreShared strips (map (output_part strip.rows.count) outs)) (sym items) claimed.shared)
+          (subst (WereWritten (before ++ n ∷ [])) (sym items) claimed.written)

@@ -110,9 +110,10 @@ abbrev pub made_seen : Strip → Stage → Node → Output → Cell → ObjectVa
 made_seen strip s n which output =
     ImageObject (made_in (slot_of s.slots.items output.name) strip (part_made strip.rows s n which output) (image_held (scene s).objects output))
 
-abbrev pub with_seen : Strip → Stage → Node → Output → Option Cell → List Named
-with_seen strip s n which None = (scene s).objects
-with_seen strip s n which (Some output) = with_object (scene s).objects output (made_seen strip s n which output)
+-- the objects once it is written, if it is there
+abbrev pub with_seen : Strip → Stage → Node → Output → Option Cell → List Named → List Named
+with_seen strip s n which None objects = objects
+with_seen strip s n which (Some output) objects = with_object objects output (made_seen strip s n which output)
 
 -- what stands in a slot has as many rows as nodes see; another image has these rows
 abbrev pub HasPlaceIn : Option Slot → Strip → ImageValue → Type 0
@@ -122,6 +123,12 @@ HasPlaceIn (Some slot) strip image = image.height ≡ strip.rows.count
 -- an output of a node that sees parts, and can be written
 abbrev pub IsSeen : Strip → Stage → Node → Cell → Type 0
 IsSeen strip s n output = SeesParts strip.rows s n output × HasPlaceIn (slot_of s.slots.items output.name) strip (image_held (scene s).objects output)
+
+-- outputs of a node that can be written, each apart from the other
+pub record AreSeen (strip : Strip) (s : Stage) (n : Node) : Type 0 where
+  pub first : IfSome n.out1 (IsSeen strip s n)
+  pub second : IfSome n.out2 (IsSeen strip s n)
+  pub apart : IfSome n.out1 (λ a. IfSome n.out2 (λ b. AreApart b a))
 
 -- ---- graphs that can run so
 

@@ -4,7 +4,9 @@ ghost use Rattle.std.specs.Prelude.{◌≡◌, ◌≤◌, ◌<◌, ◌+◌, ◌-
 ghost use Rattle.std.specs.Prelude.{ℕ, List, map, pos, take, drop, length};
 ghost use Rattle.std.specs.Prelude.{All, IfSome, IsSome, slice_get, None, Some, false};
 ghost use Rattle.vx_base.specs.declared.format.Format.TheVariants.{U8, S16, U32};
+ghost use Rattle.vx_base.specs.declared.function.Function.TheVariants.{Sobel};
 ghost use Rattle.vx_base.specs.declared.node.Node.{Node as NodeFields};
+ghost use Rattle.vx_base.specs.declared.output.Output.TheVariants as outputs;
 ghost use Rattle.vx_base.specs.Cell.{Cell};
 ghost use Rattle.vx_base.specs.Function.{accumulates};
 ghost use Rattle.vx_base.specs.Image.{IsImage, image_over, band, at};
@@ -25,8 +27,8 @@ ghost use Rattle.graph_verify.specs.Members.{In};
 ghost use Rattle.graph_verify.specs.Verified.{IsVerified};
 ghost use Rattle.buffer_plan.specs.Places.{told};
 ghost use Rattle.buffer_plan.specs.Plan.{IsPlan};
-ghost use Rattle.graph_run.specs.Bands.{SeesParts, part_made, with_band, with_seen};
-ghost use Rattle.graph_run.specs.Bands.{IsWithinRows, IsSeen, IsStrip};
+ghost use Rattle.graph_run.specs.Bands.{SeesParts, part_made, with_band, made_seen, with_seen};
+ghost use Rattle.graph_run.specs.Bands.{IsWithinRows, IsSeen, AreSeen, IsStrip};
 ghost use Rattle.graph_run.specs.Bands.{output_part, RunsInBands, final_of};
 ghost use Rattle.graph_run.specs.Bands.{IsFinished, AreAreas, is_image_held, with_area};
 ghost use Rattle.graph_run.specs.Graph.{run_of_graph};
@@ -37,13 +39,13 @@ ghost use Rattle.graph_run.specs.declared.bands.Bands.{Bands as HowBands};
 ghost use Rattle.graph_run.specs.Slots.{room_of, planned_rooms, plan_in, most_rows};
 ghost use Rattle.graph_run.specs.Slots.{AreEmpty, AreShared, claimed_at};
 ghost use Rattle.graph_run.specs.Stage.{scene, slot_of, IsStage, IsArranged, Keeps};
-ghost use Rattle.graph_run.specs.Steps.{CanRunTo};
+ghost use Rattle.graph_run.specs.Steps.{AreApart, CanRunTo};
 ghost use Rattle.graph_run.specs.Turns.{AreVirtual};
 
 use crate::kernel::run_node;
 use crate::runs::place_of;
 use crate::stage::Stage;
-use crate::step::write_samples;
+use crate::step::{write_gradients, write_samples};
 use buffer_plan::Plan;
 use graph_verify::{Verified, VirtualOutput};
 use image_core::{Band, Image, ImageMut, Second};
@@ -177,8 +179,7 @@ fn run_strip(stage: &mut Stage, verified: &Verified, plan: &Plan, bands: &Bands,
     for node in &verified.steps {
         claim_part(stage, verified, plan, node.out1, strip.rows);
         claim_part(stage, verified, plan, node.out2, strip.rows);
-        run_output(stage, node, Output::First, node.out1, strip);
-        run_output(stage, node, Output::Second, node.out2, strip);
+        run_outputs(stage, node, strip);
     }
 }
 
@@ -224,23 +225,91 @@ fn claim_part(
     stage.claim(at, VirtualOutput { cell, desc });
 }
 
-/// Runs a node to one of its outputs, if it has that: of a virtual image all rows that it sees are
-/// written to its slot, of another image the band.
-fn run_output(stage: &mut Stage, node: &Node, which: Output, output: Option<ObjRef>, strip: Strip)
+/// Runs a node to its outputs.
+fn run_outputs(stage: &mut Stage, node: &Node, strip: Strip)
     requires stage { IsStage stage.old }
     requires strip { IsWithinRows strip }
-    requires sees { IfSome output (IsSeen strip stage.old node.now) }
+    requires seen { AreSeen strip stage.old node.now }
     ensures value { scene stage.new ≡ with_objects (scene stage.old)
-        (with_seen strip stage.old node.now which output) }
+        (with_seen strip stage.old node.now outputs.Second node.now.out2
+        (with_seen strip stage.old node.now outputs.First node.now.out1
+        (scene stage.old).objects)) }
     ensures stage { IsStage stage.new }
     ensures keeps { Keeps stage.old stage.new }
 {
-    if let Some(output) = output {
-        match stage.place_of(output.name()) {
-            Some(_) => write_part(stage, node, which, output, strip.rows),
-            None => write_band(stage, node, which, output, strip),
+    match (node.out1, node.out2) {
+        (Some(out1), Some(out2)) => run_pair(stage, node, out1, out2, strip),
+        (Some(out1), None) => run_output(stage, node, Output::First, out1, strip),
+        (None, Some(out2)) => run_output(stage, node, Output::Second, out2, strip),
+        (None, None) => {}
+    }
+}
+
+/// Runs a node to both of its outputs. Where both are virtual images, what it reads is read once.
+fn run_pair(stage: &mut Stage, node: &Node, out1: ObjRef, out2: ObjRef, strip: Strip)
+    requires stage { IsStage stage.old }
+    requires strip { IsWithinRows strip }
+    requires function { node.now.function ≡ Sobel }
+    requires first { IsSeen strip stage.old node.now out1 }
+    requires second { IsSeen strip stage.old node.now out2 }
+    requires apart { AreApart out2 out1 }
+    ensures value { scene stage.new ≡ with_objects (scene stage.old)
+        (with_object (with_object (scene stage.old).objects
+        out1 (made_seen strip stage.old node.now outputs.First out1))
+        out2 (made_seen strip stage.old node.now outputs.Second out2)) }
+    ensures stage { IsStage stage.new }
+    ensures keeps { Keeps stage.old stage.new }
+{
+    match (stage.place_of(out1.name()), stage.place_of(out2.name())) {
+        (Some(_), Some(_)) => write_parts(stage, node, out1, out2, strip.rows),
+        _ => {
+            run_output(stage, node, Output::First, out1, strip);
+            run_output(stage, node, Output::Second, out2, strip);
         }
     }
+}
+
+/// Runs a node to one of its outputs: of a virtual image all rows that it sees are written to its
+/// slot, of another image the band.
+fn run_output(stage: &mut Stage, node: &Node, which: Output, output: ObjRef, strip: Strip)
+    requires stage { IsStage stage.old }
+    requires strip { IsWithinRows strip }
+    requires sees { IsSeen strip stage.old node.now output }
+    ensures value { scene stage.new ≡ with_objects (scene stage.old)
+        (with_object (scene stage.old).objects output
+        (made_seen strip stage.old node.now which output)) }
+    ensures stage { IsStage stage.new }
+    ensures keeps { Keeps stage.old stage.new }
+{
+    match stage.place_of(output.name()) {
+        Some(_) => write_part(stage, node, which, output, strip.rows),
+        None => write_band(stage, node, which, output, strip),
+    }
+}
+
+/// Writes both gradients that a node makes of the rows that it sees, each to what stands in a slot:
+/// the rows are read once for both.
+fn write_parts(stage: &mut Stage, node: &Node, out1: ObjRef, out2: ObjRef, rows: Band)
+    requires stage { IsArranged stage.old }
+    requires function { node.now.function ≡ Sobel }
+    requires first { SeesParts rows stage.old node.now out1 }
+    requires second { SeesParts rows stage.old node.now out2 }
+    requires apart { AreApart out2 out1 }
+    requires height_x { (image_held (scene stage.old).objects out1).height ≡ rows.count }
+    requires height_y { (image_held (scene stage.old).objects out2).height ≡ rows.count }
+    ensures value { scene stage.new ≡ with_objects (scene stage.old)
+        (with_object (with_object (scene stage.old).objects
+        out1 (ImageObject (part_made rows stage.old node.now outputs.First out1)))
+        out2 (ImageObject (part_made rows stage.old node.now outputs.Second out2))) }
+    ensures stage { IsArranged stage.new }
+    ensures keeps { Keeps stage.old stage.new }
+{
+    let (desc_x, mut samples_x) = stage.take(out1);
+    let (desc_y, mut samples_y) = stage.take(out2);
+    let image = stage.part(node.in1, rows);
+    let (x, y) = write_gradients(node, &image, desc_x, &mut samples_x, desc_y, &mut samples_y);
+    stage.put(out2, samples_y, y);
+    stage.put(out1, samples_x, x);
 }
 
 /// Writes what a node makes of the rows that it sees to what stands in a slot.

@@ -145,27 +145,12 @@ fn write_both(stage: &mut Stage, node: &Node, out1: ObjRef, out2: ObjRef)
     ensures stage { IsArranged stage.new }
     ensures keeps { Keeps stage.old stage.new }
 {
-    let (desc_x, samples) = stage.take(out1);
-    let mut samples_x = shorts_of(samples);
-    let (desc_y, samples) = stage.take(out2);
-    let mut samples_y = shorts_of(samples);
+    let (desc_x, mut samples_x) = stage.take(out1);
+    let (desc_y, mut samples_y) = stage.take(out2);
     let image = stage.image(node.in1);
-    let (part_x, _) = samples_x.split_at_mut(desc_x.sample_count());
-    let (part_y, _) = samples_y.split_at_mut(desc_y.sample_count());
-    let (x, y) = run_both(node, &image, desc_x, part_x, desc_y, part_y);
-    stage.put(out2, Samples::S16(samples_y), y);
-    stage.put(out1, Samples::S16(samples_x), x);
-}
-
-/// The samples of an S16 image.
-fn shorts_of(samples: Samples) -> Vec<i16>
-    requires { samples_format samples ≡ S16 }
-    ensures { result.items ≡ values samples }
-{
-    match samples {
-        Samples::S16(samples) => samples,
-        _ => unreachable!(),
-    }
+    let (x, y) = write_gradients(node, &image, desc_x, &mut samples_x, desc_y, &mut samples_y);
+    stage.put(out2, samples_y, y);
+    stage.put(out1, samples_x, x);
 }
 
 /// Counts the valid samples of a U8 image in the bins of the distribution under a name.
@@ -429,6 +414,46 @@ fn add_shorts(desc: Desc, valid: Rect, samples: &mut [i16], node: &Node, image: 
     sums.set_valid(valid);
     run_sum(node, image, &mut sums);
     sums.valid()
+}
+
+/// Writes both gradients that a node gives, as `write_samples` does, and gives their valid
+/// rectangles.
+pub fn write_gradients(
+    node: &Node,
+    image: &Image<'_>,
+    desc_x: Desc,
+    samples_x: &mut Samples,
+    desc_y: Desc,
+    samples_y: &mut Samples,
+) -> (Rect, Rect)
+    requires function { node.now.function ≡ Sobel }
+    requires format_x { samples_format samples_x.old ≡ desc_x.format }
+    requires format_y { samples_format samples_y.old ≡ desc_y.format }
+    requires room_x { sample_count desc_x ≤ length (values samples_x.old) }
+    requires room_y { sample_count desc_y ≤ length (values samples_y.old) }
+    requires can_x { CanRunTo node.now image.now None (image_over desc_x empty []) }
+    requires can_y { CanRunTo node.now image.now None (image_over desc_y empty []) }
+    ensures valid_x { result.0
+        ≡ (node_image node.now outputs.First desc_x.format image.now None).valid }
+    ensures valid_y { result.1
+        ≡ (node_image node.now outputs.Second desc_y.format image.now None).valid }
+    ensures samples_x { take (sample_count desc_x) (values samples_x.new)
+        ≡ (node_image node.now outputs.First desc_x.format image.now None).samples }
+    ensures samples_y { take (sample_count desc_y) (values samples_y.new)
+        ≡ (node_image node.now outputs.Second desc_y.format image.now None).samples }
+    ensures format_x { samples_format samples_x.new ≡ desc_x.format }
+    ensures format_y { samples_format samples_y.new ≡ desc_y.format }
+    ensures count_x { length (values samples_x.new) ≡ length (values samples_x.old) }
+    ensures count_y { length (values samples_y.new) ≡ length (values samples_y.old) }
+{
+    match (samples_x, samples_y) {
+        (Samples::S16(samples_x), Samples::S16(samples_y)) => {
+            let (x, _) = samples_x.split_at_mut(desc_x.sample_count());
+            let (y, _) = samples_y.split_at_mut(desc_y.sample_count());
+            run_both(node, image, desc_x, x, desc_y, y)
+        }
+        _ => unreachable!(),
+    }
 }
 
 /// Writes the samples of both gradients that a node gives, and gives their valid rectangles.

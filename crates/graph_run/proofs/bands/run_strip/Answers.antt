@@ -6,7 +6,7 @@ use Rattle.buffer_plan.specs.Places.{told}
 use Rattle.graph_run.specs.Operands.{operand_held}
 use Rattle.graph_run.specs.Slots.{plan_in, most_rows}
 use Rattle.graph_run.specs.Turns.{AreVirtual}
-use Rattle.graph_run.proofs.StripRunLemmas.{high, still_virtual, strip_begins, strip_ends, first_shared, node_first, node_second, node_runs}
+use Rattle.graph_run.proofs.StripRunLemmas.{high, still_virtual, strip_begins, strip_ends, first_shared, node_sees, node_runs}
 use Rattle.graph_run.proofs.bands.run_strip.Goals as goal
 
 abbrev objects_of : Context → List Named
@@ -70,32 +70,18 @@ claim_part-requires-in-loop-node-clause-shared c =
           (c.loop-node.invariant.course runs.0 runs.1 runs.2 c.requires.strip runs.3) c.claim_part.ensures.slots,
     )
 
-pub run_output-requires-clause-sees : goal.run_output-requires-clause-sees
-run_output-requires-clause-sees c =
+pub run_outputs-requires-clause-seen : goal.run_outputs-requires-clause-seen
+run_outputs-requires-clause-seen c =
     let runs = c.requires.runs in
     let items = c.deref-node-items.ensures.value in
     let k = c.loop-node.node-index in
     let n = c.node-item.result in
     let claimed = c.claim_part-in-loop-node.new.stage in
-    node_first runs.0 runs.1 _ _ _ runs.2 c.args.strip c.requires.strip (most_rows c.args.bands.now) c.requires.rows (told c.args.plan.now) c.requires.plan k n
+    node_sees runs.0 runs.1 _ _ _ runs.2 c.args.strip c.requires.strip (most_rows c.args.bands.now) c.requires.rows (told c.args.plan.now) c.requires.plan k n
     (subst (λ (l : List Node). k < length l) items c.loop-node-test.true) (c.node-item.is ∙ ap (λ (l : List Node). get_or l k n) items)
     c.loop-node.stage.table.objects c.loop-node.stage.slots.items c.claim_part.new.stage.slots.items claimed.slots.items
     (c.loop-node.invariant.course runs.0 runs.1 runs.2 c.requires.strip runs.3) c.claim_part.ensures.slots c.claim_part-in-loop-node.ensures.slots
     claimed c.claim_part-in-loop-node.ensures.stage (ap objects_of (c.claim_part-in-loop-node.ensures.table ∙ c.claim_part.ensures.table)) refl
-
-pub run_output-requires-in-loop-node-clause-sees : goal.run_output-requires-in-loop-node-clause-sees
-run_output-requires-in-loop-node-clause-sees c =
-    let runs = c.requires.runs in
-    let items = c.deref-node-items.ensures.value in
-    let k = c.loop-node.node-index in
-    let n = c.node-item.result in
-    let claimed = c.claim_part-in-loop-node.new.stage in
-    node_second runs.0 runs.1 _ _ _ runs.2 c.args.strip c.requires.strip (most_rows c.args.bands.now) c.requires.rows (told c.args.plan.now) c.requires.plan k n
-    (subst (λ (l : List Node). k < length l) items c.loop-node-test.true) (c.node-item.is ∙ ap (λ (l : List Node). get_or l k n) items)
-    c.loop-node.stage.table.objects c.loop-node.stage.slots.items c.claim_part.new.stage.slots.items claimed.slots.items
-    (c.loop-node.invariant.course runs.0 runs.1 runs.2 c.requires.strip runs.3) c.claim_part.ensures.slots c.claim_part-in-loop-node.ensures.slots
-    claimed c.claim_part-in-loop-node.ensures.stage (ap objects_of (c.claim_part-in-loop-node.ensures.table ∙ c.claim_part.ensures.table)) refl
-    c.run_output.new.stage c.run_output.ensures.value c.run_output.ensures.keeps
 
 pub loop-node-preserved : goal.loop-node-preserved
 loop-node-preserved c =
@@ -104,16 +90,15 @@ loop-node-preserved c =
     let n = c.node-item.result in
     let claimed = c.claim_part-in-loop-node.new.stage in
     record {
-      stage = c.run_output-in-loop-node.ensures.stage;
-      next = ap next_of c.run_output-in-loop-node.ensures.value ∙ ap next_of c.run_output.ensures.value ∙ ap next_of (c.claim_part-in-loop-node.ensures.table ∙ c.claim_part.ensures.table) ∙ c.loop-node.invariant.next;
+      stage = c.run_outputs.ensures.stage;
+      next = ap next_of c.run_outputs.ensures.value ∙ ap next_of (c.claim_part-in-loop-node.ensures.table ∙ c.claim_part.ensures.table) ∙ c.loop-node.invariant.next;
       course = λ objects nodes r is_strip finished.
           node_runs objects nodes _ _ _ r c.args.strip is_strip (most_rows c.args.bands.now) c.requires.rows (told c.args.plan.now) c.requires.plan k n
           (subst (λ (l : List Node). k < length l) items c.loop-node-test.true) (c.node-item.is ∙ ap (λ (l : List Node). get_or l k n) items)
           c.loop-node.stage.table.objects c.loop-node.stage.slots.items c.claim_part.new.stage.slots.items claimed.slots.items
           (c.loop-node.invariant.course objects nodes r is_strip finished) c.claim_part.ensures.slots c.claim_part-in-loop-node.ensures.slots
           claimed c.claim_part-in-loop-node.ensures.stage (ap objects_of (c.claim_part-in-loop-node.ensures.table ∙ c.claim_part.ensures.table)) refl
-          c.run_output.new.stage c.run_output.ensures.value c.run_output.ensures.keeps c.run_output-in-loop-node.new.stage c.run_output-in-loop-node.ensures.stage
-          c.run_output-in-loop-node.ensures.value c.run_output-in-loop-node.ensures.keeps;
+          c.run_outputs.new.stage c.run_outputs.ensures.stage c.run_outputs.ensures.value c.run_outputs.ensures.keeps;
     }
 
 pub returns-clause-rooms : goal.returns-clause-rooms

@@ -1,46 +1,46 @@
-use Rattle.std.proofs.Common.{◌∙◌, sym}
+use Rattle.std.proofs.Common.{◌∙◌, refl, sym}
 use Rattle.graph_run.proofs.SeenLemmas.{first_there, first_image, first_rows, second_holds, second_is, second_read, second_rows, as_high, runs_there, takes_back, left_described, part_put}
-use Rattle.graph_run.proofs.StepLemmas.{put_keeps, still_for}
+use Rattle.graph_run.proofs.StepLemmas.{put_keeps, resized_alike, still_for}
 use Rattle.graph_run.proofs.bands.write_part.Goals as goal
 
 pub part-first-requires-clause-there : goal.part-first-requires-clause-there
-part-first-requires-clause-there c = first_there _ _ _ _ c.requires.sees _ c.take-desc.ensures.left c.take-desc.ensures.none
+part-first-requires-clause-there c = first_there _ _ _ _ c.requires.sees c.take-desc.new.self _ c.take-desc.ensures.left (resized_alike _ _ _ _ c.take-desc.ensures.none)
 
 pub part-first-requires-clause-image : goal.part-first-requires-clause-image
-part-first-requires-clause-image c = first_image _ _ _ _ c.requires.sees _ c.take-desc.ensures.left c.take-desc.ensures.none
+part-first-requires-clause-image c = first_image _ _ _ _ c.requires.sees c.take-desc.new.self _ c.take-desc.ensures.left (resized_alike _ _ _ _ c.take-desc.ensures.none)
 
 pub part-first-requires-clause-rows : goal.part-first-requires-clause-rows
-part-first-requires-clause-rows c = first_rows _ _ _ _ c.requires.sees _ c.take-desc.ensures.left c.take-desc.ensures.none
+part-first-requires-clause-rows c = first_rows _ _ _ _ c.requires.sees c.take-desc.new.self _ c.take-desc.ensures.left (resized_alike _ _ _ _ c.take-desc.ensures.none)
 
 pub second_part-second-requires-clause-there : goal.second_part-second-requires-clause-there
-second_part-second-requires-clause-there c = second_holds _ _ _ _ c.requires.sees _ c.take-desc.ensures.left c.take-desc.ensures.none
+second_part-second-requires-clause-there c = second_holds _ _ _ _ c.requires.sees c.take-desc.new.self _ c.take-desc.ensures.left (resized_alike _ _ _ _ c.take-desc.ensures.none)
 
 pub second_part-second-requires-clause-object : goal.second_part-second-requires-clause-object
-second_part-second-requires-clause-object c = second_is _ _ _ _ c.requires.sees _ c.take-desc.ensures.left c.take-desc.ensures.none
+second_part-second-requires-clause-object c = second_is _ _ _ _ c.requires.sees c.take-desc.new.self _ c.take-desc.ensures.left (resized_alike _ _ _ _ c.take-desc.ensures.none)
 
 pub second_part-second-requires-clause-kind : goal.second_part-second-requires-clause-kind
-second_part-second-requires-clause-kind c = second_read _ _ _ _ c.requires.sees _ c.take-desc.ensures.left c.take-desc.ensures.none
+second_part-second-requires-clause-kind c = second_read _ _ _ _ c.requires.sees c.take-desc.new.self _ c.take-desc.ensures.left (resized_alike _ _ _ _ c.take-desc.ensures.none)
 
 pub second_part-second-requires-clause-rows : goal.second_part-second-requires-clause-rows
-second_part-second-requires-clause-rows c = second_rows _ _ _ _ c.requires.sees _ c.take-desc.ensures.left c.take-desc.ensures.none
+second_part-second-requires-clause-rows c = second_rows _ _ _ _ c.requires.sees c.take-desc.new.self _ c.take-desc.ensures.left (resized_alike _ _ _ _ c.take-desc.ensures.none)
 
 pub write_samples-valid-requires-clause-can_run : goal.write_samples-valid-requires-clause-can_run
 write_samples-valid-requires-clause-can_run c =
-    runs_there _ _ _ _ c.requires.sees _ c.take-desc.ensures.left c.take-desc.ensures.none _ _ c.part-first.ensures c.second_part-second.ensures c.take-desc.result.0
+    runs_there _ _ _ _ c.requires.sees c.take-desc.new.self _ c.take-desc.ensures.left (resized_alike _ _ _ _ c.take-desc.ensures.none) _ _ c.part-first.ensures c.second_part-second.ensures c.take-desc.result.0
     (as_high _ _ _ _ c.requires.sees c.take-desc.result.0 c.take-desc.ensures.desc c.requires.height)
 
 pub put-requires-clause-there : goal.put-requires-clause-there
-put-requires-clause-there c = takes_back _ _ _ _ c.requires.sees _ c.take-desc.ensures.left c.take-desc.ensures.none
+put-requires-clause-there c = takes_back _ _ _ _ c.requires.sees c.take-desc.new.self _ c.take-desc.ensures.left (resized_alike _ _ _ _ c.take-desc.ensures.none)
 
 pub put-requires-clause-samples : goal.put-requires-clause-samples
 put-requires-clause-samples c =
     still_for c.args.stage.now c.take-desc.new.self c.args.output.name 0 c.args.output.name c.take-desc.result.0 _ c.take-desc.result.1 _ c.take-desc.ensures.none c.take-desc.ensures.samples
     (c.write_samples-valid.ensures.format ∙ sym c.take-desc.ensures.samples.format) c.write_samples-valid.ensures.count
-    (left_described _ _ _ _ c.requires.sees _ c.take-desc.ensures.left c.take-desc.ensures.none ∙ sym c.take-desc.ensures.desc)
+    (left_described _ _ _ _ c.requires.sees c.take-desc.new.self _ c.take-desc.ensures.left (resized_alike _ _ _ _ c.take-desc.ensures.none) ∙ sym c.take-desc.ensures.desc)
 
 pub returns-clause-value : goal.returns-clause-value
 returns-clause-value c =
-    part_put _ _ _ _ c.requires.sees _ c.take-desc.ensures.left c.take-desc.ensures.none _ _ c.part-first.ensures c.second_part-second.ensures c.args.which c.take-desc.result.0 c.take-desc.ensures.desc _ _ _
+    part_put _ _ _ _ c.requires.sees c.take-desc.new.self _ c.take-desc.ensures.left (resized_alike _ _ _ _ c.take-desc.ensures.none) _ _ c.part-first.ensures c.second_part-second.ensures c.args.which refl c.take-desc.result.0 c.take-desc.ensures.desc _ _ _
     c.put.ensures.value c.requires.height c.write_samples-valid.ensures.valid c.write_samples-valid.ensures.samples
 
 pub returns-clause-keeps : goal.returns-clause-keeps

@@ -1,10 +1,10 @@
-use Rattle.std.proofs.Common.{◌∙◌, length, refl, ap, sym}
-use Rattle.vx_base.specs.Description.{sample_count}
+use Rattle.std.proofs.Common.{◌∙◌, take, refl, ap, sym}
 use Rattle.vx_base.specs.declared.output.Output.TheVariants as outputs
+use Rattle.vx_base.specs.Description.{Description, sample_count}
+use Rattle.vx_base.specs.Picture.{values}
 use Rattle.graph_run.specs.Stage.{scene}
 use Rattle.graph_run.proofs.OutputLemmas.{out_is_image, writes_image}
-use Rattle.graph_run.proofs.PairLemmas.{both_back, can_one, can_other, described_one, described_other, reads, reads_value, runs_other, takes_one, takes_other, writes_images, writes_shorts}
-use Rattle.graph_run.proofs.PartLemmas.{shorts_count, shorts_written}
+use Rattle.graph_run.proofs.PairLemmas.{both_back, can_one, can_other, described_one, described_other, reads, reads_value, runs_other, takes_one, takes_other, writes_images}
 use Rattle.graph_run.proofs.StepLemmas.{put_keeps, still_out, still_for}
 use Rattle.graph_run.proofs.step.write_both.Goals as goal
 
@@ -18,12 +18,6 @@ take-desc_y-requires c =
     let images = writes_images n c.requires.function in
     record { stage = c.take-desc_x.ensures.stage; there = writes_image _ n outputs.Second c.args.out2 other images; image = out_is_image _ n outputs.Second c.args.out2 other images }
 
-pub shorts_of-samples_y-requires : goal.shorts_of-samples_y-requires
-shorts_of-samples_y-requires c =
-    let n = c.args.node.now in
-    let other = runs_other (scene c.args.stage.now) n c.args.out1 c.args.out2 c.requires.first c.requires.second c.requires.apart c.requires.function _ c.take-desc_x.ensures.left in
-    c.take-desc_y.ensures.samples.format ∙ ap (λ d. d.format) c.take-desc_y.ensures.desc ∙ writes_shorts _ n c.args.out2 other c.requires.function
-
 pub image-image-requires : goal.image-image-requires
 image-image-requires c =
     let s = scene c.args.stage.now in
@@ -33,12 +27,12 @@ image-image-requires c =
       image = reads_value s c.args.node.now c.args.out1 c.args.out2 c.requires.first c.requires.second c.requires.apart c.requires.function _ c.take-desc_x.ensures.left _ c.take-desc_y.ensures.left _ refl;
     }
 
-pub run_both-x-requires-clause-can_x : goal.run_both-x-requires-clause-can_x
-run_both-x-requires-clause-can_x c =
+pub write_gradients-x-requires-clause-can_x : goal.write_gradients-x-requires-clause-can_x
+write_gradients-x-requires-clause-can_x c =
     can_one (scene c.args.stage.now) c.args.node.now c.args.out1 c.args.out2 c.requires.first c.requires.second c.requires.apart c.requires.function _ c.take-desc_x.ensures.left _ c.take-desc_y.ensures.left _ c.image-image.ensures _ c.take-desc_x.ensures.desc
 
-pub run_both-x-requires-clause-can_y : goal.run_both-x-requires-clause-can_y
-run_both-x-requires-clause-can_y c =
+pub write_gradients-x-requires-clause-can_y : goal.write_gradients-x-requires-clause-can_y
+write_gradients-x-requires-clause-can_y c =
     can_other (scene c.args.stage.now) c.args.node.now c.args.out1 c.args.out2 c.requires.first c.requires.second c.requires.apart c.requires.function _ c.take-desc_x.ensures.left _ c.take-desc_y.ensures.left _ c.image-image.ensures _ c.take-desc_y.ensures.desc
 
 pub put-requires-clause-there : goal.put-requires-clause-there
@@ -47,44 +41,36 @@ put-requires-clause-there c =
 
 pub put-requires-clause-samples : goal.put-requires-clause-samples
 put-requires-clause-samples c =
-    let n = c.args.node.now in
-    let other = runs_other (scene c.args.stage.now) c.args.node.now c.args.out1 c.args.out2 c.requires.first c.requires.second c.requires.apart c.requires.function _ c.take-desc_x.ensures.left in
-    let format = c.take-desc_y.ensures.samples.format ∙ ap (λ d. d.format) c.take-desc_y.ensures.desc ∙ writes_shorts _ n c.args.out2 other c.requires.function in
     still_for c.take-desc_x.new.self c.take-desc_y.new.self c.args.out2.name 0 c.args.out2.name c.take-desc_y.result.0 _ c.take-desc_y.result.1 _ c.take-desc_y.ensures.none c.take-desc_y.ensures.samples
-    (sym format)
-    (shorts_count c.shorts_of-samples_y.result c.run_both-x.new.samples_y c.split_at_mut-part_y.result.1.now c.deref_mut-2.result.now c.split_at_mut-part_y.result.0.now c.deref_mut-2.ensures.value _ c.deref_mut-2.ensures.len c.run_both-x.auto.samples_y c.split_at_mut-part_y.ensures.front_len c.split_at_mut-part_y.ensures.back_len ∙ ap length c.shorts_of-samples_y.ensures)
+    (c.write_gradients-x.ensures.format_y ∙ sym c.take-desc_y.ensures.samples.format) c.write_gradients-x.ensures.count_y
     (described_other (scene c.args.stage.now) c.args.node.now c.args.out1 c.args.out2 c.requires.first c.requires.second c.requires.apart c.requires.function _ c.take-desc_x.ensures.left _ c.take-desc_y.ensures.left ∙ sym c.take-desc_y.ensures.desc)
 
 pub put-requires-2 : goal.put-requires-2
 put-requires-2 c =
     let n = c.args.node.now in
     let places_y = described_other (scene c.args.stage.now) n c.args.out1 c.args.out2 c.requires.first c.requires.second c.requires.apart c.requires.function _ c.take-desc_x.ensures.left _ c.take-desc_y.ensures.left ∙ sym c.take-desc_y.ensures.desc in
-    let written_y = shorts_written c.shorts_of-samples_y.result c.run_both-x.new.samples_y c.split_at_mut-part_y.result.1.now c.deref_mut-2.result.now c.split_at_mut-part_y.result.0.now c.deref_mut-2.ensures.value _ c.deref_mut-2.ensures.len c.run_both-x.auto.samples_y c.split_at_mut-part_y.ensures.front_len c.split_at_mut-part_y.ensures.back_len _ (ap sample_count places_y ∙ sym c.sample_count-2.ensures.value) ∙ c.run_both-x.ensures.samples_y in
-    let kept = put_keeps c.take-desc_x.new.self c.take-desc_y.new.self c.put.new.self c.args.out2.name 0 _ _ c.take-desc_y.ensures.none c.put.ensures.count
-    (shorts_count c.shorts_of-samples_y.result c.run_both-x.new.samples_y c.split_at_mut-part_y.result.1.now c.deref_mut-2.result.now c.split_at_mut-part_y.result.0.now c.deref_mut-2.ensures.value _ c.deref_mut-2.ensures.len c.run_both-x.auto.samples_y c.split_at_mut-part_y.ensures.front_len c.split_at_mut-part_y.ensures.back_len ∙ ap length c.shorts_of-samples_y.ensures) c.take-desc_y.ensures.count in
+    let written_y = ap (λ (d : Description). take (sample_count d) (values c.write_gradients-x.new.samples_y)) places_y ∙ c.write_gradients-x.ensures.samples_y in
+    let kept = put_keeps c.take-desc_x.new.self c.take-desc_y.new.self c.put.new.self c.args.out2.name 0 _ _ c.take-desc_y.ensures.none c.put.ensures.count c.write_gradients-x.ensures.count_y c.take-desc_y.ensures.count in
     let out = still_out c.args.stage.now c.take-desc_x.new.self c.put.new.self c.args.out1.name 0 c.take-desc_x.ensures.none kept in
-    let format = c.take-desc_x.ensures.samples.format ∙ ap (λ d. d.format) c.take-desc_x.ensures.desc ∙ writes_shorts _ n c.args.out1 c.requires.first c.requires.function in
     record {
       stage = c.put.ensures.stage;
-      there = takes_one (scene c.args.stage.now) n c.args.out1 c.args.out2 c.requires.first c.requires.second c.requires.apart c.requires.function _ c.take-desc_x.ensures.left _ c.take-desc_y.ensures.left _ c.image-image.ensures _ c.take-desc_y.ensures.desc _ _ _ c.put.ensures.value c.run_both-x.ensures.valid_y written_y;
-      samples = still_for c.args.stage.now c.put.new.self c.args.out1.name 0 c.args.out1.name c.take-desc_x.result.0 _ c.take-desc_x.result.1 _ out c.take-desc_x.ensures.samples (sym format)
-          (shorts_count c.shorts_of-samples_x.result c.run_both-x.new.samples_x c.split_at_mut-part_x.result.1.now c.deref_mut.result.now c.split_at_mut-part_x.result.0.now c.deref_mut.ensures.value _ c.deref_mut.ensures.len c.run_both-x.auto.samples_x c.split_at_mut-part_x.ensures.front_len c.split_at_mut-part_x.ensures.back_len ∙ ap length c.shorts_of-samples_x.ensures)
-          (described_one (scene c.args.stage.now) n c.args.out1 c.args.out2 c.requires.first c.requires.second c.requires.apart c.requires.function _ c.take-desc_x.ensures.left _ c.take-desc_y.ensures.left _ c.image-image.ensures _ c.take-desc_y.ensures.desc _ _ _ c.put.ensures.value c.run_both-x.ensures.valid_y written_y ∙ sym c.take-desc_x.ensures.desc);
+      there = takes_one (scene c.args.stage.now) n c.args.out1 c.args.out2 c.requires.first c.requires.second c.requires.apart c.requires.function _ c.take-desc_x.ensures.left _ c.take-desc_y.ensures.left _ c.image-image.ensures _ c.take-desc_y.ensures.desc _ _ _ c.put.ensures.value c.write_gradients-x.ensures.valid_y written_y;
+      samples = still_for c.args.stage.now c.put.new.self c.args.out1.name 0 c.args.out1.name c.take-desc_x.result.0 _ c.take-desc_x.result.1 _ out c.take-desc_x.ensures.samples
+          (c.write_gradients-x.ensures.format_x ∙ sym c.take-desc_x.ensures.samples.format) c.write_gradients-x.ensures.count_x
+          (described_one (scene c.args.stage.now) n c.args.out1 c.args.out2 c.requires.first c.requires.second c.requires.apart c.requires.function _ c.take-desc_x.ensures.left _ c.take-desc_y.ensures.left _ c.image-image.ensures _ c.take-desc_y.ensures.desc _ _ _ c.put.ensures.value c.write_gradients-x.ensures.valid_y written_y ∙ sym c.take-desc_x.ensures.desc);
     }
 
 pub returns : goal.returns
 returns c =
     let n = c.args.node.now in
     let places_y = described_other (scene c.args.stage.now) n c.args.out1 c.args.out2 c.requires.first c.requires.second c.requires.apart c.requires.function _ c.take-desc_x.ensures.left _ c.take-desc_y.ensures.left ∙ sym c.take-desc_y.ensures.desc in
-    let written_y = shorts_written c.shorts_of-samples_y.result c.run_both-x.new.samples_y c.split_at_mut-part_y.result.1.now c.deref_mut-2.result.now c.split_at_mut-part_y.result.0.now c.deref_mut-2.ensures.value _ c.deref_mut-2.ensures.len c.run_both-x.auto.samples_y c.split_at_mut-part_y.ensures.front_len c.split_at_mut-part_y.ensures.back_len _ (ap sample_count places_y ∙ sym c.sample_count-2.ensures.value) ∙ c.run_both-x.ensures.samples_y in
-    let kept = put_keeps c.take-desc_x.new.self c.take-desc_y.new.self c.put.new.self c.args.out2.name 0 _ _ c.take-desc_y.ensures.none c.put.ensures.count
-    (shorts_count c.shorts_of-samples_y.result c.run_both-x.new.samples_y c.split_at_mut-part_y.result.1.now c.deref_mut-2.result.now c.split_at_mut-part_y.result.0.now c.deref_mut-2.ensures.value _ c.deref_mut-2.ensures.len c.run_both-x.auto.samples_y c.split_at_mut-part_y.ensures.front_len c.split_at_mut-part_y.ensures.back_len ∙ ap length c.shorts_of-samples_y.ensures) c.take-desc_y.ensures.count in
+    let written_y = ap (λ (d : Description). take (sample_count d) (values c.write_gradients-x.new.samples_y)) places_y ∙ c.write_gradients-x.ensures.samples_y in
+    let kept = put_keeps c.take-desc_x.new.self c.take-desc_y.new.self c.put.new.self c.args.out2.name 0 _ _ c.take-desc_y.ensures.none c.put.ensures.count c.write_gradients-x.ensures.count_y c.take-desc_y.ensures.count in
     let out = still_out c.args.stage.now c.take-desc_x.new.self c.put.new.self c.args.out1.name 0 c.take-desc_x.ensures.none kept in
-    let places_x = described_one (scene c.args.stage.now) n c.args.out1 c.args.out2 c.requires.first c.requires.second c.requires.apart c.requires.function _ c.take-desc_x.ensures.left _ c.take-desc_y.ensures.left _ c.image-image.ensures _ c.take-desc_y.ensures.desc _ _ _ c.put.ensures.value c.run_both-x.ensures.valid_y written_y ∙ sym c.take-desc_x.ensures.desc in
+    let places_x = described_one (scene c.args.stage.now) n c.args.out1 c.args.out2 c.requires.first c.requires.second c.requires.apart c.requires.function _ c.take-desc_x.ensures.left _ c.take-desc_y.ensures.left _ c.image-image.ensures _ c.take-desc_y.ensures.desc _ _ _ c.put.ensures.value c.write_gradients-x.ensures.valid_y written_y ∙ sym c.take-desc_x.ensures.desc in
     record {
-      value = both_back (scene c.args.stage.now) n c.args.out1 c.args.out2 c.requires.first c.requires.second c.requires.apart c.requires.function _ c.take-desc_x.ensures.left _ c.take-desc_y.ensures.left _ c.image-image.ensures _ c.take-desc_y.ensures.desc _ _ _ c.put.ensures.value c.run_both-x.ensures.valid_y written_y _ c.take-desc_x.ensures.desc _ _ _ c.put-2.ensures.value c.run_both-x.ensures.valid_x
-          (shorts_written c.shorts_of-samples_x.result c.run_both-x.new.samples_x c.split_at_mut-part_x.result.1.now c.deref_mut.result.now c.split_at_mut-part_x.result.0.now c.deref_mut.ensures.value _ c.deref_mut.ensures.len c.run_both-x.auto.samples_x c.split_at_mut-part_x.ensures.front_len c.split_at_mut-part_x.ensures.back_len _ (ap sample_count places_x ∙ sym c.sample_count.ensures.value) ∙ c.run_both-x.ensures.samples_x);
+      value = both_back (scene c.args.stage.now) n c.args.out1 c.args.out2 c.requires.first c.requires.second c.requires.apart c.requires.function _ c.take-desc_x.ensures.left _ c.take-desc_y.ensures.left _ c.image-image.ensures _ c.take-desc_y.ensures.desc _ _ _ c.put.ensures.value c.write_gradients-x.ensures.valid_y written_y _ c.take-desc_x.ensures.desc _ _ _ c.put-2.ensures.value c.write_gradients-x.ensures.valid_x
+          (ap (λ (d : Description). take (sample_count d) (values c.write_gradients-x.new.samples_x)) places_x ∙ c.write_gradients-x.ensures.samples_x);
       stage = c.put-2.ensures.stage;
-      keeps = put_keeps c.args.stage.now c.put.new.self c.put-2.new.self c.args.out1.name 0 _ _ out c.put-2.ensures.count
-          (shorts_count c.shorts_of-samples_x.result c.run_both-x.new.samples_x c.split_at_mut-part_x.result.1.now c.deref_mut.result.now c.split_at_mut-part_x.result.0.now c.deref_mut.ensures.value _ c.deref_mut.ensures.len c.run_both-x.auto.samples_x c.split_at_mut-part_x.ensures.front_len c.split_at_mut-part_x.ensures.back_len ∙ ap length c.shorts_of-samples_x.ensures) c.take-desc_x.ensures.count;
+      keeps = put_keeps c.args.stage.now c.put.new.self c.put-2.new.self c.args.out1.name 0 _ _ out c.put-2.ensures.count c.write_gradients-x.ensures.count_x c.take-desc_x.ensures.count;
     }
