@@ -3,4 +3,6 @@ mod DepthLaws
 mod BlockLaws
 mod LaneLaws
 mod ScaleLaws
+mod ShortLaws
+mod NarrowLaws
 mod StoreLaws

@@ -24,23 +24,23 @@ far a p some large =
     let next : suc a / p ≡ suc ((suc a - p) / p) = omega (arith, less) in
     ap (λ z. shr_z z p) e ∙ sym (ap (λ n. neg_ℤ (pos n)) next)
 
-below_zero : (z : ℤ) (p : ℕ) → int_lt z (pos 0) ≡ true → 0 < p → shr_z (z +ℤ pos (p - 1)) p ≡ int_div z (pos p)
+pub below_zero : (z : ℤ) (p : ℕ) → int_lt z (pos 0) ≡ true → 0 < p → shr_z (z +ℤ pos (p - 1)) p ≡ int_div z (pos p)
 below_zero (pos a) p below some = absurd (grind (arith, nat_tests, below))
 below_zero (negsuc a) p below some = elim (cases_lt (suc a) p) [
   | inl small ↦ near a p small
   | inr large ↦ far a p some large
 ]
 
-from_zero : (z : ℤ) (p : ℕ) → int_lt z (pos 0) ≡ false → shr_z (z +ℤ pos 0) p ≡ int_div z (pos p)
+pub from_zero : (z : ℤ) (p : ℕ) → int_lt z (pos 0) ≡ false → shr_z (z +ℤ pos 0) p ≡ int_div z (pos p)
 from_zero (pos a) p above = let e : pos a +ℤ pos 0 ≡ pos a = omega (arith, ints) in ap (λ z. shr_z z p) e
 from_zero (negsuc a) p above = absurd (cc above)
 
 -- ---- in 32 bits
 
-shift_fits : (z : ℤ) (p : ℕ) → FitsSigned w32 z → FitsSigned w32 (shr_z z p)
+pub shift_fits : (z : ℤ) (p : ℕ) → FitsSigned w32 z → FitsSigned w32 (shr_z z p)
 shift_fits z p f = let e = mag_shr z p in record { sfits = omega (arith, e, f.sfits) }
 
-sum_fits : (z : ℤ) (n : ℕ) → unsigned_abs z ≤ 1073741824 → n < 32768 → FitsSigned w32 (z +ℤ pos n)
+pub sum_fits : (z : ℤ) (n : ℕ) → unsigned_abs z ≤ 1073741824 → n < 32768 → FitsSigned w32 (z +ℤ pos n)
 sum_fits (pos a) n size small = record { sfits = omega (arith, size, small) }
 sum_fits (negsuc a) n size small = elim (cases_lt n (suc a)) [
   | inl less ↦ (let e : negsuc a +ℤ pos n ≡ negsuc (a - n) = omega (arith, ints, less) in subst (FitsSigned w32) (sym e) (record { sfits = omega (arith, size) }))
@@ -54,16 +54,20 @@ in_bits z d p f g =
     ∙ to_z-of_z w32 (shr_z (z +ℤ d) p) (shift_fits (z +ℤ d) p g)
 
 -- 1 shifted up, less 1
-all_ones : (k : ℕ) → k ≤ 15 → to_z w32 (of_z w32 (to_z w32 (1 * 2 ^ k % 4294967296) -ℤ pos 1)) ≡ pos (2 ^ k - 1)
-all_ones k small =
+pub ones_below : (k : ℕ) → k ≤ 15 → to_z w32 (1 * 2 ^ k % 4294967296) -ℤ pos 1 ≡ pos (2 ^ k - 1)
+ones_below k small =
     let power : 2 ^ k ≤ 32768 = pow-le-pow_right (omega arith) small in
     let some : 0 < 2 ^ k = pow_pos k in
     let once : 1 * 2 ^ k ≡ 2 ^ k = omega arith in
     let whole : 1 * 2 ^ k % 4294967296 ≡ 2 ^ k = mod-eq_of_lt (omega (arith, power, once)) ∙ once in
-    let less : pos (2 ^ k) -ℤ pos 1 ≡ pos (2 ^ k - 1) = omega (arith, ints, some) in
-    ap (λ n. to_z w32 (of_z w32 (to_z w32 n -ℤ pos 1))) whole
-    ∙ ap (λ z. to_z w32 (of_z w32 (z -ℤ pos 1))) (to_z_pos w32 (2 ^ k) (omega (arith, power)))
-    ∙ ap (λ z. to_z w32 (of_z w32 z)) less
+    ap (λ n. to_z w32 n -ℤ pos 1) whole
+    ∙ ap (λ z. z -ℤ pos 1) (to_z_pos w32 (2 ^ k) (omega (arith, power)))
+    ∙ omega (arith, ints, some)
+
+all_ones : (k : ℕ) → k ≤ 15 → to_z w32 (of_z w32 (to_z w32 (1 * 2 ^ k % 4294967296) -ℤ pos 1)) ≡ pos (2 ^ k - 1)
+all_ones k small =
+    let power : 2 ^ k ≤ 32768 = pow-le-pow_right (omega arith) small in
+    ap (λ z. to_z w32 (of_z w32 z)) (ones_below k small)
     ∙ to_z-of_z w32 (pos (2 ^ k - 1)) (record { sfits = omega (arith, power) })
 
 same_test : (z : ℤ) (b : Bool) → FitsSigned w32 z → int_lt (to_z w32 (of_z w32 z)) (pos 0) ≡ b → int_lt z (pos 0) ≡ b

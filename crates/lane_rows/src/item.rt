@@ -1,5 +1,9 @@
 //! The numbers that rows hold.
-ghost use Rattle.std.specs.Prelude.{◌≡◌, ℤ, pos};
+ghost use Rattle.std.specs.Prelude.{◌≡◌, ℤ, pos, map, length, FitsSigned};
+ghost use Rattle.std.specs.Int.{w16};
+ghost use Rattle.std.specs.Simd.Lanes.{Each1};
+
+use std::simd::prelude::*;
 
 /// A number type of a row's items.
 pub trait Item: Copy {
@@ -20,16 +24,34 @@ pub trait Short: Item {
     /// The same number as an S16 sample.
     fn short(self) -> i16
         ensures { result ≡ Self.value self };
+
+    /// Sixteen of them as S16 samples.
+    fn shorts(block: &[Self]) -> i16x16
+        requires { length block.now ≡ 16 }
+        ensures value { result ≡ map Self.value block.now }
+        ensures fits { Each1 (FitsSigned w16) result };
 }
 
 impl Short for u8 {
     fn short(self) -> i16 {
         i16::from(self)
     }
+
+    fn shorts(block: &[u8]) -> i16x16 {
+        u8x16::from_slice(block).cast::<i16>()
+    }
 }
 
 impl Short for i16 {
     fn short(self) -> i16 {
         self
+    }
+
+    fn shorts(block: &[i16]) -> i16x16 {
+        // What is read fits its type; the compiler leaves the loop out.
+        for sample in block {
+            let _item = *sample;
+        }
+        i16x16::from_slice(block)
     }
 }

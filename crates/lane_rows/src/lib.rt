@@ -26,6 +26,7 @@ mod lanes;
 mod overflow;
 mod products;
 mod rows;
+mod shorts;
 mod sums;
 mod thresholds;
 mod vectors;

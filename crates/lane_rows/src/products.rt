@@ -8,7 +8,8 @@ ghost use Rattle.vx_base.specs.Pixelwise.{product};
 use crate::item::Short;
 use crate::lanes::{LanesOfPair, zip_lanes};
 use crate::overflow::{Overflow, Saturated, Wrapped, with_overflow};
-use crate::rows::{OfPair, zip_rows};
+use crate::rows::OfPair;
+use crate::shorts::scaled_products as scaled_shorts;
 use crate::vectors::{narrowed, scaled_products};
 use std::simd::prelude::*;
 use vx_base::{Policy, narrow_s16, narrow_u8};
@@ -66,6 +67,33 @@ impl<A: Short, B: Short, P: Overflow> OfPair<A, B, i16> for Product<P> {
     }
 }
 
+/// Writes sixteen products.
+fn write_sixteen<A: Short, B: Short, P: Overflow>(
+    kernel: &Product<P>,
+    first: &[A],
+    second: &[B],
+    out: &mut [i16],
+)
+    requires first_len { length first.now ≡ 16 }
+    requires second_len { length second.now ≡ 16 }
+    requires out_len { length out.old ≡ 16 }
+    ensures { out.new ≡ zip2 (product S16 (P.policy kernel.now.overflow) kernel.now.amount)
+        (map A.value first.now) (map B.value second.now) }
+{
+    let (a, b) = (A::shorts(first), B::shorts(second));
+    scaled_shorts(a, b, kernel.amount, kernel.overflow.policy()).copy_to_slice(out);
+}
+
+impl<A: Short, B: Short, P: Overflow> LanesOfPair<A, B, i16> for Product<P> {
+    fn lanes(&self, first: &[A], second: &[B], out: &mut [i16]) {
+        let (first, first_rest) = first.split_at(16);
+        let (second, second_rest) = second.split_at(16);
+        let (out, out_rest) = out.split_at_mut(16);
+        write_sixteen(self, first, second, out);
+        write_sixteen(self, first_rest, second_rest, out_rest);
+    }
+}
+
 /// Writes the products of the items over 2^amount, rounded to zero and narrowed by the policy.
 pub fn mul_u8(first: &[u8], second: &[u8], amount: u8, policy: Policy, out: &mut [u8])
     requires first_len { length first.now ≡ length out.old }
@@ -95,6 +123,6 @@ pub fn mul_s16<A: Short, B: Short>(
         (map B.value second.now) }
 {
     with_overflow!(policy, overflow => {
-        zip_rows(&Product { overflow, amount }, first, second, out)
+        zip_lanes(&Product { overflow, amount }, first, second, out)
     })
 }

@@ -1,0 +1,252 @@
+-- Numbers of 16 bits in lanes: their products in 32 bits.
+use Rattle.std.proofs.Common.{rules, ◌≡◌, ℕ, ℤ, pos, negsuc, zero, suc, ◌+◌, ◌-◌, ◌*◌, ◌/◌, ◌%◌, ◌^◌, ◌<◌, ◌≤◌, List, [], ◌∷◌, ◌++◌, map, length, replicate, refl, ap, ◌∙◌, sym, subst, arith, w16, w32, FitsSigned, to_z, of_z}
+use Rattle.std.specs.Prelude.{◌*ℤ◌, unsigned_abs}
+use Rattle.std.specs.Int.Signed.{shr_z}
+use Rattle.std.specs.List.{range_with_len}
+use Rattle.std.specs.Simd.Lanes.{zip2, Each1, pick_l, number_l, digits_l}
+use Rattle.std.proofs.lemmas.Int.{ints, to_z-of_z, of_z-to_z, wrapping_mul_is, int_wrap_fits, unsigned_abs-mul, fits_signed_from_abs}
+use Rattle.std.proofs.lemmas.Nat.{mul-le, mul-mod}
+use Rattle.std.proofs.lemmas.Simd.{pick_l_whole, length-zip2}
+use Rattle.std.proofs.lemmas.List.{length-map}
+use Rattle.lane_rows.proofs.ScaleLaws.{shift_fits}
+use mir.Syntax.{Width}
+
+-- ---- lanes as bits
+
+-- numbers that fit are what their bits say
+pub of_bits : (w : Width) (xs : List ℤ) → Each1 (FitsSigned w) xs → map (to_z w) (map (of_z w) xs) ≡ xs
+of_bits w [] ps = refl
+of_bits w (x ∷ xs) ps = cc (to_z-of_z w x ps.0, of_bits w xs ps.1)
+
+pub fit_as_bits : (w : Width) (xs : List ℤ) → Each1 (FitsSigned w) xs → Each1 (FitsSigned w) (map (to_z w) (map (of_z w) xs))
+fit_as_bits w xs ps = subst (Each1 (FitsSigned w)) (sym (of_bits w xs ps)) ps
+
+-- what lanes are that are these numbers
+pub told : (w : Width) (xs ys : List ℤ) → xs ≡ ys → Each1 (FitsSigned w) ys → map (to_z w) (map (of_z w) xs) ≡ ys
+told w xs ys is fits = ap (λ l. map (to_z w) (map (of_z w) l)) is ∙ of_bits w ys fits
+
+-- ---- two lists, an item of each in turn
+
+abbrev weave : List ℕ → List ℕ → List ℕ
+weave [] ys = []
+weave (x ∷ xs) [] = []
+weave (x ∷ xs) (y ∷ ys) = x ∷ y ∷ weave xs ys
+
+abbrev turns : List ℕ
+turns = 0 ∷ 16 ∷ 1 ∷ 17 ∷ 2 ∷ 18 ∷ 3 ∷ 19 ∷ 4 ∷ 20 ∷ 5 ∷ 21 ∷ 6 ∷ 22 ∷ 7 ∷ 23 ∷ 8 ∷ 24 ∷ 9 ∷ 25 ∷ 10 ∷ 26 ∷ 11 ∷ 27 ∷ 12 ∷ 28 ∷ 13 ∷ 29 ∷ 14 ∷ 30 ∷ 15 ∷ 31 ∷ []
+
+woven : (xs ys : List ℕ) → length xs ≡ 16 → length ys ≡ 16 → pick_l 0 (xs ++ ys) turns ≡ weave xs ys
+woven xs ys p q =
+    subst (λ u. pick_l 0 (u ++ ys) turns ≡ weave u ys) (pick_l_whole 0 xs 16 p)
+    (subst (λ v. pick_l 0 (pick_l 0 xs (range_with_len 0 16) ++ v) turns ≡ weave (pick_l 0 xs (range_with_len 0 16)) v) (pick_l_whole 0 ys 16 q) refl)
+
+-- ---- numbers of digits
+
+joined : (xs ys : List ℕ) → number_l 65536 (weave xs ys) ≡ number_l 4294967296 (zip2 (λ x y. x + 65536 * y) xs ys)
+joined [] ys = refl
+joined (x ∷ xs) [] = refl
+joined (x ∷ xs) (y ∷ ys) = let e = joined xs ys in omega (arith, e)
+
+abbrev places : ℕ → ℕ → ℕ
+places p zero = 1
+places p (suc n) = p * places p n
+
+bytes_joined : (n x : ℕ) → x < places 256 n → number_l 256 (digits_l 256 n x) ≡ x
+bytes_joined zero x small = let e : x < 1 = small in omega (arith, e)
+bytes_joined (suc n) x small =
+    let room : x < 256 * places 256 n = small in
+    let e = bytes_joined n (x / 256) (omega (arith, room)) in
+    omega (arith, e)
+
+number_below : (xs : List ℕ) → Each1 (λ x. x < 4294967296) xs → number_l 4294967296 xs < places 4294967296 (length xs)
+number_below [] all = let e : 0 < 1 = omega arith in e
+number_below (x ∷ xs) all =
+    let e = number_below xs all.1 in
+    let f = all.0 in
+    let g : x + 4294967296 * number_l 4294967296 xs < 4294967296 * places 4294967296 (length xs) = omega (arith, e, f) in
+    g
+
+digits_joined : (n : ℕ) (xs : List ℕ) → length xs ≡ n → Each1 (λ x. x < 4294967296) xs → digits_l 4294967296 n (number_l 4294967296 xs) ≡ xs
+digits_joined zero [] long all = refl
+digits_joined (suc n) [] long all = absurd (omega (arith, long))
+digits_joined zero (x ∷ xs) long all = absurd (omega (arith, long))
+digits_joined (suc n) (x ∷ xs) long all =
+    let small : x < 4294967296 = all.0 in
+    let first : (x + 4294967296 * number_l 4294967296 xs) % 4294967296 ≡ x = omega (arith, small) in
+    let rest : (x + 4294967296 * number_l 4294967296 xs) / 4294967296 ≡ number_l 4294967296 xs = omega (arith, small) in
+    cc (first, ap (digits_l 4294967296 n) rest ∙ digits_joined n xs (omega (arith, long)) all.1)
+
+-- ---- one product
+
+wider : (x : ℤ) → FitsSigned w16 x → FitsSigned w32 x
+wider x p = search (rules, ints)
+
+abs_16 : (x : ℤ) → FitsSigned w16 x → unsigned_abs x ≤ 32768
+abs_16 x p = first_of (omega (arith, ints), search (rules, ints), grind (arith, ints))
+
+pub product_size : (a b : ℤ) → FitsSigned w16 a → FitsSigned w16 b → unsigned_abs (a *ℤ b) ≤ 1073741824
+product_size a b p q =
+    let bound : unsigned_abs a * unsigned_abs b ≤ 32768 * 32768 = mul-le (unsigned_abs a) (unsigned_abs b) 32768 32768 (abs_16 a p) (abs_16 b q) in
+    rw (unsigned_abs-mul a b) (omega (arith, bound))
+
+pub size_fits : (z : ℤ) → unsigned_abs z ≤ 1073741824 → FitsSigned w32 z
+size_fits z small = fits_signed_from_abs w32 z (omega (arith, small))
+
+left_of_32 : (n : ℕ) → n % 4294967296 < 4294967296
+left_of_32 n = omega arith
+
+times_lane : (x y : ℤ) → FitsSigned w32 x → FitsSigned w32 y → FitsSigned w32 (x *ℤ y) → (of_z w32 x * of_z w32 y) % 4294967296 ≡ of_z w32 (x *ℤ y)
+times_lane x y p q r =
+    sym (of_z-to_z w32 ((of_z w32 x * of_z w32 y) % 4294967296) (left_of_32 (of_z w32 x * of_z w32 y)))
+    ∙ ap (of_z w32) (wrapping_mul_is w32 x y p q ∙ int_wrap_fits w32 (x *ℤ y) r)
+
+low_bits : (x : ℤ) → FitsSigned w16 x → of_z w32 x % 65536 ≡ of_z w16 x
+low_bits (pos n) p = let e = p.sfits in omega (arith, e)
+low_bits (negsuc n) p = let e = p.sfits in omega (arith, e)
+
+below_shifted : (n : ℕ) → n < 2147483648 → 65536 - suc (n / 65536) ≡ (4294967296 - suc n) / 65536
+below_shifted n small = omega (arith, small)
+
+size_of : (z : ℤ) → FitsSigned w32 z → FitsSigned w32 (shr_z z 65536)
+size_of z p = shift_fits z 65536 p
+
+high_of : (z : ℤ) → FitsSigned w32 z → of_z w16 (shr_z z 65536) ≡ of_z w32 z / 65536
+high_of (pos n) p = refl
+high_of (negsuc n) p = let e = p.sfits in below_shifted n (omega (arith, e))
+
+high_bits : (z : ℤ) → FitsSigned w32 z → of_z w16 (to_z w32 (of_z w32 (shr_z (to_z w32 (of_z w32 z)) 65536))) ≡ of_z w32 z / 65536
+high_bits z p =
+    ap (λ y. of_z w16 (to_z w32 (of_z w32 (shr_z y 65536)))) (to_z-of_z w32 z p)
+    ∙ ap (of_z w16) (to_z-of_z w32 (shr_z z 65536) (shift_fits z 65536 p))
+    ∙ high_of z p
+
+bits_below : (z : ℤ) → FitsSigned w32 z → of_z w32 z < 4294967296
+bits_below (pos n) p = let e = p.sfits in omega (arith, e)
+bits_below (negsuc n) p = let e = p.sfits in omega (arith, e)
+
+-- the bits of a number of 16 bits in 32
+widened : (a : ℤ) → FitsSigned w16 a → of_z w32 (to_z w16 (of_z w16 a)) ≡ of_z w32 a
+widened a p = ap (of_z w32) (to_z-of_z w16 a p)
+
+product_bits : (a b : ℤ) → FitsSigned w16 a → FitsSigned w16 b → (of_z w32 (to_z w16 (of_z w16 a)) * of_z w32 (to_z w16 (of_z w16 b))) % 4294967296 ≡ of_z w32 (a *ℤ b)
+product_bits a b p q =
+    ap (λ x. (x * of_z w32 (to_z w16 (of_z w16 b))) % 4294967296) (widened a p)
+    ∙ ap (λ y. (of_z w32 a * y) % 4294967296) (widened b q)
+    ∙ times_lane a b (wider a p) (wider b q) (size_fits (a *ℤ b) (product_size a b p q))
+
+twice_left : (n : ℕ) → n % 4294967296 % 65536 ≡ n % 65536
+twice_left n = omega arith
+
+low_half : (a b : ℤ) → FitsSigned w16 a → FitsSigned w16 b → (of_z w16 a * of_z w16 b) % 65536 ≡ of_z w32 (a *ℤ b) % 65536
+low_half a b p q =
+    ap (λ x. (x * of_z w16 b) % 65536) (sym (low_bits a p))
+    ∙ ap (λ y. (of_z w32 a % 65536 * y) % 65536) (sym (low_bits b q))
+    ∙ sym (mul-mod (of_z w32 a) (of_z w32 b) 65536)
+    ∙ sym (twice_left (of_z w32 a * of_z w32 b))
+    ∙ ap (λ n. n % 65536) (times_lane a b (wider a p) (wider b q) (size_fits (a *ℤ b) (product_size a b p q)))
+
+high_half : (a b : ℤ) → FitsSigned w16 a → FitsSigned w16 b
+    → of_z w16 (to_z w32 (of_z w32 (shr_z (to_z w32 ((of_z w32 (to_z w16 (of_z w16 a)) * of_z w32 (to_z w16 (of_z w16 b))) % 4294967296)) 65536))) ≡ of_z w32 (a *ℤ b) / 65536
+high_half a b p q =
+    ap (λ n. of_z w16 (to_z w32 (of_z w32 (shr_z (to_z w32 n) 65536)))) (product_bits a b p q)
+    ∙ high_bits (a *ℤ b) (size_fits (a *ℤ b) (product_size a b p q))
+
+two_halves : (n : ℕ) → n % 65536 + 65536 * (n / 65536) ≡ n
+two_halves n = omega arith
+
+-- ---- all of them
+
+-- the lower and the upper 16 bits of the products
+abbrev low_halves : List ℕ → List ℕ → List ℕ
+low_halves xs ys = zip2 (λ x y. (x * y) % 65536) xs ys
+
+abbrev high_halves : ℕ → List ℕ → List ℕ → List ℕ
+high_halves n xs ys =
+    map (λ z. of_z w16 (to_z w32 z)) (zip2 (λ z k. of_z w32 (shr_z (to_z w32 z) (2 ^ k)))
+    (zip2 (λ x y. (x * y) % 4294967296) (map (λ x. of_z w32 (to_z w16 x)) xs) (map (λ y. of_z w32 (to_z w16 y)) ys)) (replicate n 16))
+
+halves_joined : (n : ℕ) (us vs : List ℤ) → length us ≡ n → length vs ≡ n → Each1 (FitsSigned w16) us → Each1 (FitsSigned w16) vs
+    → zip2 (λ x y. x + 65536 * y) (low_halves (map (of_z w16) us) (map (of_z w16) vs)) (high_halves n (map (of_z w16) us) (map (of_z w16) vs)) ≡ map (of_z w32) (zip2 ◌*ℤ◌ us vs)
+halves_joined n [] vs p q f g = refl
+halves_joined n (a ∷ us) [] p q f g = refl
+halves_joined zero (a ∷ us) (b ∷ vs) p q f g = absurd (omega (arith, p))
+halves_joined (suc n) (a ∷ us) (b ∷ vs) p q f g =
+    let one : (of_z w16 a * of_z w16 b) % 65536 + 65536 * of_z w16 (to_z w32 (of_z w32 (shr_z (to_z w32 ((of_z w32 (to_z w16 (of_z w16 a)) * of_z w32 (to_z w16 (of_z w16 b))) % 4294967296)) 65536))) ≡ of_z w32 (a *ℤ b) =
+    ap (λ x. x + 65536 * of_z w16 (to_z w32 (of_z w32 (shr_z (to_z w32 ((of_z w32 (to_z w16 (of_z w16 a)) * of_z w32 (to_z w16 (of_z w16 b))) % 4294967296)) 65536)))) (low_half a b f.0 g.0)
+    ∙ ap (λ y. of_z w32 (a *ℤ b) % 65536 + 65536 * y) (high_half a b f.0 g.0)
+    ∙ two_halves (of_z w32 (a *ℤ b)) in
+    cc (one, halves_joined n us vs (omega (arith, p)) (omega (arith, q)) f.1 g.1)
+
+pub products_fit : (us vs : List ℤ) → Each1 (FitsSigned w16) us → Each1 (FitsSigned w16) vs → Each1 (FitsSigned w32) (zip2 ◌*ℤ◌ us vs)
+products_fit [] vs f g = tt
+products_fit (a ∷ us) [] f g = tt
+products_fit (a ∷ us) (b ∷ vs) f g = (size_fits (a *ℤ b) (product_size a b f.0 g.0), products_fit us vs f.1 g.1)
+
+pub product_sizes : (us vs : List ℤ) → Each1 (FitsSigned w16) us → Each1 (FitsSigned w16) vs → Each1 (λ z. unsigned_abs z ≤ 1073741824) (zip2 ◌*ℤ◌ us vs)
+product_sizes [] vs f g = tt
+product_sizes (a ∷ us) [] f g = tt
+product_sizes (a ∷ us) (b ∷ vs) f g = (product_size a b f.0 g.0, product_sizes us vs f.1 g.1)
+
+each_below : (zs : List ℤ) → Each1 (FitsSigned w32) zs → Each1 (λ x. x < 4294967296) (map (of_z w32) zs)
+each_below [] f = tt
+each_below (z ∷ zs) f = (bits_below z f.0, each_below zs f.1)
+
+-- the high halves fit
+shifted_fits : (z : ℤ) → unsigned_abs z ≤ 1073741824 → FitsSigned w16 (shr_z z 65536)
+shifted_fits (pos n) small = record { sfits = omega (arith, small) }
+shifted_fits (negsuc n) small = record { sfits = omega (arith, small) }
+
+high_fits : (a b : ℤ) → FitsSigned w16 a → FitsSigned w16 b → FitsSigned w16 (to_z w32 (of_z w32 (shr_z (to_z w32 ((of_z w32 (to_z w16 (of_z w16 a)) * of_z w32 (to_z w16 (of_z w16 b))) % 4294967296)) 65536)))
+high_fits a b p q =
+    let size = product_size a b p q in
+    let fits = size_fits (a *ℤ b) size in
+    let is : to_z w32 (of_z w32 (shr_z (to_z w32 ((of_z w32 (to_z w16 (of_z w16 a)) * of_z w32 (to_z w16 (of_z w16 b))) % 4294967296)) 65536)) ≡ shr_z (a *ℤ b) 65536 =
+    ap (λ n. to_z w32 (of_z w32 (shr_z (to_z w32 n) 65536))) (product_bits a b p q)
+    ∙ ap (λ z. to_z w32 (of_z w32 (shr_z z 65536))) (to_z-of_z w32 (a *ℤ b) fits)
+    ∙ to_z-of_z w32 (shr_z (a *ℤ b) 65536) (shift_fits (a *ℤ b) 65536 fits) in
+    subst (FitsSigned w16) (sym is) (shifted_fits (a *ℤ b) size)
+
+pub halves_fit : (n : ℕ) (us vs : List ℤ) → length us ≡ n → Each1 (FitsSigned w16) us → Each1 (FitsSigned w16) vs
+    → Each1 (λ z. FitsSigned w16 (to_z w32 z)) (zip2 (λ z k. of_z w32 (shr_z (to_z w32 z) (2 ^ k))) (zip2 (λ x y. (x * y) % 4294967296) (map (λ x. of_z w32 (to_z w16 x)) (map (of_z w16) us)) (map (λ y. of_z w32 (to_z w16 y)) (map (of_z w16) vs))) (replicate n 16))
+halves_fit n [] vs p f g = tt
+halves_fit n (a ∷ us) [] p f g = tt
+halves_fit zero (a ∷ us) (b ∷ vs) p f g = absurd (omega (arith, p))
+halves_fit (suc n) (a ∷ us) (b ∷ vs) p f g = (high_fits a b f.0 g.0, halves_fit n us vs (omega (arith, p)) f.1 g.1)
+
+length-low : (xs ys : List ℕ) → length xs ≡ 16 → length ys ≡ 16 → length (low_halves xs ys) ≡ 16
+length-low xs ys p q = length-zip2 (λ x y. (x * y) % 65536) xs ys (p ∙ sym q) ∙ p
+
+length-high : (xs ys : List ℕ) → length xs ≡ 16 → length ys ≡ 16 → length (high_halves 16 xs ys) ≡ 16
+length-high xs ys p q =
+    let u = map (λ x. of_z w32 (to_z w16 x)) xs in
+    let v = map (λ y. of_z w32 (to_z w16 y)) ys in
+    let a : length u ≡ 16 = length-map xs (λ x. of_z w32 (to_z w16 x)) ∙ p in
+    let b : length v ≡ 16 = length-map ys (λ y. of_z w32 (to_z w16 y)) ∙ q in
+    let ws = zip2 (λ x y. (x * y) % 4294967296) u v in
+    let c : length ws ≡ 16 = length-zip2 (λ x y. (x * y) % 4294967296) u v (a ∙ sym b) ∙ a in
+    length-map (zip2 (λ z k. of_z w32 (shr_z (to_z w32 z) (2 ^ k))) ws (replicate 16 16)) (λ z. of_z w16 (to_z w32 z))
+    ∙ length-zip2 (λ z k. of_z w32 (shr_z (to_z w32 z) (2 ^ k))) ws (replicate 16 16) c ∙ c
+
+abbrev in_bytes : List ℕ → List ℕ
+in_bytes xs = digits_l 4294967296 16 (number_l 256 (digits_l 256 64 (number_l 65536 xs)))
+
+pub products_are : (us vs : List ℤ) → length us ≡ 16 → length vs ≡ 16 → Each1 (FitsSigned w16) us → Each1 (FitsSigned w16) vs
+    → map (to_z w32) (in_bytes (pick_l 0 (low_halves (map (of_z w16) us) (map (of_z w16) vs) ++ high_halves 16 (map (of_z w16) us) (map (of_z w16) vs)) turns)) ≡ zip2 ◌*ℤ◌ us vs
+products_are us vs p q f g =
+    let xs = map (of_z w16) us in
+    let ys = map (of_z w16) vs in
+    let x_long : length xs ≡ 16 = length-map us (of_z w16) ∙ p in
+    let y_long : length ys ≡ 16 = length-map vs (of_z w16) ∙ q in
+    let zs = zip2 ◌*ℤ◌ us vs in
+    let long : length zs ≡ 16 = length-zip2 ◌*ℤ◌ us vs (p ∙ sym q) ∙ p in
+    let bits_long : length (map (of_z w32) zs) ≡ 16 = length-map zs (of_z w32) ∙ long in
+    let fits = products_fit us vs f g in
+    let small = each_below zs fits in
+    let whole : number_l 65536 (weave (low_halves xs ys) (high_halves 16 xs ys)) ≡ number_l 4294967296 (map (of_z w32) zs) =
+    joined (low_halves xs ys) (high_halves 16 xs ys) ∙ ap (number_l 4294967296) (halves_joined 16 us vs p q f g) in
+    let room : number_l 4294967296 (map (of_z w32) zs) < places 256 64 = subst (λ n. number_l 4294967296 (map (of_z w32) zs) < places 4294967296 n) bits_long (number_below (map (of_z w32) zs) small) in
+    ap (λ l. map (to_z w32) (in_bytes l)) (woven (low_halves xs ys) (high_halves 16 xs ys) (length-low xs ys x_long y_long) (length-high xs ys x_long y_long))
+    ∙ ap (λ n. map (to_z w32) (digits_l 4294967296 16 (number_l 256 (digits_l 256 64 n)))) whole
+    ∙ ap (λ n. map (to_z w32) (digits_l 4294967296 16 n)) (bytes_joined 64 (number_l 4294967296 (map (of_z w32) zs)) room)
+    ∙ ap (map (to_z w32)) (digits_joined 16 (map (of_z w32) zs) bits_long small)
+    ∙ of_bits w32 zs fits

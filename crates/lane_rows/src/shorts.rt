@@ -1,0 +1,93 @@
+//! S16 numbers in 16 lanes.
+ghost use Rattle.std.specs.Prelude.{◌≡◌, ◌≤◌, ◌*ℤ◌, ◌^◌, pos, map, length};
+ghost use Rattle.std.specs.Prelude.{int_div, unsigned_abs, FitsSigned};
+ghost use Rattle.std.specs.Int.{w16, w32};
+ghost use Rattle.std.specs.Simd.Lanes.{zip2, Each1};
+ghost use Rattle.vx_base.specs.declared.format.Format.TheVariants.{S16};
+ghost use Rattle.vx_base.specs.declared.policy.Policy.TheVariants.{Wrap, Saturate};
+ghost use Rattle.vx_base.specs.Sample.{narrow};
+ghost use Rattle.vx_base.specs.Pixelwise.{product};
+
+use std::simd::prelude::*;
+use vx_base::Policy;
+
+/// The products. The two halves of each are computed by themselves: in lanes of 16 bytes a
+/// processor multiplies numbers of 16 bits, and joins the halves, in less time than it takes to
+/// widen the numbers and to multiply them in 32 bits.
+fn products(a: i16x16, b: i16x16) -> i32x16
+    requires a_len { length a ≡ 16 }
+    requires b_len { length b ≡ 16 }
+    requires a_fits { Each1 (FitsSigned w16) a }
+    requires b_fits { Each1 (FitsSigned w16) b }
+    ensures { result ≡ zip2 ◌*ℤ◌ a b }
+{
+    let low = a * b;
+    let high = ((a.cast::<i32>() * b.cast::<i32>()) >> 16).cast::<i16>();
+    let halves = low.shuffle(
+        high,
+        [
+            0, 16, 1, 17, 2, 18, 3, 19, 4, 20, 5, 21, 6, 22, 7, 23, 8, 24, 9, 25, 10, 26, 11, 27,
+            12, 28, 13, 29, 14, 30, 15, 31,
+        ],
+    );
+    i32x16::from_le_bytes(halves.to_le_bytes())
+}
+
+/// The numbers over 2^amount, rounded to zero: to those below 0 is added what makes rounding down
+/// that.
+fn scaled(numbers: i32x16, amount: u8) -> i32x16
+    requires amount { amount ≤ 15 }
+    requires len { length numbers ≡ 16 }
+    requires size { Each1 (λ z. unsigned_abs z ≤ 1073741824) numbers }
+    ensures { result ≡ map (λ z. int_div z (pos (2 ^ amount))) numbers }
+{
+    let rest = i32x16::splat((1 << amount) - 1);
+    let none = i32x16::splat(0);
+    let added = numbers.simd_lt(none).select(rest, none);
+    (numbers + added) >> i32::from(amount)
+}
+
+/// The nearest S16 samples.
+fn clamped(numbers: i32x16) -> i16x16
+    requires len { length numbers ≡ 16 }
+    requires fits { Each1 (FitsSigned w32) numbers }
+    ensures { result ≡ map (narrow S16 Saturate) numbers }
+{
+    numbers
+        .simd_max(i32x16::splat(-32768))
+        .simd_min(i32x16::splat(32767))
+        .cast::<i16>()
+}
+
+/// What is left in 16 bits.
+fn wrapped(numbers: i32x16) -> i16x16
+    requires len { length numbers ≡ 16 }
+    requires fits { Each1 (FitsSigned w32) numbers }
+    ensures { result ≡ map (narrow S16 Wrap) numbers }
+{
+    ((numbers << 16) >> 16).cast::<i16>()
+}
+
+/// The S16 samples that they become.
+fn narrowed(numbers: i32x16, policy: Policy) -> i16x16
+    requires len { length numbers ≡ 16 }
+    requires fits { Each1 (FitsSigned w32) numbers }
+    ensures { result ≡ map (narrow S16 policy) numbers }
+{
+    match policy {
+        Policy::Wrap => wrapped(numbers),
+        Policy::Saturate => clamped(numbers),
+    }
+}
+
+/// The products over 2^amount, rounded to zero and narrowed by the policy.
+pub fn scaled_products(a: i16x16, b: i16x16, amount: u8, policy: Policy) -> i16x16
+    requires amount { amount ≤ 15 }
+    requires a_len { length a ≡ 16 }
+    requires b_len { length b ≡ 16 }
+    requires a_fits { Each1 (FitsSigned w16) a }
+    requires b_fits { Each1 (FitsSigned w16) b }
+    ensures { result ≡ zip2 (product S16 policy amount) a b }
+{
+    narrowed(scaled(products(a, b), amount), policy)
+}
