@@ -1,7 +1,8 @@
 -- Graphs that were found able to run, and are kept as they were verified.
-use Rattle.std.specs.Prelude.{ℕ, ◌≡◌, ◌<◌, Bool, true, false, List, All, None, IfSome}
+use Rattle.std.specs.Prelude.{ℕ, ◌≡◌, ◌<◌, Bool, true, false, List, All, Option, None, IfSome}
 use Rattle.std.specs.BTreeMap.{is_at}
-use Rattle.std.specs.Map.{remove_entry}
+use Rattle.std.specs.Map.{lookup, remove_entry}
+use Rattle.std.specs.Option.{option_map}
 use Rattle.std.specs.Ordering.{nat_cmp}
 use Rattle.object_table.specs.Context.{Context}
 use Rattle.object_table.specs.Named.{object_held}
@@ -26,6 +27,10 @@ pub record IsKept (c : Context) (name : ℕ) (k : Kept) : Type 0 where
 -- all that is kept of a context's graphs is so
 abbrev pub AreKept : Context → List (ℕ × Kept) → Type 0
 AreKept c kept = All (λ k. IsKept c k.0 k.1) kept
+
+-- within how many work bytes the graph of a name was found able to run, where that is kept
+abbrev pub kept_within : ℕ → List (ℕ × Kept) → Option ℕ
+kept_within graph kept = option_map (λ k. k.work) (lookup (is_at (nat_cmp graph)) kept)
 
 -- whether a request asks for a graph's verdict or its run
 abbrev pub runs_graph : Request → Bool

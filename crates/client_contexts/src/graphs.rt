@@ -1,10 +1,6 @@
 //! Requests on graphs: creating them and their virtual images, adding and removing nodes, verifying
 //! and running them.
-ghost use Rattle.std.specs.Prelude.{◌≡◌, true, Some, OnOk};
-ghost use Rattle.std.specs.BTreeMap.{is_at};
-ghost use Rattle.std.specs.Map.{lookup};
-ghost use Rattle.std.specs.Option.{option_map};
-ghost use Rattle.std.specs.Ordering.{nat_cmp};
+ghost use Rattle.std.specs.Prelude.{◌≡◌, ◌≢◌, true, false, Some, OnOk, IfErr};
 ghost use Rattle.vx_base.specs.Graph.{new_graph};
 ghost use Rattle.vx_base.specs.Object.{GraphObject};
 ghost use Rattle.client_model.specs.Graphs.{create_virtual_image, add_node, remove_node};
@@ -12,8 +8,8 @@ ghost use Rattle.client_model.specs.Graphs.{verify_graph, process_graph};
 ghost use Rattle.client_model.specs.Images.{create};
 ghost use Rattle.client_model.specs.States.{KeepsLimits};
 ghost use Rattle.object_table.specs.Blocks.{blocks_in, LendsAtLeast, Balances, KeepsBlocks};
-ghost use Rattle.client_contexts.specs.Kept.{AreKept};
-ghost use Rattle.client_contexts.specs.Steps.{ComesTo, MayComeTo, IsContext, Keeps};
+ghost use Rattle.client_contexts.specs.Kept.{AreKept, kept_within};
+ghost use Rattle.client_contexts.specs.Steps.{ComesTo, MayComeTo, WantsMemory, IsContext, Keeps};
 
 use crate::fault::RequestFault;
 use crate::kept::Kept;
@@ -104,8 +100,11 @@ pub fn verify_graph(
     requires kept { AreKept table.now kept.old.entries }
     ensures comes { MayComeTo (verify_graph limits table.now graph) table.now table.now result }
     ensures kept { AreKept table.now kept.new.entries }
-    ensures found { OnOk result (option_map (λ k. k.work) (lookup (is_at (nat_cmp graph))
-        kept.new.entries) ≡ Some limits.work) }
+    ensures found { OnOk result (kept_within graph kept.new.entries ≡ Some limits.work) }
+
+    // No memory is taken while it is kept.
+    ensures takes { IfErr result (λ fault. WantsMemory fault
+        (kept_within graph kept.old.entries ≢ Some limits.work)) }
 {
     let object = find_named(table, graph, Kind::Graph)?;
     let work = limits.work();
@@ -127,8 +126,8 @@ pub fn verify_graph(
 
 /// Whether it is kept how a graph runs, found within so many work bytes.
 fn is_kept(kept: &BTreeMap<u32, Kept>, graph: u32, work: u64) -> bool
-    ensures { result ≡ true → option_map (λ k. k.work) (lookup (is_at (nat_cmp graph))
-        kept.now.entries) ≡ Some work }
+    ensures kept { result ≡ true → kept_within graph kept.now.entries ≡ Some work }
+    ensures other { result ≡ false → kept_within graph kept.now.entries ≢ Some work }
 {
     match kept.get(&graph) {
         Some(kept) => kept.work == work,
@@ -152,6 +151,7 @@ pub fn process_graph(
     ensures limits { KeepsLimits limits table.new }
     ensures balances { Balances pool.old pool.new table.old.objects table.new.objects }
     ensures kept { AreKept table.new kept.new.entries }
+    ensures found { OnOk result (kept_within graph kept.new.entries ≡ Some limits.work) }
 {
     verify_graph(table, kept, limits, alloc, graph)?;
     let Some(kept) = kept.get(&graph) else {

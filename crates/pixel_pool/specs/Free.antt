@@ -6,6 +6,10 @@ use Rattle.std.specs.List.Sorted.{IsPermutation}
 abbrev pub rooms : {T A : Type 0} → List (Vec T A) → List ℕ
 rooms free = map (λ v. vec_capacity v) free
 
+-- no more blocks of a format are free at once
+abbrev pub most_free : ℕ
+most_free = 16384
+
 -- so many samples fit in one of the rooms
 abbrev pub HasRoom : List ℕ → ℕ → Type 0
 HasRoom free count = Any (λ room. count ≤ room) free

@@ -1,8 +1,8 @@
 //! The blocks of all formats.
-ghost use Rattle.std.specs.Prelude.{◌≡◌, ◌≢◌, [], length, max, pos, replicate, IfOk, OnErr, OnOk};
+ghost use Rattle.std.specs.Prelude.{◌≡◌, ◌≢◌, ◌≤◌, [], length, max, pos, replicate, IfOk, OnErr, OnOk};
 ghost use Rattle.std.specs.Prelude.{IsOk};
 ghost use Rattle.vx_base.specs.Picture.{values, samples_format};
-ghost use Rattle.pixel_pool.specs.Free.{HasRoom, UsesBest, GetsRoom};
+ghost use Rattle.pixel_pool.specs.Free.{HasRoom, UsesBest, GetsRoom, most_free};
 ghost use Rattle.pixel_pool.specs.Pool.{lent_of, rooms_of, blocks_of, HasLent, Lends, GetsBack};
 ghost use Rattle.pixel_pool.specs.Pool.{KeepsLent, KeepsOtherRooms};
 
@@ -79,9 +79,10 @@ impl Pool {
         Ok(samples)
     }
 
-    /// Makes a block that was lent free. Its samples stay as they are. It takes no memory. The
-    /// free blocks of a format have room for at most 67,108,864 samples together, unless it is one
-    /// block: where this one would come beside too many, those before are dropped.
+    /// Makes a block that was lent free. Its samples stay as they are. It takes no memory. At most
+    /// 16,384 blocks of a format are free, and they have room for at most 67,108,864 samples
+    /// together, unless it is one block: where this one would come beside too many, those before
+    /// are dropped.
     pub fn give_back(&mut self, samples: Samples)
         requires { HasLent self.old (samples_format samples) }
         ensures gets_back { GetsBack self.old self.new (samples_format samples) }
@@ -130,7 +131,8 @@ impl Pool {
 
     /// How many blocks of a format are free.
     pub fn free(&self, format: Format) -> usize
-        ensures { result ≡ length (rooms_of self.now format) }
+        ensures count { result ≡ length (rooms_of self.now format) }
+        ensures most { result ≤ most_free }
     {
         match format {
             Format::U8 => self.u8s.free(),

@@ -1,6 +1,6 @@
 //! The blocks of one format.
 ghost use Rattle.std.specs.Prelude.{◌≡◌, ◌≢◌, ◌+◌, ◌≤◌, [], length, max, IfOk, OnErr, OnOk, IsOk};
-ghost use Rattle.pixel_pool.specs.Free.{HasRoom, UsesBest, GetsRoom};
+ghost use Rattle.pixel_pool.specs.Free.{HasRoom, UsesBest, GetsRoom, most_free};
 ghost use Rattle.pixel_pool.specs.Shelf.{block_count};
 
 use crate::free::{best_fit, room_at, take_at};
@@ -9,6 +9,9 @@ use std::marker::Model;
 
 /// For how many samples the free blocks have room together, unless it is one block.
 const KEPT_ROOM: usize = 67_108_864;
+
+/// How many blocks may be free: as many as one client can leave. Each `take` looks at all of them.
+const KEPT_BLOCKS: usize = 16_384;
 
 /// How many blocks are lent, and the free ones, with the sum of their rooms.
 #[derive(Drop)]
@@ -22,7 +25,7 @@ pub struct Shelf<T> {
 impl<T> Model for Shelf<T> {
     ghost use Rattle.std.specs.Prelude.{vec_len, vec_capacity, ◌+◌, ◌≤◌};
     ghost use Rattle.std.specs.Prelude.{◌≡◌};
-    ghost use Rattle.pixel_pool.specs.Free.{rooms, room_in};
+    ghost use Rattle.pixel_pool.specs.Free.{rooms, room_in, most_free};
     ghost use Rattle.pixel_pool.specs.Shelf.{ShelfValue};
 
     ghost Value = { ShelfValue };
@@ -31,7 +34,7 @@ impl<T> Model for Shelf<T> {
 
     // Each block that is lent has a place among the free ones.
     ghost invariant = { λ s. (s.lent + vec_len s.free ≤ vec_capacity s.free)
-        × (s.room ≡ room_in (rooms s.free.items)) };
+        × (s.room ≡ room_in (rooms s.free.items)) × (vec_len s.free ≤ most_free) };
 }
 
 impl<T: Copy + Drop> Shelf<T> {
@@ -63,7 +66,8 @@ impl<T: Copy + Drop> Shelf<T> {
 
     /// How many blocks are free.
     pub fn free(&self) -> usize
-        ensures { result ≡ length self.now.rooms }
+        ensures count { result ≡ length self.now.rooms }
+        ensures most { result ≤ most_free }
     {
         self.free.len()
     }
@@ -114,13 +118,14 @@ impl<T: Copy + Drop> Shelf<T> {
     }
 
     /// Makes a block that was lent free. Its samples stay as they are. Where the free blocks would
-    /// then have too much room, those before are dropped.
+    /// then be too many, or have too much room, those before are dropped.
     pub fn give_back(&mut self, samples: Vec<T>)
         requires { 1 ≤ self.old.lent }
         ensures lent { self.new.lent + 1 ≡ self.old.lent }
         ensures rooms { GetsRoom self.old.rooms self.new.rooms (length samples.items) }
     {
-        if samples.capacity() > KEPT_ROOM.saturating_sub(self.room) {
+        let room_left = KEPT_ROOM.saturating_sub(self.room);
+        if self.free.len() >= KEPT_BLOCKS || samples.capacity() > room_left {
             self.drop_free();
         }
         self.lent -= 1;

@@ -14,6 +14,18 @@ const VERSION: &str = "0.1.0";
 /// The word for the number of bytes that a quota and a work are by default.
 const DEFAULT_BYTES: &str = "268435456";
 
+/// What the server may take beside what its options allow, as its help says it.
+const MEMORY_TAKEN: &str = "\
+Images may take twice their quota, and the graph that runs twice its work bytes. Beside that:
+  free blocks     of images that are gone, which others use again: at most 16384 of each format,
+                  with room for 67108864 samples together, so 469762048 bytes in all
+  kept plans      of each graph that was found able to run, until its nodes change or its name
+                  ends: with its nodes up to 70000 bytes each
+  next picture    the samples whose place the last picture took: at most 268435456 bytes
+  frame, reply    those that it is at
+Free blocks and kept plans are charged to no client. Where memory is refused, free blocks are given
+up; a request that finds none is answered NO_MEMORY.";
+
 /// What a command line asks for.
 #[derive(Clone, Copy, PartialEq, Eq, Debug)]
 pub enum Asked {
@@ -58,6 +70,7 @@ fn serve_command<'a>(alloc: Global) -> Result<Command<'a>, AllocError> {
     );
     Command::new(alloc, "serve")
         .about("Reads request frames from standard input and writes a reply frame for each")
+        .after_help(MEMORY_TAKEN)
         .arg(quota)?
         .arg(work)
 }

@@ -15,7 +15,7 @@ use Rattle.client_contexts.proofs.graphs.verify_graph.Goals as goal
 pub returns-then-is_kept-clause-comes : goal.returns-then-is_kept-clause-comes
 returns-then-is_kept-clause-comes c =
     let t = c.args.table.now in
-    let found = found_kept t c.args.graph c.work-work.result c.args.kept.now.entries c.requires.kept (c.is_kept.ensures c.if-is_kept.true) in
+    let found = found_kept t c.args.graph c.work-work.result c.args.kept.now.entries c.requires.kept (c.is_kept.ensures.kept c.if-is_kept.true) in
     record {
       done =
           kept_verifies c.requires.context.0 t c.args.graph c.in_ok-object.object.now c.requires.context.1 c.in_ok-object.ensures.ok c.args.limits found.0 found.2
