@@ -196,7 +196,7 @@ in_forgotten (o ∷ before) (p ∷ after) x (inr i) = elim (in_forgotten before 
 ]
 
 -- as much lasts of what a run leaves as of what was there, if it does of what the nodes left beside what they began with
-forgotten_lasts : (is : Cell → Operand) (nodes : List Node) (objects after : List Named) → map lasting_named after ≡ map lasting_named (map (begun is nodes) objects)
+pub forgotten_lasts : (is : Cell → Operand) (nodes : List Node) (objects after : List Named) → map lasting_named after ≡ map lasting_named (map (begun is nodes) objects)
     → map lasting_named (forgotten objects after) ≡ map lasting_named objects
 forgotten_lasts is nodes [] [] same = refl
 forgotten_lasts is nodes [] (p ∷ after) same = absurd (cc)

@@ -24,6 +24,7 @@ use Rattle.image_core.specs.Target.{written, IsTarget, SameSlices, Writes}
 use Rattle.image_core.proofs.BandLaws.{all_rows_are, all_written}
 use Rattle.vx_base.specs.Object.{ObjectValue, ImageObject, object_kind, object_format}
 use Rattle.vx_base.specs.Rectangle.{Rectangle}
+use Rattle.object_table.proofs.SlotLemmas.{image_of_kind}
 use Rattle.object_table.specs.Named.{Named}
 use Rattle.object_table.specs.Object.{image_value}
 use Rattle.object_table.specs.Table.{cell_object, image_held}
@@ -69,10 +70,6 @@ module _ (f : ℤ → ℤ → ℤ) (a : ImageValue) (old new : ImageMut) (all : 
 
 -- ---- an output to which a node adds
 
--- an object that is an image is that image
-of_image : (object : ObjectValue) → object_kind object ≡ kind.Image → ImageObject (image_value object) ≡ object
-of_image object e = grind arith
-
 module _ (objects : List Named) (n : Node) (output : Cell) (h : RunsTo objects n output) (sums : accumulates n.function ≡ true) where
   pub writes_image_object : (parameters n.function).output ≡ kind.Image
   writes_image_object = sums_output n.function sums
@@ -86,4 +83,4 @@ module _ (objects : List Named) (n : Node) (output : Cell) (h : RunsTo objects n
   -- it is the image of the samples that are taken out
   pub old_image : (d : Description) (area : Rectangle) (samples : List ℤ) → d ≡ description_of (image_held objects output) → area ≡ (image_held objects output).valid → samples ≡ (image_held objects output).samples
       → ImageObject (image_over d area samples) ≡ cell_object objects output
-  old_image d area samples described valid taken = grind (arith, of_image (cell_object objects output) (h.runs.out_kind ∙ writes_image_object))
+  old_image d area samples described valid taken = grind (arith, image_of_kind (cell_object objects output) (h.runs.out_kind ∙ writes_image_object))

@@ -13,6 +13,7 @@ ghost use Rattle.graph_run.specs.Stage.{IsArranged, scene};
 ghost use Rattle.graph_run.specs.Steps.{Holds, IsRead};
 
 use crate::stage::Stage;
+use crate::step;
 use image_core::{Band, Image, Second};
 use object_table::{Content, Object, Stored};
 use vx_base::{Desc, ObjRef, Rect, Samples};
@@ -28,7 +29,7 @@ impl Stage {
         ensures { ImageObject result ≡ seen rows self.now cell }
     {
         match self.place_of(cell.name()) {
-            Some(at) => self.slots[at].image(),
+            Some(_) => self.image(cell),
             None => part_of(self.table.image(cell), rows),
         }
     }
@@ -82,10 +83,7 @@ fn second_of(object: &Object, rows: Band) -> Second<'_>
 {
     match object.content() {
         Content::Image(stored) => Second::Image(part_of(stored, rows)),
-        Content::Lut(lut) => Second::Lut(lut),
-        Content::Threshold(threshold) => Second::Threshold(*threshold),
-        Content::Convolution(convolution) => Second::Convolution(convolution),
-        _ => unreachable!(),
+        _ => step::second_of(object),
     }
 }
 
