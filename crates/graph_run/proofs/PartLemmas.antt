@@ -1,7 +1,7 @@
 -- The first elements of a list, which are written.
 use Rattle.std.proofs.Common.{◌≡◌, ◌≤◌, ◌+◌, ℤ, Vec, Global, ◌++◌, ◌∙◌, ℕ, List, length, map, pos, take, drop, ap, arith, length-append}
-use Rattle.std.specs.Vec.{with_items}
-use Rattle.std.proofs.lemmas.List.{take-map, take-take, take-append-le, take_all, append_assoc, with_items_is}
+use Rattle.graph_run.proofs.Common.{with_items, take-map, take-append-le, take_all, append_assoc, with_items_is}
+use Rattle.std.proofs.lemmas.List.{take-take}
 
 -- they stand there
 pub first_written : {X : Type 0} (n len : ℕ) (first others items : List X) → length first ≡ n → n ≤ len → take n (take len ((first ++ others) ++ drop (length (first ++ others)) items)) ≡ first

@@ -1,36 +1,12 @@
 -- Nodes that add to the image that they write: its samples are taken out, and put back once they are added to.
-use Rattle.std.proofs.Common.{◌≡◌, ◌*◌, true, ℤ, List, Option, None, refl, sym, ap, ◌∙◌, arith}
-use Rattle.std.specs.Prelude.{◌==◌}
-use Rattle.std.specs.Option.{option_map}
-use Rattle.vx_base.specs.declared.format.Format.{Format}
-use Rattle.vx_base.specs.declared.format.Format.TheVariants.{S16}
-use Rattle.vx_base.specs.declared.function.Function.{Function}
+use Rattle.std.proofs.Common.{◌≡◌, ◌*◌, true, ℤ, List, Option, None, refl, sym, ap, ◌∙◌, arith, ◌==◌, option_map}
+use Rattle.graph_run.proofs.Common.{Format, S16, Function, Node, Cell, Description, takes_formats, parameters, accumulates, ImageValue, description_of, image_over, IsNode, from_two, length-table, Band, ImageMut, all_rows, HaveSameSize, written, Writes, all_written, ObjectValue, ImageObject, object_kind, object_format, Rectangle, image_of_kind, Named, image_value, cell_object, image_held, and_parts, eqb-true, RunsTo}
 use Rattle.vx_base.specs.declared.function.Function.TheVariants.{Accumulate, AccumulateSquare}
 use Rattle.vx_base.specs.declared.kind.Kind.TheVariants as kind
-use Rattle.vx_base.specs.declared.node.Node.{Node}
-use Rattle.vx_base.specs.Cell.{Cell}
-use Rattle.vx_base.specs.Description.{Description}
-use Rattle.vx_base.specs.Formats.{takes_formats}
-use Rattle.vx_base.specs.Function.{parameters, accumulates}
-use Rattle.vx_base.specs.Image.{ImageValue, description_of, image_over}
-use Rattle.vx_base.specs.Node.{IsNode}
-use Rattle.vx_base.specs.Pixelwise.{from_two}
-use Rattle.vx_base.proofs.TableLaws.{length-table}
-use Rattle.image_core.specs.declared.band.Band.{Band}
-use Rattle.image_core.specs.declared.image_mut.ImageMut.{ImageMut}
-use Rattle.image_core.specs.Bands.{all_rows, rows_in}
-use Rattle.image_core.specs.Fits.{HaveSameSize}
-use Rattle.image_core.specs.Target.{written, IsTarget, SameSlices, Writes}
-use Rattle.image_core.proofs.BandLaws.{all_rows_are, all_written}
-use Rattle.vx_base.specs.Object.{ObjectValue, ImageObject, object_kind, object_format}
-use Rattle.vx_base.specs.Rectangle.{Rectangle}
-use Rattle.object_table.proofs.SlotLemmas.{image_of_kind}
-use Rattle.object_table.specs.Named.{Named}
-use Rattle.object_table.specs.Object.{image_value}
-use Rattle.object_table.specs.Table.{cell_object, image_held}
-use Rattle.graph_run.specs.Steps.{RunsTo}
+use Rattle.image_core.specs.Bands.{rows_in}
+use Rattle.image_core.specs.Target.{IsTarget, SameSlices}
+use Rattle.image_core.proofs.BandLaws.{all_rows_are}
 use Rattle.graph_run.proofs.RunLemmas.{has_of_node}
-use Rattle.std.proofs.lemmas.Bool.{and_parts, eqb-true}
 
 -- ---- functions that accumulate
 

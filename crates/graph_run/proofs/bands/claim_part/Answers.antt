@@ -1,18 +1,5 @@
-use Rattle.std.proofs.Common.{◌≡◌, ◌≢◌, ℕ, List, map, refl, ◌∙◌, ap, sym, subst, arith}
-use Rattle.std.specs.Prelude.{Option, Some, IfSome, slice_get, ◌==◌, ◌&&◌, if◌then◌else◌, IsTrue}
-use Rattle.std.specs.Option.{option_map}
-use Rattle.std.proofs.lemmas.Option.{slice_get_within}
-use Rattle.std.specs.List.{AllPairs}
-use Rattle.vx_base.specs.Description.{is_side}
-use Rattle.graph_verify.specs.declared.known.VirtualOutput.{VirtualOutput}
-use Rattle.graph_verify.specs.Members.{In}
-use Rattle.graph_verify.proofs.MemberLemmas.{In-map}
-use Rattle.buffer_plan.specs.Places.{told}
-use Rattle.buffer_plan.specs.Plan.{PlanValue}
-use Rattle.graph_run.specs.declared.stage.Slot.{Slot}
-use Rattle.graph_run.specs.Bands.{output_part}
-use Rattle.graph_run.specs.Slots.{place_of, slot_place, plan_in}
-use Rattle.graph_run.specs.Stage.{HasRoomFor, HoldsVirtual, claimed}
+use Rattle.std.proofs.Common.{◌≡◌, ◌≢◌, ℕ, List, map, refl, ◌∙◌, ap, sym, subst, arith, Option, Some, IfSome, slice_get, ◌==◌, ◌&&◌, if◌then◌else◌, IsTrue, option_map}
+use Rattle.graph_run.proofs.Common.{AllPairs, In, PlanValue, place_of, slice_get_within, is_side, VirtualOutput, In-map, told, Slot, output_part, slot_place, plan_in, HasRoomFor, HoldsVirtual, claimed}
 use Rattle.graph_run.proofs.LinkLaws.{In-from_All}
 use Rattle.graph_run.proofs.SlotLemmas.{HasRoomAt, HasSlots, planned_slots}
 use Rattle.graph_run.proofs.SharingLemmas.{output_at, described_here, output_can_claim, claims_slot, none_claims, undescribed, unplaced, stands_nowhere_else}

@@ -1,10 +1,5 @@
 use Rattle.std.proofs.Common.{◌≡◌, ◌+◌, ◌-◌, ◌*◌, ℤ, List, map, pos, take, drop, length, ap, sym, ◌∙◌, arith}
-use Rattle.std.proofs.lemmas.List.{length-map, map-id}
-use Rattle.vx_base.specs.declared.format.Format.{Format}
-use Rattle.vx_base.specs.Image.{band, at}
-use Rattle.vx_base.specs.Outputs.{node_image}
-use Rattle.vx_base.specs.Picture.{values, samples_format}
-use Rattle.image_core.specs.Second.{second_object}
+use Rattle.graph_run.proofs.Common.{length-map, map-id, Format, band, at, node_image, values, samples_format, second_object}
 use Rattle.graph_run.proofs.BandRowsLemmas.{band_from, band_end, stand_among}
 use Rattle.graph_run.proofs.bands.write_rows.Goals as goal
 

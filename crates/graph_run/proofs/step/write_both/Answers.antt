@@ -1,7 +1,6 @@
 use Rattle.std.proofs.Common.{◌∙◌, length, refl, ap, sym}
-use Rattle.vx_base.specs.Description.{sample_count}
+use Rattle.graph_run.proofs.Common.{sample_count, scene}
 use Rattle.vx_base.specs.declared.output.Output.TheVariants as outputs
-use Rattle.graph_run.specs.Stage.{scene}
 use Rattle.graph_run.proofs.OutputLemmas.{out_is_image, writes_image}
 use Rattle.graph_run.proofs.PairLemmas.{both_back, can_one, can_other, described_one, described_other, reads, reads_value, runs_other, takes_one, takes_other, writes_images, writes_shorts}
 use Rattle.graph_run.proofs.PartLemmas.{shorts_count, shorts_written}

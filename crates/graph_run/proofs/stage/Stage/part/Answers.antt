@@ -1,12 +1,5 @@
 use Rattle.std.proofs.Common.{◌≡◌, ap, sym, subst, ◌∙◌}
-use Rattle.vx_base.specs.Image.{ImageValue, IsImage}
-use Rattle.vx_base.specs.Object.{ImageObject}
-use Rattle.image_core.specs.Bands.{IsInRows}
-use Rattle.object_table.specs.Object.{image_value}
-use Rattle.object_table.specs.Table.{cell_object}
-use Rattle.node_rows.specs.Parts.{part_of}
-use Rattle.graph_run.specs.Bands.{seen_in}
-use Rattle.graph_run.specs.Stage.{scene}
+use Rattle.graph_run.proofs.Common.{ImageValue, IsImage, ImageObject, IsInRows, image_value, cell_object, part_of, seen_in, scene}
 use Rattle.graph_run.proofs.PartSeenLemmas.{as_itself, held_kind, rows_there, part_shown, stands_seen}
 use Rattle.graph_run.proofs.StandingLemmas.{place_is, nowhere, as_image, as_object}
 use Rattle.graph_run.proofs.stage.Stage.part.Goals as goal
