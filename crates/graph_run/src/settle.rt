@@ -162,8 +162,11 @@ fn rows_of(desc: Desc, beside: u16) -> u16
 {
     let width = u32::from(desc.width());
     let rows = (BAND_SAMPLES / width).max(LEAST_ROWS).min(GREATEST_ROWS);
-    let greatest = (GREATEST_BAND_SAMPLES / width).max(LEAST_ROWS).min(GREATEST_ROWS);
-    rows.max(u32::from(beside) * ROWS_FOR_ONE_BESIDE).min(greatest) as u16
+    let greatest = (GREATEST_BAND_SAMPLES / width)
+        .max(LEAST_ROWS)
+        .min(GREATEST_ROWS);
+    rows.max(u32::from(beside) * ROWS_FOR_ONE_BESIDE)
+        .min(greatest) as u16
 }
 
 /// How many rows up and down nodes look together. `None`: one of them looks at all rows.
