@@ -33,7 +33,7 @@ of_each P a b c U8 = a
 of_each P a b c S16 = b
 of_each P a b c U32 = c
 
-once_cells : (p : Cell → Bool) (cs : List Cell) → has_twice cs ≡ false → has_twice (filter p cs) ≡ false
+pub once_cells : (p : Cell → Bool) (cs : List Cell) → has_twice cs ≡ false → has_twice (filter p cs) ≡ false
 once_cells p cs once = ap has_twice (sym (map-id (filter p cs))) ∙ once-filter (λ (c : Cell). c) p cs (ap has_twice (map-id cs) ∙ once)
 
 -- a cell is among the images exactly where it is virtual and a node writes it

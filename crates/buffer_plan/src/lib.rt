@@ -17,4 +17,5 @@ mod lives;
 mod plan;
 mod slots;
 
+pub use lives::steps_before;
 pub use plan::Plan;

@@ -1,24 +1,10 @@
 -- The order in which nodes were added makes no difference.
 use Rattle.std.proofs.Common.{◌≡◌, ℕ, zero, suc, ◌<◌, Bool, false, List, length, map, refl, sym, ap, subst, ◌∙◌, arith}
-use Rattle.std.specs.List.{list_any, AllPairs}
+use Rattle.graph_run.proofs.Common.{list_any, AllPairs, cases_Bool, Node, Cell, Named, Operand, AllIn, writes, OneWriter, resolved, two_writers, one_writer, In-from_any, any-from_In, AllIn-permutation, AllIn-permutation_back, rounds_of_nodes, run_of_graph, WritesNo, label_of}
 use Rattle.std.specs.List.Sorted.{IsPermutation}
-use Rattle.std.proofs.lemmas.Bool.{cases_Bool}
 use Rattle.std.proofs.lemmas.List.Sorted.{length_permutation}
 use Rattle.vx_base.specs.declared.kind.Kind.TheVariants as kind
-use Rattle.vx_base.specs.declared.node.Node.{Node}
-use Rattle.vx_base.specs.Cell.{Cell}
-use Rattle.object_table.specs.Named.{Named}
-use Rattle.graph_verify.specs.declared.operand.Operand.{Operand}
-use Rattle.graph_verify.specs.Members.{AllIn}
-use Rattle.graph_verify.specs.Links.{writes}
 use Rattle.graph_verify.specs.Rounds as cells
-use Rattle.graph_verify.specs.Rounds.{OneWriter}
-use Rattle.graph_verify.specs.Outlines.{resolved}
-use Rattle.graph_verify.specs.Verdict.{two_writers}
-use Rattle.graph_verify.proofs.LinkLemmas.{one_writer}
-use Rattle.graph_verify.proofs.MemberLemmas.{In-from_any, any-from_In, AllIn-permutation, AllIn-permutation_back}
-use Rattle.graph_run.specs.Graph.{rounds_of_nodes, run_of_graph}
-use Rattle.graph_run.specs.Solution.{WritesNo, label_of}
 use Rattle.graph_run.proofs.HeldLaws.{seen}
 use Rattle.graph_run.proofs.NameLaws.{Rising, rising, same_objects}
 use Rattle.graph_run.proofs.NodeLaws.{given_from}

@@ -1,42 +1,10 @@
 -- What nodes find on a stage, beside what they would find if each virtual image were an image of its own from the beginning.
-use Rattle.std.proofs.Common.{◌≡◌, ℕ, true, false, eqb, List, [], ◌∷◌, ◌++◌, map, Option, Some, None, ◌⊎◌, inl, inr, refl, sym, ap, subst, ◌∙◌, arith}
-use Rattle.std.specs.Prelude.{◌==◌, ◌||◌, All, if◌then◌else◌}
-use Rattle.std.specs.List.{flat_map}
-use Rattle.std.specs.Option.{option_map, option_and_then}
-use Rattle.std.proofs.lemmas.Bool.{cases_Bool, eqb-true, eq-eqb, or_left, or_right, or_cases, false_from_ne_true}
+use Rattle.std.proofs.Common.{◌≡◌, ℕ, true, false, eqb, List, [], ◌∷◌, ◌++◌, map, Option, Some, None, ◌⊎◌, inl, inr, refl, sym, ap, subst, ◌∙◌, arith, ◌==◌, ◌||◌, All, if◌then◌else◌, option_map, option_and_then}
+use Rattle.graph_run.proofs.Common.{flat_map, cases_Bool, eqb-true, eq-eqb, or_left, or_right, or_cases, false_from_ne_true, list_any-append, Node, Output, First, Second, VirtualImage, Cell, Description, accumulates, ImageValue, description_of, IsNode, operands, outputs, ObjectValue, ImageObject, VirtualObject, object_kind, node_output, written_in, written_by, in_slot, with_slot, Named, object_held, held, with_object, with_written, VirtualOutput, Operand, Image, Verified, reads, writes, feeds, is_written, has_twice, In, AllIn, operand_of, is_virtual, resolved, two_writers, same_cell-refl, In-outputs, two_writers-permutation, In-left, In-right, In-append, In-from_any, any-from_In, AllIn-permutation, AllIn-permutation_back, is_used, begun, one_by_one, HoldsOperand, IsReady, names_cell, StandsFor, CellsStand, operand_held, label_of, HoldsKind, CanRunNow}
 use Rattle.std.proofs.lemmas.Grind.{flat_map-append}
-use Rattle.std.proofs.lemmas.List.Folds.{list_any-append}
-use Rattle.vx_base.specs.declared.node.Node.{Node}
-use Rattle.vx_base.specs.declared.output.Output.{Output}
-use Rattle.vx_base.specs.declared.output.Output.TheVariants.{First, Second}
 use Rattle.vx_base.specs.declared.kind.Kind.TheVariants as kind
-use Rattle.vx_base.specs.declared.virtual_image.VirtualImage.{VirtualImage}
-use Rattle.vx_base.specs.Cell.{Cell}
-use Rattle.vx_base.specs.Description.{Description}
-use Rattle.vx_base.specs.Function.{accumulates}
-use Rattle.vx_base.specs.Image.{ImageValue, description_of}
-use Rattle.vx_base.specs.Node.{IsNode, operands, outputs}
-use Rattle.vx_base.specs.Object.{ObjectValue, ImageObject, VirtualObject, object_kind}
-use Rattle.vx_base.specs.Outputs.{node_output, written_in, written_by}
-use Rattle.object_table.specs.Delay.{in_slot, with_slot}
-use Rattle.object_table.specs.Named.{Named, object_held, held, with_object, with_written}
-use Rattle.graph_verify.specs.declared.known.VirtualOutput.{VirtualOutput}
-use Rattle.graph_verify.specs.declared.operand.Operand.{Operand}
-use Rattle.graph_verify.specs.declared.operand.Operand.TheVariants.{Image}
-use Rattle.graph_verify.specs.declared.verified.Verified.{Verified}
-use Rattle.graph_verify.specs.Links.{reads, writes, feeds, is_written, has_twice}
-use Rattle.graph_verify.specs.Members.{In, AllIn}
-use Rattle.graph_verify.specs.Operand.{operand_of, is_virtual}
 use Rattle.graph_verify.specs.Order.{InTurn}
-use Rattle.graph_verify.specs.Outlines.{resolved}
-use Rattle.graph_verify.specs.Verdict.{two_writers}
-use Rattle.graph_verify.proofs.LinkLemmas.{same_cell-refl, feeds_is, once_across, In-outputs, two_writers-permutation}
-use Rattle.graph_verify.proofs.MemberLemmas.{In-left, In-right, In-append, In-from_any, any-from_In, AllIn-permutation, AllIn-permutation_back}
-use Rattle.buffer_plan.specs.Lives.{is_used}
-use Rattle.graph_run.specs.Graph.{begun, one_by_one}
-use Rattle.graph_run.specs.Operands.{HoldsOperand, IsReady, names_cell, StandsFor, CellsStand, operand_held}
-use Rattle.graph_run.specs.Solution.{label_of}
-use Rattle.graph_run.specs.Turns.{HoldsKind, CanRunNow}
+use Rattle.graph_verify.proofs.LinkLemmas.{feeds_is, once_across}
 use Rattle.graph_run.proofs.BegunLaws.{begun_under, object_held-begun, labels-begun}
 use Rattle.graph_run.proofs.FoundLemmas.{of_operands}
 use Rattle.graph_run.proofs.HeldLaws.{object_held-with_object, labels-with_written}

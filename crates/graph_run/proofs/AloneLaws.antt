@@ -1,16 +1,7 @@
 -- A graph of one node runs as the node does at once.
 use Rattle.std.proofs.Common.{◌≡◌, ℕ, ◌<◌, true, List, [], ◌∷◌, append-nil, Some, arith}
-use Rattle.std.specs.List.{AllPairs}
-use Rattle.std.proofs.lemmas.Bool.{cases_Bool, eqb-true, or_left}
+use Rattle.graph_run.proofs.Common.{AllPairs, cases_Bool, eqb-true, or_left, Node, Cell, ObjectValue, written_by, Named, object_held, held, with_written, Operand, is_virtual_object, run_of_graph, WritesNo}
 use Rattle.vx_base.specs.declared.kind.Kind.TheVariants as kind
-use Rattle.vx_base.specs.declared.node.Node.{Node}
-use Rattle.vx_base.specs.Cell.{Cell}
-use Rattle.vx_base.specs.Object.{ObjectValue}
-use Rattle.vx_base.specs.Outputs.{written_by}
-use Rattle.object_table.specs.Named.{Named, object_held, held, with_written}
-use Rattle.graph_verify.specs.declared.operand.Operand.{Operand}
-use Rattle.graph_run.specs.Graph.{is_virtual_object, run_of_graph}
-use Rattle.graph_run.specs.Solution.{WritesNo}
 use Rattle.graph_run.proofs.HeldLaws.{labels-with_written}
 use Rattle.graph_run.proofs.NameLaws.{rising}
 use Rattle.graph_run.proofs.NodeLaws.{written_held}

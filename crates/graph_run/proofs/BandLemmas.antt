@@ -1,15 +1,9 @@
 -- Bands of what nodes make of parts, as values.
 use Rattle.std.proofs.Common.{◌≡◌, ◌≤◌, ◌+◌, ◌-◌, ◌*◌, ℕ, ◌++◌, take, drop, length, Option, Some, refl, sym, ap, ◌∙◌, arith}
-use Rattle.std.proofs.lemmas.List.{take-append-le, take_all, length-append, length-take-le}
-use Rattle.vx_base.specs.Description.{Description}
-use Rattle.vx_base.specs.Image.{ImageValue, IsImage, description_of, band, at}
-use Rattle.vx_base.specs.Object.{ObjectValue, ImageObject}
+use Rattle.graph_run.proofs.Common.{take-append-le, take_all, length-append, length-take-le, Description, ImageValue, IsImage, description_of, band, at, ObjectValue, ImageObject, band-append, length-band, first_right, end_right, Strip, IsWithinRows, with_band, RowsAreAs}
+use Rattle.node_rows.specs.Parts.{StandsFor}
 use Rattle.vx_base.proofs.ImageLaws.{whole_band}
-use Rattle.vx_base.proofs.TableLaws.{band-append, length-band}
-use Rattle.node_rows.specs.Parts.{StandsFor, first_right, end_right}
 use Rattle.node_rows.proofs.PartLaws.{band_moved}
-use Rattle.graph_run.specs.declared.bands.Strip.{Strip}
-use Rattle.graph_run.specs.Bands.{IsWithinRows, with_band, RowsAreAs}
 
 -- ---- how far rows are right
 

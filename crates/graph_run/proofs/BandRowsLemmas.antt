@@ -1,15 +1,7 @@
 -- Rows that are written, among the samples of the image to which they belong.
 use Rattle.std.proofs.Common.{◌≡◌, ℕ, ℤ, List, ◌++◌, ◌+◌, ◌*◌, ◌≤◌, length, map, take, drop, Option, sym, ap, ◌∙◌, arith, length-append}
-use Rattle.std.proofs.lemmas.List.{append_assoc, length-take, length-drop, take_all, drop_all, drop-drop, append-nil, map-append, take-map, drop-map}
-use Rattle.vx_base.specs.declared.node.Node.{Node}
-use Rattle.vx_base.specs.declared.output.Output.{Output}
-use Rattle.vx_base.specs.Description.{Description}
-use Rattle.vx_base.specs.Image.{ImageValue, band, at, description_of}
-use Rattle.vx_base.specs.Object.{ObjectValue}
-use Rattle.vx_base.specs.Outputs.{node_image}
-use Rattle.image_core.specs.declared.image_mut.ImageMut.{ImageMut}
-use Rattle.image_core.specs.Fits.{HaveSameSize}
-use Rattle.image_core.specs.Target.{written, Writes}
+use Rattle.graph_run.proofs.Common.{append_assoc, length-take, length-drop, take_all, drop_all, map-append, take-map, drop-map, Node, Output, Description, ImageValue, band, at, description_of, ObjectValue, node_image, ImageMut, HaveSameSize, written, Writes}
+use Rattle.std.proofs.lemmas.List.{drop-drop, append-nil}
 use Rattle.graph_run.proofs.OutputLemmas.{description_kept}
 
 -- rows of what a node makes

@@ -1,24 +1,10 @@
 -- What virtual images are as a run begins and ends.
-use Rattle.std.proofs.Common.{◌≡◌, ℕ, true, false, if◌then◌else◌, eqb, List, [], ◌∷◌, map, drop, refl, sym, ap, subst, ◌∙◌, inl, inr, Option, Some, None, Bool, arith}
-use Rattle.std.specs.Prelude.{◌==◌}
-use Rattle.std.specs.Option.{option_map}
-use Rattle.std.proofs.lemmas.Bool.{cases_Bool}
+use Rattle.std.proofs.Common.{◌≡◌, ℕ, true, false, if◌then◌else◌, eqb, List, [], ◌∷◌, map, drop, refl, sym, ap, subst, ◌∙◌, inl, inr, Option, Some, None, Bool, arith, ◌==◌, option_map}
+use Rattle.graph_run.proofs.Common.{cases_Bool, Node, Cell, ObjectValue, object_kind, in_slot, Named, object_held, with_object, with_written, Operand, In, is_written, operand_of, object_held-map, begun_as, begun, is_virtual_object, forgotten, WritesNo, label_of}
 use Rattle.vx_base.specs.declared.kind.Kind.TheVariants as kind
-use Rattle.vx_base.specs.declared.node.Node.{Node}
-use Rattle.vx_base.specs.Cell.{Cell}
-use Rattle.vx_base.specs.Object.{ObjectValue, object_kind}
-use Rattle.object_table.specs.Delay.{in_slot}
-use Rattle.object_table.specs.Named.{Named, object_held, with_object, with_written}
-use Rattle.graph_verify.specs.declared.operand.Operand.{Operand}
-use Rattle.graph_verify.specs.Members.{In}
-use Rattle.graph_verify.specs.Links.{is_written}
-use Rattle.graph_run.specs.Graph.{begun_as, begun, is_virtual_object, forgotten}
-use Rattle.graph_run.specs.Solution.{WritesNo, label_of}
 use Rattle.graph_run.proofs.HeldLaws.{object_held-with_object}
 use Rattle.graph_run.proofs.NameLaws.{Rising, by_names}
-use Rattle.vx_base.specs.declared.kind.Kind.TheVariants as kind
-use Rattle.graph_verify.specs.Operand.{operand_of, is_virtual as is_virtual_operand}
-use Rattle.object_table.proofs.HeldLemmas.{object_held-map}
+use Rattle.graph_verify.specs.Operand.{is_virtual as is_virtual_operand}
 
 -- ---- the begin
 

@@ -1,29 +1,10 @@
 -- What cells hold where one of them is written.
-use Rattle.std.proofs.Common.{◌≡◌, ℕ, IsTrue, List, [], ◌∷◌, Option, Some, None, refl, sym, ap, subst, ◌∙◌, arith}
-use Rattle.std.specs.Prelude.{All, is_some, unwrap_or, IfSome}
-use Rattle.std.specs.List.Sorted.{IsStrictlyIncreasing}
-use Rattle.std.specs.Option.{option_map, option_and_then}
-use Rattle.std.proofs.lemmas.Bool.{eq-eqb, eqb-true}
-use Rattle.std.proofs.lemmas.List.Elements.{All-head, All-tail, All-weaker}
-use Rattle.vx_base.specs.declared.format.Format.TheVariants.{U8}
-use Rattle.vx_base.specs.declared.kind.Kind.{Kind}
+use Rattle.std.proofs.Common.{◌≡◌, ℕ, IsTrue, List, [], ◌∷◌, Option, Some, None, refl, sym, ap, subst, ◌∙◌, arith, All, is_some, unwrap_or, IfSome, option_map, option_and_then}
+use Rattle.graph_run.proofs.Common.{IsStrictlyIncreasing, eq-eqb, eqb-true, All-head, All-tail, All-weaker, U8, Kind, Node, Cell, ImageValue, new_image, ObjectValue, ImageObject, IsObject, object_kind, in_slot, with_slot, Named, object_held, held, with_object, with_written, cell_object, image_held, HoldsImage, names_of, HasObject, map-with_object, with_slot_there, with_slot_beside, Delay, operand_of, operand_held, lasting, lasting_named, Lasts, Holds, TwoSlots, AreApart, HoldsKind}
 use Rattle.vx_base.specs.declared.kind.Kind.TheVariants as kind
-use Rattle.vx_base.specs.declared.node.Node.{Node}
-use Rattle.vx_base.specs.Cell.{Cell}
-use Rattle.vx_base.specs.Image.{ImageValue, new_image}
-use Rattle.vx_base.specs.Object.{ObjectValue, ImageObject, IsObject, object_kind}
-use Rattle.object_table.specs.Delay.{in_slot, with_slot}
-use Rattle.object_table.specs.Named.{Named, object_held, held, with_object, with_written}
-use Rattle.object_table.specs.Table.{cell_object, image_held, HoldsImage}
-use Rattle.object_table.proofs.HeldLemmas.{names_of, HasObject, held_alone, All-with_object, map-with_object}
+use Rattle.object_table.proofs.HeldLemmas.{held_alone, All-with_object}
 use Rattle.object_table.proofs.SkeletonLaws.{IsObject-with_slot}
-use Rattle.object_table.proofs.SlotLemmas.{with_slot_twice, with_slot_there, with_slot_beside}
-use Rattle.graph_verify.specs.declared.operand.Operand.TheVariants.{Delay}
-use Rattle.graph_verify.specs.Operand.{operand_of}
-use Rattle.graph_run.specs.Operands.{operand_held}
-use Rattle.graph_run.specs.Lasting.{lasting, lasting_named, Lasts}
-use Rattle.graph_run.specs.Steps.{Holds, TwoSlots, AreApart}
-use Rattle.graph_run.specs.Turns.{HoldsKind}
+use Rattle.object_table.proofs.SlotLemmas.{with_slot_twice}
 use Rattle.graph_run.proofs.HeldLaws.{object_held-with_object}
 use Rattle.graph_run.proofs.LastingLemmas.{skeletons-last, lasting-with_slot, cell-lasts, Lasts-trans, Lasts-names}
 

@@ -1,26 +1,8 @@
 -- A slot that another image claims.
-use Rattle.std.proofs.Common.{◌≡◌, ◌≢◌, ℕ, zero, suc, ◌⊎◌, true, List, [], ◌∷◌, get_or, set, Option, Some, None, IfSome, refl, sym, ap, subst, ◌∙◌, arith}
-use Rattle.std.specs.Prelude.{All, ◌==◌, if◌then◌else◌, slice_get, take}
-use Rattle.std.specs.Option.{option_map, option_and_then}
-use Rattle.std.specs.Vec.{with_item}
-use Rattle.std.proofs.lemmas.Bool.{cases_Bool, eqb-true, eqb-false, eq-eqb}
-use Rattle.std.proofs.lemmas.Bool.Decides.{nat_tests}
-use Rattle.std.proofs.lemmas.List.Elements.{All-nil, All-cons, All-head, All-tail, All-set, All-take}
-use Rattle.std.proofs.lemmas.List.{length-take-le}
-use Rattle.std.proofs.lemmas.Option.{slice_get-get_or}
-use Rattle.vx_base.specs.declared.virtual_image.VirtualImage.{VirtualImage}
-use Rattle.vx_base.specs.Description.{IsDescription, sample_count}
-use Rattle.vx_base.specs.Image.{IsImage}
-use Rattle.vx_base.specs.Object.{ObjectValue, ImageObject, VirtualObject, IsObject}
-use Rattle.vx_base.specs.Picture.{PictureValue, IsPicture, values, samples_format}
-use Rattle.vx_base.specs.Sample.{IsSample}
+use Rattle.std.proofs.Common.{◌≡◌, ◌≢◌, ℕ, zero, suc, ◌⊎◌, true, List, [], ◌∷◌, get_or, set, Option, Some, None, IfSome, refl, sym, ap, subst, ◌∙◌, arith, All, ◌==◌, if◌then◌else◌, slice_get, take, option_map, option_and_then}
+use Rattle.graph_run.proofs.Common.{with_item, cases_Bool, eqb-true, eqb-false, eq-eqb, nat_tests, All-nil, All-cons, All-head, All-tail, All-set, All-take, length-take-le, slice_get-get_or, VirtualImage, IsDescription, sample_count, IsImage, ObjectValue, ImageObject, VirtualObject, IsObject, values, samples_format, IsSample, Named, object_held, object_held_has, VirtualOutput, Slot, Stage, is_named, standing_image, standing, shown_as, shown, slot_of, holder_at, HoldsVirtual, HasRoomFor, IsStage, claimed}
+use Rattle.vx_base.specs.Picture.{PictureValue, IsPicture}
 use Rattle.vx_base.proofs.PictureLaws.{pictured_image}
-use Rattle.object_table.specs.Named.{Named, object_held}
-use Rattle.object_table.proofs.HeldLemmas.{object_held_has}
-use Rattle.graph_verify.specs.declared.known.VirtualOutput.{VirtualOutput}
-use Rattle.graph_run.specs.declared.stage.Slot.{Slot}
-use Rattle.graph_run.specs.declared.stage.Stage.{Stage}
-use Rattle.graph_run.specs.Stage.{is_named, standing_image, standing, shown_as, shown, slot_of, holder_at, HoldsVirtual, HasRoomFor, IsStage, claimed}
 use Rattle.graph_run.proofs.StageLemmas.{held-shown, alone_at, alone_found}
 
 -- ---- an element that is set

@@ -1,57 +1,13 @@
 -- What a graph that runs in bands leaves in the end, cell by cell.
-use Rattle.std.proofs.Common.{◌≡◌, ℕ, Bool, true, false, eqb, List, [], ◌∷◌, ◌++◌, map, length, Option, Some, None, inl, inr, refl, sym, ap, subst, ◌∙◌, arith}
-use Rattle.std.specs.Prelude.{◌==◌, ◌&&◌, ◌||◌, not, if◌then◌else◌, IsTrue, is_some, is_none, All, IfSome, unwrap_or}
-use Rattle.std.specs.List.Sorted.{IsStrictlyIncreasing}
-use Rattle.std.specs.Option.{option_map, option_and_then}
-use Rattle.std.proofs.lemmas.Bool.{cases_Bool, eqb-true, eq-eqb, and_parts, or_left, or_right, false_from_ne_true}
-use Rattle.vx_base.specs.declared.format.Format.TheVariants.{U8}
-use Rattle.vx_base.specs.declared.kind.Kind.{Kind}
+use Rattle.std.proofs.Common.{◌≡◌, ℕ, Bool, true, false, eqb, List, [], ◌∷◌, ◌++◌, map, length, Option, Some, None, inl, inr, refl, sym, ap, subst, ◌∙◌, arith, ◌==◌, ◌&&◌, ◌||◌, not, if◌then◌else◌, IsTrue, is_some, is_none, All, IfSome, unwrap_or, option_map, option_and_then}
+use Rattle.graph_run.proofs.Common.{IsStrictlyIncreasing, cases_Bool, eqb-true, eq-eqb, and_parts, or_left, or_right, false_from_ne_true, U8, Kind, Node, Output, First, Second, VirtualImage, Cell, cell_of, Description, IsDescription, parameters, accumulates, ImageValue, new_image, description_of, IsNode, is_node, given, outputs, operands, second_kind, ObjectValue, ImageObject, VirtualObject, IsObject, object_kind, node_image, node_output, written_to, written_in, written_from, written_by, SecondHasSize, in_slot, Named, object_held, held, with_written, image_value, cell_object, image_held, HoldsImage, names_of, held_by_name, map-told, VirtualOutput, Operand, Image, Delay, Verified, reads, writes, is_written, In, AllIn, operand_of, resolved, In-from_same, same-from_In, In-left, In-right, In-append, In-from_any, any-from_In, In-from_map, AllIn-permutation, AllIn-permutation_back, CanRun, HasInputs, reach, matrix_in, RunsInBands, HasHeight, final_of, is_target, is_virtual_name, reach_of, rows_beside, begun_as, begun, forgotten, is_virtual_object, one_by_one, rounds_of_nodes, run_of_graph, Lasts, HoldsOperand, names_cell, StandsFor, CellsStand, operand_held, Solves, label_of, HoldsVirtual, AreApart, RunsTo, HoldsKind, CanRunNow}
 use Rattle.vx_base.specs.declared.kind.Kind.TheVariants as kind
-use Rattle.vx_base.specs.declared.node.Node.{Node}
-use Rattle.vx_base.specs.declared.output.Output.{Output}
-use Rattle.vx_base.specs.declared.output.Output.TheVariants.{First, Second}
-use Rattle.vx_base.specs.declared.virtual_image.VirtualImage.{VirtualImage}
-use Rattle.vx_base.specs.Cell.{Cell, cell_of}
-use Rattle.vx_base.specs.Description.{Description, IsDescription}
-use Rattle.vx_base.specs.Function.{parameters, accumulates}
-use Rattle.vx_base.specs.Image.{ImageValue, new_image, description_of}
-use Rattle.vx_base.specs.Node.{IsNode, is_node, given, outputs, operands, second_kind}
-use Rattle.vx_base.specs.Object.{ObjectValue, ImageObject, VirtualObject, IsObject, object_kind}
-use Rattle.vx_base.specs.Outputs.{node_image, node_output, written_to, written_in, written_from, written_by}
 use Rattle.vx_base.proofs.ImageLaws.{new_image_is}
 use Rattle.vx_base.proofs.PictureLaws.{side}
-use Rattle.image_core.specs.Fits.{SecondHasSize}
-use Rattle.object_table.specs.Delay.{in_slot}
-use Rattle.object_table.specs.Named.{Named, object_held, held, with_written}
-use Rattle.object_table.specs.Object.{image_value}
-use Rattle.object_table.specs.Table.{cell_object, image_held, HoldsImage}
-use Rattle.object_table.proofs.HeldLemmas.{names_of, held_by_name}
-use Rattle.object_table.proofs.SkeletonLaws.{map-told}
-use Rattle.graph_verify.specs.declared.known.VirtualOutput.{VirtualOutput}
-use Rattle.graph_verify.specs.declared.operand.Operand.{Operand}
-use Rattle.graph_verify.specs.declared.operand.Operand.TheVariants.{Image, Delay}
-use Rattle.graph_verify.specs.declared.verified.Verified.{Verified}
-use Rattle.graph_verify.specs.Links.{reads, writes, is_written}
-use Rattle.graph_verify.specs.Members.{In, AllIn}
-use Rattle.graph_verify.specs.Operand.{operand_of, is_virtual as is_virtual_operand}
-use Rattle.graph_verify.specs.Outlines.{resolved}
-use Rattle.graph_verify.proofs.LinkLemmas.{In-from_same, same-from_In}
-use Rattle.graph_verify.proofs.MemberLemmas.{In-left, In-right, In-append, In-from_any, any-from_In, In-from_map, AllIn-permutation, AllIn-permutation_back}
-use Rattle.graph_verify.proofs.VerdictLemmas.{CanRun}
-use Rattle.node_rows.specs.Parts.{HasInputs}
-use Rattle.node_rows.specs.Reach.{reach, matrix_in}
-use Rattle.graph_run.proofs.CellLemmas.{kind_there}
-use Rattle.graph_run.specs.Bands.{RunsInBands, HasHeight, final_of, is_target, is_virtual_name, reach_of, rows_beside}
-use Rattle.graph_run.specs.Graph.{begun_as, begun, forgotten, is_virtual_object, one_by_one, rounds_of_nodes, run_of_graph}
-use Rattle.graph_run.specs.Lasting.{Lasts}
-use Rattle.graph_run.specs.Operands.{HoldsOperand, names_cell, StandsFor, CellsStand, operand_held}
-use Rattle.graph_run.specs.Solution.{Solves, label_of}
-use Rattle.graph_run.specs.Stage.{HoldsVirtual}
-use Rattle.graph_run.specs.Steps.{AreApart, RunsTo}
-use Rattle.graph_run.specs.Turns.{HoldsKind, CanRunNow}
+use Rattle.graph_verify.specs.Operand.{is_virtual as is_virtual_operand}
+use Rattle.graph_run.proofs.CellLemmas.{kind_there, there_is, holds_there, one_cell}
 use Rattle.graph_run.proofs.AgreeLemmas.{begin, begins, written_before}
 use Rattle.graph_run.proofs.BegunLaws.{both_held, kept_virtual, labels-begun, labels-forgotten, object_held-forgotten, object_held-unwritten, virtual_as_operand}
-use Rattle.graph_run.proofs.CellLemmas.{there_is, holds_there, one_cell}
 use Rattle.graph_run.proofs.FoundLemmas.{OfOperands, of_operands}
 use Rattle.graph_run.proofs.LastingLemmas.{Lasts-trans, Lasts-names}
 use Rattle.graph_run.proofs.LinkLaws.{All-from_In, In-from_All, reads_second}

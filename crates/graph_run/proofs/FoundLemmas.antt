@@ -1,30 +1,11 @@
 -- What the cells of nodes hold in a table, and what it is to the nodes.
-use Rattle.std.proofs.Common.{◌≡◌, ℕ, ◌<◌, ◌+◌, List, [], ◌∷◌, ◌++◌, map, length, take, get_or, Option, Some, None, IsTrue, ap, subst, arith}
-use Rattle.std.specs.Prelude.{IfSome, unwrap_or, All, Result, Ok, Err, IfErr}
-use Rattle.std.specs.Option.{option_map, option_and_then}
-use Rattle.std.proofs.lemmas.List.{map-append, take_more}
-use Rattle.std.proofs.lemmas.List.Elements.{All-push, All-head, All-tail}
-use Rattle.vx_base.specs.declared.kind.Kind.{Kind}
+use Rattle.std.proofs.Common.{◌≡◌, ℕ, ◌<◌, ◌+◌, List, [], ◌∷◌, ◌++◌, map, length, take, get_or, Option, Some, None, IsTrue, ap, subst, arith, IfSome, unwrap_or, All, Result, Ok, Err, IfErr, option_map, option_and_then}
+use Rattle.graph_run.proofs.Common.{map-append, take_more, All-push, All-head, All-tail, Kind, Node, Numbered, Cell, parameters, operands, second_kind, ObjectValue, in_slot, Named, object_held, All-from_map, Operand, Delay, Verified, linked_nodes, AreOperands, operand_of, operands_of, is_image, verdict, operand_held}
 use Rattle.vx_base.specs.declared.kind.Kind.TheVariants as kind
-use Rattle.vx_base.specs.declared.node.Node.{Node}
-use Rattle.vx_base.specs.declared.numbered.Numbered.{Numbered}
-use Rattle.vx_base.specs.Cell.{Cell}
-use Rattle.vx_base.specs.Function.{parameters}
-use Rattle.vx_base.specs.Node.{operands, with_kind, second_kind}
-use Rattle.vx_base.specs.Object.{ObjectValue}
-use Rattle.object_table.specs.Delay.{in_slot}
-use Rattle.object_table.specs.Named.{Named, object_held}
-use Rattle.object_table.proofs.HeldLemmas.{All-from_map}
+use Rattle.vx_base.specs.Node.{with_kind}
 use Rattle.graph_verify.specs.declared.linked.Linked.{Linked}
-use Rattle.graph_verify.specs.declared.operand.Operand.{Operand}
-use Rattle.graph_verify.specs.declared.operand.Operand.TheVariants.{Delay}
-use Rattle.graph_verify.specs.declared.verified.Verified.{Verified}
 use Rattle.graph_verify.specs.declared.verified.VerifyFault.{VerifyFault}
-use Rattle.graph_verify.specs.Linked.{linked_nodes, AreOperands}
-use Rattle.graph_verify.specs.Operand.{operand_of, operands_of, is_image}
-use Rattle.graph_verify.specs.Verdict.{verdict}
 use Rattle.graph_verify.specs.Verified.{IfRefused}
-use Rattle.graph_run.specs.Operands.{operand_held}
 
 -- ---- what a cell is to a node
 

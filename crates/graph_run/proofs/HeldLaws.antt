@@ -1,17 +1,9 @@
 -- What cells hold after objects are written to some of them.
-use Rattle.std.proofs.Common.{◌≡◌, ℕ, Bool, true, false, ◌&&◌, if◌then◌else◌, eqb, List, [], ◌∷◌, ◌++◌, map, refl, sym, ap, subst, ◌∙◌, inl, inr, Option, Some, None, arith, rules}
-use Rattle.std.specs.Option.{option_map, option_and_then, option_or}
-use Rattle.std.proofs.lemmas.Bool.{cases_Bool, eqb-true, eqb-false}
+use Rattle.std.proofs.Common.{◌≡◌, ℕ, Bool, true, false, ◌&&◌, if◌then◌else◌, eqb, List, [], ◌∷◌, ◌++◌, map, refl, sym, ap, subst, ◌∙◌, inl, inr, Option, Some, None, arith, rules, option_map, option_and_then}
+use Rattle.graph_run.proofs.Common.{cases_Bool, eqb-true, eqb-false, Cell, same_slot, same_cell, ObjectValue, ImageObject, object_kind, in_slot, with_slot, image_value, Named, object_held, held, with_object, with_written, image_of_kind, with_slot_there, with_slot_beside, In, same_cell-true, form_of, form_held, label_of}
+use Rattle.std.specs.Option.{option_or}
 use Rattle.vx_base.specs.declared.kind.Kind.TheVariants as kind
-use Rattle.vx_base.specs.Cell.{Cell, same_slot, same_cell}
-use Rattle.vx_base.specs.Object.{ObjectValue, ImageObject, object_kind}
-use Rattle.object_table.specs.Delay.{in_slot, with_slot}
-use Rattle.object_table.specs.Object.{image_value}
-use Rattle.object_table.specs.Named.{Named, object_held, held, with_object, with_written}
-use Rattle.object_table.proofs.SlotLemmas.{image_of_kind, slot_has_image, with_slot_there, with_slot_beside}
-use Rattle.graph_verify.specs.Members.{In}
-use Rattle.graph_run.specs.Solution.{form_of, form_held, label_of}
-use Rattle.graph_verify.proofs.LinkLemmas.{same_cell-true}
+use Rattle.object_table.proofs.SlotLemmas.{slot_has_image}
 use Rattle.graph_run.proofs.ObjectLaws.{is_delay, shown, is_delay-form, kind-form, form-shown, no_slot}
 
 -- what is seen of what a cell holds

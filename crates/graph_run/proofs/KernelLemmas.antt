@@ -1,17 +1,6 @@
 -- What a kernel wrote is what a node of its function gives.
 use Rattle.std.proofs.Common.{◌≡◌, ap, ◌∙◌}
-use Rattle.vx_base.specs.declared.format.Format.{Format}
-use Rattle.vx_base.specs.declared.format.Format.TheVariants.{S16}
-use Rattle.vx_base.specs.declared.function.Function.{Function}
-use Rattle.vx_base.specs.declared.function.Function.TheVariants.{Sobel}
-use Rattle.vx_base.specs.declared.node.Node.{Node}
-use Rattle.vx_base.specs.declared.output.Output.{Output}
-use Rattle.vx_base.specs.Image.{ImageValue}
-use Rattle.vx_base.specs.Outputs.{image_of_one}
-use Rattle.vx_base.specs.Pixelwise.{from_two, formula_of_two}
-use Rattle.vx_base.specs.Window.{from_nine, formula_of_nine}
-use Rattle.image_core.specs.declared.image_mut.ImageMut.{ImageMut}
-use Rattle.image_core.specs.Target.{Writes}
+use Rattle.graph_run.proofs.Common.{Format, S16, Function, Sobel, Node, Output, ImageValue, image_of_one, from_two, formula_of_two, from_nine, formula_of_nine, ImageMut, Writes}
 use Rattle.image_core.proofs.BandLaws.{written_same}
 
 -- from two images

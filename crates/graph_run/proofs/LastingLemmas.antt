@@ -1,22 +1,8 @@
 -- What lasts of objects as others are written in their places.
-use Rattle.std.proofs.Common.{◌≡◌, ℕ, List, [], ◌∷◌, Option, Some, None, map, get_or, drop, refl, sym, ap, subst, ◌∙◌, arith}
-use Rattle.std.specs.Prelude.{◌==◌}
-use Rattle.std.specs.List.Sorted.{IsStrictlyIncreasing}
-use Rattle.std.specs.Option.{option_map, option_and_then}
-use Rattle.std.proofs.lemmas.Bool.{cases_Bool}
-use Rattle.vx_base.specs.declared.node.Node.{Node}
-use Rattle.vx_base.specs.Cell.{Cell}
-use Rattle.vx_base.specs.Description.{Description}
-use Rattle.vx_base.specs.Image.{ImageValue, image_over, description_of}
-use Rattle.vx_base.specs.Object.{ObjectValue, ImageObject, DelayObject}
-use Rattle.vx_base.specs.Rectangle.{empty}
-use Rattle.object_table.specs.Delay.{in_slot, with_slot}
-use Rattle.object_table.specs.Named.{Named, object_held, held}
-use Rattle.object_table.specs.Skeleton.{skeleton}
+use Rattle.std.proofs.Common.{◌≡◌, ℕ, List, [], ◌∷◌, Option, Some, None, map, get_or, drop, refl, sym, ap, subst, ◌∙◌, arith, ◌==◌, option_map, option_and_then}
+use Rattle.graph_run.proofs.Common.{IsStrictlyIncreasing, cases_Bool, Node, Cell, Description, ImageValue, image_over, description_of, ObjectValue, ImageObject, DelayObject, empty, in_slot, with_slot, Named, object_held, held, skeleton, names_of, map-told, lasting, lasting_named, Lasts}
 use Rattle.object_table.specs.Uses.{nodes_in}
-use Rattle.object_table.proofs.HeldLemmas.{names_of}
-use Rattle.object_table.proofs.SkeletonLaws.{map-told, option_map-told, in_slot-skeleton, skeleton-with_slot}
-use Rattle.graph_run.specs.Lasting.{lasting, lasting_named, Lasts}
+use Rattle.object_table.proofs.SkeletonLaws.{option_map-told, in_slot-skeleton, skeleton-with_slot}
 
 -- ---- of an object
 

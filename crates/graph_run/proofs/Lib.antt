@@ -1,3 +1,4 @@
+mod Common
 pub mod LinkLaws
 pub mod ObjectLaws
 pub mod HeldLaws

@@ -1,14 +1,7 @@
 -- The cells that nodes read and write, and lists of them.
 use Rattle.std.proofs.Common.{◌≡◌, true, false, List, get_or, subst, Some, arith}
-use Rattle.std.specs.List.{list_any, All}
-use Rattle.std.proofs.lemmas.Bool.{or_left, or_right, false_from_ne_true}
-use Rattle.vx_base.specs.declared.node.Node.{Node}
-use Rattle.vx_base.specs.Cell.{Cell, same_cell}
-use Rattle.vx_base.specs.Node.{given}
-use Rattle.graph_verify.specs.Members.{In}
-use Rattle.graph_verify.specs.Links.{reads, writes, is_written}
-use Rattle.graph_verify.proofs.LinkLemmas.{same_cell-refl}
-use Rattle.graph_verify.proofs.MemberLemmas.{In-from_any, any-from_In, In-at, Contains-from_In}
+use Rattle.graph_run.proofs.Common.{list_any, or_left, or_right, false_from_ne_true, Node, Cell, same_cell, given, In, reads, writes, is_written, same_cell-refl, In-from_any, any-from_In, In-at, Contains-from_In}
+use Rattle.std.specs.List.{All}
 
 -- ---- members of lists
 

@@ -1,22 +1,8 @@
 -- What a node writes, cell by cell.
-use Rattle.std.proofs.Common.{◌≡◌, ◌≢◌, Bool, true, false, ◌||◌, if◌then◌else◌, List, [], ◌∷◌, refl, sym, ap, ◌∙◌, inl, inr, Option, Some, None, arith}
-use Rattle.std.specs.Option.{option_map, option_and_then, option_or}
-use Rattle.std.specs.Prelude.{◌⊎◌}
-use Rattle.std.proofs.lemmas.Bool.{cases_Bool, or_left, or_right, or_parts}
+use Rattle.std.proofs.Common.{◌≡◌, ◌≢◌, Bool, true, false, ◌||◌, if◌then◌else◌, List, [], ◌∷◌, refl, sym, ap, ◌∙◌, inl, inr, Option, Some, None, arith, option_map, option_and_then, ◌⊎◌}
+use Rattle.graph_run.proofs.Common.{cases_Bool, or_left, or_right, or_parts, Node, Output, First, Second, Cell, same_cell, outputs, ObjectValue, object_kind, node_output, written_to, written_in, written_from, Named, held, In, writes, has_twice, In-append, same_cell-true, kind_in, form_of, form_held}
+use Rattle.std.specs.Option.{option_or}
 use Rattle.vx_base.specs.declared.kind.Kind.TheVariants as kind
-use Rattle.vx_base.specs.declared.node.Node.{Node}
-use Rattle.vx_base.specs.declared.output.Output.{Output}
-use Rattle.vx_base.specs.declared.output.Output.TheVariants.{First, Second}
-use Rattle.vx_base.specs.Cell.{Cell, same_cell}
-use Rattle.vx_base.specs.Node.{outputs}
-use Rattle.vx_base.specs.Object.{ObjectValue, object_kind}
-use Rattle.vx_base.specs.Outputs.{node_output, written_to, written_in, written_from}
-use Rattle.object_table.specs.Named.{Named, held}
-use Rattle.graph_verify.specs.Members.{In}
-use Rattle.graph_verify.specs.Links.{writes, has_twice}
-use Rattle.graph_run.specs.Solution.{kind_in, form_of, form_held}
-use Rattle.graph_verify.proofs.MemberLemmas.{In-append}
-use Rattle.graph_verify.proofs.LinkLemmas.{same_cell-true}
 use Rattle.graph_run.proofs.ObjectLaws.{is_delay, shown, is_delay-form, not_delay, form-node_output, shown-node_output}
 use Rattle.graph_run.proofs.HeldLaws.{IsWrite, AreWrites, last_to, last_to-append, or_assoc}
 

@@ -1,19 +1,8 @@
 -- What of objects is kept as nodes write: kinds, formats and bins.
-use Rattle.std.proofs.Common.{◌≡◌, ◌≢◌, ℕ, Bool, true, false, [], refl, ap, Option, Some, None}
-use Rattle.std.specs.Prelude.{if◌then◌else◌}
-use Rattle.std.specs.Option.{option_map}
-use Rattle.vx_base.specs.declared.format.Format.{Format}
-use Rattle.vx_base.specs.declared.function.Function.{Function}
-use Rattle.vx_base.specs.declared.function.Function.TheVariants.{NotBits, ConvertDepth, Integral}
+use Rattle.std.proofs.Common.{◌≡◌, ◌≢◌, ℕ, Bool, true, false, [], refl, ap, Option, Some, None, if◌then◌else◌, option_map}
+use Rattle.graph_run.proofs.Common.{Format, Function, NotBits, Node, Output, accumulates, ImageValue, new_image, ObjectValue, ImageObject, DelayObject, object_kind, image_of_one, node_image, beside_first, node_output, in_slot, form_of}
+use Rattle.vx_base.specs.declared.function.Function.TheVariants.{ConvertDepth, Integral}
 use Rattle.vx_base.specs.declared.kind.Kind.TheVariants as kind
-use Rattle.vx_base.specs.declared.node.Node.{Node}
-use Rattle.vx_base.specs.declared.output.Output.{Output}
-use Rattle.vx_base.specs.Function.{accumulates}
-use Rattle.vx_base.specs.Image.{ImageValue, new_image}
-use Rattle.vx_base.specs.Object.{ObjectValue, ImageObject, DelayObject, object_kind}
-use Rattle.vx_base.specs.Outputs.{image_of_one, node_image, beside_first, node_output}
-use Rattle.object_table.specs.Delay.{in_slot}
-use Rattle.graph_run.specs.Solution.{form_of}
 
 -- ---- a delay as a whole
 

@@ -1,43 +1,15 @@
 -- What cells hold, as operands: as a graph begins to run, and as its nodes write.
-use Rattle.std.proofs.Common.{◌≡◌, ◌≢◌, ℕ, Bool, true, false, List, map, refl, sym, ap, subst, ◌∙◌, inl, inr, Option, Some, None, arith}
-use Rattle.std.specs.Prelude.{◌==◌, ◌||◌, not, if◌then◌else◌, option_to_list, slice_get}
-use Rattle.std.specs.Option.{option_map, option_and_then}
-use Rattle.std.specs.List.{list_all, list_any}
+use Rattle.std.proofs.Common.{◌≡◌, ◌≢◌, ℕ, Bool, true, false, List, map, refl, sym, ap, subst, ◌∙◌, inl, inr, Option, Some, None, arith, ◌==◌, ◌||◌, not, if◌then◌else◌, option_to_list, slice_get, option_map, option_and_then}
+use Rattle.graph_run.proofs.Common.{list_all, list_any, cases_Bool, and_parts, or_cases, or_left, or_parts, or_right, Format, Function, Node, Output, VirtualImage, Cell, Description, same_size, parameters, accumulates, ImageValue, description_of, inputs, outputs, ObjectValue, ImageObject, DelayObject, VirtualObject, object_kind, image_of_one, node_image, beside_first, node_output, written_by, in_slot, Named, object_held, held, with_written, skeleton, Operand, Image, Operands, reads, writes, is_written, In, operand_of, operand_kind, operand_format, are_of_one_size, is_virtual, operands_of, outlines, resolved, writes_twice, reads_own_output, node_fault, verdict_on, In-from_same, In-from_any, any-from_In, fails-from_In, In-map, In-right, runs_alone, CanRun, begun_as, begun, HoldsOperand, names_cell, StandsFor, CellsStand, WritesNo}
 use Rattle.std.proofs.lemmas.List.Sums.{AllPass-from_list_all}
-use Rattle.std.proofs.lemmas.Bool.{cases_Bool, and_parts, or_cases, or_left, or_parts, or_right}
-use Rattle.vx_base.specs.declared.format.Format.{Format}
-use Rattle.vx_base.specs.declared.function.Function.{Function}
 use Rattle.vx_base.specs.declared.kind.Kind.TheVariants as kind
-use Rattle.vx_base.specs.declared.node.Node.{Node}
-use Rattle.vx_base.specs.declared.output.Output.{Output}
-use Rattle.vx_base.specs.declared.virtual_image.VirtualImage.{VirtualImage}
-use Rattle.vx_base.specs.Cell.{Cell}
-use Rattle.vx_base.specs.Description.{Description, same_size}
-use Rattle.vx_base.specs.Function.{parameters, accumulates}
-use Rattle.vx_base.specs.Image.{ImageValue, description_of}
-use Rattle.vx_base.specs.Node.{inputs, outputs}
-use Rattle.vx_base.specs.Object.{ObjectValue, ImageObject, DelayObject, VirtualObject, object_kind}
 use Rattle.vx_base.specs.Outline.{Outline, closed}
-use Rattle.vx_base.specs.Outputs.{image_of_one, node_image, beside_first, node_output, written_by}
-use Rattle.object_table.specs.Delay.{in_slot}
-use Rattle.object_table.specs.Named.{Named, object_held, held, with_written}
-use Rattle.object_table.specs.Skeleton.{skeleton}
-use Rattle.graph_verify.specs.declared.operand.Operand.{Operand}
-use Rattle.graph_verify.specs.declared.operand.Operand.TheVariants.{Image, Virtual}
-use Rattle.graph_verify.specs.declared.operand.Operands.{Operands}
+use Rattle.graph_verify.specs.declared.operand.Operand.TheVariants.{Virtual}
 use Rattle.graph_verify.specs.declared.verdict.Verdict.TheVariants.{InvalidFormat, InvalidDimension}
-use Rattle.graph_verify.specs.Links.{reads, writes, is_written}
-use Rattle.graph_verify.specs.Members.{In}
-use Rattle.graph_verify.specs.Operand.{operand_of, operand_kind, operand_format, are_of_one_size, is_virtual, operands_of, written_operands, other_operands}
-use Rattle.graph_verify.specs.Outlines.{outlines, virtual_or_image, as_known, resolved}
-use Rattle.graph_verify.specs.Verdict.{writes_twice, reads_own_output, takes_operands, node_fault, verdict_on, is_loose, reads_loose, adds_to_virtual}
-use Rattle.graph_verify.proofs.LinkLemmas.{In-from_same}
-use Rattle.graph_verify.proofs.MemberLemmas.{In-from_any, any-from_In, fails-from_In, In-map, In-right}
-use Rattle.graph_verify.proofs.NodeVerdictLemmas.{runs_alone, written_described}
-use Rattle.graph_verify.proofs.VerdictLemmas.{CanRun}
-use Rattle.graph_run.specs.Graph.{begun_as, begun}
-use Rattle.graph_run.specs.Operands.{HoldsOperand, names_cell, StandsFor, CellsStand}
-use Rattle.graph_run.specs.Solution.{WritesNo}
+use Rattle.graph_verify.specs.Operand.{written_operands, other_operands}
+use Rattle.graph_verify.specs.Outlines.{virtual_or_image, as_known}
+use Rattle.graph_verify.specs.Verdict.{takes_operands, is_loose, reads_loose, adds_to_virtual}
+use Rattle.graph_verify.proofs.NodeVerdictLemmas.{written_described}
 use Rattle.graph_run.proofs.BegunLaws.{begun_under, object_held-begun}
 use Rattle.graph_run.proofs.HeldLaws.{last_to, map-or, seen-with_written}
 use Rattle.graph_run.proofs.LinkLaws.{In-from_All, reads_first}

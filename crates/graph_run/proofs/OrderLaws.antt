@@ -1,19 +1,9 @@
 -- Running the nodes once, in an order, gives what the rounds give.
 use Rattle.std.proofs.Common.{◌≡◌, ◌<◌, false, List, length, map, sym, ap, subst, ◌∙◌, Option}
-use Rattle.std.specs.List.{AllPairs}
+use Rattle.graph_run.proofs.Common.{AllPairs, Node, Cell, ObjectValue, Named, feeds, IsOrder, two_writers, one_writer, two_writers-permutation, rounds_of_nodes, one_by_one, WritesNo, label_of}
 use Rattle.vx_base.specs.declared.kind.Kind.TheVariants as kind
-use Rattle.vx_base.specs.declared.node.Node.{Node}
-use Rattle.vx_base.specs.Cell.{Cell}
-use Rattle.vx_base.specs.Object.{ObjectValue}
-use Rattle.object_table.specs.Named.{Named}
-use Rattle.graph_verify.specs.Links.{feeds}
-use Rattle.graph_verify.specs.Order.{IsOrder}
-use Rattle.graph_verify.specs.Verdict.{two_writers}
-use Rattle.graph_verify.proofs.LinkLemmas.{one_writer, two_writers-permutation}
 use Rattle.graph_verify.proofs.OrderLemmas.{steps_from_order}
 use Rattle.graph_verify.proofs.SolutionLemmas.{once_through_order}
-use Rattle.graph_run.specs.Graph.{rounds_of_nodes, one_by_one}
-use Rattle.graph_run.specs.Solution.{WritesNo, label_of}
 use Rattle.graph_run.proofs.HeldLaws.{seen}
 use Rattle.graph_run.proofs.NameLaws.{Rising, rising, same_objects}
 use Rattle.graph_run.proofs.RoundLaws.{seen-rounds, labels-rounds, seen-one_by_one, labels-one_by_one}

@@ -1,39 +1,12 @@
 -- What nodes write to an output, whose samples are taken out, and put back once they are written.
-use Rattle.std.proofs.Common.{◌≡◌, ◌*◌, length, true, false, ℤ, List, Option, refl, ap, ◌∙◌, sym, [], Some, None, subst, arith}
-use Rattle.std.specs.Prelude.{unsigned_abs, ◌==◌, IfSome}
+use Rattle.std.proofs.Common.{◌≡◌, ◌*◌, length, true, false, ℤ, List, Option, refl, ap, ◌∙◌, sym, [], Some, None, subst, arith, unsigned_abs, ◌==◌, IfSome, option_map}
+use Rattle.graph_run.proofs.Common.{length-map-range_with_len, ImageValue, IsImage, image_over, description_of, BinsValue, histogram, and_parts, Node, Format, Rectangle, empty, Description, same_size, ObjectValue, ImageObject, IsObject, object_kind, Output, image_of_one, node_image, beside_first, node_output, length-table, ImageMut, all_rows, HaveSameSize, written, Writes, all_written, image_value, with_samples, Kind, parameters, accumulates, Function, NotBits, Cell, Context, with_objects, Named, with_object, cell_object, image_held, HoldsImage, CanRunTo, Holds, IsRead, RunsOn, RunsTo, output_of}
 use Rattle.std.specs.List.{count_by}
-use Rattle.std.proofs.lemmas.List.FromFn.{length-map-range_with_len}
-use Rattle.vx_base.specs.Image.{ImageValue, IsImage, image_over, description_of}
-use Rattle.vx_base.specs.Statistics.{BinsValue, bin_of, is_bin, histogram, valid_samples}
-use Rattle.std.proofs.lemmas.Bool.{and_parts}
-use Rattle.vx_base.specs.declared.node.Node.{Node}
-use Rattle.vx_base.specs.declared.format.Format.{Format}
-use Rattle.vx_base.specs.Rectangle.{Rectangle, empty}
-use Rattle.vx_base.specs.Description.{Description, same_size}
-use Rattle.vx_base.specs.Object.{ObjectValue, ImageObject, IsObject, object_kind}
-use Rattle.vx_base.specs.declared.output.Output.{Output}
-use Rattle.vx_base.specs.Outputs.{image_of_one, node_image, beside_first, node_output}
-use Rattle.vx_base.proofs.TableLaws.{length-table}
+use Rattle.vx_base.specs.Statistics.{bin_of, is_bin, valid_samples}
 use Rattle.vx_base.proofs.ImageLaws.{same_parts}
 use Rattle.graph_run.proofs.OperandLaws.{described_node}
-use Rattle.image_core.specs.declared.image_mut.ImageMut.{ImageMut}
-use Rattle.image_core.specs.Bands.{all_rows}
-use Rattle.image_core.specs.Fits.{HaveSameSize}
-use Rattle.image_core.specs.Target.{written, Writes}
-use Rattle.image_core.proofs.BandLaws.{all_written}
-use Rattle.graph_run.specs.Steps.{CanRunTo, Holds, IsRead, RunsOn, RunsTo, output_of}
-use Rattle.object_table.specs.Object.{image_value, with_samples}
 use Rattle.vx_base.specs.declared.kind.Kind.TheVariants as kind
-use Rattle.std.specs.Option.{option_map}
-use Rattle.vx_base.specs.declared.kind.Kind.{Kind}
-use Rattle.vx_base.specs.Function.{parameters, accumulates}
-use Rattle.vx_base.specs.declared.function.Function.{Function}
-use Rattle.vx_base.specs.declared.function.Function.TheVariants.{NotBits}
 use Rattle.vx_base.proofs.NodeLaws.{takes_no_distribution}
-use Rattle.vx_base.specs.Cell.{Cell}
-use Rattle.object_table.specs.Context.{Context, with_objects}
-use Rattle.object_table.specs.Named.{Named, with_object}
-use Rattle.object_table.specs.Table.{cell_object, image_held, HoldsImage}
 use Rattle.graph_run.proofs.CellLemmas.{object_beside, object_if_beside, hold_beside, image_beside, with_object_twice, object_after, image_after, holds_image}
 
 -- there is a count for each bin

@@ -1,37 +1,8 @@
 -- Nodes that write two outputs at once: the samples of both are taken out, and put back once they are written.
-use Rattle.std.proofs.Common.{◌≡◌, ℕ, true, false, ℤ, List, [], ◌∷◌, Option, Some, None, refl, sym, ap, subst, ◌∙◌, arith}
-use Rattle.std.specs.Prelude.{◌==◌}
-use Rattle.std.specs.Option.{option_map}
-use Rattle.std.proofs.lemmas.Bool.{and_parts, eqb-true, cases_Bool}
+use Rattle.std.proofs.Common.{◌≡◌, ℕ, true, false, ℤ, List, [], ◌∷◌, Option, Some, None, refl, sym, ap, subst, ◌∙◌, arith, ◌==◌, option_map}
+use Rattle.graph_run.proofs.Common.{and_parts, eqb-true, cases_Bool, Format, S16, Function, Sobel, Node, Output, First, Second, Cell, Description, takes_formats, parameters, accumulates, ImageValue, IsImage, description_of, image_over, IsNode, ObjectValue, ImageObject, DelayObject, object_kind, object_format, node_image, beside_first, Rectangle, empty, from_nine, formula_of_nine, ImageMut, all_rows, HaveSameSize, written, Writes, Context, with_objects, with_slot, Named, with_object, image_value, with_samples, cell_object, image_held, HoldsImage, AreApart, TwoSlots, CanRunTo, RunsTo, output_of, with_output}
 use Rattle.std.proofs.lemmas.List.{set_comm}
-use Rattle.vx_base.specs.declared.format.Format.{Format}
-use Rattle.vx_base.specs.declared.format.Format.TheVariants.{S16}
-use Rattle.vx_base.specs.declared.function.Function.{Function}
-use Rattle.vx_base.specs.declared.function.Function.TheVariants.{Sobel}
 use Rattle.vx_base.specs.declared.kind.Kind.TheVariants as kind
-use Rattle.vx_base.specs.declared.node.Node.{Node}
-use Rattle.vx_base.specs.declared.output.Output.{Output}
-use Rattle.vx_base.specs.declared.output.Output.TheVariants.{First, Second}
-use Rattle.vx_base.specs.Cell.{Cell}
-use Rattle.vx_base.specs.Description.{Description}
-use Rattle.vx_base.specs.Formats.{takes_formats}
-use Rattle.vx_base.specs.Function.{parameters, accumulates}
-use Rattle.vx_base.specs.Image.{ImageValue, IsImage, description_of, image_over}
-use Rattle.vx_base.specs.Node.{IsNode}
-use Rattle.vx_base.specs.Object.{ObjectValue, ImageObject, DelayObject, object_kind, object_format}
-use Rattle.vx_base.specs.Outputs.{node_image, beside_first}
-use Rattle.vx_base.specs.Rectangle.{Rectangle, empty}
-use Rattle.vx_base.specs.Window.{from_nine, formula_of_nine}
-use Rattle.image_core.specs.declared.image_mut.ImageMut.{ImageMut}
-use Rattle.image_core.specs.Bands.{all_rows}
-use Rattle.image_core.specs.Fits.{HaveSameSize}
-use Rattle.image_core.specs.Target.{written, Writes}
-use Rattle.object_table.specs.Context.{Context, with_objects}
-use Rattle.object_table.specs.Delay.{with_slot}
-use Rattle.object_table.specs.Named.{Named, with_object}
-use Rattle.object_table.specs.Object.{image_value, with_samples}
-use Rattle.object_table.specs.Table.{cell_object, image_held, HoldsImage}
-use Rattle.graph_run.specs.Steps.{AreApart, TwoSlots, CanRunTo, RunsTo, output_of, with_output}
 use Rattle.graph_run.proofs.KernelLemmas.{gradient_written}
 use Rattle.graph_run.proofs.CellLemmas.{object_beside}
 use Rattle.graph_run.proofs.OutputLemmas.{all_written_is, first_there, reads_image, first_is_image, runs_there, put_back, takes_back, left_described}

@@ -1,31 +1,11 @@
 -- Parts of virtual images that claim their slots: what stands there then.
-use Rattle.std.proofs.Common.{◌≡◌, ◌≢◌, ℕ, zero, suc, ◌+◌, ◌*◌, ◌/◌, ◌<◌, ◌≤◌, true, false, List, [], ◌∷◌, ◌++◌, map, take, length, get_or, set, Some, None, inr, refl, sym, ap, subst, ◌∙◌, arith, mul_comm, le-div_iff_mul-le}
-use Rattle.std.specs.Prelude.{◌==◌, ◌&&◌, IsTrue, slice_get, IfSome}
-use Rattle.std.specs.List.{AllPairs}
-use Rattle.std.proofs.lemmas.Bool.Decides.{nat_tests}
-use Rattle.std.proofs.lemmas.List.{length-map, get_or-map, take_more_set}
-use Rattle.std.proofs.lemmas.List.Elements.{All-map, All-push}
-use Rattle.std.proofs.Math.Nat.{mul-le-mul_right}
-use Rattle.std.proofs.lemmas.Option.{IfSome_then}
-use Rattle.vx_base.specs.declared.node.Node.{Node}
-use Rattle.vx_base.specs.Cell.{Cell, same_cell}
-use Rattle.vx_base.specs.Description.{Description, IsDescription, is_side, sample_count}
-use Rattle.vx_base.specs.Sample.{same_format}
-use Rattle.vx_base.specs.declared.format.Format.{Format}
-use Rattle.object_table.specs.Named.{Named, object_held}
-use Rattle.graph_verify.specs.declared.known.VirtualOutput.{VirtualOutput}
-use Rattle.graph_verify.specs.Links.{writes, is_written}
-use Rattle.graph_verify.specs.Members.{In}
-use Rattle.graph_verify.proofs.MemberLemmas.{In-filter, In-from_filter, In-map, In-from_map, any-map}
-use Rattle.buffer_plan.specs.Lives.{is_used, is_live}
-use Rattle.buffer_plan.specs.Plan.{PlanValue}
-use Rattle.buffer_plan.specs.Slots.{of_format, live_images}
+use Rattle.std.proofs.Common.{◌≡◌, ◌≢◌, ℕ, zero, suc, ◌+◌, ◌*◌, ◌/◌, ◌<◌, ◌≤◌, true, false, List, [], ◌∷◌, ◌++◌, map, take, length, get_or, set, Some, None, inr, refl, sym, ap, subst, ◌∙◌, arith, mul_comm, le-div_iff_mul-le, ◌==◌, ◌&&◌, IsTrue, slice_get, IfSome}
+use Rattle.graph_run.proofs.Common.{AllPairs, nat_tests, length-map, get_or-map, All-map, All-push, mul-le-mul_right, IfSome_then, Node, Cell, same_cell, Description, IsDescription, is_side, sample_count, same_format, Format, Named, object_held, VirtualOutput, writes, is_written, In, In-filter, In-from_filter, In-map, In-from_map, is_used, PlanValue, of_format, Slot, output_part, place_of, strip_plan, plan_in, most_rows, room_of, AreEmpty, AreShared, claimed_at, shown, holder_at, HoldsVirtual, slot_of, AreVirtual}
+use Rattle.std.proofs.lemmas.List.{take_more_set}
+use Rattle.graph_verify.proofs.MemberLemmas.{any-map}
+use Rattle.buffer_plan.specs.Lives.{is_live}
+use Rattle.buffer_plan.specs.Slots.{live_images}
 use Rattle.graph_run.specs.declared.bands.Bands.{Bands}
-use Rattle.graph_run.specs.declared.stage.Slot.{Slot}
-use Rattle.graph_run.specs.Bands.{output_part}
-use Rattle.graph_run.specs.Slots.{place_of, strip_plan, plan_in, most_rows, room_of, AreEmpty, AreShared, claimed_at}
-use Rattle.graph_run.specs.Stage.{shown, holder_at, HoldsVirtual, slot_of}
-use Rattle.graph_run.specs.Turns.{AreVirtual}
 use Rattle.graph_run.proofs.AgreeLemmas.{Keeps}
 use Rattle.graph_run.proofs.SceneLemmas.{IsItsTurn, StandsIn, first_claims, second_claims, slot_kept, found_kept, stands_there, stands_in}
 use Rattle.graph_run.proofs.SharingLemmas.{output_at, AreClaimed, WereWritten, name_of_output}

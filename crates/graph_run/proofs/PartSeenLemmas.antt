@@ -1,29 +1,10 @@
 -- Rows of images that nodes see, as images of their own.
-use Rattle.std.proofs.Common.{◌≡◌, ℕ, ℤ, ◌+◌, ◌-◌, ◌*◌, ◌≤◌, false, List, map, length, take, drop, Option, Some, None, sym, ap, subst, ◌∙◌, arith, zero-add}
-use Rattle.std.specs.Prelude.{IsSome, position}
-use Rattle.std.proofs.lemmas.List.{length-map, drop_at, take_at, take-map, drop-map}
+use Rattle.std.proofs.Common.{◌≡◌, ℕ, ℤ, ◌+◌, ◌-◌, ◌*◌, ◌≤◌, false, List, map, length, take, drop, Option, Some, None, sym, ap, subst, ◌∙◌, arith, zero-add, IsSome, position}
+use Rattle.graph_run.proofs.Common.{length-map, take-map, drop-map, Format, Description, Rectangle, ImageValue, IsImage, image_over, description_of, band, at, ObjectValue, ImageObject, object_kind, band-append, length-band, Band, IsInRows, Cell, Named, object_held, image_value, cell_object, HoldsImage, image_of_kind, part_of, part_is, Slot, Stage, HasRowsIn, part_seen, seen_in, is_virtual_object, is_named, slot_of, IsArranged}
+use Rattle.std.proofs.lemmas.List.{drop_at, take_at}
 use Rattle.vx_base.specs.declared.kind.Kind.TheVariants as kind
-use Rattle.vx_base.specs.declared.format.Format.{Format}
-use Rattle.vx_base.specs.Description.{Description}
-use Rattle.vx_base.specs.Rectangle.{Rectangle}
-use Rattle.vx_base.specs.Image.{ImageValue, IsImage, image_over, description_of, band, at}
-use Rattle.vx_base.specs.Object.{ObjectValue, ImageObject, object_kind}
 use Rattle.vx_base.proofs.ImageLaws.{samples_are_band}
-use Rattle.vx_base.proofs.TableLaws.{band-append, length-band}
-use Rattle.image_core.specs.declared.band.Band.{Band}
-use Rattle.image_core.specs.Bands.{IsInRows}
-use Rattle.vx_base.specs.Cell.{Cell}
-use Rattle.object_table.specs.Named.{Named, object_held}
-use Rattle.object_table.specs.Object.{image_value}
-use Rattle.object_table.specs.Table.{cell_object, HoldsImage}
-use Rattle.object_table.proofs.SlotLemmas.{image_of_kind}
-use Rattle.node_rows.specs.Parts.{part_of, rows_of}
-use Rattle.node_rows.proofs.PartLaws.{part_is}
-use Rattle.graph_run.specs.declared.stage.Slot.{Slot}
-use Rattle.graph_run.specs.declared.stage.Stage.{Stage}
-use Rattle.graph_run.specs.Bands.{HasRowsIn, part_seen, seen_in}
-use Rattle.graph_run.specs.Graph.{is_virtual_object}
-use Rattle.graph_run.specs.Stage.{is_named, slot_of, IsArranged}
+use Rattle.node_rows.specs.Parts.{rows_of}
 use Rattle.graph_run.proofs.CellLemmas.{kind_there}
 use Rattle.graph_run.proofs.ClaimLemmas.{virtual_there}
 use Rattle.graph_run.proofs.StageLemmas.{stands_nowhere, placed_found}

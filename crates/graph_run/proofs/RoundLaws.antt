@@ -1,22 +1,10 @@
 -- Rounds and runs of objects, as rounds and runs of what is seen at each cell.
-use Rattle.std.proofs.Common.{◌≡◌, ℕ, zero, suc, Bool, true, false, List, [], ◌∷◌, map, refl, sym, ap, ◌∙◌, inl, inr, Option, None, arith}
-use Rattle.std.specs.Option.{option_map, option_or}
-use Rattle.std.specs.List.{list_any, flat_map}
-use Rattle.std.proofs.lemmas.Bool.{cases_Bool, or_parts}
-use mathlib.Core.Path.{fun_ext}
+use Rattle.std.proofs.Common.{◌≡◌, ℕ, zero, suc, Bool, true, false, List, [], ◌∷◌, map, refl, sym, ap, ◌∙◌, inl, inr, Option, None, arith, option_map}
+use Rattle.graph_run.proofs.Common.{list_any, flat_map, cases_Bool, or_parts, fun_ext, Node, Cell, ObjectValue, written_from, written_by, Named, held, with_written, In, AllIn, writes, OneWriter, In-from_any, any-from_In, In-from_flat_map, rounds_of_nodes, one_by_one, WritesNo, form_held, label_of}
+use Rattle.std.specs.Option.{option_or}
 use Rattle.vx_base.specs.declared.kind.Kind.TheVariants as kind
-use Rattle.vx_base.specs.declared.node.Node.{Node}
-use Rattle.vx_base.specs.Cell.{Cell}
-use Rattle.vx_base.specs.Object.{ObjectValue}
-use Rattle.vx_base.specs.Outputs.{written_from, written_by}
-use Rattle.object_table.specs.Named.{Named, held, with_written}
-use Rattle.graph_verify.specs.Members.{In, AllIn}
-use Rattle.graph_verify.specs.Links.{writes}
 use Rattle.graph_verify.specs.Rounds as cells
-use Rattle.graph_verify.specs.Rounds.{OneWriter}
-use Rattle.graph_run.specs.Graph.{round_of_nodes, rounds_of_nodes, one_by_one}
-use Rattle.graph_run.specs.Solution.{WritesNo, form_held, label_of}
-use Rattle.graph_verify.proofs.MemberLemmas.{In-from_any, any-from_In, In-from_flat_map}
+use Rattle.graph_run.specs.Graph.{round_of_nodes}
 use Rattle.graph_run.proofs.ObjectLaws.{shown}
 use Rattle.graph_run.proofs.HeldLaws.{seen, AreWrites, last_to, last_to-append, or_assoc, map-or, kind-form_seen, seen-with_written, form-with_written, labels-with_written}
 use Rattle.graph_run.proofs.NodeLaws.{given_from, given_in, shown-given_from, last_written, last_elsewhere, AreWrites-written}

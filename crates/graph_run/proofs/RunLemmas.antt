@@ -1,46 +1,17 @@
 -- Nodes on what their cells hold, and what they write.
-use Rattle.std.proofs.Common.{◌≡◌, ◌≢◌, ℕ, Bool, true, false, List, [], ◌∷◌, ◌++◌, Option, Some, None, refl, sym, ap, subst, ◌∙◌, arith, rules}
-use Rattle.std.specs.Prelude.{All, ◌==◌, ◌&&◌, is_some, is_none, unwrap_or, if◌then◌else◌, IfSome, option_to_list}
-use Rattle.std.specs.List.{list_any, list_all}
-use Rattle.std.specs.List.Sorted.{IsStrictlyIncreasing}
-use Rattle.std.specs.Option.{option_map, option_and_then}
-use Rattle.std.proofs.lemmas.List.Folds.{list_any-append, list_all-append}
-use Rattle.std.proofs.lemmas.Bool.{eq-eqb, and_parts, or_parts}
-use Rattle.vx_base.specs.declared.function.Function.{Function}
-use Rattle.vx_base.specs.declared.output.Output.{Output}
-use Rattle.vx_base.specs.declared.output.Output.TheVariants.{First, Second}
-use Rattle.vx_base.specs.declared.kind.Kind.{Kind}
+use Rattle.std.proofs.Common.{◌≡◌, ◌≢◌, ℕ, Bool, true, false, List, [], ◌∷◌, ◌++◌, Option, Some, None, refl, sym, ap, subst, ◌∙◌, arith, rules, All, ◌==◌, ◌&&◌, is_some, is_none, unwrap_or, if◌then◌else◌, IfSome, option_to_list, option_map, option_and_then}
+use Rattle.graph_run.proofs.Common.{list_any, list_all, IsStrictlyIncreasing, list_any-append, eq-eqb, and_parts, or_parts, Function, Output, First, Second, Kind, Node, Cell, same_cell, cell_of, Description, same_size, parameters, accumulates, ImageValue, IsImage, description_of, extremes, IsNode, is_node, given, outputs, second_kind, ObjectValue, ImageObject, ExtremesObject, IsObject, object_kind, object_format, node_image, beside_first, node_output, written_in, written_by, SecondHasSize, Operands, Operand, has_twice, operand_of, operands_of, operand_format, are_of_one_size, writes_twice, reads_own_output, node_fault, Named, held, with_object, with_written, image_value, object_under, IsUnder, cell_object, image_held, names_of, held_is, node_image_is, lasting, Lasts, operand_held, Holds, AreApart, RunsOn, RunsTo, counted_in, output_of, with_output, HoldsKind, CanRunNow}
+use Rattle.std.proofs.lemmas.List.Folds.{list_all-append}
 use Rattle.vx_base.specs.declared.kind.Kind.TheVariants as kind
-use Rattle.vx_base.specs.declared.node.Node.{Node}
-use Rattle.vx_base.specs.Cell.{Cell, same_cell, cell_of, cell_of}
-use Rattle.vx_base.specs.Description.{Description, same_size}
-use Rattle.vx_base.specs.Function.{parameters, accumulates}
-use Rattle.vx_base.specs.Image.{ImageValue, IsImage, description_of}
-use Rattle.vx_base.specs.Statistics.{extremes}
-use Rattle.vx_base.specs.Node.{IsNode, is_node, has_amount, has_operands, all_named, given, outputs, second_kind}
-use Rattle.vx_base.specs.Object.{ObjectValue, ImageObject, DistributionObject, ExtremesObject, IsObject, object_kind, object_format}
-use Rattle.vx_base.specs.Outputs.{node_image, beside_first, node_output, written_in, written_by}
-use Rattle.image_core.specs.Fits.{SecondHasSize}
-use Rattle.graph_verify.specs.declared.operand.Operands.{Operands}
-use Rattle.graph_verify.specs.declared.operand.Operand.{Operand}
-use Rattle.graph_verify.specs.Links.{has_twice}
-use Rattle.graph_verify.specs.Operand.{operand_of, operands_of, operand_format, are_of_one_size}
-use Rattle.graph_verify.specs.Verdict.{writes_twice, reads_own_output, node_fault}
+use Rattle.vx_base.specs.Node.{has_amount, has_operands, all_named}
+use Rattle.vx_base.specs.Object.{DistributionObject}
 use Rattle.graph_verify.proofs.SuitLemmas.{passed, met, Suits, no_fault_suits}
-use Rattle.object_table.specs.Named.{Named, held, with_object, with_written}
-use Rattle.object_table.specs.Object.{image_value}
-use Rattle.object_table.specs.Table.{object_under, IsUnder, cell_object, image_held}
-use Rattle.object_table.proofs.HeldLemmas.{names_of, held_is}
-use Rattle.graph_run.specs.Lasting.{lasting, Lasts}
-use Rattle.graph_run.specs.Operands.{operand_held}
-use Rattle.graph_run.specs.Steps.{Holds, AreApart, RunsOn, RunsTo, counted_in, output_of, with_output}
-use Rattle.graph_run.specs.Turns.{HoldsKind, CanRunNow}
 use Rattle.graph_run.proofs.FoundLemmas.{OfOperands, of_operands}
 use Rattle.graph_run.proofs.CellLemmas.{object_beside, object_if_beside, holds_beside, hold_beside, image_beside, there_is, kind_there, holds_there, operand_there, Lasts-with_object}
 use Rattle.graph_run.proofs.LastingLemmas.{images-last, Lasts-trans, Lasts-names}
 use Rattle.graph_run.proofs.OutputLemmas.{image_of_object, description_kept, length-histogram}
 use Rattle.graph_run.proofs.OperandLaws.{no_delay_written}
-use Rattle.vx_base.proofs.NodeLaws.{node_image_is, accumulated_image_is}
+use Rattle.vx_base.proofs.NodeLaws.{accumulated_image_is}
 
 -- ---- cells
 

@@ -1,37 +1,7 @@
 -- What nodes find on a stage: as outputs claim their slots, as nodes run, and at the end.
-use Rattle.std.proofs.Common.{◌≡◌, ◌≢◌, ◌<◌, ℕ, Bool, true, false, List, [], ◌∷◌, ◌++◌, map, length, get_or, Option, Some, None, ◌⊎◌, inl, inr, refl, sym, ap, subst, ◌∙◌, arith, ◌+◌, ◌≤◌, take, drop}
-use Rattle.std.specs.Prelude.{◌==◌, slice_get}
-use Rattle.std.specs.List.Sorted.{IsStrictlyIncreasing}
-use Rattle.std.specs.Option.{option_map, option_and_then}
-use Rattle.std.proofs.lemmas.Bool.{cases_Bool, eqb-true, eq-eqb, or_left}
-use Rattle.std.proofs.lemmas.List.Folds.{list_any-append}
-use Rattle.std.proofs.lemmas.List.{take-append-drop, take_more, take_all, drop_more, drop_all}
-use Rattle.std.proofs.lemmas.Option.{slice_get-map}
+use Rattle.std.proofs.Common.{◌≡◌, ◌≢◌, ◌<◌, ℕ, Bool, true, false, List, [], ◌∷◌, ◌++◌, map, length, get_or, Option, Some, None, ◌⊎◌, inl, inr, refl, sym, ap, subst, ◌∙◌, arith, ◌+◌, ◌≤◌, take, drop, ◌==◌, slice_get, option_map, option_and_then}
+use Rattle.graph_run.proofs.Common.{IsStrictlyIncreasing, cases_Bool, eqb-true, eq-eqb, or_left, list_any-append, take-append-drop, take_more, take_all, drop_more, drop_all, slice_get-map, Node, VirtualImage, Cell, written_by, ObjectValue, ImageObject, VirtualObject, object_kind, Named, object_held, held, with_written, names_of, held_by_name, map-told, VirtualOutput, Verified, writes, is_written, In, resolved, In-from_any, is_used, IsPlan, PlanValue, Slot, forgotten, is_virtual_object, one_by_one, run_of_graph, lasting_named, IsReady, operand_held, place_of, room_of, AreEmpty, AreShared, claimed_at, planned_rooms, label_of, is_named, standing_image, shown_as, shown, holder_at, HoldsVirtual, slot_of, fixed, AreVirtual, CanRunNow}
 use Rattle.vx_base.specs.declared.kind.Kind.TheVariants as kind
-use Rattle.vx_base.specs.declared.node.Node.{Node}
-use Rattle.vx_base.specs.declared.virtual_image.VirtualImage.{VirtualImage}
-use Rattle.vx_base.specs.Cell.{Cell}
-use Rattle.vx_base.specs.Outputs.{written_by}
-use Rattle.vx_base.specs.Object.{ObjectValue, ImageObject, VirtualObject, object_kind}
-use Rattle.object_table.specs.Named.{Named, object_held, held, with_written}
-use Rattle.object_table.proofs.HeldLemmas.{names_of, held_by_name}
-use Rattle.object_table.proofs.SkeletonLaws.{map-told}
-use Rattle.graph_verify.specs.declared.known.VirtualOutput.{VirtualOutput}
-use Rattle.graph_verify.specs.declared.verified.Verified.{Verified}
-use Rattle.graph_verify.specs.Links.{writes, is_written}
-use Rattle.graph_verify.specs.Members.{In}
-use Rattle.graph_verify.specs.Outlines.{resolved}
-use Rattle.graph_verify.proofs.MemberLemmas.{In-from_any}
-use Rattle.buffer_plan.specs.Lives.{is_used}
-use Rattle.buffer_plan.specs.Plan.{IsPlan, PlanValue}
-use Rattle.graph_run.specs.declared.stage.Slot.{Slot}
-use Rattle.graph_run.specs.Graph.{forgotten, is_virtual_object, one_by_one, run_of_graph}
-use Rattle.graph_run.specs.Lasting.{lasting_named}
-use Rattle.graph_run.specs.Operands.{IsReady, operand_held}
-use Rattle.graph_run.specs.Slots.{place_of, room_of, AreEmpty, AreShared, claimed_at, planned_rooms}
-use Rattle.graph_run.specs.Solution.{label_of}
-use Rattle.graph_run.specs.Stage.{is_named, standing_image, shown_as, shown, holder_at, HoldsVirtual, slot_of, fixed}
-use Rattle.graph_run.specs.Turns.{AreVirtual, CanRunNow}
 use Rattle.graph_run.proofs.AgreeLemmas.{written_once, Keeps, Agrees, StandsAs, first_output, second_output, output_cases, begin, begins, can_run_here, next_agrees}
 use Rattle.graph_run.proofs.BegunLaws.{both_held, kept_virtual, object_held-forgotten, labels-forgotten}
 use Rattle.graph_run.proofs.ClaimLemmas.{virtual_there}

@@ -33,7 +33,7 @@ use Rattle.node_rows.proofs.PartLaws.{part_is}
 use Rattle.graph_run.specs.declared.bands.Strip.{Strip}
 use Rattle.graph_run.specs.declared.stage.Slot.{Slot}
 use Rattle.graph_run.specs.declared.stage.Stage.{Stage}
-use Rattle.graph_run.specs.Bands.{seen_in, seen, HasRowsIn, HasRows, part_made, SeesParts, IsWithinRows, with_band, made_in, made_seen, HasPlaceIn, IsSeen}
+use Rattle.graph_run.specs.Bands.{ReadsParts, seen_in, seen, HasRowsIn, HasRows, part_made, SeesParts, IsWithinRows, with_band, made_in, made_seen, HasPlaceIn, IsSeen}
 use Rattle.graph_run.specs.Lasting.{lasting, Lasts}
 use Rattle.graph_run.specs.Stage.{is_named, scene, slot_of, IsStage, IsArranged, Keeps}
 use Rattle.graph_run.specs.Steps.{Holds, IsRead, AreApart, CanRunTo}
@@ -236,6 +236,19 @@ module _ (rows : Band) (s : Stage) (n : Node) (output : Cell) (h : SeesParts row
         each : (cell : Option Cell) → IfSome cell (λ c. AreApart c output) → IfSome cell (HasRows rows s) → IfSome cell (HasRows rows t)
         each None apart has = tt
         each (Some cell) apart has = rows_there cell apart has
+
+    pub inputs_there : ReadsParts rows t n
+    inputs_there =
+        record {
+          in1 = first_there;
+          in2 = second_holds;
+          first = first_image;
+          second = second_is;
+          second_kind = second_read;
+          some_rows = h.some_rows;
+          in1_rows = first_rows;
+          in2_rows = second_rows;
+        }
 
     second_seen : option_map (seen rows t) n.in2 ≡ option_map (seen rows s) n.in2
     second_seen = each n.in2 h.in2_apart

@@ -1,28 +1,9 @@
 -- What nodes see of cells in a strip, beside what the cells hold in the end.
-use Rattle.std.proofs.Common.{◌≡◌, ◌≢◌, ℕ, ◌+◌, ◌≤◌, true, List, [], Option, Some, None, ◌⊎◌, inl, inr, IfSome, refl, sym, ap, ◌∙◌, arith}
-use Rattle.std.specs.Prelude.{◌==◌, unwrap_or}
-use Rattle.std.specs.Option.{option_map, option_and_then}
-use Rattle.std.proofs.lemmas.Bool.{and_parts, and_from, eqb-true, eq-eqb}
+use Rattle.std.proofs.Common.{◌≡◌, ◌≢◌, ℕ, ◌+◌, ◌≤◌, true, List, [], Option, Some, None, ◌⊎◌, inl, inr, IfSome, refl, sym, ap, ◌∙◌, arith, ◌==◌, unwrap_or, option_map, option_and_then}
+use Rattle.graph_run.proofs.Common.{and_parts, and_from, eqb-true, eq-eqb, Node, Cell, Description, same_size, parameters, ImageValue, IsImage, description_of, image_over, ObjectValue, ImageObject, IsObject, object_kind, object_format, empty, Band, SecondHasSize, Named, held, image_value, cell_object, image_held, HoldsImage, StandsBeside, part_of, part_is, stands_fewer, Slot, Stage, seen_in, HasRowsIn, right_from, right_to, scene, slot_of, CanRunTo, Holds, IsRead}
+use Rattle.node_rows.specs.Parts.{StandsFor}
 use Rattle.vx_base.specs.declared.kind.Kind.TheVariants as kind
-use Rattle.vx_base.specs.declared.node.Node.{Node}
-use Rattle.vx_base.specs.Cell.{Cell}
-use Rattle.vx_base.specs.Description.{Description, same_size}
-use Rattle.vx_base.specs.Function.{parameters}
-use Rattle.vx_base.specs.Image.{ImageValue, IsImage, description_of, image_over}
-use Rattle.vx_base.specs.Object.{ObjectValue, ImageObject, IsObject, object_kind, object_format}
-use Rattle.vx_base.specs.Rectangle.{empty}
-use Rattle.image_core.specs.declared.band.Band.{Band}
-use Rattle.image_core.specs.Fits.{SecondHasSize}
-use Rattle.object_table.specs.Named.{Named, held}
-use Rattle.object_table.specs.Object.{image_value}
-use Rattle.object_table.specs.Table.{cell_object, image_held, HoldsImage}
-use Rattle.node_rows.specs.Parts.{StandsFor, StandsBeside, part_of}
-use Rattle.node_rows.proofs.PartLaws.{part_is, part_stands, stands_fewer}
-use Rattle.graph_run.specs.declared.stage.Slot.{Slot}
-use Rattle.graph_run.specs.declared.stage.Stage.{Stage}
-use Rattle.graph_run.specs.Bands.{seen_in, HasRowsIn, right_from, right_to}
-use Rattle.graph_run.specs.Stage.{scene, slot_of}
-use Rattle.graph_run.specs.Steps.{CanRunTo, Holds, IsRead}
+use Rattle.node_rows.proofs.PartLaws.{part_stands}
 use Rattle.graph_run.proofs.OutputLemmas.{is_read}
 use Rattle.graph_run.proofs.StepLemmas.{nothing}
 

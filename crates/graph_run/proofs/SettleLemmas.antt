@@ -1,47 +1,13 @@
 -- Whether a graph runs in bands, and where its images are valid.
-use Rattle.std.proofs.Common.{◌≡◌, ◌≢◌, ℕ, zero, suc, ◌<◌, ◌+◌, ◌/◌, take, drop, Bool, true, false, List, ◌∷◌, ◌++◌, [], map, length, get_or, Option, Some, None, inl, inr, refl, sym, ap, subst, ◌∙◌, arith}
-use Rattle.std.specs.Prelude.{◌==◌, not, if◌then◌else◌, IsTrue, is_some, is_none, All, IfSome, slice_get, position, sum_by, unwrap_or}
-use Rattle.std.specs.List.{list_any}
-use Rattle.std.specs.List.Sorted.{IsStrictlyIncreasing}
-use Rattle.std.specs.Option.{option_map, option_and_then}
-use Rattle.std.proofs.lemmas.Bool.{cases_Bool, eqb-true, eq-eqb, and_parts}
-use Rattle.std.proofs.lemmas.List.{get_or_default, take_more, take-append-drop, append_assoc, length-append}
-use Rattle.std.proofs.lemmas.List.Elements.{All-more}
+use Rattle.std.proofs.Common.{◌≡◌, ◌≢◌, ℕ, zero, suc, ◌<◌, ◌+◌, ◌/◌, take, drop, Bool, true, false, List, ◌∷◌, ◌++◌, [], map, length, get_or, Option, Some, None, inl, inr, refl, sym, ap, subst, ◌∙◌, arith, ◌==◌, not, if◌then◌else◌, IsTrue, is_some, is_none, All, IfSome, slice_get, position, sum_by, unwrap_or, option_map, option_and_then}
+use Rattle.graph_run.proofs.Common.{list_any, IsStrictlyIncreasing, cases_Bool, eqb-true, eq-eqb, and_parts, take_more, take-append-drop, append_assoc, length-append, All-more, slice_get-get_or, Format, U8, Function, Kind, Node, Output, First, Second, Cell, same_slot, same_cell, ConvolutionValue, IsDescription, parameters, accumulates, ImageValue, new_image, given, inputs, outputs, second_kind, ObjectValue, ImageObject, IsObject, object_kind, image_of_one, node_image, Rectangle, window_valid, in_slot, Named, held, image_value, cell_object, image_held, Verified, reads, writes, In, resolved, In-from_same, In-append, In-right, In-from_any, any-from_In, fails-from_In, reach, matrix_in, RunsInBands, AreAreas, HasHeight, final_of, is_virtual_name, reach_of, rows_beside, operand_held, IsReady, SuitsBands, IsArea, HoldsKind}
+use Rattle.std.proofs.lemmas.List.{get_or_default}
 use Rattle.std.proofs.lemmas.List.Sums.{sum_by_more}
-use Rattle.std.proofs.lemmas.Option.{slice_get-get_or}
-use Rattle.vx_base.specs.declared.format.Format.{Format}
-use Rattle.vx_base.specs.declared.format.Format.TheVariants.{U8}
-use Rattle.vx_base.specs.declared.function.Function.{Function}
-use Rattle.vx_base.specs.declared.kind.Kind.{Kind}
 use Rattle.vx_base.specs.declared.kind.Kind.TheVariants as kind
-use Rattle.vx_base.specs.declared.node.Node.{Node}
-use Rattle.vx_base.specs.declared.output.Output.{Output}
-use Rattle.vx_base.specs.declared.output.Output.TheVariants.{First, Second}
-use Rattle.vx_base.specs.Cell.{Cell, same_slot, same_cell}
-use Rattle.vx_base.specs.Convolution.{ConvolutionValue}
-use Rattle.vx_base.specs.Description.{IsDescription}
-use Rattle.vx_base.specs.Function.{parameters, accumulates}
-use Rattle.vx_base.specs.Image.{ImageValue, new_image}
-use Rattle.vx_base.specs.Node.{given, inputs, outputs, second_kind}
-use Rattle.vx_base.specs.Object.{ObjectValue, ImageObject, ConvolutionObject, IsObject, object_kind}
-use Rattle.vx_base.specs.Outputs.{image_of_one, node_image}
-use Rattle.vx_base.specs.Rectangle.{Rectangle, meet_of}
-use Rattle.vx_base.specs.Window.{window_valid}
-use Rattle.object_table.specs.Delay.{in_slot}
-use Rattle.object_table.specs.Named.{Named, held}
-use Rattle.object_table.specs.Object.{image_value}
-use Rattle.object_table.specs.Table.{cell_object, image_held}
-use Rattle.graph_verify.specs.declared.verified.Verified.{Verified}
-use Rattle.graph_verify.specs.Links.{reads, writes}
-use Rattle.graph_verify.specs.Members.{In}
-use Rattle.graph_verify.specs.Outlines.{resolved}
-use Rattle.graph_verify.proofs.LinkLemmas.{In-from_same}
-use Rattle.graph_verify.proofs.MemberLemmas.{In-append, In-right, In-from_any, any-from_In, fails-from_In, position-None}
-use Rattle.node_rows.specs.Reach.{reach, matrix_in}
-use Rattle.graph_run.specs.Bands.{RunsInBands, AreAreas, HasHeight, final_of, is_virtual_name, reach_of, rows_beside}
-use Rattle.graph_run.specs.Operands.{operand_held, IsReady}
-use Rattle.graph_run.specs.Settle.{IsBandOutput, SuitsBands, IsArea, area_alone_of, area_alone}
-use Rattle.graph_run.specs.Turns.{HoldsKind}
+use Rattle.vx_base.specs.Object.{ConvolutionObject}
+use Rattle.vx_base.specs.Rectangle.{meet_of}
+use Rattle.graph_verify.proofs.MemberLemmas.{position-None}
+use Rattle.graph_run.specs.Settle.{IsBandOutput, area_alone_of, area_alone}
 use Rattle.graph_run.proofs.FinalLemmas as final_lemmas
 use Rattle.graph_run.proofs.LinkLaws.{All-from_In, In-from_All, reads_first, reads_second, is_unwritten}
 use Rattle.graph_run.proofs.RunLemmas.{has_of_node}

@@ -1,37 +1,8 @@
 -- Areas that are set at the end of a run in bands, and what the run leaves then.
-use Rattle.std.proofs.Common.{◌≡◌, ℕ, ℤ, ◌+◌, ◌*◌, ◌≤◌, ◌<◌, Bool, true, false, eqb, List, [], ◌∷◌, ◌++◌, map, length, take, drop, get_or, Option, Some, None, ◌⊎◌, inl, inr, refl, sym, ap, subst, ◌∙◌, arith}
-use Rattle.std.specs.Prelude.{◌&&◌, not, if◌then◌else◌, All, IfSome, unwrap_or}
-use Rattle.std.specs.Option.{option_map, option_and_then}
-use Rattle.std.proofs.lemmas.Bool.{cases_Bool, eqb-true, eq-eqb, and_parts, and_from}
-use Rattle.std.proofs.lemmas.List.{take_all, take_more}
-use Rattle.std.proofs.lemmas.Option.{slice_get-get_or}
-use Rattle.vx_base.specs.declared.format.Format.TheVariants.{U8}
+use Rattle.std.proofs.Common.{◌≡◌, ℕ, ℤ, ◌+◌, ◌*◌, ◌≤◌, ◌<◌, Bool, true, false, eqb, List, [], ◌∷◌, ◌++◌, map, length, take, drop, get_or, Option, Some, None, ◌⊎◌, inl, inr, refl, sym, ap, subst, ◌∙◌, arith, ◌&&◌, not, if◌then◌else◌, All, IfSome, unwrap_or, option_map, option_and_then}
+use Rattle.graph_run.proofs.Common.{cases_Bool, eqb-true, eq-eqb, and_parts, and_from, take_all, take_more, slice_get-get_or, U8, Node, Cell, cell_of, Description, ImageValue, IsImage, image_over, new_image, description_of, outputs, given, ObjectValue, ImageObject, VirtualObject, IsObject, object_kind, Rectangle, Context, with_objects, in_slot, Named, object_held, held, with_object, image_value, with_samples, cell_object, image_held, HoldsImage, object_held_has, Operand, Verified, writes, is_written, In, resolved, In-from_same, same-from_In, In-left, In-right, In-append, In-from_any, any-from_In, In-at, RunsInBands, final_of, is_target, is_virtual_name, IsFinished, RowsAreAs, AreAreas, is_image_held, begun, forgotten, is_virtual_object, run_of_graph, lasting, lasting_named, Lasts, operand_held, label_of}
 use Rattle.vx_base.specs.declared.kind.Kind.TheVariants as kind
-use Rattle.vx_base.specs.declared.node.Node.{Node}
-use Rattle.vx_base.specs.Cell.{Cell, cell_of}
-use Rattle.vx_base.specs.Description.{Description}
-use Rattle.vx_base.specs.Image.{ImageValue, IsImage, image_over, new_image, description_of}
-use Rattle.vx_base.specs.Node.{outputs, given}
-use Rattle.vx_base.specs.Object.{ObjectValue, ImageObject, VirtualObject, IsObject, object_kind}
-use Rattle.vx_base.specs.Rectangle.{Rectangle}
-use Rattle.object_table.specs.Context.{Context, with_objects}
-use Rattle.object_table.specs.Delay.{in_slot}
-use Rattle.object_table.specs.Named.{Named, object_held, held, with_object}
-use Rattle.object_table.specs.Object.{image_value, with_samples}
-use Rattle.object_table.specs.Table.{cell_object, image_held, HoldsImage}
-use Rattle.object_table.proofs.HeldLemmas.{object_held_has}
-use Rattle.graph_verify.specs.declared.operand.Operand.{Operand}
-use Rattle.graph_verify.specs.declared.verified.Verified.{Verified}
-use Rattle.graph_verify.specs.Links.{writes, is_written}
-use Rattle.graph_verify.specs.Members.{In}
-use Rattle.graph_verify.specs.Outlines.{resolved}
-use Rattle.graph_verify.proofs.LinkLemmas.{In-from_same, same-from_In}
-use Rattle.graph_verify.proofs.MemberLemmas.{In-left, In-right, In-append, In-from_any, any-from_In, In-at}
-use Rattle.graph_run.specs.Bands.{RunsInBands, final_of, is_target, is_virtual_name, IsFinished, RowsAreAs, AreAreas, is_image_held, with_area_in, with_area}
-use Rattle.graph_run.specs.Graph.{begun, forgotten, is_virtual_object, run_of_graph}
-use Rattle.graph_run.specs.Lasting.{lasting, lasting_named, Lasts}
-use Rattle.graph_run.specs.Operands.{operand_held}
-use Rattle.graph_run.specs.Solution.{label_of}
+use Rattle.graph_run.specs.Bands.{with_area_in, with_area}
 use Rattle.graph_run.proofs.AgreeLemmas.{begin, begins}
 use Rattle.graph_run.proofs.BegunLaws.{begun_stays}
 use Rattle.graph_run.proofs.CellLemmas.{object_after, image_after, with_object_twice, held_whole}
@@ -196,7 +167,7 @@ in_forgotten (o ∷ before) (p ∷ after) x (inr i) = elim (in_forgotten before 
 ]
 
 -- as much lasts of what a run leaves as of what was there, if it does of what the nodes left beside what they began with
-forgotten_lasts : (is : Cell → Operand) (nodes : List Node) (objects after : List Named) → map lasting_named after ≡ map lasting_named (map (begun is nodes) objects)
+pub forgotten_lasts : (is : Cell → Operand) (nodes : List Node) (objects after : List Named) → map lasting_named after ≡ map lasting_named (map (begun is nodes) objects)
     → map lasting_named (forgotten objects after) ≡ map lasting_named objects
 forgotten_lasts is nodes [] [] same = refl
 forgotten_lasts is nodes [] (p ∷ after) same = absurd (cc)

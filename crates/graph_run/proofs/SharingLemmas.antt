@@ -1,29 +1,9 @@
 -- Virtual images that claim their slots: what stands in slots before and after.
-use Rattle.std.proofs.Common.{◌≡◌, ◌≢◌, ℕ, true, false, List, [], ◌∷◌, ◌++◌, map, suc, Option, Some, None, ◌⊎◌, inl, inr, refl, sym, ap, subst, ◌∙◌, arith}
-use Rattle.std.specs.Prelude.{◌==◌, ◌||◌, find, slice_get, if◌then◌else◌, unwrap_or}
-use Rattle.std.specs.List.{AllPairs}
-use Rattle.std.specs.Option.{option_map, option_and_then}
-use Rattle.std.proofs.lemmas.Bool.{cases_Bool, eqb-true, eq-eqb, ne_eqb, or_left, or_right, false_from_ne_true}
-use Rattle.std.proofs.lemmas.List.Folds.{list_any-append}
-use Rattle.std.proofs.lemmas.Option.{slice_get-map}
-use Rattle.vx_base.specs.declared.node.Node.{Node}
-use Rattle.vx_base.specs.Cell.{Cell, same_cell}
-use Rattle.vx_base.specs.Description.{Description}
-use Rattle.graph_verify.specs.declared.known.VirtualOutput.{VirtualOutput}
-use Rattle.graph_verify.specs.declared.operand.Operand.{Operand}
-use Rattle.graph_verify.specs.declared.verified.Verified.{Verified}
-use Rattle.graph_verify.specs.Verified.{IsVerified, written_description}
-use Rattle.graph_verify.specs.Links.{reads, writes, is_written}
-use Rattle.graph_verify.specs.Members.{In}
-use Rattle.graph_verify.proofs.LinkLemmas.{same_cell-refl, same_cell-true}
-use Rattle.graph_verify.proofs.MemberLemmas.{any-from_In, Contains-from_In}
+use Rattle.std.proofs.Common.{◌≡◌, ◌≢◌, ℕ, true, false, List, [], ◌∷◌, ◌++◌, map, suc, Option, Some, None, ◌⊎◌, inl, inr, refl, sym, ap, subst, ◌∙◌, arith, ◌==◌, ◌||◌, find, slice_get, if◌then◌else◌, unwrap_or, option_map, option_and_then}
+use Rattle.graph_run.proofs.Common.{AllPairs, cases_Bool, eqb-true, eq-eqb, ne_eqb, or_left, or_right, false_from_ne_true, list_any-append, slice_get-map, Node, Cell, same_cell, Description, VirtualOutput, Operand, Verified, IsVerified, written_description, reads, writes, is_written, In, same_cell-refl, same_cell-true, any-from_In, Contains-from_In, is_used, PlanValue, Slot, slot_place, place_of, room_of, planned_rooms, AreShared, claimed_at, is_named, holder_at, claimed}
 use Rattle.graph_verify.proofs.KnownLemmas.{find_cases}
-use Rattle.buffer_plan.specs.Lives.{is_used}
-use Rattle.buffer_plan.specs.Plan.{PlanValue}
 use Rattle.buffer_plan.proofs.TakenLemmas.{one_when_taken}
-use Rattle.graph_run.specs.declared.stage.Slot.{Slot}
-use Rattle.graph_run.specs.Slots.{slot_place, place_of, room_of, planned_rooms, AreShared, claimed_if, claimed_at}
-use Rattle.graph_run.specs.Stage.{is_named, holder_at, claimed}
+use Rattle.graph_run.specs.Slots.{claimed_if}
 use Rattle.graph_run.proofs.NameLaws.{same_at_each}
 use Rattle.graph_run.proofs.SlotLemmas.{Fails, find_agree, HasRoomAt, HasSlots, room_at_home, one_home}
 use Rattle.graph_run.proofs.VerifiedLemmas.{whole, is_output, described_output, output_described}

@@ -1,29 +1,10 @@
 -- Slots of a plan: where they stand, what they have room for, and what is found in them.
-use Rattle.std.proofs.Common.{◌≡◌, ℕ, ◌+◌, ◌<◌, ◌≤◌, Bool, true, false, cond, List, [], ◌∷◌, ◌++◌, map, length, suc, Option, Some, None, ◌⊎◌, inl, inr, refl, sym, ap, subst, ◌∙◌, arith}
-use Rattle.std.specs.Prelude.{IfSome, find, slice_get, is_some, unwrap_or}
-use Rattle.std.specs.List.{range_with_len, filter, list_any}
-use Rattle.std.specs.Option.{option_map}
-use Rattle.std.proofs.lemmas.Bool.{eq-eqb}
-use Rattle.std.proofs.lemmas.Bool.Decides.{nat_tests}
-use Rattle.std.proofs.lemmas.List.FromFn.{length-map-range_with_len, get_or-map-range_with_len}
-use Rattle.std.proofs.lemmas.List.{length-append}
-use Rattle.std.proofs.lemmas.Option.{slice_get-map, slice_get-get_or}
-use Rattle.vx_base.specs.declared.format.Format.{Format}
-use Rattle.vx_base.specs.declared.format.Format.TheVariants.{U8, S16, U32}
-use Rattle.vx_base.specs.Cell.{Cell, same_cell}
-use Rattle.vx_base.specs.Description.{sample_count}
-use Rattle.vx_base.specs.Sample.{same_format}
-use Rattle.graph_verify.specs.declared.known.VirtualOutput.{VirtualOutput}
-use Rattle.vx_base.specs.declared.node.Node.{Node}
-use Rattle.graph_verify.specs.Members.{In}
-use Rattle.graph_verify.proofs.LinkLemmas.{same_cell-refl}
-use Rattle.graph_verify.proofs.MemberLemmas.{any-from_In, In-filter, In-map}
-use Rattle.buffer_plan.specs.Plan.{IsPlan, PlanValue}
-use Rattle.buffer_plan.specs.Slots.{of_format, is_slot, greatest, IsValid}
+use Rattle.std.proofs.Common.{◌≡◌, ℕ, ◌+◌, ◌<◌, ◌≤◌, Bool, true, false, cond, List, [], ◌∷◌, ◌++◌, map, length, suc, Option, Some, None, ◌⊎◌, inl, inr, refl, sym, ap, subst, ◌∙◌, arith, IfSome, find, slice_get, is_some, unwrap_or, option_map}
+use Rattle.graph_run.proofs.Common.{range_with_len, filter, list_any, eq-eqb, nat_tests, length-map-range_with_len, length-append, slice_get-map, slice_get-get_or, Format, U8, S16, U32, Cell, same_cell, sample_count, same_format, VirtualOutput, Node, In, same_cell-refl, any-from_In, In-filter, In-map, IsPlan, PlanValue, of_format, Slot, slot_place, place_of, room_of, planned_rooms, HasRoomFor}
+use Rattle.std.proofs.lemmas.List.FromFn.{get_or-map-range_with_len}
+use Rattle.buffer_plan.specs.Slots.{is_slot, greatest, IsValid}
 use Rattle.buffer_plan.proofs.PlanLemmas.{same_format-refl}
-use Rattle.graph_run.specs.declared.stage.Slot.{Slot}
-use Rattle.graph_run.specs.Slots.{slot_place, place_of, room_of, rooms_for, planned_rooms}
-use Rattle.graph_run.specs.Stage.{HasRoomFor}
+use Rattle.graph_run.specs.Slots.{rooms_for}
 
 -- ---- elements by place
 

@@ -1,17 +1,10 @@
 -- Blocks of a pool that slots take and give back.
-use Rattle.std.proofs.Common.{◌≡◌, ◌≢◌, ℕ, ◌+◌, ◌≤◌, ◌⊎◌, List, [], ◌∷◌, ◌++◌, length, map, max, refl, sym, ap, ◌∙◌, arith}
-use Rattle.std.specs.Prelude.{if◌then◌else◌, sum_by}
-use Rattle.std.specs.List.{range_with_len}
-use Rattle.std.proofs.lemmas.List.{map-append, append_assoc}
+use Rattle.std.proofs.Common.{◌≡◌, ◌≢◌, ℕ, ◌+◌, ◌≤◌, ◌⊎◌, List, [], ◌∷◌, ◌++◌, length, map, max, refl, sym, ap, ◌∙◌, arith, if◌then◌else◌, sum_by}
+use Rattle.graph_run.proofs.Common.{range_with_len, map-append, append_assoc, Format, values, samples_format, same_format, lent_of, blocks_of, Slot, room_of, slot_blocks}
 use Rattle.std.proofs.lemmas.List.FromFn.{map-range_with_len_more}
 use Rattle.std.proofs.lemmas.List.Sums.{sum_by_push, sum_by-cons}
-use Rattle.vx_base.specs.declared.format.Format.{Format}
-use Rattle.vx_base.specs.Picture.{values, samples_format}
-use Rattle.vx_base.specs.Sample.{same_format}
 use Rattle.pixel_pool.specs.declared.pool.Pool.{Pool}
-use Rattle.pixel_pool.specs.Pool.{lent_of, blocks_of, one_of, Lends, KeepsOtherRooms}
-use Rattle.graph_run.specs.declared.stage.Slot.{Slot}
-use Rattle.graph_run.specs.Slots.{room_of, slot_blocks}
+use Rattle.pixel_pool.specs.Pool.{one_of, Lends, KeepsOtherRooms}
 
 -- two formats are one or not
 formats : (f g : Format) → ((f ≡ g) × (one_of g f ≡ 1)) ⊎ ((f ≢ g) × (one_of g f ≡ 0))

@@ -1,27 +1,12 @@
 -- What the rounds give solves a graph, and nothing else does.
-use Rattle.std.proofs.Common.{◌≡◌, ◌≢◌, ◌<◌, true, false, List, length, map, sym, ap, subst, ◌∙◌, Option, Some, arith}
-use Rattle.std.specs.Prelude.{All}
-use Rattle.std.specs.Option.{option_map, option_and_then}
-use Rattle.std.specs.List.{AllPairs}
-use Rattle.std.proofs.lemmas.Bool.{cases_Bool}
+use Rattle.std.proofs.Common.{◌≡◌, ◌≢◌, ◌<◌, true, false, List, length, map, sym, ap, subst, ◌∙◌, Option, Some, arith, All, option_map, option_and_then}
+use Rattle.graph_run.proofs.Common.{AllPairs, cases_Bool, Node, Output, Cell, ObjectValue, object_kind, written_from, Named, held, In, writes, feeds, two_writers, any-from_In, one_writer, rounds_of_nodes, WritesNo, Solves, kind_in, form_of, label_of}
 use Rattle.vx_base.specs.declared.kind.Kind.TheVariants as kind
-use Rattle.vx_base.specs.declared.node.Node.{Node}
-use Rattle.vx_base.specs.declared.output.Output.{Output}
-use Rattle.vx_base.specs.Cell.{Cell}
-use Rattle.vx_base.specs.Object.{ObjectValue, object_kind}
-use Rattle.vx_base.specs.Outputs.{written_from}
-use Rattle.object_table.specs.Named.{Named, held}
-use Rattle.graph_verify.specs.Members.{In}
-use Rattle.graph_verify.specs.Links.{writes, feeds}
 use Rattle.graph_verify.specs.Cycle.{has_cycle}
 use Rattle.graph_verify.specs.Rounds as cells
 use Rattle.graph_verify.specs.Rounds.{IsSolution}
-use Rattle.graph_verify.specs.Verdict.{two_writers}
-use Rattle.graph_run.specs.Graph.{rounds_of_nodes}
-use Rattle.graph_run.specs.Solution.{WritesNo, ReadImages, Solves, kind_in, form_of, label_of}
-use Rattle.graph_verify.proofs.MemberLemmas.{any-from_In}
+use Rattle.graph_run.specs.Solution.{ReadImages}
 use Rattle.graph_verify.proofs.SolutionLemmas as cell_solutions
-use Rattle.graph_verify.proofs.LinkLemmas.{one_writer}
 use Rattle.graph_run.proofs.LinkLaws.{All-from_In, In-from_All, unwritten, is_unwritten}
 use Rattle.graph_verify.proofs.NodeVerdictLemmas.{no_twice_each}
 use Rattle.graph_run.proofs.ObjectLaws.{is_delay, shown, is_delay-shown, not_delay, is_delay-form}

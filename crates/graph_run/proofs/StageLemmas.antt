@@ -1,26 +1,13 @@
 -- What nodes find of objects, where images stand in slots.
-use Rattle.std.proofs.Common.{◌≡◌, ◌≢◌, ℕ, zero, suc, ◌<◌, Bool, true, false, List, [], ◌∷◌, map, length, get_or, set, Option, Some, None, inl, inr, refl, sym, ap, ◌∙◌, arith}
-use Rattle.std.specs.Prelude.{All, IsSome, ◌==◌, if◌then◌else◌, find, slice_get, position}
+use Rattle.std.proofs.Common.{◌≡◌, ◌≢◌, ℕ, zero, suc, ◌<◌, Bool, true, false, List, [], ◌∷◌, map, length, get_or, set, Option, Some, None, inl, inr, refl, sym, ap, ◌∙◌, arith, All, IsSome, ◌==◌, if◌then◌else◌, find, slice_get, position, option_map, option_and_then}
+use Rattle.graph_run.proofs.Common.{cases_Bool, eqb-true, eqb-false, ne_eqb, false_from_ne_true, nat_tests, All-head, All-tail, VirtualImage, Cell, cell_of, ObjectValue, ImageObject, VirtualObject, values, samples_format, in_slot, with_slot, Named, object_held, held, with_object, names_of, HasObject, object_held-map, VirtualOutput, Slot, is_virtual_object, is_named, standing_image, standing, shown_as, shown, slot_of, holder_at, fixed, resized}
 use Rattle.std.specs.List.{position_or_len}
-use Rattle.std.specs.Option.{option_map, option_and_then}
-use Rattle.std.proofs.lemmas.Bool.{cases_Bool, cases_lt, eqb-true, eqb-false, ne_eqb, false_from_ne_true}
-use Rattle.std.proofs.lemmas.Bool.Decides.{nat_tests}
-use Rattle.std.proofs.lemmas.List.Elements.{All-head, All-tail}
+use Rattle.std.proofs.lemmas.Bool.{cases_lt}
 use Rattle.std.proofs.lemmas.List.Folds.{find_at}
 use Rattle.std.proofs.lemmas.List.Sums.{passes_at_first}
 use Rattle.std.proofs.lemmas.Option.{slice_get_cases, slice_get_past}
-use Rattle.vx_base.specs.declared.virtual_image.VirtualImage.{VirtualImage}
-use Rattle.vx_base.specs.Cell.{Cell, cell_of}
-use Rattle.vx_base.specs.Object.{ObjectValue, ImageObject, VirtualObject}
-use Rattle.vx_base.specs.Picture.{values, samples_format}
-use Rattle.object_table.specs.Delay.{in_slot, with_slot}
-use Rattle.object_table.specs.Named.{Named, object_held, held, with_object}
-use Rattle.object_table.proofs.HeldLemmas.{names_of, HasObject, object_held-map}
-use Rattle.graph_verify.specs.declared.known.VirtualOutput.{VirtualOutput}
-use Rattle.graph_run.specs.declared.stage.Slot.{Slot}
-use Rattle.graph_run.specs.Graph.{is_virtual_object}
 use Rattle.graph_run.proofs.HeldLaws.{object_held-with_object}
-use Rattle.graph_run.specs.Stage.{is_named, standing_image, image_in, standing, shown_as, shown, slot_of, holder_at, fixed, resized}
+use Rattle.graph_run.specs.Stage.{image_in}
 
 -- ---- what is shown
 

@@ -1,32 +1,7 @@
 -- The image that a cell holds on a stage, and stages where it changes.
-use Rattle.std.proofs.Common.{◌≡◌, ◌≢◌, ℕ, ◌<◌, Bool, true, false, ℤ, List, map, length, get_or, Option, Some, None, IfSome, refl, sym, ap, subst, ◌∙◌, arith}
-use Rattle.std.specs.Prelude.{IsSome, slice_get, position, take, unwrap_or}
-use Rattle.std.specs.Option.{option_map}
-use Rattle.std.specs.Vec.{with_item}
-use Rattle.std.proofs.lemmas.List.Elements.{All-set, All-weaker}
-use Rattle.std.proofs.lemmas.List.{length-take, take_all}
-use Rattle.std.proofs.lemmas.Option.{slice_get_read}
-use Rattle.vx_base.specs.declared.format.Format.{Format}
-use Rattle.vx_base.specs.declared.format.Format.TheVariants.{U8}
-use Rattle.vx_base.specs.declared.samples.Samples.{Samples}
-use Rattle.vx_base.specs.declared.virtual_image.VirtualImage.{VirtualImage}
-use Rattle.vx_base.specs.Cell.{Cell}
-use Rattle.vx_base.specs.Description.{Description, sample_count}
-use Rattle.vx_base.specs.Image.{ImageValue, IsImage, new_image, description_of}
-use Rattle.vx_base.specs.Object.{ObjectValue, ImageObject, VirtualObject, object_kind}
-use Rattle.vx_base.specs.Picture.{values, samples_format}
-use Rattle.vx_base.specs.Rectangle.{Rectangle}
-use Rattle.object_table.specs.Context.{Context, with_objects}
-use Rattle.object_table.specs.Delay.{with_slot}
-use Rattle.object_table.specs.Named.{Named, object_held, held, with_object}
-use Rattle.object_table.specs.Object.{image_value, with_samples}
-use Rattle.object_table.specs.Table.{cell_object, image_held, HoldsImage}
-use Rattle.object_table.proofs.HeldLemmas.{HasObject, names-with_object, map-with_object}
-use Rattle.graph_verify.specs.declared.known.VirtualOutput.{VirtualOutput}
-use Rattle.graph_run.specs.declared.stage.Slot.{Slot}
-use Rattle.graph_run.specs.declared.stage.Stage.{Stage}
-use Rattle.graph_run.specs.Graph.{is_virtual_object}
-use Rattle.graph_run.specs.Stage.{is_named, standing_image, shown, scene, slot_of, holder_at, HoldsVirtual, IsArranged, AreFor, HasCount, Resized, Keeps, virtual_named}
+use Rattle.std.proofs.Common.{◌≡◌, ◌≢◌, ℕ, ◌<◌, Bool, true, false, ℤ, List, map, length, get_or, Option, Some, None, IfSome, refl, sym, ap, subst, ◌∙◌, arith, IsSome, slice_get, position, take, unwrap_or, option_map}
+use Rattle.graph_run.proofs.Common.{with_item, All-set, All-weaker, length-take, take_all, slice_get_read, Format, U8, Samples, VirtualImage, Cell, Description, sample_count, ImageValue, IsImage, new_image, description_of, ObjectValue, ImageObject, VirtualObject, object_kind, values, samples_format, Rectangle, Context, with_objects, with_slot, Named, object_held, held, with_object, image_value, with_samples, cell_object, image_held, HoldsImage, HasObject, map-with_object, VirtualOutput, Slot, Stage, is_virtual_object, is_named, standing_image, shown, scene, slot_of, holder_at, HoldsVirtual, IsArranged, AreFor, HasCount, Resized, Keeps, virtual_named}
+use Rattle.object_table.proofs.HeldLemmas.{names-with_object}
 use Rattle.graph_run.proofs.CellLemmas.{held_once}
 use Rattle.graph_run.proofs.ClaimLemmas.{virtual_there, holder_of}
 use Rattle.graph_run.proofs.StageLemmas.{held-shown, cell_as_it_is, shown-with_object, held_beside, shown-set, IsAlone, alone_at, alone_found, named_holder, alone_count, none_resized, set_fixed, set_holders, placed, placed_passes, not_placed}

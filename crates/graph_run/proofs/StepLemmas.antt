@@ -1,39 +1,12 @@
 -- Nodes on a stage: what they read beside an image, what they write to objects that aren't images, and what stays.
-use Rattle.std.proofs.Common.{◌≡◌, ◌⊎◌, ℕ, ◌≤◌, Bool, true, false, cond, List, [], ◌∷◌, map, length, get_or, drop, Option, Some, None, IfSome, refl, sym, ap, subst, ◌∙◌, arith}
-use Rattle.std.specs.Prelude.{All, is_some, unwrap_or, slice_get, ⊤}
-use Rattle.std.specs.List.{list_any}
-use Rattle.std.specs.List.Sorted.{IsStrictlyIncreasing}
-use Rattle.std.specs.Option.{option_map, option_and_then}
-use Rattle.std.proofs.lemmas.Bool.{cases_Bool}
-use Rattle.std.proofs.lemmas.List.Elements.{All-nil, All-cons, All-head, All-tail, All-map, All-weaker}
-use Rattle.std.proofs.lemmas.Option.{slice_get_within, get_or_from_slice_get, IfSome_then}
-use Rattle.vx_base.specs.declared.format.Format.{Format}
-use Rattle.vx_base.specs.declared.format.Format.TheVariants.{U8}
-use Rattle.vx_base.specs.declared.kind.Kind.{Kind}
+use Rattle.std.proofs.Common.{◌≡◌, ◌⊎◌, ℕ, ◌≤◌, Bool, true, false, cond, List, [], ◌∷◌, map, length, get_or, drop, Option, Some, None, IfSome, refl, sym, ap, subst, ◌∙◌, arith, All, is_some, unwrap_or, slice_get, option_map, option_and_then}
+use Rattle.graph_run.proofs.Common.{list_any, IsStrictlyIncreasing, cases_Bool, All-nil, All-cons, All-head, All-tail, All-map, All-weaker, slice_get_within, IfSome_then, Format, U8, Kind, Samples, VirtualImage, Cell, cell_of, Description, sample_count, ImageValue, new_image, ObjectValue, ImageObject, VirtualObject, IsObject, object_kind, values, samples_format, in_slot, Context, with_objects, Named, object_held, held, with_object, cell_object, object_under, HoldsImage, IsUnder, All-from_map, VirtualOutput, Slot, Stage, is_virtual_object, forgotten, Lasts, AreEmpty, is_named, standing, shown_as, shown, scene, slot_of, holder_at, HasRoomFor, IsArranged, IsStage, AreFor, HasCount, Resized, Keeps, Stays, fixed, resized, virtual_named, Holds, IsRead}
+use Rattle.std.specs.Prelude.{⊤}
+use Rattle.std.proofs.lemmas.Option.{get_or_from_slice_get}
 use Rattle.vx_base.specs.declared.kind.Kind.TheVariants as kind
-use Rattle.vx_base.specs.declared.samples.Samples.{Samples}
-use Rattle.vx_base.specs.declared.virtual_image.VirtualImage.{VirtualImage}
-use Rattle.vx_base.specs.Cell.{Cell, cell_of}
-use Rattle.vx_base.specs.Description.{Description, sample_count}
-use Rattle.vx_base.specs.Image.{ImageValue, new_image}
-use Rattle.vx_base.specs.Object.{ObjectValue, ImageObject, VirtualObject, IsObject, object_kind}
-use Rattle.vx_base.specs.Picture.{values, samples_format}
 use Rattle.object_table.specs.declared.object.Content.{Content}
 use Rattle.object_table.specs.declared.object.Content.TheVariants.{Virtual}
-use Rattle.object_table.specs.Delay.{in_slot}
-use Rattle.object_table.specs.Context.{Context, with_objects}
-use Rattle.object_table.specs.Named.{Named, object_held, held, with_object}
 use Rattle.object_table.specs.Object.{value_of}
-use Rattle.object_table.specs.Table.{cell_object, object_under, HoldsImage, IsUnder}
-use Rattle.object_table.proofs.HeldLemmas.{All-from_map}
-use Rattle.graph_verify.specs.declared.known.VirtualOutput.{VirtualOutput}
-use Rattle.graph_run.specs.declared.stage.Slot.{Slot}
-use Rattle.graph_run.specs.declared.stage.Stage.{Stage}
-use Rattle.graph_run.specs.Graph.{is_virtual_object, forgotten}
-use Rattle.graph_run.specs.Lasting.{Lasts}
-use Rattle.graph_run.specs.Slots.{AreEmpty}
-use Rattle.graph_run.specs.Stage.{is_named, standing, shown_as, shown, scene, slot_of, holder_at, HasRoomFor, IsArranged, IsStage, AreFor, HasCount, Resized, Keeps, Stays, fixed, resized, virtual_named}
-use Rattle.graph_run.specs.Steps.{Holds, IsRead}
 use Rattle.graph_run.proofs.StageLemmas.{held-shown, real_as_it_is, shown_nowhere, stands_nowhere}
 use Rattle.graph_run.proofs.StandingLemmas.{over, real_set}
 

@@ -1,29 +1,9 @@
 -- A node that runs on the rows of a strip: what it sees, and what it makes.
-use Rattle.std.proofs.Common.{◌≡◌, ℕ, ◌+◌, ◌≤◌, false, List, [], ◌∷◌, ◌++◌, Option, Some, IfSome, sym, ap, subst, ◌∙◌, arith}
-use Rattle.std.specs.Prelude.{IsTrue, is_some, sum_by, unwrap_or}
-use Rattle.std.specs.Option.{option_map}
-use Rattle.std.proofs.lemmas.Bool.Decides.{nat_tests}
-use Rattle.std.proofs.lemmas.List.Sums.{sum_by-append}
+use Rattle.std.proofs.Common.{◌≡◌, ℕ, ◌+◌, ◌≤◌, false, List, [], ◌∷◌, ◌++◌, Option, Some, IfSome, sym, ap, subst, ◌∙◌, arith, IsTrue, is_some, sum_by, unwrap_or, option_map}
+use Rattle.graph_run.proofs.Common.{nat_tests, sum_by-append, Node, Output, Cell, Description, parameters, accumulates, ImageValue, IsImage, ObjectValue, IsObject, node_image, Named, image_value, cell_object, image_held, HoldsImage, StandsBeside, HasInputs, first_right, end_right, reach, matrix_in, Strip, Stage, seen, part_made, SeesParts, HasPlaceIn, IsSeen, IsStrip, rows_beside, right_from, right_to, scene, slot_of, RunsTo}
+use Rattle.node_rows.specs.Parts.{StandsFor}
 use Rattle.vx_base.specs.declared.kind.Kind.TheVariants as kind
-use Rattle.vx_base.specs.declared.node.Node.{Node}
-use Rattle.vx_base.specs.declared.output.Output.{Output}
-use Rattle.vx_base.specs.Cell.{Cell}
-use Rattle.vx_base.specs.Description.{Description}
-use Rattle.vx_base.specs.Function.{parameters, accumulates}
-use Rattle.vx_base.specs.Image.{ImageValue, IsImage}
-use Rattle.vx_base.specs.Object.{ObjectValue, IsObject}
-use Rattle.vx_base.specs.Outputs.{node_image}
-use Rattle.object_table.specs.Named.{Named}
-use Rattle.object_table.specs.Object.{image_value}
-use Rattle.object_table.specs.Table.{cell_object, image_held, HoldsImage}
-use Rattle.node_rows.specs.Parts.{StandsFor, StandsBeside, HasInputs, first_right, end_right}
-use Rattle.node_rows.specs.Reach.{reach, matrix_in}
 use Rattle.node_rows.proofs.PartRowLaws.{node_right}
-use Rattle.graph_run.specs.declared.bands.Strip.{Strip}
-use Rattle.graph_run.specs.declared.stage.Stage.{Stage}
-use Rattle.graph_run.specs.Bands.{seen, part_made, SeesParts, HasPlaceIn, IsSeen, IsStrip, rows_beside, right_from, right_to}
-use Rattle.graph_run.specs.Stage.{scene, slot_of}
-use Rattle.graph_run.specs.Steps.{RunsTo}
 use Rattle.graph_run.proofs.FinalLemmas.{IsMade}
 use Rattle.graph_run.proofs.OutputLemmas.{can_run}
 use Rattle.graph_run.proofs.StepLemmas.{nothing}

@@ -1,35 +1,12 @@
 -- Nodes that add to the image that they write: its samples are taken out, and put back once they are added to.
-use Rattle.std.proofs.Common.{◌≡◌, ◌*◌, true, ℤ, List, Option, None, refl, sym, ap, ◌∙◌, arith}
-use Rattle.std.specs.Prelude.{◌==◌}
-use Rattle.std.specs.Option.{option_map}
-use Rattle.vx_base.specs.declared.format.Format.{Format}
-use Rattle.vx_base.specs.declared.format.Format.TheVariants.{S16}
-use Rattle.vx_base.specs.declared.function.Function.{Function}
+use Rattle.std.proofs.Common.{◌≡◌, ◌*◌, true, ℤ, List, Option, None, refl, sym, ap, ◌∙◌, arith, ◌==◌, option_map}
+use Rattle.graph_run.proofs.Common.{Format, S16, Function, Node, Cell, Description, takes_formats, parameters, accumulates, ImageValue, description_of, image_over, IsNode, from_two, length-table, Band, ImageMut, all_rows, HaveSameSize, written, Writes, all_written, ObjectValue, ImageObject, object_kind, object_format, Rectangle, image_of_kind, Named, image_value, cell_object, image_held, and_parts, eqb-true, RunsTo}
 use Rattle.vx_base.specs.declared.function.Function.TheVariants.{Accumulate, AccumulateSquare}
 use Rattle.vx_base.specs.declared.kind.Kind.TheVariants as kind
-use Rattle.vx_base.specs.declared.node.Node.{Node}
-use Rattle.vx_base.specs.Cell.{Cell}
-use Rattle.vx_base.specs.Description.{Description}
-use Rattle.vx_base.specs.Formats.{takes_formats}
-use Rattle.vx_base.specs.Function.{parameters, accumulates}
-use Rattle.vx_base.specs.Image.{ImageValue, description_of, image_over}
-use Rattle.vx_base.specs.Node.{IsNode}
-use Rattle.vx_base.specs.Pixelwise.{from_two}
-use Rattle.vx_base.proofs.TableLaws.{length-table}
-use Rattle.image_core.specs.declared.band.Band.{Band}
-use Rattle.image_core.specs.declared.image_mut.ImageMut.{ImageMut}
-use Rattle.image_core.specs.Bands.{all_rows, rows_in}
-use Rattle.image_core.specs.Fits.{HaveSameSize}
-use Rattle.image_core.specs.Target.{written, IsTarget, SameSlices, Writes}
-use Rattle.image_core.proofs.BandLaws.{all_rows_are, all_written}
-use Rattle.vx_base.specs.Object.{ObjectValue, ImageObject, object_kind, object_format}
-use Rattle.vx_base.specs.Rectangle.{Rectangle}
-use Rattle.object_table.specs.Named.{Named}
-use Rattle.object_table.specs.Object.{image_value}
-use Rattle.object_table.specs.Table.{cell_object, image_held}
-use Rattle.graph_run.specs.Steps.{RunsTo}
+use Rattle.image_core.specs.Bands.{rows_in}
+use Rattle.image_core.specs.Target.{IsTarget, SameSlices}
+use Rattle.image_core.proofs.BandLaws.{all_rows_are}
 use Rattle.graph_run.proofs.RunLemmas.{has_of_node}
-use Rattle.std.proofs.lemmas.Bool.{and_parts, eqb-true}
 
 -- ---- functions that accumulate
 
@@ -69,10 +46,6 @@ module _ (f : ℤ → ℤ → ℤ) (a : ImageValue) (old new : ImageMut) (all : 
 
 -- ---- an output to which a node adds
 
--- an object that is an image is that image
-of_image : (object : ObjectValue) → object_kind object ≡ kind.Image → ImageObject (image_value object) ≡ object
-of_image object e = grind arith
-
 module _ (objects : List Named) (n : Node) (output : Cell) (h : RunsTo objects n output) (sums : accumulates n.function ≡ true) where
   pub writes_image_object : (parameters n.function).output ≡ kind.Image
   writes_image_object = sums_output n.function sums
@@ -86,4 +59,4 @@ module _ (objects : List Named) (n : Node) (output : Cell) (h : RunsTo objects n
   -- it is the image of the samples that are taken out
   pub old_image : (d : Description) (area : Rectangle) (samples : List ℤ) → d ≡ description_of (image_held objects output) → area ≡ (image_held objects output).valid → samples ≡ (image_held objects output).samples
       → ImageObject (image_over d area samples) ≡ cell_object objects output
-  old_image d area samples described valid taken = grind (arith, of_image (cell_object objects output) (h.runs.out_kind ∙ writes_image_object))
+  old_image d area samples described valid taken = grind (arith, image_of_kind (cell_object objects output) (h.runs.out_kind ∙ writes_image_object))

@@ -1,21 +1,6 @@
 -- Each node of a graph that can run finds, at its turn, what its cells were found to be.
 use Rattle.std.proofs.Common.{◌≡◌, ◌<◌, ℕ, List, [], ◌∷◌, map, sym, ap, subst, inl, inr, refl, None, rules}
-use Rattle.std.specs.List.{AllPairs}
-use Rattle.vx_base.specs.declared.node.Node.{Node}
-use Rattle.vx_base.specs.Cell.{Cell}
-use Rattle.vx_base.specs.Outputs.{written_by}
-use Rattle.object_table.specs.Named.{Named, held, with_written}
-use Rattle.graph_verify.specs.declared.operand.Operand.{Operand}
-use Rattle.graph_verify.specs.Links.{feeds}
-use Rattle.graph_verify.specs.Members.{In, AllIn}
-use Rattle.graph_verify.specs.Operand.{operands_of}
-use Rattle.graph_verify.specs.Order.{IsOrder}
-use Rattle.graph_verify.specs.Outlines.{resolved}
-use Rattle.graph_verify.specs.Verdict.{verdict, verdict_on, node_fault}
-use Rattle.graph_verify.proofs.NodeVerdictLemmas.{runs_alone}
-use Rattle.graph_verify.proofs.VerdictLemmas.{can_run}
-use Rattle.graph_run.specs.Graph.{begun, forgotten, one_by_one, run_of_graph}
-use Rattle.graph_run.specs.Operands.{CellsStand}
+use Rattle.graph_run.proofs.Common.{AllPairs, Node, Cell, written_by, Named, held, with_written, Operand, feeds, In, AllIn, operands_of, IsOrder, resolved, verdict, verdict_on, node_fault, runs_alone, can_run, begun, forgotten, one_by_one, run_of_graph, CellsStand}
 use Rattle.graph_run.proofs.BegunLaws.{labels-begun}
 use Rattle.graph_run.proofs.NameLaws.{Rising, rising}
 use Rattle.graph_run.proofs.OperandLaws.{no_fault, begun_stands, no_delay, stands_after}

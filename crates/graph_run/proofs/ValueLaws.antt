@@ -1,19 +1,8 @@
 -- What a node gives, over and over, is what it gives to its outputs as they were at first.
-use Rattle.std.proofs.Common.{◌≡◌, ℕ, zero, suc, true, false, List, [], ◌∷◌, refl, sym, ap, ◌∙◌, inl, inr, Option, arith}
-use Rattle.std.specs.Prelude.{◌⊎◌}
-use Rattle.std.specs.Option.{option_map, option_and_then}
-use Rattle.std.proofs.lemmas.Bool.{cases_Bool}
-use Rattle.vx_base.specs.declared.node.Node.{Node}
-use Rattle.vx_base.specs.Cell.{Cell}
-use Rattle.vx_base.specs.Object.{ObjectValue, object_kind}
-use Rattle.graph_verify.specs.Members.{In, AllIn}
-use mathlib.Core.Path.{fun_ext}
-use Rattle.graph_verify.specs.Links.{reads, writes, is_written}
-use Rattle.graph_verify.specs.Verdict.{two_writers}
-use Rattle.graph_verify.specs.Rounds.{round, rounds, step, once, OneWriter, ReadsAlone}
-use Rattle.graph_run.specs.Solution.{form_of}
+use Rattle.std.proofs.Common.{◌≡◌, ℕ, zero, suc, true, false, List, [], ◌∷◌, refl, sym, ap, ◌∙◌, inl, inr, Option, arith, ◌⊎◌, option_map, option_and_then}
+use Rattle.graph_run.proofs.Common.{cases_Bool, Node, Cell, ObjectValue, object_kind, In, AllIn, fun_ext, reads, writes, is_written, two_writers, OneWriter, In-from_any, form_of}
+use Rattle.graph_verify.specs.Rounds.{round, rounds, step, once, ReadsAlone}
 use Rattle.graph_verify.proofs.LinkLemmas.{two_writers-after, written_once}
-use Rattle.graph_verify.proofs.MemberLemmas.{In-from_any}
 use Rattle.graph_run.proofs.LinkLaws.{reads_first, reads_second}
 use Rattle.graph_run.proofs.HeldLaws.{kind-form_seen}
 use Rattle.graph_run.proofs.NodeLaws.{output_at, output_of, given_to, given_from, given_in, output_of_again, form-output_of}

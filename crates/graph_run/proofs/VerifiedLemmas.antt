@@ -1,56 +1,18 @@
 -- A graph that is found able to run: how it runs.
-use Rattle.std.proofs.Common.{◌≡◌, ◌≢◌, ℕ, ◌<◌, Bool, true, false, List, [], ◌∷◌, map, get_or, zero, suc, Option, Some, None, inl, inr, refl, sym, ap, subst, ◌∙◌, arith}
-use Rattle.std.specs.Prelude.{All, ◌==◌, ◌&&◌, unwrap_or}
-use Rattle.std.specs.List.{AllPairs, list_any, filter, flat_map}
-use Rattle.std.specs.List.Sorted.{IsStrictlyIncreasing}
-use Rattle.std.specs.Option.{option_map, option_and_then}
-use Rattle.std.proofs.lemmas.Bool.{false_from_ne_true, cases_Bool, eq-eqb, or_parts, or_left, or_right, and_parts, and_from}
-use Rattle.std.proofs.lemmas.List.{length-map, get_or-map}
+use Rattle.std.proofs.Common.{◌≡◌, ◌≢◌, ℕ, ◌<◌, Bool, true, false, List, [], ◌∷◌, map, get_or, zero, suc, Option, Some, None, inl, inr, refl, sym, ap, subst, ◌∙◌, arith, All, ◌==◌, ◌&&◌, unwrap_or, option_map, option_and_then}
+use Rattle.graph_run.proofs.Common.{AllPairs, list_any, filter, flat_map, IsStrictlyIncreasing, cases_Bool, eq-eqb, or_parts, or_left, or_right, and_parts, and_from, length-map, get_or-map, Kind, Node, VirtualImage, Cell, same_cell, Description, IsNode, inputs, outputs, operands, ObjectValue, VirtualObject, object_kind, in_slot, Named, object_held, held, VirtualOutput, Operand, Image, Delay, Operands, Verified, reads, writes, has_twice, is_written, In, operand_of, operand_kind, operands_of, resolved, outlines, verdict, verdict_on, IsVerified, written_description, same-from_In, In-outputs, two_writers-permutation, In-left, In-right, In-append, In-from_any, any-from_In, In-filter, In-from_filter, In-map, In-from_map, In-from_flat_map, In-at, AllIn-permutation, AllIn-permutation_back, CanRun, can_run, names_of, HoldsOperand, names_cell, StandsFor, CellsStand, operand_held, HoldsKind, CanRunNow, AreVirtual}
 use Rattle.std.proofs.lemmas.List.Kept.{AllPairs-from_increasing}
 use Rattle.std.proofs.Math.ListN.{get_or-map as get_or-map_default}
-use Rattle.vx_base.specs.declared.kind.Kind.{Kind}
 use Rattle.vx_base.specs.declared.kind.Kind.TheVariants as kind
-use Rattle.vx_base.specs.declared.node.Node.{Node}
-use Rattle.vx_base.specs.declared.virtual_image.VirtualImage.{VirtualImage}
-use Rattle.vx_base.specs.Cell.{Cell, same_cell}
-use Rattle.vx_base.specs.Description.{Description}
-use Rattle.vx_base.specs.Node.{IsNode, inputs, outputs, operands}
-use Rattle.vx_base.specs.Object.{ObjectValue, VirtualObject, object_kind}
-use Rattle.object_table.specs.Delay.{in_slot}
-use Rattle.object_table.specs.Named.{Named, object_held, held}
-use Rattle.graph_verify.specs.declared.known.VirtualOutput.{VirtualOutput}
-use Rattle.graph_verify.specs.declared.operand.Operand.{Operand}
-use Rattle.graph_verify.specs.declared.operand.Operand.TheVariants.{Image, Delay}
-use Rattle.graph_verify.specs.declared.operand.Operands.{Operands}
-use Rattle.graph_verify.specs.declared.verified.Verified.{Verified}
-use Rattle.graph_verify.specs.Links.{reads, writes, has_twice, is_written}
-use Rattle.graph_verify.specs.Members.{In}
-use Rattle.graph_verify.specs.Operand.{operand_of, operand_kind, operands_of, is_virtual as is_virtual_operand}
-use Rattle.graph_verify.specs.Outlines.{resolved, outlines}
-use Rattle.graph_verify.specs.Verdict.{verdict, verdict_on}
-use Rattle.graph_verify.specs.Verified.{IsVerified, written_description}
-use Rattle.graph_verify.proofs.LinkLemmas.{same_cell-is, same-from_In, In-outputs, two_writers-permutation}
-use Rattle.graph_verify.proofs.MemberLemmas.{In-left, In-right, In-append, In-from_any, any-from_In, In-filter, In-from_filter, In-map, In-from_map, In-from_flat_map, In-at, AllIn-permutation, AllIn-permutation_back}
-use Rattle.graph_verify.proofs.VerdictLemmas.{CanRun, can_run}
-use Rattle.graph_run.specs.Operands.{HoldsOperand, names_cell, StandsFor, CellsStand, operand_held}
+use Rattle.graph_verify.specs.Operand.{is_virtual as is_virtual_operand}
+use Rattle.graph_verify.proofs.LinkLemmas.{same_cell-is}
+use Rattle.buffer_plan.proofs.VerifiedLemmas.{once_cells}
 use Rattle.graph_run.proofs.LinkLaws.{All-from_In, In-from_All}
 use Rattle.graph_run.proofs.OperandLaws.{outline_of_virtual, known_kept, virtual_written}
 use Rattle.graph_run.proofs.TurnLaws.{each_alone}
-use Rattle.graph_run.specs.Turns.{HoldsKind, CanRunNow, AreVirtual}
 use Rattle.graph_run.proofs.BegunLaws.{begun_under, begun_stays, virtual_as_operand}
-use Rattle.object_table.proofs.HeldLemmas.{names_of}
 
 -- ---- cells that stand in a list once
-
-any_filter : (c : Cell) (p : Cell → Bool) (cs : List Cell) → list_any (same_cell c) cs ≡ false
-    → list_any (same_cell c) (filter p cs) ≡ false
-any_filter c p cs none = grind (arith, false_from_ne_true, In-from_any, any-from_In, In-from_filter)
-
-once_filter : (p : Cell → Bool) (cs : List Cell) → has_twice cs ≡ false → has_twice (filter p cs) ≡ false
-once_filter p [] once = refl
-once_filter p (c ∷ cs) once =
-    let both = or_parts (list_any (same_cell c) cs) (has_twice cs) once in
-    grind (arith, cases_Bool (p c), any_filter c p cs both.0, once_filter p cs both.1)
 
 once_apart : (cs : List Cell) → has_twice cs ≡ false → AllPairs (λ a b. a ≢ b) cs
 once_apart (c ∷ cs) once zero (suc j) d less within = λ same.
@@ -164,7 +126,7 @@ module _ (objects : List Named) (nodes : List Node) (v : Verified) (work : ℕ) 
   once_each : has_twice (map (λ (o : VirtualOutput). o.cell) outs) ≡ false
   once_each =
       ap has_twice how.cells
-      ∙ once_filter (λ cell. is_virtual_operand (is cell)) (flat_map outputs steps)
+      ∙ once_cells (λ cell. is_virtual_operand (is cell)) (flat_map outputs steps)
       (two_writers-permutation nodes steps how.order.same_nodes can.one_writer)
 
   pub are_virtual : AreVirtual objects outs

@@ -68,6 +68,17 @@ abbrev pub part_made : Band → Stage → Node → Output → Cell → ImageValu
 part_made rows s n which output =
     node_image n which (image_held (scene s).objects output).format (image_value (seen rows s n.in1)) (option_map (seen rows s) n.in2)
 
+-- what a node reads that sees parts is there
+pub record ReadsParts (rows : Band) (s : Stage) (n : Node) : Type 0 where
+  pub in1 : HoldsImage (scene s).objects n.in1
+  pub in2 : IfSome n.in2 (Holds (scene s).objects)
+  pub first : IsImage (image_held (scene s).objects n.in1)
+  pub second : IfSome (option_map (cell_object (scene s).objects) n.in2) IsObject
+  pub second_kind : IfSome (option_map (cell_object (scene s).objects) n.in2) (λ object. IsRead (object_kind object))
+  pub some_rows : 1 ≤ rows.count
+  pub in1_rows : HasRows rows s n.in1
+  pub in2_rows : IfSome n.in2 (HasRows rows s)
+
 -- an output of a node that sees parts, apart from what the node reads
 pub record SeesParts (rows : Band) (s : Stage) (n : Node) (output : Cell) : Type 0 where
   pub in1 : HoldsImage (scene s).objects n.in1

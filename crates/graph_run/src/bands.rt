@@ -325,8 +325,7 @@ fn write_part(stage: &mut Stage, node: &Node, which: Output, output: ObjRef, row
     ensures keeps { Keeps stage.old stage.new }
 {
     let (desc, mut samples) = stage.take(output);
-    let first = stage.part(node.in1, rows);
-    let second = stage.second_part(node.in2, rows);
+    let (first, second) = stage.inputs(node, rows);
     let valid = write_samples(desc, &mut samples, node, which, &first, &second);
     stage.put(output, samples, valid);
 }
@@ -347,8 +346,7 @@ fn write_band(stage: &mut Stage, node: &Node, which: Output, output: ObjRef, str
     ensures keeps { Keeps stage.old stage.new }
 {
     let (desc, mut samples) = stage.take(output);
-    let first = stage.part(node.in1, strip.rows);
-    let second = stage.second_part(node.in2, strip.rows);
+    let (first, second) = stage.inputs(node, strip.rows);
     let part = Desc::with_sides(desc.width(), strip.rows.count, desc.format());
     write_rows(part, &mut samples, strip, node, which, &first, &second);
     stage.put(output, samples, desc.whole());

@@ -8,16 +8,29 @@ ghost use Rattle.image_core.specs.Second.{second_object};
 ghost use Rattle.object_table.specs.Delay.{in_slot, object_in};
 ghost use Rattle.object_table.specs.Table.{image_held, cell_object, HoldsImage};
 ghost use Rattle.node_rows.specs.Parts.{part_of, rows_of};
-ghost use Rattle.graph_run.specs.Bands.{HasRows, HasRowsIn, part_seen, seen};
+ghost use Rattle.graph_run.specs.Bands.{HasRows, HasRowsIn, ReadsParts, part_seen, seen};
 ghost use Rattle.graph_run.specs.Stage.{IsArranged, scene};
 ghost use Rattle.graph_run.specs.Steps.{Holds, IsRead};
 
 use crate::stage::Stage;
+use crate::step;
 use image_core::{Band, Image, Second};
 use object_table::{Content, Object, Stored};
-use vx_base::{Desc, ObjRef, Rect, Samples};
+use vx_base::{Desc, Node, ObjRef, Rect, Samples};
 
 impl Stage {
+    /// What a node sees of its inputs: these rows of images, or what stands in slots.
+    pub fn inputs(&self, node: &Node, rows: Band) -> (Image<'_>, Second<'_>)
+        requires stage { IsArranged self.now }
+        requires reads { ReadsParts rows self.now node.now }
+        ensures first { ImageObject result.0 ≡ seen rows self.now node.now.in1 }
+        ensures second { second_object result.1 ≡ option_map (seen rows self.now) node.now.in2 }
+    {
+        let first = self.part(node.in1, rows);
+        let second = self.second_part(node.in2, rows);
+        (first, second)
+    }
+
     /// What a node sees of the image that a cell holds: these rows of it, or what stands in a slot.
     pub fn part(&self, cell: ObjRef, rows: Band) -> Image<'_>
         requires stage { IsArranged self.now }
@@ -28,13 +41,13 @@ impl Stage {
         ensures { ImageObject result ≡ seen rows self.now cell }
     {
         match self.place_of(cell.name()) {
-            Some(at) => self.slots[at].image(),
+            Some(_) => self.image(cell),
             None => part_of(self.table.image(cell), rows),
         }
     }
 
     /// What a node sees of its second input, lent to its kernel.
-    pub fn second_part(&self, cell: Option<ObjRef>, rows: Band) -> Second<'_>
+    fn second_part(&self, cell: Option<ObjRef>, rows: Band) -> Second<'_>
         requires stage { IsArranged self.now }
         requires there { IfSome cell (Holds (scene self.now).objects) }
         requires object { IfSome (option_map (cell_object (scene self.now).objects) cell) IsObject }
@@ -82,10 +95,7 @@ fn second_of(object: &Object, rows: Band) -> Second<'_>
 {
     match object.content() {
         Content::Image(stored) => Second::Image(part_of(stored, rows)),
-        Content::Lut(lut) => Second::Lut(lut),
-        Content::Threshold(threshold) => Second::Threshold(*threshold),
-        Content::Convolution(convolution) => Second::Convolution(convolution),
-        _ => unreachable!(),
+        _ => step::second_of(object),
     }
 }
 

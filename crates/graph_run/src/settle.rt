@@ -29,6 +29,7 @@ ghost use Rattle.graph_run.specs.Settle.{IsBandOutput, SuitsBands, IsArea, area_
 use crate::bands::Bands;
 use crate::verify::operand_held;
 use border_rows::window_valid;
+use buffer_plan::steps_before;
 use graph_verify::{Operand, Verified, VirtualOutput};
 use node_rows::reach;
 use object_table::{Content, Object, Table};
@@ -161,8 +162,11 @@ fn rows_of(desc: Desc, beside: u16) -> u16
 {
     let width = u32::from(desc.width());
     let rows = (BAND_SAMPLES / width).max(LEAST_ROWS).min(GREATEST_ROWS);
-    let greatest = (GREATEST_BAND_SAMPLES / width).max(LEAST_ROWS).min(GREATEST_ROWS);
-    rows.max(u32::from(beside) * ROWS_FOR_ONE_BESIDE).min(greatest) as u16
+    let greatest = (GREATEST_BAND_SAMPLES / width)
+        .max(LEAST_ROWS)
+        .min(GREATEST_ROWS);
+    rows.max(u32::from(beside) * ROWS_FOR_ONE_BESIDE)
+        .min(greatest) as u16
 }
 
 /// How many rows up and down nodes look together. `None`: one of them looks at all rows.
@@ -352,24 +356,10 @@ fn area_of(table: &Table, before: &[Node], areas: &[Rect], cell: ObjRef) -> Rect
     ensures { result ≡ unwrap_or (option_and_then (slice_get areas.now)
         (position (λ n. writes n cell) before.now)) (image_held table.now.objects cell).valid }
 {
-    match writer_of(before, cell) {
+    match steps_before(before, cell) {
         Some(k) => areas[k],
         None => area_held(table, cell),
     }
-}
-
-/// The place of the first node that writes a cell.
-fn writer_of(nodes: &[Node], cell: ObjRef) -> Option<usize>
-    ensures { result ≡ position (λ n. writes n cell) nodes.now }
-{
-    nodes.iter().position(|node| writes(node, cell))
-}
-
-/// Whether a node writes a cell.
-fn writes(node: &Node, cell: ObjRef) -> bool
-    ensures { result ≡ writes node.now cell }
-{
-    node.out1 == Some(cell) || node.out2 == Some(cell)
 }
 
 /// The valid rectangle of the image that a cell holds, if it holds one.

@@ -241,7 +241,7 @@ fn second_in(object: &Object, slot: Option<u8>) -> Second<'_>
 }
 
 /// An object beside the first input, lent to a kernel.
-fn second_of(object: &Object) -> Second<'_>
+pub fn second_of(object: &Object) -> Second<'_>
     requires object { IsObject object.now }
     requires kind { IsRead (object_kind object.now) }
     ensures { second_object result ≡ Some object.now }

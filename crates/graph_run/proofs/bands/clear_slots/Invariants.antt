@@ -1,5 +1,5 @@
 use Rattle.std.proofs.Common.{◌≡◌, map, take}
-use Rattle.graph_run.specs.Slots.{room_of, AreEmpty}
+use Rattle.graph_run.proofs.Common.{room_of, AreEmpty}
 use Rattle.graph_run.proofs.bands.clear_slots.Given as goal
 
 -- nothing stands in the slots so far; all have the room that they had

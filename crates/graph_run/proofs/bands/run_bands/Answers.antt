@@ -1,7 +1,5 @@
 use Rattle.std.proofs.Common.{◌≡◌, ◌+◌, ◌∙◌, ℕ, refl, sym, ap, subst, arith}
-use Rattle.object_table.specs.Context.{Context, with_objects}
-use Rattle.graph_run.specs.Bands.{final_of, IsFinished}
-use Rattle.graph_run.specs.Lasting.{Lasts}
+use Rattle.graph_run.proofs.Common.{Context, with_objects, final_of, IsFinished, Lasts}
 use Rattle.graph_run.proofs.SettledLemmas.{begins_finished, lasts_in_the_end}
 use Rattle.graph_run.proofs.bands.run_bands.Goals as goal
 

@@ -1,9 +1,5 @@
 use Rattle.std.proofs.Common.{◌≡◌, ◌≤◌, ◌-◌, List, map}
-use Rattle.vx_base.specs.declared.node.Node.{Node}
-use Rattle.graph_run.specs.Bands.{final_of, IsFinished}
-use Rattle.graph_run.specs.Operands.{IsReady}
-use Rattle.graph_run.specs.Slots.{room_of}
-use Rattle.graph_run.specs.Stage.{IsStage}
+use Rattle.graph_run.proofs.Common.{Node, final_of, IsFinished, IsReady, room_of, IsStage}
 use Rattle.graph_run.proofs.bands.run_bands.Given as goal
 
 -- so many rows are as they will be

@@ -1,4 +1,4 @@
-use Rattle.image_core.specs.Second.{second_object}
+use Rattle.graph_run.proofs.Common.{second_object}
 use Rattle.graph_run.proofs.BandRowsLemmas.{format_written, rows_written}
 use Rattle.graph_run.proofs.bands.run_rows.Goals as goal
 

@@ -1,10 +1,5 @@
 use Rattle.std.proofs.Common.{◌≡◌, List, Some}
-use Rattle.vx_base.specs.declared.node.Node.{Node}
-use Rattle.object_table.specs.Named.{Named}
-use Rattle.buffer_plan.specs.Places.{told}
-use Rattle.graph_run.specs.Bands.{RunsInBands, IsStrip, IsFinished, final_of}
-use Rattle.graph_run.specs.Slots.{plan_in}
-use Rattle.graph_run.specs.Stage.{IsStage}
+use Rattle.graph_run.proofs.Common.{Node, Named, told, RunsInBands, IsStrip, IsFinished, final_of, plan_in, IsStage}
 use Rattle.graph_run.proofs.StripRunLemmas.{IsInStrip}
 use Rattle.graph_run.proofs.bands.run_strip.Given as goal
 

@@ -1,6 +1,5 @@
 use Rattle.std.proofs.Common.{◌∙◌, sym, ap}
-use Rattle.object_table.specs.Named.{object_held}
-use Rattle.graph_run.specs.Bands.{is_image_held}
+use Rattle.graph_run.proofs.Common.{object_held, is_image_held}
 use Rattle.graph_run.proofs.SettledLemmas.{image_left, format_left, area_put}
 use Rattle.graph_run.proofs.bands.set_area.Goals as goal
 

@@ -1,6 +1,5 @@
 use Rattle.std.proofs.Common.{◌<◌, ◌∙◌, List, length, refl, ap, arith}
-use Rattle.object_table.specs.Context.{Context}
-use Rattle.object_table.specs.Named.{Named}
+use Rattle.graph_run.proofs.Common.{Context, Named}
 use Rattle.graph_run.proofs.SettledLemmas.{begins_settled, first_whole, second_whole, step_settled, all_settled}
 use Rattle.graph_run.proofs.bands.set_areas.Goals as goal
 

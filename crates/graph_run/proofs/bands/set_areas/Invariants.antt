@@ -1,7 +1,5 @@
 use Rattle.std.proofs.Common.{◌≡◌, List, take}
-use Rattle.vx_base.specs.declared.node.Node.{Node}
-use Rattle.object_table.specs.Named.{Named}
-use Rattle.graph_run.specs.Bands.{RunsInBands, final_of, IsFinished, AreAreas}
+use Rattle.graph_run.proofs.Common.{Node, Named, RunsInBands, final_of, IsFinished, AreAreas}
 use Rattle.graph_run.proofs.SettledLemmas.{AreSettled}
 use Rattle.graph_run.proofs.bands.set_areas.Given as goal
 

@@ -1,28 +1,10 @@
 use Rattle.std.proofs.Common.{◌∙◌, refl, sym}
-use Rattle.graph_run.proofs.SeenLemmas.{first_there, first_image, first_rows, second_holds, second_is, second_read, second_rows, as_target, runs_there, takes_back, left_described, has_room, band_count, band_put}
+use Rattle.graph_run.proofs.SeenLemmas.{inputs_there, as_target, runs_there, takes_back, left_described, has_room, band_count, band_put}
 use Rattle.graph_run.proofs.StepLemmas.{put_keeps, resized_alike, still_for}
 use Rattle.graph_run.proofs.bands.write_band.Goals as goal
 
-pub part-first-requires-clause-there : goal.part-first-requires-clause-there
-part-first-requires-clause-there c = first_there _ _ _ _ c.requires.sees c.take-desc.new.self _ c.take-desc.ensures.left (resized_alike _ _ _ _ c.take-desc.ensures.none)
-
-pub part-first-requires-clause-image : goal.part-first-requires-clause-image
-part-first-requires-clause-image c = first_image _ _ _ _ c.requires.sees c.take-desc.new.self _ c.take-desc.ensures.left (resized_alike _ _ _ _ c.take-desc.ensures.none)
-
-pub part-first-requires-clause-rows : goal.part-first-requires-clause-rows
-part-first-requires-clause-rows c = first_rows _ _ _ _ c.requires.sees c.take-desc.new.self _ c.take-desc.ensures.left (resized_alike _ _ _ _ c.take-desc.ensures.none)
-
-pub second_part-second-requires-clause-there : goal.second_part-second-requires-clause-there
-second_part-second-requires-clause-there c = second_holds _ _ _ _ c.requires.sees c.take-desc.new.self _ c.take-desc.ensures.left (resized_alike _ _ _ _ c.take-desc.ensures.none)
-
-pub second_part-second-requires-clause-object : goal.second_part-second-requires-clause-object
-second_part-second-requires-clause-object c = second_is _ _ _ _ c.requires.sees c.take-desc.new.self _ c.take-desc.ensures.left (resized_alike _ _ _ _ c.take-desc.ensures.none)
-
-pub second_part-second-requires-clause-kind : goal.second_part-second-requires-clause-kind
-second_part-second-requires-clause-kind c = second_read _ _ _ _ c.requires.sees c.take-desc.new.self _ c.take-desc.ensures.left (resized_alike _ _ _ _ c.take-desc.ensures.none)
-
-pub second_part-second-requires-clause-rows : goal.second_part-second-requires-clause-rows
-second_part-second-requires-clause-rows c = second_rows _ _ _ _ c.requires.sees c.take-desc.new.self _ c.take-desc.ensures.left (resized_alike _ _ _ _ c.take-desc.ensures.none)
+pub inputs-first-requires-clause-reads : goal.inputs-first-requires-clause-reads
+inputs-first-requires-clause-reads c = inputs_there _ _ _ _ c.requires.sees c.take-desc.new.self _ c.take-desc.ensures.left (resized_alike _ _ _ _ c.take-desc.ensures.none)
 
 pub write_rows-requires-clause-room : goal.write_rows-requires-clause-room
 write_rows-requires-clause-room c =
@@ -32,7 +14,7 @@ write_rows-requires-clause-room c =
 
 pub write_rows-requires-clause-can_run : goal.write_rows-requires-clause-can_run
 write_rows-requires-clause-can_run c =
-    runs_there _ _ _ _ c.requires.sees c.take-desc.new.self _ c.take-desc.ensures.left (resized_alike _ _ _ _ c.take-desc.ensures.none) _ _ c.part-first.ensures c.second_part-second.ensures c.with_sides-part.result
+    runs_there _ _ _ _ c.requires.sees c.take-desc.new.self _ c.take-desc.ensures.left (resized_alike _ _ _ _ c.take-desc.ensures.none) _ _ c.inputs-first.ensures.first c.inputs-first.ensures.second c.with_sides-part.result
     (as_target _ _ _ _ c.requires.sees _ _ _ _ c.take-desc.ensures.desc c.width.ensures.value c.format.ensures c.with_sides-part.ensures)
 
 pub put-requires-clause-there : goal.put-requires-clause-there
@@ -49,7 +31,7 @@ put-requires-clause-samples c =
 pub returns-clause-value : goal.returns-clause-value
 returns-clause-value c =
     let part = as_target _ _ _ _ c.requires.sees _ _ _ _ c.take-desc.ensures.desc c.width.ensures.value c.format.ensures c.with_sides-part.ensures in
-    band_put _ _ _ _ c.requires.sees c.take-desc.new.self _ c.take-desc.ensures.left (resized_alike _ _ _ _ c.take-desc.ensures.none) _ _ c.part-first.ensures c.second_part-second.ensures c.args.which refl c.take-desc.result.0 c.take-desc.ensures.desc _ _ _
+    band_put _ _ _ _ c.requires.sees c.take-desc.new.self _ c.take-desc.ensures.left (resized_alike _ _ _ _ c.take-desc.ensures.none) _ _ c.inputs-first.ensures.first c.inputs-first.ensures.second c.args.which refl c.take-desc.result.0 c.take-desc.ensures.desc _ _ _
     c.put.ensures.value c.args.strip c.requires.strip c.requires.rows c.with_sides-part.result part _ (c.take-desc.ensures.samples.exact c.requires.slot) c.take-desc.ensures.value c.whole.ensures c.write_rows.ensures.samples
 
 pub returns-clause-keeps : goal.returns-clause-keeps

@@ -1,32 +1,14 @@
 use Rattle.std.proofs.Common.{◌∙◌, refl, sym}
-use Rattle.graph_run.proofs.SeenLemmas.{first_there, first_image, first_rows, second_holds, second_is, second_read, second_rows, as_high, runs_there, takes_back, left_described, part_put}
+use Rattle.graph_run.proofs.SeenLemmas.{inputs_there, as_high, runs_there, takes_back, left_described, part_put}
 use Rattle.graph_run.proofs.StepLemmas.{put_keeps, resized_alike, still_for}
 use Rattle.graph_run.proofs.bands.write_part.Goals as goal
 
-pub part-first-requires-clause-there : goal.part-first-requires-clause-there
-part-first-requires-clause-there c = first_there _ _ _ _ c.requires.sees c.take-desc.new.self _ c.take-desc.ensures.left (resized_alike _ _ _ _ c.take-desc.ensures.none)
-
-pub part-first-requires-clause-image : goal.part-first-requires-clause-image
-part-first-requires-clause-image c = first_image _ _ _ _ c.requires.sees c.take-desc.new.self _ c.take-desc.ensures.left (resized_alike _ _ _ _ c.take-desc.ensures.none)
-
-pub part-first-requires-clause-rows : goal.part-first-requires-clause-rows
-part-first-requires-clause-rows c = first_rows _ _ _ _ c.requires.sees c.take-desc.new.self _ c.take-desc.ensures.left (resized_alike _ _ _ _ c.take-desc.ensures.none)
-
-pub second_part-second-requires-clause-there : goal.second_part-second-requires-clause-there
-second_part-second-requires-clause-there c = second_holds _ _ _ _ c.requires.sees c.take-desc.new.self _ c.take-desc.ensures.left (resized_alike _ _ _ _ c.take-desc.ensures.none)
-
-pub second_part-second-requires-clause-object : goal.second_part-second-requires-clause-object
-second_part-second-requires-clause-object c = second_is _ _ _ _ c.requires.sees c.take-desc.new.self _ c.take-desc.ensures.left (resized_alike _ _ _ _ c.take-desc.ensures.none)
-
-pub second_part-second-requires-clause-kind : goal.second_part-second-requires-clause-kind
-second_part-second-requires-clause-kind c = second_read _ _ _ _ c.requires.sees c.take-desc.new.self _ c.take-desc.ensures.left (resized_alike _ _ _ _ c.take-desc.ensures.none)
-
-pub second_part-second-requires-clause-rows : goal.second_part-second-requires-clause-rows
-second_part-second-requires-clause-rows c = second_rows _ _ _ _ c.requires.sees c.take-desc.new.self _ c.take-desc.ensures.left (resized_alike _ _ _ _ c.take-desc.ensures.none)
+pub inputs-first-requires-clause-reads : goal.inputs-first-requires-clause-reads
+inputs-first-requires-clause-reads c = inputs_there _ _ _ _ c.requires.sees c.take-desc.new.self _ c.take-desc.ensures.left (resized_alike _ _ _ _ c.take-desc.ensures.none)
 
 pub write_samples-valid-requires-clause-can_run : goal.write_samples-valid-requires-clause-can_run
 write_samples-valid-requires-clause-can_run c =
-    runs_there _ _ _ _ c.requires.sees c.take-desc.new.self _ c.take-desc.ensures.left (resized_alike _ _ _ _ c.take-desc.ensures.none) _ _ c.part-first.ensures c.second_part-second.ensures c.take-desc.result.0
+    runs_there _ _ _ _ c.requires.sees c.take-desc.new.self _ c.take-desc.ensures.left (resized_alike _ _ _ _ c.take-desc.ensures.none) _ _ c.inputs-first.ensures.first c.inputs-first.ensures.second c.take-desc.result.0
     (as_high _ _ _ _ c.requires.sees c.take-desc.result.0 c.take-desc.ensures.desc c.requires.height)
 
 pub put-requires-clause-there : goal.put-requires-clause-there
@@ -40,7 +22,7 @@ put-requires-clause-samples c =
 
 pub returns-clause-value : goal.returns-clause-value
 returns-clause-value c =
-    part_put _ _ _ _ c.requires.sees c.take-desc.new.self _ c.take-desc.ensures.left (resized_alike _ _ _ _ c.take-desc.ensures.none) _ _ c.part-first.ensures c.second_part-second.ensures c.args.which refl c.take-desc.result.0 c.take-desc.ensures.desc _ _ _
+    part_put _ _ _ _ c.requires.sees c.take-desc.new.self _ c.take-desc.ensures.left (resized_alike _ _ _ _ c.take-desc.ensures.none) _ _ c.inputs-first.ensures.first c.inputs-first.ensures.second c.args.which refl c.take-desc.result.0 c.take-desc.ensures.desc _ _ _
     c.put.ensures.value c.requires.height c.write_samples-valid.ensures.valid c.write_samples-valid.ensures.samples
 
 pub returns-clause-keeps : goal.returns-clause-keeps

@@ -1,5 +1,5 @@
 use Rattle.std.proofs.Common.{refl, rules}
-use Rattle.vx_base.specs.declared.format.Format.TheVariants.{U8}
+use Rattle.graph_run.proofs.Common.{U8}
 use Rattle.graph_run.proofs.KernelLemmas.{two_written}
 use Rattle.graph_run.proofs.kernel.run_on_two.Goals as goal
 

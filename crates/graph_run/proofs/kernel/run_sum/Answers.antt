@@ -1,8 +1,6 @@
 use Rattle.std.proofs.Common.{◌∙◌, ap, sym}
-use Rattle.vx_base.specs.declared.format.Format.TheVariants.{S16}
-use Rattle.vx_base.specs.declared.function.Function.{Function}
-use Rattle.vx_base.specs.Pixelwise.{accumulated, accumulated_square, from_two, formula_of_two}
-use Rattle.image_core.specs.Target.{written}
+use Rattle.graph_run.proofs.Common.{S16, Function, from_two, formula_of_two, written}
+use Rattle.vx_base.specs.Pixelwise.{accumulated, accumulated_square}
 use Rattle.graph_run.proofs.SumLemmas.{sum_written, sum_slices}
 use Rattle.graph_run.proofs.kernel.run_sum.Goals as goal
 

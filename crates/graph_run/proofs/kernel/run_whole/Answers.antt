@@ -1,4 +1,4 @@
-use Rattle.image_core.specs.Second.{second_object}
+use Rattle.graph_run.proofs.Common.{second_object}
 use Rattle.graph_run.proofs.OutputLemmas.{all_written_is}
 use Rattle.graph_run.proofs.kernel.run_whole.Goals as goal
 

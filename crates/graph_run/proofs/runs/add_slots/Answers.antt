@@ -1,11 +1,6 @@
 use Rattle.std.proofs.Common.{◌≡◌, ◌+◌, [], ◌∷◌, ◌++◌, List, length, map, None, refl, ap, sym, subst, ◌∙◌, arith}
+use Rattle.graph_run.proofs.Common.{All-push, values, lent_of, blocks_of, told, Slot, plan_in, room_of, AreEmpty, slot_blocks}
 use Rattle.std.proofs.lemmas.List.{length_push}
-use Rattle.std.proofs.lemmas.List.Elements.{All-push}
-use Rattle.vx_base.specs.Picture.{values}
-use Rattle.pixel_pool.specs.Pool.{lent_of, blocks_of}
-use Rattle.buffer_plan.specs.Places.{told}
-use Rattle.graph_run.specs.declared.stage.Slot.{Slot}
-use Rattle.graph_run.specs.Slots.{plan_in, room_of, AreEmpty, slot_blocks}
 use Rattle.graph_run.proofs.SlotPoolLemmas.{taken_adds, rooms_more, lends_more, adds_more}
 use Rattle.graph_run.proofs.runs.add_slots.Goals as goal
 

@@ -1,11 +1,5 @@
-use Rattle.std.proofs.Common.{◌≡◌, ◌+◌, ◌-◌, ◌≤◌, ◌++◌, length, map}
-use Rattle.std.specs.Prelude.{vec_capacity, if◌then◌else◌}
-use Rattle.std.specs.List.{range_with_len}
-use Rattle.vx_base.specs.declared.format.Format.{Format}
-use Rattle.vx_base.specs.Sample.{same_format}
-use Rattle.pixel_pool.specs.Pool.{lent_of, blocks_of}
-use Rattle.buffer_plan.specs.Places.{told}
-use Rattle.graph_run.specs.Slots.{plan_in, room_of, AreEmpty, slot_blocks}
+use Rattle.std.proofs.Common.{◌≡◌, ◌+◌, ◌-◌, ◌≤◌, ◌++◌, length, map, vec_capacity, if◌then◌else◌}
+use Rattle.graph_run.proofs.Common.{range_with_len, Format, same_format, lent_of, blocks_of, told, plan_in, room_of, AreEmpty, slot_blocks}
 use Rattle.graph_run.proofs.runs.add_slots.Given as goal
 
 -- the slots so far stand behind those that were there, empty, and there is room for the others

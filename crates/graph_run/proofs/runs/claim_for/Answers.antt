@@ -1,11 +1,5 @@
-use Rattle.std.proofs.Common.{◌∙◌, ap, sym, subst, arith}
-use Rattle.std.specs.Prelude.{Option, IfSome, slice_get}
-use Rattle.std.proofs.lemmas.Option.{slice_get_within}
-use Rattle.graph_verify.specs.declared.known.VirtualOutput.{VirtualOutput}
-use Rattle.buffer_plan.specs.Places.{told}
-use Rattle.graph_run.specs.declared.stage.Slot.{Slot}
-use Rattle.graph_run.specs.Slots.{slot_place}
-use Rattle.graph_run.specs.Stage.{HasRoomFor, HoldsVirtual}
+use Rattle.std.proofs.Common.{◌∙◌, ap, sym, subst, arith, Option, IfSome, slice_get}
+use Rattle.graph_run.proofs.Common.{slice_get_within, VirtualOutput, told, Slot, slot_place, HasRoomFor, HoldsVirtual}
 use Rattle.graph_run.proofs.LinkLaws.{In-from_All}
 use Rattle.graph_run.proofs.SlotLemmas.{planned_slots}
 use Rattle.graph_run.proofs.SharingLemmas.{output_at, described_here, output_can_claim, claims_slot, none_claims, undescribed, unplaced, stands_nowhere_else}

@@ -1,8 +1,6 @@
 use Rattle.std.proofs.Common.{◌≡◌, ◌+◌, ◌≤◌, length}
+use Rattle.graph_run.proofs.Common.{Format, lent_of, blocks_of, slot_blocks}
 use Rattle.std.specs.Vec.Iter.{into_iter_items, into_iter_len}
-use Rattle.vx_base.specs.declared.format.Format.{Format}
-use Rattle.pixel_pool.specs.Pool.{lent_of, blocks_of}
-use Rattle.graph_run.specs.Slots.{slot_blocks}
 use Rattle.graph_run.proofs.runs.give_back.Given as goal
 
 -- the blocks of the slots so far are given back

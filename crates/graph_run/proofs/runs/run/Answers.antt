@@ -1,14 +1,5 @@
-use Rattle.std.proofs.Common.{◌≡◌, List, sym, subst, arith}
-use Rattle.std.specs.Prelude.{All, IfSome}
-use Rattle.std.specs.List.Sorted.{IsStrictlyIncreasing}
-use Rattle.vx_base.specs.declared.node.Node.{Node}
-use Rattle.vx_base.specs.Object.{IsObject}
-use Rattle.object_table.specs.Context.{Context, with_objects}
-use Rattle.object_table.proofs.HeldLemmas.{names_of}
-use Rattle.graph_verify.specs.Outlines.{resolved}
-use Rattle.graph_run.specs.Bands.{AreAreas, final_of}
-use Rattle.graph_run.specs.Graph.{run_of_graph}
-use Rattle.graph_run.specs.Operands.{operand_held, IsReady}
+use Rattle.std.proofs.Common.{◌≡◌, List, sym, subst, arith, All, IfSome}
+use Rattle.graph_run.proofs.Common.{IsStrictlyIncreasing, Node, IsObject, Context, with_objects, names_of, resolved, AreAreas, final_of, run_of_graph, operand_held, IsReady}
 use Rattle.graph_run.proofs.StepLemmas.{empty_stage}
 use Rattle.graph_run.proofs.SlotPoolLemmas.{blocks_stay}
 use Rattle.graph_run.proofs.runs.run.Goals as goal

@@ -1,6 +1,5 @@
 use Rattle.std.proofs.Common.{◌∙◌, ap}
-use Rattle.buffer_plan.specs.Places.{told}
-use Rattle.graph_run.specs.Slots.{planned_rooms, plan_in}
+use Rattle.graph_run.proofs.Common.{told, planned_rooms, plan_in}
 use Rattle.graph_run.proofs.runs.run_nodes.Goals as goal
 
 pub run_bands-requires-clause-rooms : goal.run_bands-requires-clause-rooms

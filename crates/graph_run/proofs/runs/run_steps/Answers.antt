@@ -1,13 +1,5 @@
 use Rattle.std.proofs.Common.{◌≡◌, ◌≤◌, ◌∙◌, List, length, map, refl, ap, sym, subst}
-use Rattle.vx_base.specs.declared.node.Node.{Node}
-use Rattle.vx_base.specs.Outputs.{written_by}
-use Rattle.object_table.specs.Context.{Context, with_objects}
-use Rattle.object_table.specs.Named.{Named, held, with_written}
-use Rattle.buffer_plan.specs.Places.{told}
-use Rattle.graph_run.specs.Graph.{forgotten}
-use Rattle.graph_run.specs.Lasting.{lasting_named}
-use Rattle.graph_run.specs.Stage.{shown}
-use Rattle.graph_run.specs.Turns.{AreVirtual, CanRunNow}
+use Rattle.graph_run.proofs.Common.{Node, written_by, Context, with_objects, Named, held, with_written, told, forgotten, lasting_named, shown, AreVirtual, CanRunNow}
 use Rattle.graph_run.proofs.SceneLemmas.{course_begins, course_outputs, first_shared, course_runs, course_next, course_ends}
 use Rattle.graph_run.proofs.runs.run_steps.Goals as goal
 

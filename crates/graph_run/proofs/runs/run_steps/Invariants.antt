@@ -1,6 +1,5 @@
 use Rattle.std.proofs.Common.{◌≡◌}
-use Rattle.buffer_plan.specs.Places.{told}
-use Rattle.graph_run.specs.Stage.{IsStage}
+use Rattle.graph_run.proofs.Common.{told, IsStage}
 use Rattle.graph_run.proofs.SceneLemmas.{IsOnCourse}
 use Rattle.graph_run.proofs.runs.run_steps.Given as goal
 

@@ -1,9 +1,5 @@
-use Rattle.std.proofs.Common.{◌≡◌, ◌<◌, ◌≤◌, List, get_or, length, ap, subst, ◌∙◌}
-use Rattle.std.specs.Prelude.{All}
-use Rattle.std.proofs.lemmas.List.{take_all}
-use Rattle.std.proofs.lemmas.List.Elements.{All-more}
-use Rattle.vx_base.specs.declared.node.Node.{Node}
-use Rattle.graph_run.specs.Settle.{SuitsBands}
+use Rattle.std.proofs.Common.{◌≡◌, ◌<◌, ◌≤◌, List, get_or, length, ap, subst, ◌∙◌, All}
+use Rattle.graph_run.proofs.Common.{take_all, All-more, Node, SuitsBands}
 use Rattle.graph_run.proofs.settle.all_suit.Goals as goal
 
 pub loop-node-preserved : goal.loop-node-preserved

@@ -1,6 +1,5 @@
-use Rattle.std.proofs.Common.{take}
-use Rattle.std.specs.Prelude.{All}
-use Rattle.graph_run.specs.Settle.{SuitsBands}
+use Rattle.std.proofs.Common.{take, All}
+use Rattle.graph_run.proofs.Common.{SuitsBands}
 use Rattle.graph_run.proofs.settle.all_suit.Given as goal
 
 abbrev pub invariant-loop-node : goal.invariant-loop-node

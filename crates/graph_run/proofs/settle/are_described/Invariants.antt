@@ -1,6 +1,5 @@
-use Rattle.std.proofs.Common.{take}
-use Rattle.std.specs.Prelude.{All}
-use Rattle.vx_base.specs.Description.{IsDescription}
+use Rattle.std.proofs.Common.{take, All}
+use Rattle.graph_run.proofs.Common.{IsDescription}
 use Rattle.graph_run.proofs.settle.are_described.Given as goal
 
 abbrev pub invariant-loop-output : goal.invariant-loop-output

@@ -1,11 +1,5 @@
-use Rattle.std.proofs.Common.{◌≡◌, ◌/◌, sym, ap, subst, ◌∙◌}
-use Rattle.std.specs.Prelude.{All}
-use Rattle.std.specs.Option.{option_copied}
-use Rattle.vx_base.specs.Convolution.{ConvolutionValue}
-use Rattle.vx_base.specs.Node.{outputs}
-use Rattle.vx_base.specs.Window.{window_valid}
-use Rattle.object_table.specs.Table.{image_held}
-use Rattle.graph_run.specs.Bands.{final_of}
+use Rattle.std.proofs.Common.{◌≡◌, ◌/◌, sym, ap, subst, ◌∙◌, All, option_copied}
+use Rattle.graph_run.proofs.Common.{ConvolutionValue, outputs, window_valid, image_held, final_of}
 use Rattle.graph_run.proofs.SettleLemmas.{area_of_one, area_of_two, area_by_matrix, area_as_first}
 use Rattle.graph_run.proofs.settle.area_after.Goals as goal
 

@@ -1,9 +1,5 @@
 use Rattle.std.proofs.Common.{◌≡◌, ◌<◌, ◌≤◌, ◌+◌, List, [], ◌∷◌, ◌++◌, get_or, take, length, ap, sym, subst, ◌∙◌}
-use Rattle.std.proofs.lemmas.List.{take_all, length-append}
-use Rattle.vx_base.specs.declared.node.Node.{Node}
-use Rattle.vx_base.specs.Rectangle.{Rectangle}
-use Rattle.graph_run.specs.Bands.{AreAreas, final_of}
-use Rattle.graph_run.specs.Settle.{IsArea}
+use Rattle.graph_run.proofs.Common.{take_all, length-append, Node, Rectangle, AreAreas, final_of, IsArea}
 use Rattle.graph_run.proofs.SettleLemmas.{areas_more}
 use Rattle.graph_run.proofs.settle.areas_of.Goals as goal
 

@@ -1,6 +1,5 @@
 use Rattle.std.proofs.Common.{◌≡◌, ℕ, List, length, take}
-use Rattle.vx_base.specs.declared.node.Node.{Node}
-use Rattle.graph_run.specs.Bands.{RunsInBands, AreAreas, final_of}
+use Rattle.graph_run.proofs.Common.{Node, RunsInBands, AreAreas, final_of}
 use Rattle.graph_run.proofs.settle.areas_of.Given as goal
 
 abbrev pub invariant-loop-node : goal.invariant-loop-node

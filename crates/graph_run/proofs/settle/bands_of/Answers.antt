@@ -1,7 +1,5 @@
-use Rattle.std.proofs.Common.{sym, ap, subst, ◌∙◌}
-use Rattle.std.specs.Prelude.{All, IsTrue, is_some, sum_by}
-use Rattle.vx_base.specs.Description.{IsDescription}
-use Rattle.graph_run.specs.Bands.{reach_of, rows_beside}
+use Rattle.std.proofs.Common.{sym, ap, subst, ◌∙◌, All, IsTrue, is_some, sum_by}
+use Rattle.graph_run.proofs.Common.{IsDescription, reach_of, rows_beside}
 use Rattle.graph_run.proofs.SettleLemmas.{runs_in_bands}
 use Rattle.graph_run.proofs.settle.bands_of.Goals as goal
 

@@ -1,6 +1,5 @@
-use Rattle.std.proofs.Common.{◌≡◌, take}
-use Rattle.std.specs.Prelude.{All, IsTrue, is_some, sum_by}
-use Rattle.graph_run.specs.Bands.{reach_of, rows_beside}
+use Rattle.std.proofs.Common.{◌≡◌, take, All, IsTrue, is_some, sum_by}
+use Rattle.graph_run.proofs.Common.{reach_of, rows_beside}
 use Rattle.graph_run.proofs.settle.rows_beside.Given as goal
 
 abbrev pub invariant-loop-node : goal.invariant-loop-node

@@ -1,8 +1,5 @@
 use Rattle.std.proofs.Common.{◌≡◌, ◌∙◌, take, length, ap, sym, arith}
-use Rattle.vx_base.specs.Description.{sample_count}
-use Rattle.vx_base.specs.Image.{image_over}
-use Rattle.vx_base.specs.Picture.{values}
-use Rattle.graph_run.specs.Steps.{added_to}
+use Rattle.graph_run.proofs.Common.{sample_count, image_over, values, added_to}
 use Rattle.graph_run.proofs.PartLemmas.{first_written}
 use Rattle.graph_run.proofs.step.add_samples.Goals as goal
 

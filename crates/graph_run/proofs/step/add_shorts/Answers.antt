@@ -1,9 +1,5 @@
 use Rattle.std.proofs.Common.{◌≡◌, ◌∙◌, ap, rules}
-use Rattle.std.proofs.lemmas.List.{map-id}
-use Rattle.vx_base.specs.declared.format.Format.TheVariants.{S16}
-use Rattle.vx_base.specs.Image.{ImageValue, image_over, description_of}
-use Rattle.image_core.specs.Target.{written}
-use Rattle.graph_run.specs.Steps.{added_to}
+use Rattle.graph_run.proofs.Common.{map-id, S16, ImageValue, image_over, description_of, written, added_to}
 use Rattle.graph_run.proofs.step.add_shorts.Goals as goal
 
 pub returns-clause-samples : goal.returns-clause-samples

@@ -1,14 +1,7 @@
 use Rattle.std.proofs.Common.{◌∙◌, Some, take, refl, ap, sym, subst}
-use Rattle.vx_base.specs.declared.format.Format.TheVariants.{S16}
+use Rattle.graph_run.proofs.Common.{S16, Description, sample_count, ImageValue, ObjectValue, node_image, values, Rectangle, image_held, scene}
 use Rattle.vx_base.specs.declared.output.Output.TheVariants as outputs
-use Rattle.vx_base.specs.Description.{Description, sample_count}
-use Rattle.vx_base.specs.Image.{ImageValue}
-use Rattle.vx_base.specs.Object.{ObjectValue}
-use Rattle.vx_base.specs.Outputs.{node_image}
-use Rattle.vx_base.specs.Picture.{values}
-use Rattle.vx_base.specs.Rectangle.{Rectangle, IsWithin}
-use Rattle.object_table.specs.Table.{image_held}
-use Rattle.graph_run.specs.Stage.{scene}
+use Rattle.vx_base.specs.Rectangle.{IsWithin}
 use Rattle.graph_run.proofs.OutputLemmas.{writes_image, out_is_image, reads_image, first_is_image, runs_there, takes_back, left_described, put_back, sums_beside}
 use Rattle.graph_run.proofs.StepLemmas.{put_keeps, still_for}
 use Rattle.graph_run.proofs.SumLemmas.{sums_output, writes_sums, reads_nothing_more, old_image}

@@ -1,15 +1,7 @@
-use Rattle.std.proofs.Common.{◌≡◌, ◌∙◌, ℕ, List, Option, Some, refl, ap, sym}
-use Rattle.std.specs.Prelude.{unwrap_or}
-use Rattle.std.specs.Option.{option_map}
+use Rattle.std.proofs.Common.{◌≡◌, ◌∙◌, ℕ, List, Option, Some, refl, ap, sym, unwrap_or, option_map}
+use Rattle.graph_run.proofs.Common.{histogram, BinsValue, cell_of, ObjectValue, with_objects, object_held, with_object, object_under, scene}
 use Rattle.vx_base.specs.declared.kind.Kind.TheVariants as kind
-use Rattle.vx_base.specs.Statistics.{histogram, BinsValue}
-use Rattle.vx_base.specs.Cell.{cell_of}
-use Rattle.vx_base.specs.Object.{ObjectValue}
-use Rattle.object_table.specs.Context.{with_objects}
-use Rattle.object_table.specs.Named.{object_held, with_object}
 use Rattle.object_table.specs.Object.{distribution_value, with_counts}
-use Rattle.object_table.specs.Table.{object_under}
-use Rattle.graph_run.specs.Stage.{scene}
 use Rattle.graph_run.proofs.StepLemmas.{nothing, under_there, under_kind, under_found, under_set}
 use Rattle.graph_run.proofs.step.count_to.Goals as goal
 

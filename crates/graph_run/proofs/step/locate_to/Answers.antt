@@ -1,12 +1,7 @@
 use Rattle.std.proofs.Common.{◌∙◌, refl, ap}
+use Rattle.graph_run.proofs.Common.{ExtremesObject, extremes, cell_of, with_objects, with_object, scene}
 use Rattle.vx_base.specs.declared.extremes.Extremes.{Extremes}
 use Rattle.vx_base.specs.declared.kind.Kind.TheVariants as kind
-use Rattle.vx_base.specs.Object.{ExtremesObject}
-use Rattle.vx_base.specs.Statistics.{extremes}
-use Rattle.vx_base.specs.Cell.{cell_of}
-use Rattle.object_table.specs.Context.{with_objects}
-use Rattle.object_table.specs.Named.{with_object}
-use Rattle.graph_run.specs.Stage.{scene}
 use Rattle.graph_run.proofs.StepLemmas.{held_is_under, under_set}
 use Rattle.graph_run.proofs.step.locate_to.Goals as goal
 

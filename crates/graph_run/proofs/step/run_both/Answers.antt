@@ -1,9 +1,5 @@
 use Rattle.std.proofs.Common.{◌≡◌, None, ap, rules}
-use Rattle.vx_base.specs.declared.format.Format.TheVariants.{S16}
-use Rattle.vx_base.specs.declared.output.Output.TheVariants.{First, Second}
-use Rattle.vx_base.specs.Image.{ImageValue}
-use Rattle.vx_base.specs.Outputs.{node_image}
-use Rattle.image_core.specs.Target.{written}
+use Rattle.graph_run.proofs.Common.{S16, First, Second, ImageValue, node_image, written}
 use Rattle.graph_run.proofs.PairLemmas.{gradient_whole}
 use Rattle.graph_run.proofs.step.run_both.Goals as goal
 

@@ -1,17 +1,5 @@
-use Rattle.std.proofs.Common.{◌≡◌, ◌∙◌, List, [], None, map, ap, sym, subst}
-use Rattle.std.specs.Prelude.{All}
-use Rattle.std.specs.List.Sorted.{IsStrictlyIncreasing}
-use Rattle.vx_base.specs.Object.{IsObject}
-use Rattle.vx_base.specs.Outputs.{written_by}
-use Rattle.object_table.specs.Context.{Context, with_objects}
-use Rattle.object_table.specs.Named.{Named, held, with_written}
-use Rattle.std.proofs.lemmas.List.Elements.{All-nil}
-use Rattle.graph_run.specs.declared.stage.Slot.{Slot}
-use Rattle.graph_run.specs.declared.stage.Stage.{Stage}
-use Rattle.graph_run.specs.Slots.{AreEmpty}
-use Rattle.graph_run.specs.Lasting.{Lasts}
-use Rattle.graph_run.specs.Stage.{scene}
-use Rattle.graph_run.specs.Turns.{CanRunNow}
+use Rattle.std.proofs.Common.{◌≡◌, ◌∙◌, List, [], None, map, ap, sym, subst, All}
+use Rattle.graph_run.proofs.Common.{IsStrictlyIncreasing, IsObject, written_by, Context, with_objects, Named, held, with_written, All-nil, Slot, Stage, AreEmpty, Lasts, scene, CanRunNow}
 use Rattle.graph_run.proofs.StepLemmas.{empty_scene, empty_stage, still_empty}
 use Rattle.graph_run.proofs.step.run_once.Goals as goal
 

@@ -1,17 +1,5 @@
-use Rattle.std.proofs.Common.{◌≡◌, ◌∙◌, Option, Some, ap, sym, subst}
-use Rattle.std.specs.Prelude.{IfSome}
-use Rattle.std.specs.List.Sorted.{IsStrictlyIncreasing}
-use Rattle.vx_base.specs.declared.node.Node.{Node}
-use Rattle.vx_base.specs.declared.output.Output.TheVariants.{First, Second}
-use Rattle.vx_base.specs.Cell.{Cell}
-use Rattle.vx_base.specs.Outputs.{written_by}
-use Rattle.object_table.specs.Context.{Context, with_objects}
-use Rattle.object_table.specs.Named.{held, with_written}
-use Rattle.graph_run.specs.declared.stage.Stage.{Stage}
-use Rattle.graph_run.specs.Lasting.{Lasts}
-use Rattle.graph_run.specs.Stage.{scene, IsStage, IsArranged, Keeps, Stays}
-use Rattle.graph_run.specs.Steps.{AreApart, RunsTo, with_output}
-use Rattle.graph_run.specs.Turns.{CanRunNow}
+use Rattle.std.proofs.Common.{◌≡◌, ◌∙◌, Option, Some, ap, sym, subst, IfSome}
+use Rattle.graph_run.proofs.Common.{IsStrictlyIncreasing, Node, First, Second, Cell, written_by, Context, with_objects, held, with_written, Stage, Lasts, scene, IsStage, IsArranged, Keeps, Stays, AreApart, RunsTo, with_output, CanRunNow}
 use Rattle.graph_run.proofs.RunLemmas.{runs_first, runs_second, runs_then, two_outputs, written_is, Lasts-outputs}
 use Rattle.graph_run.proofs.PairLemmas.{has_two}
 use Rattle.graph_run.proofs.StageLemmas.{names-shown}

@@ -1,12 +1,6 @@
-use Rattle.std.proofs.Common.{◌∙◌, Option, ap, sym, subst, arith}
-use Rattle.std.specs.Prelude.{IfSome}
-use Rattle.vx_base.specs.Cell.{Cell, cell_of}
+use Rattle.std.proofs.Common.{◌∙◌, Option, ap, sym, subst, arith, IfSome}
+use Rattle.graph_run.proofs.Common.{Cell, cell_of, with_objects, with_object, image_held, object_under, scene, RunsTo, counted_in, with_output}
 use Rattle.vx_base.specs.declared.function.Parameters.{Parameters}
-use Rattle.object_table.specs.Context.{with_objects}
-use Rattle.object_table.specs.Named.{with_object}
-use Rattle.object_table.specs.Table.{image_held, object_under}
-use Rattle.graph_run.specs.Stage.{scene}
-use Rattle.graph_run.specs.Steps.{RunsTo, counted_in, with_output}
 use Rattle.graph_run.proofs.RunLemmas.{counted_is, located_is, reads_an_image}
 use Rattle.graph_run.proofs.step.run_to.Goals as goal
 

@@ -1,5 +1,5 @@
 use Rattle.std.proofs.Common.{arith}
-use Rattle.std.proofs.lemmas.List.{length-map}
+use Rattle.graph_run.proofs.Common.{length-map}
 use Rattle.graph_run.proofs.PartLemmas.{first_written, numbers_written}
 use Rattle.graph_run.proofs.step.write_samples.Goals as goal
 

@@ -1,7 +1,5 @@
 use Rattle.std.proofs.Common.{◌∙◌, take, refl, ap, sym}
-use Rattle.vx_base.specs.Description.{Description, sample_count}
-use Rattle.vx_base.specs.Picture.{values}
-use Rattle.graph_run.specs.Stage.{scene}
+use Rattle.graph_run.proofs.Common.{Description, sample_count, values, scene}
 use Rattle.graph_run.proofs.OutputLemmas.{out_is_image, reads_image, first_is_image, holds_second, second_is_object, second_is_read, runs_there, takes_back, left_described, plain_beside, put_back}
 use Rattle.graph_run.proofs.StepLemmas.{put_keeps, still_for}
 use Rattle.graph_run.proofs.step.write_to.Goals as goal

@@ -1,4 +1,4 @@
-use Rattle.graph_run.specs.Operands.{operand_held}
+use Rattle.graph_run.proofs.Common.{operand_held}
 use Rattle.graph_run.proofs.FoundLemmas.{linked_more}
 use Rattle.graph_run.proofs.verify.linked.Goals as goal
 

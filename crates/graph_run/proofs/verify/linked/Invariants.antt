@@ -1,6 +1,5 @@
 use Rattle.std.proofs.Common.{◌≡◌, map, take}
-use Rattle.graph_verify.specs.Linked.{linked_nodes, AreOperands}
-use Rattle.graph_run.specs.Operands.{operand_held}
+use Rattle.graph_run.proofs.Common.{linked_nodes, AreOperands, operand_held}
 use Rattle.graph_run.proofs.verify.linked.Given as goal
 
 abbrev pub invariant-loop-numbered : goal.invariant-loop-numbered

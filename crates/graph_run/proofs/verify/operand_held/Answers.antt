@@ -1,5 +1,5 @@
 use Rattle.std.proofs.Common.{◌∙◌, ap, arith}
-use Rattle.object_table.specs.Named.{object_held}
+use Rattle.graph_run.proofs.Common.{object_held}
 use Rattle.graph_run.proofs.FoundLemmas.{operand_nowhere, operand_there}
 use Rattle.graph_run.proofs.verify.operand_held.Goals as goal
 

@@ -1,10 +1,6 @@
-use Rattle.std.proofs.Common.{◌≡◌, ◌∙◌, IsTrue, map, sym, ap, subst}
-use Rattle.std.specs.Prelude.{All}
-use Rattle.vx_base.specs.declared.numbered.Numbered.{Numbered}
+use Rattle.std.proofs.Common.{◌≡◌, ◌∙◌, IsTrue, map, sym, ap, subst, All}
+use Rattle.graph_run.proofs.Common.{Numbered, linked_nodes, AreOperands, is_image, operand_held}
 use Rattle.vx_base.specs.Graph.{nodes_of}
-use Rattle.graph_verify.specs.Linked.{linked_nodes, AreOperands}
-use Rattle.graph_verify.specs.Operand.{is_image}
-use Rattle.graph_run.specs.Operands.{operand_held}
 use Rattle.graph_run.proofs.FoundLemmas.{images_are, refused_is}
 use Rattle.graph_run.proofs.verify.verify_in.Goals as goal
 

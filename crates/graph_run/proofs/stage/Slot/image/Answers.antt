@@ -1,13 +1,5 @@
-use Rattle.std.proofs.Common.{◌≡◌, ℕ, ℤ, List, Option, Some, None, IfSome, map, pos, take, ap, sym, subst, ◌∙◌, arith}
-use Rattle.std.specs.Prelude.{IsSome}
-use Rattle.std.proofs.lemmas.List.{map-id, take-map}
-use Rattle.std.proofs.lemmas.Option.{IfSome_then}
-use Rattle.vx_base.specs.Description.{Description, sample_count}
-use Rattle.vx_base.specs.Image.{ImageValue, IsImage, image_over}
-use Rattle.vx_base.specs.Picture.{values}
-use Rattle.graph_verify.specs.declared.known.VirtualOutput.{VirtualOutput}
-use Rattle.graph_run.specs.declared.stage.Slot.{Slot}
-use Rattle.graph_run.specs.Stage.{standing_image}
+use Rattle.std.proofs.Common.{◌≡◌, ℕ, ℤ, List, Option, Some, None, IfSome, map, pos, take, ap, sym, subst, ◌∙◌, arith, IsSome}
+use Rattle.graph_run.proofs.Common.{map-id, take-map, IfSome_then, Description, sample_count, ImageValue, IsImage, image_over, values, VirtualOutput, Slot, standing_image}
 use Rattle.graph_run.proofs.stage.Slot.image.Goals as goal
 
 -- as many of a slot's samples as the image there has places

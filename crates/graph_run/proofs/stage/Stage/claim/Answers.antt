@@ -1,9 +1,5 @@
 use Rattle.std.proofs.Common.{◌≡◌, IfSome, Some, refl, subst, ap, arith}
-use Rattle.std.proofs.lemmas.Option.{slice_get_read}
-use Rattle.vx_base.specs.Rectangle.{Rectangle, whole}
-use Rattle.graph_verify.specs.declared.known.VirtualOutput.{VirtualOutput}
-use Rattle.graph_run.specs.declared.stage.Slot.{Slot}
-use Rattle.graph_run.specs.Stage.{HasRoomFor, claimed}
+use Rattle.graph_run.proofs.Common.{slice_get_read, Rectangle, whole, VirtualOutput, Slot, HasRoomFor, claimed}
 use Rattle.graph_run.proofs.ClaimLemmas.{slice_get-set, claim_keeps}
 use Rattle.graph_run.proofs.stage.Stage.claim.Goals as goal
 

@@ -1,6 +1,5 @@
 use Rattle.std.proofs.Common.{ap, sym, subst, ◌∙◌}
-use Rattle.vx_base.specs.Image.{IsImage}
-use Rattle.object_table.specs.Object.{image_value}
+use Rattle.graph_run.proofs.Common.{IsImage, image_value}
 use Rattle.graph_run.proofs.StandingLemmas.{place_is, as_image, as_object, has_holder, of_format, is_standing, stood}
 use Rattle.graph_run.proofs.stage.Stage.image.Goals as goal
 

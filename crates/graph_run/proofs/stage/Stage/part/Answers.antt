@@ -1,26 +1,8 @@
 use Rattle.std.proofs.Common.{◌≡◌, ap, sym, subst, ◌∙◌}
-use Rattle.vx_base.specs.Image.{ImageValue, IsImage}
-use Rattle.vx_base.specs.Object.{ImageObject}
-use Rattle.image_core.specs.Bands.{IsInRows}
-use Rattle.object_table.specs.Object.{image_value}
-use Rattle.object_table.specs.Table.{cell_object}
-use Rattle.node_rows.specs.Parts.{part_of}
-use Rattle.graph_run.specs.Bands.{seen_in}
-use Rattle.graph_run.specs.Stage.{scene}
+use Rattle.graph_run.proofs.Common.{ImageValue, IsImage, ImageObject, IsInRows, image_value, cell_object, part_of, seen_in, scene}
 use Rattle.graph_run.proofs.PartSeenLemmas.{as_itself, held_kind, rows_there, part_shown, stands_seen}
-use Rattle.graph_run.proofs.StandingLemmas.{place_is, nowhere, as_image, as_object, has_holder, of_format, is_standing, stood}
+use Rattle.graph_run.proofs.StandingLemmas.{place_is, nowhere, as_image, as_object}
 use Rattle.graph_run.proofs.stage.Stage.part.Goals as goal
-
-pub image-requires : goal.image-requires
-image-requires c =
-    let s = c.args.self.now in
-    let at = place_is s _ _ c.name.ensures.value _ c.place_of.ensures _ c.in-Some.is in
-    let read = c.index.ensures in
-    record {
-      there = has_holder s c.requires.stage c.args.cell _ at _ read;
-      format = of_format s c.requires.stage c.args.cell _ at _ read;
-      image = is_standing s c.requires.stage c.args.cell _ at _ read c.requires.there c.requires.image;
-    }
 
 pub image-requires-in-None : goal.image-requires-in-None
 image-requires-in-None c =
@@ -43,7 +25,7 @@ returns-in-Some c =
     let s = c.args.self.now in
     let at = place_is s _ _ c.name.ensures.value _ c.place_of.ensures _ c.in-Some.is in
     let object = cell_object (scene s).objects c.args.cell in
-    ap ImageObject (stood s c.requires.stage c.args.cell _ at _ c.index.ensures c.requires.there c.image.result c.image.ensures)
+    ap ImageObject c.image.ensures
     ∙ as_itself object (held_kind (scene s).objects c.args.cell c.requires.there)
     ∙ sym (stands_seen c.args.rows s.slots.items c.args.cell.name _ object at)
 

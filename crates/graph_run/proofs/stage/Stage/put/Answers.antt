@@ -1,14 +1,5 @@
 use Rattle.std.proofs.Common.{ℤ, List, length, ap, sym, ◌∙◌, arith}
-use Rattle.std.proofs.lemmas.List.{take_all}
-use Rattle.vx_base.specs.Description.{sample_count}
-use Rattle.vx_base.specs.Image.{ImageValue, image_over, description_of}
-use Rattle.vx_base.specs.Object.{ObjectValue}
-use Rattle.vx_base.specs.Picture.{values}
-use Rattle.object_table.specs.Context.{with_objects}
-use Rattle.object_table.specs.Named.{with_object}
-use Rattle.object_table.specs.Object.{image_value, with_samples}
-use Rattle.object_table.specs.Table.{cell_object, image_held}
-use Rattle.graph_run.specs.Stage.{scene}
+use Rattle.graph_run.proofs.Common.{take_all, sample_count, ImageValue, image_over, description_of, ObjectValue, values, with_objects, with_object, image_value, with_samples, cell_object, image_held, scene}
 use Rattle.graph_run.proofs.StandingLemmas.{place_is, nowhere, as_image, as_object, format_held, slot_set, held_set}
 use Rattle.graph_run.proofs.stage.Stage.put.Goals as goal
 

@@ -1,16 +1,5 @@
-use Rattle.std.proofs.Common.{◌≡◌, Option, Some, IsTrue, ap, sym, subst, ◌∙◌, arith}
-use Rattle.std.specs.Prelude.{is_some, unwrap_or, IfSome}
-use Rattle.std.specs.Option.{option_map}
-use Rattle.vx_base.specs.declared.format.Format.TheVariants.{U8}
-use Rattle.vx_base.specs.Cell.{Cell}
-use Rattle.vx_base.specs.Image.{new_image}
-use Rattle.vx_base.specs.Object.{ObjectValue, ImageObject, IsObject, object_kind}
-use Rattle.object_table.specs.Named.{object_held}
-use Rattle.object_table.specs.Table.{cell_object}
-use Rattle.graph_run.specs.declared.stage.Slot.{Slot}
-use Rattle.graph_run.specs.Bands.{HasRows, HasRowsIn, part_seen, seen, seen_in}
-use Rattle.graph_run.specs.Stage.{scene}
-use Rattle.graph_run.specs.Steps.{Holds, IsRead}
+use Rattle.std.proofs.Common.{◌≡◌, Option, Some, IsTrue, ap, sym, subst, ◌∙◌, arith, is_some, unwrap_or, IfSome, option_map}
+use Rattle.graph_run.proofs.Common.{U8, Cell, new_image, ObjectValue, ImageObject, IsObject, object_kind, object_held, cell_object, Slot, HasRows, HasRowsIn, part_seen, seen, seen_in, scene, Holds, IsRead}
 use Rattle.graph_run.proofs.PartSeenLemmas.{real_nowhere}
 use Rattle.graph_run.proofs.StepLemmas.{none_found, virtual_read, real_cell, not_virtual}
 use Rattle.graph_run.proofs.stage.Stage.second_part.Goals as goal

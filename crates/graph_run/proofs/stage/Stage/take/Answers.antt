@@ -1,16 +1,6 @@
 use Rattle.std.proofs.Common.{ℤ, List, [], take, length, subst, ap, sym, ◌∙◌}
+use Rattle.graph_run.proofs.Common.{with_item, sample_count, ImageValue, image_over, description_of, ObjectValue, Rectangle, Context, with_objects, with_object, image_value, with_samples, cell_object, image_held, Stage, scene, Resized}
 use Rattle.std.proofs.Math.Seq.{take-nil}
-use Rattle.std.specs.Vec.{with_item}
-use Rattle.vx_base.specs.Description.{sample_count}
-use Rattle.vx_base.specs.Image.{ImageValue, image_over, description_of}
-use Rattle.vx_base.specs.Object.{ObjectValue}
-use Rattle.vx_base.specs.Rectangle.{Rectangle}
-use Rattle.object_table.specs.Context.{Context, with_objects}
-use Rattle.object_table.specs.Named.{with_object}
-use Rattle.object_table.specs.Object.{image_value, with_samples}
-use Rattle.object_table.specs.Table.{cell_object, image_held}
-use Rattle.graph_run.specs.declared.stage.Stage.{Stage}
-use Rattle.graph_run.specs.Stage.{scene, Resized}
 use Rattle.graph_run.proofs.StageLemmas.{none_resized}
 use Rattle.graph_run.proofs.StandingLemmas.{place_is, nowhere, as_image, as_object, has_holder, described, for_slot, taken_here, slot_count, valid_here, slot_set, for_held, taken_held, held_set}
 use Rattle.graph_run.proofs.stage.Stage.take.Goals as goal
