@@ -1,6 +1,6 @@
 -- What virtual images are as a run begins and ends.
 use Rattle.std.proofs.Common.{◌≡◌, ℕ, true, false, if◌then◌else◌, eqb, List, [], ◌∷◌, map, drop, refl, sym, ap, subst, ◌∙◌, inl, inr, Option, Some, None, Bool, arith, ◌==◌, option_map}
-use Rattle.graph_run.proofs.Common.{cases_Bool, Node, Cell, ObjectValue, object_kind, in_slot, Named, object_held, with_object, with_written, Operand, In, is_written, operand_of, object_held-map, begun_as, begun, is_virtual_object, forgotten, WritesNo, label_of}
+use Rattle.graph_run.proofs.Common.{cases_Bool, Node, Cell, ObjectValue, object_kind, in_slot, Named, object_held, with_object, with_written, Operand, In, is_written, begun_as, begun, is_virtual_object, forgotten, WritesNo, label_of, operand_of, object_held-map}
 use Rattle.vx_base.specs.declared.kind.Kind.TheVariants as kind
 use Rattle.graph_run.proofs.HeldLaws.{object_held-with_object}
 use Rattle.graph_run.proofs.NameLaws.{Rising, by_names}

@@ -3,7 +3,7 @@ pub use Rattle.buffer_plan.specs.Lives.{is_used}
 pub use Rattle.buffer_plan.specs.Places.{told}
 pub use Rattle.buffer_plan.specs.Plan.{IsPlan, PlanValue}
 pub use Rattle.buffer_plan.specs.Slots.{of_format}
-pub use Rattle.graph_run.specs.Bands.{AreAreas, HasHeight, HasPlaceIn, HasRows, HasRowsIn, IsFinished, IsPartOf, IsSeen, IsStrip, IsWithinRows, RowsAreAs, RunsInBands, SeesParts, final_of, is_image_held, is_target, is_virtual_name, made_in, made_seen, output_part, part_made, part_seen, reach_of, right_from, right_to, rows_beside, seen, seen_in, with_band, with_seen}
+pub use Rattle.graph_run.specs.Bands.{AreAreas, AreSeen, HasHeight, HasPlaceIn, HasRows, HasRowsIn, IsFinished, IsPartOf, IsSeen, IsStrip, IsWithinRows, RowsAreAs, RunsInBands, SeesParts, final_of, is_image_held, is_target, is_virtual_name, made_in, made_seen, output_part, part_made, part_seen, reach_of, right_from, right_to, rows_beside, seen, seen_in, with_band, with_seen}
 pub use Rattle.graph_run.specs.Graph.{begun, begun_as, forgotten, is_virtual_object, one_by_one, rounds_of_nodes, run_of_graph}
 pub use Rattle.graph_run.specs.Lasting.{Lasts, lasting, lasting_named}
 pub use Rattle.graph_run.specs.Operands.{CellsStand, HoldsOperand, IsReady, StandsFor, names_cell, operand_held}
@@ -58,7 +58,7 @@ pub use Rattle.std.proofs.Math.Nat.{mul-le-mul_right}
 pub use Rattle.std.proofs.lemmas.Bool.{and_from, and_parts, cases_Bool, eq-eqb, eqb-false, eqb-true, false_from_ne_true, ne_eqb, or_cases, or_left, or_parts, or_right}
 pub use Rattle.std.proofs.lemmas.Bool.Decides.{nat_tests}
 pub use Rattle.std.proofs.lemmas.Int.{ints}
-pub use Rattle.std.proofs.lemmas.List.{append_assoc, drop-map, drop_all, drop_more, get_or-map, length-append, length-drop, length-map, length-take, length-take-le, map-append, map-id, take-append-drop, take-append-le, take-map, take_all, take_more, with_items_is}
+pub use Rattle.std.proofs.lemmas.List.{append_assoc, drop-map, drop_all, drop_more, get_or-map, length-append, length-drop, length-map, length-take, length-take-le, map-append, map-id, take-append-drop, take-append-le, take-map, take_all, take_more}
 pub use Rattle.std.proofs.lemmas.List.Elements.{All-cons, All-from_get_or, All-head, All-map, All-more, All-nil, All-push, All-set, All-tail, All-take, All-weaker}
 pub use Rattle.std.proofs.lemmas.List.Folds.{list_any-append}
 pub use Rattle.std.proofs.lemmas.List.FromFn.{length-map-range_with_len}
@@ -66,7 +66,7 @@ pub use Rattle.std.proofs.lemmas.List.Sums.{sum_by-append}
 pub use Rattle.std.proofs.lemmas.Option.{IfSome_then, slice_get-get_or, slice_get-map, slice_get_read, slice_get_within}
 pub use Rattle.std.specs.List.{AllPairs, filter, flat_map, list_all, list_any, range_with_len}
 pub use Rattle.std.specs.List.Sorted.{IsStrictlyIncreasing}
-pub use Rattle.std.specs.Vec.{with_item, with_items}
+pub use Rattle.std.specs.Vec.{with_item}
 pub use Rattle.vx_base.proofs.NodeLaws.{node_image_is}
 pub use Rattle.vx_base.proofs.TableLaws.{band-append, length-band, length-table}
 pub use Rattle.vx_base.specs.Cell.{Cell, cell_of, same_cell, same_slot}

@@ -1,24 +1,6 @@
 -- Nodes that write two outputs at once by the rows that they see: the samples of both are taken out, and put back once they are written.
-use Rattle.std.proofs.Common.{◌≡◌, ℕ, ℤ, List, [], take, Option, Some, None, refl, sym, ap, ◌∙◌}
-use Rattle.std.specs.Option.{option_map}
-use Rattle.vx_base.specs.declared.function.Function.TheVariants.{Sobel}
-use Rattle.vx_base.specs.declared.node.Node.{Node}
-use Rattle.vx_base.specs.declared.output.Output.TheVariants.{First, Second}
-use Rattle.vx_base.specs.Cell.{Cell}
-use Rattle.vx_base.specs.Description.{Description, sample_count}
-use Rattle.vx_base.specs.Image.{ImageValue, IsImage, image_over, description_of}
-use Rattle.vx_base.specs.Object.{ObjectValue, ImageObject}
-use Rattle.vx_base.specs.Outputs.{node_image}
-use Rattle.vx_base.specs.Rectangle.{Rectangle, empty}
-use Rattle.image_core.specs.declared.band.Band.{Band}
-use Rattle.object_table.specs.Context.{Context, with_objects}
-use Rattle.object_table.specs.Named.{Named, with_object}
-use Rattle.object_table.specs.Object.{image_value, with_samples}
-use Rattle.object_table.specs.Table.{cell_object, image_held, HoldsImage}
-use Rattle.graph_run.specs.declared.stage.Stage.{Stage}
-use Rattle.graph_run.specs.Bands.{HasRows, SeesParts, part_made, seen}
-use Rattle.graph_run.specs.Stage.{scene, slot_of, Resized, Keeps}
-use Rattle.graph_run.specs.Steps.{AreApart, CanRunTo}
+use Rattle.std.proofs.Common.{◌≡◌, ℕ, ℤ, List, [], take, Option, Some, None, refl, sym, ap, ◌∙◌, option_map}
+use Rattle.graph_run.proofs.Common.{Sobel, Node, First, Second, Cell, Description, sample_count, ImageValue, IsImage, image_over, description_of, ObjectValue, ImageObject, node_image, Rectangle, empty, Band, Context, with_objects, Named, with_object, image_value, with_samples, cell_object, image_held, HoldsImage, Stage, HasRows, SeesParts, part_made, seen, scene, slot_of, Resized, Keeps, AreApart, CanRunTo}
 use Rattle.graph_run.proofs.CellLemmas.{image_after, image_beside, object_after, object_beside, with_object_twice}
 use Rattle.graph_run.proofs.PairLemmas.{in_any_order, reads_one}
 use Rattle.graph_run.proofs.RunLemmas.{apart_back}

@@ -1,6 +1,7 @@
 -- The first elements of a list, which are written.
 use Rattle.std.proofs.Common.{◌≡◌, ◌≤◌, ◌++◌, ◌∙◌, ℕ, List, length, map, pos, take, drop, ap, arith}
-use Rattle.std.proofs.lemmas.List.{take-map, take-take, take-append-le, take_all, append_assoc}
+use Rattle.graph_run.proofs.Common.{take-map, take-append-le, take_all, append_assoc}
+use Rattle.std.proofs.lemmas.List.{take-take}
 
 -- they stand there
 pub first_written : {X : Type 0} (n len : ℕ) (first others items : List X) → length first ≡ n → n ≤ len → take n (take len ((first ++ others) ++ drop (length (first ++ others)) items)) ≡ first

@@ -1,42 +1,11 @@
 -- What nodes that see parts of images write: parts to slots, and bands to images of the client's.
-use Rattle.std.proofs.Common.{◌≡◌, ℕ, ℤ, ◌+◌, ◌-◌, ◌*◌, ◌≤◌, ◌<◌, pos, Bool, List, [], ◌∷◌, ◌++◌, length, take, drop, get_or, Option, Some, None, IfSome, refl, sym, ap, subst, ◌∙◌, arith}
-use Rattle.std.specs.Prelude.{All, IsSome, position}
-use Rattle.std.specs.List.Sorted.{IsStrictlyIncreasing}
-use Rattle.std.specs.Option.{option_map}
-use Rattle.std.proofs.Math.Nat.{mul-le-mul_right}
-use Rattle.std.proofs.lemmas.List.{length-append, length-take, length-drop, take_all}
-use Rattle.std.proofs.lemmas.List.Elements.{All-append, All-take, All-drop, All-cons, All-nil, All-get_or, All-from_get_or}
+use Rattle.std.proofs.Common.{◌≡◌, ℕ, ℤ, ◌+◌, ◌-◌, ◌*◌, ◌≤◌, ◌<◌, pos, Bool, List, [], ◌∷◌, ◌++◌, length, take, drop, get_or, Option, Some, None, IfSome, refl, sym, ap, subst, ◌∙◌, arith, All, IsSome, position, option_map}
+use Rattle.graph_run.proofs.Common.{IsStrictlyIncreasing, mul-le-mul_right, length-append, length-take, length-drop, take_all, All-take, All-cons, All-nil, All-from_get_or, Format, Node, Output, First, Second, Cell, Description, sample_count, ImageValue, IsImage, image_over, description_of, band, at, ObjectValue, ImageObject, IsObject, object_kind, node_image, Rectangle, whole, empty, IsSample, node_image_is, length-band, Band, IsInRows, Context, with_objects, Named, with_object, with_written, image_value, with_samples, cell_object, image_held, HoldsImage, part_of, part_is, Strip, Slot, Stage, seen_in, seen, HasRowsIn, HasRows, part_made, SeesParts, IsWithinRows, with_band, made_in, made_seen, HasPlaceIn, IsSeen, lasting, Lasts, is_named, scene, slot_of, IsStage, IsArranged, Keeps, Holds, IsRead, AreApart, CanRunTo}
+use Rattle.std.proofs.lemmas.List.Elements.{All-append, All-drop, All-get_or}
 use Rattle.vx_base.specs.declared.desc.TheConstants.{GREATEST_SIDE}
-use Rattle.vx_base.specs.declared.format.Format.{Format}
 use Rattle.vx_base.specs.declared.kind.Kind.TheVariants as kind
-use Rattle.vx_base.specs.declared.node.Node.{Node}
-use Rattle.vx_base.specs.declared.output.Output.{Output}
-use Rattle.vx_base.specs.declared.output.Output.TheVariants.{First, Second}
-use Rattle.vx_base.specs.Cell.{Cell}
-use Rattle.vx_base.specs.Description.{Description, sample_count}
-use Rattle.vx_base.specs.Image.{ImageValue, IsImage, image_over, description_of, band, at}
-use Rattle.vx_base.specs.Object.{ObjectValue, ImageObject, IsObject, object_kind}
-use Rattle.vx_base.specs.Outputs.{node_image}
-use Rattle.vx_base.specs.Rectangle.{Rectangle, whole, empty}
-use Rattle.vx_base.specs.Sample.{IsSample}
 use Rattle.vx_base.proofs.ImageLaws.{above, index_of_place, inside_whole}
-use Rattle.vx_base.proofs.NodeLaws.{node_image_is}
-use Rattle.vx_base.proofs.TableLaws.{length-band}
-use Rattle.image_core.specs.declared.band.Band.{Band}
-use Rattle.image_core.specs.Bands.{IsInRows}
-use Rattle.object_table.specs.Context.{Context, with_objects}
-use Rattle.object_table.specs.Named.{Named, with_object, with_written}
-use Rattle.object_table.specs.Object.{image_value, with_samples}
-use Rattle.object_table.specs.Table.{cell_object, image_held, HoldsImage}
-use Rattle.node_rows.specs.Parts.{part_of}
-use Rattle.node_rows.proofs.PartLaws.{part_is}
-use Rattle.graph_run.specs.declared.bands.Strip.{Strip}
-use Rattle.graph_run.specs.declared.stage.Slot.{Slot}
-use Rattle.graph_run.specs.declared.stage.Stage.{Stage}
-use Rattle.graph_run.specs.Bands.{ReadsParts, seen_in, seen, HasRowsIn, HasRows, part_made, SeesParts, IsWithinRows, with_band, made_in, made_seen, HasPlaceIn, IsSeen}
-use Rattle.graph_run.specs.Lasting.{lasting, Lasts}
-use Rattle.graph_run.specs.Stage.{is_named, scene, slot_of, IsStage, IsArranged, Keeps}
-use Rattle.graph_run.specs.Steps.{Holds, IsRead, AreApart, CanRunTo}
+use Rattle.graph_run.specs.Bands.{ReadsParts}
 use Rattle.graph_run.proofs.CellLemmas.{IsReplacement, held_image, object_beside, object_if_beside, hold_beside, image_beside, object_after, image_after, with_object_twice, Lasts-with_written}
 use Rattle.graph_run.proofs.LastingLemmas.{images-last}
 use Rattle.graph_run.proofs.OutputLemmas.{description_kept, stored_is}
@@ -439,7 +408,7 @@ module _ (strip : Strip) (s : Stage) (n : Node) (output : Cell) (sees : IsSeen s
       still_seen = (
         still_sees strip.rows s n output sees.0 t made taken alike other apart that.0,
         place_alike (slot_of s.slots.items other.name) (slot_of t.slots.items other.name) strip (image_held (scene t).objects other) (alike other.name)
-        (subst (λ (o : ObjectValue). HasPlaceIn (slot_of s.slots.items other.name) strip (image_value o)) (sym same) that.1),
+            (subst (λ (o : ObjectValue). HasPlaceIn (slot_of s.slots.items other.name) strip (image_value o)) (sym same) that.1),
       )
 
       -- and becomes the same

@@ -1,6 +1,6 @@
 -- What the rounds give solves a graph, and nothing else does.
 use Rattle.std.proofs.Common.{◌≡◌, ◌≢◌, ◌<◌, true, false, List, length, map, sym, ap, subst, ◌∙◌, Option, Some, arith, All, option_map, option_and_then}
-use Rattle.graph_run.proofs.Common.{AllPairs, cases_Bool, Node, Output, Cell, ObjectValue, object_kind, written_from, Named, held, In, writes, feeds, two_writers, any-from_In, one_writer, rounds_of_nodes, WritesNo, Solves, kind_in, form_of, label_of}
+use Rattle.graph_run.proofs.Common.{AllPairs, cases_Bool, Node, Output, Cell, ObjectValue, object_kind, written_from, Named, held, In, writes, feeds, two_writers, rounds_of_nodes, WritesNo, Solves, kind_in, form_of, label_of, any-from_In, one_writer}
 use Rattle.vx_base.specs.declared.kind.Kind.TheVariants as kind
 use Rattle.graph_verify.specs.Cycle.{has_cycle}
 use Rattle.graph_verify.specs.Rounds as cells

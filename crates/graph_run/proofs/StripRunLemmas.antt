@@ -1,49 +1,10 @@
 -- The nodes of a graph on the rows of a strip, one after the other.
-use Rattle.std.proofs.Common.{◌≡◌, ◌≢◌, ℕ, ◌+◌, ◌≤◌, ◌<◌, Bool, true, false, List, [], ◌∷◌, ◌++◌, map, length, take, drop, get_or, Option, Some, None, ◌⊎◌, inl, inr, IfSome, refl, sym, ap, subst, ◌∙◌, arith}
-use Rattle.std.specs.Prelude.{unwrap_or, ◌==◌, ◌||◌, ◌&&◌, not, sum_by, slice_get, if◌then◌else◌}
-use Rattle.std.specs.Option.{option_map, option_and_then}
-use Rattle.std.proofs.lemmas.List.{take-append-drop, take_more, take_all, drop_more}
-use Rattle.std.proofs.lemmas.List.Folds.{list_any-append}
-use Rattle.std.proofs.lemmas.List.Sums.{sum_by-append}
-use Rattle.std.proofs.lemmas.Bool.{cases_Bool, eqb-true, or_left, or_right, and_parts, and_from, false_from_ne_true}
+use Rattle.std.proofs.Common.{◌≡◌, ◌≢◌, ℕ, ◌+◌, ◌≤◌, ◌<◌, Bool, true, false, List, [], ◌∷◌, ◌++◌, map, length, take, drop, get_or, Option, Some, None, ◌⊎◌, inl, inr, IfSome, refl, sym, ap, subst, ◌∙◌, arith, unwrap_or, ◌==◌, ◌||◌, ◌&&◌, not, sum_by, slice_get, if◌then◌else◌, option_map, option_and_then}
+use Rattle.graph_run.proofs.Common.{take-append-drop, take_more, take_all, drop_more, list_any-append, sum_by-append, cases_Bool, eqb-true, or_left, or_right, and_parts, and_from, false_from_ne_true, Node, First, Second, Cell, cell_of, Description, ImageValue, IsImage, description_of, outputs, ObjectValue, ImageObject, VirtualObject, IsObject, object_kind, with_objects, in_slot, Named, held, object_held, image_value, image_held, HoldsImage, VirtualOutput, Verified, reads, writes, is_written, In, is_used, PlanValue, Strip, Slot, Stage, AreSeen, RunsInBands, final_of, IsStrip, is_virtual_name, is_target, IsFinished, RowsAreAs, IsPartOf, output_part, IsSeen, with_seen, AreShared, strip_plan, room_of, planned_rooms, AreEmpty, label_of, scene, shown, slot_of, standing_image, IsStage, HoldsVirtual, Keeps, virtual_named, AreVirtual, map-told, same_cell-refl, same_cell-true, In-right, In-from_any, any-from_In, same_cell, second_kind, held_is, stands_fewer, rows_beside, HoldsKind, IsPlan, claimed_at}
 use Rattle.vx_base.specs.declared.kind.Kind.TheVariants as kind
-use Rattle.vx_base.specs.declared.node.Node.{Node}
-use Rattle.vx_base.specs.declared.output.Output.TheVariants.{First, Second}
-use Rattle.vx_base.specs.Cell.{Cell, cell_of}
-use Rattle.vx_base.specs.Description.{Description}
-use Rattle.vx_base.specs.Image.{ImageValue, IsImage, description_of}
-use Rattle.vx_base.specs.Node.{outputs}
-use Rattle.vx_base.specs.Object.{ObjectValue, ImageObject, VirtualObject, IsObject, object_kind}
-use Rattle.object_table.specs.Context.{with_objects}
-use Rattle.object_table.specs.Delay.{in_slot}
-use Rattle.object_table.specs.Named.{Named, held, object_held}
-use Rattle.object_table.specs.Object.{image_value}
-use Rattle.object_table.specs.Table.{image_held, HoldsImage}
-use Rattle.graph_verify.specs.declared.known.VirtualOutput.{VirtualOutput}
-use Rattle.graph_verify.specs.declared.verified.Verified.{Verified}
-use Rattle.graph_verify.specs.Links.{reads, writes, is_written}
-use Rattle.graph_verify.specs.Members.{In}
-use Rattle.buffer_plan.specs.Lives.{is_used}
-use Rattle.buffer_plan.specs.Plan.{PlanValue}
-use Rattle.graph_run.specs.declared.bands.Strip.{Strip}
-use Rattle.graph_run.specs.declared.stage.Slot.{Slot}
-use Rattle.graph_run.specs.declared.stage.Stage.{Stage}
-use Rattle.graph_run.specs.Bands.{AreSeen, RunsInBands, final_of, IsStrip, is_virtual_name, is_target, IsFinished, RowsAreAs, rows_by_now, IsPartOf, output_part, IsSeen, with_seen}
-use Rattle.graph_run.specs.Slots.{AreShared, strip_plan, room_of, planned_rooms, AreEmpty}
-use Rattle.graph_run.specs.Solution.{label_of}
-use Rattle.graph_run.specs.Stage.{scene, shown, slot_of, standing_image, IsStage, HoldsVirtual, Keeps, virtual_named}
-use Rattle.graph_run.specs.Turns.{AreVirtual}
-use Rattle.object_table.proofs.SkeletonLaws.{map-told}
-use Rattle.graph_verify.proofs.LinkLemmas.{same_cell-refl, same_cell-true}
-use Rattle.graph_verify.proofs.MemberLemmas.{In-right, In-from_any, any-from_In}
-use Rattle.vx_base.specs.Cell.{same_cell}
-use Rattle.vx_base.specs.Node.{second_kind}
-use Rattle.object_table.proofs.HeldLemmas.{held_is}
-use Rattle.node_rows.proofs.PartLaws.{stands_fewer}
+use Rattle.graph_run.specs.Bands.{rows_by_now}
 use Rattle.node_rows.proofs.PartLookLaws.{first_within, end_within}
 use Rattle.graph_run.proofs.BandLemmas.{right_above, right_below, rows_of}
-use Rattle.graph_run.specs.Bands.{rows_beside}
-use Rattle.graph_run.specs.Turns.{HoldsKind}
 use Rattle.graph_run.proofs.AgreeLemmas.{written_once}
 use Rattle.graph_run.proofs.CellLemmas.{held_image, held_whole, one_cell}
 use Rattle.graph_run.proofs.ClaimLemmas.{virtual_there}
@@ -51,8 +12,6 @@ use Rattle.graph_run.proofs.FinalLemmas.{final_are, final_can, in_height, out_he
 use Rattle.graph_run.proofs.FoundLemmas.{OfOperands, of_operands}
 use Rattle.graph_run.proofs.LinkLaws.{All-from_In, In-from_All, reads_first, reads_second}
 use Rattle.graph_run.proofs.StageLemmas.{found_as_it_is}
-use Rattle.buffer_plan.specs.Plan.{IsPlan}
-use Rattle.graph_run.specs.Slots.{claimed_at}
 use Rattle.graph_run.proofs.PartClaimLemmas.{PartsClaimed, first_part_shared, parts_claimed}
 use Rattle.graph_run.proofs.SceneLemmas.{IsItsTurn, turn_of, stays_virtual, shared_stay, written_stay}
 use Rattle.graph_run.proofs.VerifiedLemmas.{are_virtual}

@@ -1,41 +1,9 @@
 -- How a stage is after so many nodes of a strip, and after one more.
-use Rattle.std.proofs.Common.{◌≡◌, ◌≢◌, ℕ, ◌+◌, ◌≤◌, true, false, List, [], ◌∷◌, ◌++◌, map, Option, Some, None, inl, inr, IfSome, refl, sym, ap, subst, ◌∙◌, arith}
-use Rattle.std.specs.Prelude.{sum_by, unwrap_or}
-use Rattle.std.specs.Option.{option_map, option_and_then}
-use Rattle.std.proofs.lemmas.List.{append_assoc}
-use Rattle.std.proofs.lemmas.List.Sums.{sum_by-append}
+use Rattle.std.proofs.Common.{◌≡◌, ◌≢◌, ℕ, ◌+◌, ◌≤◌, true, false, List, [], ◌∷◌, ◌++◌, map, Option, Some, None, inl, inr, IfSome, refl, sym, ap, subst, ◌∙◌, arith, sum_by, unwrap_or, option_map, option_and_then}
+use Rattle.graph_run.proofs.Common.{append_assoc, sum_by-append, Node, Output, First, Second, Cell, same_cell, ImageValue, IsImage, outputs, given, ObjectValue, ImageObject, object_kind, Context, with_objects, Named, held, object_held, with_object, image_value, cell_object, image_held, HoldsImage, VirtualOutput, Verified, writes, In, Band, Strip, Slot, Stage, AreSeen, seen_in, part_made, made_in, made_seen, with_seen, HasPlaceIn, IsSeen, IsStrip, rows_beside, RunsInBands, final_of, is_virtual_name, RowsAreAs, IsPartOf, right_from, right_to, scene, slot_of, fixed, RunsTo, node_image_is, parameters, accumulates, same_cell-refl, In-left, In-right, any-from_In, in_slot, seen, AreApart}
 use Rattle.vx_base.specs.declared.kind.Kind.TheVariants as kind
-use Rattle.vx_base.specs.declared.node.Node.{Node}
-use Rattle.vx_base.specs.declared.output.Output.{Output}
-use Rattle.vx_base.specs.declared.output.Output.TheVariants.{First, Second}
-use Rattle.vx_base.specs.Cell.{Cell, same_cell}
-use Rattle.vx_base.specs.Image.{ImageValue, IsImage}
-use Rattle.vx_base.specs.Node.{outputs, given}
-use Rattle.vx_base.specs.Object.{ObjectValue, ImageObject, object_kind}
-use Rattle.object_table.specs.Context.{Context, with_objects}
-use Rattle.object_table.specs.Named.{Named, held, object_held, with_object}
-use Rattle.object_table.specs.Object.{image_value}
-use Rattle.object_table.specs.Table.{cell_object, image_held, HoldsImage}
-use Rattle.graph_verify.specs.declared.known.VirtualOutput.{VirtualOutput}
-use Rattle.graph_verify.specs.declared.verified.Verified.{Verified}
-use Rattle.graph_verify.specs.Links.{writes}
-use Rattle.graph_verify.specs.Members.{In}
-use Rattle.image_core.specs.declared.band.Band.{Band}
-use Rattle.graph_run.specs.declared.bands.Strip.{Strip}
-use Rattle.graph_run.specs.declared.stage.Slot.{Slot}
-use Rattle.graph_run.specs.declared.stage.Stage.{Stage}
-use Rattle.graph_run.specs.Bands.{AreSeen, seen_in, part_made, made_in, made_seen, with_seen, HasPlaceIn, IsSeen, IsStrip, rows_beside, RunsInBands, final_of, is_virtual_name, RowsAreAs, IsPartOf, right_from, right_to}
-use Rattle.graph_run.specs.Stage.{scene, slot_of, fixed}
-use Rattle.graph_run.specs.Steps.{RunsTo}
 use Rattle.graph_run.proofs.BandLemmas.{right_above, right_below, rows_right}
 use Rattle.graph_run.proofs.SeesLemmas.{SeesImage, SeesBeside, IsRightFor, SeesRight, SeesRightBeside, seen_is_object}
-use Rattle.vx_base.proofs.NodeLaws.{node_image_is}
-use Rattle.vx_base.specs.Function.{parameters, accumulates}
-use Rattle.graph_verify.proofs.LinkLemmas.{same_cell-refl}
-use Rattle.graph_verify.proofs.MemberLemmas.{In-left, In-right, any-from_In}
-use Rattle.object_table.specs.Delay.{in_slot}
-use Rattle.graph_run.specs.Bands.{seen}
-use Rattle.graph_run.specs.Steps.{AreApart}
 use Rattle.graph_run.proofs.AgreeLemmas.{output_cases}
 use Rattle.graph_run.proofs.FinalLemmas.{IsMade, second_near, second_given, in_height, out_height, final_first, final_second, final_apart, made_first, made_second, writes_images}
 use Rattle.graph_run.proofs.CellLemmas.{held_after, held_image, held_whole}

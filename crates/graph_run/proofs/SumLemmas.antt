@@ -1,6 +1,6 @@
 -- Nodes that add to the image that they write: its samples are taken out, and put back once they are added to.
 use Rattle.std.proofs.Common.{◌≡◌, ◌*◌, true, ℤ, List, Option, None, refl, sym, ap, ◌∙◌, arith, ◌==◌, option_map}
-use Rattle.graph_run.proofs.Common.{Format, S16, Function, Node, Cell, Description, takes_formats, parameters, accumulates, ImageValue, description_of, image_over, IsNode, from_two, length-table, Band, ImageMut, all_rows, HaveSameSize, written, Writes, all_written, ObjectValue, ImageObject, object_kind, object_format, Rectangle, image_of_kind, Named, image_value, cell_object, image_held, and_parts, eqb-true, RunsTo}
+use Rattle.graph_run.proofs.Common.{Format, S16, Function, Node, Cell, Description, takes_formats, parameters, accumulates, ImageValue, description_of, image_over, IsNode, from_two, length-table, Band, ImageMut, all_rows, HaveSameSize, written, Writes, all_written, ObjectValue, ImageObject, object_kind, object_format, Rectangle, image_of_kind, Named, image_value, cell_object, image_held, RunsTo, and_parts, eqb-true}
 use Rattle.vx_base.specs.declared.function.Function.TheVariants.{Accumulate, AccumulateSquare}
 use Rattle.vx_base.specs.declared.kind.Kind.TheVariants as kind
 use Rattle.image_core.specs.Bands.{rows_in}

@@ -1,5 +1,5 @@
 use Rattle.std.proofs.Common.{◌≡◌, ◌≢◌, ℕ, List, map, refl, ◌∙◌, ap, sym, subst, arith, Option, Some, IfSome, slice_get, ◌==◌, ◌&&◌, if◌then◌else◌, IsTrue, option_map}
-use Rattle.graph_run.proofs.Common.{AllPairs, In, PlanValue, place_of, slice_get_within, is_side, VirtualOutput, In-map, told, Slot, output_part, slot_place, plan_in, HasRoomFor, HoldsVirtual, claimed}
+use Rattle.graph_run.proofs.Common.{slice_get_within, AllPairs, is_side, VirtualOutput, In, In-map, told, PlanValue, Slot, output_part, place_of, slot_place, plan_in, HasRoomFor, HoldsVirtual, claimed}
 use Rattle.graph_run.proofs.LinkLaws.{In-from_All}
 use Rattle.graph_run.proofs.SlotLemmas.{HasRoomAt, HasSlots, planned_slots}
 use Rattle.graph_run.proofs.SharingLemmas.{output_at, described_here, output_can_claim, claims_slot, none_claims, undescribed, unplaced, stands_nowhere_else}

@@ -1,8 +1,5 @@
 use Rattle.std.proofs.Common.{◌∙◌, ap}
-use Rattle.vx_base.specs.Object.{ObjectValue}
-use Rattle.object_table.specs.Context.{Context, with_objects}
-use Rattle.object_table.specs.Named.{with_object}
-use Rattle.graph_run.specs.Stage.{scene}
+use Rattle.graph_run.proofs.Common.{ObjectValue, Context, with_objects, with_object, scene}
 use Rattle.graph_run.proofs.SeenLemmas.{found_here, found_nowhere, as_high_there, has_rows_there, part_becomes, band_becomes, seen_stage}
 use Rattle.graph_run.proofs.bands.run_output.Goals as goal
 

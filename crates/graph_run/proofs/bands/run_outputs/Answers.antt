@@ -1,7 +1,5 @@
 use Rattle.std.proofs.Common.{Option, Some, IfSome, subst}
-use Rattle.vx_base.specs.Cell.{Cell}
-use Rattle.graph_run.specs.Bands.{IsSeen}
-use Rattle.graph_run.specs.Steps.{AreApart}
+use Rattle.graph_run.proofs.Common.{Cell, IsSeen, AreApart}
 use Rattle.graph_run.proofs.PairLemmas.{has_two}
 use Rattle.graph_run.proofs.bands.run_outputs.Goals as goal
 

@@ -1,10 +1,5 @@
 use Rattle.std.proofs.Common.{◌∙◌, ap}
-use Rattle.vx_base.specs.declared.output.Output.TheVariants.{First, Second}
-use Rattle.vx_base.specs.Object.{ImageObject, ObjectValue}
-use Rattle.object_table.specs.Context.{Context, with_objects}
-use Rattle.object_table.specs.Named.{with_object}
-use Rattle.graph_run.specs.Bands.{made_seen, part_made}
-use Rattle.graph_run.specs.Stage.{scene}
+use Rattle.graph_run.proofs.Common.{First, Second, ImageObject, ObjectValue, Context, with_objects, with_object, made_seen, part_made, scene}
 use Rattle.graph_run.proofs.SeenLemmas.{found_here, as_high_there, part_becomes, still_seen, still_becomes, both_stage}
 use Rattle.graph_run.proofs.StepLemmas.{Keeps-trans, stage_arranged}
 use Rattle.graph_run.proofs.bands.run_pair.Goals as goal

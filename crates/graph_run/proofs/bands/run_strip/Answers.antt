@@ -1,11 +1,5 @@
 use Rattle.std.proofs.Common.{◌<◌, ◌≤◌, ℕ, List, length, get_or, Some, refl, ap, sym, subst, ◌∙◌}
-use Rattle.vx_base.specs.declared.node.Node.{Node}
-use Rattle.object_table.specs.Context.{Context}
-use Rattle.object_table.specs.Named.{Named}
-use Rattle.buffer_plan.specs.Places.{told}
-use Rattle.graph_run.specs.Operands.{operand_held}
-use Rattle.graph_run.specs.Slots.{plan_in, most_rows}
-use Rattle.graph_run.specs.Turns.{AreVirtual}
+use Rattle.graph_run.proofs.Common.{Node, Context, Named, told, operand_held, plan_in, most_rows, AreVirtual}
 use Rattle.graph_run.proofs.StripRunLemmas.{high, still_virtual, strip_begins, strip_ends, first_shared, node_sees, node_runs}
 use Rattle.graph_run.proofs.bands.run_strip.Goals as goal
 

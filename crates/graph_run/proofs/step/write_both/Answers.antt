@@ -1,8 +1,6 @@
 use Rattle.std.proofs.Common.{◌∙◌, take, refl, ap, sym}
+use Rattle.graph_run.proofs.Common.{Description, sample_count, values, scene}
 use Rattle.vx_base.specs.declared.output.Output.TheVariants as outputs
-use Rattle.vx_base.specs.Description.{Description, sample_count}
-use Rattle.vx_base.specs.Picture.{values}
-use Rattle.graph_run.specs.Stage.{scene}
 use Rattle.graph_run.proofs.OutputLemmas.{out_is_image, writes_image}
 use Rattle.graph_run.proofs.PairLemmas.{both_back, can_one, can_other, described_one, described_other, reads, reads_value, runs_other, takes_one, takes_other, writes_images}
 use Rattle.graph_run.proofs.StepLemmas.{put_keeps, still_out, still_for}
