@@ -15,7 +15,7 @@ use Rattle.vx_base.specs.declared.policy.Policy.TheVariants.{Wrap, Saturate}
 use Rattle.vx_base.specs.Sample.{narrow, signed_of}
 use Rattle.lane_rows.proofs.ScaleLaws.{shift_fits, sum_fits, below_zero, from_zero, ones_below}
 use Rattle.vx_base.specs.Pixelwise.{product}
-use Rattle.lane_rows.proofs.ShortLaws.{products_fit}
+use Rattle.lane_rows.proofs.ShortLaws.{of_bits, told, products_fit}
 use lib.Lanes.{top}
 
 -- ---- over a power of two
@@ -208,3 +208,13 @@ products_narrowed policy k (a ∷ us) (b ∷ vs) = ap (λ l. product S16 policy 
 pub narrowed_products_fit : (policy : Policy) (k : ℕ) (us vs : List ℤ) → Each1 (FitsSigned w16) us → Each1 (FitsSigned w16) vs → Each1 (FitsSigned w16) (zip2 (product S16 policy k) us vs)
 narrowed_products_fit policy k us vs f g =
     subst (Each1 (FitsSigned w16)) (products_narrowed policy k us vs) (narrow_fits policy (map (λ z. int_div z (pos (2 ^ k))) (zip2 ◌*ℤ◌ us vs)) (quotients_fit k (zip2 ◌*ℤ◌ us vs) (products_fit us vs f g)))
+
+-- what is computed of lanes as bits
+pub products_told : (policy : Policy) (k : ℕ) (us vs ps : List ℤ) → Each1 (FitsSigned w16) us → Each1 (FitsSigned w16) vs
+    → ps ≡ zip2 (product S16 policy k) (map (to_z w16) (map (of_z w16) us)) (map (to_z w16) (map (of_z w16) vs)) → map (to_z w16) (map (of_z w16) ps) ≡ zip2 (product S16 policy k) us vs
+products_told policy k us vs ps f g is =
+    told w16 ps (zip2 (product S16 policy k) us vs)
+    (is
+    ∙ ap (λ (l : List ℤ). zip2 (product S16 policy k) l (map (to_z w16) (map (of_z w16) vs))) (of_bits w16 us f)
+    ∙ ap (λ (l : List ℤ). zip2 (product S16 policy k) us l) (of_bits w16 vs g))
+    (narrowed_products_fit policy k us vs f g)

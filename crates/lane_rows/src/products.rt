@@ -9,7 +9,7 @@ use crate::item::Short;
 use crate::lanes::{LanesOfPair, zip_lanes};
 use crate::overflow::{Overflow, Saturated, Wrapped, with_overflow};
 use crate::rows::OfPair;
-use crate::shorts::scaled_products as scaled_shorts;
+use crate::shorts::multiplied;
 use crate::vectors::{narrowed, scaled_products};
 use std::simd::prelude::*;
 use vx_base::{Policy, narrow_s16, narrow_u8};
@@ -81,7 +81,7 @@ fn write_sixteen<A: Short, B: Short, P: Overflow>(
         (map A.value first.now) (map B.value second.now) }
 {
     let (a, b) = (A::shorts(first), B::shorts(second));
-    scaled_shorts(a, b, kernel.amount, kernel.overflow.policy()).copy_to_slice(out);
+    multiplied(a, b, kernel.amount, kernel.overflow.policy()).copy_to_slice(out);
 }
 
 impl<A: Short, B: Short, P: Overflow> LanesOfPair<A, B, i16> for Product<P> {

@@ -81,7 +81,7 @@ fn narrowed(numbers: i32x16, policy: Policy) -> i16x16
 }
 
 /// The products over 2^amount, rounded to zero and narrowed by the policy.
-pub fn scaled_products(a: i16x16, b: i16x16, amount: u8, policy: Policy) -> i16x16
+pub fn multiplied(a: i16x16, b: i16x16, amount: u8, policy: Policy) -> i16x16
     requires amount { amount ≤ 15 }
     requires a_len { length a ≡ 16 }
     requires b_len { length b ≡ 16 }

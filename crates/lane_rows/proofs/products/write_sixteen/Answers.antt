@@ -4,15 +4,15 @@ use Rattle.std.proofs.lemmas.List.{length-map}
 use Rattle.std.proofs.lemmas.Simd.{length-zip2, put_chunk_whole}
 use Rattle.vx_base.specs.declared.format.Format.TheVariants.{S16}
 use Rattle.vx_base.specs.Pixelwise.{product}
-use Rattle.lane_rows.proofs.ShortLaws.{of_bits, fit_as_bits, told}
-use Rattle.lane_rows.proofs.NarrowLaws.{narrowed_products_fit}
+use Rattle.lane_rows.proofs.ShortLaws.{fit_as_bits}
+use Rattle.lane_rows.proofs.NarrowLaws.{products_told}
 use Rattle.lane_rows.proofs.products.write_sixteen.Goals as goal
 
-pub scaled_products-requires-clause-a_fits : goal.scaled_products-requires-clause-a_fits
-scaled_products-requires-clause-a_fits g c = fit_as_bits w16 c.shorts-a.result c.shorts-a.ensures.fits
+pub multiplied-requires-clause-a_fits : goal.multiplied-requires-clause-a_fits
+multiplied-requires-clause-a_fits g c = fit_as_bits w16 c.shorts-a.result c.shorts-a.ensures.fits
 
-pub scaled_products-requires-clause-b_fits : goal.scaled_products-requires-clause-b_fits
-scaled_products-requires-clause-b_fits g c = fit_as_bits w16 c.shorts-b.result c.shorts-b.ensures.fits
+pub multiplied-requires-clause-b_fits : goal.multiplied-requires-clause-b_fits
+multiplied-requires-clause-b_fits g c = fit_as_bits w16 c.shorts-b.result c.shorts-b.ensures.fits
 
 pub returns : goal.returns
 returns g c =
@@ -22,18 +22,12 @@ returns g c =
     let b = c.shorts-b.result in
     let first = map g.A.Item.value c.args.first.now in
     let second = map g.B.Item.value c.args.second.now in
-    let f = c.shorts-a.ensures.fits in
-    let h = c.shorts-b.ensures.fits in
-    let is : c.scaled_products.result ≡ zip2 (product S16 policy n) a b =
-    c.scaled_products.ensures
-    ∙ ap (λ p. zip2 (product S16 p n) (map (to_z w16) (map (of_z w16) a)) (map (to_z w16) (map (of_z w16) b))) c.policy.ensures
-    ∙ ap (λ (l : List ℤ). zip2 (product S16 policy n) l (map (to_z w16) (map (of_z w16) b))) (of_bits w16 a f)
-    ∙ ap (λ (l : List ℤ). zip2 (product S16 policy n) a l) (of_bits w16 b h) in
-    let read : map (to_z w16) (map (of_z w16) c.scaled_products.result) ≡ zip2 (product S16 policy n) first second =
-    told w16 c.scaled_products.result (zip2 (product S16 policy n) a b) is (narrowed_products_fit policy n a b f h)
+    let read : map (to_z w16) (map (of_z w16) c.multiplied.result) ≡ zip2 (product S16 policy n) first second =
+    products_told policy n a b c.multiplied.result c.shorts-a.ensures.fits c.shorts-b.ensures.fits
+    (c.multiplied.ensures ∙ ap (λ p. zip2 (product S16 p n) (map (to_z w16) (map (of_z w16) a)) (map (to_z w16) (map (of_z w16) b))) c.policy.ensures)
     ∙ ap (λ (l : List ℤ). zip2 (product S16 policy n) l b) c.shorts-a.ensures.value
     ∙ ap (λ (l : List ℤ). zip2 (product S16 policy n) first l) c.shorts-b.ensures.value in
     let one : length first ≡ 16 = length-map c.args.first.now g.A.Item.value ∙ c.requires.first_len in
     let two : length second ≡ 16 = length-map c.args.second.now g.B.Item.value ∙ c.requires.second_len in
-    let long : length (map (to_z w16) (map (of_z w16) c.scaled_products.result)) ≡ 16 = ap length read ∙ length-zip2 (product S16 policy n) first second (one ∙ sym two) ∙ one in
-    put_chunk_whole c.args.out.now (map (to_z w16) (map (of_z w16) c.scaled_products.result)) (c.requires.out_len ∙ sym long) ∙ read
+    let long : length (map (to_z w16) (map (of_z w16) c.multiplied.result)) ≡ 16 = ap length read ∙ length-zip2 (product S16 policy n) first second (one ∙ sym two) ∙ one in
+    put_chunk_whole c.args.out.now (map (to_z w16) (map (of_z w16) c.multiplied.result)) (c.requires.out_len ∙ sym long) ∙ read

@@ -6,7 +6,7 @@ use Rattle.vx_base.specs.Sample.{narrow}
 use Rattle.vx_base.specs.Pixelwise.{product}
 use Rattle.lane_rows.proofs.ShortLaws.{of_bits, fit_as_bits, told, products_fit, product_sizes}
 use Rattle.lane_rows.proofs.NarrowLaws.{quotients_fit, products_narrowed, narrowed_products_fit}
-use Rattle.lane_rows.proofs.shorts.scaled_products.Goals as goal
+use Rattle.lane_rows.proofs.shorts.multiplied.Goals as goal
 
 module _ (a b : List ℤ) (f : Each1 (FitsSigned w16) a) (g : Each1 (FitsSigned w16) b) where
   whole : (ps : List ℤ) → ps ≡ zip2 ◌*ℤ◌ (map (to_z w16) (map (of_z w16) a)) (map (to_z w16) (map (of_z w16) b)) → map (to_z w32) (map (of_z w32) ps) ≡ zip2 ◌*ℤ◌ a b
