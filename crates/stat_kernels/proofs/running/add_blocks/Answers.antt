@@ -1,16 +1,17 @@
 use Rattle.std.proofs.Common.{◌≡◌, ◌+◌, ◌*◌, ◌≤◌, length, arith, ◌∙◌}
-use Rattle.stat_kernels.proofs.LaneSums.{totals_are, block_is, block_written, block_total}
+use Rattle.stat_kernels.proofs.LaneSums.{block_is, block_written, block_total}
 use Rattle.stat_kernels.proofs.running.add_blocks.Goals as goal
 
 pub loop-block-preserved : goal.loop-block-preserved
 loop-block-preserved c =
     let row = c.args.row.now in
     let above = c.args.above.now in
-    let i = 16 * c.loop-block.block in
-    let next : 16 * (c.loop-block.block + 1) ≡ i + 16 = omega arith in
-    let inside : i + 16 ≤ length row = omega (arith, c.loop-block-test.true, c.requires.inside) in
-    let totals = totals_are row above i inside c.running.result c.loop-block.total c.running.ensures c.loop-block.invariant.total in
+    let i = 8 * c.loop-block.block in
+    let next : 8 * (c.loop-block.block + 1) ≡ i + 8 = omega arith in
+    let inside : i + 8 ≤ length row = omega (arith, c.loop-block-test.true, c.requires.inside) in
     record {
-      written = block_written row above i inside _ c.loop-block.out (16 * (c.loop-block.block + 1)) _ next (c.loop-block.auto.out ∙ c.requires.out_len) (block_is row above i inside _ (omega (arith, inside, c.requires.above_len)) totals) c.loop-block.invariant.written;
-      total = block_total row above i inside _ (16 * (c.loop-block.block + 1)) next totals;
+      written = block_written row above i inside _ c.loop-block.out (8 * (c.loop-block.block + 1)) _ next (c.loop-block.auto.out ∙ c.requires.out_len)
+          (block_is row above i inside c.running-sums.result c.loop-block.total (omega (arith, inside, c.requires.above_len)) c.running-sums.ensures c.loop-block.invariant.total)
+          c.loop-block.invariant.written;
+      total = block_total row above i inside c.running-sums.result c.loop-block.total (8 * (c.loop-block.block + 1)) next c.running-sums.ensures c.loop-block.invariant.total;
     }

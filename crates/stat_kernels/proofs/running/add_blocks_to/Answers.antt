@@ -1,5 +1,5 @@
 use Rattle.std.proofs.Common.{◌≡◌, ◌+◌, ◌*◌, ◌≤◌, length, ap, ◌∙◌, arith}
-use Rattle.stat_kernels.proofs.LaneSums.{plus, totals_are, block_is, block_written, block_past, block_total, unwritten}
+use Rattle.stat_kernels.proofs.LaneSums.{plus, block_is, block_written, block_past, block_total, unwritten}
 use Rattle.stat_kernels.proofs.running.add_blocks_to.Goals as goal
 
 pub loop-block-preserved : goal.loop-block-preserved
@@ -7,17 +7,16 @@ loop-block-preserved c =
     let row = c.args.row.now in
     let above = c.args.sums.now in
     let sums = c.loop-block.sums in
-    let i = 16 * c.loop-block.block in
-    let n = 16 * (c.loop-block.block + 1) in
-    let next : n ≡ i + 16 = omega arith in
-    let inside : i + 16 ≤ length row = omega (arith, c.loop-block-test.true, c.requires.inside) in
+    let i = 8 * c.loop-block.block in
+    let n = 8 * (c.loop-block.block + 1) in
+    let next : n ≡ i + 8 = omega arith in
+    let inside : i + 8 ≤ length row = omega (arith, c.loop-block-test.true, c.requires.inside) in
     let long : length sums ≡ length row = c.loop-block.auto.sums ∙ c.requires.len in
-    let totals = totals_are row above i inside c.running.result c.loop-block.total c.running.ensures c.loop-block.invariant.total in
     let block =
-    ap (λ l. plus l (plus c.running.result c.loop-block.total)) (unwritten i sums above c.loop-block.invariant.others)
-    ∙ block_is row above i inside _ (omega (arith, inside, c.requires.len)) totals in
+    ap (λ l. plus l (plus c.running-added.result c.loop-block.total)) (unwritten i sums above c.loop-block.invariant.others)
+    ∙ block_is row above i inside c.running-added.result c.loop-block.total (omega (arith, inside, c.requires.len)) c.running-added.ensures c.loop-block.invariant.total in
     record {
       written = block_written row above i inside _ sums n _ next long block c.loop-block.invariant.written;
       others = block_past row above i inside _ sums above n _ next (omega arith) long block c.loop-block.invariant.others;
-      total = block_total row above i inside _ n next totals;
+      total = block_total row above i inside c.running-added.result c.loop-block.total n next c.running-added.ensures c.loop-block.invariant.total;
     }
