@@ -28,9 +28,14 @@ static vx_graph little(void) {
 }
 
 /* A graph from a to b through many virtual images that are all needed at one time: the first MANY
-   come one from the other, and what joins them begins with the last. */
+   come one from the other, and what joins them begins with the last. It has a histogram too, which
+   looks at all rows of an image: else the graph could run in bands of rows, for which there is
+   memory. */
 static vx_graph much(void) {
     vx_graph graph = vxCreateGraph(context);
+    vx_distribution counts = vxCreateDistribution(context, 2, 0, 256);
+    EXPECT(VX_SUCCESS, STATUS(vxHistogramNode(graph, a, counts)));
+    EXPECT(VX_SUCCESS, vxReleaseDistribution(&counts));
     vx_image images[MANY];
     for (int i = 0; i < MANY; i++) {
         images[i] = through(graph);
