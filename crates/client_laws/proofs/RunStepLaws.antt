@@ -1,6 +1,6 @@
 -- A graph that runs keeps the limits, and what is held: as it begins, virtual images become images; its rounds write to outputs what they may become;
 -- and as it ends, virtual images are forgotten.
-use Rattle.std.proofs.Common.{◌≡◌, inl, inr, ℕ, Bool, true, false, cond, IsTrue, List, [], ◌∷◌, ◌++◌, length, map, get_or, drop, Option, Some, None, IfSome, if◌then◌else◌, refl, sym, ap, subst, ◌∙◌}
+use Rattle.std.proofs.Common.{◌≡◌, inl, inr, ℕ, Bool, true, false, cond, IsTrue, List, [], ◌∷◌, ◌++◌, length, map, get_or, Option, Some, None, IfSome, if◌then◌else◌, refl, sym, ap, subst, ◌∙◌}
 use Rattle.std.specs.Prelude.{All, not, ◌||◌, is_some, is_none, unwrap_or}
 use Rattle.std.specs.List.{list_any}
 use Rattle.std.specs.List.Sorted.{IsStrictlyIncreasing}
@@ -40,7 +40,6 @@ use Rattle.client_model.specs.Immediate.{operand_in}
 use Rattle.client_model.specs.Operands.{is_kind, stands_for}
 use Rattle.client_model.specs.States.{KeepsLimits, kind_held, stands}
 use Rattle.object_table.proofs.HeldLemmas.{names_of, held_by_name, held_is, object_held-map}
-use Rattle.graph_run.specs.Lasting.{lasting_named}
 use Rattle.client_model.proofs.NamedLaws.{held_kind}
 use Rattle.client_model.proofs.HoldLaws.{each_fails, is_taken, kinds_taken, OperandsStand, stands_parts}
 use Rattle.client_model.proofs.StateLaws.{alike_leaves}
@@ -52,7 +51,8 @@ use Rattle.client_model.proofs.DelayStepLaws.{aged_under_last}
 use Rattle.client_model.proofs.GraphStepLaws.{graph_is, graph_stands}
 use Rattle.client_laws.proofs.RoundLaws.{rounds_last}
 use Rattle.client_model.proofs.BegunLaws.{IsSmall, object_small, rounds_small, begun_is_object, slot_as_begun, image_as_begun, Taken, taken_as_begun, kind_as_begun, SecondTaken, give_as_taken}
-use Rattle.graph_run.proofs.BegunLaws.{begun_if, begun_stays, virtual_as_operand}
+use Rattle.graph_run.proofs.BegunLaws.{begun_if, virtual_as_operand}
+use Rattle.graph_run.proofs.SettledLemmas.{forgotten_lasts}
 
 -- ---- the cells of a node
 
@@ -238,27 +238,7 @@ module _ (objects : List Named) (nodes : List Node) (are : All (λ o. IsObject o
 
 -- ---- as a run ends
 
--- what is no virtual image is the same as a run begins
-begun_real : (known : Cell → Operand) (nodes : List Node) (o : Named) → is_virtual_object o.object ≡ false → begun known nodes o ≡ o
-begun_real known nodes o real =
-    let cell : Cell = record { name = o.name; slot = None } in
-    cond_both (is_written nodes cell) (record o { object = begun_as o.object (known cell) }) o (λ p. p ≡ o)
-    (λ e. ap (λ (x : ObjectValue). let p : Named = record o { object = x } in p) (begun_stays o.object true (known cell) real)) (λ e. refl)
-
--- once virtual images are forgotten, as much lasts of the objects as before
-forgotten_last : (known : Cell → Operand) (nodes : List Node) (objects after : List Named) → map lasting_named after ≡ map lasting_named (map (begun known nodes) objects)
-    → map lasting_named (forgotten objects after) ≡ map lasting_named objects
-forgotten_last known nodes [] [] same = refl
-forgotten_last known nodes [] (p ∷ after) same = absurd (cc)
-forgotten_last known nodes (o ∷ objects) [] same = absurd (cc)
-forgotten_last known nodes (o ∷ objects) (p ∷ after) same =
-    let first : lasting_named p ≡ lasting_named (begun known nodes o) = ap (λ l. get_or l 0 (lasting_named o)) same in
-    let rest = forgotten_last known nodes objects after (ap (drop 1) same) in
-    ap (λ q. q ∷ map lasting_named (forgotten objects after))
-    (cond_both (is_virtual_object o.object) o p (λ q. lasting_named q ≡ lasting_named o) (λ e. refl) (λ e. first ∙ ap lasting_named (begun_real known nodes o e)))
-    ∙ ap (λ l. lasting_named o ∷ l) rest
-
--- and all are objects
+-- once virtual images are forgotten, all are objects
 forgotten_are : (objects after : List Named) → All (λ o. IsObject o.object) objects → All (λ o. IsObject o.object) after → All (λ o. IsObject o.object) (forgotten objects after)
 forgotten_are [] after were are = are
 forgotten_are (o ∷ objects) [] were are = are
@@ -294,7 +274,7 @@ process_found_keeps limits c name (Some (GraphObject graph)) h is stood =
     let left : List Named = rounds_of_nodes nodes (length nodes) begin in
     let aged = aged_under_last graph.delays run (forgotten_are objects left h.objects ran.objects) in
     alike_leaves limits (λ name. false) c h (aged_under graph.delays run)
-    (record { objects = aged.objects; lasting = aged.lasting ∙ forgotten_last known nodes objects left ran.lasting }))
+    (record { objects = aged.objects; lasting = aged.lasting ∙ forgotten_lasts known nodes objects left ran.lasting }))
 process_found_keeps limits c name (Some other) h is stood = tt
 
 -- a graph that runs keeps the limits, and what is held

@@ -90,14 +90,20 @@ pub fn bands_of(
     let Some(desc) = first_desc(table, verified) else {
         return Ok(None);
     };
+    if desc.sample_count() < LEAST_SAMPLES {
+        return Ok(None);
+    }
     let Some(beside) = rows_beside(table, &verified.steps) else {
         return Ok(None);
     };
-    let (height, rows) = (desc.height(), rows_of(desc, beside));
-    if desc.sample_count() < least_samples(beside) || height / LEAST_BANDS < rows {
+    if beside > 0 && desc.sample_count() < LEAST_SAMPLES_BESIDE {
         return Ok(None);
     }
-    if beside > rows / LEAST_FOR_ONE_BESIDE || !all_suit(table, verified, height) {
+    let (height, rows) = (desc.height(), rows_of(desc, beside));
+    if height / LEAST_BANDS < rows || beside > rows / LEAST_FOR_ONE_BESIDE {
+        return Ok(None);
+    }
+    if !all_suit(table, verified, height) {
         return Ok(None);
     }
     are_described(&verified.virtual_outputs);
@@ -145,28 +151,15 @@ fn desc_of(table: &Table, verified: &Verified, cell: ObjRef) -> Option<Desc>
 
 // ---- sizes
 
-/// How many samples images need to have so that bands pay, for a graph that looks at so many rows
-/// beside one.
-fn least_samples(beside: u16) -> usize {
-    if beside == 0 {
-        LEAST_SAMPLES
-    } else {
-        LEAST_SAMPLES_BESIDE
-    }
-}
-
 /// The rows of a band of images of this description, for a graph that looks at so many rows beside
 /// it.
 fn rows_of(desc: Desc, beside: u16) -> u16
     ensures { 1 ≤ result }
 {
     let width = u32::from(desc.width());
-    let rows = (BAND_SAMPLES / width).max(LEAST_ROWS).min(GREATEST_ROWS);
-    let greatest = (GREATEST_BAND_SAMPLES / width)
-        .max(LEAST_ROWS)
-        .min(GREATEST_ROWS);
-    rows.max(u32::from(beside) * ROWS_FOR_ONE_BESIDE)
-        .min(greatest) as u16
+    let wanted = (BAND_SAMPLES / width).max(u32::from(beside) * ROWS_FOR_ONE_BESIDE);
+    let greatest = (GREATEST_BAND_SAMPLES / width).min(GREATEST_ROWS);
+    wanted.min(greatest).max(LEAST_ROWS) as u16
 }
 
 /// How many rows up and down nodes look together. `None`: one of them looks at all rows.

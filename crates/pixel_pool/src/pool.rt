@@ -1,6 +1,6 @@
 //! The blocks of all formats.
-ghost use Rattle.std.specs.Prelude.{◌≡◌, ◌≢◌, ◌≤◌, [], length, max, pos, replicate, IfOk, OnErr, OnOk};
-ghost use Rattle.std.specs.Prelude.{IsOk};
+ghost use Rattle.std.specs.Prelude.{◌≡◌, ◌≢◌, ◌≤◌, [], length, max, pos, replicate};
+ghost use Rattle.std.specs.Prelude.{IfOk, IsOk, OnErr, OnOk};
 ghost use Rattle.vx_base.specs.Picture.{values, samples_format};
 ghost use Rattle.pixel_pool.specs.Free.{HasRoom, UsesBest, GetsRoom, most_free};
 ghost use Rattle.pixel_pool.specs.Pool.{lent_of, rooms_of, blocks_of, HasLent, Lends, GetsBack};

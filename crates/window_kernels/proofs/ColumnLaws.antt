@@ -112,3 +112,28 @@ nines_across value gives joined of_nine law f x m y columns n out seen long acro
     across h (seen ∙ from_zero (λ u. column_seen gives f u y) x m ∙ ap (λ k. run 0 k h) (sym long))
     ∙ run_shifted (λ i. joined (h i) (h (i + 1)) (h (i + 2))) (λ k. of_nine (nine_around f (pos k) y)) 0 x n
     (λ k below. ap (λ i. joined (h i) (h (i + 1)) (h (i + 2))) (zero-add k) ∙ nine_of_columns gives joined of_nine law f x k y)
+
+-- the same of rows that are read where they stand, one column to the left of the first place
+pub nines_in_place : (gives joined : ℤ → ℤ → ℤ → ℤ) (of_nine : List ℤ → ℤ)
+    → ((a b c d e f g h i : ℤ) → joined (gives a d g) (gives b e h) (gives c f i) ≡ of_nine (a ∷ b ∷ c ∷ d ∷ e ∷ f ∷ g ∷ h ∷ i ∷ []))
+    → (f : ℤ → ℤ → ℤ) (x first m n : ℕ) (y over on under : ℤ) (above here below : List ℕ)
+    → map pos above ≡ run first m (λ c. f (pos c) over) → map pos here ≡ run first m (λ c. f (pos c) on) → map pos below ≡ run first m (λ c. f (pos c) under)
+    → over ≡ y -ℤ pos 1 → on ≡ y → under ≡ y +ℤ pos 1 → first + 1 ≡ x → m ≡ n + 2
+    → run 0 n (λ i. joined (column_in gives above here below i) (column_in gives above here below (i + 1)) (column_in gives above here below (i + 2)))
+    ≡ run x n (λ k. of_nine (nine_around f (pos k) y))
+nines_in_place gives joined of_nine law f x first m n y over on under above here below a b d is_over is_on is_under start long =
+    run_shifted (λ i. joined (column_in gives above here below i) (column_in gives above here below (i + 1)) (column_in gives above here below (i + 2))) (λ k. of_nine (nine_around f (pos k) y)) 0 x n place
+  where
+    column : (i : ℕ) → i < m → column_in gives above here below i ≡ column_seen gives f (pos (x + i) -ℤ pos 1) y
+    column i inside =
+        same_three gives _ _ _ _ _ _
+        (item_at f first m i over (y -ℤ pos 1) above a inside is_over)
+        (item_at f first m i on y here b inside is_on)
+        (item_at f first m i under (y +ℤ pos 1) below d inside is_under)
+        ∙ ap (λ u. column_seen gives f u y) (let e : pos (first + i) ≡ pos (x + i) -ℤ pos 1 = omega (arith, ints) in e)
+
+    place : (k : ℕ) → k < n → joined (column_in gives above here below (0 + k)) (column_in gives above here below (0 + k + 1)) (column_in gives above here below (0 + k + 2)) ≡ of_nine (nine_around f (pos (x + k)) y)
+    place k h =
+        ap (λ i. joined (column_in gives above here below i) (column_in gives above here below (i + 1)) (column_in gives above here below (i + 2))) (zero-add k)
+        ∙ same_three joined _ _ _ _ _ _ (column k (omega arith)) (column (k + 1) (omega arith)) (column (k + 2) (omega arith))
+        ∙ nine_of_columns gives joined of_nine law f x k y

@@ -37,14 +37,14 @@ less x y = chosen_w8 (ltb x y) x y ∙ smaller_lane x y
 pub more : (x y : ℕ) → cond (top 7 (cond (ltb x y) 255 0)) y x ≡ max x y
 more x y = chosen_w8 (ltb x y) y x ∙ greater_lane x y
 
--- 32 items of a row that are loaded
-pub loaded_is : (xs : List ℕ) (i : ℕ) → i + 32 ≤ length xs → chunk 0 32 (take (i + 32 - i) (drop i xs)) ≡ map (λ k. get_or xs k 0) (range_with_len i 32)
-loaded_is xs i inside =
-    let e : i + 32 - i ≡ 32 = omega arith in
-    ap (λ n. take 32 (take n (drop i xs))) e ∙ take-take 32 32 (drop i xs) (omega arith) ∙ sym (pick_l-range_with_len 0 xs i 32 inside)
+-- items of a row that are loaded
+pub loaded_is : (n : ℕ) (xs : List ℕ) (i : ℕ) → i + n ≤ length xs → chunk 0 n (take (i + n - i) (drop i xs)) ≡ map (λ k. get_or xs k 0) (range_with_len i n)
+loaded_is n xs i inside =
+    let e : i + n - i ≡ n = omega arith in
+    ap (λ m. take n (take m (drop i xs))) e ∙ take-take n n (drop i xs) (omega arith) ∙ sym (pick_l-range_with_len 0 xs i n inside)
 
 -- items of a row from some items further on
-further : (g : ℕ → ℕ) (d a n : ℕ) → map g (range_with_len (a + d) n) ≡ map (λ i. g (i + d)) (range_with_len a n)
+pub further : (g : ℕ → ℕ) (d a n : ℕ) → map g (range_with_len (a + d) n) ≡ map (λ i. g (i + d)) (range_with_len a n)
 further g d a zero = refl
 further g d a (suc n) =
     let next : a + d + 1 ≡ a + 1 + d = omega arith in

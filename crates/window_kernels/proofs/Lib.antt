@@ -9,3 +9,4 @@ mod MatrixLaws
 mod RowLaws
 mod MedianLaws
 mod LaneLaws
+mod GradientLaws

@@ -3,3 +3,4 @@ pub mod Fits
 pub mod Products
 pub mod ByColumns
 pub mod Examples
+pub mod Gradients

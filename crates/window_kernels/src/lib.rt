@@ -4,8 +4,9 @@
 //! valid, 0 elsewhere. A kernel of nine samples is a type that writes a piece of a row of them,
 //! `OfNine`; that it gives a whole image is proved once for all, in `write_nine`. Most of them go
 //! down the columns of three rows, which are read where they stand, and then across three columns:
-//! `OfColumn` and `AcrossColumns`; for medians in lanes (`median_lanes`). `convolve` loads what the
-//! windows of a piece see, with what counts beside the image, and sums up the products with two
+//! `OfColumn` and `AcrossColumns`; for medians in lanes (`median_lanes`). Both gradients at once
+//! are computed from the three rows themselves, in lanes (`gradient_lanes`). `convolve` loads what
+//! the windows of a piece see, with what counts beside the image, and sums up the products with two
 //! coefficients at once, at 32 places (`products`). Rows are computed in `pieces` of at most 1,024
 //! columns, so that no scratch memory grows with the width of images. No function takes memory.
 //! `examples` works the definitions out in numbers, and `laws` states what the median means.
@@ -15,6 +16,7 @@ mod columns;
 mod convolution;
 pub mod examples;
 mod extremes;
+mod gradient_lanes;
 mod gradients;
 pub mod laws;
 mod means;

@@ -1,20 +1,19 @@
 //! Images of the nine samples around each place.
 ghost use Rattle.std.specs.Prelude.{◌≡◌, ◌+◌, ◌*◌, ◌<◌, ◌≤◌, ◌-ℤ◌, ℕ, ℤ, pos, List, [], ◌∷◌, map};
 ghost use Rattle.std.specs.Prelude.{length, min, replicate};
-ghost use Rattle.vx_base.specs.declared.format.Format.TheVariants.{U8, S16};
+ghost use Rattle.vx_base.specs.declared.format.Format.TheVariants.{U8};
 ghost use Rattle.vx_base.specs.Image.{run};
 ghost use Rattle.vx_base.specs.Window.{look, nine_around, window_valid, from_nine};
 ghost use Rattle.image_core.specs.Fits.{HaveSameSize};
 ghost use Rattle.image_core.specs.Target.{written, IsTarget, Writes};
 ghost use Rattle.border_rows.specs.Seen.{value_beside};
 ghost use Rattle.window_kernels.specs.declared.pieces.TheConstants.{PIECE};
-ghost use Rattle.window_kernels.specs.Fits.{WindowFits};
 ghost use Rattle.window_kernels.specs.Nine.{column_seen};
 
 use crate::columns::{OfColumn, Window};
 use crate::pieces::PIECE;
 use border_rows::{value_beside, window_valid};
-use image_core::{Image, ImageMut, Number, RowFormula, Sample, TwoRowFormulas};
+use image_core::{Image, ImageMut, Number, RowFormula, Sample};
 use vx_base::{Border, Rect};
 
 /// What a function of the nine samples around a place gives there.
@@ -54,7 +53,7 @@ pub trait AcrossColumns<T: Sample, S: Number>: OfColumn<S> {
 }
 
 /// Writes what each three columns give.
-fn write_across<T: Sample, S: Number, K: AcrossColumns<T, S>>(
+pub fn write_across<T: Sample, S: Number, K: AcrossColumns<T, S>>(
     kernel: &K,
     columns: &[S],
     out: &mut [T],
@@ -116,59 +115,6 @@ impl<T: Sample, S: Number, K: OfNine<T, S>> RowFormula<T, S> for FromNine<'_, '_
     }
 }
 
-/// What two kernels of columns give of a U8 image under a border.
-#[derive(Drop)]
-struct FromBoth<'a, 'b, K, L> {
-    first: &'a K,
-    second: &'a L,
-    window: &'a Window<'a, 'b>,
-}
-
-impl<S: Number, R: Number, K: AcrossColumns<i16, S>, L: AcrossColumns<i16, R>> TwoRowFormulas<
-    i16,
-    S,
-    R,
-> for FromBoth<'_, '_, K, L> {
-    ghost first = { λ s x y. K.of_nine s.first.now
-        (nine_around (look s.window.now.image.now s.window.now.border) (pos x) (pos y)) };
-
-    ghost second = { λ s x y. L.of_nine s.second.now
-        (nine_around (look s.window.now.image.now s.window.now.border) (pos x) (pos y)) };
-
-    ghost area = { λ s. s.window.now.area };
-
-    ghost most = { λ _. PIECE };
-
-    ghost room = { λ s. min s.window.now.image.now.width PIECE + 2 };
-
-    fn area(&self) -> Rect {
-        self.window.area
-    }
-
-    fn most(&self) -> u16 {
-        PIECE as u16
-    }
-
-    fn fill(
-        &self,
-        x: u16,
-        y: u16,
-        scratch: &mut [S],
-        more: &mut [R],
-        out: &mut [i16],
-        other: &mut [i16],
-    ) {
-        let _valid = self.window.image.valid();
-        let count = out.len() + 2;
-        let columns = &mut scratch[..count];
-        let others = &mut more[..count];
-        self.window
-            .write_both_columns(self.first, self.second, x, y, columns, others);
-        write_across(self.first, columns, out);
-        write_across(self.second, others, other);
-    }
-}
-
 /// Writes what the kernel gives, with a row as it is seen where no valid row is.
 fn write_with_rows<T: Sample, S: Number, K: OfNine<T, S>>(
     kernel: &K,
@@ -215,11 +161,13 @@ macro_rules! with_off_rows {
             let $rows = &[off; 510];
             $call
         } else {
-            let $rows = &[off; PIECE + 2];
+            let $rows = &[off; $crate::pieces::PIECE + 2];
             $call
         }
     }};
 }
+
+pub(crate) use with_off_rows;
 
 /// Writes what the kernel gives of a U8 image to another of its size, with scratch memory for three
 /// pieces of rows that are two items longer than what is written of them.
@@ -242,78 +190,6 @@ pub fn write_nine<T: Sample, S: Number, K: OfNine<T, S>>(
     let width = image.desc().width();
     with_off_rows!(width, border, rows => {
         write_with_rows(kernel, image, output, border, rows, scratch);
-    })
-}
-
-/// Writes what two kernels give, as `write_with_rows` does.
-fn write_two_with_rows<S: Number, R: Number, K: AcrossColumns<i16, S>, L: AcrossColumns<i16, R>>(
-    first: &K,
-    second: &L,
-    image: &Image<'_>,
-    output: &mut ImageMut<'_>,
-    other: &mut ImageMut<'_>,
-    border: Border,
-    off_rows: &[u8],
-    scratch: &mut [S],
-    more: &mut [R],
-)
-    requires fits { WindowFits S16 image.now output.old }
-    requires other_fits { WindowFits S16 image.now other.old }
-    requires rows { other.old.rows ≡ output.old.rows }
-    requires off_rows { map pos off_rows.now
-        ≡ replicate (length off_rows.now) (value_beside border (pos 0)) }
-    requires room { min image.now.width (PIECE + 2) ≤ length off_rows.now }
-    requires scratch { min image.now.width PIECE + 2 ≤ length scratch.old }
-    requires more { min image.now.width PIECE + 2 ≤ length more.old }
-    ensures first { Writes (from_nine S16 (K.of_nine first.now) border image.now)
-        output.old output.new }
-    ensures second { Writes (from_nine S16 (L.of_nine second.now) border image.now)
-        other.old other.new }
-{
-    let area = window_valid(border, 1, 1, image.valid());
-    let window = Window {
-        image,
-        border,
-        off_rows,
-        area,
-    };
-    let formulas = FromBoth {
-        first,
-        second,
-        window: &window,
-    };
-    output.write_two_by_rows::<S, R, _>(other, &formulas, scratch, more);
-}
-
-/// Writes what two kernels of columns give of a U8 image to the same rows of two S16 images of its
-/// size, a row of each in turn: so each row of the image is read once. Each kernel has scratch
-/// memory for a piece of a row that is two items longer than what is written of it.
-pub fn write_two_nines<S: Number, R: Number, K: AcrossColumns<i16, S>, L: AcrossColumns<i16, R>>(
-    first: &K,
-    second: &L,
-    image: &Image<'_>,
-    output: &mut ImageMut<'_>,
-    other: &mut ImageMut<'_>,
-    border: Border,
-    scratch: &mut [S],
-    more: &mut [R],
-)
-    requires fits { WindowFits S16 image.now output.old }
-    requires other_fits { WindowFits S16 image.now other.old }
-    requires rows { other.old.rows ≡ output.old.rows }
-    requires scratch { min image.now.width PIECE + 2 ≤ length scratch.old }
-    requires more { min image.now.width PIECE + 2 ≤ length more.old }
-    ensures first { Writes (from_nine S16 (K.of_nine first.now) border image.now)
-        output.old output.new }
-    ensures second { Writes (from_nine S16 (L.of_nine second.now) border image.now)
-        other.old other.new }
-{
-    let _limits = image.valid();
-    let width = image.desc().width();
-    with_off_rows!(width, border, rows => {
-        write_two_with_rows(
-            first, second, image, output, other, border, rows, scratch, more,
-        );
     })
 }
 

@@ -1,27 +1,27 @@
 use Rattle.std.proofs.Common.{pos, ◌∙◌, ap}
 use Rattle.vx_base.specs.declared.format.Format.TheVariants.{S16}
-use Rattle.vx_base.specs.Window.{look, nine_around, window_valid}
+use Rattle.vx_base.specs.Window.{look, nine_around, window_valid, gradient_x, gradient_y}
 use Rattle.image_core.specs.Target.{written}
 use Rattle.image_core.proofs.BandLaws.{written_alike}
 use Rattle.image_core.proofs.SizeLaws.{same_sides}
-use Rattle.window_kernels.proofs.nine.write_two_with_rows.Goals as goal
+use Rattle.window_kernels.proofs.gradients.write_with_rows.Goals as goal
 
-pub returns-clause-first : goal.returns-clause-first
-returns-clause-first g c =
+pub returns-clause-x : goal.returns-clause-x
+returns-clause-x c =
     let image = c.args.image.now in
     let border = c.args.border in
     let desc = c.args.output.now.desc in
     let sides = same_sides (written c.args.output.now) image c.requires.fits.size in
     written_alike desc.width desc.height image.width image.height S16 c.window_valid-area.result (window_valid border 1 1 image.valid)
-    (λ x y. g.K.AcrossColumns.of_nine c.args.first.now (nine_around (look image border) (pos x) (pos y))) c.args.output.now c.write_two_by_rows.new.self
+    (λ x y. gradient_x (nine_around (look image border) (pos x) (pos y))) c.args.output.now c.write_two_by_rows.new.self
     sides.0 sides.1 (c.window_valid-area.ensures.value ∙ ap (window_valid border 1 1) c.valid.ensures.value) c.write_two_by_rows.ensures.first
 
-pub returns-clause-second : goal.returns-clause-second
-returns-clause-second g c =
+pub returns-clause-y : goal.returns-clause-y
+returns-clause-y c =
     let image = c.args.image.now in
     let border = c.args.border in
     let desc = c.args.other.now.desc in
     let sides = same_sides (written c.args.other.now) image c.requires.other_fits.size in
     written_alike desc.width desc.height image.width image.height S16 c.window_valid-area.result (window_valid border 1 1 image.valid)
-    (λ x y. g.L.AcrossColumns.of_nine c.args.second.now (nine_around (look image border) (pos x) (pos y))) c.args.other.now c.write_two_by_rows.new.other
+    (λ x y. gradient_y (nine_around (look image border) (pos x) (pos y))) c.args.other.now c.write_two_by_rows.new.other
     sides.0 sides.1 (c.window_valid-area.ensures.value ∙ ap (window_valid border 1 1) c.valid.ensures.value) c.write_two_by_rows.ensures.second
