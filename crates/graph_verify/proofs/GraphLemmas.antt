@@ -1,20 +1,17 @@
 -- Graphs with one more node, with one less, and with other delays.
 use Rattle.std.proofs.Common.{◌≡◌, ◌≢◌, ℕ, ◌+◌, ◌<◌, Bool, true, List, [], ◌∷◌, length, IsTrue, refl, ◌∙◌, arith}
-use Rattle.std.specs.Prelude.{Some, ◌==◌, not, find}
-use Rattle.std.specs.List.{filter, list_any, items_where_true, AllPairs}
+use Rattle.graph_verify.proofs.Common.{◌==◌, find, filter, list_any, cases_Bool, nat_tests, length-filter_both, Node, Numbered, can_add}
+use Rattle.std.specs.Prelude.{Some, not}
+use Rattle.std.specs.List.{items_where_true, AllPairs}
 use Rattle.std.specs.List.Retain.{IsFiltered, ReturnsInTurn}
 use Rattle.std.specs.Option.{is_none}
-use Rattle.std.proofs.lemmas.Bool.{cases_Bool, eqb-true}
-use Rattle.std.proofs.lemmas.Bool.Decides.{nat_tests}
+use Rattle.std.proofs.lemmas.Bool.{eqb-true}
 use Rattle.std.proofs.lemmas.List.{length_push}
 use Rattle.std.proofs.lemmas.List.Elements.{All-push, All-filter, All-weaker}
-use Rattle.std.proofs.lemmas.List.Filters.{length-filter_both}
 use Rattle.std.proofs.lemmas.List.Kept.{AllPairs-filter}
 use Rattle.std.proofs.lemmas.List.Quantifiers.{all_pairs_push}
-use Rattle.vx_base.specs.declared.node.Node.{Node}
-use Rattle.vx_base.specs.declared.numbered.Numbered.{Numbered}
 use Rattle.vx_base.specs.Node.{IsNode}
-use Rattle.vx_base.specs.Graph.{GraphValue, IsGraph, can_add, with_node, without_node, with_delays}
+use Rattle.vx_base.specs.Graph.{GraphValue, IsGraph, with_node, without_node, with_delays}
 
 module _ {X : Type 0} where
   pub is_none-find : (p : X → Bool) (xs : List X) → is_none (find p xs) ≡ not (list_any p xs)

@@ -1,30 +1,9 @@
 -- What is known of the virtual images that nodes write, node by node.
 use Rattle.std.proofs.Common.{◌≡◌, ℕ, ◌+◌, ◌<◌, ◌≤◌, Bool, true, false, List, [], ◌∷◌, ◌++◌, length, map, take, drop, get_or, IsTrue, refl, sym, ◌∙◌, ap, subst, inl, inr, arith}
-use Rattle.std.specs.Prelude.{◌⊎◌, Option, Some, None, find, unwrap_or, All}
-use Rattle.std.specs.Option.{option_map}
-use Rattle.std.specs.List.{filter, flat_map}
-use Rattle.std.proofs.lemmas.Bool.{cases_Bool, false_from_ne_true}
-use Rattle.std.proofs.lemmas.List.{map-append, append-nil, drop_more, take_more, take_all, take-append-drop}
-use Rattle.std.proofs.lemmas.List.Elements.{filter-append}
-use Rattle.std.proofs.lemmas.Grind.{flat_map-append}
-use Rattle.vx_base.specs.declared.node.Node.{Node}
-use Rattle.vx_base.specs.Cell.{Cell, same_cell}
-use Rattle.vx_base.specs.Node.{given, inputs, outputs}
-use Rattle.vx_base.specs.Outline.{Outline, filled}
-use Rattle.graph_verify.specs.declared.known.Known.{Known}
-use Rattle.graph_verify.specs.declared.linked.Linked.{Linked}
-use Rattle.graph_verify.specs.declared.operand.Operand.{Operand}
-use Rattle.graph_verify.specs.declared.operand.Operand.TheVariants.{Image, Virtual}
-use Rattle.graph_verify.specs.declared.operand.Operands.{Operands}
-use Rattle.graph_verify.specs.Members.{In}
-use Rattle.graph_verify.specs.Known.{known_of, known_outline, learnt, learnt_from, known_operand, known_operands, AreKnown}
-use Rattle.graph_verify.specs.Linked.{linked_nodes, AreOperands}
-use Rattle.graph_verify.specs.Links.{writes, feeds}
-use Rattle.graph_verify.specs.Operand.{is_virtual, is_image, operands_of}
-use Rattle.graph_verify.specs.Order.{InTurn}
-use Rattle.graph_verify.specs.Outlines.{operand_outline, given_outline, written_outline, outlines, resolved}
-use Rattle.graph_verify.specs.Rounds.{IsSolution}
-use Rattle.graph_verify.specs.Verdict.{two_writers, virtual_outputs}
+use Rattle.graph_verify.proofs.Common.{find, unwrap_or, All, option_map, filter, flat_map, cases_Bool, false_from_ne_true, map-append, filter-append, flat_map-append, Node, Cell, same_cell, given, inputs, outputs, Outline, filled, Known, Linked, Operand, Image, Virtual, Operands, In, known_operands, AreKnown, linked_nodes, AreOperands, writes, feeds, is_virtual, is_image, operands_of, InTurn, operand_outline, given_outline, written_outline, outlines, resolved, IsSolution, two_writers, virtual_outputs}
+use Rattle.std.specs.Prelude.{◌⊎◌, Option, Some, None}
+use Rattle.std.proofs.lemmas.List.{append-nil, drop_more, take_more, take_all, take-append-drop}
+use Rattle.graph_verify.specs.Known.{known_of, known_outline, learnt, learnt_from, known_operand}
 use Rattle.graph_verify.proofs.LinkLemmas.{same_cell-true, same_cell-is, In-outputs, feeds_is, same-from_In}
 use Rattle.graph_verify.proofs.MemberLemmas.{In-left, In-right, In-append, In-from_map, In-filter, In-at, Contains-from_In}
 use Rattle.graph_verify.proofs.OutlineLemmas.{outlines_solve, no_cycle_in_steps, image_outline}

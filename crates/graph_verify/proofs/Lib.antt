@@ -1,3 +1,4 @@
+mod Common
 pub mod MemberLemmas
 pub mod GraphLemmas
 pub mod CycleLemmas

@@ -1,20 +1,10 @@
 -- How nodes are linked by cells, where no cell has two writers.
 use Rattle.std.proofs.Common.{◌≡◌, ℕ, ◌+◌, ◌≤◌, Bool, true, false, cond, List, [], ◌∷◌, ◌++◌, refl, sym, ◌∙◌, ap, subst, inl, inr, arith}
-use Rattle.std.specs.Prelude.{Option, Some, None, ◌==◌, ◌||◌}
-use Rattle.std.specs.List.{list_any, flat_map}
-use Rattle.std.specs.List.Sorted.{IsPermutation}
-use Rattle.std.proofs.lemmas.Bool.{cases_Bool, or_parts, or_from, and_parts, and_from, eq-eqb}
-use Rattle.std.proofs.lemmas.Grind.{flat_map-append}
-use Rattle.std.proofs.lemmas.List.Folds.{list_any-append}
+use Rattle.graph_verify.proofs.Common.{◌==◌, list_any, flat_map, IsPermutation, cases_Bool, or_parts, or_from, and_parts, and_from, flat_map-append, list_any-append, sum_by-IsPermutation, Node, Cell, same_cell, inputs, outputs, In, reads, writes, feeds, has_twice, is_written, OneWriter, two_writers, writes_twice}
+use Rattle.std.specs.Prelude.{Option, Some, None, ◌||◌}
+use Rattle.std.proofs.lemmas.Bool.{eq-eqb}
 use Rattle.std.proofs.lemmas.List.Recursion.{is_sum_by}
-use Rattle.std.proofs.lemmas.List.Sorted.{sum_by-IsPermutation}
-use Rattle.vx_base.specs.declared.node.Node.{Node}
-use Rattle.vx_base.specs.Cell.{Cell, same_cell, same_slot}
-use Rattle.vx_base.specs.Node.{inputs, outputs}
-use Rattle.graph_verify.specs.Members.{In}
-use Rattle.graph_verify.specs.Links.{reads, writes, feeds, has_twice, is_written}
-use Rattle.graph_verify.specs.Rounds.{OneWriter}
-use Rattle.graph_verify.specs.Verdict.{two_writers, writes_twice}
+use Rattle.vx_base.specs.Cell.{same_slot}
 use Rattle.graph_verify.proofs.MemberLemmas.{In-right, In-from_any, any-from_In, In-flat_map}
 use Rattle.graph_verify.proofs.OrderLemmas.{is_fed}
 

@@ -1,17 +1,9 @@
 -- Virtual images that are read and not written, or added to.
 use Rattle.std.proofs.Common.{◌≡◌, zero, suc, List, [], ◌∷◌, refl, arith}
+use Rattle.graph_verify.proofs.Common.{option_map, list_any, list_any-append, Node, Cell, given, inputs, Linked, Operand, linked_nodes, AreOperands, has_loose_input, has_virtual_sum, operands_of, is_virtual, is_loose}
 use Rattle.std.specs.Prelude.{Option, Some, None, ◌||◌}
-use Rattle.std.specs.Option.{option_map}
-use Rattle.std.specs.List.{list_any}
-use Rattle.std.proofs.lemmas.List.Folds.{list_any-append}
-use Rattle.vx_base.specs.declared.node.Node.{Node}
-use Rattle.vx_base.specs.Cell.{Cell}
-use Rattle.vx_base.specs.Node.{given, inputs}
-use Rattle.graph_verify.specs.declared.linked.Linked.{Linked}
-use Rattle.graph_verify.specs.declared.operand.Operand.{Operand}
-use Rattle.graph_verify.specs.Linked.{linked_nodes, AreOperands, is_given_loose, has_loose_input, is_given_virtual, has_virtual_sum}
-use Rattle.graph_verify.specs.Operand.{operands_of, is_virtual}
-use Rattle.graph_verify.specs.Verdict.{is_loose, reads_loose, adds_to_virtual}
+use Rattle.graph_verify.specs.Linked.{is_given_loose, is_given_virtual}
+use Rattle.graph_verify.specs.Verdict.{reads_loose, adds_to_virtual}
 
 module _ (is : Cell → Operand) (all : List Node) where
   given_loose : (cell : Option Cell) → is_given_loose all cell (option_map is cell) ≡ list_any (is_loose is all) (given cell)

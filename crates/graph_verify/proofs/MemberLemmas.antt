@@ -1,11 +1,10 @@
 -- Members of lists.
 use Rattle.std.proofs.Common.{◌≡◌, ℕ, ◌<◌, ◌≤◌, ◌⊎◌, inl, inr, suc, zero, Bool, true, false, List, [], ◌∷◌, ◌++◌, length, get_or, map, refl, sym, ap, subst, ◌∙◌, arith}
-use Rattle.std.specs.Prelude.{◌||◌, None, position}
-use Rattle.std.specs.List.{filter, flat_map, list_any, Contains, remove, position_or_len}
-use Rattle.std.specs.List.Sorted.{IsPermutation}
-use Rattle.std.proofs.lemmas.Bool.{cases_Bool, or_left, or_right, ltb-false}
+use Rattle.graph_verify.proofs.Common.{position, filter, flat_map, list_any, remove, IsPermutation, cases_Bool, or_left, In, AllIn}
+use Rattle.std.specs.Prelude.{◌||◌, None}
+use Rattle.std.specs.List.{Contains, position_or_len}
+use Rattle.std.proofs.lemmas.Bool.{or_right, ltb-false}
 use Rattle.std.proofs.lemmas.List.Sorted.{Contains-permutation, IsPermutation-sym}
-use Rattle.graph_verify.specs.Members.{In, AllIn}
 
 module _ {X : Type 0} where
   pub In-left : (x : X) (xs ys : List X) → In x xs → In x (xs ++ ys)

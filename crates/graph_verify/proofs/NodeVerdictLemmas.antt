@@ -1,29 +1,11 @@
 -- The nodes of a graph that can run, one by one.
 use Rattle.std.proofs.Common.{◌≡◌, ◌≢◌, ℕ, Bool, true, false, List, [], ◌∷◌, ◌++◌, Option, Some, None, refl, sym, ap, ◌∙◌, inl, inr, arith}
-use Rattle.std.specs.Prelude.{not, if◌then◌else◌}
-use Rattle.std.specs.List.{list_any, list_all, flat_map}
-use Rattle.std.specs.Option.{option_and_then}
-use Rattle.std.proofs.lemmas.Bool.{cases_Bool, or_parts, or_from, and_parts}
-use Rattle.std.proofs.lemmas.List.Folds.{list_any-append}
-use Rattle.vx_base.specs.declared.format.Format.{Format}
+use Rattle.graph_verify.proofs.Common.{if◌then◌else◌, list_any, list_all, flat_map, option_and_then, cases_Bool, or_parts, or_from, and_parts, list_any-append, Format, Function, Node, takes_formats, Cell, same_cell, inputs, outputs, Operand, Operands, InvalidFormat, InvalidDimension, In, feeds, has_twice, has_cycle, operand_format, are_of_one_size, written_operands, other_operands, operands_of, resolved, two_writers, node_fault, writes_twice, reads_own_output, verdict_on, takes_first, takes_operands}
+use Rattle.std.specs.Prelude.{not}
 use Rattle.vx_base.specs.declared.format.Format.TheVariants.{U8, S16, U32}
-use Rattle.vx_base.specs.declared.function.Function.{Function}
 use Rattle.vx_base.specs.declared.function.Function.TheVariants.{AndBits, Histogram, MinMaxLoc}
 use Rattle.vx_base.specs.declared.kind.Kind.TheVariants as kind
-use Rattle.vx_base.specs.declared.node.Node.{Node}
-use Rattle.vx_base.specs.Formats.{takes_formats}
 use Rattle.vx_base.specs.Function.{parameters}
-use Rattle.vx_base.specs.Cell.{Cell, same_cell}
-use Rattle.vx_base.specs.Node.{inputs, outputs}
-use Rattle.graph_verify.specs.declared.operand.Operand.{Operand}
-use Rattle.graph_verify.specs.declared.operand.Operands.{Operands}
-use Rattle.graph_verify.specs.declared.verdict.Verdict.TheVariants.{InvalidFormat, InvalidDimension}
-use Rattle.graph_verify.specs.Members.{In}
-use Rattle.graph_verify.specs.Links.{feeds, has_twice}
-use Rattle.graph_verify.specs.Cycle.{has_cycle}
-use Rattle.graph_verify.specs.Operand.{operand_format, are_of_one_size, written_operands, other_operands, operands_of}
-use Rattle.graph_verify.specs.Outlines.{resolved}
-use Rattle.graph_verify.specs.Verdict.{two_writers, node_fault, writes_twice, reads_own_output, verdict_on, takes_first, takes_operands}
 use Rattle.graph_verify.proofs.MemberLemmas.{In-from_any}
 use Rattle.graph_verify.proofs.LinkLemmas.{same-from_In, feeds_is, once_after}
 use Rattle.graph_verify.proofs.CycleLemmas.{has_cycle-from_cycle}

@@ -1,19 +1,6 @@
 -- The outlines of a graph's cells: that nodes give them once and for all, in whatever order.
 use Rattle.std.proofs.Common.{◌≡◌, ℕ, zero, suc, false, List, [], ◌∷◌, length, ap, arith}
-use Rattle.std.proofs.lemmas.Bool.{cases_Bool, or_left}
-use Rattle.std.proofs.lemmas.List.Sorted.{IsPermutation-refl}
-use Rattle.vx_base.specs.declared.node.Node.{Node}
-use Rattle.vx_base.specs.Cell.{Cell}
-use Rattle.vx_base.specs.Description.{Description}
-use Rattle.vx_base.specs.Outline.{Outline, outline_of}
-use Rattle.graph_verify.specs.declared.operand.Operand.{Operand}
-use Rattle.graph_verify.specs.declared.operand.Operand.TheVariants.{Image}
-use Rattle.graph_verify.specs.Cycle.{has_cycle}
-use Rattle.graph_verify.specs.Links.{reads, writes, feeds}
-use Rattle.graph_verify.specs.Order.{InTurn, IsOrder}
-use Rattle.graph_verify.specs.Outlines.{operand_outline, written_outline, outlines, as_known, resolved}
-use Rattle.graph_verify.specs.Rounds.{round, rounds, IsSolution, ReadsAlone}
-use Rattle.graph_verify.specs.Verdict.{two_writers}
+use Rattle.graph_verify.proofs.Common.{cases_Bool, or_left, IsPermutation-refl, Node, Cell, Description, Outline, outline_of, Operand, Image, has_cycle, reads, writes, feeds, InTurn, IsOrder, operand_outline, written_outline, outlines, as_known, resolved, round, rounds, IsSolution, ReadsAlone, two_writers}
 use Rattle.graph_verify.proofs.LinkLemmas.{same_cell-refl, two_writers-permutation}
 use Rattle.graph_verify.proofs.MemberLemmas.{AllIn-permutation, AllIn-permutation_back}
 use Rattle.graph_verify.proofs.OrderLemmas.{no_cycle_from_order}

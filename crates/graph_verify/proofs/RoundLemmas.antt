@@ -1,10 +1,7 @@
 -- Rounds of all nodes at once, and one run through the nodes in an order.
 use Rattle.std.proofs.Common.{◌≡◌, ℕ, ◌+◌, ◌⊎◌, suc, Bool, true, false, List, [], ◌∷◌, length, refl, sym, ◌∙◌, ap, subst, inl, inr, arith}
-use Rattle.std.proofs.lemmas.Bool.{cases_Bool, false_from_ne_true}
-use Rattle.std.specs.List.{list_any}
-use Rattle.graph_verify.specs.Members.{In, AllIn}
-use Rattle.graph_verify.specs.Order.{InTurn}
-use Rattle.graph_verify.specs.Rounds.{round, rounds, step, once, OneWriter, IsSolution, ReadsAlone}
+use Rattle.graph_verify.proofs.Common.{cases_Bool, false_from_ne_true, list_any, In, AllIn, InTurn, round, rounds, once, OneWriter, IsSolution, ReadsAlone}
+use Rattle.graph_verify.specs.Rounds.{step}
 use Rattle.graph_verify.proofs.MemberLemmas.{In-from_any, any-from_In}
 
 module _ {N C V : Type 0} (reads writes : N → C → Bool) (feeds : N → N → Bool) (value : N → (C → V) → C → V)

@@ -1,25 +1,8 @@
 -- The graph of one node.
 use Rattle.std.proofs.Common.{◌≡◌, ℕ, false, cond, List, [], ◌∷◌, ◌++◌, append-nil, refl, ◌∙◌, ap, arith}
-use Rattle.std.specs.Prelude.{Option, Some, None, ◌||◌, ◌&&◌, not, nat_le, if◌then◌else◌}
-use Rattle.std.specs.Option.{option_map, option_or}
-use Rattle.std.specs.List.{list_any, filter}
+use Rattle.graph_verify.proofs.Common.{◌&&◌, nat_le, if◌then◌else◌, option_map, option_or, list_any, filter, or_parts, nat_tests, list_any-append, Node, Cell, given, inputs, outputs, Outline, Operand, Virtual, Verdict, NoResources, has_cycle, writes, feeds, is_written, is_virtual, operands_of, outlines, as_known, resolved, reads_own_output, verdict_on, is_loose, verdict}
+use Rattle.std.specs.Prelude.{Option, Some, None, ◌||◌, not}
 use Rattle.std.proofs.Math.Bool.{or-false}
-use Rattle.std.proofs.lemmas.Bool.{or_parts}
-use Rattle.std.proofs.lemmas.Bool.Decides.{nat_tests}
-use Rattle.std.proofs.lemmas.List.Folds.{list_any-append}
-use Rattle.vx_base.specs.declared.node.Node.{Node}
-use Rattle.vx_base.specs.Cell.{Cell}
-use Rattle.vx_base.specs.Node.{given, inputs, outputs}
-use Rattle.vx_base.specs.Outline.{Outline}
-use Rattle.graph_verify.specs.declared.operand.Operand.{Operand}
-use Rattle.graph_verify.specs.declared.operand.Operand.TheVariants.{Virtual}
-use Rattle.graph_verify.specs.declared.verdict.Verdict.{Verdict}
-use Rattle.graph_verify.specs.declared.verdict.Verdict.TheVariants.{NoResources}
-use Rattle.graph_verify.specs.Cycle.{has_cycle}
-use Rattle.graph_verify.specs.Links.{writes, feeds, is_written}
-use Rattle.graph_verify.specs.Operand.{is_virtual, operands_of}
-use Rattle.graph_verify.specs.Outlines.{outlines, as_known, resolved}
-use Rattle.graph_verify.specs.Verdict.{reads_own_output, verdict_on, is_loose, verdict}
 use Rattle.graph_verify.proofs.LinkLemmas.{is_fed-written, any_agree}
 
 -- a node feeds itself where it reads what it writes

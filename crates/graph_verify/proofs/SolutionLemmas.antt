@@ -1,12 +1,6 @@
 -- Runs of the nodes of a graph, whatever the values of cells are.
 use Rattle.std.proofs.Common.{◌≡◌, false, List, length, sym}
-use Rattle.vx_base.specs.declared.node.Node.{Node}
-use Rattle.vx_base.specs.Cell.{Cell}
-use Rattle.graph_verify.specs.Links.{reads, writes, feeds}
-use Rattle.graph_verify.specs.Cycle.{has_cycle}
-use Rattle.graph_verify.specs.Order.{IsOrder}
-use Rattle.graph_verify.specs.Rounds.{rounds, once, OneWriter, IsSolution, ReadsAlone}
-use Rattle.graph_verify.specs.Verdict.{two_writers}
+use Rattle.graph_verify.proofs.Common.{Node, Cell, reads, writes, feeds, has_cycle, IsOrder, rounds, once, OneWriter, IsSolution, ReadsAlone, two_writers}
 use Rattle.graph_verify.proofs.LinkLemmas.{feeds_is, one_writer}
 use Rattle.graph_verify.proofs.OrderLemmas.{AreStepsOf, steps_from_order, steps_from_no_cycle}
 use Rattle.graph_verify.proofs.RoundLemmas as runs

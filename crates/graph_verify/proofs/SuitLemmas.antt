@@ -1,20 +1,11 @@
 -- What a verdict of none says of each output of a node: the function takes its format, and it is of the first input's size.
 use Rattle.std.proofs.Common.{◌≡◌, Bool, true, false, IsTrue, ◌++◌, Option, Some, None, IfSome, sym, ◌∙◌, cond, refl, arith}
+use Rattle.graph_verify.proofs.Common.{list_all, option_map, option_and_then, and_parts, not-false, Format, Function, Node, takes_formats, Operand, Operands, InvalidFormat, InvalidDimension, operand_format, are_of_one_size, written_operands, other_operands, takes_first, takes_operands, node_fault, verdict_on, writes_twice, reads_own_output}
 use Rattle.std.specs.Prelude.{not, option_to_list}
-use Rattle.std.specs.List.{list_all}
-use Rattle.std.specs.Option.{option_map, option_and_then}
-use Rattle.std.proofs.lemmas.Bool.{and_parts, not-false}
 use Rattle.std.proofs.lemmas.List.Folds.{list_all-append}
-use Rattle.vx_base.specs.declared.format.Format.{Format}
-use Rattle.vx_base.specs.declared.function.Function.{Function}
-use Rattle.vx_base.specs.declared.node.Node.{Node}
-use Rattle.vx_base.specs.Formats.{takes_formats}
 use Rattle.vx_base.specs.Object.{ObjectValue}
-use Rattle.graph_verify.specs.declared.operand.Operand.{Operand}
-use Rattle.graph_verify.specs.declared.operand.Operands.{Operands}
-use Rattle.graph_verify.specs.declared.verdict.Verdict.TheVariants.{MultipleWriters, InvalidGraph, InvalidFormat, InvalidDimension}
-use Rattle.graph_verify.specs.Operand.{operand_of, operand_format, are_of_one_size, written_operands, other_operands}
-use Rattle.graph_verify.specs.Verdict.{takes_first, takes_operands, node_fault, verdict_on, writes_twice, reads_own_output}
+use Rattle.graph_verify.specs.declared.verdict.Verdict.TheVariants.{MultipleWriters, InvalidGraph}
+use Rattle.graph_verify.specs.Operand.{operand_of}
 
 -- where nothing refuses, the first reason doesn't hold, and no later one refuses
 pub passed : {R : Type 0} (b : Bool) (refusal : R) (rest : Option R) → cond b (Some refusal) rest ≡ None → (b ≡ false) × (rest ≡ None)

@@ -1,17 +1,8 @@
 -- What a verdict says of a graph.
 use Rattle.std.proofs.Common.{◌≡◌, ℕ, ◌<◌, ◌≤◌, Bool, true, false, List, sym, ap, ◌∙◌, arith}
-use Rattle.std.specs.Prelude.{Option, Some, None, nat_le, if◌then◌else◌}
-use Rattle.std.specs.Option.{option_or}
+use Rattle.graph_verify.proofs.Common.{nat_le, if◌then◌else◌, option_or, Node, Cell, Operand, Verdict, InvalidLink, NoResources, feeds, has_cycle, resolved, two_writers, has_loose_end, first_fault, work_bytes, verdict}
+use Rattle.std.specs.Prelude.{Option, Some, None}
 use Rattle.std.proofs.lemmas.Bool.{lt-leb, le-leb}
-use Rattle.vx_base.specs.declared.node.Node.{Node}
-use Rattle.vx_base.specs.Cell.{Cell}
-use Rattle.graph_verify.specs.declared.operand.Operand.{Operand}
-use Rattle.graph_verify.specs.declared.verdict.Verdict.{Verdict}
-use Rattle.graph_verify.specs.declared.verdict.Verdict.TheVariants.{InvalidLink, NoResources}
-use Rattle.graph_verify.specs.Links.{feeds}
-use Rattle.graph_verify.specs.Cycle.{has_cycle}
-use Rattle.graph_verify.specs.Outlines.{resolved}
-use Rattle.graph_verify.specs.Verdict.{two_writers, has_loose_end, first_fault, work_bytes, verdict}
 
 -- what is known of a graph that can run
 pub record CanRun (work : ℕ) (is : Cell → Operand) (nodes : List Node) : Type 0 where

@@ -1,41 +1,17 @@
 -- Why a graph is found to run, or not, by what is known of its virtual images.
 use Rattle.std.proofs.Common.{◌≡◌, ℕ, ◌+◌, ◌*◌, ◌≤◌, Bool, true, false, List, [], ◌∷◌, length, map, get_or, IsTrue, refl, sym, ◌∙◌, ap, subst, inl, inr, arith, rules}
-use Rattle.std.specs.Prelude.{unwrap_or, Option, Some, None, All, find, sum_by, ◌&&◌, if◌then◌else◌}
-use Rattle.std.specs.Option.{option_map, option_or}
-use Rattle.std.specs.List.{filter, flat_map, filter_map, cons_option}
-use Rattle.std.specs.List.Sorted.{IsPermutation}
-use Rattle.std.proofs.lemmas.Bool.{and_from, and_parts, false_from_ne_true}
-use Rattle.std.proofs.lemmas.List.Elements.{filter-append}
-use Rattle.std.proofs.lemmas.List.Sorted.{sum_by-IsPermutation, length_permutation, All-permutation}
+use Rattle.graph_verify.proofs.Common.{unwrap_or, All, find, sum_by, ◌&&◌, if◌then◌else◌, option_map, option_or, filter, flat_map, filter_map, IsPermutation, and_from, and_parts, false_from_ne_true, filter-append, sum_by-IsPermutation, length_permutation, Format, Function, Node, Cell, same_cell, Description, byte_count, outputs, Outline, outline_of, filled, Known, Linked, Operand, Image, Virtual, Operands, Verdict, InvalidLink, In, has_cycle, closed_output, known_operands, AreKnown, linked_nodes, AreOperands, writes, feeds, is_written, is_virtual, is_image, operand_format, operands_of, IsOrder, operand_outline, given_outline, written_outline, outlines, as_known, resolved, IsSolution, two_writers, has_loose_end, node_fault, first_fault, virtual_outputs, work_bytes, verdict}
+use Rattle.std.specs.Prelude.{Option, Some, None}
+use Rattle.std.specs.List.{cons_option}
+use Rattle.std.proofs.lemmas.List.Sorted.{All-permutation}
 use Rattle.std.proofs.lemmas.List.Sums.{sum_by-cons, sum_by-append}
 use mathlib.Core.Path.{fun_ext}
-use Rattle.vx_base.specs.declared.format.Format.{Format}
-use Rattle.vx_base.specs.declared.function.Function.{Function}
-use Rattle.vx_base.specs.declared.node.Node.{Node}
-use Rattle.vx_base.specs.Cell.{Cell, same_cell}
-use Rattle.vx_base.specs.Description.{Description, byte_count}
 use Rattle.vx_base.specs.Formats.{open_format}
-use Rattle.vx_base.specs.Node.{outputs}
-use Rattle.vx_base.specs.Outline.{Outline, outline_of, filled, closed}
-use Rattle.graph_verify.specs.declared.known.Known.{Known}
+use Rattle.vx_base.specs.Outline.{closed}
 use Rattle.graph_verify.specs.declared.known.VirtualOutput.{VirtualOutput}
-use Rattle.graph_verify.specs.declared.linked.Linked.{Linked}
-use Rattle.graph_verify.specs.declared.operand.Operand.{Operand}
-use Rattle.graph_verify.specs.declared.operand.Operand.TheVariants.{Image, Virtual}
-use Rattle.graph_verify.specs.declared.operand.Operands.{Operands}
-use Rattle.graph_verify.specs.declared.verdict.Verdict.{Verdict}
-use Rattle.graph_verify.specs.declared.verdict.Verdict.TheVariants.{InvalidLink}
 use Rattle.graph_verify.specs.declared.verified.Verified.{Verified}
-use Rattle.graph_verify.specs.Members.{In}
-use Rattle.graph_verify.specs.Cycle.{has_cycle}
-use Rattle.graph_verify.specs.Known.{closed_output, known_operands, AreKnown}
-use Rattle.graph_verify.specs.Linked.{linked_nodes, AreOperands}
-use Rattle.graph_verify.specs.Links.{writes, feeds, is_written}
-use Rattle.graph_verify.specs.Operand.{is_virtual, is_image, operand_format, virtual_bytes, operands_of, operand_description}
-use Rattle.graph_verify.specs.Order.{IsOrder}
-use Rattle.graph_verify.specs.Outlines.{operand_outline, given_outline, written_outline, outlines, virtual_or_image, as_known, resolved}
-use Rattle.graph_verify.specs.Rounds.{IsSolution}
-use Rattle.graph_verify.specs.Verdict.{two_writers, has_loose_end, node_fault, first_fault, virtual_outputs, work_bytes, verdict}
+use Rattle.graph_verify.specs.Operand.{virtual_bytes, operand_description}
+use Rattle.graph_verify.specs.Outlines.{virtual_or_image}
 use Rattle.graph_verify.specs.Verified.{IsVerified, written_description}
 use Rattle.graph_verify.proofs.KnownLemmas.{find_cases, learnt_from_known, operands_known}
 use Rattle.graph_verify.proofs.LinkLemmas.{two_writers-permutation, same-from_In, same_cell-true, same_cell-is, In-outputs}

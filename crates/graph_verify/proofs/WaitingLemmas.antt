@@ -1,23 +1,12 @@
 -- Nodes that are put in order one by one.
 use Rattle.std.proofs.Common.{◌≡◌, ℕ, ◌<◌, Bool, true, false, List, [], ◌∷◌, ◌++◌, length, get_or, map, refl, sym, ◌∙◌, ap, subst, arith}
-use Rattle.std.specs.Prelude.{Some, None, not, ◌&&◌, ◌||◌, position}
-use Rattle.std.specs.List.{remove}
-use Rattle.std.specs.List.Sorted.{IsPermutation}
-use Rattle.std.proofs.lemmas.Bool.{not-true, not-false}
-use Rattle.std.proofs.lemmas.List.{map-append, map-id, get_or-map, length-map}
+use Rattle.graph_verify.proofs.Common.{◌&&◌, position, remove, IsPermutation, not-true, not-false, map-append, length-map, IsPermutation-refl, IsPermutation-map, IsPermutation-remove, Node, Cell, Linked, In, has_cycle, is_empty, linked_nodes, writes, feeds, is_written, IsOrder, two_writers, once_ordered}
+use Rattle.std.specs.Prelude.{Some, None, not, ◌||◌}
+use Rattle.std.proofs.lemmas.List.{map-id, get_or-map}
 use Rattle.std.proofs.lemmas.List.Quantifiers.{position-Some}
-use Rattle.std.proofs.lemmas.List.Sorted.{IsPermutation-refl, IsPermutation-map, IsPermutation-more, IsPermutation-remove, IsPermutation-trans, IsPermutation-append_right, list_any-IsPermutation}
+use Rattle.std.proofs.lemmas.List.Sorted.{IsPermutation-more, IsPermutation-trans, IsPermutation-append_right, list_any-IsPermutation}
 use Rattle.std.proofs.lemmas.Simd.{map-map}
-use Rattle.vx_base.specs.declared.node.Node.{Node}
-use Rattle.vx_base.specs.Cell.{Cell}
-use Rattle.graph_verify.specs.declared.linked.Linked.{Linked}
-use Rattle.graph_verify.specs.Members.{In}
-use Rattle.graph_verify.specs.Cycle.{has_cycle, is_empty}
-use Rattle.graph_verify.specs.Linked.{linked_nodes}
-use Rattle.graph_verify.specs.Links.{writes, feeds, is_written}
-use Rattle.graph_verify.specs.Order.{IsOrder}
-use Rattle.graph_verify.specs.Verdict.{two_writers}
-use Rattle.graph_verify.specs.Waiting.{WaitingNode, waiting_among, once_ordered}
+use Rattle.graph_verify.specs.Waiting.{WaitingNode, waiting_among}
 use Rattle.graph_verify.proofs.CycleLemmas.{has_cycle-from_cycle}
 use Rattle.graph_verify.proofs.LinkLemmas.{is_fed-written, two_writers-permutation, two_writers-after, written_once}
 use Rattle.graph_verify.proofs.MemberLemmas.{In-from_map, any-map, map_agree, map-remove, position-None, In-at}

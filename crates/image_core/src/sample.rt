@@ -83,6 +83,24 @@ macro_rules! image_mut {
     };
 }
 
+/// The samples that are lent, of this format.
+macro_rules! lent_as {
+    ($samples:expr, $format:ident) => {
+        match $samples {
+            Slice::$format(samples) => samples,
+            _ => unreachable!(),
+        }
+    };
+}
+
+/// Changes the samples in one of an image's slices.
+macro_rules! change_slice {
+    ($output:expr, $change:expr, $scratch:expr, $slice:ident) => {{
+        let (width, _limits) = ($output.desc.width(), $output.desc.height());
+        change_rows($change, width, $output.rows, $scratch, $output.$slice);
+    }};
+}
+
 impl Sample for u8 {
     ghost format = { U8 };
 
@@ -93,10 +111,7 @@ impl Sample for u8 {
     }
 
     fn lent(samples: Slice<'_>) -> &[u8] {
-        match samples {
-            Slice::U8(samples) => samples,
-            _ => unreachable!(),
-        }
+        lent_as!(samples, U8)
     }
 
     fn lend_mut<'a>(desc: Desc, rows: Band, samples: &'a mut [u8]) -> ImageMut<'a> {
@@ -108,8 +123,7 @@ impl Sample for u8 {
         change: &C,
         scratch: &mut [S],
     ) {
-        let (width, _limits) = (output.desc.width(), output.desc.height());
-        change_rows(change, width, output.rows, scratch, output.bytes);
+        change_slice!(output, change, scratch, bytes);
     }
 }
 
@@ -123,10 +137,7 @@ impl Sample for i16 {
     }
 
     fn lent(samples: Slice<'_>) -> &[i16] {
-        match samples {
-            Slice::S16(samples) => samples,
-            _ => unreachable!(),
-        }
+        lent_as!(samples, S16)
     }
 
     fn lend_mut<'a>(desc: Desc, rows: Band, samples: &'a mut [i16]) -> ImageMut<'a> {
@@ -138,8 +149,7 @@ impl Sample for i16 {
         change: &C,
         scratch: &mut [S],
     ) {
-        let (width, _limits) = (output.desc.width(), output.desc.height());
-        change_rows(change, width, output.rows, scratch, output.shorts);
+        change_slice!(output, change, scratch, shorts);
     }
 }
 
@@ -153,10 +163,7 @@ impl Sample for u32 {
     }
 
     fn lent(samples: Slice<'_>) -> &[u32] {
-        match samples {
-            Slice::U32(samples) => samples,
-            _ => unreachable!(),
-        }
+        lent_as!(samples, U32)
     }
 
     fn lend_mut<'a>(desc: Desc, rows: Band, samples: &'a mut [u32]) -> ImageMut<'a> {
@@ -168,7 +175,6 @@ impl Sample for u32 {
         change: &C,
         scratch: &mut [S],
     ) {
-        let (width, _limits) = (output.desc.width(), output.desc.height());
-        change_rows(change, width, output.rows, scratch, output.words);
+        change_slice!(output, change, scratch, words);
     }
 }

@@ -1,29 +1,12 @@
 -- Delays that age with graphs.
 use Rattle.std.proofs.Common.{◌≡◌, ◌≢◌, ℕ, ◌+◌, ◌<◌, Bool, true, false, List, [], ◌∷◌, ◌++◌, length, map, take, get_or, Some, None, refl, sym, ap, ◌∙◌, arith}
-use Rattle.std.specs.Prelude.{All, ◌==◌, if◌then◌else◌, filter, is_some}
-use Rattle.std.specs.List.{list_any, AllPairs}
-use Rattle.std.specs.Map.{keys_of, lookup, set_value}
-use Rattle.std.specs.BTreeMap.{is_at}
-use Rattle.std.specs.Option.{option_map}
-use Rattle.std.specs.Ordering.{nat_cmp}
-use Rattle.std.proofs.lemmas.Bool.{eqb-true, eqb-false, ne_eqb}
+use Rattle.object_table.proofs.Common.{◌==◌, if◌then◌else◌, is_some, list_any, AllPairs, keys_of, lookup, set_value, is_at, option_map, nat_cmp, eqb-true, eqb-false, ne_eqb, All-nil, All-cons, All-filter, AllPairs-filter, sorted_tail, Kind, with_delays, ObjectValue, DelayObject, GraphObject, object_kind, Entry, is_there, aged_under, Context, with_objects, Named, object_held, aged_object, graph_value, IsUnder, graph_under, named, nodes_in}
+use Rattle.std.specs.Prelude.{All, filter}
 use Rattle.std.proofs.lemmas.List.{length-take, get_or-take, get_or_default}
-use Rattle.std.proofs.lemmas.List.Elements.{All-nil, All-cons, All-filter}
 use Rattle.std.proofs.lemmas.List.Folds.{list_any_more, list_any_none}
-use Rattle.std.proofs.lemmas.List.Kept.{AllPairs-filter}
 use Rattle.std.proofs.lemmas.List.Quantifiers.{all_pairs_push}
-use Rattle.std.proofs.lemmas.Map.Keys.{sorted_tail}
-use Rattle.vx_base.specs.declared.kind.Kind.{Kind}
 use Rattle.vx_base.specs.declared.kind.Kind.TheVariants as kind
-use Rattle.vx_base.specs.Graph.{with_delays}
-use Rattle.vx_base.specs.Object.{ObjectValue, DelayObject, GraphObject, object_kind}
-use Rattle.object_table.specs.declared.table.Entry.{Entry}
-use Rattle.object_table.specs.Ageing.{is_there, aged_if, aged_under}
-use Rattle.object_table.specs.Context.{Context, with_objects}
-use Rattle.object_table.specs.Named.{Named, object_held}
-use Rattle.object_table.specs.Object.{aged_object, graph_value}
-use Rattle.object_table.specs.Table.{IsUnder, graph_under, named}
-use Rattle.object_table.specs.Uses.{nodes_in}
+use Rattle.object_table.specs.Ageing.{aged_if}
 use Rattle.object_table.proofs.EntryLemmas.{InOrder, same_name, past_head, held_is, objects_are}
 
 -- ---- one name

@@ -1,14 +1,7 @@
 -- In how many blocks objects have their samples is told by their skeletons.
 use Rattle.std.proofs.Common.{◌≡◌, ℕ, ◌+◌, List, [], ◌∷◌, ◌++◌, map, refl, sym, ap, ◌∙◌}
-use Rattle.std.specs.Prelude.{sum}
-use Rattle.std.proofs.lemmas.List.Sums.{sum-map, sum_by_push}
-use Rattle.std.proofs.lemmas.Simd.{map-map}
-use Rattle.vx_base.specs.declared.format.Format.{Format}
-use Rattle.vx_base.specs.Image.{ImageValue}
-use Rattle.vx_base.specs.Object.{ObjectValue, DelayObject}
-use Rattle.object_table.specs.Blocks.{image_blocks, object_blocks, blocks_in, KeepsBlocks}
-use Rattle.object_table.specs.Named.{Named}
-use Rattle.object_table.specs.Skeleton.{image_skeleton, skeleton}
+use Rattle.object_table.proofs.Common.{sum, sum-map, sum_by_push, map-map, Format, ImageValue, ObjectValue, DelayObject, image_blocks, object_blocks, blocks_in, Named, image_skeleton, skeleton}
+use Rattle.object_table.specs.Blocks.{KeepsBlocks}
 use Rattle.object_table.proofs.SkeletonLaws.{map-told}
 
 -- ---- of one object

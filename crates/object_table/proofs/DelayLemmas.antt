@@ -1,17 +1,13 @@
 -- Delays: images of one description.
 use Rattle.std.proofs.Common.{◌≡◌, ℕ, ◌*◌, ◌<◌, ◌≤◌, List, [], ◌∷◌, ◌++◌, length, map, get_or, refl, sym, ◌∙◌, arith}
-use Rattle.std.specs.Prelude.{All, take, drop, sum_by, nat_le, IsTrue}
-use Rattle.std.specs.List.{AllPairs}
-use Rattle.std.proofs.lemmas.Bool.{and_parts, leb-true}
-use Rattle.std.proofs.lemmas.List.{length-map, length-replicate, get_or-map}
-use Rattle.std.proofs.lemmas.List.Elements.{All-head, All-tail, All-replicate}
-use Rattle.std.proofs.lemmas.List.Sums.{sum_by-cons, sum_by-append, sum_by-take-drop}
-use Rattle.vx_base.specs.Description.{Description, byte_count}
-use Rattle.vx_base.specs.Image.{ImageValue, IsImage, new_image, description_of}
-use Rattle.vx_base.specs.Object.{IsDelay, image_bytes}
+use Rattle.object_table.proofs.Common.{sum_by, AllPairs, and_parts, length-map, get_or-map, All-head, All-tail, sum_by-cons, sum_by-append, Description, ImageValue, IsImage, new_image, description_of, IsDelay, image_bytes, new_image_is, new_delay}
+use Rattle.std.specs.Prelude.{All, take, drop, nat_le, IsTrue}
+use Rattle.std.proofs.lemmas.Bool.{leb-true}
+use Rattle.std.proofs.lemmas.List.{length-replicate}
+use Rattle.std.proofs.lemmas.List.Elements.{All-replicate}
+use Rattle.std.proofs.lemmas.List.Sums.{sum_by-take-drop}
+use Rattle.vx_base.specs.Description.{byte_count}
 use Rattle.vx_base.specs.Slots.{is_slot_count}
-use Rattle.vx_base.proofs.ImageLaws.{new_image_is}
-use Rattle.object_table.specs.Delay.{new_delay}
 use Rattle.vx_base.specs.declared.desc.TheConstants.{GREATEST_SIDE}
 
 -- images of one description take as many bytes as one of them, times their number

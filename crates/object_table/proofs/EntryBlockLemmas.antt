@@ -1,19 +1,9 @@
 -- In how many blocks of a pool the entries of a map have their samples.
 use Rattle.std.proofs.Common.{◌≡◌, ℕ, ◌+◌, List, [], ◌∷◌, map, Some, refl, sym, ap, ◌∙◌, arith, rules}
-use Rattle.std.specs.Prelude.{sum_by}
-use Rattle.std.specs.Map.{lookup, set_value, remove_entry}
-use Rattle.std.specs.BTreeMap.{is_at}
-use Rattle.std.specs.Ordering.{nat_cmp}
-use Rattle.std.proofs.lemmas.List.Sums.{sum_by-cons}
-use Rattle.vx_base.specs.declared.format.Format.{Format}
-use Rattle.object_table.specs.declared.table.Entry.{Entry}
+use Rattle.object_table.proofs.Common.{sum_by, lookup, set_value, remove_entry, is_at, nat_cmp, sum_by-cons, Format, Entry, GraphValue, ObjectValue, ImageObject, DelayObject, GraphObject, object_kind, object_blocks, blocks_in, LendsAtLeast, Balances, Named, named}
 use Rattle.vx_base.specs.declared.kind.Kind.TheVariants as kind
-use Rattle.vx_base.specs.Graph.{GraphValue}
-use Rattle.vx_base.specs.Object.{ObjectValue, ImageObject, DelayObject, GraphObject, object_kind}
 use Rattle.pixel_pool.specs.declared.pool.Pool.{Pool}
-use Rattle.object_table.specs.Blocks.{object_blocks, blocks_in, LendsAtLeast, LendsLess, Balances}
-use Rattle.object_table.specs.Named.{Named}
-use Rattle.object_table.specs.Table.{named}
+use Rattle.object_table.specs.Blocks.{LendsLess}
 use Rattle.object_table.proofs.EntryLemmas.{sum-written, sum-removed}
 
 -- in how many blocks of a format they have theirs

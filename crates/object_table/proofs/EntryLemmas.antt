@@ -1,34 +1,19 @@
 -- Entries of a map by name, and what they show.
 use Rattle.std.proofs.Common.{◌≡◌, ℕ, ◌+◌, ◌<◌, ◌≤◌, true, cond, List, [], ◌∷◌, ◌++◌, ◌*◌, length, map, Option, Some, None, refl, sym, ap, subst, ◌∙◌, arith, rules}
-use Rattle.std.specs.Prelude.{All, IfSome, IsTrue, ◌==◌, nat_lt, ◌||◌, sum_by, unwrap_or}
-use Rattle.std.specs.Ordering.{nat_cmp}
-use Rattle.std.specs.Map.{keys_of, lookup, set_value, remove_entry}
-use Rattle.std.specs.BTreeMap.{is_at, insert_entry}
-use Rattle.std.specs.Option.{option_map}
-use Rattle.std.specs.List.Sorted.{IsStrictlySortedBy, IsStrictlyIncreasing}
-use Rattle.std.proofs.lemmas.Bool.{cases_lt, and_parts}
+use Rattle.object_table.proofs.Common.{◌==◌, nat_lt, ◌||◌, sum_by, unwrap_or, nat_cmp, keys_of, lookup, set_value, remove_entry, is_at, option_map, IsStrictlyIncreasing, cases_lt, and_parts, length-append, length-map, All-cons, All-head, All-tail, All-weaker, sum_by-cons, sum_by-le, sum_by_push, keys-set_value, length-set_value, All-lookup, sorted_tail, U8, Kind, Cell, ImageValue, new_image, ObjectValue, ImageObject, DelayObject, ExtremesObject, GraphObject, object_bytes, object_kind, Entry, Context, object_named, charge_of, with_objects, object_in, with_slot, HasImage, object_held, with_object, image_value, aged_object, IsUnder, named, is_kept, IsTable, nodes_in, names_used_by, names_used, times, GREATEST_SLOTS, GREATEST_BYTES}
+use Rattle.std.specs.Prelude.{All, IfSome, IsTrue}
+use Rattle.std.specs.BTreeMap.{insert_entry}
+use Rattle.std.specs.List.Sorted.{IsStrictlySortedBy}
 use Rattle.std.proofs.lemmas.Cmp.{nat_cmp_total, eq_by_cmp_equiv}
-use Rattle.std.proofs.lemmas.List.{length-append, length-map}
-use Rattle.std.proofs.lemmas.List.Elements.{All-cons, All-head, All-tail, All-push, All-weaker}
-use Rattle.std.proofs.lemmas.List.Sums.{sum_by-cons, sum_by-le, sum_by_push}
-use Rattle.std.proofs.lemmas.Map.{lookup-none, keys-set_value, length-set_value}
-use Rattle.std.proofs.lemmas.Map.Entries.{none_past_head, All-lookup}
-use Rattle.std.proofs.lemmas.Map.Keys.{sorted_tail, sorted_from_strictly_increasing, IsDistinct-from_sorted}
-use Rattle.vx_base.specs.declared.format.Format.TheVariants.{U8}
-use Rattle.vx_base.specs.declared.kind.Kind.{Kind}
+use Rattle.std.proofs.lemmas.List.Elements.{All-push}
+use Rattle.std.proofs.lemmas.Map.{lookup-none}
+use Rattle.std.proofs.lemmas.Map.Entries.{none_past_head}
+use Rattle.std.proofs.lemmas.Map.Keys.{sorted_from_strictly_increasing, IsDistinct-from_sorted}
 use Rattle.vx_base.specs.declared.kind.Kind.TheVariants as kind
-use Rattle.vx_base.specs.Cell.{Cell, cell_of}
-use Rattle.vx_base.specs.Image.{ImageValue, new_image}
-use Rattle.vx_base.specs.Object.{ObjectValue, ImageObject, LutObject, ThresholdObject, DelayObject, ConvolutionObject, DistributionObject, ExtremesObject, GraphObject, VirtualObject, object_bytes, object_kind}
-use Rattle.object_table.specs.declared.table.Entry.{Entry}
-use Rattle.object_table.specs.Context.{Context, object_named, charge_of, can_insert, with_objects}
-use Rattle.object_table.specs.Delay.{object_in, with_slot, HasImage}
-use Rattle.object_table.specs.Named.{object_held, with_object}
-use Rattle.object_table.specs.Object.{image_value, aged_object}
-use Rattle.object_table.specs.Table.{object_under, IsUnder, cell_object, image_held, HoldsImage, named, is_kept, IsTable}
-use Rattle.object_table.specs.Uses.{nodes_in, names_used_by, names_used, times}
-use Rattle.vx_base.specs.declared.slots.TheConstants.{GREATEST_SLOTS}
-use Rattle.vx_base.specs.declared.desc.TheConstants.{GREATEST_BYTES}
+use Rattle.vx_base.specs.Cell.{cell_of}
+use Rattle.vx_base.specs.Object.{LutObject, ThresholdObject, ConvolutionObject, DistributionObject, VirtualObject}
+use Rattle.object_table.specs.Context.{can_insert}
+use Rattle.object_table.specs.Table.{object_under, cell_object, image_held, HoldsImage}
 
 -- ---- keys
 

@@ -1,45 +1,23 @@
 -- Nodes that come and go, the names that they use, and what is held then.
 use Rattle.std.proofs.Common.{inl, inr, ◌≡◌, ℕ, ◌+◌, ◌-◌, ◌*◌, ◌<◌, ◌≤◌, zero, suc, Bool, true, false, cond, List, [], ◌∷◌, ◌++◌, Some, None, length, map, get_or, IsTrue, refl, sym, ap, subst, ◌∙◌, arith, rules}
-use Rattle.std.specs.Prelude.{All, ◌==◌, ◌&&◌, ◌||◌, not, nat_lt, find, filter, sum_by, is_some}
-use Rattle.std.specs.List.{list_any, flat_map, AllPairs}
-use Rattle.std.specs.List.Sorted.{IsStrictlyIncreasing}
-use Rattle.std.specs.Map.{lookup, set_value}
-use Rattle.std.specs.BTreeMap.{is_at}
-use Rattle.std.specs.Ordering.{nat_cmp}
+use Rattle.object_table.proofs.Common.{◌==◌, ◌||◌, nat_lt, find, sum_by, is_some, list_any, flat_map, AllPairs, IsStrictlyIncreasing, lookup, set_value, is_at, nat_cmp, cases_Bool, eqb-true, ne_eqb, and_parts, map-append, length-map, length-append, get_or-map, All-nil, All-cons, All-head, All-tail, All-map, All-weaker, All-filter, filter_passes, AllPairs-filter, AllPairs-from_increasing, sum_by-cons, sum_by-le, count_by-le-length, keys-set_value, length-set_value, U8, Kind, Node, Numbered, Cell, GraphValue, can_add, with_node, without_node, new_image, given, ObjectValue, ImageObject, GraphObject, object_bytes, object_kind, Entry, Context, charge_of, object_named, still_held, unnamed, Named, object_held, graph_value, named, used_more, used_less, is_kept, kept, IsTable, used_names, nodes_in, names_used_by, names_used, times, GREATEST_SLOTS, GREATEST_BYTES}
+use Rattle.std.specs.Prelude.{All, ◌&&◌, not, filter}
 use Rattle.std.proofs.lemmas.Bool.Decides.{nat_tests}
-use Rattle.std.proofs.lemmas.Bool.{cases_Bool, eqb-true, ne_eqb, ltb-true, false≢true, and_parts}
+use Rattle.std.proofs.lemmas.Bool.{ltb-true, false≢true}
 use Rattle.std.proofs.lemmas.Grind.{flat_map-append}
-use Rattle.std.proofs.lemmas.List.{map-append, length-map, length-append, get_or-map}
 use Rattle.std.proofs.lemmas.List.Concat.{length-flat_map}
-use Rattle.std.proofs.lemmas.List.Elements.{All-nil, All-cons, All-head, All-tail, All-append, All-map, All-weaker, All-filter, filter_passes}
+use Rattle.std.proofs.lemmas.List.Elements.{All-append}
 use Rattle.std.proofs.lemmas.List.Folds.{flat_map-map, list_any-append}
-use Rattle.std.proofs.lemmas.List.Kept.{AllPairs-filter, AllPairs-from_increasing}
-use Rattle.std.proofs.lemmas.List.Sums.{sum_by-cons, sum_by-le, length-filter, count_by-le-length}
-use Rattle.std.proofs.lemmas.Map.{keys-set_value, length-set_value}
+use Rattle.std.proofs.lemmas.List.Sums.{length-filter}
 use Rattle.std.proofs.lemmas.Map.Steps.{set_value_same}
-use Rattle.vx_base.specs.declared.format.Format.TheVariants.{U8}
-use Rattle.vx_base.specs.declared.kind.Kind.{Kind}
 use Rattle.vx_base.specs.declared.kind.Kind.TheVariants as kind
-use Rattle.vx_base.specs.declared.node.Node.{Node}
-use Rattle.vx_base.specs.declared.numbered.Numbered.{Numbered}
-use Rattle.vx_base.specs.Cell.{Cell}
-use Rattle.vx_base.specs.Graph.{GraphValue, IsGraph, nodes_of, can_add, with_node, without_node}
-use Rattle.vx_base.specs.Image.{new_image}
-use Rattle.vx_base.specs.Node.{given, operands}
-use Rattle.vx_base.specs.Object.{ObjectValue, ImageObject, GraphObject, object_bytes, object_kind}
-use Rattle.object_table.specs.declared.table.Entry.{Entry}
-use Rattle.object_table.specs.Context.{Context, charge_of, object_named}
-use Rattle.object_table.specs.Holds.{uses, is_used, still_held, unnamed}
-use Rattle.object_table.specs.Named.{Named, object_held}
-use Rattle.object_table.specs.Object.{graph_value}
-use Rattle.object_table.specs.Table.{named, used_more, used_less, is_kept, kept, IsTable}
-use Rattle.object_table.specs.Uses.{used_names, nodes_in, names_used_by, names_used, times}
+use Rattle.vx_base.specs.Graph.{IsGraph, nodes_of}
+use Rattle.vx_base.specs.Node.{operands}
+use Rattle.object_table.specs.Holds.{uses, is_used}
 use Rattle.object_table.proofs.KeptLemmas.{ended-one, shown-ended}
 use Rattle.object_table.proofs.SlotLemmas.{graph_of_kind}
 use Rattle.object_table.proofs.UseLemmas.{times-append}
 use Rattle.object_table.proofs.EntryLemmas.{none_named, InOrder, in_order, named_is, if_live, All-written, sum-written, charge_is}
-use Rattle.vx_base.specs.declared.slots.TheConstants.{GREATEST_SLOTS}
-use Rattle.vx_base.specs.declared.desc.TheConstants.{GREATEST_BYTES}
 
 -- ---- how often a name stands in a list
 

@@ -1,20 +1,12 @@
 -- Objects under their names: the one of a name, and the objects when one is written.
 use Rattle.std.proofs.Common.{◌≡◌, ℕ, ◌+◌, ◌<◌, List, [], ◌∷◌, map, zero, suc, refl, ap, subst, ◌∙◌, arith, Option, Some, IfSome, rules}
-use Rattle.std.specs.Prelude.{All, ◌==◌, if◌then◌else◌, find}
-use Rattle.std.specs.List.Sorted.{IsStrictlyIncreasing}
-use Rattle.std.specs.List.{AllPairs}
-use Rattle.std.specs.Option.{option_map}
+use Rattle.object_table.proofs.Common.{◌==◌, if◌then◌else◌, find, IsStrictlyIncreasing, AllPairs, option_map, eqb-true, eqb-false, length-map, All-nil, All-cons, All-head, All-tail, All-weaker, AllPairs-from_increasing, Cell, ObjectValue, IsObject, with_slot, Named, object_held, with_object}
+use Rattle.std.specs.Prelude.{All}
 use Rattle.std.proofs.Math.ListN.{get_or-map as get_or-map_default}
-use Rattle.std.proofs.lemmas.Bool.{cond_both, eqb-true, eqb-false, eq-eqb}
-use Rattle.std.proofs.lemmas.List.{length-map}
-use Rattle.std.proofs.lemmas.List.Elements.{All-nil, All-cons, All-head, All-tail, All-weaker}
-use Rattle.std.proofs.lemmas.List.Kept.{AllPairs-from_increasing}
+use Rattle.std.proofs.lemmas.Bool.{cond_both, eq-eqb}
 use Rattle.std.proofs.lemmas.Option.{IfSome_then}
-use Rattle.vx_base.specs.Cell.{Cell}
-use Rattle.vx_base.specs.Object.{ObjectValue, IsObject}
 use Rattle.object_table.proofs.SlotLemmas.{IsObject-in_slot}
-use Rattle.object_table.specs.Delay.{with_slot}
-use Rattle.object_table.specs.Named.{Named, object_held, held, with_object}
+use Rattle.object_table.specs.Named.{held}
 
 -- ---- names that increase
 

@@ -1,21 +1,8 @@
 -- Entries that are held, and what is left of them when uses and names end.
 use Rattle.std.proofs.Common.{inl, inr, ◌≡◌, ℕ, ◌+◌, ◌-◌, true, false, cond, List, [], ◌∷◌, ◌++◌, length, map, IsTrue, Option, Some, None, refl, sym, ap, subst, ◌∙◌, arith}
-use Rattle.std.specs.Prelude.{All, ◌==◌, nat_lt, ◌||◌, unwrap_or}
-use Rattle.std.specs.Map.{keys_of, lookup, set_value, remove_entry}
-use Rattle.std.specs.BTreeMap.{is_at}
-use Rattle.std.specs.Ordering.{nat_cmp}
-use Rattle.std.specs.Option.{option_map}
-use Rattle.std.proofs.lemmas.Bool.{cases_Bool, or_parts, or_left, or_from, ltb-false, le-ltb}
-use Rattle.std.proofs.lemmas.List.{length-map}
-use Rattle.std.proofs.lemmas.List.Elements.{All-head, All-tail, filter_passes}
-use Rattle.std.proofs.lemmas.Map.Keys.{sorted_tail}
-use Rattle.vx_base.specs.declared.numbered.Numbered.{Numbered}
-use Rattle.vx_base.specs.Object.{object_bytes, object_kind}
-use Rattle.object_table.specs.declared.table.Entry.{Entry}
-use Rattle.object_table.specs.Context.{charge_of}
-use Rattle.object_table.specs.Holds.{unnamed}
-use Rattle.object_table.specs.Table.{named, is_kept, kept, nodes_at, used_less, ended}
-use Rattle.object_table.specs.Uses.{nodes_in, times}
+use Rattle.object_table.proofs.Common.{◌==◌, nat_lt, ◌||◌, unwrap_or, keys_of, lookup, set_value, remove_entry, is_at, nat_cmp, option_map, cases_Bool, or_left, or_from, le-ltb, length-map, All-head, All-tail, filter_passes, sorted_tail, Numbered, object_bytes, object_kind, Entry, charge_of, unnamed, named, is_kept, kept, nodes_at, used_less, ended, nodes_in, times}
+use Rattle.std.specs.Prelude.{All}
+use Rattle.std.proofs.lemmas.Bool.{or_parts, ltb-false}
 use Rattle.object_table.proofs.EntryLemmas.{InOrder, same_name, past_head, charge_is, All-written, sum-written, sum-removed}
 use Rattle.object_table.proofs.UseLemmas.{with_uses, less, less_is, used-append, used-nil, shown-used}
 

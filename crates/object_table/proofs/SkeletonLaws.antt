@@ -1,16 +1,10 @@
 -- What the skeleton of an object tells, and writes that keep it.
 use Rattle.std.proofs.Common.{◌≡◌, ℕ, List, [], ◌∷◌, map, get_or, set, Option, Some, None, refl, sym, ap, ◌∙◌}
-use Rattle.std.specs.Prelude.{sum, slice_get, unwrap_or}
-use Rattle.std.specs.Option.{option_map, option_and_then}
+use Rattle.object_table.proofs.Common.{sum, slice_get, unwrap_or, option_map, sum-map, get_or_from_slice_get, map-map, ImageValue, description_of, ObjectValue, ImageObject, DelayObject, IsObject, object_kind, object_bytes, image_bytes, in_slot, with_slot, image_value, image_skeleton, skeleton}
+use Rattle.std.specs.Option.{option_and_then}
 use Rattle.std.proofs.Math.Seq.{map-set_same}
-use Rattle.std.proofs.lemmas.List.Sums.{sum-map}
-use Rattle.std.proofs.lemmas.Option.{slice_get-map, get_or_from_slice_get}
-use Rattle.std.proofs.lemmas.Simd.{map-map}
-use Rattle.vx_base.specs.Image.{ImageValue, description_of}
-use Rattle.vx_base.specs.Object.{ObjectValue, ImageObject, DelayObject, IsObject, object_kind, object_bytes, image_bytes}
-use Rattle.object_table.specs.Delay.{in_slot, with_slot, slot_kind}
-use Rattle.object_table.specs.Object.{image_value}
-use Rattle.object_table.specs.Skeleton.{image_skeleton, skeleton}
+use Rattle.std.proofs.lemmas.Option.{slice_get-map}
+use Rattle.object_table.specs.Delay.{slot_kind}
 use Rattle.object_table.proofs.SlotLemmas.{IsDelay-set}
 
 -- ---- what is told by something else

@@ -1,19 +1,10 @@
 -- What stands in slots, and what is written there.
 use Rattle.std.proofs.Common.{◌≡◌, ◌≢◌, ℕ, ◌<◌, ◌≤◌, ◌⊎◌, inl, inr, IsTrue, List, length, map, set, Option, Some, None, IfSome, refl, sym, ap, subst, ◌∙◌, arith}
-use Rattle.std.specs.Prelude.{is_some, unwrap_or, slice_get}
-use Rattle.std.specs.Option.{option_map}
-use Rattle.std.specs.List.{AllPairs}
-use Rattle.std.proofs.lemmas.Bool.{cases_lt}
+use Rattle.object_table.proofs.Common.{is_some, unwrap_or, slice_get, option_map, AllPairs, cases_lt, get_or_from_slice_get, U8, Description, ImageValue, IsImage, new_image, description_of, ObjectValue, ImageObject, GraphObject, DelayObject, IsObject, IsDelay, object_kind, in_slot, object_in, with_slot, HasImage, graph_value, image_value}
 use Rattle.std.proofs.lemmas.List.{length-set, set-set, get_or-set_same, get_or-set_other}
 use Rattle.std.proofs.lemmas.List.Elements.{All-set}
-use Rattle.std.proofs.lemmas.Option.{slice_get_past, slice_get_within, slice_get-get_or, get_or_from_slice_get}
-use Rattle.vx_base.specs.declared.format.Format.TheVariants.{U8}
+use Rattle.std.proofs.lemmas.Option.{slice_get_past, slice_get_within, slice_get-get_or}
 use Rattle.vx_base.specs.declared.kind.Kind.TheVariants as kind
-use Rattle.vx_base.specs.Description.{Description}
-use Rattle.vx_base.specs.Image.{ImageValue, IsImage, new_image, description_of}
-use Rattle.vx_base.specs.Object.{ObjectValue, ImageObject, GraphObject, DelayObject, IsObject, IsDelay, object_kind}
-use Rattle.object_table.specs.Delay.{in_slot, object_in, with_slot, HasImage}
-use Rattle.object_table.specs.Object.{graph_value, image_value}
 
 -- ---- what is there
 

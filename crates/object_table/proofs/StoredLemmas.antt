@@ -1,13 +1,12 @@
 -- Images that are stored.
 use Rattle.std.proofs.Common.{◌≡◌, ℕ, ℤ, List, pos, replicate, arith}
+use Rattle.object_table.proofs.Common.{Description, IsImage, new_image, image_over, band, within, with_valid, values, sample_from}
 use Rattle.vx_base.specs.declared.samples.Samples.{Samples}
 use Rattle.vx_base.specs.Rectangle.{Rectangle, whole}
-use Rattle.vx_base.specs.Description.{Description, sample_count}
-use Rattle.vx_base.specs.Image.{IsImage, new_image, image_over, band, within, with_valid}
-use Rattle.vx_base.specs.Picture.{PictureValue, IsPicture, values}
+use Rattle.vx_base.specs.Description.{sample_count}
+use Rattle.vx_base.specs.Picture.{PictureValue, IsPicture}
 use Rattle.image_core.specs.declared.band.Band.{Band}
 use Rattle.image_core.specs.Bands.{all_rows}
-use Rattle.image_core.specs.Rows.{sample_from}
 use Rattle.vx_base.proofs.PictureLaws.{pictured_image}
 use Rattle.vx_base.proofs.ZeroLaws.{samples-new_image}
 

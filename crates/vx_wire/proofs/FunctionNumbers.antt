@@ -1,9 +1,8 @@
 -- Each function has a number of its own.
 use Rattle.std.proofs.Common.{◌≡◌, ℕ, Bool, true, false, cond, List, [], ◌∷◌, Some, refl, sym, ap, ◌∙◌, rules}
+use Rattle.vx_wire.proofs.Common.{eqb-true, Function, function_number, function_numbered}
 use Rattle.std.specs.Prelude.{◌==◌, find}
-use Rattle.std.proofs.lemmas.Bool.{eqb-true}
-use Rattle.vx_base.specs.declared.function.Function.{Function}
-use Rattle.vx_base.specs.Function.{function_number, functions, function_numbered}
+use Rattle.vx_base.specs.Function.{functions}
 
 -- the function with a function's number is that function
 pub numbered_back : (function : Function) → function_numbered (function_number function) ≡ Some function

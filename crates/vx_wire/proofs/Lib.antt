@@ -1,3 +1,4 @@
+mod Common
 pub mod NodeShape
 pub mod FunctionNumbers
 pub mod Numbers

@@ -1,13 +1,7 @@
 -- A node whose fields are as its function wants them is one.
 use Rattle.std.proofs.Common.{◌≡◌, ℕ, Bool, true, false, not, ◌&&◌, ◌||◌, nat_le, Option, Some, None, is_some, is_none, unwrap_or, if◌then◌else◌, IsTrue, refl, ap, ◌∙◌, List, ◌++◌, append_assoc, Ok}
-use Rattle.vx_base.specs.declared.node.Node.{Node}
-use Rattle.vx_base.specs.declared.function.Parameters.{Parameters}
-use Rattle.vx_base.specs.Function.{parameters}
-use Rattle.vx_base.specs.Cell.{Cell}
-use Rattle.vx_base.specs.Node.{is_nothing, is_named, is_wrap, is_node, has_amount, has_operands, all_named}
-use Rattle.vx_wire.specs.declared.fields.operand.Presence.TheVariants.{Required, Absent, Free}
-use Rattle.vx_wire.specs.Operand.{second_input, first_output, second_output, is_operand, take_first_input, take_operands}
-use Rattle.vx_wire.specs.Node.{take_function, take_border, take_policy, take_amount, take_node}
+use Rattle.vx_wire.proofs.Common.{Node, Parameters, parameters, Cell, is_nothing, is_named, is_wrap, has_amount, has_operands, all_named, Required, Absent, Free, second_input, first_output, second_output, is_operand, take_first_input, take_operands, take_function, take_border, take_policy, take_amount, take_node}
+use Rattle.vx_base.specs.Node.{is_node}
 
 pub both : (a b : Bool) → IsTrue a → IsTrue b → IsTrue (a && b)
 both a b p q = rw (p, q) refl

@@ -1,10 +1,7 @@
 -- What a look-up finds.
 use Rattle.std.proofs.Common.{◌≡◌, ℕ, ◌==◌, Bool, true, false, cond, List, [], ◌∷◌, Some, IsTrue, refl, subst}
-use Rattle.std.specs.Prelude.{All}
+use Rattle.vx_wire.proofs.Common.{All, eqb-true, All-head, All-tail, numbered}
 use Rattle.std.specs.List.{find}
-use Rattle.std.proofs.lemmas.Bool.{eqb-true}
-use Rattle.std.proofs.lemmas.List.Elements.{All-head, All-tail}
-use Rattle.vx_wire.specs.Numbered.{numbered}
 
 -- it passes the test
 pub found_passes : {A : Type 0} (p : A → Bool) (all : List A) (x : A) → find p all ≡ Some x → IsTrue (p x)

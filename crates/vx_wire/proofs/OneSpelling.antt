@@ -1,22 +1,16 @@
 -- Each request has one spelling.
 use Rattle.std.proofs.Common.{◌≡◌, ℕ, List, [], ◌∷◌, ◌++◌, Option, Some, None, Result, Ok, refl, sym, ap, subst, ◌∙◌, append-nil}
-use Rattle.vx_base.specs.Cell.{Cell}
-use Rattle.client_model.specs.declared.request.Request.{Request}
-use Rattle.client_model.specs.declared.request.Request.TheVariants.{OpenContext, ReleaseContext, CreateImage, QueryImage, WriteImage, WriteImagePgm, ReadImage, ReadImagePgm, SetValid, Release, CreateLut, CreateThreshold, CreateConvolution, CreateDistribution, ReadDistribution, CreateMinMax, ReadMinMax, CreateGraph, CreateVirtualImage, AddNode, RemoveNode, VerifyGraph, ProcessGraph, Immediate, CreateDelay, AgeDelay, RegisterAutoAging}
-use Rattle.vx_wire.specs.declared.body_fault.BodyFault.{BodyFault}
+use Rattle.vx_wire.proofs.Common.{Cell, Request, OpenContext, ReleaseContext, CreateImage, QueryImage, WriteImage, WriteImagePgm, ReadImage, ReadImagePgm, SetValid, Release, CreateLut, CreateThreshold, CreateConvolution, CreateDistribution, ReadDistribution, CreateMinMax, ReadMinMax, CreateGraph, CreateVirtualImage, AddNode, RemoveNode, VerifyGraph, ProcessGraph, Immediate, CreateDelay, AgeDelay, RegisterAutoAging, BodyFault, op_number, op_of, Taken, at_end, one_field, two_fields, request_of, body_of, take_reference, IsRequest}
 use Rattle.vx_wire.specs.declared.op.Op.{Op}
 use Rattle.vx_wire.specs.declared.op.Op.TheVariants as kinds
-use Rattle.vx_wire.specs.Op.{op_number, ops, op_numbered, op_of}
-use Rattle.vx_wire.specs.Fields.{Taken, at_end, one_field, two_fields}
-use Rattle.vx_wire.specs.Requests.{request_with, request_with_known, request_of, body_of}
-use Rattle.vx_wire.specs.Reference.{take_reference}
+use Rattle.vx_wire.specs.Op.{ops, op_numbered}
+use Rattle.vx_wire.specs.Requests.{request_with, request_with_known}
 use Rattle.vx_wire.specs.Images.{write_image_pgm_in}
 use Rattle.vx_wire.proofs.Numbers.{number_is}
 use Rattle.vx_wire.proofs.ReadFields.{AllBytes, then_of, Reads, long_reads, description_reads, outline_reads, cell_reads, rectangle_reads, slots_reads, bins_reads}
 use Rattle.vx_wire.proofs.ReadSamples.{picture_reads}
 use Rattle.vx_wire.proofs.ReadObjects.{lut_reads, threshold_reads, convolution_reads}
 use Rattle.vx_wire.proofs.ReadNode.{node_reads}
-use Rattle.client_model.specs.Request.{IsRequest}
 
 end_of : {A : Type 0} (x y : A) (rest : List ℕ) → at_end x rest ≡ Ok y → (x ≡ y) × (rest ≡ [])
 end_of x y [] e = (cc, refl)

@@ -1,27 +1,8 @@
 -- A node that is read has one spelling.
 use Rattle.std.proofs.Common.{◌≡◌, ℕ, ◌<◌, ◌==◌, List, [], ◌∷◌, ◌++◌, Option, Some, None, Bool, true, false, not, ◌&&◌, ◌||◌, IsTrue, if◌then◌else◌, nat_le, is_none, unwrap_or, arith, refl, sym, ap, subst, ◌∙◌, append_assoc}
-use Rattle.std.specs.Prelude.{All, IfSome}
-use Rattle.std.proofs.lemmas.List.Elements.{All-nil, All-cons}
-use Rattle.vx_wire.specs.Numbered.{numbered}
+use Rattle.vx_wire.proofs.Common.{All, IfSome, All-nil, All-cons, numbered, eqb-true, le-leb, Border, Undefined, Constant, Replicate, Policy, Wrap, Saturate, Function, Parameters, Node, function_number, function_numbered, parameters, Cell, IsCell, is_nothing, is_wrap, IsBorder, IsNode, InvalidParameters, InvalidValue, Presence, Required, Absent, Free, Taken, and_then, allowed, take_byte, reference_bytes, operand, take_operand, second_input, first_output, second_output, take_operands, take_first_input, is_operand, operand_bytes, take_function, take_border, take_policy, amount_allowed, take_amount, take_node, border_bytes, policy_number, node_bytes}
 use Rattle.vx_wire.proofs.Numbers.{found_passes, found_each, number_is}
-use Rattle.std.proofs.lemmas.Bool.{eqb-true, le-leb}
-use Rattle.vx_base.specs.declared.border.Border.{Border}
-use Rattle.vx_base.specs.declared.border.Border.TheVariants.{Undefined, Constant, Replicate}
-use Rattle.vx_base.specs.declared.policy.Policy.{Policy}
-use Rattle.vx_base.specs.declared.policy.Policy.TheVariants.{Wrap, Saturate}
-use Rattle.vx_base.specs.declared.function.Function.{Function}
-use Rattle.vx_base.specs.declared.function.Parameters.{Parameters}
-use Rattle.vx_base.specs.declared.node.Node.{Node}
-use Rattle.vx_base.specs.Function.{function_number, function_numbered, parameters}
-use Rattle.vx_base.specs.Cell.{Cell, IsCell}
-use Rattle.vx_base.specs.Node.{is_nothing, is_wrap, IsBorder, IsNode}
-use Rattle.vx_wire.specs.declared.body_fault.BodyFault.TheVariants.{InvalidParameters, InvalidValue}
-use Rattle.vx_wire.specs.declared.fields.operand.Presence.{Presence}
-use Rattle.vx_wire.specs.declared.fields.operand.Presence.TheVariants.{Required, Absent, Free}
-use Rattle.vx_wire.specs.Fields.{Taken, and_then, allowed, take_byte}
-use Rattle.vx_wire.specs.Reference.{reference_bytes}
-use Rattle.vx_wire.specs.Operand.{operand, take_operand, second_input, first_output, second_output, take_operands, take_first_input, is_operand, operand_bytes}
-use Rattle.vx_wire.specs.Node.{take_function, take_border, take_policy, amount_allowed, take_amount, take_node, border_mode, border_constant, border_with, border_bytes, policy_number, policies, node_bytes}
+use Rattle.vx_wire.specs.Node.{border_mode, border_constant, border_with, policies}
 use Rattle.vx_wire.proofs.NodeShape.{both_of, is_node-from_fields}
 use Rattle.vx_wire.proofs.FunctionNumbers.{number_of_function}
 use Rattle.vx_wire.proofs.ReadFields.{ok, if_none, Reads, then_reads, made_of, made, one_made, passed, byte_reads, cell_reads}

@@ -1,22 +1,8 @@
 -- A table, a threshold or a convolution that is read has one spelling.
 use Rattle.std.proofs.Common.{◌≡◌, ◌≢◌, ℕ, ℤ, ◌*◌, ◌==◌, nat_le, length, List, [], ◌∷◌, ◌++◌, Some, None, Bool, true, false, IsTrue, int_le, if◌then◌else◌, sym, ap, refl, subst, ◌∙◌, append_assoc}
-use Rattle.std.specs.Prelude.{All}
-use Rattle.std.proofs.lemmas.List.Elements.{All-nil, All-cons}
-use Rattle.vx_base.specs.declared.format.Format.{Format}
-use Rattle.vx_base.specs.declared.format.Format.TheVariants.{U8, S16, U32}
-use Rattle.vx_base.specs.declared.threshold.ThresholdKind.{ThresholdKind}
-use Rattle.vx_base.specs.declared.threshold.ThresholdKind.TheVariants.{Binary, Range}
-use Rattle.vx_base.specs.Sample.{range_size}
-use Rattle.vx_base.specs.Lut.{LutValue, is_full, IsLut}
-use Rattle.vx_base.specs.Threshold.{ThresholdValue, is_sample, has_limits, IsThreshold}
-use Rattle.vx_base.specs.Convolution.{ConvolutionValue, is_odd_side, IsConvolution}
-use Rattle.vx_wire.specs.declared.body_fault.BodyFault.TheVariants.{InvalidParameters, InvalidFormat, InvalidDimension, InvalidValue}
-use Rattle.vx_wire.specs.Fields.{Taken, and_then, take_byte}
-use Rattle.vx_wire.specs.Format.{input_format_numbered, take_input_format, format_number}
-use Rattle.vx_wire.specs.Samples.{decoded_sample, encoded_sample, take_samples}
-use Rattle.vx_wire.specs.Lut.{take_lut, lut_bytes}
-use Rattle.vx_wire.specs.Threshold.{is_range, range_number, range_numbered, take_is_range, take_signed, take_limit, take_upper, take_limits, take_threshold, limit_bytes, threshold_bytes}
-use Rattle.vx_wire.specs.Convolution.{take_odd_side, take_exponent, take_convolution, convolution_bytes}
+use Rattle.vx_wire.proofs.Common.{All, All-nil, All-cons, Format, U8, S16, U32, ThresholdKind, Binary, Range, range_size, LutValue, is_full, IsLut, ThresholdValue, is_sample, has_limits, IsThreshold, ConvolutionValue, is_odd_side, IsConvolution, InvalidParameters, InvalidFormat, InvalidDimension, InvalidValue, Taken, and_then, take_byte, take_input_format, format_number, decoded_sample, encoded_sample, take_samples, take_lut, lut_bytes, is_range, range_number, take_is_range, take_signed, take_limit, take_upper, take_limits, take_threshold, limit_bytes, threshold_bytes, take_odd_side, take_exponent, take_convolution, convolution_bytes}
+use Rattle.vx_wire.specs.Format.{input_format_numbered}
+use Rattle.vx_wire.specs.Threshold.{range_numbered}
 use Rattle.vx_wire.proofs.ReadFields.{ok, Reads, then_reads, made, one_made, passed, tested, byte_reads, bytes_reads}
 use Rattle.vx_wire.proofs.ReadSamples.{samples_reads}
 use Rattle.vx_wire.proofs.Numbers.{number_is, found_each}

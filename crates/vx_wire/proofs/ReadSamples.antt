@@ -1,12 +1,6 @@
 -- Samples that are read have one spelling.
 use Rattle.std.proofs.Common.{◌≡◌, ℕ, ℤ, ◌*◌, List, [], length, sym, refl}
-use Rattle.std.specs.Prelude.{All}
-use Rattle.vx_base.specs.declared.format.Format.{Format}
-use Rattle.vx_base.specs.Description.{Description, sample_count}
-use Rattle.vx_base.specs.Sample.{IsSample, sample_bytes}
-use Rattle.vx_base.specs.Picture.{PictureValue, IsPicture}
-use Rattle.vx_wire.specs.Fields.{Taken, and_then}
-use Rattle.vx_wire.specs.Samples.{decoded, encoded, take_samples, take_picture, picture_bytes}
+use Rattle.vx_wire.proofs.Common.{All, Format, Description, sample_count, IsSample, sample_bytes, PictureValue, IsPicture, Taken, and_then, decoded, encoded, take_samples, take_picture, picture_bytes}
 use Rattle.vx_wire.proofs.ReadFields.{ok, Reads, then_reads, made, bytes_reads, description_reads}
 use Rattle.vx_wire.proofs.SampleBytes.{encoded_back}
 

@@ -1,10 +1,8 @@
 -- One more sample decoded, and one more encoded.
 use Rattle.std.proofs.Common.{◌≡◌, ℕ, ℤ, zero, suc, ◌+◌, ◌*◌, ◌<◌, ◌-◌, List, [], ◌∷◌, ◌++◌, length, take, drop, map, arith, sym, ap, ◌∙◌}
+use Rattle.vx_wire.proofs.Common.{Format, sample_bytes, decoded_sample, decoded}
 use Rattle.std.proofs.lemmas.List.{drop-drop, take_more_set, map-append}
 use Rattle.std.proofs.Math.ListN.{set}
-use Rattle.vx_base.specs.declared.format.Format.{Format}
-use Rattle.vx_base.specs.Sample.{sample_bytes}
-use Rattle.vx_wire.specs.Samples.{decoded_sample, decoded}
 
 -- the sample after so many
 pub decoded_more : (format : Format) (i : ℕ) (bytes : List ℕ) → let w = sample_bytes format in

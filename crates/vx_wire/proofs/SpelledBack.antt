@@ -1,26 +1,9 @@
 -- A request is read back from its op and body.
 use Rattle.std.proofs.Common.{◌≡◌, List, [], ◌∷◌, ◌++◌, ℕ, Ok, refl, sym, ap, ◌∙◌, append-nil}
-use Rattle.std.specs.Int.{w32, to_be_bytes}
-use Rattle.client_model.specs.declared.request.Request.{Request}
-use Rattle.client_model.specs.declared.request.Request.TheVariants.{OpenContext, ReleaseContext, CreateImage, QueryImage, WriteImage, WriteImagePgm, ReadImage, ReadImagePgm, SetValid, Release, CreateLut, CreateThreshold, CreateConvolution, CreateDistribution, ReadDistribution, CreateMinMax, ReadMinMax, CreateGraph, CreateVirtualImage, AddNode, RemoveNode, VerifyGraph, ProcessGraph, Immediate, CreateDelay, AgeDelay, RegisterAutoAging}
-use Rattle.vx_wire.specs.Op.{op_number, op_of}
-use Rattle.vx_wire.specs.Fields.{Taken, at_end, one_field, two_fields, take_long}
-use Rattle.vx_wire.specs.Requests.{request_of, body_of}
-use Rattle.vx_wire.specs.Description.{take_description, description_bytes}
-use Rattle.vx_wire.specs.Outline.{take_outline, outline_bytes}
-use Rattle.vx_wire.specs.Reference.{take_reference, reference_bytes}
-use Rattle.vx_wire.specs.Samples.{take_picture, picture_bytes}
-use Rattle.vx_wire.specs.Lut.{take_lut, lut_bytes}
-use Rattle.vx_wire.specs.Threshold.{take_threshold, threshold_bytes}
-use Rattle.vx_wire.specs.Convolution.{take_convolution, convolution_bytes}
-use Rattle.vx_wire.specs.Bins.{take_bins, bins_bytes}
-use Rattle.vx_wire.specs.Node.{take_node, node_bytes}
-use Rattle.vx_wire.specs.Slots.{take_slots}
-use Rattle.vx_wire.specs.Rectangle.{take_rectangle, rectangle_bytes}
+use Rattle.vx_wire.proofs.Common.{w32, to_be_bytes, Request, OpenContext, ReleaseContext, CreateImage, QueryImage, WriteImage, WriteImagePgm, ReadImage, ReadImagePgm, SetValid, Release, CreateLut, CreateThreshold, CreateConvolution, CreateDistribution, ReadDistribution, CreateMinMax, ReadMinMax, CreateGraph, CreateVirtualImage, AddNode, RemoveNode, VerifyGraph, ProcessGraph, Immediate, CreateDelay, AgeDelay, RegisterAutoAging, op_number, op_of, Taken, at_end, one_field, two_fields, take_long, request_of, body_of, take_description, description_bytes, take_outline, outline_bytes, take_reference, reference_bytes, take_picture, picture_bytes, take_lut, lut_bytes, take_threshold, threshold_bytes, take_convolution, convolution_bytes, take_bins, bins_bytes, take_node, node_bytes, take_slots, take_rectangle, rectangle_bytes, IsRequest}
 use Rattle.vx_wire.proofs.SpelledFields.{then_ok, long_back, description_back, outline_back, cell_back, rectangle_back, slots_back, bins_back, picture_back}
 use Rattle.vx_wire.proofs.SpelledObjects.{lut_back, threshold_back, convolution_back}
 use Rattle.vx_wire.proofs.SpelledNode.{node_back}
-use Rattle.client_model.specs.Request.{IsRequest}
 
 -- a body of one field and of two
 

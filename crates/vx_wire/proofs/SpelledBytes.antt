@@ -1,50 +1,9 @@
 -- The bodies of requests are bytes.
 use Rattle.std.proofs.Common.{ℕ, ℤ, zero, suc, pos, negsuc, ◌<◌, ◌^◌, List, [], ◌∷◌, ◌++◌, length, Option, Some, None, Bool, true, false, arith, IsTrue, rules}
-use Rattle.std.specs.Prelude.{All, IfSome, unwrap_or, unsigned_abs}
-use Rattle.std.specs.Int.{Width, w16, w32, byte_len, byte_at, bytes_high_first, to_be_bytes, cast_unsigned}
-use Rattle.std.proofs.lemmas.Bool.{leb-true}
-use Rattle.std.proofs.lemmas.Int.{ints}
-use Rattle.std.proofs.lemmas.Bool.Decides.{nat_tests}
-use Rattle.std.proofs.lemmas.List.Elements.{All-nil, All-cons, All-append, All-head, All-tail}
-use Rattle.vx_base.specs.declared.format.Format.{Format}
-use Rattle.vx_base.specs.declared.format.Format.TheVariants.{U8, S16, U32}
-use Rattle.vx_base.specs.declared.border.Border.{Border}
-use Rattle.vx_base.specs.declared.border.Border.TheVariants.{Undefined, Constant, Replicate}
-use Rattle.vx_base.specs.declared.policy.Policy.{Policy}
-use Rattle.vx_base.specs.declared.policy.Policy.TheVariants.{Wrap, Saturate}
-use Rattle.vx_base.specs.declared.function.Function.{Function}
-use Rattle.vx_base.specs.declared.node.Node.{Node}
-use Rattle.vx_base.specs.declared.threshold.ThresholdKind.{ThresholdKind}
-use Rattle.vx_base.specs.declared.threshold.ThresholdKind.TheVariants.{Binary, Range}
-use Rattle.vx_base.specs.Cell.{Cell, IsCell}
-use Rattle.vx_base.specs.Convolution.{ConvolutionValue, is_odd_side, IsConvolution}
-use Rattle.vx_base.specs.Description.{Description}
-use Rattle.vx_base.specs.Function.{function_number}
-use Rattle.vx_base.specs.Lut.{LutValue, IsLut}
-use Rattle.vx_base.specs.Node.{IsBorder, IsNode}
-use Rattle.vx_base.specs.Outline.{Outline}
-use Rattle.vx_base.specs.Picture.{PictureValue, IsPicture}
-use Rattle.vx_base.specs.Rectangle.{Rectangle}
-use Rattle.vx_base.specs.Sample.{IsSample}
-use Rattle.vx_base.specs.Slots.{is_slot_count}
-use Rattle.vx_base.specs.Statistics.{BinsValue}
-use Rattle.vx_base.specs.Threshold.{ThresholdValue, IsThreshold}
-use Rattle.client_model.specs.declared.request.Request.{Request}
-use Rattle.client_model.specs.declared.request.Request.TheVariants.{OpenContext, ReleaseContext, CreateImage, QueryImage, WriteImage, WriteImagePgm, ReadImage, ReadImagePgm, SetValid, Release, CreateLut, CreateThreshold, CreateConvolution, CreateDistribution, ReadDistribution, CreateMinMax, ReadMinMax, CreateGraph, CreateVirtualImage, AddNode, RemoveNode, VerifyGraph, ProcessGraph, Immediate, CreateDelay, AgeDelay, RegisterAutoAging}
-use Rattle.client_model.specs.Request.{IsRequest}
-use Rattle.vx_wire.specs.Format.{format_number, open_format_number}
-use Rattle.vx_wire.specs.Description.{description_bytes}
-use Rattle.vx_wire.specs.Samples.{encoded_sample, encoded, picture_bytes}
-use Rattle.vx_wire.specs.Reference.{reference_bytes}
-use Rattle.vx_wire.specs.Operand.{operand_bytes}
-use Rattle.vx_wire.specs.Rectangle.{rectangle_bytes}
-use Rattle.vx_wire.specs.Lut.{lut_bytes}
-use Rattle.vx_wire.specs.Threshold.{range_number, limit_bytes, threshold_bytes}
-use Rattle.vx_wire.specs.Convolution.{convolution_bytes}
-use Rattle.vx_wire.specs.Bins.{bins_bytes}
-use Rattle.vx_wire.specs.Outline.{outline_bytes, open_side_number}
-use Rattle.vx_wire.specs.Node.{border_bytes, policy_number, node_bytes}
-use Rattle.vx_wire.specs.Requests.{body_of}
+use Rattle.vx_wire.proofs.Common.{All, IfSome, w16, w32, to_be_bytes, cast_unsigned, leb-true, ints, nat_tests, All-nil, All-cons, All-head, All-tail, Format, U8, S16, U32, Border, Undefined, Constant, Replicate, Policy, Wrap, Saturate, Function, Node, ThresholdKind, Binary, Range, Cell, IsCell, ConvolutionValue, is_odd_side, IsConvolution, Description, function_number, LutValue, IsLut, IsBorder, IsNode, Outline, PictureValue, IsPicture, Rectangle, IsSample, is_slot_count, BinsValue, ThresholdValue, IsThreshold, Request, OpenContext, ReleaseContext, CreateImage, QueryImage, WriteImage, WriteImagePgm, ReadImage, ReadImagePgm, SetValid, Release, CreateLut, CreateThreshold, CreateConvolution, CreateDistribution, ReadDistribution, CreateMinMax, ReadMinMax, CreateGraph, CreateVirtualImage, AddNode, RemoveNode, VerifyGraph, ProcessGraph, Immediate, CreateDelay, AgeDelay, RegisterAutoAging, IsRequest, format_number, open_format_number, description_bytes, encoded_sample, encoded, picture_bytes, reference_bytes, operand_bytes, rectangle_bytes, lut_bytes, range_number, limit_bytes, threshold_bytes, convolution_bytes, bins_bytes, outline_bytes, open_side_number, border_bytes, policy_number, node_bytes, body_of}
+use Rattle.std.specs.Prelude.{unwrap_or, unsigned_abs}
+use Rattle.std.specs.Int.{Width, byte_len, byte_at, bytes_high_first}
+use Rattle.std.proofs.lemmas.List.Elements.{All-append}
 use Rattle.vx_wire.proofs.TableSizes.{convolution_parts}
 
 -- as a record, so that which bytes are meant is found from their proof

@@ -1,25 +1,6 @@
 -- A node is read back from its bytes.
 use Rattle.std.proofs.Common.{◌≡◌, ℕ, ◌==◌, List, [], ◌∷◌, ◌++◌, Option, Some, None, Ok, Bool, true, false, not, ◌&&◌, ◌||◌, IsTrue, if◌then◌else◌, cond, nat_le, is_some, is_none, unwrap_or, arith, refl, ap, ◌∙◌}
-use Rattle.std.specs.Prelude.{IfSome}
-use Rattle.vx_wire.specs.Numbered.{numbered}
-use Rattle.std.proofs.lemmas.Bool.{eq-eqb, leb-true}
-use Rattle.vx_base.specs.declared.border.Border.{Border}
-use Rattle.vx_base.specs.declared.border.Border.TheVariants.{Undefined, Constant, Replicate}
-use Rattle.vx_base.specs.declared.policy.Policy.{Policy}
-use Rattle.vx_base.specs.declared.policy.Policy.TheVariants.{Wrap, Saturate}
-use Rattle.vx_base.specs.declared.function.Function.{Function}
-use Rattle.vx_base.specs.declared.function.Parameters.{Parameters}
-use Rattle.vx_base.specs.declared.node.Node.{Node}
-use Rattle.vx_base.specs.Function.{function_number, parameters}
-use Rattle.vx_base.specs.Cell.{Cell, IsCell}
-use Rattle.vx_base.specs.Node.{is_nothing, is_named, is_wrap, has_amount, has_operands, all_named, IsNode}
-use Rattle.vx_wire.specs.declared.body_fault.BodyFault.TheVariants.{InvalidParameters, InvalidValue}
-use Rattle.vx_wire.specs.declared.fields.operand.Presence.{Presence}
-use Rattle.vx_wire.specs.declared.fields.operand.Presence.TheVariants.{Required, Absent, Free}
-use Rattle.vx_wire.specs.Fields.{Taken, and_then, allowed}
-use Rattle.vx_wire.specs.Reference.{take_reference, reference_bytes}
-use Rattle.vx_wire.specs.Operand.{operand, take_operand, second_input, first_output, second_output, take_operands, take_first_input, is_operand, operand_bytes}
-use Rattle.vx_wire.specs.Node.{take_function, take_border, take_policy, amount_allowed, take_node, border_bytes, policy_number, node_bytes}
+use Rattle.vx_wire.proofs.Common.{IfSome, numbered, eq-eqb, leb-true, Border, Undefined, Constant, Replicate, Policy, Wrap, Saturate, Function, Parameters, Node, function_number, parameters, Cell, IsCell, is_nothing, is_named, is_wrap, has_amount, has_operands, all_named, IsNode, InvalidParameters, InvalidValue, Presence, Required, Absent, Free, Taken, and_then, allowed, take_reference, reference_bytes, operand, take_operand, second_input, first_output, second_output, take_operands, take_first_input, is_operand, operand_bytes, take_function, take_border, take_policy, amount_allowed, take_node, border_bytes, policy_number, node_bytes}
 use Rattle.vx_wire.proofs.NodeShape.{both_of, take_node-fields, three_joined}
 use Rattle.vx_wire.proofs.FunctionNumbers.{numbered_back}
 use Rattle.vx_wire.proofs.SpelledFields.{then_ok, cell_back}

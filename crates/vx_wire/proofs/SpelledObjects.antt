@@ -1,20 +1,6 @@
 -- Tables, thresholds and convolutions are read back from their bytes.
 use Rattle.std.proofs.Common.{◌≡◌, ◌≢◌, ℕ, ℤ, ◌*◌, nat_le, List, [], ◌∷◌, ◌++◌, Some, None, Ok, Bool, IsTrue, int_le, if◌then◌else◌, refl, ap, ◌∙◌, length, append_assoc}
-use Rattle.vx_base.specs.declared.format.Format.{Format}
-use Rattle.vx_base.specs.declared.format.Format.TheVariants.{U8, S16, U32}
-use Rattle.vx_base.specs.declared.threshold.ThresholdKind.{ThresholdKind}
-use Rattle.vx_base.specs.declared.threshold.ThresholdKind.TheVariants.{Binary, Range}
-use Rattle.vx_base.specs.Sample.{IsSample, range_size}
-use Rattle.vx_base.specs.Lut.{LutValue, IsLut}
-use Rattle.vx_base.specs.Threshold.{ThresholdValue, is_sample, has_limits, IsThreshold}
-use Rattle.vx_base.specs.Convolution.{ConvolutionValue, is_odd_side, IsConvolution}
-use Rattle.vx_wire.specs.declared.body_fault.BodyFault.TheVariants.{InvalidDimension, InvalidValue}
-use Rattle.vx_wire.specs.Fields.{Taken, and_then, allowed, take_byte, take_bytes}
-use Rattle.vx_wire.specs.Format.{take_input_format, format_number}
-use Rattle.vx_wire.specs.Samples.{decoded_sample, encoded_sample, encoded, take_samples}
-use Rattle.vx_wire.specs.Lut.{take_lut, lut_bytes}
-use Rattle.vx_wire.specs.Threshold.{is_range, range_number, take_signed, take_is_range, take_limit, take_upper, take_limits, take_threshold, limit_bytes, threshold_bytes}
-use Rattle.vx_wire.specs.Convolution.{take_odd_side, take_exponent, take_convolution, convolution_bytes}
+use Rattle.vx_wire.proofs.Common.{Format, U8, S16, U32, ThresholdKind, Binary, Range, IsSample, range_size, LutValue, IsLut, ThresholdValue, is_sample, has_limits, IsThreshold, ConvolutionValue, is_odd_side, IsConvolution, InvalidDimension, InvalidValue, Taken, and_then, allowed, take_byte, take_bytes, take_input_format, format_number, decoded_sample, encoded_sample, encoded, take_samples, take_lut, lut_bytes, is_range, range_number, take_signed, take_is_range, take_limit, take_upper, take_limits, take_threshold, limit_bytes, threshold_bytes, take_odd_side, take_exponent, take_convolution, convolution_bytes}
 use Rattle.vx_wire.proofs.SpelledFields.{then_ok, tested_byte_back, bytes_back, taken_back}
 use Rattle.vx_wire.proofs.SampleBytes.{length-encoded_sample, sample_back}
 use Rattle.vx_wire.proofs.TableSizes.{input_of, count_of, sample_of, binary_of, range_of, ConvolutionParts, convolution_parts}

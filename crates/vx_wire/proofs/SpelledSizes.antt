@@ -1,26 +1,7 @@
 -- How long the bodies of requests are.
 use Rattle.std.proofs.Common.{◌≡◌, ℕ, ◌*◌, ◌≤◌, [], ◌∷◌, Option, Some, None, length, IsTrue, arith, refl, length-append}
+use Rattle.vx_wire.proofs.Common.{nat_tests, Format, U8, S16, U32, Border, Undefined, Constant, Replicate, Node, Cell, sample_count, PictureValue, IsPicture, sample_bytes, LutValue, IsLut, ThresholdKind, Binary, Range, ThresholdValue, ConvolutionValue, is_odd_side, IsConvolution, encoded, limit_bytes, threshold_bytes, convolution_bytes, operand_bytes, border_bytes, node_bytes}
 use Rattle.std.proofs.Math.Nat.{mul-le-mul}
-use Rattle.std.proofs.lemmas.Bool.Decides.{nat_tests}
-use Rattle.vx_base.specs.declared.format.Format.{Format}
-use Rattle.vx_base.specs.declared.format.Format.TheVariants.{U8, S16, U32}
-use Rattle.vx_base.specs.declared.border.Border.{Border}
-use Rattle.vx_base.specs.declared.border.Border.TheVariants.{Undefined, Constant, Replicate}
-use Rattle.vx_base.specs.declared.node.Node.{Node}
-use Rattle.vx_base.specs.Cell.{Cell}
-use Rattle.vx_base.specs.Description.{sample_count}
-use Rattle.vx_base.specs.Picture.{PictureValue, IsPicture}
-use Rattle.vx_base.specs.Sample.{sample_bytes}
-use Rattle.vx_base.specs.Lut.{LutValue, IsLut}
-use Rattle.vx_base.specs.declared.threshold.ThresholdKind.{ThresholdKind}
-use Rattle.vx_base.specs.declared.threshold.ThresholdKind.TheVariants.{Binary, Range}
-use Rattle.vx_base.specs.Threshold.{ThresholdValue}
-use Rattle.vx_base.specs.Convolution.{ConvolutionValue, is_odd_side, IsConvolution}
-use Rattle.vx_wire.specs.Samples.{encoded}
-use Rattle.vx_wire.specs.Threshold.{limit_bytes, threshold_bytes}
-use Rattle.vx_wire.specs.Convolution.{convolution_bytes}
-use Rattle.vx_wire.specs.Operand.{operand_bytes}
-use Rattle.vx_wire.specs.Node.{border_bytes, node_bytes}
 use Rattle.vx_base.proofs.PictureLaws.{side}
 use Rattle.vx_wire.proofs.SampleBytes.{length-encoded}
 use Rattle.vx_wire.proofs.TableSizes.{bytes_most, ConvolutionParts, convolution_parts}

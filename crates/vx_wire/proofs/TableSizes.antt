@@ -1,15 +1,9 @@
 -- Tables and thresholds are of U8 or S16; what the numbers of a convolution are.
 use Rattle.std.proofs.Common.{◌≡◌, ◌≢◌, ℕ, ℤ, ◌≤◌, ◌*◌, ◌==◌, ◌≤ℤ◌, ◌&&◌, nat_le, int_le, T, IsTrue, arith, refl, sym, subst}
+use Rattle.vx_wire.proofs.Common.{eqb-true, eq-eqb, ints, Format, U8, S16, U32, Binary, Range, IsSample, range_size, sample_bytes, is_full, is_sample, has_limits, is_odd_side}
 use Rattle.std.specs.Int.Signed.{le_z_yes}
-use Rattle.std.proofs.lemmas.Bool.{eqb-true, eq-eqb}
-use Rattle.std.proofs.lemmas.Int.{ints}
-use Rattle.vx_base.specs.declared.format.Format.{Format}
-use Rattle.vx_base.specs.declared.format.Format.TheVariants.{U8, S16, U32}
-use Rattle.vx_base.specs.declared.threshold.ThresholdKind.TheVariants.{Binary, Range}
-use Rattle.vx_base.specs.Sample.{IsSample, least, greatest, range_size, sample_bytes}
-use Rattle.vx_base.specs.Lut.{is_full}
-use Rattle.vx_base.specs.Threshold.{is_sample, has_limits}
-use Rattle.vx_base.specs.Convolution.{is_odd_side, is_convolution}
+use Rattle.vx_base.specs.Sample.{least, greatest}
+use Rattle.vx_base.specs.Convolution.{is_convolution}
 use Rattle.vx_wire.proofs.NodeShape.{both, both_of}
 
 -- ---- how many entries a table has

@@ -1,17 +1,9 @@
 -- Bodies that begin as one that writes an image does, and end too early or too late.
 use Rattle.std.proofs.Common.{◌≡◌, ◌≢◌, ℕ, ℤ, ◌<◌, ◌≤◌, nat_le, Bool, true, false, List, [], ◌∷◌, ◌++◌, Ok, Err, length, take, drop, arith, refl, length-drop, if◌then◌else◌}
-use Rattle.std.proofs.lemmas.Bool.{leb-true}
+use Rattle.vx_wire.proofs.Common.{leb-true, Cell, Description, sample_count, PictureValue, WriteImage, InvalidParameters, Taken, and_then, at_end, take_description, take_reference, decoded, take_samples}
 use Rattle.std.proofs.lemmas.Grind.{common_steps}
-use Rattle.vx_base.specs.Cell.{Cell}
-use Rattle.vx_base.specs.Description.{Description, sample_count, byte_count}
-use Rattle.vx_base.specs.Picture.{PictureValue}
-use Rattle.client_model.specs.declared.request.Request.TheVariants.{WriteImage}
-use Rattle.vx_wire.specs.declared.body_fault.BodyFault.TheVariants.{InvalidParameters}
-use Rattle.vx_wire.specs.Fields.{Taken, and_then, at_end}
-use Rattle.vx_wire.specs.Description.{take_description}
-use Rattle.vx_wire.specs.Reference.{take_reference}
+use Rattle.vx_base.specs.Description.{byte_count}
 use Rattle.vx_wire.specs.Images.{write_image_in}
-use Rattle.vx_wire.specs.Samples.{decoded, take_samples}
 use Rattle.vx_wire.proofs.ReadFields.{ok}
 
 -- something follows the last field

@@ -1,9 +1,6 @@
 -- Pairs that are added one after another.
 use Rattle.std.proofs.Common.{◌≡◌, ℕ, ℤ, ◌+◌, ◌-◌, ◌*◌, ◌≤◌, List, length, map, ap, ◌∙◌, sym, subst, arith, w32, to_z, of_z, ◌%◌, ◌+ℤ◌}
-use Rattle.std.specs.Simd.Lanes.{Each1, zip2}
-use Rattle.std.proofs.lemmas.List.{length-map}
-use Rattle.vx_base.specs.Image.{run}
-use Rattle.window_kernels.specs.Products.{IsUpTo, row_sum, pair_at, first_of_pair, second_of_pair}
+use Rattle.window_kernels.proofs.Common.{Each1, zip2, length-map, run, IsUpTo, row_sum, pair_at, first_of_pair, second_of_pair}
 use Rattle.window_kernels.proofs.BitLaws.{of_bits, each_fits_32, up_to_more, added, added_bits, added_up_to, length-added}
 use Rattle.window_kernels.proofs.PlaceLaws.{AreAdded, none_added, pair_added}
 

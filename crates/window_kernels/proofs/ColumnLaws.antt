@@ -1,17 +1,11 @@
 -- What columns of three samples give along a row.
 use Rattle.std.proofs.Common.{◌≡◌, ℕ, ℤ, pos, ◌+◌, ◌-◌, ◌<◌, ◌≤◌, ◌+ℤ◌, ◌-ℤ◌, List, [], ◌∷◌, ◌++◌, length, map, replicate, min, max, get_or, ap, ◌∙◌, sym, arith, zero-add}
-use Rattle.std.proofs.lemmas.Int.{ints}
+use Rattle.window_kernels.proofs.Common.{ints, get_or-map, Border, ImageValue, run, look, nine_around, get_or-run, run_shifted, column_in, column_seen}
 use Rattle.std.proofs.lemmas.List.{length-replicate}
-use Rattle.std.proofs.Math.ListN.{get_or-map}
-use Rattle.vx_base.specs.declared.border.Border.{Border}
-use Rattle.vx_base.specs.Image.{ImageValue, run}
-use Rattle.vx_base.specs.Window.{look, nine_around}
-use Rattle.vx_base.proofs.TableLaws.{get_or-run}
-use Rattle.vx_base.proofs.WindowLaws.{run_shifted}
 use Rattle.vx_base.proofs.ZeroLaws.{map-replicate}
 use Rattle.border_rows.specs.Seen.{value_beside}
 use Rattle.border_rows.proofs.SeenLaws.{run_in_three, look_left, look_right}
-use Rattle.window_kernels.specs.Nine.{column_in, column_beside, column_seen}
+use Rattle.window_kernels.specs.Nine.{column_beside}
 
 -- an item of a row that holds a run
 pub item_of : {S : Type 0} (value : S → ℤ) (xs : List S) (h : ℕ → ℤ) (n i : ℕ) (r : S) → map value xs ≡ run 0 n h → i < n → r ≡ get_or xs i r → value r ≡ h i

@@ -1,13 +1,6 @@
 -- Gradients in lanes, and rows of them in parts.
 use Rattle.std.proofs.Common.{◌≡◌, ℕ, ℤ, pos, ◌+◌, ◌-◌, ◌*◌, ◌%◌, ◌<◌, ◌≤◌, ◌+ℤ◌, ◌-ℤ◌, List, [], ◌∷◌, ◌++◌, length, map, take, refl, ap, ◌∙◌, sym, arith, w16, to_z}
-use Rattle.std.specs.Prelude.{◌*ℤ◌}
-use Rattle.std.specs.List.{range_with_len}
-use Rattle.std.specs.Simd.Lanes.{zip2}
-use Rattle.std.proofs.lemmas.Int.{ints}
-use Rattle.std.proofs.lemmas.Slice.{take-put_mid}
-use borrow.Rule.Slice.PartMut.{put_mid}
-use Rattle.vx_base.specs.Image.{run}
-use Rattle.vx_base.proofs.TableLaws.{run-append, length-run}
+use Rattle.window_kernels.proofs.Common.{◌*ℤ◌, range_with_len, zip2, ints, take-put_mid, put_mid, run, run-append, length-run}
 use Rattle.window_kernels.proofs.LaneLaws.{further}
 
 -- the bits of signed lanes are added and subtracted modulo 2 ^ 16

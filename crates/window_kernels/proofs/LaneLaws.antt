@@ -1,13 +1,8 @@
 -- What is computed in lanes of bytes, lane by lane.
 use Rattle.std.proofs.Common.{◌≡◌, ℕ, pos, zero, suc, ◌+◌, ◌-◌, ◌*◌, ◌≤◌, List, [], ◌∷◌, length, map, take, drop, get_or, Bool, true, false, cond, min, max, ltb, refl, ap, ◌∙◌, sym, arith}
-use Rattle.std.specs.List.{range_with_len}
-use Rattle.std.specs.Simd.Lanes.{zip2, sel_l, chunk}
-use Rattle.std.proofs.lemmas.List.{take-take, length-map}
+use Rattle.window_kernels.proofs.Common.{range_with_len, zip2, chunk, take-take, length-map, put_mid, run, length-range, run_shifted}
+use Rattle.std.specs.Simd.Lanes.{sel_l}
 use Rattle.std.proofs.lemmas.Simd.{pick_l-range_with_len}
-use borrow.Rule.Slice.PartMut.{put_mid}
-use Rattle.vx_base.specs.Image.{run}
-use Rattle.vx_base.proofs.TableLaws.{length-range}
-use Rattle.vx_base.proofs.WindowLaws.{run_shifted}
 use Rattle.window_kernels.proofs.RowLaws.{part_written}
 use lib.Lanes.{top}
 

@@ -1,3 +1,4 @@
+mod Common
 mod ColumnLaws
 mod BitLaws
 mod PlaceLaws

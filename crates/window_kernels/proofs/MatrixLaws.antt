@@ -1,19 +1,12 @@
 -- What a matrix that is turned gives of the rows that its windows see.
 use Rattle.std.proofs.Common.{◌≡◌, ℕ, ℤ, pos, zero, suc, ◌+◌, ◌-◌, ◌*◌, ◌/◌, ◌%◌, ◌<◌, ◌≤◌, ◌+ℤ◌, ◌-ℤ◌, List, length, map, take, get_or, refl, zero-add, ap, ◌∙◌, sym, subst, arith}
-use Rattle.std.specs.Prelude.{IsTrue, ◌*ℤ◌}
-use Rattle.std.specs.Simd.Lanes.{chunk, Each1}
-use Rattle.std.proofs.lemmas.Int.{ints}
+use Rattle.window_kernels.proofs.Common.{◌*ℤ◌, chunk, Each1, ints, nat_tests, map-id, put_mid, run, table, length-run, get_or-run, run_part, run-same, run_shifted, alternating, sum_of_first, line_of, row_sum, sum_of_rows, first_of_pair, second_of_pair, IsPairTable, turned, turned_pairs}
+use Rattle.std.specs.Prelude.{IsTrue}
 use Rattle.std.proofs.lemmas.Simd.{get_or-chunk}
-use Rattle.std.proofs.lemmas.Bool.Decides.{nat_tests}
-use Rattle.std.proofs.lemmas.List.{map-id}
-use borrow.Rule.Slice.PartMut.{put_mid}
 use Rattle.vx_base.specs.Convolution.{ConvolutionValue, is_odd_side, coefficient}
-use Rattle.vx_base.specs.Image.{run, table}
 use Rattle.vx_base.specs.Window.{row_product, matrix_product}
-use Rattle.vx_base.proofs.TableLaws.{length-run, get_or-run, run_part, run-same}
-use Rattle.vx_base.proofs.WindowLaws.{run_shifted}
 use Rattle.vx_base.proofs.ImageLaws.{get_or-table}
-use Rattle.window_kernels.specs.Products.{alternating, sum_of_first, line_of, row_sum, sum_of_rows, first_of_pair, second_of_pair, IsPairTable, turned, turned_pairs, turned_tables}
+use Rattle.window_kernels.specs.Products.{turned_tables}
 use Rattle.window_kernels.proofs.ProductLaws.{sum-same, sum_turned, sum_is_total, pairs_add_up}
 use Rattle.window_kernels.proofs.RowLaws.{part_written, part_fits}
 

@@ -1,16 +1,12 @@
 -- The median of nine.
 use Rattle.std.proofs.Common.{◌≡◌, ℕ, ℤ, pos, ◌+◌, ◌<◌, ◌≤◌, ◌<ℤ◌, Bool, true, false, ◌&&◌, ◌||◌, List, [], ◌∷◌, length, map, get_or, ◌+ℤ◌, ◌-ℤ◌, nat_le, min, max, refl, ap, ◌∙◌, sym, arith, cond, zero, suc, subst}
+use Rattle.window_kernels.proofs.Common.{nat_tests, ints, get_or-map, run, median, nine_around, get_or-run, column_seen, three_at, median_of_sorted}
 use Rattle.std.specs.Prelude.{int_lt, int_le, unwrap_or, Option, Some, None, Contains}
 use Rattle.std.specs.Int.{int_min, int_max}
 use Rattle.std.specs.List.{count_by, find}
-use Rattle.std.proofs.lemmas.Bool.Decides.{nat_tests}
-use Rattle.std.proofs.lemmas.Int.{ints, by_lt_z}
+use Rattle.std.proofs.lemmas.Int.{by_lt_z}
 use Rattle.std.proofs.lemmas.List.Sums.{sum_by-cons}
-use Rattle.std.proofs.Math.ListN.{get_or-map}
-use Rattle.vx_base.specs.Image.{run}
-use Rattle.vx_base.specs.Window.{is_middle, median, nine_around}
-use Rattle.vx_base.proofs.TableLaws.{get_or-run}
-use Rattle.window_kernels.specs.Nine.{column_seen, three_at, median_of_sorted}
+use Rattle.vx_base.specs.Window.{is_middle}
 
 abbrev pub least_of_three : {A : Type 0} → (A → A → A) → A → A → A → A
 least_of_three lo x y z = lo (lo x y) z

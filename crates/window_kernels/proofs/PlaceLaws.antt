@@ -1,13 +1,7 @@
 -- Sums at every second place of a row.
 use Rattle.std.proofs.Common.{map, length, ◌≡◌, ℕ, ℤ, pos, zero, suc, ◌+◌, ◌*◌, ◌≤◌, List, ◌∷◌, ◌++◌, get_or, take, drop, refl, ap, ◌∙◌, sym, arith, add-one, ◌+ℤ◌, w32, to_z, of_z}
-use Rattle.std.specs.Prelude.{◌*ℤ◌}
-use Rattle.std.specs.Simd.Lanes.{zip2, chunk, Each1}
+use Rattle.window_kernels.proofs.Common.{◌*ℤ◌, zip2, chunk, Each1, ints, run, run-same, run-append, run_shifted, IsUpTo, evens_of, odds_of, alternating, pair_at, row_sum, first_of_pair, second_of_pair}
 use Rattle.std.proofs.Math.Seq.{drop-cons}
-use Rattle.std.proofs.lemmas.Int.{ints}
-use Rattle.vx_base.specs.Image.{run}
-use Rattle.vx_base.proofs.TableLaws.{run-same, run-append}
-use Rattle.vx_base.proofs.WindowLaws.{run_shifted}
-use Rattle.window_kernels.specs.Products.{IsUpTo, evens_of, odds_of, alternating, pair_at, row_sum, first_of_pair, second_of_pair}
 
 twice : ℕ → ℕ
 twice zero = zero

@@ -1,12 +1,9 @@
 -- Sums of products, and rows of them.
 use Rattle.std.proofs.Common.{◌≡◌, ℕ, ℤ, pos, zero, suc, ◌+◌, ◌-◌, ◌*◌, ◌<◌, List, [], ◌∷◌, ◌++◌, length, map, take, get_or, set, refl, ap, ◌+ℤ◌, ◌∙◌, sym, arith, zero-add, add-one, to_z, of_z, w32}
-use Rattle.std.specs.Prelude.{◌*ℤ◌}
-use Rattle.std.proofs.lemmas.Int.{ints}
-use Rattle.std.proofs.lemmas.List.{take_more_set, map_push, map_more}
-use Rattle.vx_base.specs.Image.{run}
+use Rattle.window_kernels.proofs.Common.{◌*ℤ◌, ints, take_more_set, run, IsUpTo, sum_of_first, row_sum, pair_at, first_of_pair, second_of_pair}
+use Rattle.std.proofs.lemmas.List.{map_push, map_more}
 use Rattle.vx_base.proofs.TableLaws.{run-more}
 use Rattle.vx_base.specs.Window.{total}
-use Rattle.window_kernels.specs.Products.{IsUpTo, sum_of_first, row_sum, pair_at, first_of_pair, second_of_pair}
 
 -- a sum is what its bits say
 pub sum_of_bits : (sum : ℤ) → IsUpTo 752025600 sum → to_z w32 (of_z w32 sum) ≡ sum

@@ -1,20 +1,10 @@
 -- Rows that are loaded, and rows that are written block by block.
 use Rattle.std.proofs.Common.{◌≡◌, ℕ, ℤ, pos, zero, suc, zero-add, ◌+◌, ◌-◌, ◌*◌, ◌/◌, ◌%◌, ◌<◌, ◌≤◌, ◌+ℤ◌, ◌-ℤ◌, List, [], ◌∷◌, ◌++◌, length, map, take, set, min, ap, ◌∙◌, sym, subst, arith, w32, to_z, of_z}
-use Rattle.std.specs.Prelude.{unsigned_abs}
-use Rattle.std.specs.Simd.Lanes.{Each1}
-use Rattle.std.proofs.lemmas.Int.{ints}
-use Rattle.std.proofs.lemmas.List.{map-id, map-append, take_more_set}
-use Rattle.std.proofs.lemmas.Slice.{take-put_mid}
-use borrow.Rule.Slice.PartMut.{put_mid}
-use Rattle.vx_base.specs.declared.border.Border.{Border}
-use Rattle.vx_base.specs.declared.format.Format.TheVariants.{U8}
-use Rattle.vx_base.specs.Image.{ImageValue, IsImage, run}
+use Rattle.window_kernels.proofs.Common.{unsigned_abs, Each1, ints, map-id, map-append, take_more_set, take-put_mid, put_mid, Border, U8, ImageValue, run, look, run-append, run_shifted, IsUpTo}
+use Rattle.vx_base.specs.Image.{IsImage}
 use Rattle.vx_base.specs.Node.{IsBorder}
 use Rattle.vx_base.specs.Sample.{IsSample}
-use Rattle.vx_base.specs.Window.{look}
-use Rattle.vx_base.proofs.TableLaws.{run-append}
-use Rattle.vx_base.proofs.WindowLaws.{run_shifted, look_sample}
-use Rattle.window_kernels.specs.Products.{IsUpTo}
+use Rattle.vx_base.proofs.WindowLaws.{look_sample}
 use Rattle.window_kernels.proofs.BitLaws.{Each1-append}
 
 -- what is seen of a U8 image are bytes

@@ -180,45 +180,6 @@ fn write_by_sums(
     write_across(&GradientY, changes, other);
 }
 
-/// Writes both changes in a piece of row y, from column x on. Only at its first and its last place
-/// there may be columns that aren't valid.
-fn write_piece(
-    window: &Window<'_, '_>,
-    x: u16,
-    y: u16,
-    scratch: &mut [WeightedSum],
-    more: &mut [Change],
-    out: &mut [i16],
-    other: &mut [i16],
-)
-    requires rows { window.now.image.now.valid.y0 < window.now.image.now.valid.y1 }
-    requires columns { (window.now.image.now.valid.x0 ≤ x) ×
-        (x + length out.old ≤ window.now.image.now.valid.x1) }
-    requires some { 1 ≤ length out.old }
-    requires few { length out.old ≤ PIECE }
-    requires as_long { length other.old ≡ length out.old }
-    requires scratch { length out.old + 2 ≤ length scratch.old }
-    requires more { length out.old + 2 ≤ length more.old }
-    ensures x { out.new ≡ run x (length out.old) (λ k. gradient_x
-        (nine_around (look window.now.image.now window.now.border) (pos k) (pos y))) }
-    ensures y { other.new ≡ run x (length other.old) (λ k. gradient_y
-        (nine_around (look window.now.image.now window.now.border) (pos k) (pos y))) }
-{
-    let _valid = window.image.valid();
-    let last = out.len() - 1;
-    if last < 2 {
-        write_by_sums(window, x, y, scratch, more, out, other);
-    } else {
-        let (first, others) = out.split_at_mut(1);
-        let (inside, end) = others.split_at_mut(last - 1);
-        let (other_first, rest) = other.split_at_mut(1);
-        let (other_inside, other_end) = rest.split_at_mut(last - 1);
-        write_by_sums(window, x, y, scratch, more, first, other_first);
-        write_inside(window, x + 1, y, inside, other_inside);
-        write_by_sums(window, x + last as u16, y, scratch, more, end, other_end);
-    }
-}
-
 /// Both changes of a U8 image under a border.
 #[derive(Drop)]
 struct Changes<'a, 'b> {
@@ -255,11 +216,21 @@ impl TwoRowFormulas<i16, WeightedSum, Change> for Changes<'_, '_> {
         out: &mut [i16],
         other: &mut [i16],
     ) {
-        let valid = self.window.image.valid();
+        let (window, valid) = (self.window, self.window.image.valid());
+        let last = out.len() - 1;
         if valid.x0() < x && usize::from(x) + out.len() < usize::from(valid.x1()) {
-            write_inside(self.window, x, y, out, other);
+            write_inside(window, x, y, out, other);
+        } else if last < 2 {
+            write_by_sums(window, x, y, scratch, more, out, other);
         } else {
-            write_piece(self.window, x, y, scratch, more, out, other);
+            // At the first and the last place there may be columns that aren't valid.
+            let (first, others) = out.split_at_mut(1);
+            let (inside, end) = others.split_at_mut(last - 1);
+            let (other_first, rest) = other.split_at_mut(1);
+            let (other_inside, other_end) = rest.split_at_mut(last - 1);
+            write_by_sums(window, x, y, scratch, more, first, other_first);
+            write_inside(window, x + 1, y, inside, other_inside);
+            write_by_sums(window, x + last as u16, y, scratch, more, end, other_end);
         }
     }
 }

@@ -1,7 +1,5 @@
 use Rattle.std.proofs.Common.{◌*◌, ◌≤◌, length, take}
-use Rattle.vx_base.specs.Cell.{Cell}
-use Rattle.graph_verify.specs.declared.operand.Operand.{Operand}
-use Rattle.graph_verify.specs.Linked.{linked_nodes, AreOperands}
+use Rattle.graph_verify.proofs.Common.{Cell, Operand, linked_nodes, AreOperands}
 use Rattle.graph_verify.proofs.KnownLemmas.{AreLearnt}
 use Rattle.graph_verify.proofs.known.known_after.Given as goal
 

@@ -1,7 +1,5 @@
 use Rattle.std.proofs.Common.{◌∙◌, ◌||◌, rules, tests}
-use Rattle.std.proofs.lemmas.Iterator.{YieldsList-from_slice}
-use Rattle.std.proofs.lemmas.Iterator.Search.{any_from_yields_List}
-use Rattle.graph_verify.specs.Linked.{linked_nodes, has_loose_input, has_virtual_sum}
+use Rattle.graph_verify.proofs.Common.{YieldsList-from_slice, any_from_yields_List, linked_nodes, has_loose_input, has_virtual_sum}
 use Rattle.graph_verify.proofs.LooseLemmas.{loose_end-linked}
 use Rattle.graph_verify.proofs.linked.has_loose_end.Goals as goal
 

@@ -1,11 +1,6 @@
 use Rattle.std.proofs.Common.{◌≡◌, Bool, true, false, List, ◌∷◌, ap, sym, ◌∙◌}
+use Rattle.graph_verify.proofs.Common.{list_any, outputs, Linked, linked_nodes, is_written, two_writers, writes_twice}
 use Rattle.std.specs.Prelude.{◌||◌}
-use Rattle.std.specs.List.{list_any}
-use Rattle.vx_base.specs.Node.{outputs}
-use Rattle.graph_verify.specs.declared.linked.Linked.{Linked}
-use Rattle.graph_verify.specs.Linked.{linked_nodes}
-use Rattle.graph_verify.specs.Links.{is_written}
-use Rattle.graph_verify.specs.Verdict.{two_writers, writes_twice}
 use Rattle.graph_verify.proofs.LinkLemmas.{two_writers-cons}
 use Rattle.graph_verify.proofs.linked.has_two_writers.Goals as goal
 

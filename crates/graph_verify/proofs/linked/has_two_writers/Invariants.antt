@@ -1,6 +1,5 @@
 use Rattle.std.proofs.Common.{◌≡◌, length}
-use Rattle.graph_verify.specs.Linked.{linked_nodes}
-use Rattle.graph_verify.specs.Verdict.{two_writers}
+use Rattle.graph_verify.proofs.Common.{linked_nodes, two_writers}
 use Rattle.graph_verify.proofs.linked.has_two_writers.Given as goal
 
 abbrev pub invariant-loop-linked : goal.invariant-loop-linked

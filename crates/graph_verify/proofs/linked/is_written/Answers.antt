@@ -1,8 +1,5 @@
 use Rattle.std.proofs.Common.{◌∙◌, rules, tests}
-use Rattle.std.proofs.lemmas.Iterator.{YieldsList-from_slice}
-use Rattle.std.proofs.lemmas.Iterator.Search.{any_from_yields_List}
-use Rattle.graph_verify.specs.declared.linked.Linked.{Linked}
-use Rattle.graph_verify.specs.Links.{writes}
+use Rattle.graph_verify.proofs.Common.{YieldsList-from_slice, any_from_yields_List, Linked, writes}
 use Rattle.graph_verify.proofs.MemberLemmas.{any-map}
 use Rattle.graph_verify.proofs.linked.is_written.Goals as goal
 

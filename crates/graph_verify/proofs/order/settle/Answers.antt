@@ -1,6 +1,6 @@
 use Rattle.std.proofs.Common.{arith, set, ap, sym, ◌∙◌}
+use Rattle.graph_verify.proofs.Common.{once_ordered}
 use Rattle.std.proofs.lemmas.List.Edits.{map_over_more}
-use Rattle.graph_verify.specs.Waiting.{once_ordered}
 use Rattle.graph_verify.proofs.order.settle.Goals as goal
 
 pub loop-waiting-preserved : goal.loop-waiting-preserved

@@ -1,5 +1,5 @@
 use Rattle.std.proofs.Common.{◌≡◌, ◌++◌, map, take, drop}
-use Rattle.graph_verify.specs.Waiting.{once_ordered}
+use Rattle.graph_verify.proofs.Common.{once_ordered}
 use Rattle.graph_verify.proofs.order.settle.Given as goal
 
 abbrev pub invariant-loop-waiting : goal.invariant-loop-waiting

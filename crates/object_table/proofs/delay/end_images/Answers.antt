@@ -1,6 +1,5 @@
 use Rattle.std.proofs.Common.{◌≡◌, ◌∷◌, length, ap, sym, ◌∙◌, arith}
-use Rattle.std.specs.Vec.Iter.{into_iter_items}
-use Rattle.object_table.specs.Blocks.{image_blocks}
+use Rattle.object_table.proofs.Common.{into_iter_items, image_blocks}
 use Rattle.object_table.proofs.BlockLemmas.{first_is_lent, gives_first, gives_all}
 use Rattle.object_table.proofs.delay.end_images.Goals as goal
 

@@ -1,8 +1,6 @@
 use Rattle.std.proofs.Common.{◌≡◌, ◌+◌, length}
-use Rattle.std.specs.Vec.Iter.{into_iter_items, into_iter_len}
-use Rattle.vx_base.specs.declared.format.Format.{Format}
-use Rattle.pixel_pool.specs.Pool.{lent_of}
-use Rattle.object_table.specs.Blocks.{delay_blocks}
+use Rattle.object_table.proofs.Common.{into_iter_items, Format, lent_of, delay_blocks}
+use Rattle.std.specs.Vec.Iter.{into_iter_len}
 use Rattle.object_table.proofs.delay.end_images.Given as goal
 
 abbrev pub invariant-loop-image : goal.invariant-loop-image

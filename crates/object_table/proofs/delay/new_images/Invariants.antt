@@ -1,8 +1,5 @@
 use Rattle.std.proofs.Common.{◌≡◌, ◌≤◌, ◌+◌, ◌-◌, length, vec_capacity}
-use Rattle.vx_base.specs.declared.format.Format.{Format}
-use Rattle.pixel_pool.specs.Pool.{lent_of}
-use Rattle.object_table.specs.Blocks.{delay_blocks}
-use Rattle.object_table.specs.Delay.{new_delay}
+use Rattle.object_table.proofs.Common.{Format, lent_of, delay_blocks, new_delay}
 use Rattle.object_table.proofs.delay.new_images.Given as goal
 
 abbrev pub invariant-loop-desc : goal.invariant-loop-desc

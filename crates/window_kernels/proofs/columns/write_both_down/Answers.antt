@@ -1,6 +1,5 @@
 use Rattle.std.proofs.Common.{◌∙◌, ap, sym, arith, zero-add}
-use Rattle.vx_base.proofs.WindowLaws.{item_written}
-use Rattle.window_kernels.specs.Nine.{column_in}
+use Rattle.window_kernels.proofs.Common.{item_written, column_in}
 use Rattle.window_kernels.proofs.columns.write_both_down.Goals as goal
 
 pub loop-i-preserved : goal.loop-i-preserved

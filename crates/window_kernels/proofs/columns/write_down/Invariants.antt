@@ -1,6 +1,5 @@
 use Rattle.std.proofs.Common.{◌≡◌, map, take}
-use Rattle.vx_base.specs.Image.{run}
-use Rattle.window_kernels.specs.Nine.{column_in}
+use Rattle.window_kernels.proofs.Common.{run, column_in}
 use Rattle.window_kernels.proofs.columns.write_down.Given as goal
 
 abbrev pub invariant-loop-i : goal.invariant-loop-i

@@ -1,5 +1,5 @@
 use Rattle.std.proofs.Common.{◌∙◌, ap, sym}
-use Rattle.vx_base.specs.declared.format.Format.TheVariants.{U8, S16}
+use Rattle.window_kernels.proofs.Common.{U8, S16}
 use Rattle.vx_base.specs.Description.{Description}
 use Rattle.vx_base.specs.Window.{from_matrix}
 use Rattle.image_core.proofs.BandLaws.{in_format}

@@ -1,5 +1,5 @@
 use Rattle.std.proofs.Common.{arith}
-use Rattle.std.proofs.lemmas.Int.{ints}
+use Rattle.window_kernels.proofs.Common.{ints}
 use Rattle.window_kernels.proofs.ScaleLaws.{below_scaled}
 use Rattle.window_kernels.proofs.convolution.scaled.Goals as goal
 

@@ -1,8 +1,5 @@
 use Rattle.std.proofs.Common.{◌≡◌, pos, ◌/◌, ◌∙◌, ap, arith}
-use Rattle.vx_base.specs.Window.{look, convolved, window_valid}
-use Rattle.image_core.specs.Target.{written}
-use Rattle.image_core.proofs.BandLaws.{written_alike}
-use Rattle.image_core.proofs.SizeLaws.{same_sides}
+use Rattle.window_kernels.proofs.Common.{look, convolved, window_valid, written, written_alike, same_sides}
 use Rattle.window_kernels.proofs.convolution.write_convolved.Goals as goal
 
 pub returns : goal.returns

@@ -1,5 +1,5 @@
 use Rattle.std.proofs.Common.{rules, ◌≡◌, ◌≤◌, ◌*◌, ◌∙◌, sym, subst, length, arith, w16, FitsSigned, to_z, of_z}
-use Rattle.std.proofs.lemmas.Int.{ints}
+use Rattle.window_kernels.proofs.Common.{ints}
 use Rattle.window_kernels.proofs.MatrixLaws.{pair_written, pair_fits}
 use Rattle.window_kernels.proofs.convolution.write_pairs.Goals as goal
 

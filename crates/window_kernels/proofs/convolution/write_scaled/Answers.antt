@@ -1,7 +1,6 @@
 use Rattle.std.proofs.Common.{◌≡◌, ◌<◌, pos, ◌∙◌, ap, get_or, length, arith, w32, to_z, of_z}
-use Rattle.std.specs.Prelude.{◌^◌, unsigned_abs, int_div}
-use Rattle.std.proofs.lemmas.Int.{ints}
-use Rattle.vx_base.specs.Sample.{clamp}
+use Rattle.window_kernels.proofs.Common.{unsigned_abs, int_div, ints, clamp}
+use Rattle.std.specs.Prelude.{◌^◌}
 use Rattle.window_kernels.proofs.ProductLaws.{item_mapped, sum_of_bits}
 use Rattle.window_kernels.proofs.convolution.write_scaled.Goals as goal
 

@@ -1,6 +1,6 @@
 use Rattle.std.proofs.Common.{◌≡◌, pos, map, take}
-use Rattle.std.specs.Prelude.{◌^◌, int_div}
-use Rattle.vx_base.specs.Sample.{clamp}
+use Rattle.window_kernels.proofs.Common.{int_div, clamp}
+use Rattle.std.specs.Prelude.{◌^◌}
 use Rattle.window_kernels.proofs.convolution.write_scaled.Given as goal
 
 abbrev pub invariant-loop-i : goal.invariant-loop-i

@@ -1,7 +1,5 @@
 use Rattle.std.proofs.Common.{◌≡◌, ◌*◌, ◌/◌, ◌%◌, ◌+◌, map, take, w16, FitsSigned}
-use Rattle.std.specs.Simd.Lanes.{Each1}
-use Rattle.vx_base.specs.Image.{run}
-use Rattle.window_kernels.specs.Products.{turned}
+use Rattle.window_kernels.proofs.Common.{Each1, run, turned}
 use Rattle.window_kernels.proofs.convolution.write_tables.Given as goal
 
 abbrev pub invariant-loop-row : goal.invariant-loop-row

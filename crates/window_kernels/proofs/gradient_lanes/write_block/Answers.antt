@@ -1,9 +1,5 @@
 use Rattle.std.proofs.Common.{◌∙◌, length, get_or, ap, sym}
-use Rattle.std.specs.List.{range_with_len}
-use Rattle.std.proofs.lemmas.List.{length-map}
-use Rattle.std.proofs.lemmas.Simd.{put_chunk_whole}
-use Rattle.vx_base.proofs.TableLaws.{length-range}
-use Rattle.window_kernels.specs.Gradients.{x_at, y_at}
+use Rattle.window_kernels.proofs.Common.{range_with_len, length-map, put_chunk_whole, length-range, x_at, y_at}
 use Rattle.window_kernels.proofs.GradientLaws.{xs_in_lanes, ys_in_lanes}
 use Rattle.window_kernels.proofs.gradient_lanes.write_block.Goals as goal
 

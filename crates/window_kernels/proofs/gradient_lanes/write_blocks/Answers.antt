@@ -1,5 +1,5 @@
 use Rattle.std.proofs.Common.{arith}
-use Rattle.window_kernels.specs.Gradients.{x_at, y_at}
+use Rattle.window_kernels.proofs.Common.{x_at, y_at}
 use Rattle.window_kernels.proofs.GradientLaws.{block_written}
 use Rattle.window_kernels.proofs.gradient_lanes.write_blocks.Goals as goal
 

@@ -1,6 +1,5 @@
 use Rattle.std.proofs.Common.{◌≡◌, ◌*◌, take}
-use Rattle.vx_base.specs.Image.{run}
-use Rattle.window_kernels.specs.Gradients.{x_at, y_at}
+use Rattle.window_kernels.proofs.Common.{run, x_at, y_at}
 use Rattle.window_kernels.proofs.gradient_lanes.write_blocks.Given as goal
 
 abbrev pub invariant-loop-k : goal.invariant-loop-k

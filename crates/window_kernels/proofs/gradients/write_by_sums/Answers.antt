@@ -1,11 +1,7 @@
 use Rattle.std.proofs.Common.{pos, ◌+ℤ◌, ◌-ℤ◌, length, sym, ◌∙◌}
-use Rattle.std.specs.Prelude.{◌*ℤ◌}
-use Rattle.std.proofs.lemmas.List.{map-id}
-use Rattle.vx_base.specs.Window.{look, gradient_x, gradient_y}
+use Rattle.window_kernels.proofs.Common.{◌*ℤ◌, map-id, look, gradient_x, gradient_y, x_is_x, y_is_y, weighted, change}
 use Rattle.window_kernels.specs.declared.sums.WeightedSum.{WeightedSum}
 use Rattle.window_kernels.specs.declared.sums.Change.{Change}
-use Rattle.window_kernels.specs.ByColumns.{x_is_x, y_is_y}
-use Rattle.window_kernels.specs.Gradients.{weighted, change}
 use Rattle.window_kernels.proofs.ColumnLaws.{nines_across}
 use Rattle.window_kernels.proofs.gradients.write_by_sums.Goals as goal
 

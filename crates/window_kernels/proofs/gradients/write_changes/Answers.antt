@@ -1,9 +1,6 @@
 use Rattle.std.proofs.Common.{◌≡◌, ◌∙◌, length, ap, sym, zero-add, arith, w16, to_z, of_z}
-use Rattle.std.proofs.lemmas.Int.{ints}
-use Rattle.std.proofs.lemmas.List.{take_all}
-use Rattle.vx_base.specs.Image.{run}
+use Rattle.window_kernels.proofs.Common.{ints, take_all, run, x_at, y_at}
 use Rattle.vx_base.proofs.TableLaws.{sample_written}
-use Rattle.window_kernels.specs.Gradients.{x_at, y_at}
 use Rattle.window_kernels.proofs.gradients.write_changes.Goals as goal
 
 pub loop-i-preserved : goal.loop-i-preserved

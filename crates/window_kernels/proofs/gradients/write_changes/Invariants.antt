@@ -1,6 +1,5 @@
 use Rattle.std.proofs.Common.{◌≡◌, take}
-use Rattle.vx_base.specs.Image.{run}
-use Rattle.window_kernels.specs.Gradients.{x_at, y_at}
+use Rattle.window_kernels.proofs.Common.{run, x_at, y_at}
 use Rattle.window_kernels.proofs.gradients.write_changes.Given as goal
 
 abbrev pub invariant-loop-i : goal.invariant-loop-i

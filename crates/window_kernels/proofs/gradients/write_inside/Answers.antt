@@ -1,9 +1,5 @@
 use Rattle.std.proofs.Common.{pos, ◌+ℤ◌, ◌-ℤ◌, length, ◌∙◌, arith}
-use Rattle.std.specs.Prelude.{◌*ℤ◌}
-use Rattle.std.proofs.lemmas.Int.{ints}
-use Rattle.vx_base.specs.Window.{look, gradient_x, gradient_y}
-use Rattle.window_kernels.specs.ByColumns.{x_is_x, y_is_y}
-use Rattle.window_kernels.specs.Gradients.{weighted, change}
+use Rattle.window_kernels.proofs.Common.{◌*ℤ◌, ints, look, gradient_x, gradient_y, x_is_x, y_is_y, weighted, change}
 use Rattle.window_kernels.proofs.ColumnLaws.{nines_in_place}
 use Rattle.window_kernels.proofs.gradients.write_inside.Goals as goal
 

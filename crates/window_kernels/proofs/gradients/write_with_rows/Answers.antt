@@ -1,9 +1,5 @@
 use Rattle.std.proofs.Common.{pos, ◌∙◌, ap}
-use Rattle.vx_base.specs.declared.format.Format.TheVariants.{S16}
-use Rattle.vx_base.specs.Window.{look, nine_around, window_valid, gradient_x, gradient_y}
-use Rattle.image_core.specs.Target.{written}
-use Rattle.image_core.proofs.BandLaws.{written_alike}
-use Rattle.image_core.proofs.SizeLaws.{same_sides}
+use Rattle.window_kernels.proofs.Common.{S16, look, nine_around, window_valid, gradient_x, gradient_y, written, written_alike, same_sides}
 use Rattle.window_kernels.proofs.gradients.write_with_rows.Goals as goal
 
 pub returns-clause-x : goal.returns-clause-x

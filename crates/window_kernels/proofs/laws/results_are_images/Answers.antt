@@ -1,5 +1,5 @@
-use Rattle.vx_base.specs.declared.format.Format.TheVariants.{U8, S16}
-use Rattle.vx_base.specs.Window.{box_mean, gaussian_mean, median, least_of, greatest_of, gradient_x, gradient_y}
+use Rattle.window_kernels.proofs.Common.{U8, S16, median, gradient_x, gradient_y}
+use Rattle.vx_base.specs.Window.{box_mean, gaussian_mean, least_of, greatest_of}
 use Rattle.vx_base.proofs.WindowLaws.{nine_image, box_sample, gaussian_sample, median_sample, least_sample, greatest_sample, gradient_x_sample, gradient_y_sample, matrix_image}
 use Rattle.window_kernels.proofs.laws.results_are_images.Goals as goal
 

@@ -1,5 +1,5 @@
 use Rattle.std.proofs.Common.{ℕ, arith}
-use Rattle.window_kernels.specs.Nine.{three_at, median_of_sorted}
+use Rattle.window_kernels.proofs.Common.{three_at, median_of_sorted}
 use Rattle.window_kernels.proofs.LaneLaws.{block_of_run}
 use Rattle.window_kernels.proofs.median.write_blocks.Goals as goal
 

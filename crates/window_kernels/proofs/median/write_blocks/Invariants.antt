@@ -1,6 +1,5 @@
 use Rattle.std.proofs.Common.{◌≡◌, ◌*◌, pos, map, take}
-use Rattle.vx_base.specs.Image.{run}
-use Rattle.window_kernels.specs.Nine.{three_at, median_of_sorted}
+use Rattle.window_kernels.proofs.Common.{run, three_at, median_of_sorted}
 use Rattle.window_kernels.proofs.median.write_blocks.Given as goal
 
 abbrev pub invariant-loop-k : goal.invariant-loop-k

@@ -1,8 +1,5 @@
 use Rattle.std.proofs.Common.{◌≡◌, ℕ, pos, map, length, ◌∙◌, ap, sym, arith, zero-add}
-use Rattle.std.proofs.lemmas.List.{take_all}
-use Rattle.vx_base.specs.Image.{run}
-use Rattle.vx_base.proofs.WindowLaws.{item_written}
-use Rattle.window_kernels.specs.Nine.{three_at, median_of_sorted}
+use Rattle.window_kernels.proofs.Common.{take_all, run, item_written, three_at, median_of_sorted}
 use Rattle.window_kernels.proofs.median.write_medians.Goals as goal
 
 pub loop-i-preserved : goal.loop-i-preserved

@@ -1,10 +1,5 @@
 use Rattle.std.proofs.Common.{◌≡◌, ◌∙◌, ℕ, length, map, get_or, min, max, ap, sym}
-use Rattle.std.specs.List.{range_with_len}
-use Rattle.std.specs.Simd.Lanes.{zip2}
-use Rattle.std.proofs.lemmas.List.{length-map}
-use Rattle.std.proofs.lemmas.Simd.{put_chunk_whole}
-use Rattle.vx_base.proofs.TableLaws.{length-range}
-use Rattle.window_kernels.specs.Nine.{three_at, median_of_sorted}
+use Rattle.window_kernels.proofs.Common.{range_with_len, zip2, length-map, put_chunk_whole, length-range, three_at, median_of_sorted}
 use Rattle.window_kernels.proofs.LaneLaws.{mid, medians_in_lanes}
 use Rattle.window_kernels.proofs.median_lanes.write_block.Goals as goal
 

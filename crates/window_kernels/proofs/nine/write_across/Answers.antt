@@ -1,5 +1,5 @@
 use Rattle.std.proofs.Common.{ℕ, ℤ, ◌+◌, ◌∙◌, ap, sym, arith, length, zero-add}
-use Rattle.vx_base.proofs.WindowLaws.{item_written}
+use Rattle.window_kernels.proofs.Common.{item_written}
 use Rattle.window_kernels.proofs.ColumnLaws.{item_of}
 use Rattle.window_kernels.proofs.nine.write_across.Goals as goal
 

@@ -1,5 +1,5 @@
 use Rattle.std.proofs.Common.{◌≡◌, ℕ, ℤ, ◌+◌, map, take, length}
-use Rattle.vx_base.specs.Image.{run}
+use Rattle.window_kernels.proofs.Common.{run}
 use Rattle.window_kernels.proofs.nine.write_across.Given as goal
 
 abbrev pub invariant-loop-i : goal.invariant-loop-i

@@ -1,8 +1,5 @@
 use Rattle.std.proofs.Common.{pos, ◌∙◌, ap}
-use Rattle.vx_base.specs.Window.{look, nine_around, window_valid}
-use Rattle.image_core.specs.Target.{written}
-use Rattle.image_core.proofs.BandLaws.{written_alike}
-use Rattle.image_core.proofs.SizeLaws.{same_sides}
+use Rattle.window_kernels.proofs.Common.{look, nine_around, window_valid, written, written_alike, same_sides}
 use Rattle.window_kernels.proofs.nine.write_with_rows.Goals as goal
 
 pub returns : goal.returns

@@ -1,5 +1,5 @@
 use Rattle.std.proofs.Common.{◌≡◌, ◌+◌, arith}
-use Rattle.window_kernels.specs.Products.{first_of_pair, second_of_pair}
+use Rattle.window_kernels.proofs.Common.{first_of_pair, second_of_pair}
 use Rattle.window_kernels.proofs.AddLaws.{added_none, added_more, all_added, length-all_added, all_up_to}
 use Rattle.window_kernels.proofs.products.add_row.Goals as goal
 

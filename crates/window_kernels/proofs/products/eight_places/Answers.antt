@@ -1,8 +1,5 @@
 use Rattle.std.proofs.Common.{◌≡◌, ℕ, ℤ, ◌+◌, ◌-◌, ◌≤◌, List, length, map, take, drop, ap, ◌∙◌, sym, subst, w16, w32, FitsSigned, to_z, of_z, ◌+ℤ◌}
-use Rattle.std.specs.Prelude.{◌*ℤ◌}
-use Rattle.std.specs.Simd.Lanes.{Each1, chunk, zip2}
-use Rattle.std.proofs.lemmas.Simd.{Each1-chunk, length-chunk}
-use Rattle.window_kernels.specs.Products.{IsUpTo, evens_of, odds_of}
+use Rattle.window_kernels.proofs.Common.{◌*ℤ◌, Each1, chunk, zip2, Each1-chunk, length-chunk, IsUpTo, evens_of, odds_of}
 use Rattle.window_kernels.proofs.BitLaws.{loaded, bytes_fit, product_fits, of_bits}
 use Rattle.window_kernels.proofs.PlaceLaws.{eight_along}
 use Rattle.window_kernels.proofs.products.eight_places.Goals as goal

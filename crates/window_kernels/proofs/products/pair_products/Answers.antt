@@ -1,6 +1,5 @@
 use Rattle.std.proofs.Common.{sym, subst}
-use Rattle.std.specs.Simd.Lanes.{Each1}
-use Rattle.window_kernels.specs.Products.{IsUpTo}
+use Rattle.window_kernels.proofs.Common.{Each1, IsUpTo}
 use Rattle.window_kernels.proofs.BitLaws.{pair_products_are, pair_products_up_to}
 use Rattle.window_kernels.proofs.products.pair_products.Goals as goal
 

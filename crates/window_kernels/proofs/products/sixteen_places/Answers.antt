@@ -1,7 +1,5 @@
 use Rattle.std.proofs.Common.{◌+◌, ◌*◌, ◌++◌, List, ap, ◌∙◌, sym, subst, ℤ}
-use Rattle.std.specs.Simd.Lanes.{Each1}
-use Rattle.vx_base.specs.Image.{run}
-use Rattle.window_kernels.specs.Products.{IsUpTo, pair_at}
+use Rattle.window_kernels.proofs.Common.{Each1, run, IsUpTo, pair_at}
 use Rattle.window_kernels.proofs.BitLaws.{two_joined, Each1-append}
 use Rattle.window_kernels.proofs.PlaceLaws.{run_joined}
 use Rattle.window_kernels.proofs.products.sixteen_places.Goals as goal

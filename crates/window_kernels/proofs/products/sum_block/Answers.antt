@@ -1,5 +1,5 @@
 use Rattle.std.proofs.Common.{ℕ}
-use Rattle.window_kernels.specs.Products.{sum_of_rows}
+use Rattle.window_kernels.proofs.Common.{sum_of_rows}
 use Rattle.window_kernels.proofs.SumLaws.{block_stored, block_up_to}
 use Rattle.window_kernels.proofs.products.sum_block.Goals as goal
 

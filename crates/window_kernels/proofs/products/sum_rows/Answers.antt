@@ -1,6 +1,5 @@
 use Rattle.std.proofs.Common.{◌≡◌, ◌+◌, ◌<◌, ℤ, List, sym, subst, arith, w16, FitsSigned}
-use Rattle.vx_base.proofs.TableLaws.{row_fits}
-use Rattle.window_kernels.specs.Products.{IsUpTo, IsPairTable}
+use Rattle.window_kernels.proofs.Common.{row_fits, IsUpTo, IsPairTable}
 use Rattle.window_kernels.proofs.SumLaws.{each_of_row, length_row, no_row_added, row_added, sums_up_to, length_sums, all_rows_added, all_rows_up_to}
 use Rattle.window_kernels.proofs.products.sum_rows.Goals as goal
 

@@ -1,5 +1,5 @@
 use Rattle.std.proofs.Common.{IsTrue, rules}
-use Rattle.vx_base.specs.Graph.{can_add}
+use Rattle.graph_verify.proofs.Common.{can_add}
 use Rattle.graph_verify.proofs.GraphLemmas.{IsGraph-with_node}
 use Rattle.graph_verify.proofs.graph.Graph.add_node.Goals as goal
 

@@ -1,7 +1,5 @@
 use Rattle.std.proofs.Common.{◌-◌, List, vec_len, ap, ◌∙◌}
-use Rattle.std.specs.Prelude.{sum_by}
-use Rattle.vx_base.specs.Image.{ImageValue}
-use Rattle.vx_base.specs.Object.{image_bytes}
+use Rattle.object_table.proofs.Common.{sum_by, ImageValue, image_bytes}
 use Rattle.object_table.proofs.DelayLemmas.{sum-turned}
 use Rattle.object_table.proofs.delay.Delay.age.Goals as goal
 

@@ -1,7 +1,5 @@
 use Rattle.std.proofs.Common.{rules, ◌*◌, List, length, ap, sym, ◌∙◌}
-use Rattle.std.specs.Prelude.{sum_by}
-use Rattle.vx_base.specs.Image.{ImageValue}
-use Rattle.vx_base.specs.Object.{image_bytes}
+use Rattle.object_table.proofs.Common.{sum_by, ImageValue, image_bytes}
 use Rattle.object_table.proofs.DelayLemmas.{bytes_alike}
 use Rattle.object_table.proofs.delay.Delay.bytes.Goals as goal
 

@@ -1,6 +1,5 @@
 use Rattle.std.proofs.Common.{arith, subst, sym}
-use Rattle.vx_base.specs.Object.{IsDelay}
-use Rattle.vx_base.proofs.PictureLaws.{side}
+use Rattle.object_table.proofs.Common.{IsDelay, side}
 use Rattle.object_table.proofs.DelayLemmas.{new_delay_is}
 use Rattle.object_table.proofs.delay.Delay.new.Goals as goal
 

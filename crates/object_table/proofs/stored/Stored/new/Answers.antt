@@ -1,7 +1,5 @@
 use Rattle.std.proofs.Common.{subst, sym, rules}
-use Rattle.vx_base.specs.Image.{IsImage}
-use Rattle.vx_base.proofs.ImageLaws.{new_image_is}
-use Rattle.vx_base.proofs.PictureLaws.{side}
+use Rattle.object_table.proofs.Common.{IsImage, new_image_is, side}
 use Rattle.object_table.proofs.StoredLemmas.{zeros_are_new}
 use Rattle.object_table.proofs.stored.Stored.new.Goals as goal
 

@@ -1,5 +1,5 @@
 use Rattle.std.proofs.Common.{ap, sym, ◌∙◌}
-use Rattle.vx_base.specs.Image.{ImageValue, description_of}
+use Rattle.object_table.proofs.Common.{ImageValue, description_of}
 use Rattle.object_table.proofs.StoredLemmas.{picture_is_image}
 use Rattle.object_table.proofs.stored.Stored.write.Goals as goal
 

@@ -1,18 +1,6 @@
 use Rattle.std.proofs.Common.{◌≡◌, ℕ, ◌+◌, ◌≤◌, List, map, All, IsTrue, refl, sym, ap, subst, ◌∙◌}
-use Rattle.std.specs.Prelude.{if◌then◌else◌}
-use Rattle.std.specs.Map.{set_value}
-use Rattle.std.specs.BTreeMap.{is_at}
-use Rattle.std.specs.Ordering.{nat_cmp}
-use Rattle.std.proofs.lemmas.Result.{err_from_is_err_and}
-use Rattle.vx_base.specs.Graph.{can_add, with_node}
-use Rattle.vx_base.specs.Object.{ObjectValue, GraphObject, object_bytes}
+use Rattle.object_table.proofs.Common.{if◌then◌else◌, set_value, is_at, nat_cmp, err_from_is_err_and, can_add, with_node, ObjectValue, GraphObject, object_bytes, Entry, Context, Named, graph_value, IsTable, named, used_more, nodes_in, used_names, times}
 use Rattle.graph_verify.specs.declared.fault.GraphFault.TheVariants as graph_fault
-use Rattle.object_table.specs.declared.table.Entry.{Entry}
-use Rattle.object_table.specs.Context.{Context}
-use Rattle.object_table.specs.Named.{Named}
-use Rattle.object_table.specs.Object.{graph_value}
-use Rattle.object_table.specs.Table.{IsTable, named, used_more}
-use Rattle.object_table.specs.Uses.{nodes_in, used_names, times}
 use Rattle.object_table.proofs.EntryLemmas.{nothing_under, kind_under, under_is, shown_name, IsTable-written}
 use Rattle.object_table.proofs.GraphLemmas.{unchanged, live_there, all_below, few-uses, named-recounted, IsTable-added}
 use Rattle.object_table.proofs.table.Table.add_node.Goals as goal

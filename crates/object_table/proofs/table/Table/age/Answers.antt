@@ -1,6 +1,5 @@
 use Rattle.std.proofs.Common.{refl, sym, ap, ◌∙◌}
-use Rattle.object_table.specs.Object.{aged_object}
-use Rattle.object_table.specs.Uses.{nodes_in}
+use Rattle.object_table.proofs.Common.{aged_object, nodes_in}
 use Rattle.object_table.proofs.EntryLemmas.{nothing_under, shown_name, IsTable-written, aged_nodes}
 use Rattle.object_table.proofs.table.Table.age.Goals as goal
 

@@ -1,5 +1,5 @@
 use Rattle.std.proofs.Common.{refl, sym, ap, ◌∙◌}
-use Rattle.object_table.specs.Uses.{nodes_in}
+use Rattle.object_table.proofs.Common.{nodes_in}
 use Rattle.object_table.proofs.AgeLemmas.{none_to_age, shown_aged}
 use Rattle.object_table.proofs.EntryLemmas.{IsTable-written, aged_nodes}
 use Rattle.object_table.proofs.table.Table.age_if_held.Goals as goal

@@ -1,7 +1,5 @@
 use Rattle.std.proofs.Common.{◌≡◌, take}
-use Rattle.object_table.specs.Ageing.{aged_under}
-use Rattle.object_table.specs.Context.{with_objects}
-use Rattle.object_table.specs.Table.{graph_under}
+use Rattle.object_table.proofs.Common.{aged_under, with_objects, graph_under}
 use Rattle.object_table.proofs.table.Table.age_registered.Given as goal
 
 abbrev pub invariant-loop-k : goal.invariant-loop-k

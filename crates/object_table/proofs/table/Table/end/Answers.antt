@@ -1,10 +1,6 @@
 use Rattle.std.proofs.Common.{◌≡◌, ℕ, ◌+◌, List, [], ◌∷◌, map, sym, ap, subst}
-use Rattle.pixel_pool.specs.Pool.{lent_of}
+use Rattle.object_table.proofs.Common.{lent_of, Entry, Balances, Context, named}
 use Rattle.std.proofs.lemmas.Map.Iter.{rest_more, rest_all}
-use Rattle.object_table.specs.declared.table.Entry.{Entry}
-use Rattle.object_table.specs.Blocks.{Balances}
-use Rattle.object_table.specs.Context.{Context}
-use Rattle.object_table.specs.Table.{named}
 use Rattle.object_table.proofs.EntryBlockLemmas.{entry_blocks, owns_first, Balances-first, Balances-all}
 use Rattle.object_table.proofs.table.Table.end.Goals as goal
 

@@ -1,6 +1,5 @@
 use Rattle.std.proofs.Common.{map}
-use Rattle.object_table.specs.Blocks.{Balances}
-use Rattle.object_table.specs.Table.{named}
+use Rattle.object_table.proofs.Common.{Balances, named}
 use Rattle.object_table.proofs.table.Table.end.Given as goal
 
 -- what is lent has changed as if the entries that are left were all that is held

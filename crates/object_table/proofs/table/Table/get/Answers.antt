@@ -1,5 +1,5 @@
 use Rattle.std.proofs.Common.{Some, None, refl, sym, ap, cond, ◌∙◌}
-use Rattle.object_table.specs.Context.{object_named}
+use Rattle.object_table.proofs.Common.{object_named}
 use Rattle.object_table.proofs.EntryLemmas.{in_order, named_is, none_named, objects_are, held_under}
 use Rattle.object_table.proofs.table.Table.get.Goals as goal
 use Rattle.object_table.proofs.table.Table.get.Goals.{in_default-via-in-Some+else-entry, in_default-via-in_default}

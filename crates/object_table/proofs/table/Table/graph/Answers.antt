@@ -1,5 +1,5 @@
 use Rattle.std.proofs.Common.{sym, ap, ◌∙◌}
-use Rattle.object_table.specs.Object.{graph_value}
+use Rattle.object_table.proofs.Common.{graph_value}
 use Rattle.object_table.proofs.EntryLemmas.{nothing_under, kind_under, under_is}
 use Rattle.object_table.proofs.table.Table.graph.Goals as goal
 

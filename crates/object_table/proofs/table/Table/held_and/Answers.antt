@@ -1,6 +1,6 @@
 use Rattle.std.proofs.Common.{◌≡◌, [], ◌∷◌, ◌++◌, filter, refl, ap, ◌∙◌, rules}
+use Rattle.object_table.proofs.Common.{is_there}
 use Rattle.graph_verify.proofs.GraphLemmas.{filter_from_retain_by}
-use Rattle.object_table.specs.Ageing.{is_there}
 use Rattle.object_table.proofs.table.Table.held_and.Goals as goal
 
 pub returns-in-Ok-push-clause-value : goal.returns-in-Ok-push-clause-value

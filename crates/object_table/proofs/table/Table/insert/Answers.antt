@@ -1,12 +1,7 @@
 use Rattle.std.proofs.Common.{◌≡◌, ◌+◌, ◌++◌, ◌∷◌, [], ℕ, List, true, map, refl, sym, ap, subst, ◌∙◌, arith}
-use Rattle.std.specs.Map.{keys_of}
-use Rattle.std.specs.List.Sorted.{IsStrictlyIncreasing}
-use Rattle.std.proofs.lemmas.List.{map-append}
+use Rattle.object_table.proofs.Common.{keys_of, IsStrictlyIncreasing, map-append, Entry, Context, Named, named, IsTable}
 use Rattle.std.proofs.lemmas.Map.Keys.{IsStrictlyIncreasing-from_sorted}
-use Rattle.object_table.specs.declared.table.Entry.{Entry}
-use Rattle.object_table.specs.Context.{Context, with_new}
-use Rattle.object_table.specs.Named.{Named}
-use Rattle.object_table.specs.Table.{named, IsTable}
+use Rattle.object_table.specs.Context.{with_new}
 use Rattle.object_table.proofs.EntryLemmas.{charge_limit, insert_last, IsTable-inserted, room_left}
 use Rattle.object_table.proofs.table.Table.insert.Goals as goal
 

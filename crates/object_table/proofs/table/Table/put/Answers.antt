@@ -1,8 +1,5 @@
 use Rattle.std.proofs.Common.{refl, sym, ap, ◌∙◌}
-use Rattle.vx_base.specs.Image.{ImageValue}
-use Rattle.vx_base.specs.Picture.{values}
-use Rattle.object_table.specs.Object.{with_samples}
-use Rattle.object_table.specs.Uses.{nodes_in}
+use Rattle.object_table.proofs.Common.{ImageValue, values, with_samples, nodes_in}
 use Rattle.object_table.proofs.EntryLemmas.{nothing_held, image_is, image_there, shown_cell, IsTable-written, no_nodes}
 use Rattle.object_table.proofs.table.Table.put.Goals as goal
 

@@ -1,13 +1,9 @@
 use Rattle.std.proofs.Common.{◌≡◌, ◌≢◌, ℕ, true, false, [], ◌∷◌, ◌++◌, refl, sym, ap, subst, ◌∙◌}
-use Rattle.std.specs.Prelude.{if◌then◌else◌, filter, ◌==◌}
-use Rattle.std.specs.List.{AllPairs, list_any}
-use Rattle.vx_base.specs.Graph.{GraphValue, is_registered, with_delays}
-use Rattle.vx_base.specs.Object.{GraphObject}
-use Rattle.object_table.specs.Ageing.{is_there, one_more}
-use Rattle.object_table.specs.Context.{with_objects, with_graph}
-use Rattle.object_table.specs.Object.{graph_value}
-use Rattle.object_table.specs.Table.{graph_under}
-use Rattle.object_table.specs.Uses.{nodes_in}
+use Rattle.object_table.proofs.Common.{if◌then◌else◌, ◌==◌, AllPairs, list_any, GraphValue, with_delays, GraphObject, is_there, with_objects, graph_value, graph_under, nodes_in}
+use Rattle.std.specs.Prelude.{filter}
+use Rattle.vx_base.specs.Graph.{is_registered}
+use Rattle.object_table.specs.Ageing.{one_more}
+use Rattle.object_table.specs.Context.{with_graph}
 use Rattle.object_table.proofs.AgeLemmas.{apart_and, graph_nodes}
 use Rattle.object_table.proofs.EntryLemmas.{nothing_under, kind_under, under_is, shown_name, IsTable-written}
 use Rattle.object_table.proofs.table.Table.register.Goals as goal

@@ -1,17 +1,5 @@
 use Rattle.std.proofs.Common.{◌≡◌, ℕ, List, [], map, Option, Some, None, cond, false, refl, sym, ap, ◌∙◌}
-use Rattle.std.specs.Prelude.{unwrap_or}
-use Rattle.std.specs.List.{flat_map}
-use Rattle.std.specs.Map.{set_value}
-use Rattle.std.specs.BTreeMap.{is_at}
-use Rattle.std.specs.Option.{option_map}
-use Rattle.std.specs.Ordering.{nat_cmp}
-use Rattle.vx_base.specs.declared.node.Node.{Node}
-use Rattle.object_table.specs.declared.table.Entry.{Entry}
-use Rattle.object_table.specs.Context.{Context, charge_of, object_named, with_objects}
-use Rattle.object_table.specs.Holds.{still_held, unnamed}
-use Rattle.object_table.specs.Named.{Named}
-use Rattle.object_table.specs.Table.{named, used_less, ended, kept}
-use Rattle.object_table.specs.Uses.{used_names, nodes_in}
+use Rattle.object_table.proofs.Common.{unwrap_or, flat_map, set_value, is_at, option_map, nat_cmp, Node, Entry, Context, charge_of, object_named, with_objects, still_held, unnamed, Named, named, used_less, ended, kept, used_names, nodes_in}
 use Rattle.object_table.proofs.EntryLemmas.{in_order, plain}
 use Rattle.object_table.proofs.KeptLemmas.{left_of, left-nil, left-ended, held-left}
 use Rattle.object_table.proofs.GraphLemmas.{AreLeft, names_in, named-unlive, none_there, named_there, released-left, IsTable-same}

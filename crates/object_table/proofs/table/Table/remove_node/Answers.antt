@@ -1,22 +1,8 @@
 use Rattle.std.proofs.Common.{◌≡◌, ℕ, List, map, not, refl, sym, ap, subst, ◌∙◌}
-use Rattle.std.specs.Map.{set_value}
-use Rattle.std.specs.BTreeMap.{is_at}
-use Rattle.std.specs.Ordering.{nat_cmp}
-use Rattle.std.proofs.lemmas.Result.{err_from_is_err_and}
-use Rattle.vx_base.specs.declared.format.Format.{Format}
+use Rattle.object_table.proofs.Common.{set_value, is_at, nat_cmp, err_from_is_err_and, Format, Node, without_node, ObjectValue, GraphObject, object_bytes, object_kind, Entry, object_blocks, blocks_in, LendsAtLeast, Balances, Context, charge_of, with_objects, still_held, Named, graph_value, named, used_less, is_kept, kept, nodes_in, used_names}
 use Rattle.vx_base.specs.declared.kind.Kind.TheVariants as kind
-use Rattle.vx_base.specs.declared.node.Node.{Node}
-use Rattle.vx_base.specs.Graph.{has_node, without_node}
-use Rattle.vx_base.specs.Object.{ObjectValue, GraphObject, object_bytes, object_kind}
-use Rattle.object_table.specs.declared.table.Entry.{Entry}
-use Rattle.object_table.specs.Blocks.{object_blocks, blocks_in, LendsAtLeast, Balances}
-use Rattle.object_table.specs.Context.{Context, charge_of, with_objects}
-use Rattle.object_table.specs.Holds.{still_held}
-use Rattle.object_table.specs.Named.{Named}
-use Rattle.object_table.specs.Object.{graph_value}
+use Rattle.vx_base.specs.Graph.{has_node}
 use Rattle.std.specs.Prelude.{All, IsTrue}
-use Rattle.object_table.specs.Table.{named, used_less, is_kept, kept}
-use Rattle.object_table.specs.Uses.{nodes_in, used_names}
 use Rattle.object_table.proofs.EntryLemmas.{nothing_under, kind_under, under_is, shown_name, IsTable-written}
 use Rattle.object_table.proofs.EntryBlockLemmas.{owns-written, Balances-written, Balances-written_then, graph_blocks}
 use Rattle.object_table.proofs.GraphLemmas.{AreLeft, unchanged, charged-after, held-after, live_there, removed-left, IsTable-same}

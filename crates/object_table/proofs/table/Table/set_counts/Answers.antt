@@ -1,6 +1,6 @@
 use Rattle.std.proofs.Common.{refl, sym, ap, ◌∙◌}
+use Rattle.object_table.proofs.Common.{object_kind}
 use Rattle.vx_base.specs.declared.kind.Kind.TheVariants as kind
-use Rattle.vx_base.specs.Object.{object_kind}
 use Rattle.object_table.specs.Object.{with_counts, distribution_value}
 use Rattle.object_table.proofs.EntryLemmas.{nothing_under, kind_under, under_is, shown_name, IsTable-written, none_of_kind}
 use Rattle.object_table.proofs.table.Table.set_counts.Goals as goal

@@ -1,9 +1,6 @@
 use Rattle.std.proofs.Common.{refl, sym, ap, subst, ◌∙◌}
+use Rattle.object_table.proofs.Common.{ImageValue, with_valid, ImageObject, IsObject, image_value, nodes_in}
 use Rattle.vx_base.specs.Rectangle.{IsWithin}
-use Rattle.vx_base.specs.Image.{ImageValue, with_valid}
-use Rattle.vx_base.specs.Object.{ImageObject, IsObject}
-use Rattle.object_table.specs.Object.{image_value}
-use Rattle.object_table.specs.Uses.{nodes_in}
 use Rattle.object_table.proofs.EntryLemmas.{nothing_held, found_under, image_is, image_there, shown_cell, IsTable-written, no_nodes}
 use Rattle.object_table.proofs.table.Table.set_valid.Goals as goal
 

@@ -1,7 +1,5 @@
 use Rattle.std.proofs.Common.{[], refl, sym, ap, ◌∙◌}
-use Rattle.vx_base.specs.Image.{ImageValue, description_of}
-use Rattle.object_table.specs.Object.{image_value, with_samples}
-use Rattle.object_table.specs.Uses.{nodes_in}
+use Rattle.object_table.proofs.Common.{ImageValue, description_of, image_value, with_samples, nodes_in}
 use Rattle.object_table.proofs.EntryLemmas.{nothing_held, image_is, image_there, shown_cell, IsTable-written, no_nodes}
 use Rattle.object_table.proofs.table.Table.take.Goals as goal
 

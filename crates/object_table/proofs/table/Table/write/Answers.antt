@@ -1,8 +1,6 @@
 use Rattle.std.proofs.Common.{refl, sym, ap, subst, ◌∙◌}
-use Rattle.vx_base.specs.Image.{description_of}
-use Rattle.vx_base.specs.Object.{ImageObject, IsObject}
+use Rattle.object_table.proofs.Common.{description_of, ImageObject, IsObject, nodes_in}
 use Rattle.vx_base.specs.Picture.{pictured}
-use Rattle.object_table.specs.Uses.{nodes_in}
 use Rattle.object_table.proofs.EntryLemmas.{nothing_held, found_under, image_is, image_there, shown_cell, IsTable-written, no_nodes}
 use Rattle.object_table.proofs.table.Table.write.Goals as goal
 

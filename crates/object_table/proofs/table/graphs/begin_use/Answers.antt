@@ -1,8 +1,5 @@
 use Rattle.std.proofs.Common.{◌+◌, ◌<◌, Option, IfSome, ap, sym, subst, ◌∙◌, arith}
-use Rattle.std.specs.Ordering.{nat_cmp}
-use Rattle.std.specs.BTreeMap.{is_at}
-use Rattle.std.proofs.lemmas.Map.Entries.{All-lookup}
-use Rattle.object_table.specs.declared.table.Entry.{Entry}
+use Rattle.object_table.proofs.Common.{nat_cmp, is_at, All-lookup, Entry}
 use Rattle.object_table.proofs.UseLemmas.{with_uses, more, more_is, used, used-nil, used-one, used-none, operand_uses, no_operand_uses}
 use Rattle.object_table.proofs.table.graphs.begin_use.Goals as goal
 

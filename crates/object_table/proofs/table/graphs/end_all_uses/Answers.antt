@@ -1,8 +1,5 @@
 use Rattle.std.proofs.Common.{◌<◌, ◌≤◌, length, map, take, refl, ap, ◌∙◌, arith}
-use Rattle.std.specs.List.{flat_map}
-use Rattle.std.proofs.lemmas.List.{length-map, take_all}
-use Rattle.object_table.specs.Table.{named, nodes_at}
-use Rattle.object_table.specs.Uses.{used_names}
+use Rattle.object_table.proofs.Common.{flat_map, length-map, take_all, named, nodes_at, used_names}
 use Rattle.object_table.proofs.UseLemmas.{node_more}
 use Rattle.object_table.proofs.KeptLemmas.{left_of, left-nil, left-append, held-left, kind_kept, nodes_kept, count_kept}
 use Rattle.object_table.proofs.EntryBlockLemmas.{owns_after, Balances-trans}

@@ -1,9 +1,5 @@
 use Rattle.std.proofs.Common.{◌≡◌, take, map}
-use Rattle.std.specs.List.{flat_map}
-use Rattle.object_table.specs.Blocks.{Balances}
-use Rattle.object_table.specs.Context.{charge_of}
-use Rattle.object_table.specs.Table.{named, nodes_at, used_less, kept}
-use Rattle.object_table.specs.Uses.{used_names}
+use Rattle.object_table.proofs.Common.{flat_map, Balances, charge_of, named, nodes_at, used_less, kept, used_names}
 use Rattle.object_table.proofs.table.graphs.end_all_uses.Given as goal
 
 abbrev pub invariant-loop-k : goal.invariant-loop-k

@@ -1,6 +1,5 @@
 use Rattle.std.proofs.Common.{map, sym, ap, arith}
-use Rattle.object_table.specs.Context.{charge_of}
-use Rattle.object_table.specs.Table.{named}
+use Rattle.object_table.proofs.Common.{charge_of, named}
 use Rattle.object_table.proofs.KeptLemmas.{charge-removed}
 use Rattle.object_table.proofs.EntryBlockLemmas.{entry_blocks, blocks-removed}
 use Rattle.object_table.proofs.table.graphs.end_entry.Goals as goal

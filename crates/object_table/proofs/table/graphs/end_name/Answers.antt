@@ -1,10 +1,5 @@
 use Rattle.std.proofs.Common.{map, false, refl, sym, ap, ◌∙◌}
-use Rattle.std.specs.Map.{remove_entry}
-use Rattle.std.specs.BTreeMap.{is_at}
-use Rattle.std.specs.Ordering.{nat_cmp}
-use Rattle.std.proofs.lemmas.Bool.{lt-ltb, le-ltb}
-use Rattle.object_table.specs.Context.{charge_of}
-use Rattle.object_table.specs.Table.{named, kept}
+use Rattle.object_table.proofs.Common.{remove_entry, is_at, nat_cmp, lt-ltb, le-ltb, charge_of, named, kept}
 use Rattle.object_table.proofs.KeptLemmas.{all_kept, held-written, dropped, charge-written, ended-none, ended-one}
 use Rattle.object_table.proofs.EntryBlockLemmas.{owns-written, Balances-written, Balances-written_then}
 use Rattle.object_table.proofs.table.graphs.end_name.Goals as goal

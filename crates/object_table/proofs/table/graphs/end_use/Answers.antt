@@ -1,11 +1,5 @@
 use Rattle.std.proofs.Common.{◌≡◌, true, map, refl, sym, ap, ◌∙◌}
-use Rattle.std.specs.Prelude.{nat_lt, ◌||◌}
-use Rattle.std.specs.Map.{remove_entry, set_value}
-use Rattle.std.specs.BTreeMap.{is_at}
-use Rattle.std.specs.Ordering.{nat_cmp}
-use Rattle.std.proofs.lemmas.Bool.{or_left, or_from, lt-ltb, le-ltb}
-use Rattle.object_table.specs.Context.{charge_of}
-use Rattle.object_table.specs.Table.{named, kept}
+use Rattle.object_table.proofs.Common.{nat_lt, ◌||◌, remove_entry, set_value, is_at, nat_cmp, or_left, or_from, lt-ltb, le-ltb, charge_of, named, kept}
 use Rattle.object_table.proofs.UseLemmas.{with_uses, less, less_is, used-one, used-none, operand_uses, no_operand_uses}
 use Rattle.object_table.proofs.KeptLemmas.{all_kept, held-written, dropped, charge-written, left_of, left-nil}
 use Rattle.object_table.proofs.EntryBlockLemmas.{owns-written, Balances-written, Balances-written_then}

@@ -1,5 +1,5 @@
 use Rattle.std.proofs.Common.{map, [], ◌∷◌}
-use Rattle.vx_base.specs.Node.{given}
+use Rattle.object_table.proofs.Common.{given}
 use Rattle.object_table.proofs.UseLemmas.{node_uses}
 use Rattle.object_table.proofs.KeptLemmas.{left_of, held-left, left-append}
 use Rattle.object_table.proofs.table.graphs.end_uses.Goals as goal

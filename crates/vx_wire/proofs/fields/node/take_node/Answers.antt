@@ -1,4 +1,4 @@
-use Rattle.vx_base.specs.declared.node.Node.{Node}
+use Rattle.vx_wire.proofs.Common.{Node}
 use Rattle.vx_wire.proofs.NodeShape.{is_node-from_parameters}
 use Rattle.vx_wire.proofs.fields.node.take_node.Goals as goal
 

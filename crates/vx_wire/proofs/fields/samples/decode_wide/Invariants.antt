@@ -1,5 +1,5 @@
 use Rattle.std.proofs.Common.{◌≡◌, map, take}
-use Rattle.vx_wire.specs.Samples.{decoded}
+use Rattle.vx_wire.proofs.Common.{decoded}
 use Rattle.vx_wire.proofs.fields.samples.decode_wide.Given as goal
 
 abbrev pub invariant-loop-i : goal.invariant-loop-i

@@ -1,7 +1,6 @@
 use Rattle.std.proofs.Common.{◌≡◌, ◌*◌, take}
+use Rattle.vx_wire.proofs.Common.{sample_bytes, encoded_sample}
 use Rattle.std.specs.List.{flat_map}
-use Rattle.vx_base.specs.Sample.{sample_bytes}
-use Rattle.vx_wire.specs.Samples.{encoded_sample}
 use Rattle.vx_wire.proofs.fields.samples.encode.Given as goal
 
 abbrev pub invariant-loop-i : goal.invariant-loop-i

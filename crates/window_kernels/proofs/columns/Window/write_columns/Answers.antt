@@ -1,6 +1,5 @@
 use Rattle.std.proofs.Common.{◌≡◌, pos, ◌+◌, ◌-◌, ◌∙◌, ap, arith, length}
-use Rattle.std.proofs.lemmas.Int.{ints}
-use Rattle.vx_base.specs.Rectangle.{Rectangle}
+use Rattle.window_kernels.proofs.Common.{ints, Rectangle}
 use Rattle.window_kernels.proofs.ColumnLaws.{columns_around}
 use Rattle.window_kernels.proofs.columns.Window.write_columns.Goals as goal
 

@@ -1,10 +1,5 @@
 use Rattle.std.proofs.Common.{◌≡◌, ◌∙◌, ◌/◌, ◌-ℤ◌, ap, sym, subst, pos, length, arith, w32}
-use Rattle.std.specs.Simd.Lanes.{Each1}
-use Rattle.std.proofs.lemmas.Int.{to_z-of_z}
-use Rattle.std.proofs.lemmas.List.{map-id}
-use Rattle.vx_base.specs.Image.{run}
-use Rattle.vx_base.specs.Window.{look}
-use Rattle.window_kernels.specs.Products.{IsUpTo}
+use Rattle.window_kernels.proofs.Common.{Each1, to_z-of_z, map-id, run, look, IsUpTo}
 use Rattle.window_kernels.proofs.RowLaws.{looks_up_to}
 use Rattle.window_kernels.proofs.convolution.FromMatrix.load_line.Goals as goal
 

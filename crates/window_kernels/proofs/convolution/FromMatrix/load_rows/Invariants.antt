@@ -1,8 +1,5 @@
 use Rattle.std.proofs.Common.{◌≡◌, ◌*◌, ◌+◌, ◌/◌, ◌+ℤ◌, ◌-ℤ◌, pos, map, take}
-use Rattle.std.specs.Simd.Lanes.{Each1}
-use Rattle.vx_base.specs.Image.{table}
-use Rattle.vx_base.specs.Window.{look}
-use Rattle.window_kernels.specs.Products.{IsUpTo}
+use Rattle.window_kernels.proofs.Common.{Each1, table, look, IsUpTo}
 use Rattle.window_kernels.proofs.convolution.FromMatrix.load_rows.Given as goal
 
 abbrev pub invariant-loop-l : goal.invariant-loop-l

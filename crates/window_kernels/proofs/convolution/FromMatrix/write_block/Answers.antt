@@ -1,10 +1,8 @@
 use Rattle.std.proofs.Common.{◌≡◌, ℕ, ℤ, ◌∙◌, ◌+◌, ◌/◌, ap, sym, pos, map, length, take, arith, w16, FitsSigned}
-use Rattle.std.specs.Prelude.{◌^◌, int_div}
+use Rattle.window_kernels.proofs.Common.{int_div, clamp, run, run_part, sum_of_rows}
+use Rattle.std.specs.Prelude.{◌^◌}
 use Rattle.std.proofs.lemmas.Simd.{Each1-from_get_or}
-use Rattle.vx_base.specs.Sample.{clamp}
-use Rattle.vx_base.specs.Image.{run}
-use Rattle.vx_base.proofs.TableLaws.{map_of_run, run_part}
-use Rattle.window_kernels.specs.Products.{sum_of_rows}
+use Rattle.vx_base.proofs.TableLaws.{map_of_run}
 use Rattle.window_kernels.proofs.MatrixLaws.{are_tables, odd_side}
 use Rattle.window_kernels.proofs.convolution.FromMatrix.write_block.Goals as goal
 

@@ -1,9 +1,7 @@
 use Rattle.std.proofs.Common.{◌≡◌, ℕ, ℤ, ◌∙◌, ◌+◌, ◌-◌, ◌*◌, ◌/◌, ◌≤◌, ap, sym, pos, map, length, take, drop, min, arith}
-use Rattle.std.specs.Prelude.{◌^◌, int_div}
-use Rattle.std.proofs.lemmas.List.{take_all, length-take, length-drop}
-use Rattle.vx_base.specs.Sample.{clamp}
-use Rattle.vx_base.specs.Image.{run}
-use Rattle.window_kernels.specs.Products.{sum_of_rows}
+use Rattle.window_kernels.proofs.Common.{int_div, take_all, clamp, run, sum_of_rows}
+use Rattle.std.specs.Prelude.{◌^◌}
+use Rattle.std.proofs.lemmas.List.{length-take, length-drop}
 use Rattle.window_kernels.proofs.RowLaws.{block_written, block_begins, blocks_end}
 use Rattle.window_kernels.proofs.convolution.FromMatrix.write_blocks.Goals as goal
 

@@ -1,8 +1,6 @@
 use Rattle.std.proofs.Common.{◌≡◌, ◌*◌, ◌+◌, ◌/◌, pos, map, take, length, min}
-use Rattle.std.specs.Prelude.{◌^◌, int_div}
-use Rattle.vx_base.specs.Sample.{clamp}
-use Rattle.vx_base.specs.Image.{run}
-use Rattle.window_kernels.specs.Products.{sum_of_rows}
+use Rattle.window_kernels.proofs.Common.{int_div, clamp, run, sum_of_rows}
+use Rattle.std.specs.Prelude.{◌^◌}
 use Rattle.window_kernels.proofs.convolution.FromMatrix.write_blocks.Given as goal
 
 abbrev pub invariant-loop-k : goal.invariant-loop-k

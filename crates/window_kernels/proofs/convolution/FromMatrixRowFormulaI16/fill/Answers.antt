@@ -1,9 +1,6 @@
 use Rattle.std.proofs.Common.{ℤ, ◌∙◌, ◌+◌, ◌/◌, ap, pos, length, zero-add, arith}
-use Rattle.std.specs.Prelude.{◌^◌, int_div}
-use Rattle.vx_base.specs.Sample.{clamp}
-use Rattle.vx_base.specs.Window.{look, convolved}
-use Rattle.vx_base.proofs.WindowLaws.{run_shifted}
-use Rattle.window_kernels.specs.Products.{sum_of_rows}
+use Rattle.window_kernels.proofs.Common.{int_div, clamp, look, convolved, run_shifted, sum_of_rows}
+use Rattle.std.specs.Prelude.{◌^◌}
 use Rattle.window_kernels.proofs.MatrixLaws.{odd_side, sum_is_product}
 use Rattle.window_kernels.proofs.convolution.FromMatrixRowFormulaI16.fill.Goals as goal
 

@@ -1,7 +1,5 @@
 use Rattle.std.proofs.Common.{ℕ, pos, ◌∙◌, ap, arith, length, zero-add}
-use Rattle.vx_base.specs.Window.{look, nine_around, median}
-use Rattle.vx_base.proofs.WindowLaws.{run_shifted}
-use Rattle.window_kernels.specs.Nine.{three_at, median_of_sorted}
+use Rattle.window_kernels.proofs.Common.{look, nine_around, median, run_shifted, three_at, median_of_sorted}
 use Rattle.window_kernels.proofs.MedianLaws.{median_seen}
 use Rattle.window_kernels.proofs.median.MedianOfNineU8U8.write_row.Goals as goal
 

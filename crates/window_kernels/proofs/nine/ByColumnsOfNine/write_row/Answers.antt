@@ -1,5 +1,5 @@
 use Rattle.std.proofs.Common.{pos, length}
-use Rattle.vx_base.specs.Window.{look}
+use Rattle.window_kernels.proofs.Common.{look}
 use Rattle.window_kernels.proofs.ColumnLaws.{nines_across}
 use Rattle.window_kernels.proofs.nine.ByColumnsOfNine.write_row.Goals as goal
 

@@ -1,0 +1,49 @@
+-- The names that several proofs cite, passed on from one place. Declares nothing.
+pub use Rattle.image_core.specs.Rows.{sample_from}
+pub use Rattle.object_table.specs.Ageing.{aged_under, is_there}
+pub use Rattle.object_table.specs.Blocks.{Balances, LendsAtLeast, blocks_in, delay_blocks, image_blocks, object_blocks}
+pub use Rattle.object_table.specs.Context.{Context, charge_of, object_named, with_objects}
+pub use Rattle.object_table.specs.Delay.{HasImage, in_slot, new_delay, object_in, with_slot}
+pub use Rattle.object_table.specs.Holds.{still_held, unnamed}
+pub use Rattle.object_table.specs.Named.{Named, object_held, with_object}
+pub use Rattle.object_table.specs.Object.{aged_object, graph_value, image_value, with_samples}
+pub use Rattle.object_table.specs.Skeleton.{image_skeleton, skeleton}
+pub use Rattle.object_table.specs.Table.{IsTable, IsUnder, ended, graph_under, is_kept, kept, named, nodes_at, used_less, used_more}
+pub use Rattle.object_table.specs.Uses.{names_used, names_used_by, nodes_in, times, used_names}
+pub use Rattle.object_table.specs.declared.table.Entry.{Entry}
+pub use Rattle.pixel_pool.specs.Pool.{lent_of}
+pub use Rattle.std.proofs.lemmas.Bool.{and_parts, cases_Bool, cases_lt, eqb-false, eqb-true, le-ltb, lt-ltb, ne_eqb, or_from, or_left}
+pub use Rattle.std.proofs.lemmas.List.{get_or-map, length-append, length-map, map-append, take_all}
+pub use Rattle.std.proofs.lemmas.List.Elements.{All-cons, All-filter, All-head, All-map, All-nil, All-tail, All-weaker, filter_passes}
+pub use Rattle.std.proofs.lemmas.List.Kept.{AllPairs-filter, AllPairs-from_increasing}
+pub use Rattle.std.proofs.lemmas.List.Sums.{count_by-le-length, sum-map, sum_by-append, sum_by-cons, sum_by-le, sum_by_push}
+pub use Rattle.std.proofs.lemmas.Map.{keys-set_value, length-set_value}
+pub use Rattle.std.proofs.lemmas.Map.Entries.{All-lookup}
+pub use Rattle.std.proofs.lemmas.Map.Keys.{sorted_tail}
+pub use Rattle.std.proofs.lemmas.Option.{get_or_from_slice_get}
+pub use Rattle.std.proofs.lemmas.Result.{err_from_is_err_and}
+pub use Rattle.std.proofs.lemmas.Simd.{map-map}
+pub use Rattle.std.specs.BTreeMap.{is_at}
+pub use Rattle.std.specs.List.{AllPairs, flat_map, list_any}
+pub use Rattle.std.specs.List.Sorted.{IsStrictlyIncreasing}
+pub use Rattle.std.specs.Map.{keys_of, lookup, remove_entry, set_value}
+pub use Rattle.std.specs.Option.{option_map}
+pub use Rattle.std.specs.Ordering.{nat_cmp}
+pub use Rattle.std.specs.Prelude.{find, if◌then◌else◌, is_some, nat_lt, slice_get, sum, sum_by, unwrap_or, ◌==◌, ◌||◌}
+pub use Rattle.std.specs.Vec.Iter.{into_iter_items}
+pub use Rattle.vx_base.proofs.ImageLaws.{new_image_is}
+pub use Rattle.vx_base.proofs.PictureLaws.{side}
+pub use Rattle.vx_base.specs.Cell.{Cell}
+pub use Rattle.vx_base.specs.Description.{Description}
+pub use Rattle.vx_base.specs.Graph.{GraphValue, can_add, with_delays, with_node, without_node}
+pub use Rattle.vx_base.specs.Image.{ImageValue, IsImage, band, description_of, image_over, new_image, with_valid, within}
+pub use Rattle.vx_base.specs.Node.{given}
+pub use Rattle.vx_base.specs.Object.{DelayObject, ExtremesObject, GraphObject, ImageObject, IsDelay, IsObject, ObjectValue, image_bytes, object_bytes, object_kind}
+pub use Rattle.vx_base.specs.Picture.{values}
+pub use Rattle.vx_base.specs.declared.desc.TheConstants.{GREATEST_BYTES}
+pub use Rattle.vx_base.specs.declared.format.Format.{Format}
+pub use Rattle.vx_base.specs.declared.format.Format.TheVariants.{U8}
+pub use Rattle.vx_base.specs.declared.kind.Kind.{Kind}
+pub use Rattle.vx_base.specs.declared.node.Node.{Node}
+pub use Rattle.vx_base.specs.declared.numbered.Numbered.{Numbered}
+pub use Rattle.vx_base.specs.declared.slots.TheConstants.{GREATEST_SLOTS}

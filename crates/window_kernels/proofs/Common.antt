@@ -1,0 +1,26 @@
+-- The names that several proofs cite, passed on from one place. Declares nothing.
+pub use Rattle.image_core.proofs.BandLaws.{written_alike}
+pub use Rattle.image_core.proofs.SizeLaws.{same_sides}
+pub use Rattle.image_core.specs.Target.{written}
+pub use Rattle.std.proofs.Math.ListN.{get_or-map}
+pub use Rattle.std.proofs.lemmas.Bool.Decides.{nat_tests}
+pub use Rattle.std.proofs.lemmas.Int.{fits_signed_from_abs, ints, to_z-of_z}
+pub use Rattle.std.proofs.lemmas.List.{length-map, map-append, map-id, take-take, take_all, take_more_set}
+pub use Rattle.std.proofs.lemmas.Simd.{Each1-chunk, Each1-get_or, length-chunk, put_chunk_whole}
+pub use Rattle.std.proofs.lemmas.Slice.{take-put_mid}
+pub use Rattle.std.specs.List.{range_with_len}
+pub use Rattle.std.specs.Prelude.{int_div, unsigned_abs, ◌*ℤ◌}
+pub use Rattle.std.specs.Simd.Lanes.{Each1, chunk, pick_l, zip2}
+pub use Rattle.vx_base.proofs.TableLaws.{get_or-run, length-range, length-run, row_fits, run-append, run-same, run_part}
+pub use Rattle.vx_base.proofs.WindowLaws.{item_written, run_shifted}
+pub use Rattle.vx_base.specs.Image.{ImageValue, run, table}
+pub use Rattle.vx_base.specs.Rectangle.{Rectangle}
+pub use Rattle.vx_base.specs.Sample.{clamp}
+pub use Rattle.vx_base.specs.Window.{convolved, gradient_x, gradient_y, look, median, nine_around, window_valid}
+pub use Rattle.vx_base.specs.declared.border.Border.{Border}
+pub use Rattle.vx_base.specs.declared.format.Format.TheVariants.{S16, U8}
+pub use Rattle.window_kernels.specs.ByColumns.{x_is_x, y_is_y}
+pub use Rattle.window_kernels.specs.Gradients.{change, weighted, x_at, y_at}
+pub use Rattle.window_kernels.specs.Nine.{column_in, column_seen, median_of_sorted, three_at}
+pub use Rattle.window_kernels.specs.Products.{IsPairTable, IsUpTo, alternating, evens_of, first_of_pair, line_of, odds_of, pair_at, row_sum, second_of_pair, sum_of_first, sum_of_rows, turned, turned_pairs}
+pub use borrow.Rule.Slice.PartMut.{put_mid}
