@@ -3,6 +3,8 @@ mod DepthLaws
 mod BlockLaws
 mod LaneLaws
 mod ScaleLaws
+mod DigitLaws
+mod QuarterLaws
 mod ShortLaws
 mod NarrowLaws
 mod StoreLaws

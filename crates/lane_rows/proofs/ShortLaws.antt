@@ -6,10 +6,15 @@ use Rattle.std.specs.List.{range_with_len}
 use Rattle.std.specs.Simd.Lanes.{zip2, Each1, pick_l, number_l, digits_l}
 use Rattle.std.proofs.lemmas.Int.{ints, to_z-of_z, of_z-to_z, wrapping_mul_is, int_wrap_fits, unsigned_abs-mul, fits_signed_from_abs}
 use Rattle.std.proofs.lemmas.Nat.{mul-le, mul-mod}
-use Rattle.std.proofs.lemmas.Simd.{pick_l_whole, length-zip2}
+use Rattle.std.proofs.Math.Facts.{Fits-of_z}
+use Rattle.std.proofs.lemmas.Simd.{length-zip2}
 use Rattle.std.proofs.lemmas.List.{length-map}
+use Rattle.lane_rows.specs.Quarters.{exchanged}
 use Rattle.lane_rows.proofs.ScaleLaws.{shift_fits}
+use Rattle.lane_rows.proofs.DigitLaws.{recast}
+use Rattle.lane_rows.proofs.QuarterLaws.{written_out, length-exchanged, exchanged-map, exchanged-zip2, Each1-exchanged, exchanged_in_lanes}
 use mir.Syntax.{Width}
+use mir.Val.{bits}
 
 -- ---- lanes as bits
 
@@ -33,12 +38,12 @@ weave (x ∷ xs) [] = []
 weave (x ∷ xs) (y ∷ ys) = x ∷ y ∷ weave xs ys
 
 abbrev turns : List ℕ
-turns = 0 ∷ 16 ∷ 1 ∷ 17 ∷ 2 ∷ 18 ∷ 3 ∷ 19 ∷ 4 ∷ 20 ∷ 5 ∷ 21 ∷ 6 ∷ 22 ∷ 7 ∷ 23 ∷ 8 ∷ 24 ∷ 9 ∷ 25 ∷ 10 ∷ 26 ∷ 11 ∷ 27 ∷ 12 ∷ 28 ∷ 13 ∷ 29 ∷ 14 ∷ 30 ∷ 15 ∷ 31 ∷ []
+turns = 0 ∷ 16 ∷ 1 ∷ 17 ∷ 2 ∷ 18 ∷ 3 ∷ 19 ∷ 8 ∷ 24 ∷ 9 ∷ 25 ∷ 10 ∷ 26 ∷ 11 ∷ 27 ∷ 4 ∷ 20 ∷ 5 ∷ 21 ∷ 6 ∷ 22 ∷ 7 ∷ 23 ∷ 12 ∷ 28 ∷ 13 ∷ 29 ∷ 14 ∷ 30 ∷ 15 ∷ 31 ∷ []
 
-woven : (xs ys : List ℕ) → length xs ≡ 16 → length ys ≡ 16 → pick_l 0 (xs ++ ys) turns ≡ weave xs ys
+woven : (xs ys : List ℕ) → length xs ≡ 16 → length ys ≡ 16 → pick_l 0 (xs ++ ys) turns ≡ weave (exchanged xs) (exchanged ys)
 woven xs ys p q =
-    subst (λ u. pick_l 0 (u ++ ys) turns ≡ weave u ys) (pick_l_whole 0 xs 16 p)
-    (subst (λ v. pick_l 0 (pick_l 0 xs (range_with_len 0 16) ++ v) turns ≡ weave (pick_l 0 xs (range_with_len 0 16)) v) (pick_l_whole 0 ys 16 q) refl)
+    written_out 0 (λ u. pick_l 0 (u ++ ys) turns ≡ weave (exchanged u) (exchanged ys)) xs p
+    (written_out 0 (λ v. pick_l 0 (pick_l 0 xs (range_with_len 0 16) ++ v) turns ≡ weave (exchanged (pick_l 0 xs (range_with_len 0 16))) (exchanged v)) ys q refl)
 
 -- ---- numbers of digits
 
@@ -46,35 +51,6 @@ joined : (xs ys : List ℕ) → number_l 65536 (weave xs ys) ≡ number_l 429496
 joined [] ys = refl
 joined (x ∷ xs) [] = refl
 joined (x ∷ xs) (y ∷ ys) = let e = joined xs ys in omega (arith, e)
-
-abbrev places : ℕ → ℕ → ℕ
-places p zero = 1
-places p (suc n) = p * places p n
-
-bytes_joined : (n x : ℕ) → x < places 256 n → number_l 256 (digits_l 256 n x) ≡ x
-bytes_joined zero x small = let e : x < 1 = small in omega (arith, e)
-bytes_joined (suc n) x small =
-    let room : x < 256 * places 256 n = small in
-    let e = bytes_joined n (x / 256) (omega (arith, room)) in
-    omega (arith, e)
-
-number_below : (xs : List ℕ) → Each1 (λ x. x < 4294967296) xs → number_l 4294967296 xs < places 4294967296 (length xs)
-number_below [] all = let e : 0 < 1 = omega arith in e
-number_below (x ∷ xs) all =
-    let e = number_below xs all.1 in
-    let f = all.0 in
-    let g : x + 4294967296 * number_l 4294967296 xs < 4294967296 * places 4294967296 (length xs) = omega (arith, e, f) in
-    g
-
-digits_joined : (n : ℕ) (xs : List ℕ) → length xs ≡ n → Each1 (λ x. x < 4294967296) xs → digits_l 4294967296 n (number_l 4294967296 xs) ≡ xs
-digits_joined zero [] long all = refl
-digits_joined (suc n) [] long all = absurd (omega (arith, long))
-digits_joined zero (x ∷ xs) long all = absurd (omega (arith, long))
-digits_joined (suc n) (x ∷ xs) long all =
-    let small : x < 4294967296 = all.0 in
-    let first : (x + 4294967296 * number_l 4294967296 xs) % 4294967296 ≡ x = omega (arith, small) in
-    let rest : (x + 4294967296 * number_l 4294967296 xs) / 4294967296 ≡ number_l 4294967296 xs = omega (arith, small) in
-    cc (first, ap (digits_l 4294967296 n) rest ∙ digits_joined n xs (omega (arith, long)) all.1)
 
 -- ---- one product
 
@@ -119,10 +95,6 @@ high_bits z p =
     ap (λ y. of_z w16 (to_z w32 (of_z w32 (shr_z y 65536)))) (to_z-of_z w32 z p)
     ∙ ap (of_z w16) (to_z-of_z w32 (shr_z z 65536) (shift_fits z 65536 p))
     ∙ high_of z p
-
-bits_below : (z : ℤ) → FitsSigned w32 z → of_z w32 z < 4294967296
-bits_below (pos n) p = let e = p.sfits in omega (arith, e)
-bits_below (negsuc n) p = let e = p.sfits in omega (arith, e)
 
 -- the bits of a number of 16 bits in 32
 widened : (a : ℤ) → FitsSigned w16 a → of_z w32 (to_z w16 (of_z w16 a)) ≡ of_z w32 a
@@ -187,9 +159,9 @@ product_sizes [] vs f g = tt
 product_sizes (a ∷ us) [] f g = tt
 product_sizes (a ∷ us) (b ∷ vs) f g = (product_size a b f.0 g.0, product_sizes us vs f.1 g.1)
 
-each_below : (zs : List ℤ) → Each1 (FitsSigned w32) zs → Each1 (λ x. x < 4294967296) (map (of_z w32) zs)
-each_below [] f = tt
-each_below (z ∷ zs) f = (bits_below z f.0, each_below zs f.1)
+each_below : (w : Width) (zs : List ℤ) → Each1 (FitsSigned w) zs → Each1 (λ x. x < 2 ^ bits w) (map (of_z w) zs)
+each_below w [] f = tt
+each_below w (z ∷ zs) f = (let fits = Fits-of_z f.0 in fits.fits, each_below w zs f.1)
 
 -- the high halves fit
 shifted_fits : (z : ℤ) → unsigned_abs z ≤ 1073741824 → FitsSigned w16 (shr_z z 65536)
@@ -231,22 +203,34 @@ abbrev in_bytes : List ℕ → List ℕ
 in_bytes xs = digits_l 4294967296 16 (number_l 256 (digits_l 256 64 (number_l 65536 xs)))
 
 pub products_are : (us vs : List ℤ) → length us ≡ 16 → length vs ≡ 16 → Each1 (FitsSigned w16) us → Each1 (FitsSigned w16) vs
-    → map (to_z w32) (in_bytes (pick_l 0 (low_halves (map (of_z w16) us) (map (of_z w16) vs) ++ high_halves 16 (map (of_z w16) us) (map (of_z w16) vs)) turns)) ≡ zip2 ◌*ℤ◌ us vs
+    → map (to_z w32) (in_bytes (pick_l 0 (low_halves (map (of_z w16) us) (map (of_z w16) vs) ++ high_halves 16 (map (of_z w16) us) (map (of_z w16) vs)) turns)) ≡ exchanged (zip2 ◌*ℤ◌ us vs)
 products_are us vs p q f g =
     let xs = map (of_z w16) us in
     let ys = map (of_z w16) vs in
     let x_long : length xs ≡ 16 = length-map us (of_z w16) ∙ p in
     let y_long : length ys ≡ 16 = length-map vs (of_z w16) ∙ q in
+    let low_long = length-low xs ys x_long y_long in
+    let high_long = length-high xs ys x_long y_long in
     let zs = zip2 ◌*ℤ◌ us vs in
     let long : length zs ≡ 16 = length-zip2 ◌*ℤ◌ us vs (p ∙ sym q) ∙ p in
-    let bits_long : length (map (of_z w32) zs) ≡ 16 = length-map zs (of_z w32) ∙ long in
-    let fits = products_fit us vs f g in
-    let small = each_below zs fits in
-    let whole : number_l 65536 (weave (low_halves xs ys) (high_halves 16 xs ys)) ≡ number_l 4294967296 (map (of_z w32) zs) =
-    joined (low_halves xs ys) (high_halves 16 xs ys) ∙ ap (number_l 4294967296) (halves_joined 16 us vs p q f g) in
-    let room : number_l 4294967296 (map (of_z w32) zs) < places 256 64 = subst (λ n. number_l 4294967296 (map (of_z w32) zs) < places 4294967296 n) bits_long (number_below (map (of_z w32) zs) small) in
-    ap (λ l. map (to_z w32) (in_bytes l)) (woven (low_halves xs ys) (high_halves 16 xs ys) (length-low xs ys x_long y_long) (length-high xs ys x_long y_long))
-    ∙ ap (λ n. map (to_z w32) (digits_l 4294967296 16 (number_l 256 (digits_l 256 64 n)))) whole
-    ∙ ap (λ n. map (to_z w32) (digits_l 4294967296 16 n)) (bytes_joined 64 (number_l 4294967296 (map (of_z w32) zs)) room)
-    ∙ ap (map (to_z w32)) (digits_joined 16 (map (of_z w32) zs) bits_long small)
-    ∙ of_bits w32 zs fits
+    let fits = Each1-exchanged (FitsSigned w32) zs (products_fit us vs f g) in
+    let bits_long : length (map (of_z w32) (exchanged zs)) ≡ 16 = length-map (exchanged zs) (of_z w32) ∙ length-exchanged (pos 0) zs long in
+    let whole : number_l 65536 (weave (exchanged (low_halves xs ys)) (exchanged (high_halves 16 xs ys))) ≡ number_l 4294967296 (map (of_z w32) (exchanged zs)) =
+    joined (exchanged (low_halves xs ys)) (exchanged (high_halves 16 xs ys))
+    ∙ ap (number_l 4294967296)
+    (sym (exchanged-zip2 0 0 (λ x y. x + 65536 * y) (low_halves xs ys) (high_halves 16 xs ys) low_long high_long) ∙ ap exchanged (halves_joined 16 us vs p q f g) ∙ exchanged-map (pos 0) (of_z w32) zs long) in
+    ap (λ l. map (to_z w32) (in_bytes l)) (woven (low_halves xs ys) (high_halves 16 xs ys) low_long high_long)
+    ∙ ap (map (to_z w32)) (recast 65536 4294967296 64 16 (weave (exchanged (low_halves xs ys)) (exchanged (high_halves 16 xs ys))) (map (of_z w32) (exchanged zs)) whole bits_long (each_below w32 (exchanged zs) fits) refl)
+    ∙ of_bits w32 (exchanged zs) fits
+
+-- ---- quarters exchanged
+
+abbrev in_fours : List ℕ → List ℕ
+in_fours xs = digits_l 18446744073709551616 4 (number_l 256 (digits_l 256 32 (number_l 65536 xs)))
+
+pub exchanged_are : (zs : List ℤ) → length zs ≡ 16 → Each1 (FitsSigned w16) zs
+    → map (to_z w16) (digits_l 65536 16 (number_l 256 (digits_l 256 32 (number_l 18446744073709551616 (pick_l 0 (in_fours (map (of_z w16) zs) ++ in_fours (map (of_z w16) zs)) (0 ∷ 2 ∷ 1 ∷ 3 ∷ [])))))) ≡ exchanged zs
+exchanged_are zs long fits =
+    let xs = map (of_z w16) zs in
+    ap (map (to_z w16)) (exchanged_in_lanes xs (length-map zs (of_z w16) ∙ long) (each_below w16 zs fits) ∙ exchanged-map (pos 0) (of_z w16) zs long)
+    ∙ of_bits w16 (exchanged zs) (Each1-exchanged (FitsSigned w16) zs fits)

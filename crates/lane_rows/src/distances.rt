@@ -4,24 +4,22 @@ ghost use Rattle.std.specs.Simd.Lanes.{zip2};
 ghost use Rattle.vx_base.specs.declared.format.Format.TheVariants.{U8, S16};
 ghost use Rattle.vx_base.specs.Pixelwise.{absolute_difference};
 
+use crate::arithmetic::{Arithmetic, OfSamples};
 use crate::item::Short;
-use crate::rows::{OfPair, zip_rows};
+use crate::rows::zip_rows;
 
+#[derive(Drop)]
 struct Distance;
 
-impl OfPair<u8, u8, u8> for Distance {
-    ghost formula = { λ _. absolute_difference U8 };
+impl Arithmetic for Distance {
+    ghost formula = { λ _. absolute_difference };
 
-    fn item(&self, a: u8, b: u8) -> u8 {
+    fn of_bytes(&self, a: u8, b: u8) -> u8 {
         a.abs_diff(b)
     }
-}
 
-impl<A: Short, B: Short> OfPair<A, B, i16> for Distance {
-    ghost formula = { λ _. absolute_difference S16 };
-
-    fn item(&self, a: A, b: B) -> i16 {
-        a.short().abs_diff(b.short()).min(32_767) as i16
+    fn of_shorts(&self, a: i16, b: i16) -> i16 {
+        a.abs_diff(b).min(32_767) as i16
     }
 }
 
@@ -32,7 +30,7 @@ pub fn absdiff_u8(first: &[u8], second: &[u8], out: &mut [u8])
     ensures { map pos out.new ≡ zip2 (absolute_difference U8) (map pos first.now)
         (map pos second.now) }
 {
-    zip_rows(&Distance, first, second, out);
+    zip_rows(&OfSamples(Distance), first, second, out);
 }
 
 /// Writes how far the items, each U8 or S16, are apart, at most 32,767.
@@ -42,5 +40,5 @@ pub fn absdiff_s16<A: Short, B: Short>(first: &[A], second: &[B], out: &mut [i16
     ensures { out.new ≡ zip2 (absolute_difference S16) (map A.value first.now)
         (map B.value second.now) }
 {
-    zip_rows(&Distance, first, second, out);
+    zip_rows(&OfSamples(Distance), first, second, out);
 }

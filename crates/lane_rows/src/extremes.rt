@@ -3,42 +3,37 @@ ghost use Rattle.std.specs.Prelude.{◌≡◌, pos, map, length};
 ghost use Rattle.std.specs.Simd.Lanes.{zip2};
 ghost use Rattle.vx_base.specs.Pixelwise.{smaller, greater};
 
+use crate::arithmetic::{Arithmetic, OfSamples};
 use crate::item::Short;
-use crate::rows::{OfPair, zip_rows};
+use crate::rows::zip_rows;
 
+#[derive(Drop)]
 struct Smaller;
 
-impl OfPair<u8, u8, u8> for Smaller {
-    ghost formula = { λ _. smaller };
+impl Arithmetic for Smaller {
+    ghost formula = { λ _ _. smaller };
 
-    fn item(&self, a: u8, b: u8) -> u8 {
+    fn of_bytes(&self, a: u8, b: u8) -> u8 {
+        a.min(b)
+    }
+
+    fn of_shorts(&self, a: i16, b: i16) -> i16 {
         a.min(b)
     }
 }
 
-impl<A: Short, B: Short> OfPair<A, B, i16> for Smaller {
-    ghost formula = { λ _. smaller };
-
-    fn item(&self, a: A, b: B) -> i16 {
-        a.short().min(b.short())
-    }
-}
-
+#[derive(Drop)]
 struct Greater;
 
-impl OfPair<u8, u8, u8> for Greater {
-    ghost formula = { λ _. greater };
+impl Arithmetic for Greater {
+    ghost formula = { λ _ _. greater };
 
-    fn item(&self, a: u8, b: u8) -> u8 {
+    fn of_bytes(&self, a: u8, b: u8) -> u8 {
         a.max(b)
     }
-}
 
-impl<A: Short, B: Short> OfPair<A, B, i16> for Greater {
-    ghost formula = { λ _. greater };
-
-    fn item(&self, a: A, b: B) -> i16 {
-        a.short().max(b.short())
+    fn of_shorts(&self, a: i16, b: i16) -> i16 {
+        a.max(b)
     }
 }
 
@@ -48,16 +43,7 @@ pub fn min_u8(first: &[u8], second: &[u8], out: &mut [u8])
     requires second_len { length second.now ≡ length out.old }
     ensures { map pos out.new ≡ zip2 smaller (map pos first.now) (map pos second.now) }
 {
-    zip_rows(&Smaller, first, second, out);
-}
-
-/// Writes the smaller of the items, each U8 or S16.
-pub fn min_s16<A: Short, B: Short>(first: &[A], second: &[B], out: &mut [i16])
-    requires first_len { length first.now ≡ length out.old }
-    requires second_len { length second.now ≡ length out.old }
-    ensures { out.new ≡ zip2 smaller (map A.value first.now) (map B.value second.now) }
-{
-    zip_rows(&Smaller, first, second, out);
+    zip_rows(&OfSamples(Smaller), first, second, out);
 }
 
 /// Writes the greater of the items.
@@ -66,7 +52,16 @@ pub fn max_u8(first: &[u8], second: &[u8], out: &mut [u8])
     requires second_len { length second.now ≡ length out.old }
     ensures { map pos out.new ≡ zip2 greater (map pos first.now) (map pos second.now) }
 {
-    zip_rows(&Greater, first, second, out);
+    zip_rows(&OfSamples(Greater), first, second, out);
+}
+
+/// Writes the smaller of the items, each U8 or S16.
+pub fn min_s16<A: Short, B: Short>(first: &[A], second: &[B], out: &mut [i16])
+    requires first_len { length first.now ≡ length out.old }
+    requires second_len { length second.now ≡ length out.old }
+    ensures { out.new ≡ zip2 smaller (map A.value first.now) (map B.value second.now) }
+{
+    zip_rows(&OfSamples(Smaller), first, second, out);
 }
 
 /// Writes the greater of the items, each U8 or S16.
@@ -75,5 +70,5 @@ pub fn max_s16<A: Short, B: Short>(first: &[A], second: &[B], out: &mut [i16])
     requires second_len { length second.now ≡ length out.old }
     ensures { out.new ≡ zip2 greater (map A.value first.now) (map B.value second.now) }
 {
-    zip_rows(&Greater, first, second, out);
+    zip_rows(&OfSamples(Greater), first, second, out);
 }

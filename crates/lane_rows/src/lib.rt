@@ -11,11 +11,13 @@
 //! - `rows`: rows that are written item by item, or updated in place
 //! - `bytes`: rows of bytes that are stored sixteen at a time
 //! - `overflow`: policies as types, so that a loop asks for none
+//! - `arithmetic`: kernels of two U8 or S16 items, at the formats that they may have
 //! - `bits`, `sums`, `products`, `distances`, `extremes`, `thresholds`, `depths`, `accumulation`:
 //!   the kernels
 #![tactic(auto)]
 
 mod accumulation;
+mod arithmetic;
 mod bits;
 mod bytes;
 mod depths;

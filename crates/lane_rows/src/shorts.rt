@@ -7,26 +7,28 @@ ghost use Rattle.vx_base.specs.declared.format.Format.TheVariants.{S16};
 ghost use Rattle.vx_base.specs.declared.policy.Policy.TheVariants.{Wrap, Saturate};
 ghost use Rattle.vx_base.specs.Sample.{narrow};
 ghost use Rattle.vx_base.specs.Pixelwise.{product};
+ghost use Rattle.lane_rows.specs.Quarters.{exchanged};
 
 use std::simd::prelude::*;
 use vx_base::Policy;
 
-/// The products. The two halves of each are computed by themselves: in lanes of 16 bytes a
-/// processor multiplies numbers of 16 bits, and joins the halves, in less time than it takes to
-/// widen the numbers and to multiply them in 32 bits.
+/// The products, the second and the third quarter of them exchanged. The two halves of each are
+/// computed by themselves: in lanes of 16 bytes a processor multiplies numbers of 16 bits, and
+/// joins the halves, in less time than it takes to widen the numbers and to multiply them in 32
+/// bits. Where its lanes have 32 bytes it joins within 16 of them, which gives this order.
 fn products(a: i16x16, b: i16x16) -> i32x16
     requires a_len { length a ≡ 16 }
     requires b_len { length b ≡ 16 }
     requires a_fits { Each1 (FitsSigned w16) a }
     requires b_fits { Each1 (FitsSigned w16) b }
-    ensures { result ≡ zip2 ◌*ℤ◌ a b }
+    ensures { result ≡ exchanged (zip2 ◌*ℤ◌ a b) }
 {
     let low = a * b;
     let high = ((a.cast::<i32>() * b.cast::<i32>()) >> 16).cast::<i16>();
     let halves = low.shuffle(
         high,
         [
-            0, 16, 1, 17, 2, 18, 3, 19, 4, 20, 5, 21, 6, 22, 7, 23, 8, 24, 9, 25, 10, 26, 11, 27,
+            0, 16, 1, 17, 2, 18, 3, 19, 8, 24, 9, 25, 10, 26, 11, 27, 4, 20, 5, 21, 6, 22, 7, 23,
             12, 28, 13, 29, 14, 30, 15, 31,
         ],
     );
@@ -80,6 +82,18 @@ fn narrowed(numbers: i32x16, policy: Policy) -> i16x16
     }
 }
 
+/// The numbers with the second and the third quarter exchanged, as a processor whose lanes have 32
+/// bytes does by itself when it narrows twice as many. They are exchanged as lanes of 64 bits:
+/// lanes of 16 bits the compiler would exchange before they are narrowed, in more time.
+fn quarters_exchanged(numbers: i16x16) -> i16x16
+    requires len { length numbers ≡ 16 }
+    requires fits { Each1 (FitsSigned w16) numbers }
+    ensures { result ≡ exchanged numbers }
+{
+    let quarters = u64x4::from_le_bytes(numbers.to_le_bytes());
+    i16x16::from_le_bytes(quarters.swizzle([0, 2, 1, 3]).to_le_bytes())
+}
+
 /// The products over 2^amount, rounded to zero and narrowed by the policy.
 pub fn multiplied(a: i16x16, b: i16x16, amount: u8, policy: Policy) -> i16x16
     requires amount { amount ≤ 15 }
@@ -89,5 +103,5 @@ pub fn multiplied(a: i16x16, b: i16x16, amount: u8, policy: Policy) -> i16x16
     requires b_fits { Each1 (FitsSigned w16) b }
     ensures { result ≡ zip2 (product S16 policy amount) a b }
 {
-    narrowed(scaled(products(a, b), amount), policy)
+    quarters_exchanged(narrowed(scaled(products(a, b), amount), policy))
 }

@@ -6,9 +6,10 @@ ghost use Rattle.vx_base.specs.declared.format.Format.TheVariants.{U8, S16};
 ghost use Rattle.vx_base.specs.declared.policy.Policy.{Policy as PolicyValue};
 ghost use Rattle.vx_base.specs.Pixelwise.{sum, difference};
 
+use crate::arithmetic::{Arithmetic, OfSamples};
 use crate::item::Short;
 use crate::overflow::{Overflow, Saturated, Wrapped, with_overflow};
-use crate::rows::{OfPair, zip_rows};
+use crate::rows::zip_rows;
 use vx_base::{Policy, narrow_s16};
 
 /// The sum of two samples, or their difference.
@@ -66,20 +67,15 @@ struct Narrowed<K, P> {
     overflow: P,
 }
 
-impl<K: Additive, P: Overflow> OfPair<u8, u8, u8> for Narrowed<K, P> {
-    ghost formula = { λ s. K.formula s.kernel U8 (P.policy s.overflow) };
+impl<K: Additive, P: Overflow> Arithmetic for Narrowed<K, P> {
+    ghost formula = { λ s format. K.formula s.kernel format (P.policy s.overflow) };
 
-    fn item(&self, a: u8, b: u8) -> u8 {
+    fn of_bytes(&self, a: u8, b: u8) -> u8 {
         self.kernel.of_bytes(a, b, self.overflow.policy())
     }
-}
 
-impl<A: Short, B: Short, K: Additive, P: Overflow> OfPair<A, B, i16> for Narrowed<K, P> {
-    ghost formula = { λ s. K.formula s.kernel S16 (P.policy s.overflow) };
-
-    fn item(&self, a: A, b: B) -> i16 {
-        self.kernel
-            .of_shorts(a.short(), b.short(), self.overflow.policy())
+    fn of_shorts(&self, a: i16, b: i16) -> i16 {
+        self.kernel.of_shorts(a, b, self.overflow.policy())
     }
 }
 
@@ -90,7 +86,7 @@ pub fn add_u8(first: &[u8], second: &[u8], policy: Policy, out: &mut [u8])
     ensures { map pos out.new ≡ zip2 (sum U8 policy) (map pos first.now) (map pos second.now) }
 {
     with_overflow!(policy, overflow => {
-        zip_rows(&Narrowed { kernel: Sum, overflow }, first, second, out)
+        zip_rows(&OfSamples(Narrowed { kernel: Sum, overflow }), first, second, out)
     })
 }
 
@@ -101,7 +97,7 @@ pub fn add_s16<A: Short, B: Short>(first: &[A], second: &[B], policy: Policy, ou
     ensures { out.new ≡ zip2 (sum S16 policy) (map A.value first.now) (map B.value second.now) }
 {
     with_overflow!(policy, overflow => {
-        zip_rows(&Narrowed { kernel: Sum, overflow }, first, second, out)
+        zip_rows(&OfSamples(Narrowed { kernel: Sum, overflow }), first, second, out)
     })
 }
 
@@ -113,7 +109,7 @@ pub fn sub_u8(first: &[u8], second: &[u8], policy: Policy, out: &mut [u8])
         (map pos second.now) }
 {
     with_overflow!(policy, overflow => {
-        zip_rows(&Narrowed { kernel: Difference, overflow }, first, second, out)
+        zip_rows(&OfSamples(Narrowed { kernel: Difference, overflow }), first, second, out)
     })
 }
 
@@ -125,6 +121,6 @@ pub fn sub_s16<A: Short, B: Short>(first: &[A], second: &[B], policy: Policy, ou
         (map B.value second.now) }
 {
     with_overflow!(policy, overflow => {
-        zip_rows(&Narrowed { kernel: Difference, overflow }, first, second, out)
+        zip_rows(&OfSamples(Narrowed { kernel: Difference, overflow }), first, second, out)
     })
 }

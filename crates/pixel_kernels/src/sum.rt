@@ -11,20 +11,35 @@ use image_core::{Image, ImageMut};
 use lane_rows::{Short, add_s16, add_u8, sub_s16, sub_u8};
 use vx_base::Policy;
 
+/// The sum under a policy.
 #[derive(Drop)]
-struct Sum {
-    policy: Policy,
-}
+struct Sum(Policy);
 
 impl Arithmetic for Sum {
-    ghost formula = { λ s format. sum format s.policy };
+    ghost formula = { λ s format. sum format s.0 };
 
     fn bytes(&self, first: &[u8], second: &[u8], out: &mut [u8]) {
-        add_u8(first, second, self.policy, out);
+        add_u8(first, second, self.0, out);
     }
 
     fn shorts<A: Short, B: Short>(&self, first: &[A], second: &[B], out: &mut [i16]) {
-        add_s16(first, second, self.policy, out);
+        add_s16(first, second, self.0, out);
+    }
+}
+
+/// The difference under a policy.
+#[derive(Drop)]
+struct Difference(Policy);
+
+impl Arithmetic for Difference {
+    ghost formula = { λ s format. difference format s.0 };
+
+    fn bytes(&self, first: &[u8], second: &[u8], out: &mut [u8]) {
+        sub_u8(first, second, self.0, out);
+    }
+
+    fn shorts<A: Short, B: Short>(&self, first: &[A], second: &[B], out: &mut [i16]) {
+        sub_s16(first, second, self.0, out);
     }
 }
 
@@ -35,24 +50,7 @@ pub fn add(first: &Image<'_>, second: &Image<'_>, output: &mut ImageMut<'_>, pol
     ensures { Writes (from_two (written output.old).format (sum (written output.old).format policy)
         first.now second.now) output.old output.new }
 {
-    write_arithmetic(&Sum { policy }, first, second, output);
-}
-
-#[derive(Drop)]
-struct Difference {
-    policy: Policy,
-}
-
-impl Arithmetic for Difference {
-    ghost formula = { λ s format. difference format s.policy };
-
-    fn bytes(&self, first: &[u8], second: &[u8], out: &mut [u8]) {
-        sub_u8(first, second, self.policy, out);
-    }
-
-    fn shorts<A: Short, B: Short>(&self, first: &[A], second: &[B], out: &mut [i16]) {
-        sub_s16(first, second, self.policy, out);
-    }
+    write_arithmetic(&Sum(policy), first, second, output);
 }
 
 /// Writes the first's samples less the second's (OpenVX 1.3, "Arithmetic Subtraction"): of U8 and
@@ -63,5 +61,5 @@ pub fn subtract(first: &Image<'_>, second: &Image<'_>, output: &mut ImageMut<'_>
         (difference (written output.old).format policy) first.now second.now)
         output.old output.new }
 {
-    write_arithmetic(&Difference { policy }, first, second, output);
+    write_arithmetic(&Difference(policy), first, second, output);
 }

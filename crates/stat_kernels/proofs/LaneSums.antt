@@ -1,4 +1,4 @@
--- Running sums in lanes, eight at a time.
+-- Running sums in lanes, sixteen at a time.
 use Rattle.std.proofs.Common.{◌≡◌, ℕ, ◌+◌, ◌-◌, ◌%◌, ◌<◌, ◌≤◌, List, [], ◌∷◌, ◌++◌, zero, suc, length, map, take, drop, get_or, set, replicate, refl, ap, ◌∙◌, sym, subst, w8, Fits, arith}
 use Rattle.std.specs.List.{sum, range_with_len}
 use Rattle.std.specs.Simd.Lanes.{zip2, Each1, pick_l, chunk, put_chunk}
@@ -16,31 +16,77 @@ use Rattle.stat_kernels.specs.Sums.{sum_below}
 abbrev shifted : List ℕ → List ℕ → List ℕ
 shifted ks xs = zip2 (λ a b. (a + b) % 65536) xs (pick_l 0 (replicate 8 0 ++ xs) ks)
 
+-- the sums that end with each pair of neighbours, of what stands first and second in each pair
+abbrev by_pairs : List ℕ → List ℕ → List ℕ
+by_pairs evens odds =
+    shifted (0 ∷ 0 ∷ 0 ∷ 0 ∷ 11 ∷ 11 ∷ 11 ∷ 11 ∷ []) (shifted (0 ∷ 0 ∷ 8 ∷ 9 ∷ 0 ∷ 0 ∷ 12 ∷ 13 ∷ []) (shifted (0 ∷ 8 ∷ 9 ∷ 10 ∷ 0 ∷ 12 ∷ 13 ∷ 14 ∷ []) (zip2 (λ a b. (a + b) % 65536) evens odds)))
+
+-- the same without what stands second in the pair, before each of them
+abbrev between : List ℕ → List ℕ → List ℕ
+between sums odds =
+    map (λ a. a) (pick_l 0 (zip2 (λ a b. (a + (65536 - b)) % 65536) sums odds ++ sums) (0 ∷ 8 ∷ 1 ∷ 9 ∷ 2 ∷ 10 ∷ 3 ∷ 11 ∷ 4 ∷ 12 ∷ 5 ∷ 13 ∷ 6 ∷ 14 ∷ 7 ∷ 15 ∷ []))
+
+abbrev picked : List ℕ → List ℕ → List ℕ
+picked ks xs = map (λ a. a) (pick_l 0 (xs ++ xs) ks)
+
 abbrev in_lanes : List ℕ → List ℕ
 in_lanes xs =
-    map (λ a. a) (shifted (0 ∷ 0 ∷ 0 ∷ 0 ∷ 8 ∷ 9 ∷ 10 ∷ 11 ∷ []) (shifted (0 ∷ 0 ∷ 8 ∷ 9 ∷ 10 ∷ 11 ∷ 12 ∷ 13 ∷ []) (shifted (0 ∷ 8 ∷ 9 ∷ 10 ∷ 11 ∷ 12 ∷ 13 ∷ 14 ∷ []) (map (λ a. a) xs))))
+    let odds = picked (1 ∷ 3 ∷ 5 ∷ 7 ∷ 9 ∷ 11 ∷ 13 ∷ 15 ∷ []) xs in
+    between (by_pairs (picked (0 ∷ 2 ∷ 4 ∷ 6 ∷ 8 ∷ 10 ∷ 12 ∷ 14 ∷ []) xs) odds) odds
 
 abbrev first_sums : List ℕ → List ℕ
-first_sums xs = map (λ k. sum (take k xs)) (range_with_len 1 8)
+first_sums xs = map (λ k. sum (take k xs)) (range_with_len 1 16)
 
-eight_sums : (a b c d e f g h : ℕ) → a < 256 → b < 256 → c < 256 → d < 256 → e < 256 → f < 256 → g < 256 → h < 256
-    → in_lanes (a ∷ b ∷ c ∷ d ∷ e ∷ f ∷ g ∷ h ∷ []) ≡ first_sums (a ∷ b ∷ c ∷ d ∷ e ∷ f ∷ g ∷ h ∷ [])
-eight_sums a b c d e f g h p q r s t u v w =
-    let a' : (((a + 0) % 65536 + 0) % 65536 + 0) % 65536 ≡ 0 + a = omega arith in
-    let b' : (((b + a) % 65536 + 0) % 65536 + 0) % 65536 ≡ 0 + a + b = omega arith in
-    let c' : (((c + b) % 65536 + (a + 0) % 65536) % 65536 + 0) % 65536 ≡ 0 + a + b + c = omega arith in
-    let d' : (((d + c) % 65536 + (b + a) % 65536) % 65536 + 0) % 65536 ≡ 0 + a + b + c + d = omega arith in
-    let e' : (((e + d) % 65536 + (c + b) % 65536) % 65536 + ((a + 0) % 65536 + 0) % 65536) % 65536 ≡ 0 + a + b + c + d + e = omega arith in
-    let f' : (((f + e) % 65536 + (d + c) % 65536) % 65536 + ((b + a) % 65536 + 0) % 65536) % 65536 ≡ 0 + a + b + c + d + e + f = omega arith in
-    let g' : (((g + f) % 65536 + (e + d) % 65536) % 65536 + ((c + b) % 65536 + (a + 0) % 65536) % 65536) % 65536 ≡ 0 + a + b + c + d + e + f + g = omega arith in
-    let h' : (((h + g) % 65536 + (f + e) % 65536) % 65536 + ((d + c) % 65536 + (b + a) % 65536) % 65536) % 65536 ≡ 0 + a + b + c + d + e + f + g + h = omega arith in
+sixteen_sums : (a0 a1 a2 a3 a4 a5 a6 a7 a8 a9 a10 a11 a12 a13 a14 a15 : ℕ) → a0 < 256 → a1 < 256 → a2 < 256 → a3 < 256 → a4 < 256 → a5 < 256 → a6 < 256 → a7 < 256 → a8 < 256 → a9 < 256 → a10 < 256 → a11 < 256 → a12 < 256 → a13 < 256 → a14 < 256 → a15 < 256
+    → in_lanes (a0 ∷ a1 ∷ a2 ∷ a3 ∷ a4 ∷ a5 ∷ a6 ∷ a7 ∷ a8 ∷ a9 ∷ a10 ∷ a11 ∷ a12 ∷ a13 ∷ a14 ∷ a15 ∷ []) ≡ first_sums (a0 ∷ a1 ∷ a2 ∷ a3 ∷ a4 ∷ a5 ∷ a6 ∷ a7 ∷ a8 ∷ a9 ∷ a10 ∷ a11 ∷ a12 ∷ a13 ∷ a14 ∷ a15 ∷ [])
+sixteen_sums a0 a1 a2 a3 a4 a5 a6 a7 a8 a9 a10 a11 a12 a13 a14 a15 h0 h1 h2 h3 h4 h5 h6 h7 h8 h9 h10 h11 h12 h13 h14 h15 =
+    let pair0 : (a0 + a1) % 65536 ≡ a0 + a1 = omega arith in
+    let pair1 : (a2 + a3) % 65536 ≡ a2 + a3 = omega arith in
+    let pair2 : (a4 + a5) % 65536 ≡ a4 + a5 = omega arith in
+    let pair3 : (a6 + a7) % 65536 ≡ a6 + a7 = omega arith in
+    let pair4 : (a8 + a9) % 65536 ≡ a8 + a9 = omega arith in
+    let pair5 : (a10 + a11) % 65536 ≡ a10 + a11 = omega arith in
+    let pair6 : (a12 + a13) % 65536 ≡ a12 + a13 = omega arith in
+    let pair7 : (a14 + a15) % 65536 ≡ a14 + a15 = omega arith in
+    let two0 : (a0 + a1 + 0) % 65536 ≡ a0 + a1 = omega arith in
+    let two1 : (a2 + a3 + (a0 + a1)) % 65536 ≡ a0 + a1 + a2 + a3 = omega arith in
+    let two2 : (a4 + a5 + (a2 + a3)) % 65536 ≡ a2 + a3 + a4 + a5 = omega arith in
+    let two3 : (a6 + a7 + (a4 + a5)) % 65536 ≡ a4 + a5 + a6 + a7 = omega arith in
+    let two4 : (a8 + a9 + 0) % 65536 ≡ a8 + a9 = omega arith in
+    let two5 : (a10 + a11 + (a8 + a9)) % 65536 ≡ a8 + a9 + a10 + a11 = omega arith in
+    let two6 : (a12 + a13 + (a10 + a11)) % 65536 ≡ a10 + a11 + a12 + a13 = omega arith in
+    let two7 : (a14 + a15 + (a12 + a13)) % 65536 ≡ a12 + a13 + a14 + a15 = omega arith in
+    let four0 : (a0 + a1 + 0) % 65536 ≡ a0 + a1 = omega arith in
+    let four1 : (a0 + a1 + a2 + a3 + 0) % 65536 ≡ a0 + a1 + a2 + a3 = omega arith in
+    let four2 : (a2 + a3 + a4 + a5 + (a0 + a1)) % 65536 ≡ a0 + a1 + a2 + a3 + a4 + a5 = omega arith in
+    let four3 : (a4 + a5 + a6 + a7 + (a0 + a1 + a2 + a3)) % 65536 ≡ a0 + a1 + a2 + a3 + a4 + a5 + a6 + a7 = omega arith in
+    let four4 : (a8 + a9 + 0) % 65536 ≡ a8 + a9 = omega arith in
+    let four5 : (a8 + a9 + a10 + a11 + 0) % 65536 ≡ a8 + a9 + a10 + a11 = omega arith in
+    let four6 : (a10 + a11 + a12 + a13 + (a8 + a9)) % 65536 ≡ a8 + a9 + a10 + a11 + a12 + a13 = omega arith in
+    let four7 : (a12 + a13 + a14 + a15 + (a8 + a9 + a10 + a11)) % 65536 ≡ a8 + a9 + a10 + a11 + a12 + a13 + a14 + a15 = omega arith in
+    let all0 : (a0 + a1 + 0) % 65536 ≡ 0 + a0 + a1 = omega arith in
+    let all1 : (a0 + a1 + a2 + a3 + 0) % 65536 ≡ 0 + a0 + a1 + a2 + a3 = omega arith in
+    let all2 : (a0 + a1 + a2 + a3 + a4 + a5 + 0) % 65536 ≡ 0 + a0 + a1 + a2 + a3 + a4 + a5 = omega arith in
+    let all3 : (a0 + a1 + a2 + a3 + a4 + a5 + a6 + a7 + 0) % 65536 ≡ 0 + a0 + a1 + a2 + a3 + a4 + a5 + a6 + a7 = omega arith in
+    let all4 : (a8 + a9 + (a0 + a1 + a2 + a3 + a4 + a5 + a6 + a7)) % 65536 ≡ 0 + a0 + a1 + a2 + a3 + a4 + a5 + a6 + a7 + a8 + a9 = omega arith in
+    let all5 : (a8 + a9 + a10 + a11 + (a0 + a1 + a2 + a3 + a4 + a5 + a6 + a7)) % 65536 ≡ 0 + a0 + a1 + a2 + a3 + a4 + a5 + a6 + a7 + a8 + a9 + a10 + a11 = omega arith in
+    let all6 : (a8 + a9 + a10 + a11 + a12 + a13 + (a0 + a1 + a2 + a3 + a4 + a5 + a6 + a7)) % 65536 ≡ 0 + a0 + a1 + a2 + a3 + a4 + a5 + a6 + a7 + a8 + a9 + a10 + a11 + a12 + a13 = omega arith in
+    let all7 : (a8 + a9 + a10 + a11 + a12 + a13 + a14 + a15 + (a0 + a1 + a2 + a3 + a4 + a5 + a6 + a7)) % 65536 ≡ 0 + a0 + a1 + a2 + a3 + a4 + a5 + a6 + a7 + a8 + a9 + a10 + a11 + a12 + a13 + a14 + a15 = omega arith in
+    let first0 : (0 + a0 + a1 + (65536 - a1)) % 65536 ≡ 0 + a0 = omega arith in
+    let first1 : (0 + a0 + a1 + a2 + a3 + (65536 - a3)) % 65536 ≡ 0 + a0 + a1 + a2 = omega arith in
+    let first2 : (0 + a0 + a1 + a2 + a3 + a4 + a5 + (65536 - a5)) % 65536 ≡ 0 + a0 + a1 + a2 + a3 + a4 = omega arith in
+    let first3 : (0 + a0 + a1 + a2 + a3 + a4 + a5 + a6 + a7 + (65536 - a7)) % 65536 ≡ 0 + a0 + a1 + a2 + a3 + a4 + a5 + a6 = omega arith in
+    let first4 : (0 + a0 + a1 + a2 + a3 + a4 + a5 + a6 + a7 + a8 + a9 + (65536 - a9)) % 65536 ≡ 0 + a0 + a1 + a2 + a3 + a4 + a5 + a6 + a7 + a8 = omega arith in
+    let first5 : (0 + a0 + a1 + a2 + a3 + a4 + a5 + a6 + a7 + a8 + a9 + a10 + a11 + (65536 - a11)) % 65536 ≡ 0 + a0 + a1 + a2 + a3 + a4 + a5 + a6 + a7 + a8 + a9 + a10 = omega arith in
+    let first6 : (0 + a0 + a1 + a2 + a3 + a4 + a5 + a6 + a7 + a8 + a9 + a10 + a11 + a12 + a13 + (65536 - a13)) % 65536 ≡ 0 + a0 + a1 + a2 + a3 + a4 + a5 + a6 + a7 + a8 + a9 + a10 + a11 + a12 = omega arith in
+    let first7 : (0 + a0 + a1 + a2 + a3 + a4 + a5 + a6 + a7 + a8 + a9 + a10 + a11 + a12 + a13 + a14 + a15 + (65536 - a15)) % 65536 ≡ 0 + a0 + a1 + a2 + a3 + a4 + a5 + a6 + a7 + a8 + a9 + a10 + a11 + a12 + a13 + a14 = omega arith in
     cc
 
-pub running_sums : (xs : List ℕ) → length xs ≡ 8 → Each1 (Fits w8) xs → in_lanes xs ≡ first_sums xs
+pub running_sums : (xs : List ℕ) → length xs ≡ 16 → Each1 (Fits w8) xs → in_lanes xs ≡ first_sums xs
 running_sums xs long fits =
-    let small : (k : ℕ) → k < 8 → get_or xs k 0 < 256 = λ k below. (Each1-get_or (Fits w8) xs k 0 (omega (arith, long, below)) fits).fits in
-    subst (λ u. in_lanes u ≡ first_sums u) (pick_l_whole 0 xs 8 long)
-    (eight_sums _ _ _ _ _ _ _ _ (small 0 (omega arith)) (small 1 (omega arith)) (small 2 (omega arith)) (small 3 (omega arith)) (small 4 (omega arith)) (small 5 (omega arith)) (small 6 (omega arith)) (small 7 (omega arith)))
+    let small : (k : ℕ) → k < 16 → get_or xs k 0 < 256 = λ k below. (Each1-get_or (Fits w8) xs k 0 (omega (arith, long, below)) fits).fits in
+    subst (λ u. in_lanes u ≡ first_sums u) (pick_l_whole 0 xs 16 long)
+    (sixteen_sums _ _ _ _ _ _ _ _ _ _ _ _ _ _ _ _ (small 0 (omega arith)) (small 1 (omega arith)) (small 2 (omega arith)) (small 3 (omega arith)) (small 4 (omega arith)) (small 5 (omega arith)) (small 6 (omega arith)) (small 7 (omega arith)) (small 8 (omega arith)) (small 9 (omega arith)) (small 10 (omega arith)) (small 11 (omega arith)) (small 12 (omega arith)) (small 13 (omega arith)) (small 14 (omega arith)) (small 15 (omega arith)))
 
 -- ---- a block of a row
 
@@ -60,85 +106,89 @@ along f g h t i k (suc n) same =
     subst (λ m. (h m + (f (i + 1 + j) + t) % 4294967296) % 4294967296 ≡ g m) right (subst (λ m. (h (k + suc j) + (f m + t) % 4294967296) % 4294967296 ≡ g (k + suc j)) left (same (suc j) (omega arith))) in
     cc (first, along f g h t (i + 1) (k + 1) n next)
 
+-- eight lanes as both halves of sixteen
+abbrev pub doubled : List ℕ → List ℕ
+doubled xs = pick_l 0 (xs ++ xs) (0 ∷ 1 ∷ 2 ∷ 3 ∷ 4 ∷ 5 ∷ 6 ∷ 7 ∷ 0 ∷ 1 ∷ 2 ∷ 3 ∷ 4 ∷ 5 ∷ 6 ∷ 7 ∷ [])
+
 abbrev cut : List ℕ → ℕ → List ℕ
-cut xs i = take (i + 8 - i) (drop i xs)
+cut xs i = take (i + 16 - i) (drop i xs)
 
-cut_is : (xs : List ℕ) (i : ℕ) → cut xs i ≡ take 8 (drop i xs)
-cut_is xs i = let e : i + 8 - i ≡ 8 = omega arith in ap (λ n. take n (drop i xs)) e
+cut_is : (xs : List ℕ) (i : ℕ) → cut xs i ≡ take 16 (drop i xs)
+cut_is xs i = let e : i + 16 - i ≡ 16 = omega arith in ap (λ n. take n (drop i xs)) e
 
-loaded_is : (xs : List ℕ) (i : ℕ) → i + 8 ≤ length xs → chunk 0 8 (cut xs i) ≡ map (λ k. get_or xs k 0) (range_with_len i 8)
-loaded_is xs i inside = ap (take 8) (cut_is xs i) ∙ take-take 8 8 (drop i xs) (omega arith) ∙ sym (pick_l-range_with_len 0 xs i 8 inside)
+loaded_is : (xs : List ℕ) (i : ℕ) → i + 16 ≤ length xs → chunk 0 16 (cut xs i) ≡ map (λ k. get_or xs k 0) (range_with_len i 16)
+loaded_is xs i inside = ap (take 16) (cut_is xs i) ∙ take-take 16 16 (drop i xs) (omega arith) ∙ sym (pick_l-range_with_len 0 xs i 16 inside)
 
 -- a sum of what is left of a sum
 pub sum_wraps : (a b c : ℕ) → a ≡ c % 4294967296 → (a + b) % 4294967296 ≡ (c + b) % 4294967296
 sum_wraps a b c is = omega arith
 
-module _ (row above : List ℕ) (i : ℕ) (inside : i + 8 ≤ length row) where
-  sum_after : (j : ℕ) → j ≤ 8 → sum (take j (chunk 0 8 (cut row i))) + sum (take i row) ≡ sum (take (i + j) row)
+module _ (row above : List ℕ) (i : ℕ) (inside : i + 16 ≤ length row) where
+  sum_after : (j : ℕ) → j ≤ 16 → sum (take j (chunk 0 16 (cut row i))) + sum (take i row) ≡ sum (take (i + j) row)
   sum_after j below =
-      let part : take j (chunk 0 8 (cut row i)) ≡ take j (drop i row) =
-      take-take j 8 (cut row i) below ∙ ap (take j) (cut_is row i) ∙ take-take j 8 (drop i row) below in
+      let part : take j (chunk 0 16 (cut row i)) ≡ take j (drop i row) =
+      take-take j 16 (cut row i) below ∙ ap (take j) (cut_is row i) ∙ take-take j 16 (drop i row) below in
       omega (arith, ap sum part, ap sum (take-add i j row), sum_by-append (λ x. x) (take i row) (take j (drop i row)))
 
-  lane : (j : ℕ) → j < 8 → (get_or above (i + j) 0 + (sum (take (1 + j) (chunk 0 8 (cut row i))) + sum (take i row) % 4294967296) % 4294967296) % 4294967296 ≡ sum_below above row (i + j)
+  lane : (j : ℕ) → j < 16 → (get_or above (i + j) 0 + (sum (take (1 + j) (chunk 0 16 (cut row i))) + sum (take i row) % 4294967296) % 4294967296) % 4294967296 ≡ sum_below above row (i + j)
   lane j below =
       let e : i + (1 + j) ≡ i + j + 1 = omega arith in
-      wraps (get_or above (i + j) 0) (sum (take (1 + j) (chunk 0 8 (cut row i)))) (sum (take i row)) (sum (take (i + j + 1) row)) (sum_after (1 + j) (omega arith) ∙ ap (λ n. sum (take n row)) e)
+      wraps (get_or above (i + j) 0) (sum (take (1 + j) (chunk 0 16 (cut row i)))) (sum (take i row)) (sum (take (i + j + 1) row)) (sum_after (1 + j) (omega arith) ∙ ap (λ n. sum (take n row)) e)
     where
       wraps : (a b c d : ℕ) → b + c ≡ d → (a + (b + c % 4294967296) % 4294967296) % 4294967296 ≡ (a + d) % 4294967296
       wraps a b c d is = omega arith
 
   -- the total once the block is added
-  pub block_total : (sums total : List ℕ) (n : ℕ) → n ≡ i + 8 → sums ≡ first_sums (chunk 0 8 (cut row i)) → total ≡ replicate 8 (sum (take i row) % 4294967296)
-      → plus (pick_l 0 (sums ++ sums) (7 ∷ 7 ∷ 7 ∷ 7 ∷ 7 ∷ 7 ∷ 7 ∷ 7 ∷ [])) total ≡ replicate 8 (sum (take n row) % 4294967296)
+  pub block_total : (sums total : List ℕ) (n : ℕ) → n ≡ i + 16 → sums ≡ first_sums (chunk 0 16 (cut row i)) → total ≡ replicate 8 (sum (take i row) % 4294967296)
+      → plus (pick_l 0 (sums ++ sums) (replicate 8 15)) total ≡ replicate 8 (sum (take n row) % 4294967296)
   block_total sums total n next are is =
-      ap (λ l. plus (pick_l 0 (l ++ l) (7 ∷ 7 ∷ 7 ∷ 7 ∷ 7 ∷ 7 ∷ 7 ∷ 7 ∷ [])) total) are
-      ∙ ap (plus (replicate 8 (sum (take 8 (chunk 0 8 (cut row i)))))) is
-      ∙ ap (replicate 8) (wraps (sum (take 8 (chunk 0 8 (cut row i)))) (sum (take i row)) (sum (take n row)) (sum_after 8 (omega arith) ∙ ap (λ m. sum (take m row)) (sym next)))
+      ap (λ l. plus (pick_l 0 (l ++ l) (replicate 8 15)) total) are
+      ∙ ap (plus (replicate 8 (sum (take 16 (chunk 0 16 (cut row i)))))) is
+      ∙ ap (replicate 8) (wraps (sum (take 16 (chunk 0 16 (cut row i)))) (sum (take i row)) (sum (take n row)) (sum_after 16 (omega arith) ∙ ap (λ m. sum (take m row)) (sym next)))
     where
       wraps : (a b c : ℕ) → a + b ≡ c → (a + b % 4294967296) % 4294967296 ≡ c % 4294967296
       wraps a b c is = omega arith
 
   -- the sums of the block
-  pub block_is : (sums total : List ℕ) → i + 8 ≤ length above → sums ≡ first_sums (chunk 0 8 (cut row i)) → total ≡ replicate 8 (sum (take i row) % 4294967296)
-      → plus (chunk 0 8 (cut above i)) (plus sums total) ≡ map (sum_below above row) (range_with_len i 8)
+  pub block_is : (sums total : List ℕ) → i + 16 ≤ length above → sums ≡ first_sums (chunk 0 16 (cut row i)) → total ≡ replicate 8 (sum (take i row) % 4294967296)
+      → plus (chunk 0 16 (cut above i)) (plus sums (doubled total)) ≡ map (sum_below above row) (range_with_len i 16)
   block_is sums total room are is =
-      ap (λ l. plus l (plus sums total)) (loaded_is above i room)
-      ∙ ap (λ l. plus (map (λ k. get_or above k 0) (range_with_len i 8)) (plus l total)) are
-      ∙ ap (λ l. plus (map (λ k. get_or above k 0) (range_with_len i 8)) (plus (first_sums (chunk 0 8 (cut row i))) l)) is
-      ∙ along (λ k. sum (take k (chunk 0 8 (cut row i)))) (sum_below above row) (λ k. get_or above k 0) (sum (take i row) % 4294967296) 1 i 8 lane
+      ap (λ l. plus l (plus sums (doubled total))) (loaded_is above i room)
+      ∙ ap (λ l. plus (map (λ k. get_or above k 0) (range_with_len i 16)) (plus l (doubled total))) are
+      ∙ ap (λ l. plus (map (λ k. get_or above k 0) (range_with_len i 16)) (plus (first_sums (chunk 0 16 (cut row i))) (doubled l))) is
+      ∙ along (λ k. sum (take k (chunk 0 16 (cut row i)))) (sum_below above row) (λ k. get_or above k 0) (sum (take i row) % 4294967296) 1 i 16 lane
 
   -- the sums that stand in a row once the block is written
-  pub block_written : (block out : List ℕ) (n m : ℕ) → n ≡ i + 8 → length out ≡ length row → block ≡ map (sum_below above row) (range_with_len i 8)
+  pub block_written : (block out : List ℕ) (n m : ℕ) → n ≡ i + 16 → length out ≡ length row → block ≡ map (sum_below above row) (range_with_len i 16)
       → take i out ≡ map (sum_below above row) (range_with_len 0 i)
       → take n (put_mid i m out (put_chunk 0 (cut out i) block)) ≡ map (sum_below above row) (range_with_len 0 n)
   block_written block out n m next long is before =
       let g = sum_below above row in
-      let same : length (cut out i) ≡ length block = ap length (cut_is out i) ∙ length-chunk i 8 out (omega arith) ∙ sym (ap length is) in
+      let same : length (cut out i) ≡ length block = ap length (cut_is out i) ∙ length-chunk i 16 out (omega arith) ∙ sym (ap length is) in
       let start : 0 + i ≡ i = omega arith in
       ap (λ l. take n (put_mid i m out l)) (put_chunk_whole (cut out i) block same ∙ is)
-      ∙ take-put_mid i m out (map g (range_with_len i 8)) n next (omega arith)
-      ∙ ap (λ l. l ++ map g (range_with_len i 8)) before
-      ∙ ap (λ k. map g (range_with_len 0 i) ++ map g (range_with_len k 8)) (sym start)
-      ∙ sym (map-append g (range_with_len 0 i) (range_with_len (0 + i) 8))
-      ∙ ap (map g) (sym (range-append 0 i 8) ∙ ap (range_with_len 0) (sym next))
+      ∙ take-put_mid i m out (map g (range_with_len i 16)) n next (omega arith)
+      ∙ ap (λ l. l ++ map g (range_with_len i 16)) before
+      ∙ ap (λ k. map g (range_with_len 0 i) ++ map g (range_with_len k 16)) (sym start)
+      ∙ sym (map-append g (range_with_len 0 i) (range_with_len (0 + i) 16))
+      ∙ ap (map g) (sym (range-append 0 i 16) ∙ ap (range_with_len 0) (sym next))
 
   -- what stands past the block
-  pub block_past : (block out before : List ℕ) (n m : ℕ) → n ≡ i + 8 → m ≡ 8 → length out ≡ length row → block ≡ map (sum_below above row) (range_with_len i 8) → drop i out ≡ drop i before
+  pub block_past : (block out before : List ℕ) (n m : ℕ) → n ≡ i + 16 → m ≡ 16 → length out ≡ length row → block ≡ map (sum_below above row) (range_with_len i 16) → drop i out ≡ drop i before
       → drop n (put_mid i m out (put_chunk 0 (cut out i) block)) ≡ drop n before
   block_past block out before n m next eight long is others =
-      let same : length (cut out i) ≡ length block = ap length (cut_is out i) ∙ length-chunk i 8 out (omega arith) ∙ sym (ap length is) in
+      let same : length (cut out i) ≡ length block = ap length (cut_is out i) ∙ length-chunk i 16 out (omega arith) ∙ sym (ap length is) in
       let wide : length (put_chunk 0 (cut out i) block) ≡ m = ap length (put_chunk_whole (cut out i) block same) ∙ ap length is ∙ sym eight in
       drop-put_mid i m out (put_chunk 0 (cut out i) block) n (omega arith) (omega arith) wide
       ∙ ap (λ k. drop k out) next
-      ∙ sym (drop-drop 8 i out)
-      ∙ ap (drop 8) others
-      ∙ drop-drop 8 i before
+      ∙ sym (drop-drop 16 i out)
+      ∙ ap (drop 16) others
+      ∙ drop-drop 16 i before
       ∙ ap (λ k. drop k before) (sym next)
 
 -- a block that is read where nothing is written yet
-pub unwritten : (i : ℕ) (out before : List ℕ) → drop i out ≡ drop i before → chunk 0 8 (cut out i) ≡ chunk 0 8 (cut before i)
-unwritten i out before others = ap (λ l. chunk 0 8 (take (i + 8 - i) l)) others
+pub unwritten : (i : ℕ) (out before : List ℕ) → drop i out ≡ drop i before → chunk 0 16 (cut out i) ≡ chunk 0 16 (cut before i)
+unwritten i out before others = ap (λ l. chunk 0 16 (take (i + 16 - i) l)) others
 
 -- ---- one more place
 

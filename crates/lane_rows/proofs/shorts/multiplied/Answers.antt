@@ -1,24 +1,69 @@
-use Rattle.std.proofs.Common.{◌≡◌, ℕ, ℤ, ◌^◌, ◌≤◌, pos, int_div, unsigned_abs, List, map, ap, ◌∙◌, sym, subst, w16, w32, FitsSigned, to_z, of_z}
+use Rattle.std.proofs.Common.{◌≡◌, ℕ, ℤ, ◌^◌, ◌≤◌, pos, int_div, unsigned_abs, List, length, map, refl, ap, ◌∙◌, sym, subst, w16, w32, FitsSigned, to_z, of_z}
 use Rattle.std.specs.Prelude.{◌*ℤ◌}
 use Rattle.std.specs.Simd.Lanes.{zip2, Each1}
+use Rattle.std.proofs.lemmas.Simd.{length-zip2}
 use Rattle.vx_base.specs.declared.format.Format.TheVariants.{S16}
+use Rattle.vx_base.specs.declared.policy.Policy.{Policy}
 use Rattle.vx_base.specs.Sample.{narrow}
 use Rattle.vx_base.specs.Pixelwise.{product}
+use Rattle.lane_rows.specs.Quarters.{exchanged}
 use Rattle.lane_rows.proofs.ShortLaws.{of_bits, fit_as_bits, told, products_fit, product_sizes}
-use Rattle.lane_rows.proofs.NarrowLaws.{quotients_fit, products_narrowed, narrowed_products_fit}
+use Rattle.lane_rows.proofs.QuarterLaws.{written_out, Each1-exchanged}
+use Rattle.lane_rows.proofs.NarrowLaws.{quotients_fit, products_narrowed, narrow_fits, narrowed_products_fit}
 use Rattle.lane_rows.proofs.shorts.multiplied.Goals as goal
+use mir.Syntax.{Width}
+
+-- what lanes of a width hold
+abbrev in_lanes : Width → List ℤ → List ℤ
+in_lanes w zs = map (to_z w) (map (of_z w) zs)
+
+abbrev over : ℕ → List ℤ → List ℤ
+over n zs = map (λ z. int_div z (pos (2 ^ n))) zs
 
 module _ (a b : List ℤ) (f : Each1 (FitsSigned w16) a) (g : Each1 (FitsSigned w16) b) where
-  whole : (ps : List ℤ) → ps ≡ zip2 ◌*ℤ◌ (map (to_z w16) (map (of_z w16) a)) (map (to_z w16) (map (of_z w16) b)) → map (to_z w32) (map (of_z w32) ps) ≡ zip2 ◌*ℤ◌ a b
-  whole ps is =
-      told w32 ps (zip2 ◌*ℤ◌ a b)
-      (is ∙ ap (λ (l : List ℤ). zip2 ◌*ℤ◌ l (map (to_z w16) (map (of_z w16) b))) (of_bits w16 a f) ∙ ap (λ (l : List ℤ). zip2 ◌*ℤ◌ a l) (of_bits w16 b g))
-      (products_fit a b f g)
+  abbrev moved : List ℤ
+  moved = exchanged (zip2 ◌*ℤ◌ a b)
 
-  over : (n : ℕ) (ps qs : List ℤ) → ps ≡ zip2 ◌*ℤ◌ (map (to_z w16) (map (of_z w16) a)) (map (to_z w16) (map (of_z w16) b)) → qs ≡ map (λ z. int_div z (pos (2 ^ n))) (map (to_z w32) (map (of_z w32) ps))
-      → map (to_z w32) (map (of_z w32) qs) ≡ map (λ z. int_div z (pos (2 ^ n))) (zip2 ◌*ℤ◌ a b)
-  over n ps qs is so =
-      told w32 qs (map (λ z. int_div z (pos (2 ^ n))) (zip2 ◌*ℤ◌ a b)) (so ∙ ap (map (λ z. int_div z (pos (2 ^ n)))) (whole ps is)) (quotients_fit n (zip2 ◌*ℤ◌ a b) (products_fit a b f g))
+  moved_fit : Each1 (FitsSigned w32) moved
+  moved_fit = Each1-exchanged (FitsSigned w32) (zip2 ◌*ℤ◌ a b) (products_fit a b f g)
+
+  pub multiplied_are : (ps : List ℤ) → ps ≡ exchanged (zip2 ◌*ℤ◌ (in_lanes w16 a) (in_lanes w16 b)) → in_lanes w32 ps ≡ moved
+  multiplied_are ps is =
+      told w32 ps moved (is ∙ ap (λ (l : List ℤ). exchanged (zip2 ◌*ℤ◌ l (in_lanes w16 b))) (of_bits w16 a f) ∙ ap (λ (l : List ℤ). exchanged (zip2 ◌*ℤ◌ a l)) (of_bits w16 b g)) moved_fit
+
+  pub sizes : (ps : List ℤ) → ps ≡ exchanged (zip2 ◌*ℤ◌ (in_lanes w16 a) (in_lanes w16 b)) → Each1 (λ z. unsigned_abs z ≤ 1073741824) (in_lanes w32 ps)
+  sizes ps is =
+      subst (Each1 (λ z. unsigned_abs z ≤ 1073741824)) (sym (multiplied_are ps is))
+      (Each1-exchanged (λ z. unsigned_abs z ≤ 1073741824) (zip2 ◌*ℤ◌ a b) (product_sizes a b f g))
+
+  module _ (n : ℕ) (ps qs : List ℤ) (is : ps ≡ exchanged (zip2 ◌*ℤ◌ (in_lanes w16 a) (in_lanes w16 b))) (so : qs ≡ over n (in_lanes w32 ps)) where
+    divided_fit : Each1 (FitsSigned w32) (over n moved)
+    divided_fit = quotients_fit n moved moved_fit
+
+    divided_are : in_lanes w32 qs ≡ over n moved
+    divided_are = told w32 qs (over n moved) (so ∙ ap (over n) (multiplied_are ps is)) divided_fit
+
+    pub fit : Each1 (FitsSigned w32) (in_lanes w32 qs)
+    fit = subst (Each1 (FitsSigned w32)) (sym divided_are) divided_fit
+
+    module _ (policy : Policy) (ns : List ℤ) (thus : ns ≡ map (narrow S16 policy) (in_lanes w32 qs)) where
+      narrow_ones_fit : Each1 (FitsSigned w16) (map (narrow S16 policy) (over n moved))
+      narrow_ones_fit = narrow_fits policy (over n moved) divided_fit
+
+      narrow_are : in_lanes w16 ns ≡ map (narrow S16 policy) (over n moved)
+      narrow_are = told w16 ns (map (narrow S16 policy) (over n moved)) (thus ∙ ap (map (narrow S16 policy)) divided_are) narrow_ones_fit
+
+      pub narrow_fit : Each1 (FitsSigned w16) (in_lanes w16 ns)
+      narrow_fit = subst (Each1 (FitsSigned w16)) (sym narrow_are) narrow_ones_fit
+
+      pub placed : (rs : List ℤ) → length a ≡ 16 → length b ≡ 16 → rs ≡ exchanged (in_lanes w16 ns) → in_lanes w16 rs ≡ zip2 (product S16 policy n) a b
+      placed rs p q last =
+          told w16 rs (zip2 (product S16 policy n) a b)
+          (last
+          ∙ ap exchanged narrow_are
+          ∙ written_out (pos 0) (λ u. exchanged (map (narrow S16 policy) (over n (exchanged u))) ≡ map (narrow S16 policy) (over n u)) (zip2 ◌*ℤ◌ a b) (length-zip2 ◌*ℤ◌ a b (p ∙ sym q) ∙ p) refl
+          ∙ products_narrowed policy n a b)
+          (narrowed_products_fit policy n a b f g)
 
 pub products-requires-clause-a_fits : goal.products-requires-clause-a_fits
 products-requires-clause-a_fits c = fit_as_bits w16 c.args.a c.requires.a_fits
@@ -27,19 +72,16 @@ pub products-requires-clause-b_fits : goal.products-requires-clause-b_fits
 products-requires-clause-b_fits c = fit_as_bits w16 c.args.b c.requires.b_fits
 
 pub scaled-requires-clause-size : goal.scaled-requires-clause-size
-scaled-requires-clause-size c =
-    subst (Each1 (λ z. unsigned_abs z ≤ 1073741824)) (sym (whole c.args.a c.args.b c.requires.a_fits c.requires.b_fits c.products.result c.products.ensures))
-    (product_sizes c.args.a c.args.b c.requires.a_fits c.requires.b_fits)
+scaled-requires-clause-size c = sizes c.args.a c.args.b c.requires.a_fits c.requires.b_fits c.products.result c.products.ensures
 
 pub narrowed-requires-clause-fits : goal.narrowed-requires-clause-fits
-narrowed-requires-clause-fits c =
-    subst (Each1 (FitsSigned w32)) (sym (over c.args.a c.args.b c.requires.a_fits c.requires.b_fits c.args.amount c.products.result c.scaled.result c.products.ensures c.scaled.ensures))
-    (quotients_fit c.args.amount (zip2 ◌*ℤ◌ c.args.a c.args.b) (products_fit c.args.a c.args.b c.requires.a_fits c.requires.b_fits))
+narrowed-requires-clause-fits c = fit c.args.a c.args.b c.requires.a_fits c.requires.b_fits c.args.amount c.products.result c.scaled.result c.products.ensures c.scaled.ensures
+
+pub quarters_exchanged-requires-clause-fits : goal.quarters_exchanged-requires-clause-fits
+quarters_exchanged-requires-clause-fits c =
+    narrow_fit c.args.a c.args.b c.requires.a_fits c.requires.b_fits c.args.amount c.products.result c.scaled.result c.products.ensures c.scaled.ensures c.args.policy c.narrowed.result c.narrowed.ensures
 
 pub returns : goal.returns
 returns c =
-    told w16 c.narrowed.result (zip2 (product S16 c.args.policy c.args.amount) c.args.a c.args.b)
-    (c.narrowed.ensures
-    ∙ ap (map (narrow S16 c.args.policy)) (over c.args.a c.args.b c.requires.a_fits c.requires.b_fits c.args.amount c.products.result c.scaled.result c.products.ensures c.scaled.ensures)
-    ∙ products_narrowed c.args.policy c.args.amount c.args.a c.args.b)
-    (narrowed_products_fit c.args.policy c.args.amount c.args.a c.args.b c.requires.a_fits c.requires.b_fits)
+    placed c.args.a c.args.b c.requires.a_fits c.requires.b_fits c.args.amount c.products.result c.scaled.result c.products.ensures c.scaled.ensures c.args.policy c.narrowed.result c.narrowed.ensures
+    c.quarters_exchanged.result c.requires.a_len c.requires.b_len c.quarters_exchanged.ensures

@@ -6,6 +6,6 @@ use Rattle.stat_kernels.proofs.running.add_blocks.Given as goal
 abbrev pub invariant-loop-block : goal.invariant-loop-block
 invariant-loop-block l =
     record {
-      written : take (8 * l.block) l.out ≡ map (sum_below l.above l.row) (range_with_len 0 (8 * l.block));
-      total : l.total ≡ replicate 8 (sum (take (8 * l.block) l.row) % 2 ^ 32);
+      written : take (16 * l.block) l.out ≡ map (sum_below l.above l.row) (range_with_len 0 (16 * l.block));
+      total : l.total ≡ replicate 8 (sum (take (16 * l.block) l.row) % 2 ^ 32);
     }
