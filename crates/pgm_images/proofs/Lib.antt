@@ -6,7 +6,7 @@ pub mod DigitLemmas
 pub mod WrittenBack
 pub mod GapLemmas
 pub mod ShortLemmas
-pub mod AheadLemmas
+pub mod BlockLemmas
 pub mod SpacedLemmas
 pub mod StandsLemmas
 pub mod HeaderLemmas

@@ -2,18 +2,14 @@
 use Rattle.std.proofs.Common.{◌≡◌, ℕ, ℤ, pos, zero, suc, ◌+◌, ◌-◌, ◌<◌, ◌≤◌, Bool, true, false, not, ◌==◌, ◌||◌, ◌&&◌, nat_le, nat_lt, List, [], ◌∷◌, ◌++◌, map, Option, Some, None, Ok, Err, refl, ap, sym, subst, ◌∙◌, append_assoc, append-nil, length, take, ◌≢◌, arith}
 use Rattle.std.specs.Prelude.{min}
 use Rattle.std.specs.Option.{option_map}
-use Rattle.std.proofs.lemmas.Bool.{eqb-true}
+use Rattle.std.proofs.lemmas.Bool.{eqb-true, le-ltb}
 use Rattle.std.proofs.lemmas.Bool.Decides.{nat_tests}
 use Rattle.std.proofs.Math.ListN.{set}
 use Rattle.std.proofs.lemmas.List.{map-append, length-set, take_all, take_more_set}
 use Rattle.std.proofs.lemmas.List.Folds.{list_all-append}
 use Rattle.pgm_images.specs.declared.fault.PgmFault.TheVariants.{InvalidFormat, InvalidValue}
 use Rattle.pgm_images.specs.Marks.{BeginsWith, Kept}
-use Rattle.pgm_images.specs.Raster.{Reads, samples_up_to, all_up_to, so_many, take_short_sample, nothing_left}
-
--- these numbers, and then the others
-abbrev pub after : List ℕ → Option (List ℕ) → Option (List ℕ)
-after done o = option_map (λ others. done ++ others) o
+use Rattle.pgm_images.specs.Raster.{Reads, Filled, Filling, after, samples_up_to, all_up_to, so_many, take_short_sample, nothing_left}
 
 after_one : (done : List ℕ) (n : ℕ) (o : Option (List ℕ)) → after done (option_map (λ others. n ∷ others) o) ≡ after (done ++ n ∷ []) o
 after_one done n None = refl
@@ -37,16 +33,6 @@ so_many-none take is_end zero done rest whole some is none = absurd (omega arith
 so_many-none take is_end (suc left) done rest whole some is none = is ∙ rw none refl
 
 -- ---- numbers that were written over samples
-
--- These numbers of a text are the samples, unless one is above the maxval. A number above 65535 was
--- taken for 65535.
-pub record Filled (maxval : ℕ) (high : Bool) (written : List ℤ) (numbers : List ℕ) : Type 0 where
-  pub above : high ≡ not (all_up_to maxval numbers)
-  pub samples : high ≡ false → written ≡ map pos numbers
-
--- as many of the whole text's numbers were written as index says, and rest is the text after them
-abbrev pub Filling : (take : List ℕ → BeginsWith ℕ) (is_end : List ℕ → Bool) (maxval : ℕ) (above : Bool) (samples : List ℤ) (left : ℕ) (rest : List ℕ) (whole : Option (List ℕ)) → Type 0
-Filling take is_end maxval above samples left rest whole = (numbers : List ℕ) × Filled maxval above samples numbers × (whole ≡ after numbers (so_many take is_end left rest))
 
 kept_above : (maxval n kept : ℕ) → maxval ≤ 32767 → kept ≡ min n 65535 → nat_lt maxval kept ≡ not (nat_le n maxval)
 kept_above maxval n kept low least = grind (arith, nat_tests)
@@ -95,6 +81,34 @@ filling_set {T} value take_one is_end maxval kept index high samples sample rest
     subst (λ w. Filling take_one is_end maxval (high || nat_lt maxval kept) w (length (set samples index sample) - (index + 1)) others whole) (sym written)
     (subst (λ left. Filling take_one is_end maxval (high || nat_lt maxval kept) (map value (take index samples) ++ value sample ∷ []) left others whole) (sym fewer) more)
 
+-- the same after others that were found high or not
+or_or : (a b c : Bool) → ((a || b) || c) ≡ (a || (b || c))
+or_or true b c = refl
+or_or false b c = refl
+
+pub filling_next : {T : Type 0} (value : T → ℤ) (take_one : List ℕ → BeginsWith ℕ) (is_end : List ℕ → Bool) (maxval kept index : ℕ) (above high : Bool) (samples : List T) (sample : T) (rest others : List ℕ) (whole : Option (List ℕ))
+    → index < length samples → maxval ≤ 32767 → Kept (take_one rest) kept others → value sample ≡ pos (min kept maxval)
+    → Filling take_one is_end maxval (above || high) (map value (take index samples)) (length samples - index) rest whole
+    → Filling take_one is_end maxval (above || (high || nat_lt maxval kept)) (map value (take (index + 1) (set samples index sample))) (length (set samples index sample) - (index + 1)) others whole
+filling_next value take_one is_end maxval kept index above high samples sample rest others whole within low took is before =
+    subst (λ b. Filling take_one is_end maxval b (map value (take (index + 1) (set samples index sample))) (length (set samples index sample) - (index + 1)) others whole) (or_or above high (nat_lt maxval kept))
+    (filling_set value take_one is_end maxval kept index (above || high) samples sample rest others whole within low took is before)
+
+-- the same of a number that isn't above the maxval
+or_false : (b : Bool) → (b || false) ≡ b
+or_false true = refl
+or_false false = refl
+
+pub filling_low : {T : Type 0} (value : T → ℤ) (take_one : List ℕ → BeginsWith ℕ) (is_end : List ℕ → Bool) (maxval kept index : ℕ) (high : Bool) (samples : List T) (sample : T) (rest others : List ℕ) (whole : Option (List ℕ))
+    → index < length samples → maxval ≤ 32767 → Kept (take_one rest) kept others → kept ≤ maxval → value sample ≡ pos kept
+    → Filling take_one is_end maxval high (map value (take index samples)) (length samples - index) rest whole
+    → Filling take_one is_end maxval high (map value (take (index + 1) (set samples index sample))) (length (set samples index sample) - (index + 1)) others whole
+filling_low {T} value take_one is_end maxval kept index high samples sample rest others whole within low took below is before =
+    let same : (high || nat_lt maxval kept) ≡ high = ap (λ b. high || b) (le-ltb maxval kept below) ∙ or_false high in
+    let least : pos kept ≡ pos (min kept maxval) = ap pos (omega (arith, below)) in
+    subst (λ b. Filling take_one is_end maxval b (map value (take (index + 1) (set samples index sample))) (length (set samples index sample) - (index + 1)) others whole) same
+    (filling_set value take_one is_end maxval kept index high samples sample rest others whole within low took (is ∙ least) before)
+
 -- all were written, the text ends, and none is above the maxval
 not_false : (high below : Bool) → high ≡ not below → high ≡ false → below ≡ true
 not_false high true e f = refl
@@ -112,11 +126,12 @@ filling_done value take_one is_end maxval index high samples rest whole done all
     record { ok = ap (samples_up_to maxval) found ∙ rw below (ap Ok (sym written)); err = tt }
 
 -- no number was found
-pub filling_stops : {A T : Type 0} (value : T → ℤ) (take_one : List ℕ → BeginsWith ℕ) (is_end : List ℕ → Bool) (maxval index : ℕ) (high : Bool) (samples : List T) (written : List ℤ) (rest : List ℕ) (whole : Option (List ℕ))
-    → index < length samples → take_one rest ≡ None → Filling take_one is_end maxval high (map value (take index samples)) (length samples - index) rest whole
-    → Reads {A = A} (samples_up_to maxval whole) written (Err InvalidFormat)
-filling_stops value take_one is_end maxval index high samples written rest whole within none (numbers, filled, is) =
-    record { ok = tt; err = ap (samples_up_to maxval) (so_many-none take_one is_end (length samples - index) numbers rest whole (omega arith) is none) }
+pub filling_none : (take_one : List ℕ → BeginsWith ℕ) (is_end : List ℕ → Bool) (maxval left : ℕ) (high : Bool) (written : List ℤ) (rest : List ℕ) (whole : Option (List ℕ))
+    → 0 < left → take_one rest ≡ None → Filling take_one is_end maxval high written left rest whole → whole ≡ None
+filling_none take_one is_end maxval left high written rest whole some none (numbers, filled, is) = so_many-none take_one is_end left numbers rest whole some is none
+
+pub none_read : {A : Type 0} (maxval : ℕ) (written : List ℤ) (whole : Option (List ℕ)) → whole ≡ None → Reads {A = A} (samples_up_to maxval whole) written (Err InvalidFormat)
+none_read maxval written whole none = record { ok = tt; err = ap (samples_up_to maxval) none }
 
 -- all were written, and the text doesn't end
 pub filling_longer : {A T : Type 0} (value : T → ℤ) (take_one : List ℕ → BeginsWith ℕ) (is_end : List ℕ → Bool) (maxval index : ℕ) (high : Bool) (samples : List T) (written : List ℤ) (rest : List ℕ) (whole : Option (List ℕ))

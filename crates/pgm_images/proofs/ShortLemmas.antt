@@ -1,9 +1,11 @@
--- Numbers of at most three digits behind one whitespace byte.
-use Rattle.std.proofs.Common.{◌≡◌, ℕ, ◌+◌, ◌-◌, ◌*◌, ◌<◌, ◌≤◌, Bool, true, false, not, ◌&&◌, if◌then◌else◌, nat_lt, List, ◌∷◌, length, get_or, drop, Some, refl, ap, sym, subst, ◌∙◌, arith}
+-- Numbers of at most three digits behind a whitespace byte.
+use Rattle.std.proofs.Common.{◌≡◌, ℕ, ◌+◌, ◌-◌, ◌*◌, zero, suc, ◌%◌, ◌<◌, ◌≤◌, Bool, true, false, not, ◌&&◌, ◌||◌, if◌then◌else◌, nat_lt, nat_le, nat_eq, List, ◌∷◌, length, get_or, drop, Some, refl, ap, sym, ◌∙◌, arith}
 use Rattle.std.specs.Char.{is_ascii_digit}
 use mir.Val.{bool_byte}
+use Rattle.std.proofs.lemmas.Bool.{ltb-true, leb-true, and_parts, not-true}
+use Rattle.std.proofs.lemmas.Bool.Decides.{nat_tests}
 use Rattle.std.proofs.lemmas.List.{drop_more}
-use Rattle.pgm_images.specs.Marks.{is_space, digits_after, take_next, Kept, Tells}
+use Rattle.pgm_images.specs.Marks.{is_space, begins_digit, digits_after, take_next, Tells}
 use Rattle.pgm_images.proofs.DigitLemmas.{digit_begins}
 use Rattle.pgm_images.proofs.GapLemmas.{space_is}
 
@@ -42,42 +44,80 @@ byte_few : (b : Bool) → bool_byte b ≤ 1
 byte_few true = omega arith
 byte_few false = omega arith
 
-tells_if : (is : Bool) (number bytes one : ℕ) (text : List ℕ) → one ≡ bool_byte is → bytes ≤ length text → (is ≡ true → Kept (take_next text) number (drop bytes text)) → Tells number (one * bytes) text
-tells_if true number bytes one text e few found =
-    let same : bytes ≡ one * bytes = rw e (omega arith) in
-    subst (λ n. Tells number n text) same (record { few = few; is = λ some. found refl })
-tells_if false number bytes one text e few found =
-    let none : 0 ≡ one * bytes = rw e (omega arith) in
-    subst (λ n. Tells number n text) none (record { few = omega arith; is = λ some. absurd (omega (arith, some)) })
+-- a number of two digits is one byte, and one of three where the code says so
+tens_fit : (two : Bool) (a b tens : ℕ) → a < 10 → (two ≡ true → b < 10) → tens ≡ (if two then a * 10 + b else a) % 256 → (tens ≡ (if two then a * 10 + b else a)) × (tens < 100)
+tens_fit true a b tens low is e = let digit = is refl in (omega (arith, digit), omega (arith, digit))
+tens_fit false a b tens low is e = (omega arith, omega arith)
 
-all_three : (white one four : Bool) → ((white && one) && not four) ≡ true → (white ≡ true) × (one ≡ true) × (four ≡ false)
-all_three true true false e = (refl, refl, refl)
-all_three true true true e = cc
-all_three true false four e = cc
-all_three false one four e = cc
+number_fits : (three : Bool) (tens c number : ℕ) → tens < 100 → (three ≡ true → c < 10) → ((not three || nat_lt tens 25) || (nat_eq tens 25 && nat_lt c 6)) ≡ true
+    → number ≡ (if three then tens * 10 + c else tens) % 256 → number ≡ (if three then tens * 10 + c else tens)
+number_fits true tens c number low is fits e = let digit = is refl in grind (arith, nat_tests)
+number_fits false tens c number low is fits e = omega arith
+
+-- the digits of a number, of which two and three say whether there are so many
+digits_in : (two three : Bool) (s x1 x2 x3 x4 : ℕ) (rest : List ℕ) → is_ascii_digit x1 ≡ true → two ≡ is_ascii_digit x2 → three ≡ is_ascii_digit x3
+    → (k : ℕ) → 0 < k → k < 2 + bool_byte two + bool_byte (two && three) → begins_digit (drop k (s ∷ x1 ∷ x2 ∷ x3 ∷ x4 ∷ rest)) ≡ true
+digits_in two three s x1 x2 x3 x4 rest one is2 is3 zero some less = absurd (omega arith)
+digits_in two three s x1 x2 x3 x4 rest one is2 is3 (suc zero) some less = one
+digits_in true three s x1 x2 x3 x4 rest one is2 is3 (suc (suc zero)) some less = sym is2
+digits_in false three s x1 x2 x3 x4 rest one is2 is3 (suc (suc k)) some less = absurd (omega arith)
+digits_in true true s x1 x2 x3 x4 rest one is2 is3 (suc (suc (suc zero))) some less = sym is3
+digits_in true false s x1 x2 x3 x4 rest one is2 is3 (suc (suc (suc k))) some less = absurd (omega arith)
+digits_in true true s x1 x2 x3 x4 rest one is2 is3 (suc (suc (suc (suc k)))) some less = absurd (omega arith)
 
 and_and : (a b c : Bool) → ((a && b) && c) ≡ (a && (b && c))
 and_and true b c = refl
 and_and false b c = refl
 
--- the code made the number of these digits, step by step
-pub short_told : (white : Bool) (s x1 x2 x3 x4 a b c d start first number one two three : ℕ) (rest : List ℕ) → number < 65536 → white ≡ is_space s
+-- neither a number was told nor a digit stands at the front: so it is whitespace before no digit
+only_blank : (blank digit : Bool) → not (blank || digit) ≡ false → digit ≡ false → blank ≡ true
+only_blank true digit e none = refl
+only_blank false digit e none = cc
+
+-- What the code found out, step by step: white, again and front are of the first byte, a to d of those
+-- after it.
+pub short_told : (white again told : Bool) (s x1 x2 x3 x4 front a b c d tens number one two three maxval : ℕ) (rest : List ℕ) → white ≡ is_space s → again ≡ is_space s → nat_lt front 10 ≡ is_ascii_digit s
     → nat_lt a 10 ≡ is_ascii_digit x1 → (is_ascii_digit x1 ≡ true → a ≡ x1 - 48)
     → nat_lt b 10 ≡ is_ascii_digit x2 → (is_ascii_digit x2 ≡ true → b ≡ x2 - 48)
     → nat_lt c 10 ≡ is_ascii_digit x3 → (is_ascii_digit x3 ≡ true → c ≡ x3 - 48) → nat_lt d 10 ≡ is_ascii_digit x4
-    → start ≡ a → first ≡ (if nat_lt b 10 then start * 10 + b else start) → number ≡ (if nat_lt b 10 && nat_lt c 10 then first * 10 + c else first)
-    → two ≡ bool_byte (nat_lt b 10) → three ≡ bool_byte (nat_lt b 10 && nat_lt c 10)
-    → one ≡ bool_byte ((white && nat_lt a 10) && not ((nat_lt b 10 && nat_lt c 10) && nat_lt d 10))
-    → Tells number (one * (2 + two + three)) (s ∷ x1 ∷ x2 ∷ x3 ∷ x4 ∷ rest)
-short_told white s x1 x2 x3 x4 a b c d start first number one two three rest low is_white is1 is_a is2 is_b is3 is_c is4 is_start is_first is_number is_two is_three is_one =
-    tells_if ((white && nat_lt a 10) && not ((nat_lt b 10 && nat_lt c 10) && nat_lt d 10)) number (2 + two + three) one (s ∷ x1 ∷ x2 ∷ x3 ∷ x4 ∷ rest) is_one
-    (omega (arith, is_two, is_three, byte_few (nat_lt b 10), byte_few (nat_lt b 10 && nat_lt c 10)))
-    (λ short.
-    let (space, digit, end) = all_three white (nat_lt a 10) ((nat_lt b 10 && nat_lt c 10) && nat_lt d 10) short in
+    → tens ≡ (if nat_lt b 10 then a * 10 + b else a) % 256 → number ≡ (if nat_lt b 10 && nat_lt c 10 then tens * 10 + c else tens) % 256
+    → two ≡ bool_byte (nat_lt b 10) → three ≡ bool_byte (nat_lt b 10 && nat_lt c 10) → one ≡ bool_byte told
+    → told ≡ ((((white && nat_lt a 10) && not ((nat_lt b 10 && nat_lt c 10) && nat_lt d 10)) && ((not (nat_lt b 10 && nat_lt c 10) || nat_lt tens 25) || (nat_eq tens 25 && nat_lt c 6))) && nat_le number maxval)
+    → not ((told || (not (nat_lt a 10) && again)) || nat_lt front 10) ≡ false
+    → Tells maxval number (one * (2 + two + three)) (s ∷ x1 ∷ x2 ∷ x3 ∷ x4 ∷ rest)
+short_told white again true s x1 x2 x3 x4 front a b c d tens number one two three maxval rest is_white is_again is0 is1 is_a is2 is_b is3 is_c is4 is_tens is_number is_two is_three is_one is_told known =
+    let (fitting, low) = and_parts _ _ (sym is_told) in
+    let (short, fits) = and_parts _ _ fitting in
+    let (begins, end) = and_parts _ _ short in
+    let (space, digit) = and_parts white (nat_lt a 10) begins in
     let is_digit = sym is1 ∙ digit in
-    let none : (nat_lt b 10 && (nat_lt c 10 && is_ascii_digit x4)) ≡ false = ap (λ e. nat_lt b 10 && (nat_lt c 10 && e)) (sym is4) ∙ sym (and_and (nat_lt b 10) (nat_lt c 10) (nat_lt d 10)) ∙ end in
+    let (tens_are, few_tens) = tens_fit (nat_lt b 10) a b tens (ltb-true a 10 digit) (ltb-true b 10) is_tens in
+    let number_is = number_fits (nat_lt b 10 && nat_lt c 10) tens c number few_tens (λ is. ltb-true c 10 (and_parts (nat_lt b 10) (nat_lt c 10) is).1) fits is_number in
+    let none : (nat_lt b 10 && (nat_lt c 10 && is_ascii_digit x4)) ≡ false = ap (λ e. nat_lt b 10 && (nat_lt c 10 && e)) (sym is4) ∙ sym (and_and (nat_lt b 10) (nat_lt c 10) (nat_lt d 10)) ∙ not-true _ end in
     let found = short_cases (nat_lt b 10) (nat_lt c 10) s x1 x2 x3 x4 rest a b c (sym is_white ∙ space) is_digit (is_a is_digit) is2 is_b is3 is_c none in
-    record { number = number; is = cc (found, is_start, is_first, is_number, is_two, is_three); least = omega (arith, low) })
+    let bytes : one * (2 + two + three) ≡ 2 + bool_byte (nat_lt b 10) + bool_byte (nat_lt b 10 && nat_lt c 10) = rw (is_one, is_two, is_three) (omega arith) in
+    let taken : take_next (s ∷ x1 ∷ x2 ∷ x3 ∷ x4 ∷ rest) ≡ Some (number, drop (one * (2 + two + three)) (s ∷ x1 ∷ x2 ∷ x3 ∷ x4 ∷ rest)) = cc (found, tens_are, number_is, bytes) in
+    record {
+      few = omega (arith, bytes, byte_few (nat_lt b 10), byte_few (nat_lt b 10 && nat_lt c 10));
+      is = λ some. record { number = number; is = taken; least = omega (arith, is_number) };
+      low = λ some. leb-true number maxval low;
+      space = λ some. sym is_white ∙ space;
+      digits = λ k some less. digits_in (nat_lt b 10) (nat_lt c 10) s x1 x2 x3 x4 rest is_digit is2 is3 k some (omega (arith, bytes, less));
+      kind = λ other. sym is_white ∙ space;
+      none = λ none. absurd (omega (arith, bytes, none));
+    }
+short_told white again false s x1 x2 x3 x4 front a b c d tens number one two three maxval rest is_white is_again is0 is1 is_a is2 is_b is3 is_c is4 is_tens is_number is_two is_three is_one is_told known =
+    let nothing : one * (2 + two + three) ≡ 0 = rw is_one (omega arith) in
+    let blank : nat_lt front 10 ≡ false → (not (nat_lt a 10) ≡ true) × (again ≡ true) = λ none. and_parts _ _ (only_blank (not (nat_lt a 10) && again) (nat_lt front 10) known none) in
+    record {
+      few = omega (arith, nothing);
+      is = λ some. absurd (omega (arith, nothing, some));
+      low = λ some. absurd (omega (arith, nothing, some));
+      space = λ some. absurd (omega (arith, nothing, some));
+      digits = λ k some less. absurd (omega (arith, nothing, less));
+      kind = λ other. sym is_again ∙ (blank (is0 ∙ other)).1;
+      none = λ none space. sym is1 ∙ not-true (nat_lt a 10) (blank (is0 ∙ (space_is s space).1)).0;
+    }
 
 -- five bytes of a text
 pub five : (text : List ℕ) (at : ℕ) → at + 5 ≤ length text

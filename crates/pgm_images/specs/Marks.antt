@@ -1,7 +1,8 @@
 -- The marks of a PGM text from the front: whitespace, comments and numbers (Netpbm, pgm(5)).
-use Rattle.std.specs.Prelude.{◌≡◌, ℕ, ◌+◌, ◌-◌, ◌*◌, ◌<◌, ◌≤◌, drop, length, slice_index, ◌==◌, ◌||◌, Bool, true, false, not, if◌then◌else◌, min, List, [], ◌∷◌, Option, Some, None}
+use Rattle.std.specs.Prelude.{◌≡◌, ℕ, ◌+◌, ◌-◌, ◌*◌, ◌<◌, ◌≤◌, drop, length, slice_index, ◌==◌, ◌||◌, Bool, true, false, not, if◌then◌else◌, nat_lt, min, List, [], ◌∷◌, Option, Some, None}
 use Rattle.std.specs.Option.{option_and_then}
 use Rattle.std.specs.Char.{is_ascii_digit}
+use Rattle.std.specs.Int.{bit_at}
 
 -- a mark's value and the text after it, or none where the text doesn't begin with such a mark
 abbrev pub BeginsWith : Type 0 → Type 0
@@ -73,12 +74,34 @@ pub record Kept (taken : BeginsWith ℕ) (kept : ℕ) (rest : List ℕ) : Type 0
   pub is : taken ≡ Some (number, rest)
   pub least : kept ≡ min number 65535
 
--- The code looked whether such a number stands at the front, and found out which, and how many bytes
--- it and its gap are. No bytes tell nothing.
-pub record Tells (number bytes : ℕ) (text : List ℕ) : Type 0 where
+-- whether a whitespace byte stands at the front
+abbrev pub begins_space : List ℕ → Bool
+begins_space [] = false
+begins_space (b ∷ text) = is_space b
+
+-- The code looked what stands at the front: a number up to the maxval behind one whitespace byte,
+-- and how many bytes both are, which are none where no number begins there. It found that nothing
+-- else does than whitespace or a digit.
+pub record Tells (maxval number bytes : ℕ) (text : List ℕ) : Type 0 where
   pub few : bytes ≤ length text
   pub is : 0 < bytes → Kept (take_next text) number (drop bytes text)
+  pub low : 0 < bytes → number ≤ maxval
+  pub space : 0 < bytes → begins_space text ≡ true
+  pub digits : (k : ℕ) → 0 < k → k < bytes → begins_digit (drop k text) ≡ true
+  pub kind : begins_digit text ≡ false → begins_space text ≡ true
+  pub none : bytes ≡ 0 → begins_space text ≡ true → begins_digit (drop 1 text) ≡ false
 
--- the same at each of so many places of a text, where a number may begin
-abbrev pub AreTold : (count : ℕ) (numbers bytes text : List ℕ) → Type 0
-AreTold count numbers bytes text = (place : ℕ) → place < count → Tells (slice_index numbers place) (slice_index bytes place) (drop place text)
+-- the same at each of so many places of a text
+abbrev pub AreTold : (maxval count : ℕ) (numbers bytes text : List ℕ) → Type 0
+AreTold maxval count numbers bytes text = (place : ℕ) → place < count → Tells maxval (slice_index numbers place) (slice_index bytes place) (drop place text)
+
+-- a bit is set for each of 64 places where a number begins
+abbrev pub AreBegins : (begins : ℕ) (bytes : List ℕ) → Type 0
+AreBegins begins bytes = (place : ℕ) → place < 64 → bit_at begins place ≡ (if nat_lt 0 (slice_index bytes place) then 1 else 0)
+
+-- The code looked so at 64 places, the first of which is none within a number, and found out at
+-- which of them numbers begin.
+pub record IsBlock (maxval : ℕ) (numbers bytes : List ℕ) (begins : ℕ) (text : List ℕ) : Type 0 where
+  pub told : AreTold maxval 64 numbers bytes text
+  pub marked : AreBegins begins bytes
+  pub outside : begins_digit text ≡ false

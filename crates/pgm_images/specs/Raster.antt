@@ -1,5 +1,5 @@
 -- The samples of a PGM text, as numbers.
-use Rattle.std.specs.Prelude.{◌≡◌, ℕ, zero, suc, ◌+◌, ◌*◌, Bool, true, false, if◌then◌else◌, nat_le, nat_lt, List, [], ◌∷◌, map, ℤ, pos, Option, Some, None, Result, Ok, Err, OnOk, IfErr}
+use Rattle.std.specs.Prelude.{◌≡◌, ℕ, zero, suc, ◌+◌, ◌*◌, Bool, true, false, not, if◌then◌else◌, nat_le, nat_lt, List, [], ◌∷◌, ◌++◌, map, ℤ, pos, Option, Some, None, Result, Ok, Err, OnOk, IfErr}
 use Rattle.std.specs.List.{list_all}
 use Rattle.std.specs.Option.{option_map}
 use Rattle.pgm_images.specs.declared.fault.PgmFault.{PgmFault}
@@ -47,3 +47,17 @@ samples_up_to maxval (Some numbers) = if all_up_to maxval numbers then Ok (map p
 pub record Reads {A : Type 0} (told : Result (List ℤ) PgmFault) (samples : List ℤ) (result : Result A PgmFault) : Type 0 where
   pub ok : OnOk result (told ≡ Ok samples)
   pub err : IfErr result (λ fault. told ≡ Err fault)
+
+-- These numbers of a text are the samples, unless one is above the maxval. A number above 65535 was
+-- taken for 65535.
+pub record Filled (maxval : ℕ) (high : Bool) (written : List ℤ) (numbers : List ℕ) : Type 0 where
+  pub above : high ≡ not (all_up_to maxval numbers)
+  pub samples : high ≡ false → written ≡ map pos numbers
+
+-- these numbers, and then the others
+abbrev pub after : List ℕ → Option (List ℕ) → Option (List ℕ)
+after done o = option_map (λ others. done ++ others) o
+
+-- so many of the whole text's numbers are left to be written, and rest is the text with them
+abbrev pub Filling : (take : List ℕ → BeginsWith ℕ) (is_end : List ℕ → Bool) (maxval : ℕ) (above : Bool) (samples : List ℤ) (left : ℕ) (rest : List ℕ) (whole : Option (List ℕ)) → Type 0
+Filling take is_end maxval above samples left rest whole = (numbers : List ℕ) × Filled maxval above samples numbers × (whole ≡ after numbers (so_many take is_end left rest))

@@ -8,14 +8,14 @@
 //! front and computes the picture or the fault; `laws` states that they agree.
 //!
 //! - `fault`: why no picture was read
-//! - `marks`, `ahead`: whitespace, comments and numbers
+//! - `marks`: whitespace, comments and numbers
 //! - `header`: the encoding, the width, the height and the maxval
-//! - `text_sample`, `raster`: numbers as samples, and all samples of a text
+//! - `text_sample`, `block`, `raster`: numbers as samples, many at once, and all of a text
 //! - `reading`, `writing`: whole texts
 //! - `laws`, `examples`: what the definitions mean
 #![tactic(auto)]
 
-mod ahead;
+mod block;
 pub mod examples;
 mod fault;
 mod header;

@@ -1,6 +1,6 @@
 //! The marks of a text, from its front: whitespace, comments and numbers.
 ghost use Rattle.std.specs.Prelude.{◌≡◌, ◌∷◌, IfSome, IfNone, None, Some, false, true, min, length};
-ghost use Rattle.std.specs.Prelude.{◌<◌, ◌≤◌, ◌+◌, ◌*◌, ◌-◌, nat_lt, if◌then◌else◌, ℕ, List};
+ghost use Rattle.std.specs.Prelude.{◌+◌, ◌*◌, ◌-◌, ◌%◌, nat_lt, if◌then◌else◌, ℕ, List};
 ghost use Rattle.std.specs.Char.{is_ascii_digit};
 ghost use Rattle.pgm_images.specs.Marks.{ends_line, is_space, begins_gap, past_blanks};
 ghost use Rattle.pgm_images.specs.Marks.{digits_after, take_number, take_next, ends, Kept, Tells};
@@ -87,51 +87,48 @@ fn digit(byte: u8) -> u8
     byte.wrapping_sub(b'0')
 }
 
-/// The number with one digit more, where that is one.
+/// The number with one digit more, where that is one; of more than 255 what is left in a byte.
 #[inline(always)]
-fn with_digit(number: u16, digit: u8, is_digit: bool) -> u16
-    requires { number ≤ 6000 }
-    ensures { result ≡ (if is_digit then number * 10 + digit else number) }
+fn with_digit(number: u8, digit: u8, is_digit: bool) -> u8
+    ensures { result ≡ (if is_digit then number * 10 + digit else number) % 256 }
 {
-    number + u16::from(is_digit) * (number * 9 + u16::from(digit))
+    let more = number.wrapping_mul(9).wrapping_add(digit);
+    number.wrapping_add(u8::from(is_digit) * more)
 }
 
 /// The number of at most three digits behind a whitespace byte, and how many bytes both are: none
-/// where others stand there. How many digits there are can't be foreseen, so nothing here branches
-/// on it.
+/// where no number begins. Whether something else stands there: a number that is longer or above
+/// the maxval, or a byte that is neither whitespace nor a digit. How many digits there are can't
+/// be foreseen, so nothing here branches on it.
 #[inline(always)]
-pub fn short_number(blank: u8, first: u8, second: u8, third: u8, fourth: u8) -> (u16, u8)
-    ensures { (rest : List ℕ) →
-        Tells result.0 result.1 (blank ∷ first ∷ second ∷ third ∷ fourth ∷ rest) }
+pub fn short_number(
+    maxval: u8,
+    blank: u8,
+    first: u8,
+    second: u8,
+    third: u8,
+    fourth: u8,
+) -> (u8, u8, bool)
+    ensures { result.2 ≡ false → (rest : List ℕ) →
+        Tells maxval result.0 result.1 (blank ∷ first ∷ second ∷ third ∷ fourth ∷ rest) }
 {
     let (first, second) = (digit(first), digit(second));
     let (third, fourth) = (digit(third), digit(fourth));
     let two = second < 10;
     let three = two & (third < 10);
+    let tens = with_digit(first, second, two);
+    let number = with_digit(tens, third, three);
+    let fits = !three | (tens < 25) | ((tens == 25) & (third < 6));
     let is_short = is_space(blank) & (first < 10) & !(three & (fourth < 10));
-    let number = with_digit(with_digit(u16::from(first), second, two), third, three);
-    let bytes = 2 + u8::from(two) + u8::from(three);
-    (number, u8::from(is_short) * bytes)
-}
-
-/// A number of at most three digits behind one whitespace byte, and the text after them. `None`
-/// where others stand there or fewer than five bytes are left.
-#[inline(always)]
-fn take_short(text: &[u8]) -> Option<(u16, &[u8])>
-    ensures { IfSome result (λ taken. Kept (take_next text.now) taken.0 taken.1.now) }
-{
-    if text.len() < 5 {
-        return None;
-    }
-    let (number, bytes) = short_number(text[0], text[1], text[2], text[3], text[4]);
-    if bytes == 0 {
-        return None;
-    }
-    Some((number, &text[usize::from(bytes)..]))
+    let is_told = is_short & fits & (number <= maxval);
+    let is_blank = !(first < 10) & is_space(blank);
+    let bytes = u8::from(is_told) * (2 + u8::from(two) + u8::from(three));
+    let is_other = !(is_told | is_blank | (digit(blank) < 10));
+    (number, bytes, is_other)
 }
 
 /// A gap and a number, and the text after them.
-fn take_any(text: &[u8]) -> Option<(u16, &[u8])>
+pub fn take_next(text: &[u8]) -> Option<(u16, &[u8])>
     ensures some { IfSome result (λ taken. Kept (take_next text.now) taken.0 taken.1.now) }
     ensures none { IfNone result (take_next text.now ≡ None) }
 {
@@ -139,32 +136,6 @@ fn take_any(text: &[u8]) -> Option<(u16, &[u8])>
         take_number(past_blanks(text)?)
     } else {
         None
-    }
-}
-
-/// A gap and a number, and the text after them.
-#[inline(always)]
-pub fn take_next(text: &[u8]) -> Option<(u16, &[u8])>
-    ensures some { IfSome result (λ taken. Kept (take_next text.now) taken.0 taken.1.now) }
-    ensures none { IfNone result (take_next text.now ≡ None) }
-{
-    match take_short(text) {
-        Some(taken) => Some(taken),
-        None => take_any(text),
-    }
-}
-
-/// A gap and a number, and the text after them, as `take_next`: fast where numbers up to the
-/// maxval have as many digits.
-#[inline(always)]
-pub fn take_next_up_to(maxval: u16, text: &[u8]) -> Option<(u16, &[u8])>
-    ensures some { IfSome result (λ taken. Kept (take_next text.now) taken.0 taken.1.now) }
-    ensures none { IfNone result (take_next text.now ≡ None) }
-{
-    if maxval < 1000 {
-        take_next(text)
-    } else {
-        take_any(text)
     }
 }
 

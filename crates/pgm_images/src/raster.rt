@@ -1,18 +1,55 @@
 //! The samples of a text.
 ghost use Rattle.std.specs.Prelude.{◌≡◌, ℕ, ◌≤◌, nat_le, ◌<◌, Some, None, IfSome, IfNone, IsTrue};
-ghost use Rattle.std.specs.Prelude.{length, map, pos};
+ghost use Rattle.std.specs.Prelude.{length, map, pos, take, ◌-◌, ◌||◌, Bool, List, Option};
 ghost use Rattle.vx_base.specs.Picture.{values, samples_format};
 ghost use Rattle.pgm_images.specs.Header.{is_maxval, format_up_to};
 ghost use Rattle.pgm_images.specs.Marks.{Kept, take_next, ends};
 ghost use Rattle.pgm_images.specs.Raster.{Reads, all_up_to, numbers_in, so_many, take_short_sample};
-ghost use Rattle.pgm_images.specs.Raster.{take_long_sample, nothing_left, samples_up_to};
+ghost use Rattle.pgm_images.specs.Raster.{take_long_sample, nothing_left, samples_up_to, Filling};
 
-use crate::ahead::Ahead;
+use crate::block::Block;
 use crate::fault::PgmFault;
 use crate::header::{Encoding, Header};
-use crate::marks::ends;
+use crate::marks::{ends, take_next};
 use crate::text_sample::TextSample;
 use vx_base::Samples;
+
+/// How many numbers are taken one by one before a block is looked at again.
+const SINGLE: usize = 16;
+
+/// Takes numbers one by one and writes them over samples from an index on, up to another. Whether
+/// one is above the maxval, and the text after them. `None` where there aren't so many.
+fn read_singly<'a, T: TextSample>(
+    maxval: u16,
+    text: &'a [u8],
+    samples: &mut [T],
+    from: usize,
+    to: usize,
+) -> Option<(bool, &'a [u8])>
+    requires limit { maxval ≤ T.limit }
+    requires maxval { maxval ≤ 32767 }
+    requires order { from ≤ to }
+    requires within { to ≤ length samples.old }
+    ensures some { IfSome result (λ taken. (above : Bool) (whole : Option (List ℕ)) →
+        Filling take_next ends maxval above (map T.value (take from samples.old))
+        (length samples.old - from) text.now whole →
+        Filling take_next ends maxval (above || taken.0) (map T.value (take to samples.new))
+        (length samples.new - to) taken.1.now whole) }
+    ensures none { IfNone result ((above : Bool) (whole : Option (List ℕ)) →
+        Filling take_next ends maxval above (map T.value (take from samples.old))
+        (length samples.old - from) text.now whole → whole ≡ None) }
+    ensures same { length samples.new ≡ length samples.old }
+{
+    let mut rest = text;
+    let mut high = false;
+    for index in from..to {
+        let (number, others) = take_next(rest)?;
+        high = high | (number > maxval);
+        samples[index] = T::of_number(number.min(maxval));
+        rest = others;
+    }
+    Some((high, rest))
+}
 
 /// So many decimal numbers and nothing else but whitespace and comments. A number above the maxval
 /// is told only once all is read, and written as the maxval.
@@ -22,21 +59,26 @@ fn read_plain<T: TextSample>(maxval: u16, text: &[u8], samples: &mut [T]) -> Res
     ensures { Reads (samples_up_to maxval
         (so_many take_next ends (length samples.old) text.now)) (map T.value samples.new) result }
 {
-    let mut ahead = Ahead::new();
-    ahead.renew(maxval, text);
-    let (mut block, mut place) = (text, 0);
+    let mut block = Block::new();
+    let (mut rest, mut index) = (text, 0);
     let mut above = false;
-    for index in 0..samples.len() {
-        let (here, start) = ahead.moved(maxval, block, place);
-        let Some((number, end)) = ahead.take(maxval, here, start) else {
+    while index < samples.len() {
+        let begins = block.renew(maxval, rest);
+        if begins != 0 {
+            let (end, next) = block.fill(maxval, begins, rest, samples, index);
+            rest = &rest[end..];
+            index = next;
+            continue;
+        }
+        let next = index + SINGLE.min(samples.len() - index);
+        let Some((high, others)) = read_singly(maxval, rest, samples, index, next) else {
             return Err(PgmFault::InvalidFormat);
         };
-        above = above | (number > maxval);
-        samples[index] = T::of_number(number.min(maxval));
-        block = here;
-        place = end;
+        above = above | high;
+        rest = others;
+        index = next;
     }
-    if !ends(&block[place..]) {
+    if !ends(rest) {
         Err(PgmFault::InvalidFormat)
     } else if above {
         Err(PgmFault::InvalidValue)
