@@ -1,8 +1,8 @@
 -- One more number of a raster.
-use Rattle.std.proofs.Common.{◌≡◌, ℕ, ℤ, pos, zero, suc, ◌+◌, ◌-◌, ◌<◌, ◌≤◌, Bool, true, false, not, ◌==◌, ◌||◌, ◌&&◌, nat_le, nat_lt, List, [], ◌∷◌, ◌++◌, map, Option, Some, None, Ok, Err, refl, ap, sym, subst, ◌∙◌, append_assoc, append-nil, length, take, ◌≢◌, arith}
+use Rattle.std.proofs.Common.{◌≡◌, ℕ, ℤ, pos, zero, suc, ◌+◌, ◌-◌, ◌<◌, ◌≤◌, Bool, true, false, not, ◌==◌, ◌||◌, ◌&&◌, nat_le, nat_lt, List, [], ◌∷◌, ◌++◌, map, Option, Some, None, Ok, Err, refl, ap, sym, subst, ◌∙◌, append_assoc, append-nil, length, get_or, take, Fits, w8, ◌≢◌, arith}
 use Rattle.std.specs.Prelude.{min}
 use Rattle.std.specs.Option.{option_map}
-use Rattle.std.proofs.lemmas.Bool.{eqb-true, le-ltb}
+use Rattle.std.proofs.lemmas.Bool.{eqb-true, le-ltb, le-leb}
 use Rattle.std.proofs.lemmas.Bool.Decides.{nat_tests}
 use Rattle.std.proofs.Math.ListN.{set}
 use Rattle.std.proofs.lemmas.List.{map-append, length-set, take_all, take_more_set}
@@ -172,3 +172,16 @@ bytes-other zero [] e = absurd (e refl)
 bytes-other zero (b ∷ bytes) e = refl
 bytes-other (suc count) [] e = refl
 bytes-other (suc count) (b ∷ bytes) e = ap (λ o. option_map (λ numbers. b ∷ numbers) o) (bytes-other count bytes (λ same. e (ap suc same)))
+
+-- and no byte is above 255
+pub bytes_low : (maxval : ℕ) (bytes : List ℕ) → 255 ≤ maxval → ((i : ℕ) → Fits w8 (get_or bytes i 0)) → all_up_to maxval bytes ≡ true
+bytes_low maxval [] high each = refl
+bytes_low maxval (b ∷ bytes) high each =
+    let first = (each 0).fits in
+    rw (le-leb b maxval (omega (arith, first, high))) (bytes_low maxval bytes high (λ i. each (suc i)))
+
+-- bytes that are the samples
+pub bytes_read : {A : Type 0} (maxval count : ℕ) (bytes samples : List ℕ) (done : A) → length bytes ≡ count → samples ≡ bytes → all_up_to maxval bytes ≡ true
+    → Reads {A = A} (samples_up_to maxval (so_many take_short_sample nothing_left count bytes)) (map pos samples) (Ok done)
+bytes_read maxval count bytes samples done long same low =
+    record { ok = ap (samples_up_to maxval) (bytes-many count bytes long) ∙ rw low (ap (λ l. Ok (map pos l)) (sym same)); err = tt }

@@ -108,6 +108,9 @@ fn read_bytes(maxval: u16, bytes: &[u8], samples: &mut [u8]) -> Result<(), PgmFa
         return Err(PgmFault::InvalidFormat);
     }
     samples.copy_from_slice(bytes);
+    if maxval >= 255 {
+        return Ok(());
+    }
     if u16::from(greatest(bytes)) > maxval {
         return Err(PgmFault::InvalidValue);
     }

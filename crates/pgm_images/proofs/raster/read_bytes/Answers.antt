@@ -1,7 +1,7 @@
-use Rattle.std.proofs.Common.{◌≡◌, nat_le, map, pos, true, false, Ok, refl, ap, sym, arith, ◌∙◌}
+use Rattle.std.proofs.Common.{◌≡◌, nat_le, true, false, refl, ap, arith, ◌∙◌}
 use Rattle.std.proofs.lemmas.Bool.{le-leb, lt-leb}
 use Rattle.pgm_images.specs.Raster.{all_up_to, samples_up_to}
-use Rattle.pgm_images.proofs.RasterLemmas.{bytes-many, bytes-other}
+use Rattle.pgm_images.proofs.RasterLemmas.{bytes-many, bytes-other, bytes_low, bytes_read}
 use Rattle.pgm_images.proofs.raster.read_bytes.Goals as goal
 
 pub returns-then-bytes-samples : goal.returns-then-bytes-samples
@@ -16,11 +16,11 @@ returns-then-from-maxval c =
     let told : all_up_to c.args.maxval c.args.bytes.now ≡ false = cc (c.greatest.ensures c.args.maxval) in
     record { ok = tt; err = ap (samples_up_to c.args.maxval) (bytes-many _ c.args.bytes.now (omega arith)) ∙ rw told refl }
 
+pub returns-then-maxval-ge255 : goal.returns-then-maxval-ge255
+returns-then-maxval-ge255 c = bytes_read c.args.maxval _ c.args.bytes.now _ _ (omega arith) c.copy_from_slice.ensures.after (bytes_low c.args.maxval c.args.bytes.now (omega arith) c.type_inv.bytes)
+
 pub returns : goal.returns
 returns c =
     let below : nat_le c.greatest.result c.args.maxval ≡ true = le-leb c.greatest.result c.args.maxval (omega arith) in
     let told : all_up_to c.args.maxval c.args.bytes.now ≡ true = cc (c.greatest.ensures c.args.maxval) in
-    record {
-      ok = ap (samples_up_to c.args.maxval) (bytes-many _ c.args.bytes.now (omega arith)) ∙ rw told (ap (λ bytes. Ok (map pos bytes)) (sym c.copy_from_slice.ensures.after));
-      err = tt;
-    }
+    bytes_read c.args.maxval _ c.args.bytes.now _ _ (omega arith) c.copy_from_slice.ensures.after told
