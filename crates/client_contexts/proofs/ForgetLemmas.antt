@@ -1,14 +1,15 @@
 -- What is left of what is kept, once a request is done.
-use Rattle.std.proofs.Common.{◌≡◌, ℕ, Bool, true, false, cond, List, [], ◌∷◌, None, sym, ap, ◌∙◌}
+use Rattle.std.proofs.Common.{◌≡◌, ℕ, Bool, true, false, cond, List, [], ◌∷◌, None, Ordering, Less, Equal, Greater, refl, sym, ap, ◌∙◌}
 use Rattle.std.specs.Prelude.{All, ◌==◌}
 use Rattle.std.specs.BTreeMap.{is_at}
 use Rattle.std.specs.List.{AllByRecursion}
 use Rattle.std.specs.Map.{lookup, remove_entry}
 use Rattle.std.specs.Ordering.{is_eq, nat_cmp}
-use Rattle.std.proofs.lemmas.Bool.{ne_eqb}
+use Rattle.std.proofs.lemmas.Bool.{eq-eqb, ne_eqb}
 use Rattle.std.proofs.lemmas.Cmp.{nat_cmp_total, tied_itself}
 use Rattle.std.proofs.lemmas.List.Elements.{All-nil, All-cons, All-head, All-tail}
 use Rattle.std.proofs.lemmas.Map.{none_passes_from_lookup}
+use Rattle.std.proofs.lemmas.Map.Lookups.{exact_unsigned}
 use Rattle.client_model.specs.declared.request.Request.{Request}
 use Rattle.client_model.specs.declared.request.Request.TheVariants.{AddNode, RemoveNode, Release}
 use Rattle.client_contexts.specs.declared.kept.Kept.{Kept}
@@ -17,6 +18,15 @@ use Rattle.client_contexts.specs.Kept.{forgotten_by}
 -- a name that is found at no other
 differs : (name other : ℕ) → is_at (nat_cmp name) other ≡ false → (name == other) ≡ false
 differs name other apart = ne_eqb name other (λ same. let found : is_eq (nat_cmp name other) ≡ true = ap (λ n. is_eq (nat_cmp name n)) (sym same) ∙ ap is_eq (tied_itself nat_cmp_total name) in cc)
+
+-- and one that is another isn't found at it
+pub apart : (name other : ℕ) → (name == other) ≡ false → is_at (nat_cmp name) other ≡ false
+apart name other differs = by_order (nat_cmp name other) refl
+  where
+    by_order : (order : Ordering) → nat_cmp name other ≡ order → is_eq order ≡ false
+    by_order Less is = refl
+    by_order Equal is = let same : true ≡ false = sym (eq-eqb name other (exact_unsigned name other is)) ∙ differs in absurd (cc)
+    by_order Greater is = refl
 
 -- where nothing is found under a name, all entries have others
 pub others_left : (name : ℕ) (entries : List (ℕ × Kept)) → lookup (is_at (nat_cmp name)) entries ≡ None → All (λ k. (name == k.0) ≡ false) entries

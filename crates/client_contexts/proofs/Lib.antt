@@ -7,8 +7,10 @@ mod AddLemmas
 mod KeptLemmas
 mod ForgetLemmas
 mod KeptGraphLemmas
+mod VerifiedLemmas
 mod BlockLemmas
 mod RuntimeLemmas
+mod CallLemmas
 mod ImmediateLemmas
 mod OutcomeLemmas
 mod WriteLemmas

@@ -1,11 +1,12 @@
 -- What a runtime keeps, as the contexts of its clients come, change and go.
-use Rattle.std.proofs.Common.{◌≡◌, ◌∙◌, ℕ, List, Option, Some, None, IfSome, sym, ap, subst, arith}
+use Rattle.std.proofs.Common.{◌≡◌, ◌∙◌, ℕ, false, List, [], Result, Option, Some, None, IfSome, refl, sym, ap, subst, arith}
 use Rattle.std.specs.Prelude.{sum, sum_by, unwrap_or}
 use Rattle.std.specs.BTreeMap.{insert_entry, is_at}
 use Rattle.std.specs.List.Sorted.{IsStrictlySortedBy}
 use Rattle.std.specs.Map.{keys_of, values_of, lookup, remove_entry, set_value}
 use Rattle.std.specs.Option.{option_map}
 use Rattle.std.specs.Ordering.{nat_cmp}
+use Rattle.std.proofs.lemmas.Bool.{ne_eqb}
 use Rattle.std.proofs.lemmas.Cmp.{nat_cmp_total}
 use Rattle.std.proofs.lemmas.List.Sums.{sum-map}
 use Rattle.std.proofs.lemmas.Map.Entries.{sum_by-set_value, sum_by-remove_entry, sum_by-insert_entry}
@@ -14,44 +15,60 @@ use Rattle.std.proofs.lemmas.Simd.{map-map}
 use Rattle.vx_base.specs.declared.format.Format.{Format}
 use Rattle.pixel_pool.specs.declared.pool.Pool.{Pool}
 use Rattle.object_table.specs.Blocks.{blocks_in, LendsAtLeast, LendsLess, Balances}
-use Rattle.object_table.specs.Context.{Context, new_context}
+use Rattle.object_table.specs.Context.{new_context}
+use Rattle.client_model.specs.declared.request.Request.{Request}
+use Rattle.client_model.specs.declared.reply.Reply.{Reply}
 use Rattle.client_model.specs.Allowance.{Allowance}
 use Rattle.client_model.specs.States.{KeepsLimits}
 use Rattle.client_model.proofs.StateLaws.{new_context_keeps}
+use Rattle.client_contexts.specs.declared.memory.NoMemory.{NoMemory}
+use Rattle.client_contexts.specs.Applies.{AppliesToKept}
 use Rattle.client_contexts.specs.Blocks.{clients_blocks, IsRuntime}
+use Rattle.client_contexts.specs.Kept.{KeepsVerified}
+use Rattle.client_contexts.specs.World.{Opened}
+use Rattle.client_contexts.proofs.ForgetLemmas.{apart}
 
 -- in how many blocks a client's images have their samples
-abbrev client_blocks : Format → Context → ℕ
-client_blocks format c = blocks_in c.objects format
+abbrev client_blocks : Format → Opened → ℕ
+client_blocks format o = blocks_in o.context.objects format
 
 -- those of all clients, by their contexts
-blocks_of_values : (contexts : List (ℕ × Context)) (format : Format) → sum_by (client_blocks format) (values_of contexts) ≡ clients_blocks contexts format
+blocks_of_values : (contexts : List (ℕ × Opened)) (format : Format) → sum_by (client_blocks format) (values_of contexts) ≡ clients_blocks contexts format
 blocks_of_values contexts format =
-    let of_entry : ℕ × Context → ℕ = λ e. client_blocks format e.1 in
-    sym (sum-map (client_blocks format) (values_of contexts)) ∙ ap sum (map-map (client_blocks format) (λ (e : ℕ × Context). e.1) contexts) ∙ sum-map of_entry contexts
+    let of_entry : ℕ × Opened → ℕ = λ e. client_blocks format e.1 in
+    sym (sum-map (client_blocks format) (values_of contexts)) ∙ ap sum (map-map (client_blocks format) (λ (e : ℕ × Opened). e.1) contexts) ∙ sum-map of_entry contexts
 
-module _ (limits : Allowance) (contexts : List (ℕ × Context)) (pool : Pool) (h : IsRuntime limits contexts pool) (client : ℕ) where
+-- a client without a state has no context that is open
+pub none_open : (contexts : List (ℕ × Opened)) (client : ℕ) → option_map (λ (o : Opened). o.context) (lookup (is_at (nat_cmp client)) contexts) ≡ None
+    → lookup (is_at (nat_cmp client)) contexts ≡ None
+none_open contexts client = of_entry (lookup (is_at (nat_cmp client)) contexts)
+  where
+    of_entry : (entry : Option Opened) → option_map (λ (o : Opened). o.context) entry ≡ None → entry ≡ None
+    of_entry None none = refl
+    of_entry (Some o) none = absurd (cc)
+
+module _ (limits : Allowance) (contexts : List (ℕ × Opened)) (pool : Pool) (h : IsRuntime limits contexts pool) (client : ℕ) where
   -- a client's images have their samples in blocks that are lent
-  pub lends_to_client : (c : Context) → lookup (is_at (nat_cmp client)) contexts ≡ Some c → LendsAtLeast pool (blocks_in c.objects)
-  lends_to_client c found format =
+  pub lends_to_client : (o : Opened) → lookup (is_at (nat_cmp client)) contexts ≡ Some o → LendsAtLeast pool (blocks_in o.context.objects)
+  lends_to_client o found format =
       omega (
         arith,
         h.lent format,
         blocks_of_values contexts format,
         sum_by-remove_entry (client_blocks format) (is_at (nat_cmp client)) contexts,
-        ap (λ (o : Option Context). unwrap_or (option_map (client_blocks format) o) 0) found,
+        ap (λ (entry : Option Opened). unwrap_or (option_map (client_blocks format) entry) 0) found,
       )
 
   -- its context keeps the limits
-  pub client_keeps : (c : Context) → lookup (is_at (nat_cmp client)) contexts ≡ Some c → KeepsLimits limits c
-  client_keeps c found = subst (λ (o : Option Context). IfSome o (KeepsLimits limits)) found (IfSome-lookup_from_All (KeepsLimits limits) (is_at (nat_cmp client)) contexts h.keeps)
+  pub client_keeps : (o : Opened) → lookup (is_at (nat_cmp client)) contexts ≡ Some o → KeepsLimits limits o.context
+  client_keeps o found = subst (λ (entry : Option Opened). IfSome entry (λ found. KeepsLimits limits found.context)) found (IfSome-lookup_from_All (λ entry. KeepsLimits limits entry.context) (is_at (nat_cmp client)) contexts h.keeps)
 
   -- its context changes, and what is lent by as much
-  pub changed_is : (c new : Context) (changed : Pool) → lookup (is_at (nat_cmp client)) contexts ≡ Some c → KeepsLimits limits new → Balances pool changed c.objects new.objects
+  pub changed_is : (o new : Opened) (changed : Pool) → lookup (is_at (nat_cmp client)) contexts ≡ Some o → KeepsLimits limits new.context → Balances pool changed o.context.objects new.context.objects
       → IsRuntime limits (set_value (is_at (nat_cmp client)) contexts new) changed
-  changed_is c new changed found keeps balances =
+  changed_is o new changed found keeps balances =
       record {
-        keeps = All-values-set_value (is_at (nat_cmp client)) (KeepsLimits limits) contexts new h.keeps keeps;
+        keeps = All-values-set_value (is_at (nat_cmp client)) (λ entry. KeepsLimits limits entry.context) contexts new h.keeps keeps;
         lent = λ format.
             omega (
               arith,
@@ -59,16 +76,16 @@ module _ (limits : Allowance) (contexts : List (ℕ × Context)) (pool : Pool) (
               balances format,
               blocks_of_values contexts format,
               blocks_of_values (set_value (is_at (nat_cmp client)) contexts new) format,
-              sum_by-set_value (client_blocks format) (is_at (nat_cmp client)) contexts c new found,
+              sum_by-set_value (client_blocks format) (is_at (nat_cmp client)) contexts o new found,
             );
       }
 
   -- it is gone, and its blocks are given back
-  pub removed_is : (c : Context) (changed : Pool) → lookup (is_at (nat_cmp client)) contexts ≡ Some c → LendsLess pool changed (blocks_in c.objects)
+  pub removed_is : (o : Opened) (changed : Pool) → lookup (is_at (nat_cmp client)) contexts ≡ Some o → LendsLess pool changed (blocks_in o.context.objects)
       → IsRuntime limits (remove_entry (is_at (nat_cmp client)) contexts) changed
-  removed_is c changed found less =
+  removed_is o changed found less =
       record {
-        keeps = All-map-remove_entry (is_at (nat_cmp client)) (λ (e : ℕ × Context). e.1) (KeepsLimits limits) contexts h.keeps;
+        keeps = All-map-remove_entry (is_at (nat_cmp client)) (λ (e : ℕ × Opened). e.1) (λ entry. KeepsLimits limits entry.context) contexts h.keeps;
         lent = λ format.
             omega (
               arith,
@@ -77,23 +94,44 @@ module _ (limits : Allowance) (contexts : List (ℕ × Context)) (pool : Pool) (
               blocks_of_values contexts format,
               blocks_of_values (remove_entry (is_at (nat_cmp client)) contexts) format,
               sum_by-remove_entry (client_blocks format) (is_at (nat_cmp client)) contexts,
-              ap (λ (o : Option Context). unwrap_or (option_map (client_blocks format) o) 0) found,
+              ap (λ (entry : Option Opened). unwrap_or (option_map (client_blocks format) entry) 0) found,
             );
       }
 
   -- a client that had none opens one, which holds nothing yet
   pub opened_is : lookup (is_at (nat_cmp client)) contexts ≡ None → IsStrictlySortedBy nat_cmp (keys_of contexts)
-      → IsRuntime limits (insert_entry nat_cmp contexts client new_context) pool
+      → IsRuntime limits (insert_entry nat_cmp contexts client (record { context = new_context; verified = [] })) pool
   opened_is none sorted =
+      let opened : Opened = record { context = new_context; verified = [] } in
       record {
-        keeps = All-values-insert_entry nat_cmp client new_context (KeepsLimits limits) contexts h.keeps (new_context_keeps limits);
+        keeps = All-values-insert_entry nat_cmp client opened (λ entry. KeepsLimits limits entry.context) contexts h.keeps (new_context_keeps limits);
         lent = λ format.
             omega (
               arith,
               h.lent format,
               blocks_of_values contexts format,
-              blocks_of_values (insert_entry nat_cmp contexts client new_context) format,
-              sum_by-insert_entry (client_blocks format) nat_cmp_total contexts client new_context sorted,
-              ap (λ (o : Option Context). unwrap_or (option_map (client_blocks format) o) 0) none,
+              blocks_of_values (insert_entry nat_cmp contexts client opened) format,
+              sum_by-insert_entry (client_blocks format) nat_cmp_total contexts client opened sorted,
+              ap (λ (entry : Option Opened). unwrap_or (option_map (client_blocks format) entry) 0) none,
             );
+      }
+
+-- ---- what is kept of graphs
+
+-- which graphs are kept as verified, of a client that may have no context
+abbrev shown_of : Option Opened → List (ℕ × ℕ)
+shown_of entry = unwrap_or (option_map (λ o. o.verified) entry) []
+
+module _ (limits : Allowance) (client : ℕ) (request : Request) (result : Result Reply NoMemory) (old new : List (ℕ × Opened)) where
+  -- the client's entry becomes another, and all others stay
+  pub applies_to_kept : (before after : Option Opened) → lookup (is_at (nat_cmp client)) old ≡ before → lookup (is_at (nat_cmp client)) new ≡ after
+      → ((other : ℕ) → is_at (nat_cmp client) other ≡ false → lookup (is_at (nat_cmp other)) new ≡ lookup (is_at (nat_cmp other)) old)
+      → KeepsVerified limits.work request (shown_of before) (shown_of after) result
+      → AppliesToKept client request (record { limits = limits; contexts = old }) (record { limits = limits; contexts = new }) result
+  applies_to_kept before after was is others keeps =
+      record {
+        own =
+            subst (λ (entry : Option Opened). KeepsVerified limits.work request (shown_of entry) (shown_of (lookup (is_at (nat_cmp client)) new)) result) (sym was)
+            (subst (λ (entry : Option Opened). KeepsVerified limits.work request (shown_of before) (shown_of entry) result) (sym is) keeps);
+        others = λ other differs. ap shown_of (others other (apart client other (ne_eqb client other (λ same. differs (sym same)))));
       }

@@ -3,9 +3,10 @@ use Rattle.std.specs.Prelude.{◌≡◌, ◌≢◌, ℕ, Result, IfOk, OnOk, OnE
 use Rattle.client_model.specs.declared.request.Request.{Request}
 use Rattle.client_model.specs.declared.reply.Reply.{Reply}
 use Rattle.client_contexts.specs.declared.memory.NoMemory.{NoMemory}
-use Rattle.client_model.specs.Context.{World, state_of}
 use Rattle.client_model.specs.Request.{TakesMemory}
 use Rattle.client_model.specs.Answer.{answer_to}
+use Rattle.client_contexts.specs.Kept.{KeepsVerified}
+use Rattle.client_contexts.specs.World.{World, state_of, verified_of}
 
 -- Ok is the model's reply and the client's new state; where memory was wanted nothing is changed; other clients never are.
 pub record Applies (client : ℕ) (request : Request) (old new : World) (result : Result Reply NoMemory) : Type 0 where
@@ -15,6 +16,11 @@ pub record Applies (client : ℕ) (request : Request) (old new : World) (result 
   pub others : (other : ℕ) → other ≢ client → state_of other new ≡ state_of other old
   pub no_memory : OnErr result ((each : ℕ) → state_of each new ≡ state_of each old)
   pub takes : OnErr result (TakesMemory request)
+
+-- and what it does to the graphs that are kept as verified: another client's are as they were
+pub record AppliesToKept (client : ℕ) (request : Request) (old new : World) (result : Result Reply NoMemory) : Type 0 where
+  pub own : KeepsVerified old.limits.work request (verified_of client old) (verified_of client new) result
+  pub others : (other : ℕ) → other ≢ client → verified_of other new ≡ verified_of other old
 
 -- a request of a client is answered so, and changes nothing
 abbrev pub IsAnswered : ℕ → Request → World → Reply → Type 0

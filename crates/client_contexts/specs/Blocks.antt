@@ -5,15 +5,15 @@ use Rattle.vx_base.specs.declared.format.Format.{Format}
 use Rattle.pixel_pool.specs.declared.pool.Pool.{Pool}
 use Rattle.pixel_pool.specs.Pool.{lent_of}
 use Rattle.object_table.specs.Blocks.{blocks_in}
-use Rattle.object_table.specs.Context.{Context}
 use Rattle.client_model.specs.Allowance.{Allowance}
 use Rattle.client_model.specs.States.{KeepsLimits}
+use Rattle.client_contexts.specs.World.{Opened}
 
 -- in how many blocks of a format the images of all clients have their samples: one for each image and each slot of a delay
-abbrev pub clients_blocks : List (ℕ × Context) → Format → ℕ
-clients_blocks contexts format = sum_by (λ c. blocks_in c.1.objects format) contexts
+abbrev pub clients_blocks : List (ℕ × Opened) → Format → ℕ
+clients_blocks contexts format = sum_by (λ c. blocks_in c.1.context.objects format) contexts
 
 -- contexts that keep the limits, and a pool of which the blocks that are lent are those of their images, and no others
-pub record IsRuntime (limits : Allowance) (contexts : List (ℕ × Context)) (pool : Pool) : Type 0 where
-  pub keeps : All (KeepsLimits limits) (values_of contexts)
+pub record IsRuntime (limits : Allowance) (contexts : List (ℕ × Opened)) (pool : Pool) : Type 0 where
+  pub keeps : All (λ o. KeepsLimits limits o.context) (values_of contexts)
   pub lent : (format : Format) → lent_of pool format ≡ clients_blocks contexts format

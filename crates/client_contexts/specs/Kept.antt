@@ -1,9 +1,10 @@
 -- Graphs that were found able to run, and are kept as they were verified.
-use Rattle.std.specs.Prelude.{ℕ, ◌≡◌, ◌<◌, Bool, true, false, List, All, Option, None, IfSome}
+use Rattle.std.specs.Prelude.{ℕ, ◌≡◌, ◌<◌, ◌==◌, ◌⊎◌, Bool, true, false, List, map, All, Option, Some, None, IfSome, Result, Ok, OnErr}
 use Rattle.std.specs.BTreeMap.{is_at}
 use Rattle.std.specs.Map.{lookup, remove_entry}
 use Rattle.std.specs.Option.{option_map}
 use Rattle.std.specs.Ordering.{nat_cmp}
+use Rattle.vx_base.specs.declared.code.Code.{Code}
 use Rattle.object_table.specs.Context.{Context}
 use Rattle.object_table.specs.Named.{object_held}
 use Rattle.object_table.specs.Uses.{nodes_in}
@@ -12,8 +13,12 @@ use Rattle.buffer_plan.specs.Places.{told}
 use Rattle.buffer_plan.specs.Plan.{IsPlan}
 use Rattle.graph_run.specs.Operands.{IsReady, operand_held}
 use Rattle.client_model.specs.declared.request.Request.{Request}
-use Rattle.client_model.specs.declared.request.Request.TheVariants.{AddNode, RemoveNode, Release, VerifyGraph, ProcessGraph}
+use Rattle.client_model.specs.declared.request.Request.TheVariants.{ReleaseContext, AddNode, RemoveNode, Release, VerifyGraph, ProcessGraph}
+use Rattle.client_model.specs.declared.reply.Reply.{Reply}
+use Rattle.client_model.specs.declared.reply.Reply.TheVariants.{Refused, Empty}
+use Rattle.client_model.specs.States.{changes_nodes}
 use Rattle.client_contexts.specs.declared.kept.Kept.{Kept}
+use Rattle.client_contexts.specs.declared.memory.NoMemory.{NoMemory}
 
 -- under a name that was given, what is held is a graph that can run as it was verified: nothing refuses it within these work bytes, and
 -- its nodes, their order and the descriptions of the virtual images that they write are those that were found; the plan is one of slots
@@ -44,3 +49,33 @@ forgotten_by (AddNode graph n) kept = remove_entry (is_at (nat_cmp graph)) kept
 forgotten_by (RemoveNode graph number) kept = remove_entry (is_at (nat_cmp graph)) kept
 forgotten_by (Release name) kept = remove_entry (is_at (nat_cmp name)) kept
 forgotten_by other kept = kept
+
+-- ---- what shows of it
+
+-- the names, each with the work bytes within which its graph was found able to run
+abbrev pub verified_in : List (ℕ × Kept) → List (ℕ × ℕ)
+verified_in kept = map (λ k. (k.0, k.1.work)) kept
+
+-- the graph of a name is kept as one that can run within so many work bytes
+abbrev pub IsKeptWithin : ℕ → ℕ → List (ℕ × ℕ) → Type 0
+IsKeptWithin work graph verified = lookup (is_at (nat_cmp graph)) verified ≡ Some work
+
+-- each graph that was kept so still is
+abbrev pub StayKept : ℕ → List (ℕ × ℕ) → List (ℕ × ℕ) → Type 0
+StayKept work old new = (graph : ℕ) → IsKeptWithin work graph old → IsKeptWithin work graph new
+
+-- whether a request, once it is done, ends what is kept of the graph of a name: it changes its nodes, or ends its name or its context
+abbrev pub ends_verification : Request → ℕ → Bool
+ends_verification ReleaseContext name = true
+ends_verification (Release released) name = released == name
+ends_verification other name = changes_nodes other name
+
+-- what a request that is answered so does to what is kept of its client's graphs, within so many work bytes: VerifyGraph finds no memory
+-- only where its graph wasn't kept; once VerifyGraph or ProcessGraph succeeds it is; and so it stays until its nodes change or it ends.
+-- OpenVX 1.3, "Object: Graph", vxVerifyGraph and vxProcessGraph
+pub record KeepsVerified (work : ℕ) (request : Request) (old new : List (ℕ × ℕ)) (result : Result Reply NoMemory) : Type 0 where
+  pub lost : OnErr result ((graph : ℕ) → request ≡ VerifyGraph graph → IsKeptWithin work graph old → ⊥)
+  pub found : result ≡ Ok Empty → (graph : ℕ) → (request ≡ VerifyGraph graph) ⊎ (request ≡ ProcessGraph graph) → IsKeptWithin work graph new
+  pub stays : (graph : ℕ) → ends_verification request graph ≡ false → IsKeptWithin work graph old → IsKeptWithin work graph new
+  pub refused : (code : Code) → result ≡ Ok (Refused code) → StayKept work old new
+  pub no_memory : OnErr result (StayKept work old new)

@@ -1,4 +1,6 @@
+pub mod World
 pub mod Applies
+pub mod Calls
 pub mod Lookup
 pub mod Steps
 pub mod Blocks

@@ -15,10 +15,12 @@ use Rattle.pgm_images.specs.declared.fault.PgmFault.TheVariants as fault
 use Rattle.client_model.specs.Images.{fault_refusal}
 use Rattle.client_contexts.specs.declared.fault.RequestFault.{RequestFault}
 use Rattle.client_contexts.specs.declared.fault.RequestFault.TheVariants.{Refused, NoMemory}
+use Rattle.client_contexts.specs.declared.memory.NoMemory as memory
 use Rattle.client_model.specs.declared.refusal.Refusal.{Refusal}
 use Rattle.client_model.specs.declared.refusal.Refusal.TheVariants.{InvalidReference, InvalidType, InvalidScope, InvalidValue, NoResources, Rejected}
 use Rattle.client_model.specs.declared.reply.Reply.{Reply}
-use Rattle.client_model.specs.Refusal.{Outcome}
+use Rattle.client_model.specs.declared.reply.Reply.TheVariants as reply
+use Rattle.client_model.specs.Refusal.{Outcome, refusal_code}
 use Rattle.client_model.specs.Allowance.{Allowance}
 use Rattle.client_model.specs.States.{KeepsLimits}
 use Rattle.object_table.specs.Context.{Context}
@@ -54,6 +56,12 @@ pub record MayComeTo (outcome : Outcome) (old new : Context) (result : Result Re
   pub done : IfOk result (λ reply. outcome ≡ Ok (reply, Some new))
   pub refused : IfErr result (SaysWhy outcome)
   pub kept : OnErr result (new ≡ old)
+
+-- what the client is told: of a refusal its code
+abbrev pub told_of : Result Reply RequestFault → Result Reply memory.NoMemory
+told_of (Ok r) = Ok r
+told_of (Err (Refused refusal)) = Ok (reply.Refused (refusal_code refusal))
+told_of (Err NoMemory) = Err (record {})
 
 -- no memory, which only some requests take
 abbrev pub WantsMemory : RequestFault → Type 0 → Type 0

@@ -1,5 +1,5 @@
 //! A client's context: its objects, and its graphs that were found able to run.
-ghost use Rattle.std.specs.Prelude.{◌≡◌, ◌≢◌, false, Some, Ok, Err, IfOk, IfErr, OnOk};
+ghost use Rattle.std.specs.Prelude.{◌≡◌, ◌≢◌, false, [], Some, Ok, Err, IfOk, IfErr, OnOk};
 ghost use Rattle.vx_base.specs.declared.format.Format.TheVariants.{U8 as FormatU8};
 ghost use Rattle.vx_base.specs.Image.{IsImage};
 ghost use Rattle.vx_base.specs.Picture.{picture_of};
@@ -14,9 +14,10 @@ ghost use Rattle.client_model.specs.States.{KeepsLimits};
 ghost use Rattle.object_table.specs.Blocks.{blocks_in, LendsAtLeast, LendsLess, Balances};
 ghost use Rattle.object_table.specs.Blocks.{KeepsBlocks};
 ghost use Rattle.object_table.specs.Context.{new_context};
-ghost use Rattle.client_contexts.specs.Kept.{runs_graph};
+ghost use Rattle.client_contexts.specs.Kept.{KeepsVerified, runs_graph};
 ghost use Rattle.client_contexts.specs.Lookup.{IsImageFor, refusal_for};
 ghost use Rattle.client_contexts.specs.Steps.{ComesTo, MayComeTo, WantsMemory, IsContext, Keeps};
+ghost use Rattle.client_contexts.specs.Steps.{told_of};
 
 use crate::delays::{age_delay, create_delay, register_auto_aging};
 use crate::fault::RequestFault;
@@ -50,12 +51,12 @@ pub struct Client {
 }
 
 impl Model for Client {
-    ghost use Rattle.object_table.specs.Context.{Context};
-    ghost use Rattle.client_contexts.specs.Kept.{AreKept};
+    ghost use Rattle.client_contexts.specs.Kept.{AreKept, verified_in};
+    ghost use Rattle.client_contexts.specs.World.{Opened};
 
-    ghost Value = { Context };
+    ghost Value = { Opened };
 
-    ghost view = { λ c. c.table };
+    ghost view = { λ c. record { context = c.table; verified = verified_in c.kept.entries } };
 
     ghost invariant = { λ c. AreKept c.table c.kept.entries };
 }
@@ -63,7 +64,7 @@ impl Model for Client {
 impl Client {
     /// A client without objects.
     pub fn new(alloc: Global) -> Client
-        ensures { result ≡ new_context }
+        ensures { result ≡ record { context = new_context; verified = [] } }
     {
         Client {
             table: Table::new(alloc),
@@ -73,8 +74,8 @@ impl Client {
 
     /// Gives the blocks of all images back, and drops the objects. It takes no memory.
     pub fn end(self, pool: &mut Pool)
-        requires { LendsAtLeast pool.old (blocks_in self.objects) }
-        ensures { LendsLess pool.old pool.new (blocks_in self.objects) }
+        requires { LendsAtLeast pool.old (blocks_in self.context.objects) }
+        ensures { LendsLess pool.old pool.new (blocks_in self.context.objects) }
     {
         self.table.end(pool);
     }
@@ -89,13 +90,16 @@ impl Client {
         request: &Request,
     ) -> Result<Reply, RequestFault>
         requires other { request.now ≢ ReleaseContext }
-        requires keeps { KeepsLimits limits self.old }
-        requires owns { LendsAtLeast pool.old (blocks_in self.old.objects) }
-        ensures comes { MayComeTo (outcome_of limits self.old request.now)
-            self.old self.new result }
-        ensures kept { KeepsLimits limits self.new }
-        ensures balances { Balances pool.old pool.new self.old.objects self.new.objects }
+        requires keeps { KeepsLimits limits self.old.context }
+        requires owns { LendsAtLeast pool.old (blocks_in self.old.context.objects) }
+        ensures comes { MayComeTo (outcome_of limits self.old.context request.now)
+            self.old.context self.new.context result }
+        ensures kept { KeepsLimits limits self.new.context }
+        ensures balances { Balances pool.old pool.new
+            self.old.context.objects self.new.context.objects }
         ensures takes { IfErr result (λ fault. WantsMemory fault (TakesMemory request.now)) }
+        ensures verified { KeepsVerified limits.work request.now
+            self.old.verified self.new.verified (told_of result) }
     {
         match request {
             Request::VerifyGraph(graph) => {
@@ -127,10 +131,12 @@ impl Client {
         picture: Picture,
         spare: &mut Option<Samples>,
     ) -> Result<Reply, Refusal>
-        requires { IsContext self.old }
-        ensures comes { ComesTo (write_image self.old reference picture) self.old self.new result }
-        ensures kept { Keeps self.old self.new }
-        ensures blocks { KeepsBlocks self.old.objects self.new.objects }
+        requires { IsContext self.old.context }
+        ensures comes { ComesTo (write_image self.old.context reference picture)
+            self.old.context self.new.context result }
+        ensures kept { Keeps self.old.context self.new.context }
+        ensures blocks { KeepsBlocks self.old.context.objects self.new.context.objects }
+        ensures verified { self.new.verified ≡ self.old.verified }
     {
         // The laws of requests speak of these.
         reference.is_cell();
@@ -147,11 +153,12 @@ impl Client {
         text: &[u8],
         spare: &mut Option<Samples>,
     ) -> Result<Reply, RequestFault>
-        requires { IsContext self.old }
-        ensures comes { MayComeTo (write_text self.old reference text.now)
-            self.old self.new result }
-        ensures kept { Keeps self.old self.new }
-        ensures blocks { KeepsBlocks self.old.objects self.new.objects }
+        requires { IsContext self.old.context }
+        ensures comes { MayComeTo (write_text self.old.context reference text.now)
+            self.old.context self.new.context result }
+        ensures kept { Keeps self.old.context self.new.context }
+        ensures blocks { KeepsBlocks self.old.context.objects self.new.context.objects }
+        ensures verified { self.new.verified ≡ self.old.verified }
     {
         // The laws of requests speak of it.
         reference.is_cell();
@@ -161,19 +168,20 @@ impl Client {
     /// Whether a picture of this description can be written to the image that a reference names.
     /// Else the refusal.
     pub fn accepts(&self, reference: ObjRef, picture: Desc) -> Result<(), Refusal>
-        ensures ok { OnOk result (IsImageFor self.now.objects reference picture) }
+        ensures ok { OnOk result (IsImageFor self.now.context.objects reference picture) }
         ensures err { IfErr result (λ refusal.
-            refusal_for (image_of self.now.objects reference) picture ≡ Some refusal) }
+            refusal_for (image_of self.now.context.objects reference) picture ≡ Some refusal) }
     {
         find_image_for(&self.table, reference, picture)
     }
 
     /// The image with samples that a reference names, or why it names none.
     pub fn image(&self, reference: ObjRef) -> Result<&Stored, Refusal>
-        requires { IsContext self.now }
-        ensures ok { IfOk result (λ image. read_image self.now reference
-            ≡ Ok (replies.Picture (picture_of image.now), Some self.now)) }
-        ensures err { IfErr result (λ refusal. read_image self.now reference ≡ Err refusal) }
+        requires { IsContext self.now.context }
+        ensures ok { IfOk result (λ image. read_image self.now.context reference
+            ≡ Ok (replies.Picture (picture_of image.now), Some self.now.context)) }
+        ensures err { IfErr result (λ refusal.
+            read_image self.now.context reference ≡ Err refusal) }
         ensures image { IfOk result (λ image. IsImage image.now) }
     {
         find_image(&self.table, reference)
@@ -181,10 +189,11 @@ impl Client {
 
     /// The U8 image that a reference names, or why it names none.
     pub fn text_image(&self, reference: ObjRef) -> Result<&Stored, Refusal>
-        requires { IsContext self.now }
-        ensures ok { IfOk result (λ image. read_text self.now reference
-            ≡ Ok (replies.Text (pgm_text (picture_of image.now)), Some self.now)) }
-        ensures err { IfErr result (λ refusal. read_text self.now reference ≡ Err refusal) }
+        requires { IsContext self.now.context }
+        ensures ok { IfOk result (λ image. read_text self.now.context reference
+            ≡ Ok (replies.Text (pgm_text (picture_of image.now)), Some self.now.context)) }
+        ensures err { IfErr result (λ refusal.
+            read_text self.now.context reference ≡ Err refusal) }
         ensures image { IfOk result (λ image. IsImage image.now) }
         ensures format { IfOk result (λ image. image.now.format ≡ FormatU8) }
     {

@@ -8,7 +8,7 @@ ghost use Rattle.client_model.specs.Graphs.{verify_graph, process_graph};
 ghost use Rattle.client_model.specs.Images.{create};
 ghost use Rattle.client_model.specs.States.{KeepsLimits};
 ghost use Rattle.object_table.specs.Blocks.{blocks_in, LendsAtLeast, Balances, KeepsBlocks};
-ghost use Rattle.client_contexts.specs.Kept.{AreKept, kept_within};
+ghost use Rattle.client_contexts.specs.Kept.{AreKept, kept_within, verified_in, StayKept};
 ghost use Rattle.client_contexts.specs.Steps.{ComesTo, MayComeTo, WantsMemory, IsContext, Keeps};
 
 use crate::fault::RequestFault;
@@ -101,6 +101,8 @@ pub fn verify_graph(
     ensures comes { MayComeTo (verify_graph limits table.now graph) table.now table.now result }
     ensures kept { AreKept table.now kept.new.entries }
     ensures found { OnOk result (kept_within graph kept.new.entries ≡ Some limits.work) }
+    ensures stay { StayKept limits.work (verified_in kept.old.entries)
+        (verified_in kept.new.entries) }
 
     // No memory is taken while it is kept.
     ensures takes { IfErr result (λ fault. WantsMemory fault
@@ -152,6 +154,8 @@ pub fn process_graph(
     ensures balances { Balances pool.old pool.new table.old.objects table.new.objects }
     ensures kept { AreKept table.new kept.new.entries }
     ensures found { OnOk result (kept_within graph kept.new.entries ≡ Some limits.work) }
+    ensures stay { StayKept limits.work (verified_in kept.old.entries)
+        (verified_in kept.new.entries) }
 {
     verify_graph(table, kept, limits, alloc, graph)?;
     let Some(kept) = kept.get(&graph) else {

@@ -1,7 +1,7 @@
 //! Graphs that were found able to run, and are kept as they were verified.
-ghost use Rattle.std.specs.Prelude.{◌≡◌, false, All};
+ghost use Rattle.std.specs.Prelude.{◌≡◌, ℕ, false, All};
 ghost use Rattle.client_model.specs.States.{changes_nodes};
-ghost use Rattle.client_contexts.specs.Kept.{forgotten_by};
+ghost use Rattle.client_contexts.specs.Kept.{ends_verification, forgotten_by, kept_within};
 
 use buffer_plan::Plan;
 use client_model::Request;
@@ -20,6 +20,8 @@ pub struct Kept {
 /// Forgets how a graph runs whose nodes a request has changed, or whose name it has ended.
 pub fn forget(kept: &mut BTreeMap<u32, Kept>, request: &Request)
     ensures forgotten { kept.new.entries ≡ forgotten_by request.now kept.old.entries }
+    ensures stay { (name : ℕ) → ends_verification request.now name ≡ false →
+        kept_within name kept.new.entries ≡ kept_within name kept.old.entries }
     ensures left { All (λ k. changes_nodes request.now k.0 ≡ false) kept.new.entries }
 {
     match request {

@@ -11,9 +11,9 @@ ghost use Rattle.client_model.specs.declared.request.Request.TheVariants.{WriteI
 ghost use Rattle.client_model.specs.declared.request.Request.TheVariants.{ReadImagePgm};
 ghost use Rattle.client_model.specs.declared.reply.Reply.TheVariants as replies;
 ghost use Rattle.client_model.specs.Answer.{answer_to};
-ghost use Rattle.client_model.specs.Context.{state_of};
-ghost use Rattle.client_contexts.specs.Applies.{Applies, IsAnswered};
+ghost use Rattle.client_contexts.specs.Applies.{Applies, AppliesToKept, IsAnswered};
 ghost use Rattle.client_contexts.specs.Blocks.{clients_blocks};
+ghost use Rattle.client_contexts.specs.World.{state_of};
 
 use crate::client::Client;
 use crate::fault::RequestFault;
@@ -41,8 +41,8 @@ pub struct Runtime {
 }
 
 impl Model for Runtime {
-    ghost use Rattle.client_model.specs.Context.{World};
     ghost use Rattle.client_contexts.specs.Blocks.{IsRuntime};
+    ghost use Rattle.client_contexts.specs.World.{World};
 
     ghost Value = { World };
 
@@ -91,14 +91,17 @@ impl Runtime {
     }
 
     /// Answers a request of a client; a reply that holds samples is made with the allocator.
-    /// `NoMemory` is told only where memory was refused, and nothing is changed then.
+    /// `NoMemory` is told only where memory was refused, and no state is changed then. Once a graph
+    /// was verified or has run it is kept as verified, until its nodes change or it ends; so long
+    /// VerifyGraph of it takes no memory.
     pub fn apply(
         &mut self,
         alloc: Global,
         client: u16,
         request: &Request,
     ) -> Result<Reply, NoMemory>
-        ensures { Applies client request.now self.old self.new result }
+        ensures applies { Applies client request.now self.old self.new result }
+        ensures kept { AppliesToKept client request.now self.old self.new result }
     {
         let limits = self.limits;
         if let Request::ReleaseContext = request {
@@ -146,7 +149,10 @@ impl Runtime {
     /// Writes a picture to an image of a client, whose samples are the picture's own from then on:
     /// none is copied. It takes no memory.
     pub fn write(&mut self, client: u16, reference: ObjRef, picture: Picture) -> Reply
-        ensures { Applies client (WriteImage reference picture) self.old self.new (Ok result) }
+        ensures applies { Applies client (WriteImage reference picture)
+            self.old self.new (Ok result) }
+        ensures kept { AppliesToKept client (WriteImage reference picture)
+            self.old self.new (Ok result) }
     {
         let Some(held) = self.contexts.get_mut(&client) else {
             self.spare = Some(picture.into_samples());
@@ -167,7 +173,10 @@ impl Runtime {
         reference: ObjRef,
         text: &[u8],
     ) -> Result<Reply, NoMemory>
-        ensures { Applies client (WriteImagePgm reference text.now) self.old self.new result }
+        ensures applies { Applies client (WriteImagePgm reference text.now)
+            self.old self.new result }
+        ensures kept { AppliesToKept client (WriteImagePgm reference text.now)
+            self.old self.new result }
     {
         let alloc = self.alloc;
         let Some(held) = self.contexts.get_mut(&client) else {
@@ -220,7 +229,8 @@ impl Runtime {
     /// Drops the context of a client that has one, with all of its objects; the blocks of its
     /// images are free then.
     fn release_context(&mut self, client: u16) -> Reply
-        ensures { Applies client ReleaseContext self.old self.new (Ok result) }
+        ensures applies { Applies client ReleaseContext self.old self.new (Ok result) }
+        ensures kept { AppliesToKept client ReleaseContext self.old self.new (Ok result) }
     {
         match self.contexts.remove(&client) {
             Some(held) => {
@@ -234,7 +244,8 @@ impl Runtime {
     /// Answers a client that has no context.
     fn answer_without(&mut self, client: u16, request: &Request) -> Result<Reply, NoMemory>
         requires { state_of client self.old ≡ None }
-        ensures { Applies client request.now self.old self.new result }
+        ensures applies { Applies client request.now self.old self.new result }
+        ensures kept { AppliesToKept client request.now self.old self.new result }
     {
         match request {
             Request::OpenContext => {

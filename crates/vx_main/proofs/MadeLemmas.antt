@@ -17,8 +17,9 @@ use Rattle.client_model.specs.declared.reply.Reply.{Reply}
 use Rattle.client_model.specs.declared.reply.Reply.TheVariants.{Text}
 use Rattle.client_model.specs.Allowance.{Allowance, default_allowance}
 use Rattle.object_table.specs.Context.{new_context, charge_of}
-use Rattle.client_model.specs.Context.{State, World, state_of}
+use Rattle.client_model.specs.Context.{State}
 use Rattle.client_model.specs.Answer.{answer_to}
+use Rattle.client_contexts.specs.World.{World, state_of}
 use Rattle.vx_main.specs.declared.job.Job.{Job}
 use Rattle.vx_main.specs.declared.job.Operation.{Operation}
 use Rattle.vx_main.specs.declared.job.Operation.TheVariants.{Not, Box, Gaussian, Median, Erode, Dilate}

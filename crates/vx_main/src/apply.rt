@@ -2,7 +2,7 @@
 ghost use Rattle.std.specs.Prelude.{◌≡◌, Ok, IfOk, IfErr, OnOk};
 ghost use Rattle.vx_base.specs.declared.format.Format.TheVariants.{U8 as FormatU8};
 ghost use Rattle.client_model.specs.Answer.{answer_to};
-ghost use Rattle.client_model.specs.Context.{state_of};
+ghost use Rattle.client_contexts.specs.World.{state_of};
 ghost use Rattle.vx_main.specs.Apply.{applied, pgm_fault_code, text_made, EndsFor};
 
 use crate::ended::Ended;

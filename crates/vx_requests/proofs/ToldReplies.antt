@@ -3,8 +3,9 @@ use Rattle.std.proofs.Common.{◌≡◌, ℕ, List, sym, ap, ◌∙◌}
 use Rattle.vx_base.specs.Cell.{Cell}
 use Rattle.client_model.specs.declared.request.Request.TheVariants.{ReadImage, ReadImagePgm}
 use Rattle.client_model.specs.declared.reply.Reply.{Reply}
-use Rattle.client_model.specs.Context.{State, World, state_of}
+use Rattle.client_model.specs.Context.{State}
 use Rattle.client_contexts.specs.Applies.{IsAnswered}
+use Rattle.client_contexts.specs.World.{World, state_of}
 use Rattle.vx_wire.specs.Replies.{said_of}
 use Rattle.vx_requests.specs.declared.serving.answered.Answered.{Answered}
 use Rattle.vx_requests.specs.declared.serving.answered.Content.{Content}

@@ -5,8 +5,8 @@ use Rattle.client_model.specs.declared.request.Request.{Request}
 use Rattle.client_model.specs.declared.request.Request.TheVariants.{WriteImagePgm}
 use Rattle.client_model.specs.declared.reply.Reply.{Reply}
 use Rattle.client_model.specs.declared.reply.Reply.TheVariants.{Refused}
-use Rattle.client_model.specs.Context.{World, state_of}
 use Rattle.client_contexts.specs.Applies.{Applies}
+use Rattle.client_contexts.specs.World.{World, state_of}
 use Rattle.vx_wire.specs.declared.body_fault.BodyFault.{BodyFault}
 use Rattle.vx_wire.specs.declared.op.Op.{Op}
 use Rattle.vx_wire.specs.declared.op.Op.TheVariants as ops

@@ -1,6 +1,7 @@
 -- What each client of a stream gets, from what one client by itself gets.
 use Rattle.std.specs.Prelude.{ℕ, Bool, not, ◌&&◌, ◌==◌, cond, List, [], ◌∷◌, ◌++◌, map, filter}
-use Rattle.client_model.specs.Context.{State, World, state_of}
+use Rattle.client_model.specs.Context.{State}
+use Rattle.client_contexts.specs.World.{World, state_of}
 use Rattle.vx_requests.specs.Frame.Frames.{Frame, ReplyFrame}
 use Rattle.vx_wire.specs.Replies.{Said}
 

@@ -9,6 +9,7 @@ use Rattle.client_contexts.specs.declared.kept.Kept.{Kept}
 use Rattle.client_contexts.specs.Kept.{IsKept, AreKept}
 use Rattle.client_contexts.proofs.StandLemmas.{graph_firsts}
 use Rattle.client_contexts.proofs.ReadyLemmas.{All-insert, found_kept, kept_verifies, verified_is_kept}
+use Rattle.client_contexts.proofs.VerifiedLemmas.{stay_with_one}
 use Rattle.client_contexts.proofs.graphs.verify_graph.Goals as goal
 
 -- what is kept of the graph was found within as many work bytes
@@ -41,3 +42,9 @@ returns-in-Ok-clause-kept c =
     (All-insert c.args.graph k (λ (e : ℕ × Kept). IsKept t e.0 e.1) c.args.kept.now.entries c.requires.kept
     (verified_is_kept c.requires.context.0 t c.args.graph c.in_ok-object.object.now c.requires.context.1 c.in_ok-object.ensures.ok k verified allowed
     (c.in_ok-plan.ensures.plan c.work-work.result (operand_held t.objects) _ allowed verified)))
+
+-- what was kept of other graphs is
+pub returns-in-Ok-clause-stay : goal.returns-in-Ok-clause-stay
+returns-in-Ok-clause-stay c =
+    let k : Kept = record { work = c.work-work.result; verified = c.in_ok-verified.verified; plan = c.in_ok-plan.plan } in
+    stay_with_one c.args.limits.work c.args.graph k c.work-work.ensures c.args.kept.now.entries c.insert.new.self.entries c.in-Ok.ensures.updates.0

@@ -1,17 +1,16 @@
 use Rattle.std.proofs.Common.{◌∙◌, ℕ, List, ap, sym, subst}
 use Rattle.std.specs.BTreeMap.{insert_entry}
 use Rattle.std.specs.Ordering.{nat_cmp}
-use Rattle.object_table.specs.Context.{Context}
-use Rattle.client_model.specs.Context.{World, state_of}
 use Rattle.client_contexts.specs.Blocks.{IsRuntime}
-use Rattle.client_contexts.proofs.RuntimeLemmas.{opened_is}
+use Rattle.client_contexts.specs.World.{Opened, World, state_of}
+use Rattle.client_contexts.proofs.RuntimeLemmas.{none_open, opened_is}
 use Rattle.client_contexts.proofs.runtime.Runtime.answer_without.Goals as goal
 
 pub invariant_of-self-in-OpenContext : goal.invariant_of-self-in-OpenContext
 invariant_of-self-in-OpenContext c =
     let s = c.self.inside in
     let insert = c.in_ok-insert-in-OpenContext.ensures in
-    let none = ap (λ (w : World). state_of c.args.client w) c.self.view_is ∙ c.requires in
+    let none = none_open s.contexts.entries c.args.client (ap (λ (w : World). state_of c.args.client w) c.self.view_is ∙ c.requires) in
     let opened = opened_is s.limits s.contexts.entries s.pool c.self.invariant c.args.client none insert.was_ordered in
-    subst (λ (entries : List (ℕ × Context)). IsRuntime s.limits entries s.pool) (sym insert.entries)
-    (subst (λ (new : Context). IsRuntime s.limits (insert_entry nat_cmp s.contexts.entries c.args.client new) s.pool) (sym c.new.ensures) opened)
+    subst (λ (entries : List (ℕ × Opened)). IsRuntime s.limits entries s.pool) (sym insert.entries)
+    (subst (λ (new : Opened). IsRuntime s.limits (insert_entry nat_cmp s.contexts.entries c.args.client new) s.pool) (sym c.new.ensures) opened)

@@ -10,7 +10,7 @@ returns-in-ReadImagePgm-clause-replies c = λ op body spelled. text_reply _ _ _ 
 
 pub returns-in-Ok : goal.returns-in-Ok
 returns-in-Ok c =
-    let did = c.in-Ok.ensures in
+    let did = c.in-Ok.ensures.applies in
     record {
       replies = λ op body spelled. kept_reply _ _ _ _ op body c.args.request.now c.in-Ok.reply spelled did.reply did.own did.others;
       limits = did.limits;
@@ -18,7 +18,7 @@ returns-in-Ok c =
 
 pub returns-in-Err : goal.returns-in-Err
 returns-in-Err c =
-    let did = c.in-Err.ensures in
+    let did = c.in-Err.ensures.applies in
     record {
       replies = λ op body spelled. wanting_reply _ _ _ _ op body c.args.request.now spelled (λ image is. c.in_default.not-ReadImage image is) (λ image is. c.in_default.not-ReadImagePgm image is) did.takes did.no_memory;
       limits = did.limits;

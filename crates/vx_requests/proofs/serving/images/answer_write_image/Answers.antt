@@ -15,7 +15,7 @@ returns-in_err-picture-in-Ok-room_in-clause-answered g c =
 pub returns-in_ok-picture-in-Ok-room_in-clause-answered : goal.returns-in_ok-picture-in-Ok-room_in-clause-answered
 returns-in_ok-picture-in-Ok-room_in-clause-answered g c =
     let read = c.in_ok-picture-in-Ok-room_in.ensures in
-    let did = rw c.room_in.ensures.same at c.write.ensures in
+    let did = rw c.room_in.ensures.same at c.write.ensures.applies in
     wrote_picture _ _ _ _ _ _ c.args.client c.args.op c.args.count c.read_exactly.new.buf _ _ c.in_ok-picture-in-Ok-room_in.picture c.write.result
     c.requires.op c.requires.long (search rules) c.read_exactly.ensures.bytes c.in_ok-read_exactly.ensures.ok read.desc read.ok read.size c.in-Ok.ensures.size c.in-Ok.ensures.ok
     did.reply did.own did.others

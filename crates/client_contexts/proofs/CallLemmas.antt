@@ -1,0 +1,53 @@
+-- What is kept of a graph, from call to call.
+use Rattle.std.proofs.Common.{◌≡◌, ℕ, Bool, true, false, List, [], ◌∷◌, Result, Ok, Err, inl, refl, sym, subst}
+use Rattle.std.specs.Prelude.{All, OnErr, ◌==◌}
+use Rattle.std.proofs.lemmas.Bool.{eqb-true, eqb-false}
+use Rattle.std.proofs.lemmas.List.Elements.{All-head, All-tail}
+use Rattle.client_model.specs.declared.reply.Reply.{Reply}
+use Rattle.client_model.specs.declared.reply.Reply.TheVariants.{Empty}
+use Rattle.client_model.specs.declared.request.Request.TheVariants.{VerifyGraph}
+use Rattle.client_model.specs.Allowance.{Allowance}
+use Rattle.client_contexts.specs.declared.memory.NoMemory.{NoMemory}
+use Rattle.client_contexts.specs.Calls.{Call, Does, Lead}
+use Rattle.client_contexts.specs.Kept.{IsKeptWithin, ends_verification}
+use Rattle.client_contexts.specs.World.{World, verified_of}
+
+module _ (client graph : ℕ) where
+  -- the client keeps the graph as verified
+  abbrev IsKeptIn : World → Type 0
+  IsKeptIn world = IsKeptWithin world.limits.work graph (verified_of client world)
+
+  -- the calls that may come between
+  abbrev Spares : Call → Type 0
+  Spares call = call.client ≡ client → ends_verification call.request graph ≡ false
+
+  kept_after_call : (call : Call) (old new : World) → Does call old new → Spares call → IsKeptIn old → IsKeptIn new
+  kept_after_call call old new does spares kept =
+      subst (λ (limits : Allowance). IsKeptWithin limits.work graph (verified_of client new)) (sym does.applies.limits) (by_client (call.client == client) refl)
+    where
+      by_client : (same : Bool) → (call.client == client) ≡ same → IsKeptWithin old.limits.work graph (verified_of client new)
+      by_client true is =
+          let own : call.client ≡ client = eqb-true call.client client is in
+          subst (λ (n : ℕ). IsKeptWithin old.limits.work graph (verified_of n new)) own
+          (does.kept.own.stays graph (spares own) (subst (λ (n : ℕ). IsKeptWithin old.limits.work graph (verified_of n old)) (sym own) kept))
+      by_client false is =
+          subst (IsKeptWithin old.limits.work graph) (sym (does.kept.others client (λ same. eqb-false call.client client is (sym same)))) kept
+
+  kept_after_calls : (calls : List Call) (old new : World) → Lead calls old new → All Spares calls → IsKeptIn old → IsKeptIn new
+  kept_after_calls [] old new lead spare kept = subst IsKeptIn (sym lead) kept
+  kept_after_calls (call ∷ calls) old new lead spare kept =
+      kept_after_calls calls lead.0 new lead.2 (All-tail Spares call calls spare) (kept_after_call call old lead.0 lead.1 (All-head Spares call calls spare) kept)
+
+  -- VerifyGraph finds memory as long
+  pub finds_memory : (first verified later last : World) (calls : List Call) (result : Result Reply NoMemory)
+      → Does (record { client = client; request = VerifyGraph graph; result = Ok Empty }) first verified → Lead calls verified later → All Spares calls
+      → Does (record { client = client; request = VerifyGraph graph; result = result }) later last → OnErr result ⊥
+  finds_memory first verified later last calls result found lead spare again =
+      let begun : IsKeptIn verified =
+      subst (λ (limits : Allowance). IsKeptWithin limits.work graph (verified_of client verified)) (sym found.applies.limits) (found.kept.own.found refl graph (inl refl)) in
+      of_result result again.kept.own.lost (kept_after_calls calls verified later lead spare begun)
+    where
+      of_result : (r : Result Reply NoMemory) → OnErr r ((name : ℕ) → VerifyGraph graph ≡ VerifyGraph name → IsKeptWithin later.limits.work name (verified_of client later) → ⊥)
+          → IsKeptIn later → OnErr r ⊥
+      of_result (Ok reply) lost kept = tt
+      of_result (Err error) lost kept = lost graph refl kept

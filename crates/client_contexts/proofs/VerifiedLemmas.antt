@@ -1,0 +1,114 @@
+-- What shows of the graphs that are kept as verified, as a client's requests are answered.
+use Rattle.std.proofs.Common.{◌≡◌, ◌≢◌, ◌∙◌, ℕ, Bool, true, false, cond, List, Option, Some, Result, Ok, Err, ◌⊎◌, inl, inr, sym, ap, subst}
+use Rattle.std.specs.Prelude.{IfErr, OnOk, OnErr}
+use Rattle.std.specs.BTreeMap.{is_at}
+use Rattle.std.specs.Map.{lookup}
+use Rattle.std.specs.Option.{option_map}
+use Rattle.std.specs.Ordering.{nat_cmp}
+use Rattle.std.proofs.lemmas.Map.Made.{lookup-map_values}
+use Rattle.vx_base.specs.declared.code.Code.{Code}
+use Rattle.client_model.specs.declared.reply.Reply.{Reply}
+use Rattle.client_model.specs.declared.reply.Reply.TheVariants as reply
+use Rattle.client_model.specs.declared.request.Request.{Request}
+use Rattle.client_model.specs.declared.request.Request.TheVariants.{VerifyGraph, ProcessGraph}
+use Rattle.client_contexts.specs.declared.fault.RequestFault.{RequestFault}
+use Rattle.client_contexts.specs.declared.fault.RequestFault.TheVariants as fault
+use Rattle.client_contexts.specs.declared.kept.Kept.{Kept}
+use Rattle.client_contexts.specs.declared.memory.NoMemory.{NoMemory}
+use Rattle.client_contexts.specs.Kept.{kept_within, verified_in, runs_graph, IsKeptWithin, StayKept, KeepsVerified, ends_verification}
+use Rattle.client_contexts.specs.Steps.{told_of, WantsMemory}
+
+-- ---- entries
+
+-- what shows under a name is what is kept
+pub shown : (graph : ℕ) (kept : List (ℕ × Kept)) → lookup (is_at (nat_cmp graph)) (verified_in kept) ≡ kept_within graph kept
+shown graph kept = lookup-map_values (λ (k : Kept). k.work) (is_at (nat_cmp graph)) kept
+
+-- where it is kept still, it shows still
+shown_still : (work graph : ℕ) (old new : List (ℕ × Kept)) → (kept_within graph old ≡ Some work → kept_within graph new ≡ Some work)
+    → IsKeptWithin work graph (verified_in old) → IsKeptWithin work graph (verified_in new)
+shown_still work graph old new still is = shown graph new ∙ still (sym (shown graph old) ∙ is)
+
+pub shown_same : (work graph : ℕ) (old new : List (ℕ × Kept)) → kept_within graph new ≡ kept_within graph old
+    → IsKeptWithin work graph (verified_in old) → IsKeptWithin work graph (verified_in new)
+shown_same work graph old new same = shown_still work graph old new (λ is. same ∙ is)
+
+-- once a graph is kept within the work bytes, each other that was still is
+pub stay_with_one : (work graph : ℕ) (k : Kept) → k.work ≡ work → (old new : List (ℕ × Kept))
+    → ((q : ℕ) → lookup (is_at (nat_cmp q)) new ≡ cond (is_at (nat_cmp graph) q) (Some k) (lookup (is_at (nat_cmp q)) old))
+    → StayKept work (verified_in old) (verified_in new)
+stay_with_one work graph k same old new updates = λ q.
+    shown_still work q old new (λ is. ap (option_map (λ (e : Kept). e.work)) (updates q) ∙ either (is_at (nat_cmp graph) q) (lookup (is_at (nat_cmp q)) old) is)
+  where
+    either : (b : Bool) (o : Option Kept) → option_map (λ (e : Kept). e.work) o ≡ Some work → option_map (λ (e : Kept). e.work) (cond b (Some k) o) ≡ Some work
+    either true o is = ap (λ (n : ℕ). let s : Option ℕ = Some n in s) same
+    either false o is = is
+
+-- ---- requests
+
+-- what is said where there is no memory, of what was told
+on_err : {A E P : Type 0} (result : Result A E) → P → OnErr result P
+on_err (Ok value) said = tt
+on_err (Err error) said = said
+
+-- a VerifyGraph that took no memory while its graph was kept finds none only where it wasn't
+pub lost_unkept : (work graph : ℕ) (request : Request) (kept : List (ℕ × Kept)) (result : Result Reply RequestFault) → request ≡ VerifyGraph graph
+    → IfErr result (λ f. WantsMemory f (kept_within graph kept ≢ Some work))
+    → OnErr (told_of result) ((name : ℕ) → request ≡ VerifyGraph name → IsKeptWithin work name (verified_in kept) → ⊥)
+lost_unkept work graph request kept (Ok made) is takes = tt
+lost_unkept work graph request kept (Err (fault.Refused refusal)) is takes = tt
+lost_unkept work graph request kept (Err fault.NoMemory) is takes = λ name asks verified.
+    let same : name ≡ graph = cc in
+    takes (sym (shown graph kept) ∙ subst (λ (n : ℕ). IsKeptWithin work n (verified_in kept)) same verified)
+
+-- what is said of no request where there is no memory
+pub lost_none : (P : ℕ → Type 0) (graph : ℕ) (request : Request) (result : Result Reply NoMemory) → request ≡ ProcessGraph graph → OnErr result ((name : ℕ) → request ≡ VerifyGraph name → P name)
+lost_none P graph request result is = on_err result (λ name asks. let other : ProcessGraph graph ≡ VerifyGraph name = sym is ∙ asks in absurd (cc))
+
+-- a request to verify or to run a graph
+pub ran_keeps : (work graph : ℕ) (request : Request) (old new : List (ℕ × Kept)) (result : Result Reply RequestFault) → (request ≡ VerifyGraph graph) ⊎ (request ≡ ProcessGraph graph)
+    → OnErr (told_of result) ((name : ℕ) → request ≡ VerifyGraph name → IsKeptWithin work name (verified_in old) → ⊥) → OnOk result (kept_within graph new ≡ Some work)
+    → StayKept work (verified_in old) (verified_in new) → KeepsVerified work request (verified_in old) (verified_in new) (told_of result)
+ran_keeps work graph request old new result is lost found stay =
+    record {
+      lost = lost;
+      found = λ told name asks. subst (λ (n : ℕ). IsKeptWithin work n (verified_in new)) (same_graph name is asks) (of_result result told found);
+      stays = λ name _. stay name;
+      refused = λ code _. stay;
+      no_memory = on_err (told_of result) stay;
+    }
+  where
+    same_graph : (name : ℕ) → (request ≡ VerifyGraph graph) ⊎ (request ≡ ProcessGraph graph) → (request ≡ VerifyGraph name) ⊎ (request ≡ ProcessGraph name) → graph ≡ name
+    same_graph name (inl first) (inl second) = cc
+    same_graph name (inl first) (inr second) = cc
+    same_graph name (inr first) (inl second) = cc
+    same_graph name (inr first) (inr second) = cc
+
+    of_result : (r : Result Reply RequestFault) → told_of r ≡ Ok reply.Empty → OnOk r (kept_within graph new ≡ Some work) → IsKeptWithin work graph (verified_in new)
+    of_result (Ok made) told said = shown graph new ∙ said
+    of_result (Err (fault.Refused refusal)) told said = absurd (cc)
+    of_result (Err fault.NoMemory) told said = absurd (cc)
+
+-- another request
+module _ (work : ℕ) (request : Request) (others : runs_graph request ≡ false) (old new : List (ℕ × ℕ)) where
+  asks_none : (name : ℕ) → (request ≡ VerifyGraph name) ⊎ (request ≡ ProcessGraph name) → ⊥
+  asks_none name (inl asks) = let runs : true ≡ false = sym (ap runs_graph asks) ∙ others in cc
+  asks_none name (inr asks) = let runs : true ≡ false = sym (ap runs_graph asks) ∙ others in cc
+
+  -- which is done, and ends what is kept of no graph but those that it ends
+  pub done_keeps : (made : Reply) → ((code : Code) → made ≢ reply.Refused code)
+      → ((name : ℕ) → ends_verification request name ≡ false → IsKeptWithin work name old → IsKeptWithin work name new) → KeepsVerified work request old new (Ok made)
+  done_keeps made told stays =
+      record { lost = tt; found = λ _ name asks. absurd (asks_none name asks); stays = stays; refused = λ code refuses. absurd (told code (cc)); no_memory = tt }
+
+  -- and one that leaves what is kept
+  pub same_keeps : (result : Result Reply NoMemory) → new ≡ old → KeepsVerified work request old new result
+  same_keeps result same =
+      let stay : StayKept work old new = λ name kept. subst (IsKeptWithin work name) (sym same) kept in
+      record {
+        lost = on_err result (λ name asks _. asks_none name (inl asks));
+        found = λ _ name asks. absurd (asks_none name asks);
+        stays = λ name _. stay name;
+        refused = λ code _. stay;
+        no_memory = on_err result stay;
+      }

@@ -1,0 +1,25 @@
+//! Laws of what a runtime does.
+ghost use Rattle.std.specs.Prelude.{◌≡◌, ℕ, false, List, All, Ok, Result, OnErr};
+ghost use Rattle.client_model.specs.declared.reply.Reply.{Reply};
+ghost use Rattle.client_model.specs.declared.reply.Reply.TheVariants.{Empty};
+ghost use Rattle.client_model.specs.declared.request.Request.TheVariants.{VerifyGraph};
+ghost use Rattle.client_contexts.specs.declared.memory.NoMemory.{NoMemory};
+ghost use Rattle.client_contexts.specs.Calls.{Call, Does, Lead};
+ghost use Rattle.client_contexts.specs.Kept.{ends_verification};
+ghost use Rattle.client_contexts.specs.World.{World};
+
+/// Once VerifyGraph of a graph succeeded, and whatever requests of any clients came then of which
+/// none of this client changes the graph's nodes, or ends its name or its context, VerifyGraph of
+/// it never wants memory that isn't there.
+pub fn verified_once()
+    ensures { (client graph : ℕ) (first verified later last : World) (calls : List Call)
+        (result : Result Reply NoMemory) →
+        Does (record { client = client; request = VerifyGraph graph; result = Ok Empty })
+        first verified →
+        Lead calls verified later →
+        All (λ call. call.client ≡ client →
+        ends_verification call.request graph ≡ false) calls →
+        Does (record { client = client; request = VerifyGraph graph; result = result })
+        later last →
+        OnErr result ⊥ }
+{}
