@@ -1,15 +1,13 @@
 -- How a stage is after so many nodes of a strip, and after one more.
-use Rattle.std.proofs.Common.{◌≡◌, ◌≢◌, ℕ, ◌+◌, ◌≤◌, true, false, List, [], ◌∷◌, ◌++◌, map, Option, Some, None, inl, inr, IfSome, refl, sym, ap, subst, ◌∙◌, arith, sum_by, unwrap_or, option_map, option_and_then}
-use Rattle.graph_run.proofs.Common.{append_assoc, sum_by-append, Node, Output, First, Second, Cell, same_cell, ImageValue, IsImage, outputs, given, ObjectValue, ImageObject, object_kind, Context, with_objects, Named, held, object_held, with_object, image_value, cell_object, image_held, HoldsImage, VirtualOutput, Verified, writes, In, Band, Strip, Slot, Stage, AreSeen, seen_in, part_made, made_in, made_seen, with_seen, HasPlaceIn, IsSeen, IsStrip, rows_beside, RunsInBands, final_of, is_virtual_name, RowsAreAs, IsPartOf, right_from, right_to, scene, slot_of, fixed, RunsTo, node_image_is, parameters, accumulates, same_cell-refl, In-left, In-right, any-from_In, in_slot, seen, AreApart}
+use Rattle.std.proofs.Common.{◌≡◌, ◌≢◌, ℕ, ◌+◌, ◌≤◌, true, false, List, [], ◌∷◌, ◌++◌, map, Option, Some, None, inl, inr, IfSome, refl, sym, ap, subst, ◌∙◌, arith, sum_by, option_map, option_and_then}
+use Rattle.graph_run.proofs.Common.{append_assoc, sum_by-append, Node, Output, First, Second, Cell, same_cell, ImageValue, IsImage, outputs, given, ObjectValue, ImageObject, object_kind, Context, with_objects, Named, object_held, with_object, image_value, cell_object, image_held, HoldsImage, VirtualOutput, Verified, writes, In, Strip, Slot, Stage, AreSeen, part_made, made_in, made_seen, with_seen, IsSeen, IsStrip, rows_beside, RunsInBands, final_of, is_virtual_name, RowsAreAs, IsPartOf, right_from, right_to, scene, slot_of, fixed, RunsTo, node_image_is, parameters, accumulates, same_cell-refl, In-left, In-right, any-from_In, in_slot, seen, AreApart}
 use Rattle.vx_base.specs.declared.kind.Kind.TheVariants as kind
 use Rattle.graph_run.proofs.BandLemmas.{right_above, right_below, rows_right}
-use Rattle.graph_run.proofs.SeesLemmas.{SeesImage, SeesBeside, IsRightFor, SeesRight, SeesRightBeside, seen_is_object}
+use Rattle.graph_run.proofs.SeesLemmas.{IsRightFor, SeesRight, SeesRightBeside, seen_is_object}
 use Rattle.graph_run.proofs.AgreeLemmas.{output_cases}
 use Rattle.graph_run.proofs.FinalLemmas.{IsMade, second_near, second_given, in_height, out_height, final_first, final_second, final_apart, made_first, made_second, writes_images}
 use Rattle.graph_run.proofs.CellLemmas.{held_after, held_image, held_whole}
 use Rattle.graph_run.proofs.OutputLemmas.{image_of_object, out_is_image}
-use Rattle.graph_run.proofs.PartSeenLemmas.{seen_alike}
-use Rattle.graph_run.proofs.StepLemmas.{nothing, Alike, none_alike, slots_alike}
 use Rattle.graph_run.proofs.StageLemmas.{held_beside}
 use Rattle.graph_run.proofs.StripLemmas.{HasPlace, is_seen, made_stands}
 

@@ -1,6 +1,6 @@
 -- Graphs that run in bands of rows: each band goes through all nodes before the next one does. Nodes see parts of images, which are a
 -- band and some rows beside it.
-use Rattle.std.specs.Prelude.{ℕ, ◌+◌, ◌-◌, ◌*◌, ◌≤◌, ◌≡◌, ◌≢◌, IsTrue, is_some, ⊤, Bool, true, false, not, ◌&&◌, ◌==◌, if◌then◌else◌, List, [], ◌++◌, map, take, drop, length, sum_by, slice_get, All, Option, Some, None, IfSome, unwrap_or}
+use Rattle.std.specs.Prelude.{ℕ, ℤ, ◌+◌, ◌-◌, ◌*◌, ◌≤◌, ◌≡◌, ◌≢◌, IsTrue, is_some, ⊤, Bool, true, false, not, ◌&&◌, ◌==◌, if◌then◌else◌, List, [], ◌++◌, map, take, drop, length, sum_by, slice_get, All, Option, Some, None, IfSome, unwrap_or}
 use Rattle.std.specs.Option.{option_map, option_and_then}
 use Rattle.std.specs.List.{list_any}
 use Rattle.std.specs.List.Sorted.{IsStrictlyIncreasing}
@@ -8,7 +8,7 @@ use Rattle.vx_base.specs.declared.kind.Kind.TheVariants as kind
 use Rattle.vx_base.specs.declared.node.Node.{Node}
 use Rattle.vx_base.specs.declared.output.Output.{Output}
 use Rattle.vx_base.specs.Cell.{Cell, cell_of}
-use Rattle.vx_base.specs.Description.{IsDescription}
+use Rattle.vx_base.specs.Description.{Description, IsDescription}
 use Rattle.vx_base.specs.Function.{parameters, accumulates}
 use Rattle.vx_base.specs.Image.{ImageValue, IsImage, image_over, description_of, band, at}
 use Rattle.vx_base.specs.Node.{outputs}
@@ -32,11 +32,12 @@ use Rattle.node_rows.specs.Reach.{reach, matrix_in}
 use Rattle.graph_run.specs.declared.bands.Strip.{Strip}
 use Rattle.graph_run.specs.declared.stage.Slot.{Slot}
 use Rattle.graph_run.specs.declared.stage.Stage.{Stage}
+use Rattle.graph_run.specs.declared.step.Making.{Making}
 use Rattle.graph_run.specs.Graph.{begun, one_by_one}
 use Rattle.graph_run.specs.Operands.{operand_held, IsReady}
 use Rattle.graph_run.specs.Solution.{label_of}
 use Rattle.graph_run.specs.Stage.{scene, slot_of}
-use Rattle.graph_run.specs.Steps.{AreApart, Holds, CanRunTo, IsRead}
+use Rattle.graph_run.specs.Steps.{AreApart, Holds, CanRunTo, IsRead, made_as}
 
 -- ---- what nodes see
 
@@ -111,6 +112,10 @@ with_band strip part old =
     (take (strip.band.start * old.width) old.samples
     ++ band old.width (strip.band.start - strip.rows.start) strip.band.count (at part)
     ++ drop ((strip.band.start + strip.band.count) * old.width) old.samples)
+
+-- rows of what a node makes, an image of this description
+abbrev pub rows_made : Description → Band → Making → List ℤ
+rows_made d rows m = band d.width rows.start rows.count (at (made_as d.format m))
 
 -- what an output becomes: in a slot the part, else the image with the part's band
 abbrev pub made_in : Option Slot → Strip → ImageValue → ImageValue → ImageValue

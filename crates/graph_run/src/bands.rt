@@ -30,7 +30,7 @@ ghost use Rattle.buffer_plan.specs.Plan.{IsPlan};
 ghost use Rattle.graph_run.specs.Bands.{SeesParts, part_made, with_band, made_seen, with_seen};
 ghost use Rattle.graph_run.specs.Bands.{IsWithinRows, IsSeen, AreSeen, IsStrip};
 ghost use Rattle.graph_run.specs.Bands.{output_part, RunsInBands, final_of};
-ghost use Rattle.graph_run.specs.Bands.{IsFinished, AreAreas, is_image_held, with_area};
+ghost use Rattle.graph_run.specs.Bands.{IsFinished, AreAreas, is_image_held, with_area, rows_made};
 ghost use Rattle.graph_run.specs.Graph.{run_of_graph};
 ghost use Rattle.graph_run.specs.Lasting.{Lasts};
 ghost use Rattle.graph_run.specs.Operands.{operand_held, IsReady};
@@ -39,13 +39,13 @@ ghost use Rattle.graph_run.specs.declared.bands.Bands.{Bands as HowBands};
 ghost use Rattle.graph_run.specs.Slots.{room_of, planned_rooms, plan_in, most_rows};
 ghost use Rattle.graph_run.specs.Slots.{AreEmpty, AreShared, claimed_at};
 ghost use Rattle.graph_run.specs.Stage.{scene, slot_of, IsStage, IsArranged, Keeps};
-ghost use Rattle.graph_run.specs.Steps.{AreApart, CanRunTo};
+ghost use Rattle.graph_run.specs.Steps.{AreApart, CanMake, made_as};
 ghost use Rattle.graph_run.specs.Turns.{AreVirtual};
 
 use crate::kernel::run_node;
 use crate::runs::place_of;
 use crate::stage::Stage;
-use crate::step::{write_gradients, write_samples};
+use crate::step::{Making, write_gradients, write_samples};
 use buffer_plan::Plan;
 use graph_verify::{Verified, VirtualOutput};
 use image_core::{Band, Image, ImageMut, Second};
@@ -326,7 +326,13 @@ fn write_part(stage: &mut Stage, node: &Node, which: Output, output: ObjRef, row
 {
     let (desc, mut samples) = stage.take(output);
     let (first, second) = stage.inputs(node, rows);
-    let valid = write_samples(desc, &mut samples, node, which, &first, &second);
+    let making = Making {
+        node,
+        which,
+        first,
+        second,
+    };
+    let valid = write_samples(desc, &mut samples, &making);
     stage.put(output, samples, valid);
 }
 
@@ -348,33 +354,30 @@ fn write_band(stage: &mut Stage, node: &Node, which: Output, output: ObjRef, str
     let (desc, mut samples) = stage.take(output);
     let (first, second) = stage.inputs(node, strip.rows);
     let part = Desc::with_sides(desc.width(), strip.rows.count, desc.format());
-    write_rows(part, &mut samples, strip, node, which, &first, &second);
+    let making = Making {
+        node,
+        which,
+        first,
+        second,
+    };
+    write_rows(part, &mut samples, strip, &making);
     stage.put(output, samples, desc.whole());
 }
 
 /// Writes the band's rows of what a node makes of the rows that it sees, an image of this
 /// description; all rows of the image to which they belong are there.
-fn write_rows(
-    part: Desc,
-    samples: &mut Samples,
-    strip: Strip,
-    node: &Node,
-    which: Output,
-    first: &Image<'_>,
-    second: &Second<'_>,
-)
-    requires function { accumulates node.now.function ≡ false }
+fn write_rows(part: Desc, samples: &mut Samples, strip: Strip, making: &Making<'_, '_, '_>)
+    requires function { accumulates making.now.node.now.function ≡ false }
     requires format { samples_format samples.old ≡ part.format }
     requires strip { IsWithinRows strip }
     requires height { part.height ≡ strip.rows.count }
     requires room { (strip.band.start + strip.band.count) * part.width
         ≤ length (values samples.old) }
-    requires can_run { CanRunTo node.now first.now (second_object second.now)
-        (image_over part empty []) }
+    requires can_run { CanMake making.now part }
     ensures samples { values samples.new
         ≡ take (strip.band.start * part.width) (values samples.old)
         ++ band part.width (strip.band.start - strip.rows.start) strip.band.count
-        (at (node_image node.now which part.format first.now (second_object second.now)))
+        (at (made_as part.format making.now))
         ++ drop ((strip.band.start + strip.band.count) * part.width) (values samples.old) }
     ensures format { samples_format samples.new ≡ samples_format samples.old }
 {
@@ -389,111 +392,82 @@ fn write_rows(
         Samples::U8(samples) => {
             let (_, rest) = samples.split_at_mut(start);
             let (to, _) = rest.split_at_mut(count);
-            rows_u8(part, rows, to, node, which, first, second);
+            rows_u8(part, rows, to, making);
         }
         Samples::S16(samples) => {
             let (_, rest) = samples.split_at_mut(start);
             let (to, _) = rest.split_at_mut(count);
-            rows_s16(part, rows, to, node, which, first, second);
+            rows_s16(part, rows, to, making);
         }
         Samples::U32(samples) => {
             let (_, rest) = samples.split_at_mut(start);
             let (to, _) = rest.split_at_mut(count);
-            rows_u32(part, rows, to, node, which, first, second);
+            rows_u32(part, rows, to, making);
         }
     }
 }
 
 /// Writes rows of one of a node's outputs, an image.
-fn run_rows(
-    node: &Node,
-    which: Output,
-    first: &Image<'_>,
-    second: &Second<'_>,
-    output: &mut ImageMut<'_>,
-)
-    requires { CanRun node.now first.now (second_object second.now) output.old }
+fn run_rows(making: &Making<'_, '_, '_>, output: &mut ImageMut<'_>)
+    requires { CanRun making.now.node.now making.now.first (second_object making.now.second)
+        output.old }
     ensures format { (written output.new).format ≡ (written output.old).format }
     ensures samples { (written output.new).samples ≡ band (written output.old).width
-        output.old.rows.start output.old.rows.count (at (node_image node.now which
-        (written output.old).format first.now (second_object second.now))) }
+        output.old.rows.start output.old.rows.count
+        (at (made_as (written output.old).format making.now)) }
     ensures slices { SameSlices output.old output.new }
 {
-    run_node(node, which, first, second, output);
+    run_node(
+        making.node,
+        making.which,
+        &making.first,
+        &making.second,
+        output,
+    );
 }
 
-/// Runs a node to rows of an output in one format.
-macro_rules! run_to_rows {
-    ($desc:expr, $rows:expr, $out:expr, $node:expr, $which:expr, $first:expr, $second:expr) => {{
-        let mut output = ImageMut::of_rows($desc, $rows, $out);
-        run_rows($node, $which, $first, $second, &mut output);
+/// Writes rows of an output in one format.
+macro_rules! write_rows_in_format {
+    ($desc:expr, $rows:expr, $samples:expr, $making:expr) => {{
+        let mut output = ImageMut::of_rows($desc, $rows, $samples);
+        run_rows($making, &mut output);
     }};
 }
 
 /// Writes rows of a U8 output.
-fn rows_u8(
-    desc: Desc,
-    rows: Band,
-    samples: &mut [u8],
-    node: &Node,
-    which: Output,
-    first: &Image<'_>,
-    second: &Second<'_>,
-)
-    requires function { accumulates node.now.function ≡ false }
+fn rows_u8(desc: Desc, rows: Band, samples: &mut [u8], making: &Making<'_, '_, '_>)
+    requires function { accumulates making.now.node.now.function ≡ false }
     requires format { desc.format ≡ U8 }
     requires rows { IsInRows desc.height rows }
     requires size { length samples.old ≡ rows.count * desc.width }
-    requires can_run { CanRunTo node.now first.now (second_object second.now)
-        (image_over desc empty []) }
-    ensures { map pos samples.new ≡ band desc.width rows.start rows.count
-        (at (node_image node.now which U8 first.now (second_object second.now))) }
+    requires can_run { CanMake making.now desc }
+    ensures { map pos samples.new ≡ rows_made desc rows making.now }
 {
-    run_to_rows!(desc, rows, samples, node, which, first, second);
+    write_rows_in_format!(desc, rows, samples, making);
 }
 
 /// Writes rows of an S16 output, as `rows_u8` does.
-fn rows_s16(
-    desc: Desc,
-    rows: Band,
-    samples: &mut [i16],
-    node: &Node,
-    which: Output,
-    first: &Image<'_>,
-    second: &Second<'_>,
-)
-    requires function { accumulates node.now.function ≡ false }
+fn rows_s16(desc: Desc, rows: Band, samples: &mut [i16], making: &Making<'_, '_, '_>)
+    requires function { accumulates making.now.node.now.function ≡ false }
     requires format { desc.format ≡ S16 }
     requires rows { IsInRows desc.height rows }
     requires size { length samples.old ≡ rows.count * desc.width }
-    requires can_run { CanRunTo node.now first.now (second_object second.now)
-        (image_over desc empty []) }
-    ensures { samples.new ≡ band desc.width rows.start rows.count
-        (at (node_image node.now which S16 first.now (second_object second.now))) }
+    requires can_run { CanMake making.now desc }
+    ensures { samples.new ≡ rows_made desc rows making.now }
 {
-    run_to_rows!(desc, rows, samples, node, which, first, second);
+    write_rows_in_format!(desc, rows, samples, making);
 }
 
 /// Writes rows of a U32 output, as `rows_u8` does.
-fn rows_u32(
-    desc: Desc,
-    rows: Band,
-    samples: &mut [u32],
-    node: &Node,
-    which: Output,
-    first: &Image<'_>,
-    second: &Second<'_>,
-)
-    requires function { accumulates node.now.function ≡ false }
+fn rows_u32(desc: Desc, rows: Band, samples: &mut [u32], making: &Making<'_, '_, '_>)
+    requires function { accumulates making.now.node.now.function ≡ false }
     requires format { desc.format ≡ U32 }
     requires rows { IsInRows desc.height rows }
     requires size { length samples.old ≡ rows.count * desc.width }
-    requires can_run { CanRunTo node.now first.now (second_object second.now)
-        (image_over desc empty []) }
-    ensures { map pos samples.new ≡ band desc.width rows.start rows.count
-        (at (node_image node.now which U32 first.now (second_object second.now))) }
+    requires can_run { CanMake making.now desc }
+    ensures { map pos samples.new ≡ rows_made desc rows making.now }
 {
-    run_to_rows!(desc, rows, samples, node, which, first, second);
+    write_rows_in_format!(desc, rows, samples, making);
 }
 
 /// Makes the rectangles of the client's images that the nodes write what they are in the end.
