@@ -1,17 +1,16 @@
 //! Graphs that run in bands of rows: each band goes through all nodes before the next one does, so
 //! that what lies between two nodes stays in the cache.
-ghost use Rattle.std.specs.Prelude.{◌≡◌, ◌≤◌, ◌<◌, ◌+◌, ◌-◌, ◌*◌, ◌++◌, []};
+ghost use Rattle.std.specs.Prelude.{◌≡◌, ◌≤◌, ◌<◌, ◌+◌, ◌-◌, ◌*◌, ◌++◌};
 ghost use Rattle.std.specs.Prelude.{ℕ, List, map, pos, take, drop, length};
-ghost use Rattle.std.specs.Prelude.{All, IfSome, IsSome, slice_get, None, Some, false};
+ghost use Rattle.std.specs.Prelude.{All, IfSome, IsSome, slice_get, None, Some, true, false};
 ghost use Rattle.vx_base.specs.declared.format.Format.TheVariants.{U8, S16, U32};
 ghost use Rattle.vx_base.specs.declared.function.Function.TheVariants.{Sobel};
 ghost use Rattle.vx_base.specs.declared.node.Node.{Node as NodeFields};
 ghost use Rattle.vx_base.specs.declared.output.Output.TheVariants as outputs;
-ghost use Rattle.vx_base.specs.Cell.{Cell};
+ghost use Rattle.vx_base.specs.Cell.{Cell, cell_of};
 ghost use Rattle.vx_base.specs.Function.{accumulates};
-ghost use Rattle.vx_base.specs.Image.{IsImage, image_over, band, at};
+ghost use Rattle.vx_base.specs.Image.{band, at};
 ghost use Rattle.vx_base.specs.Object.{ImageObject, IsObject};
-ghost use Rattle.vx_base.specs.Outputs.{node_image};
 ghost use Rattle.vx_base.specs.Picture.{values, samples_format};
 ghost use Rattle.vx_base.specs.Rectangle.{empty};
 ghost use Rattle.image_core.specs.Bands.{IsInRows};
@@ -19,7 +18,8 @@ ghost use Rattle.image_core.specs.Second.{second_object};
 ghost use Rattle.image_core.specs.Target.{written, SameSlices};
 ghost use Rattle.object_table.specs.Context.{with_objects};
 ghost use Rattle.object_table.specs.Named.{Named, object_held, with_object};
-ghost use Rattle.object_table.specs.Table.{image_held};
+ghost use Rattle.object_table.specs.Object.{image_value};
+ghost use Rattle.object_table.specs.Table.{image_held, object_under};
 ghost use Rattle.graph_verify.specs.Outlines.{resolved};
 ghost use Rattle.graph_verify.specs.declared.operand.Operand.{Operand};
 ghost use Rattle.graph_verify.specs.declared.known.VirtualOutput.{VirtualOutput};
@@ -28,6 +28,8 @@ ghost use Rattle.graph_verify.specs.Verified.{IsVerified};
 ghost use Rattle.buffer_plan.specs.Places.{told};
 ghost use Rattle.buffer_plan.specs.Plan.{IsPlan};
 ghost use Rattle.graph_run.specs.Bands.{SeesParts, part_made, with_band, made_seen, with_seen};
+ghost use Rattle.graph_run.specs.Bands.{CanCount, after_node, counted_before, counted_too, with_counted};
+ghost use Rattle.graph_run.specs.Bands.{band_seen, counts, seen};
 ghost use Rattle.graph_run.specs.Bands.{IsWithinRows, IsSeen, AreSeen, IsStrip};
 ghost use Rattle.graph_run.specs.Bands.{output_part, RunsInBands, final_of};
 ghost use Rattle.graph_run.specs.Bands.{IsFinished, AreAreas, is_image_held, with_area, rows_made};
@@ -45,18 +47,32 @@ ghost use Rattle.graph_run.specs.Turns.{AreVirtual};
 use crate::kernel::run_node;
 use crate::runs::place_of;
 use crate::stage::Stage;
-use crate::step::{Making, write_gradients, write_samples};
+use crate::step::{Making, distribution_of, write_gradients, write_samples};
 use buffer_plan::Plan;
 use graph_verify::{Verified, VirtualOutput};
 use image_core::{Band, Image, ImageMut, Second};
-use object_table::{Content, Table};
-use vx_base::{Desc, Node, ObjRef, Output, Rect, Samples};
+use object_table::{Content, Distribution, Table};
+use stat_kernels::add_histogram;
+use vx_base::{Desc, Function, GREATEST_BINS, Node, ObjRef, Output, Rect, Samples};
 
 /// Rows that nodes see, and the band of them that is right in the end.
 #[derive(Clone, Copy)]
 pub struct Strip {
     pub rows: Band,
     pub band: Band,
+}
+
+impl Strip {
+    /// The band among the rows that nodes see.
+    fn band_seen(self) -> Band
+        requires { IsWithinRows self }
+        ensures { result ≡ band_seen self }
+    {
+        Band {
+            start: self.band.start - self.rows.start,
+            count: self.band.count,
+        }
+    }
 }
 
 /// How a graph runs in bands of rows.
@@ -90,6 +106,7 @@ pub fn run_bands(stage: &mut Stage, verified: &Verified, plan: &Plan, bands: &Ba
     requires plan { IsPlan verified.now.steps.items verified.now.virtual_outputs.items
         (told plan.now) }
     requires some { 1 ≤ bands.now.rows }
+    requires high { 1 ≤ bands.now.height }
     requires ready { (nodes : List NodeFields) ×
         IsReady stage.old.table.objects nodes verified.now }
     requires bands { (nodes : List NodeFields) →
@@ -151,6 +168,13 @@ fn clear_slots(stage: &mut Stage)
     }
 }
 
+/// Whether a node writes what it counts of an image, which it can do band by band.
+pub fn counts(node: &Node) -> bool
+    ensures { result ≡ counts node.now }
+{
+    matches!(node.function, Function::Histogram)
+}
+
 /// Runs all nodes on the rows of a strip. Before a node runs, the virtual images that it writes
 /// claim their slots: they stand there by these rows.
 fn run_strip(stage: &mut Stage, verified: &Verified, plan: &Plan, bands: &Bands, strip: Strip)
@@ -179,7 +203,7 @@ fn run_strip(stage: &mut Stage, verified: &Verified, plan: &Plan, bands: &Bands,
     for node in &verified.steps {
         claim_part(stage, verified, plan, node.out1, strip.rows);
         claim_part(stage, verified, plan, node.out2, strip.rows);
-        run_outputs(stage, node, strip);
+        run_on_strip(stage, node, strip);
     }
 }
 
@@ -225,7 +249,85 @@ fn claim_part(
     stage.claim(at, VirtualOutput { cell, desc });
 }
 
-/// Runs a node to its outputs.
+/// Runs a node on the rows of a strip.
+fn run_on_strip(stage: &mut Stage, node: &Node, strip: Strip)
+    requires stage { IsStage stage.old }
+    requires strip { IsWithinRows strip }
+    requires seen { counts node.now ≡ false → AreSeen strip stage.old node.now }
+    requires counted { counts node.now ≡ true → IfSome node.now.out1
+        (λ cell. CanCount strip stage.old node.now.in1 cell.name) }
+    ensures value { scene stage.new ≡ with_objects (scene stage.old)
+        (after_node strip stage.old node.now) }
+    ensures stage { IsStage stage.new }
+    ensures keeps { Keeps stage.old stage.new }
+{
+    if counts(node) {
+        count_output(stage, node, strip);
+    } else {
+        run_outputs(stage, node, strip);
+    }
+}
+
+/// Counts the band for the output of a node, if it is there.
+fn count_output(stage: &mut Stage, node: &Node, strip: Strip)
+    requires stage { IsStage stage.old }
+    requires strip { IsWithinRows strip }
+    requires counts { IfSome node.now.out1
+        (λ cell. CanCount strip stage.old node.now.in1 cell.name) }
+    ensures value { scene stage.new ≡ with_objects (scene stage.old)
+        (with_counted strip stage.old node.now.in1 node.now.out1 (scene stage.old).objects) }
+    ensures stage { IsStage stage.new }
+    ensures keeps { Keeps stage.old stage.new }
+{
+    let Some(output) = node.out1 else {
+        return;
+    };
+    count_band(stage, node.in1, output.name(), strip);
+}
+
+/// Counts the valid samples of the band's rows of a U8 image, beside those of the bands above, in
+/// the bins of the distribution under a name.
+fn count_band(stage: &mut Stage, input: ObjRef, output: u32, strip: Strip)
+    requires stage { IsStage stage.old }
+    requires strip { IsWithinRows strip }
+    requires counts { CanCount strip stage.old input output }
+    ensures value { scene stage.new ≡ with_objects (scene stage.old)
+        (with_object (scene stage.old).objects (cell_of output)
+        (counted_too strip (image_value (seen strip.rows stage.old input))
+        (object_under (scene stage.old).objects output))) }
+    ensures stage { IsStage stage.new }
+    ensures keeps { Keeps stage.old stage.new }
+{
+    let distribution = match stage.table.get_held(output) {
+        Some(object) => distribution_of(object),
+        None => unreachable!(),
+    };
+    let bins = distribution.bins();
+    let mut room = [0; GREATEST_BINS];
+    let counts = &mut room[..usize::from(bins.bins())];
+    begin_counts(distribution, strip, counts);
+    add_histogram(
+        &stage.part(input, strip.rows),
+        strip.band_seen(),
+        bins,
+        counts,
+    );
+    stage.table.set_counts(output, counts);
+}
+
+/// What a distribution has counted of the bands above: nothing where there are none.
+fn begin_counts(distribution: &Distribution, strip: Strip, counts: &mut [u32])
+    requires { length counts.old ≡ distribution.now.bins.bins }
+    ensures { counts.new ≡ counted_before strip distribution.now }
+{
+    if strip.band.start == 0 {
+        counts.fill(0);
+    } else {
+        counts.copy_from_slice(distribution.counts());
+    }
+}
+
+/// Runs a node to its outputs, which are images.
 fn run_outputs(stage: &mut Stage, node: &Node, strip: Strip)
     requires stage { IsStage stage.old }
     requires strip { IsWithinRows strip }
@@ -384,10 +486,7 @@ fn write_rows(part: Desc, samples: &mut Samples, strip: Strip, making: &Making<'
     let width = usize::from(part.width());
     let start = usize::from(strip.band.start) * width;
     let count = usize::from(strip.band.count) * width;
-    let rows = Band {
-        start: strip.band.start - strip.rows.start,
-        count: strip.band.count,
-    };
+    let rows = strip.band_seen();
     match samples {
         Samples::U8(samples) => {
             let (_, rest) = samples.split_at_mut(start);
@@ -473,6 +572,7 @@ fn rows_u32(desc: Desc, rows: Band, samples: &mut [u32], making: &Making<'_, '_,
 /// Makes the rectangles of the client's images that the nodes write what they are in the end.
 fn set_areas(table: &mut Table, verified: &Verified, bands: &Bands)
     requires objects { All (λ o. IsObject o.object) table.old.objects }
+    requires high { 1 ≤ bands.now.height }
     requires runs { (objects : List Named) × (nodes : List NodeFields) ×
         RunsInBands objects nodes verified.now bands.now.height bands.now.beside ×
         AreAreas (final_of objects nodes verified.now) verified.now.steps.items

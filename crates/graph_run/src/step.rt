@@ -33,10 +33,10 @@ ghost use Rattle.graph_run.specs.Stage.{scene, IsStage, IsArranged, Keeps, Stays
 use crate::kernel::{run_sum, run_whole};
 use crate::stage::Stage;
 use image_core::{Image, ImageMut, Second};
-use object_table::{Content, Object, Table};
+use object_table::{Content, Distribution, Object, Table};
 use stat_kernels::{histogram, min_max};
 use std::mem;
-use vx_base::{Bins, Desc, GREATEST_BINS, Kind, Node, ObjRef, Output, Rect, Samples};
+use vx_base::{Desc, GREATEST_BINS, Kind, Node, ObjRef, Output, Rect, Samples};
 use window_kernels::sobel3;
 
 /// A node, which of its outputs it writes, and what it reads.
@@ -183,7 +183,7 @@ fn count_to(stage: &mut Stage, input: ObjRef, output: u32)
     ensures keeps { Keeps stage.old stage.new }
 {
     let bins = match stage.table.get_held(output) {
-        Some(object) => bins_of(object),
+        Some(object) => distribution_of(object).bins(),
         None => unreachable!(),
     };
     let mut room = [0; GREATEST_BINS];
@@ -192,13 +192,13 @@ fn count_to(stage: &mut Stage, input: ObjRef, output: u32)
     stage.table.set_counts(output, counts);
 }
 
-/// The bins of the distribution that an object is.
-fn bins_of(object: &Object) -> Bins
+/// The distribution that an object is.
+pub fn distribution_of(object: &Object) -> &Distribution
     requires { object_kind object.now ≡ kind.Distribution }
-    ensures { result ≡ (distribution_value object.now).bins }
+    ensures { result.now ≡ distribution_value object.now }
 {
     match object.content() {
-        Content::Distribution(distribution) => distribution.bins(),
+        Content::Distribution(distribution) => distribution,
         _ => unreachable!(),
     }
 }

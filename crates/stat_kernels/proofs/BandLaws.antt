@@ -1,10 +1,10 @@
 -- The samples of bands of rows, and what is counted of them.
-use Rattle.std.proofs.Common.{◌≡◌, ◌≢◌, ◌⊎◌, set, ℕ, zero, suc, ℤ, ◌+◌, ◌-◌, ◌<◌, ◌≤◌, List, [], ◌++◌, length, map, get_or, slice_index, cond, Bool, true, false, inl, inr, refl, ap, sym, ◌∙◌, arith, ◌&&◌, nat_le, nat_lt, if◌then◌else◌, min, max}
+use Rattle.std.proofs.Common.{◌≡◌, ◌≢◌, ◌⊎◌, set, ℕ, zero, suc, ℤ, ◌+◌, ◌-◌, ◌*◌, ◌<◌, ◌≤◌, List, [], ◌++◌, length, map, get_or, slice_index, cond, replicate, Bool, true, false, inl, inr, refl, ap, sym, ◌∙◌, arith, ◌&&◌, nat_le, nat_lt, if◌then◌else◌, min, max}
 use Rattle.std.specs.List.{count_by}
 use Rattle.std.specs.Prelude.{unsigned_abs}
 use Rattle.std.proofs.lemmas.Bool.{cases_eq, cases_lt}
 use Rattle.std.proofs.lemmas.Bool.Decides.{nat_tests}
-use Rattle.std.proofs.lemmas.List.{append-nil, append_assoc, get_or-set_same, get_or-set_other, get_or_default, get_or_past, length-set, same_lists}
+use Rattle.std.proofs.lemmas.List.{length-append, append-nil, append_assoc, get_or-set_same, get_or-set_other, get_or_default, get_or_past, length-replicate, length-set, get_or-replicate, same_lists}
 use Rattle.std.proofs.lemmas.List.FromFn.{length-map-range_with_len, get_or-map-range_with_len}
 use Rattle.std.proofs.lemmas.List.Sums.{count_by-le-length, sum_by-append}
 use Rattle.vx_base.specs.Image.{ImageValue, IsImage, at, run}
@@ -14,7 +14,7 @@ use Rattle.image_core.specs.declared.band.Band.{Band}
 use Rattle.image_core.specs.Bands.{all_rows}
 use Rattle.stat_kernels.specs.Counts.{added}
 use Rattle.stat_kernels.specs.Part.{band_of, valid_in}
-use Rattle.stat_kernels.proofs.PlaceLaws.{places_none, samples_more}
+use Rattle.stat_kernels.proofs.PlaceLaws.{length-samples, places_none, samples_more}
 use Rattle.stat_kernels.proofs.Rows.{above}
 
 abbrev pub rows_at : ℕ → ℕ → Band
@@ -134,6 +134,15 @@ tallies_added b zs ws =
     ∙ ap (λ n. n + count ws k) (sym (one zs 0)) ∙ ap (λ n. get_or (tallies b zs) k 0 + n) (sym (one ws 0))
     ∙ sym (get_or-map-range_with_len (λ j. slice_index (tallies b zs) j + slice_index (tallies b ws) j) 0 (length (tallies b zs)) k k d (omega (arith, within, size zs)) (omega arith)))
 
+-- nothing is counted of no rows
+pub none_counted : (b : BinsValue) (image : ImageValue) (start : ℕ) → histogram b (valid_in (rows_at start 0) image) ≡ replicate b.bins 0
+none_counted b image start = ap (tallies b) (samples_none image.valid image start) ∙ zeros
+  where
+    zeros : tallies b [] ≡ replicate b.bins 0
+    zeros = same_lists (tallies b []) (replicate b.bins 0) (length-map-range_with_len (λ k. 0) 0 b.bins ∙ sym (length-replicate b.bins 0))
+        (λ k d below. let within : k < b.bins = omega (arith, below, length-map-range_with_len {X = ℕ} (λ k. 0) 0 b.bins) in
+        get_or-map-range_with_len (λ k. 0) 0 b.bins k k d within (omega arith) ∙ sym (get_or-replicate b.bins k 0 d within))
+
 -- so are bands of rows
 pub bands_counted : (b : BinsValue) (image : ImageValue) (start first second : ℕ)
     → histogram b (valid_in (rows_at start (first + second)) image)
@@ -186,3 +195,24 @@ added_all before more now k past so_far =
   where
     sums : ℕ → ℕ
     sums j = slice_index before j + slice_index more j
+
+-- the samples of two bands of which the second follows the first, from the top
+pub bands_fit : (image : ImageValue) → IsImage image → (start count : ℕ)
+    → length (valid_samples (valid_in (rows_at 0 start) image)) + length (valid_samples (valid_in (rows_at start count) image)) < 4294967296
+bands_fit image is start count =
+    let r = image.valid in
+    let all = band_of (rows_at 0 (start + count)) r in
+    let one = samples_in (band_of (rows_at 0 start) r) image in
+    let here : 0 + start ≡ start = omega arith in
+    let high : all.y1 - all.y0 ≤ 8192 = grind (arith, nat_tests, is.sides.1, is.room.rows, is.ordered.rows) in
+    omega (
+      arith,
+      ap (λ y. length (samples_in (band_of (rows_at y count) r) image)) here,
+      ap length (samples_after r image 0 start count),
+      length-append one (samples_in (band_of (rows_at (0 + start) count) r) image),
+      length-samples all image,
+      all_fit (all.y1 - all.y0) (r.x1 - r.x0) high (omega (arith, is.sides.0, is.room.columns)),
+    )
+  where
+    all_fit : (m k : ℕ) → m ≤ 8192 → k ≤ 8192 → m * k < 4294967296
+    all_fit m k rows columns = grind arith
