@@ -466,13 +466,15 @@ module _ (objects : List Named) (nodes : List Node) (v : Verified) (height besid
       here : IsClaimed before after n parts s
       here = strip_claimed l slots one h first both second s is table items
 
-      pub node_sees : counts n ≡ false → AreSeen strip s n
-      node_sees no_count =
-          outputs_seen objects nodes v height beside r strip is_strip before after n parts s (sees_inputs before after n parts s here) no_count (output_open before after n parts s here no_count)
-
-      pub node_counts : counts n ≡ true → IfSome n.out1 (λ cell. CanCount strip s n.in1 cell.name)
-      node_counts does =
-          output_counts objects nodes v height beside r strip is_strip before after n parts s (sees_inputs before after n parts s here) does (output_to_count before after n parts s here does)
+      -- it may write what it writes, or count
+      pub node_may : (counts n ≡ false → AreSeen strip s n) × (counts n ≡ true → IfSome n.out1 (λ cell. CanCount strip s n.in1 cell.name))
+      node_may =
+          let inputs = sees_inputs before after n parts s here in (
+            λ no_count.
+                outputs_seen objects nodes v height beside r strip is_strip before after n parts s inputs no_count (output_open before after n parts s here no_count),
+            λ does.
+                output_counts objects nodes v height beside r strip is_strip before after n parts s inputs does (output_to_count before after n parts s here does),
+          )
 
       pub node_runs : (later : Stage) → IsStage later → scene later ≡ with_objects (scene s) (after_node strip s n) → Keeps s later
           → IsInStrip strips (k + 1) later.table.objects later.slots.items
