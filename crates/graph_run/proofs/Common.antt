@@ -3,7 +3,7 @@ pub use Rattle.buffer_plan.specs.Lives.{is_used}
 pub use Rattle.buffer_plan.specs.Places.{told}
 pub use Rattle.buffer_plan.specs.Plan.{IsPlan, PlanValue}
 pub use Rattle.buffer_plan.specs.Slots.{of_format}
-pub use Rattle.graph_run.specs.Bands.{AreAreas, AreSeen, HasHeight, HasPlaceIn, HasRows, HasRowsIn, IsFinished, IsPartOf, IsSeen, IsStrip, IsWithinRows, RowsAreAs, RunsInBands, SeesParts, final_of, is_image_held, is_target, is_virtual_name, made_in, made_seen, output_part, part_made, part_seen, reach_of, right_from, right_to, rows_beside, seen, seen_in, with_band, with_seen}
+pub use Rattle.graph_run.specs.Bands.{AreAreas, AreSeen, CanCount, HasHeight, HasPlaceIn, HasRows, HasRowsIn, IsAsFar, IsCounted, IsFinished, IsPartOf, IsSeen, IsStrip, IsWithinRows, RowsAreAs, RunsInBands, SeesParts, after_node, banded, counter_of, counts, counts_rows, final_of, is_image_held, is_target, is_virtual_name, made_in, made_seen, output_part, part_made, part_seen, reach_of, right_from, right_to, rows_beside, seen, seen_in, with_band, with_counted, with_seen}
 pub use Rattle.graph_run.specs.Graph.{begun, begun_as, forgotten, is_virtual_object, one_by_one, rounds_of_nodes, run_of_graph}
 pub use Rattle.graph_run.specs.Lasting.{Lasts, lasting, lasting_named}
 pub use Rattle.graph_run.specs.Operands.{CellsStand, HoldsOperand, IsReady, StandsFor, names_cell, operand_held}

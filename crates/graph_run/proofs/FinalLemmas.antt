@@ -1,6 +1,6 @@
 -- What a graph that runs in bands leaves in the end, cell by cell.
 use Rattle.std.proofs.Common.{◌≡◌, ℕ, Bool, true, false, eqb, List, [], ◌∷◌, ◌++◌, map, length, Option, Some, None, inl, inr, refl, sym, ap, subst, ◌∙◌, arith, ◌==◌, ◌&&◌, ◌||◌, not, if◌then◌else◌, IsTrue, is_some, is_none, All, IfSome, unwrap_or, option_map, option_and_then}
-use Rattle.graph_run.proofs.Common.{IsStrictlyIncreasing, cases_Bool, eqb-true, eq-eqb, and_parts, or_left, or_right, false_from_ne_true, U8, Kind, Node, Output, First, Second, VirtualImage, Cell, cell_of, Description, IsDescription, parameters, accumulates, ImageValue, new_image, description_of, IsNode, is_node, given, outputs, operands, second_kind, ObjectValue, ImageObject, VirtualObject, IsObject, object_kind, node_image, node_output, written_to, written_in, written_from, written_by, SecondHasSize, in_slot, Named, object_held, held, with_written, image_value, cell_object, image_held, HoldsImage, names_of, held_by_name, map-told, VirtualOutput, Operand, Image, Delay, Verified, reads, writes, is_written, In, AllIn, operand_of, resolved, In-from_same, same-from_In, In-left, In-right, In-append, In-from_any, any-from_In, In-from_map, AllIn-permutation, AllIn-permutation_back, CanRun, HasInputs, reach, matrix_in, RunsInBands, HasHeight, final_of, is_target, is_virtual_name, reach_of, rows_beside, begun_as, begun, forgotten, is_virtual_object, one_by_one, rounds_of_nodes, run_of_graph, Lasts, HoldsOperand, names_cell, StandsFor, CellsStand, operand_held, Solves, label_of, HoldsVirtual, AreApart, RunsTo, HoldsKind, CanRunNow}
+use Rattle.graph_run.proofs.Common.{IsStrictlyIncreasing, cases_Bool, eqb-true, eq-eqb, and_parts, or_left, or_right, false_from_ne_true, U8, Kind, Node, Output, First, Second, VirtualImage, Cell, cell_of, Description, IsDescription, parameters, accumulates, ImageValue, new_image, description_of, IsNode, is_node, given, outputs, operands, second_kind, ObjectValue, ImageObject, VirtualObject, IsObject, object_kind, node_image, node_output, written_to, written_in, written_from, written_by, SecondHasSize, in_slot, Named, object_held, held, with_written, image_value, cell_object, image_held, HoldsImage, names_of, held_by_name, map-told, VirtualOutput, Operand, Image, Delay, Verified, reads, writes, is_written, In, AllIn, operand_of, resolved, In-from_same, same-from_In, In-left, In-right, In-append, In-from_any, any-from_In, In-from_map, AllIn-permutation, AllIn-permutation_back, CanRun, HasInputs, reach, matrix_in, RunsInBands, HasHeight, final_of, is_target, is_virtual_name, banded, counts, counter_of, one_writer, and_from, reach_of, rows_beside, begun_as, begun, forgotten, is_virtual_object, one_by_one, rounds_of_nodes, run_of_graph, Lasts, HoldsOperand, names_cell, StandsFor, CellsStand, operand_held, Solves, label_of, HoldsVirtual, AreApart, RunsTo, HoldsKind, CanRunNow}
 use Rattle.vx_base.specs.declared.kind.Kind.TheVariants as kind
 use Rattle.vx_base.proofs.ImageLaws.{new_image_is}
 use Rattle.vx_base.proofs.PictureLaws.{side}
@@ -8,9 +8,11 @@ use Rattle.graph_verify.specs.Operand.{is_virtual as is_virtual_operand}
 use Rattle.graph_run.proofs.CellLemmas.{kind_there, there_is, holds_there, one_cell}
 use Rattle.graph_run.proofs.AgreeLemmas.{begin, begins, written_before}
 use Rattle.graph_run.proofs.BegunLaws.{both_held, kept_virtual, labels-begun, labels-forgotten, object_held-forgotten, object_held-unwritten, virtual_as_operand}
+use Rattle.vx_base.specs.Object.{DistributionObject, DistributionValue}
+use Rattle.graph_run.proofs.CountLemmas.{counts_output, distribution_of_kind, find_none, find_some}
 use Rattle.graph_run.proofs.FoundLemmas.{OfOperands, of_operands}
 use Rattle.graph_run.proofs.LastingLemmas.{Lasts-trans, Lasts-names}
-use Rattle.graph_run.proofs.LinkLaws.{All-from_In, In-from_All, reads_second}
+use Rattle.graph_run.proofs.LinkLaws.{All-from_In, In-from_All, reads_first, reads_second}
 use Rattle.graph_run.proofs.NameLaws.{Rising, by_names, rising}
 use Rattle.graph_run.proofs.NodeLaws.{written_held}
 use Rattle.graph_run.proofs.ObjectLaws.{format-node_image}
@@ -84,6 +86,18 @@ made_in_cell n which c now old second a b first there plain written =
 high_image : (height : ℕ) (found : Option ObjectValue) (operand : Operand) → option_map operand_of found ≡ Some operand → HasHeight height operand
     → ((image_value (unwrap_or found (ImageObject (new_image 0 0 U8)))).height ≡ height) × (option_map object_kind found ≡ Some kind.Image)
 high_image height x operand e high = grind arith
+
+-- what a node counted, of which its own output is made once more
+abbrev pub HoldsCounted : List Named → Node → Cell → Type 0
+HoldsCounted l n c = held l c ≡ option_map (node_output n First (ImageObject (image_held l n.in1)) None) (held l c)
+
+counted_in_cell : (n : Node) (which : Output) (c : Cell) (now : Cell → Option ObjectValue) (old second : Option ObjectValue) (a : ImageValue) (d : DistributionValue)
+    → now n.in1 ≡ Some (ImageObject a) → old ≡ Some (DistributionObject d) → ((w : Cell × ObjectValue) → In w (written_to n which c (now n.in1) second old) → now w.0 ≡ Some w.1)
+    → now c ≡ option_map (node_output n First (ImageObject a) None) (now c)
+counted_in_cell n which c now old second a d first there written =
+    let made : now c ≡ Some (node_output n which (ImageObject a) second (DistributionObject d)) =
+    written (c, node_output n which (ImageObject a) second (DistributionObject d)) (rw (first, there) (inl refl)) in
+    made ∙ ap (option_map (node_output n First (ImageObject a) None)) (sym made)
 
 -- ---- outputs
 
@@ -224,6 +238,10 @@ module _ (objects : List Named) (nodes : List Node) (v : Verified) (height besid
       let from = In-from_map (begun known nodes) p objects i in
       subst (λ (q : Named). IsObject q.object) (sym from.2) (begun_is from.0 from.1))
 
+  -- each cell has one writer
+  only_writer : (m n : Node) (c : Cell) → In m steps → In n steps → writes m c ≡ true → writes n c ≡ true → m ≡ n
+  only_writer m n c i j v w = one_writer nodes graph_can.one_writer m n c (in_nodes m i) (in_nodes n j) v w
+
   -- whichever nodes have run, each cell is what it was found to be, and each node can run
   stand_at : (before : List Node) → AllIn before nodes → CellsStand known nodes (one_by_one before first_objects)
   stand_at before within = at_its_turn work is nodes r.ready.runs.1 objects r.ready.cells before within
@@ -277,8 +295,11 @@ module _ (objects : List Named) (nodes : List Node) (v : Verified) (height besid
       (no_delay known nodes first_objects (begun_stands work is nodes graph_can objects r.ready.cells)))
       first_solves
 
-  pub writes_images : (n : Node) → In n steps → ((parameters n.function).output ≡ kind.Image) × (accumulates n.function ≡ false)
-  writes_images n i = In-from_All (λ m. ((parameters m.function).output ≡ kind.Image) × (accumulates m.function ≡ false)) steps r.images n i
+  pub does_write : (n : Node) → In n steps → (counts n ≡ false → (parameters n.function).output ≡ kind.Image) × (accumulates n.function ≡ false)
+  does_write n i = In-from_All (λ m. (counts m ≡ false → (parameters m.function).output ≡ kind.Image) × (accumulates m.function ≡ false)) steps r.images n i
+
+  pub writes_images : (n : Node) → In n steps → counts n ≡ false → ((parameters n.function).output ≡ kind.Image) × (accumulates n.function ≡ false)
+  writes_images n i plain = ((does_write n i).0 plain, (does_write n i).1)
 
   pub of_final : (n : Node) → In n steps → OfOperands (HoldsKind final) n
   of_final n i = of_operands (HoldsKind final) n (final_can n i).kinds
@@ -289,14 +310,14 @@ module _ (objects : List Named) (nodes : List Node) (v : Verified) (height besid
   pub held_second : (n : Node) → In n steps → option_and_then (held final) n.in2 ≡ option_map (cell_object final) n.in2
   held_second n i = second_seen final n.in2 (second_kind n) (of_final n i).in2
 
-  made_at : (n : Node) → In n steps → (which : Output) (cell : Option Cell) → IfSome cell (λ c. HoldsKind first_objects (c, (parameters n.function).output))
+  made_at : (n : Node) → In n steps → counts n ≡ false → (which : Output) (cell : Option Cell) → IfSome cell (λ c. HoldsKind first_objects (c, (parameters n.function).output))
       → ((w : Cell × ObjectValue) → In w (written_in n which cell (held first_objects) (held final)) → held final w.0 ≡ Some w.1)
       → IfSome cell (IsMade final n which)
-  made_at n i which None old written = tt
-  made_at n i which (Some c) old written =
+  made_at n i plain which None old written = tt
+  made_at n i plain which (Some c) old written =
       let a = image_of_kind (held final n.in1) (of_final n i).in1 in
-      let b = image_of_kind (held first_objects c) (old ∙ ap Some (writes_images n i).0) in
-      let made = made_in_cell n which c (held final) (held first_objects c) (option_and_then (held final) n.in2) a.0 b.0 a.1 b.1 (writes_images n i).1 written in
+      let b = image_of_kind (held first_objects c) (old ∙ ap Some (writes_images n i plain).0) in
+      let made = made_in_cell n which c (held final) (held first_objects c) (option_and_then (held final) n.in2) a.0 b.0 a.1 b.1 (writes_images n i plain).1 written in
       let image : ImageValue = node_image n which b.0.format a.0 (option_and_then (held final) n.in2) in
       let format : b.0.format ≡ (image_held final c).format =
       sym (format-node_image n which b.0.format a.0 (option_and_then (held final) n.in2)) ∙ ap (λ (m : ImageValue). m.format) (sym (image_there final c image made)) in
@@ -311,27 +332,55 @@ module _ (objects : List Named) (nodes : List Node) (v : Verified) (height besid
       In-from_All (λ (x : Cell × ObjectValue). held final x.0 ≡ Some x.1) (written_from (held first_objects) n (held final))
       (In-from_All (λ m. All (λ x. held final x.0 ≡ Some x.1) (written_from (held first_objects) m (held final))) nodes final_solves.written n (in_nodes n i)) w j
 
-  pub made_first : (n : Node) → In n steps → IfSome n.out1 (IsMade final n First)
-  made_first n i =
-      made_at n i First n.out1 (of_first n i).out1
+  pub made_first : (n : Node) → In n steps → counts n ≡ false → IfSome n.out1 (IsMade final n First)
+  made_first n i plain =
+      made_at n i plain First n.out1 (of_first n i).out1
       (λ w j. all_made n i w (In-left w (written_in n First n.out1 (held first_objects) (held final)) (written_in n Second n.out2 (held first_objects) (held final)) j))
 
-  pub made_second : (n : Node) → In n steps → IfSome n.out2 (IsMade final n Second)
-  made_second n i =
-      made_at n i Second n.out2 (of_first n i).out2
+  pub made_second : (n : Node) → In n steps → counts n ≡ false → IfSome n.out2 (IsMade final n Second)
+  made_second n i plain =
+      made_at n i plain Second n.out2 (of_first n i).out2
       (λ w j. all_made n i w (In-right w (written_in n First n.out1 (held first_objects) (held final)) (written_in n Second n.out2 (held first_objects) (held final)) j))
+
+  -- what a node counted
+  counted_at : (n : Node) → In n steps → counts n ≡ true → (which : Output) (cell : Option Cell) → IfSome cell (λ c. HoldsKind first_objects (c, (parameters n.function).output))
+      → ((w : Cell × ObjectValue) → In w (written_in n which cell (held first_objects) (held final)) → held final w.0 ≡ Some w.1)
+      → IfSome cell (HoldsCounted final n)
+  counted_at n i does which None old written = tt
+  counted_at n i does which (Some c) old written =
+      let a = image_of_kind (held final n.in1) (of_final n i).in1 in
+      let d = distribution_of_kind (held first_objects c) (old ∙ ap Some (counts_output n does)) in
+      counted_in_cell n which c (held final) (held first_objects c) (option_and_then (held final) n.in2) a.0 d.0 a.1 d.1 written
+      ∙ ap (λ m. option_map (node_output n First (ImageObject m) None) (held final c)) (sym (image_there final n.in1 a.0 a.1))
+
+  pub counted_end : (n : Node) → In n steps → counts n ≡ true → (c : Cell) → In c (outputs n) → HoldsCounted final n c
+  counted_end n i does c j = elim (In-append c (given n.out1) (given n.out2) j) [
+    | inl one ↦
+        of_given (HoldsCounted final n) n.out1
+        (counted_at n i does First n.out1 (of_first n i).out1 (λ w k. all_made n i w (In-left w (written_in n First n.out1 (held first_objects) (held final)) (written_in n Second n.out2 (held first_objects) (held final)) k))) c one
+    | inr other ↦
+        of_given (HoldsCounted final n) n.out2
+        (counted_at n i does Second n.out2 (of_first n i).out2 (λ w k. all_made n i w (In-right w (written_in n First n.out1 (held first_objects) (held final)) (written_in n Second n.out2 (held first_objects) (held final)) k))) c other
+  ]
 
   -- ---- heights
 
   pub found_in_the_end : (n : Node) → In n steps → (c : Cell) → names_cell n c ≡ true → HoldsOperand final c (known c)
   found_in_the_end n i c named = final_stands.found n c (in_nodes n i) named
 
-  pub out_height : (n : Node) → In n steps → (c : Cell) → In c (outputs n) → ((image_held final c).height ≡ height) × (c.slot ≡ None) × HoldsImage final c
-  out_height n i c j =
-      let high = In-from_All (λ (d : Cell). HasHeight height (known d)) (outputs n) (In-from_All (λ m. All (λ d. HasHeight height (known d)) (outputs m)) steps r.heights n i) c j in
+  pub out_whole : (n : Node) → In n steps → (c : Cell) → In c (outputs n) → c.slot ≡ None
+  out_whole n i c j = In-from_All (λ (d : Cell). d.slot ≡ None) (outputs n) (In-from_All (λ m. All (λ d. d.slot ≡ None) (outputs m)) steps r.wholes n i) c j
+
+  are_high : (n : Node) → In n steps → All (λ d. HasHeight height (known d)) (banded n)
+  are_high n i = In-from_All (λ m. All (λ d. HasHeight height (known d)) (banded m)) steps r.heights n i
+
+  pub out_height : (n : Node) → In n steps → counts n ≡ false → (c : Cell) → In c (outputs n) → ((image_held final c).height ≡ height) × (c.slot ≡ None) × HoldsImage final c
+  out_height n i plain c j =
+      let written : banded n ≡ outputs n = ap (λ b. if b then n.in1 ∷ [] else outputs n) plain in
+      let high = In-from_All (λ (d : Cell). HasHeight height (known d)) (outputs n) (subst (All (λ d. HasHeight height (known d))) written (are_high n i)) c j in
       let found = found_in_the_end n i c (or_right (reads n c) (writes n c) (same-from_In c (outputs n) j)) in
       let image = high_image height (held final c) (known c) found high in
-      (image.0, In-from_All (λ (d : Cell). d.slot ≡ None) (outputs n) (In-from_All (λ m. All (λ d. d.slot ≡ None) (outputs m)) steps r.wholes n i) c j, image.1)
+      (image.0, out_whole n i c j, image.1)
 
   pub runs_to : (n : Node) → In n steps → (c : Cell) → In c (outputs n) → RunsTo final n c
   runs_to n i c j = elim (In-append c (given n.out1) (given n.out2) j) [
@@ -343,11 +392,17 @@ module _ (objects : List Named) (nodes : List Node) (v : Verified) (height besid
   is_node_of n i = In-from_All IsNode nodes r.ready.are_nodes n (in_nodes n i)
 
   pub in_height : (n : Node) → In n steps → (image_held final n.in1).height ≡ height
-  in_height n i =
-      let output = has_output n (is_node_of n i).shape in
-      let runs = (runs_to n i output.0 output.1).runs in
-      same_height (cell_object final n.in1) (cell_object final output.0) runs.first_kind (runs.out_kind ∙ (writes_images n i).0) runs.out_size
-      ∙ (out_height n i output.0 output.1).0
+  in_height n i = elim (cases_Bool (counts n)) [
+    | inl does ↦
+        (let one : banded n ≡ n.in1 ∷ [] = ap (λ b. if b then n.in1 ∷ [] else outputs n) does in
+        let high = In-from_All (λ (d : Cell). HasHeight height (known d)) (n.in1 ∷ []) (subst (All (λ d. HasHeight height (known d))) one (are_high n i)) n.in1 (inl refl) in
+        (high_image height (held final n.in1) (known n.in1) (found_in_the_end n i n.in1 (or_left (reads n n.in1) (writes n n.in1) (reads_first n))) high).0)
+    | inr plain ↦
+        (let output = has_output n (is_node_of n i).shape in
+        let runs = (runs_to n i output.0 output.1).runs in
+        same_height (cell_object final n.in1) (cell_object final output.0) runs.first_kind (runs.out_kind ∙ (writes_images n i plain).0) runs.out_size
+        ∙ (out_height n i plain output.0 output.1).0)
+  ]
 
   -- an image beside that is as high
   pub second_height : (n : Node) → In n steps → (c : Cell) → n.in2 ≡ Some c → HoldsImage final c → (image_held final c).height ≡ height
@@ -362,7 +417,7 @@ module _ (objects : List Named) (nodes : List Node) (v : Verified) (height besid
   -- ---- the client's objects
 
   pub cell_is_whole : (n : Node) → In n steps → (c : Cell) → writes n c ≡ true → cell_of c.name ≡ c
-  cell_is_whole n i c w = one_cell (cell_of c.name) c refl refl (out_height n i c (In-from_same c (outputs n) w)).1
+  cell_is_whole n i c w = one_cell (cell_of c.name) c refl refl (out_whole n i c (In-from_same c (outputs n) w))
 
   -- what is no virtual image that the nodes write, and no target, stays
   pub real_same : (name : ℕ) → is_virtual_name v name ≡ false → is_target v name ≡ false → object_held final name ≡ object_held objects name
@@ -387,6 +442,14 @@ module _ (objects : List Named) (nodes : List Node) (v : Verified) (height besid
 
   -- ---- virtual images
 
+  -- who writes a virtual image counts nothing
+  pub writer_plain : (n : Node) → In n steps → (o : VirtualOutput) → In o outs → writes n o.cell ≡ true → counts n ≡ false
+  writer_plain n i o j w = false_from_ne_true (counts n) (λ does.
+      let stands : StandsFor (Image o.desc) (parameters n.function).output =
+      subst (λ operand. StandsFor operand (parameters n.function).output) (output_known is nodes v r.ready.verified o j) (final_stands.kinds n o.cell (in_nodes n i) w) in
+      let counted = counts_output n does in
+      cc)
+
   pub virtual_here : (o : VirtualOutput) → In o outs
       → (o.cell ≡ cell_of o.cell.name) × HoldsVirtual objects o.cell.name × (description_of (image_held final o.cell) ≡ o.desc) × (o.desc.height ≡ height) × (is_written steps o.cell ≡ true)
   virtual_here o i =
@@ -399,14 +462,14 @@ module _ (objects : List Named) (nodes : List Node) (v : Verified) (height besid
         output_whole objects nodes v work r.ready.verified r.ready.runs.1 o i,
         ap (option_map object_kind) (output_object objects nodes v work r.ready.verified r.ready.runs.1 o i).1.1,
         desc,
-        ap (λ (d : Description). d.height) (sym desc) ∙ (out_height n j o.cell out).0,
+        ap (λ (d : Description). d.height) (sym desc) ∙ (out_height n j (writer_plain n j o i writer.2) o.cell out).0,
         any-from_In (λ m. writes m o.cell) n steps j writer.2,
       )
 
   pub virtual_image : (o : VirtualOutput) → In o outs → HoldsImage final o.cell
   virtual_image o i =
       let writer = In-from_any (λ m. writes m o.cell) steps (virtual_here o i).4 in
-      (out_height writer.0 writer.1 o.cell (In-from_same o.cell (outputs writer.0) writer.2)).2
+      (out_height writer.0 writer.1 (writer_plain writer.0 writer.1 o i writer.2) o.cell (In-from_same o.cell (outputs writer.0) writer.2)).2
 
   -- an output of a virtual name
   pub output_of_name : (name : ℕ) → is_virtual_name v name ≡ true → (o : VirtualOutput) × In o outs × (name ≡ o.cell.name)
@@ -445,6 +508,52 @@ module _ (objects : List Named) (nodes : List Node) (v : Verified) (height besid
         output.2,
         written_before objects nodes v r.ready before after n parts cell read (ap (is_written nodes) output.2 ∙ output_written is nodes v r.ready.verified output.0 output.1),
       )
+
+  -- ---- who counts
+
+  -- what a node counts is no virtual image
+  pub counted_real : (n : Node) → In n steps → counts n ≡ true → (c : Cell) → In c (outputs n) → is_virtual_name v c.name ≡ false
+  counted_real n i does c j = false_from_ne_true (is_virtual_name v c.name) (λ virtual.
+      let w = same-from_In c (outputs n) j in
+      let output = virtual_cell n (in_nodes n i) c (or_right (reads n c) (writes n c) w) virtual in
+      let plain = writer_plain n i output.0 output.1 (ap (writes n) (sym output.2) ∙ w) in
+      cc)
+
+  pub counter_none : (n : Node) → In n steps → counts n ≡ false → (c : Cell) → In c (outputs n) → counter_of v c.name ≡ None
+  counter_none n i plain c j = by_found (counter_of v c.name) refl
+    where
+      by_found : (o : Option Node) → counter_of v c.name ≡ o → counter_of v c.name ≡ None
+      by_found None e = e
+      by_found (Some m) e =
+          let w = same-from_In c (outputs n) j in
+          let found = find_some (λ (q : Node). counts q && writes q (cell_of c.name)) m steps e in
+          let parts = and_parts (counts m) (writes m (cell_of c.name)) found.1 in
+          let same : m ≡ n = only_writer m n c found.0 i (ap (writes m) (sym (cell_is_whole n i c w)) ∙ parts.1) w in
+          let does : counts n ≡ true = ap counts (sym same) ∙ parts.0 in
+          absurd (cc)
+
+  pub counter_is : (n : Node) → In n steps → counts n ≡ true → (c : Cell) → In c (outputs n) → counter_of v c.name ≡ Some n
+  counter_is n i does c j = by_found (counter_of v c.name) refl
+    where
+      w : writes n c ≡ true
+      w = same-from_In c (outputs n) j
+
+      by_found : (o : Option Node) → counter_of v c.name ≡ o → counter_of v c.name ≡ Some n
+      by_found None e =
+          let fails = find_none (λ (q : Node). counts q && writes q (cell_of c.name)) n steps e i in
+          let passes = and_from (counts n) (writes n (cell_of c.name)) does (ap (writes n) (cell_is_whole n i c w) ∙ w) in
+          absurd (cc)
+      by_found (Some m) e =
+          let found = find_some (λ (q : Node). counts q && writes q (cell_of c.name)) m steps e in
+          let parts = and_parts (counts m) (writes m (cell_of c.name)) found.1 in
+          e ∙ ap (λ (q : Node). Some q) (only_writer m n c found.0 i (ap (writes m) (sym (cell_is_whole n i c w)) ∙ parts.1) w)
+
+  -- who writes an image counts nothing
+  pub image_writer : (n : Node) → In n steps → (c : Cell) → writes n c ≡ true → HoldsImage final c → counts n ≡ false
+  image_writer n i c w image = false_from_ne_true (counts n) (λ does.
+      let written = (runs_to n i c (In-from_same c (outputs n) w)).runs.out_kind ∙ counts_output n does in
+      let found : object_kind (cell_object final c) ≡ kind.Image = kind_there final (c, kind.Image) image in
+      cc)
 
   -- ---- the end
 
@@ -503,13 +612,15 @@ module _ (objects : List Named) (nodes : List Node) (v : Verified) (height besid
       read : reads n c ≡ true
       read = reads_second n c at
 
-  pub second_near : (n : Node) → In n steps
+  pub second_near : (n : Node) → In n steps → counts n ≡ false
       → IsTrue (is_some (reach n.function (matrix_in (option_map (cell_object final) n.in2)))) × (unwrap_or (reach n.function (matrix_in (option_map (cell_object final) n.in2))) 0 ≡ rows_beside objects n)
-  second_near n i =
-      let same = matrix_same n i n.in2 refl in (
-        ap (λ m. is_some (reach n.function m)) same ∙ In-from_All (λ m. IsTrue (is_some (reach_of objects m))) steps r.near n i,
-        ap (λ m. unwrap_or (reach n.function m) 0) same,
+  second_near n i plain =
+      let same = matrix_same n i n.in2 refl in
+      let far : Option ℕ = reach n.function (matrix_in (option_and_then (held objects) n.in2)) in
+      let reached : reach_of objects n ≡ far = ap (λ b. if b then Some 0 else far) plain in (
+        ap (λ m. is_some (reach n.function m)) same ∙ subst (λ o. IsTrue (is_some o)) reached (In-from_All (λ m. IsTrue (is_some (reach_of objects m))) steps r.near n i),
+        ap (λ m. unwrap_or (reach n.function m) 0) same ∙ ap (λ o. unwrap_or o 0) (sym reached),
       )
 
   pub second_given : (n : Node) → In n steps → HasInputs n.function (option_map (cell_object final) n.in2)
-  second_given n i = inputs_given n (is_node_of n i).shape (cell_object final) n.in2 refl (writes_images n i).1
+  second_given n i = inputs_given n (is_node_of n i).shape (cell_object final) n.in2 refl (does_write n i).1

@@ -36,6 +36,7 @@ pub mod SlotPoolLemmas
 pub mod PartSeenLemmas
 pub mod BandRowsLemmas
 pub mod BandLemmas
+pub mod CountLemmas
 pub mod FinalLemmas
 pub mod SeesLemmas
 pub mod StripLemmas

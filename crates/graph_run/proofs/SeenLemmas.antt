@@ -419,7 +419,7 @@ module _ (strip : Strip) (s : Stage) (n : Node) (output : Cell) (sees : IsSeen s
           ∙ ap ImageObject (made_alike (slot_of t.slots.items other.name) (slot_of s.slots.items other.name) strip (part_made strip.rows s n what other) (image_held (scene s).objects other) (sym (alike other.name)))
 
 -- a stage is one again once such objects are written
-written_stage : (s b : Stage) (written : List (Cell × ObjectValue)) → All (IsReplacement (scene s).objects) written → IsStage s → IsArranged b → Keeps s b
+pub written_stage : (s b : Stage) (written : List (Cell × ObjectValue)) → All (IsReplacement (scene s).objects) written → IsStage s → IsArranged b → Keeps s b
     → scene b ≡ with_objects (scene s) (with_written (scene s).objects written) → IsStage b
 written_stage s b written may is arranged keeps now =
     let names = subst IsStrictlyIncreasing (sym (names-shown s.slots.items s.table.objects)) is.names in

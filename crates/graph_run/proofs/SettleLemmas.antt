@@ -1,13 +1,13 @@
 -- Whether a graph runs in bands, and where its images are valid.
 use Rattle.std.proofs.Common.{◌≡◌, ◌≢◌, ℕ, zero, suc, ◌<◌, ◌+◌, ◌/◌, take, drop, Bool, true, false, List, ◌∷◌, ◌++◌, [], map, length, get_or, Option, Some, None, inl, inr, refl, sym, ap, subst, ◌∙◌, arith, ◌==◌, not, if◌then◌else◌, IsTrue, is_some, is_none, All, IfSome, slice_get, position, sum_by, unwrap_or, option_map, option_and_then}
-use Rattle.graph_run.proofs.Common.{list_any, IsStrictlyIncreasing, cases_Bool, eqb-true, eq-eqb, and_parts, take_more, take-append-drop, append_assoc, length-append, All-more, slice_get-get_or, Format, U8, Function, Kind, Node, Output, First, Second, Cell, same_slot, same_cell, ConvolutionValue, IsDescription, parameters, accumulates, ImageValue, new_image, given, inputs, outputs, second_kind, ObjectValue, ImageObject, IsObject, object_kind, image_of_one, node_image, Rectangle, window_valid, in_slot, Named, held, image_value, cell_object, image_held, Verified, reads, writes, In, resolved, In-from_same, In-append, In-right, In-from_any, any-from_In, fails-from_In, reach, matrix_in, RunsInBands, AreAreas, HasHeight, final_of, is_virtual_name, reach_of, rows_beside, operand_held, IsReady, SuitsBands, IsArea, HoldsKind}
+use Rattle.graph_run.proofs.Common.{list_any, IsStrictlyIncreasing, cases_Bool, eqb-true, eq-eqb, and_parts, take_more, take-append-drop, append_assoc, length-append, All-more, slice_get-get_or, Format, U8, Function, Kind, Node, Output, First, Second, Cell, same_slot, same_cell, ConvolutionValue, IsDescription, parameters, accumulates, ImageValue, new_image, given, inputs, outputs, second_kind, ObjectValue, ImageObject, IsObject, object_kind, image_of_one, node_image, Rectangle, window_valid, in_slot, Named, held, image_value, cell_object, image_held, Verified, reads, writes, In, resolved, In-from_same, In-append, In-right, In-from_any, any-from_In, fails-from_In, reach, matrix_in, RunsInBands, AreAreas, HasHeight, HoldsImage, In-at, In-left, banded, counts, final_of, is_virtual_name, reach_of, rows_beside, operand_held, IsReady, SuitsBands, IsArea, HoldsKind}
 use Rattle.std.proofs.lemmas.List.{get_or_default}
 use Rattle.std.proofs.lemmas.List.Sums.{sum_by_more}
 use Rattle.vx_base.specs.declared.kind.Kind.TheVariants as kind
 use Rattle.vx_base.specs.Object.{ConvolutionObject}
 use Rattle.vx_base.specs.Rectangle.{meet_of}
 use Rattle.graph_verify.proofs.MemberLemmas.{position-None}
-use Rattle.graph_run.specs.Settle.{IsBandOutput, area_alone_of, area_alone}
+use Rattle.graph_run.specs.Settle.{IsBandOutput, IsHigh, area_alone_of, area_alone}
 use Rattle.graph_run.proofs.FinalLemmas as final_lemmas
 use Rattle.graph_run.proofs.LinkLaws.{All-from_In, In-from_All, reads_first, reads_second, is_unwritten}
 use Rattle.graph_run.proofs.RunLemmas.{has_of_node}
@@ -36,8 +36,8 @@ module _ (objects : List Named) (nodes : List Node) (v : Verified) (height besid
   suits : (n : Node) → In n v.steps.items → SuitsBands objects v height n
   suits = In-from_All (SuitsBands objects v height) v.steps.items suit
 
-  output_of : (n : Node) → In n v.steps.items → (c : Cell) → In c (outputs n) → IsBandOutput objects v height c
-  output_of n i = In-from_All (IsBandOutput objects v height) (outputs n) (suits n i).outputs
+  output_of : (n : Node) → In n v.steps.items → (c : Cell) → In c (outputs n) → IsBandOutput v c
+  output_of n i = In-from_All (IsBandOutput v) (outputs n) (suits n i).outputs
 
   pub runs_in_bands : IsReady objects nodes v → IsStrictlyIncreasing (map (λ o. o.name) objects) → All (λ o. IsObject o.object) objects
       → All (λ o. IsDescription o.desc) v.virtual_outputs.items → All (λ n. IsTrue (is_some (reach_of objects n))) v.steps.items
@@ -48,11 +48,12 @@ module _ (objects : List Named) (nodes : List Node) (v : Verified) (height besid
         names = names;
         are_objects = are;
         described = described;
-        images = All-from_In (λ (n : Node). ((parameters n.function).output ≡ kind.Image) × (accumulates n.function ≡ false)) v.steps.items (λ n i. ((suits n i).image, (suits n i).plain));
+        images = All-from_In (λ (n : Node). (counts n ≡ false → (parameters n.function).output ≡ kind.Image) × (accumulates n.function ≡ false)) v.steps.items (λ n i. ((suits n i).image, (suits n i).plain));
         near = near;
         together = together;
-        heights = All-from_In (λ (n : Node). All (λ c. HasHeight height (resolved (operand_held objects) nodes c)) (outputs n)) v.steps.items
-            (λ n i. All-from_In (λ (c : Cell). HasHeight height (resolved (operand_held objects) nodes c)) (outputs n) (λ c j. (output_of n i c j).high nodes ready));
+        heights = All-from_In (λ (n : Node). All (λ c. HasHeight height (resolved (operand_held objects) nodes c)) (banded n)) v.steps.items
+            (λ n i. All-from_In (λ (c : Cell). HasHeight height (resolved (operand_held objects) nodes c)) (banded n)
+            (λ c j. In-from_All (IsHigh objects v height) (banded n) (suits n i).heights c j nodes ready));
         wholes = All-from_In (λ (n : Node). All (λ c. c.slot ≡ None) (outputs n)) v.steps.items
             (λ n i. All-from_In (λ (c : Cell). c.slot ≡ None) (outputs n) (λ c j. (output_of n i c j).whole));
         apart = λ n m c d i j read write real. (output_of m j d (In-from_same d (outputs m) write)).unread real n c i read;
@@ -98,16 +99,19 @@ module _ (objects : List Named) (nodes : List Node) (v : Verified) (height besid
     member : In n v.steps.items
     member = subst (λ l. In n l) (sym parts) (In-right n before (n ∷ after) (inl refl))
 
-    written_area : (cell : Cell) (k : ℕ) → position (λ m. writes m cell) before ≡ Some k → unwrap_or (slice_get areas k) (image_held objects cell).valid ≡ (image_held final cell).valid
-    written_area cell k at =
+    written_area : (cell : Cell) → HoldsImage final cell → (k : ℕ) → position (λ m. writes m cell) before ≡ Some k → unwrap_or (slice_get areas k) (image_held objects cell).valid ≡ (image_held final cell).valid
+    written_area cell image k at =
         let within : k < length before = placed (λ m. writes m cell) before k at in
         let m : Node = get_or before k n in
         let write : writes m cell ≡ true = placed_passes (λ (q : Node). writes q cell) before k m at (get_or_default before k n m within) in
         let default : Rectangle = (image_held objects cell).valid in
         let area : Rectangle = get_or areas k default in
         let here : slice_get areas k ≡ Some area = slice_get-get_or areas k default (subst (λ l. k < l) (sym are.count) within) in
+        let here_in : In m before = In-at before k n within in
+        let in_steps : In m v.steps.items = subst (λ l. In m l) (sym parts) (In-left m before (n ∷ after) here_in) in
         let valid : (image_held final cell).valid ≡ area =
-        In-from_All (λ (c : Cell). (image_held final c).valid ≡ area) (outputs m) (are.each k m area (slice_get-get_or before k n within) here) cell (In-from_same cell (outputs m) write) in
+        In-from_All (λ (c : Cell). (image_held final c).valid ≡ area) (outputs m)
+        (are.each k m area (slice_get-get_or before k n within) here (final_lemmas.image_writer objects nodes v height beside r m in_steps cell write image)) cell (In-from_same cell (outputs m) write) in
         ap (λ o. unwrap_or o default) here ∙ sym valid
 
     unwritten_area : (cell : Cell) → reads n cell ≡ true → position (λ m. writes m cell) before ≡ None → (image_held objects cell).valid ≡ (image_held final cell).valid
@@ -122,19 +126,19 @@ module _ (objects : List Named) (nodes : List Node) (v : Verified) (height besid
     ]
 
     -- a cell that the node reads is valid there in the end
-    area_right : (cell : Cell) → reads n cell ≡ true → area_among objects before areas cell ≡ (image_held final cell).valid
-    area_right cell read = by_writer (position (λ m. writes m cell) before) refl
+    area_right : (cell : Cell) → reads n cell ≡ true → HoldsImage final cell → area_among objects before areas cell ≡ (image_held final cell).valid
+    area_right cell read image = by_writer (position (λ m. writes m cell) before) refl
       where
         by_writer : (found : Option ℕ) → position (λ m. writes m cell) before ≡ found → unwrap_or (option_and_then (slice_get areas) found) (image_held objects cell).valid ≡ (image_held final cell).valid
-        by_writer (Some k) at = written_area cell k at
+        by_writer (Some k) at = written_area cell image k at
         by_writer None none = unwritten_area cell read none
 
     -- what the node makes is valid there
-    all_valid : (area : Rectangle) → ((which : Output) (format : Format) → (node_image n which format (image_held final n.in1) (option_map (cell_object final) n.in2)).valid ≡ area)
+    all_valid : counts n ≡ false → (area : Rectangle) → ((which : Output) (format : Format) → (node_image n which format (image_held final n.in1) (option_map (cell_object final) n.in2)).valid ≡ area)
         → All (λ c. (image_held final c).valid ≡ area) (outputs n)
-    all_valid area made = All-from_In (λ (c : Cell). (image_held final c).valid ≡ area) (outputs n) (λ c j. elim (In-append c (given n.out1) (given n.out2) j) [
-      | inl one ↦ output First n.out1 (final_lemmas.made_first objects nodes v height beside r n member) c one
-      | inr other ↦ output Second n.out2 (final_lemmas.made_second objects nodes v height beside r n member) c other
+    all_valid no_count area made = All-from_In (λ (c : Cell). (image_held final c).valid ≡ area) (outputs n) (λ c j. elim (In-append c (given n.out1) (given n.out2) j) [
+      | inl one ↦ output First n.out1 (final_lemmas.made_first objects nodes v height beside r n member no_count) c one
+      | inr other ↦ output Second n.out2 (final_lemmas.made_second objects nodes v height beside r n member no_count) c other
     ])
       where
         output : (which : Output) (cell : Option Cell)
@@ -146,16 +150,16 @@ module _ (objects : List Named) (nodes : List Node) (v : Verified) (height besid
             final_lemmas.of_given (λ (d : Cell). held final d ≡ Some (ImageObject (node_image n which (image_held final d).format (image_held final n.in1) (option_map (cell_object final) n.in2)))) cell holds c j in
             ap (λ (i : ImageValue). i.valid) (final_lemmas.image_there final c image at) ∙ made which (image_held final c).format
 
-    pub area_of_one : (first : Rectangle) → first ≡ area_among objects before areas n.in1 → n.in2 ≡ None → All (λ c. (image_held final c).valid ≡ area_alone n first) (outputs n)
-    area_of_one first is none =
-        let at : first ≡ (image_held final n.in1).valid = is ∙ area_right n.in1 (reads_first n) in
+    pub area_of_one : counts n ≡ false → (first : Rectangle) → first ≡ area_among objects before areas n.in1 → n.in2 ≡ None → All (λ c. (image_held final c).valid ≡ area_alone n first) (outputs n)
+    area_of_one no_count first is none =
+        let at : first ≡ (image_held final n.in1).valid = is ∙ area_right n.in1 (reads_first n) (final_lemmas.of_final objects nodes v height beside r n member).in1 in
         let second : option_map (cell_object final) n.in2 ≡ None = ap (option_map (cell_object final)) none in
         let near : IsTrue (is_some (reach n.function None)) =
-        subst (λ o. IsTrue (is_some (reach n.function (matrix_in o)))) second (final_lemmas.second_near objects nodes v height beside r n member).0 in
-        all_valid (area_alone n first) (λ which format.
+        subst (λ o. IsTrue (is_some (reach n.function (matrix_in o)))) second (final_lemmas.second_near objects nodes v height beside r n member no_count).0 in
+        all_valid no_count (area_alone n first) (λ which format.
         ap (λ o. (node_image n which format (image_held final n.in1) o).valid) second ∙ valid_alone n which format (image_held final n.in1) near ∙ ap (area_alone n) (sym at))
 
-    module _ (cell : Cell) (there : n.in2 ≡ Some cell) where
+    module _ (no_count : counts n ≡ false) (cell : Cell) (there : n.in2 ≡ Some cell) where
       of_kind : HoldsKind final (cell, second_kind n)
       of_kind = subst (λ o. IfSome o (λ c. HoldsKind final (c, second_kind n))) there (final_lemmas.of_final objects nodes v height beside r n member).in2
 
@@ -166,12 +170,12 @@ module _ (objects : List Named) (nodes : List Node) (v : Verified) (height besid
       pub area_of_two : (first second : Rectangle) → first ≡ area_among objects before areas n.in1 → second ≡ area_among objects before areas cell
           → (parameters n.function).second_input ≡ Some kind.Image → All (λ c. (image_held final c).valid ≡ meet_of first second) (outputs n)
       area_of_two first second is is_second wanted =
-          let at : first ≡ (image_held final n.in1).valid = is ∙ area_right n.in1 (reads_first n) in
-          let beside_at : second ≡ (image_held final cell).valid = is_second ∙ area_right cell (reads_second n cell there) in
+          let at : first ≡ (image_held final n.in1).valid = is ∙ area_right n.in1 (reads_first n) (final_lemmas.of_final objects nodes v height beside r n member).in1 in
+          let beside_at : second ≡ (image_held final cell).valid = is_second ∙ area_right cell (reads_second n cell there) (of_kind ∙ ap (λ o. Some (unwrap_or o kind.Image)) wanted) in
           let image = final_lemmas.image_of_kind (held final cell) (of_kind ∙ ap (λ o. Some (unwrap_or o kind.Image)) wanted) in
           let object : cell_object final cell ≡ ImageObject image.0 = ap (λ o. unwrap_or o (ImageObject (new_image 0 0 U8))) image.1 in
           let same : image_held final cell ≡ image.0 = final_lemmas.image_there final cell image.0 image.1 in
-          all_valid (meet_of first second) (λ which format.
+          all_valid no_count (meet_of first second) (λ which format.
           with_second which format
           ∙ ap (λ o. (node_image n which format (image_held final n.in1) (Some o)).valid) object
           ∙ ap (λ (i : ImageValue). meet_of (image_held final n.in1).valid i.valid) (sym same)
@@ -184,8 +188,8 @@ module _ (objects : List Named) (nodes : List Node) (v : Verified) (height besid
       pub area_by_matrix : (first : Rectangle) (m : ConvolutionValue) → first ≡ area_among objects before areas n.in1 → matrix_in (option_and_then (held objects) n.in2) ≡ Some m
           → All (λ c. (image_held final c).valid ≡ window_valid n.border (m.columns / 2) (m.rows / 2) first) (outputs n)
       area_by_matrix first m is matrix =
-          let at : first ≡ (image_held final n.in1).valid = is ∙ area_right n.in1 (reads_first n) in
-          all_valid (window_valid n.border (m.columns / 2) (m.rows / 2) first) (λ which format.
+          let at : first ≡ (image_held final n.in1).valid = is ∙ area_right n.in1 (reads_first n) (final_lemmas.of_final objects nodes v height beside r n member).in1 in
+          all_valid no_count (window_valid n.border (m.columns / 2) (m.rows / 2) first) (λ which format.
           with_second which format
           ∙ valid_matrix n which format (image_held final n.in1) (cell_object final cell) m (matrix_here ∙ matrix)
           ∙ ap (window_valid n.border (m.columns / 2) (m.rows / 2)) (sym at))
@@ -193,8 +197,8 @@ module _ (objects : List Named) (nodes : List Node) (v : Verified) (height besid
       pub area_as_first : (first : Rectangle) → first ≡ area_among objects before areas n.in1 → matrix_in (option_and_then (held objects) n.in2) ≡ None
           → (parameters n.function).second_input ≢ Some kind.Image → All (λ c. (image_held final c).valid ≡ first) (outputs n)
       area_as_first first is none other =
-          let at : first ≡ (image_held final n.in1).valid = is ∙ area_right n.in1 (reads_first n) in
-          all_valid first (λ which format.
+          let at : first ≡ (image_held final n.in1).valid = is ∙ area_right n.in1 (reads_first n) (final_lemmas.of_final objects nodes v height beside r n member).in1 in
+          all_valid no_count first (λ which format.
           with_second which format
           ∙ valid_other n which format (image_held final n.in1) (cell_object final cell) (matrix_here ∙ none)
           (not_image (parameters n.function).second_input (held final cell) n.in2 cell there
@@ -226,7 +230,7 @@ areas_more objects v k n areas more area within is count pushed right nodes heig
     subst (λ l. AreAreas (final_of objects nodes v) l more) (sym next) (subst (λ l. AreAreas (final_of objects nodes v) (take k steps ++ n ∷ []) l) (sym pushed)
     (record {
       count = length-append areas (area ∷ []) ∙ ap (λ (i : ℕ). i + 1) are.count ∙ sym (length-append (take k steps) (n ∷ []));
-      each = push_each (λ m a. All (λ c. (image_held (final_of objects nodes v) c).valid ≡ a) (outputs m)) n area (take k steps) areas are.count are.each valid;
+      each = push_each (λ m a. counts m ≡ false → All (λ c. (image_held (final_of objects nodes v) c).valid ≡ a) (outputs m)) n area (take k steps) areas are.count are.each valid;
     }))
 
 -- ---- nodes one after the other

@@ -1,12 +1,18 @@
 -- Areas that are set at the end of a run in bands, and what the run leaves then.
 use Rattle.std.proofs.Common.{◌≡◌, ℕ, ℤ, ◌+◌, ◌*◌, ◌≤◌, ◌<◌, Bool, true, false, eqb, List, [], ◌∷◌, ◌++◌, map, length, take, drop, get_or, Option, Some, None, ◌⊎◌, inl, inr, refl, sym, ap, subst, ◌∙◌, arith, ◌&&◌, not, if◌then◌else◌, All, IfSome, unwrap_or, option_map, option_and_then}
-use Rattle.graph_run.proofs.Common.{cases_Bool, eqb-true, eq-eqb, and_parts, and_from, take_all, take_more, slice_get-get_or, U8, Node, Cell, cell_of, Description, ImageValue, IsImage, image_over, new_image, description_of, outputs, given, ObjectValue, ImageObject, VirtualObject, IsObject, object_kind, Rectangle, Context, with_objects, in_slot, Named, object_held, held, with_object, image_value, with_samples, cell_object, image_held, HoldsImage, object_held_has, Operand, Verified, writes, is_written, In, resolved, In-from_same, same-from_In, In-left, In-right, In-append, In-from_any, any-from_In, In-at, RunsInBands, final_of, is_target, is_virtual_name, IsFinished, RowsAreAs, AreAreas, is_image_held, begun, forgotten, is_virtual_object, run_of_graph, lasting, lasting_named, Lasts, operand_held, label_of}
+use Rattle.graph_run.proofs.Common.{skeleton, node_output, First, false_from_ne_true, cases_Bool, eqb-true, eq-eqb, and_parts, and_from, take_all, take_more, slice_get-get_or, U8, Node, Cell, cell_of, Description, ImageValue, IsImage, image_over, new_image, description_of, outputs, given, ObjectValue, ImageObject, VirtualObject, IsObject, object_kind, Rectangle, Context, with_objects, in_slot, Named, object_held, held, with_object, image_value, with_samples, cell_object, image_held, HoldsImage, object_held_has, Operand, Verified, writes, is_written, In, resolved, In-from_same, same-from_In, In-left, In-right, In-append, In-from_any, any-from_In, In-at, RunsInBands, final_of, is_target, is_virtual_name, IsFinished, RowsAreAs, IsAsFar, IsCounted, counter_of, counts, AreAreas, is_image_held, begun, forgotten, is_virtual_object, run_of_graph, lasting, lasting_named, Lasts, operand_held, label_of}
 use Rattle.vx_base.specs.declared.kind.Kind.TheVariants as kind
 use Rattle.graph_run.specs.Bands.{with_area_in, with_area}
+use Rattle.image_core.specs.Bands.{all_rows as rows_high}
+use Rattle.vx_base.specs.Object.{DistributionObject, DistributionValue}
+use Rattle.stat_kernels.specs.Part.{valid_in}
+use Rattle.stat_kernels.proofs.BandLaws.{all_valid}
 use Rattle.graph_run.proofs.AgreeLemmas.{begin, begins}
 use Rattle.graph_run.proofs.BegunLaws.{begun_stays}
-use Rattle.graph_run.proofs.CellLemmas.{object_after, image_after, with_object_twice, held_whole}
-use Rattle.graph_run.proofs.FinalLemmas.{final_are, final_lasts, out_height, cell_is_whole, output_of_name, in_the_end}
+use Rattle.graph_run.proofs.CellLemmas.{there_is, object_after, image_after, with_object_twice, held_whole}
+use Rattle.graph_run.proofs.CountLemmas.{counts_output, distribution_of_kind, find_none, find_some}
+use Rattle.graph_run.proofs.OutputLemmas.{image_of_object}
+use Rattle.graph_run.proofs.FinalLemmas.{final_are, final_lasts, out_height, out_whole, in_height, runs_to, counted_end, counted_real, counter_is, counter_none, cell_is_whole, output_of_name, in_the_end}
 use Rattle.graph_run.proofs.HeldLaws.{object_held-with_object, labels-with_object}
 use Rattle.graph_run.proofs.BandLemmas.{rows_of}
 use Rattle.graph_run.proofs.LastingLemmas.{held-lasts}
@@ -104,11 +110,16 @@ all_rows y now final now_is final_is high as_final =
       in_the_end = r.in_the_end;
     }
 
+-- what has a name is as it will be, an image but for its area
+abbrev IsNear : Option Node → Option ObjectValue → Option ObjectValue → Type 0
+IsNear None now final = ButArea now final
+IsNear (Some n) now final = now ≡ final
+
 -- a client's objects that are as they will be but for areas
 record AreNear (v : Verified) (objects final now : List Named) : Type 0 where
   labels : map label_of now ≡ map label_of objects
   others : (name : ℕ) → is_target v name ≡ false → object_held now name ≡ object_held objects name
-  targets : (name : ℕ) → is_target v name ≡ true → ButArea (object_held now name) (object_held final name)
+  targets : (name : ℕ) → is_target v name ≡ true → IsNear (counter_of v name) (object_held now name) (object_held final name)
 
 -- what a cell holds is as it will be, if it is a target
 abbrev IsSet : Verified → List Named → List Named → Cell → Type 0
@@ -145,6 +156,19 @@ lasts_as_image x f e = grind arith
 
 no_rows : (width : ℕ) (l m : List ℤ) → take (0 * width) l ≡ take (0 * width) m
 no_rows width l m = let none : 0 * width ≡ 0 = omega arith in ap (λ n. take n l) none ∙ sym (ap (λ n. take n m) none)
+
+false_from_not : (b : Bool) → not b ≡ true → b ≡ false
+false_from_not true e = absurd (cc e)
+false_from_not false e = refl
+
+-- as much lasts of two objects as lasts of them by their skeletons
+skeletons_last : (now final : Option ObjectValue) → option_map lasting final ≡ option_map lasting now → option_map skeleton now ≡ option_map skeleton final
+skeletons_last None None same = refl
+skeletons_last (Some x) (Some y) same = sym (ap first_of_both same)
+  where
+    first_of_both : Option (ObjectValue × List Node) → Option ObjectValue
+    first_of_both o = option_map (λ l. l.0) o
+skeletons_last x y same = absurd (cc)
 
 none_yet : (now final : Option ObjectValue) (f : ImageValue) → final ≡ Some (ImageObject f) → option_map lasting final ≡ option_map lasting now → RowsAreAs 0 now final
 none_yet None final f is same = absurd (cc)
@@ -196,24 +220,51 @@ module _ (objects : List Named) (nodes : List Node) (v : Verified) (height besid
   writer_of : (name : ℕ) → is_target v name ≡ true → (n : Node) × In n steps × (writes n (cell_of name) ≡ true)
   writer_of name target = In-from_any (λ m. writes m (cell_of name)) steps (and_parts (is_written steps (cell_of name)) (not (is_virtual_name v name)) target).0
 
-  target_image : (name : ℕ) → is_target v name ≡ true → (f : ImageValue) → object_held final name ≡ Some (ImageObject f) → f.height ≡ height
-  target_image name target f at =
+  -- who writes to a name to which no node counts
+  writer_plain : (name : ℕ) → counter_of v name ≡ None → (n : Node) → In n steps → writes n (cell_of name) ≡ true → counts n ≡ false
+  writer_plain name none n i w =
+      let fails = find_none (λ (m : Node). counts m && writes m (cell_of name)) n steps none i in
+      false_from_ne_true (counts n) (λ does. let passes = and_from (counts n) (writes n (cell_of name)) does w in cc)
+
+  target_image : (name : ℕ) → is_target v name ≡ true → counter_of v name ≡ None → (f : ImageValue) → object_held final name ≡ Some (ImageObject f) → f.height ≡ height
+  target_image name target none f at =
       let n = writer_of name target in
       ap (λ (i : ImageValue). i.height) (sym (value_at final (cell_of name) refl f at))
-      ∙ (out_height objects nodes v height beside r n.0 n.1 (cell_of name) (In-from_same (cell_of name) (outputs n.0) n.2)).0
+      ∙ (out_height objects nodes v height beside r n.0 n.1 (writer_plain name none n.0 n.1 n.2) (cell_of name) (In-from_same (cell_of name) (outputs n.0) n.2)).0
 
-  begins_near : (now : List Named) → All (λ o. IsObject o.object) now → IsFinished (λ _. height) v objects final now → AreNear v objects final now
-  begins_near now are f =
+  -- all rows that a node counts are what it counts in the end
+  all_counted : 1 ≤ height → (name : ℕ) (n : Node) → counter_of v name ≡ Some n → (now : Option ObjectValue) → IsCounted n (image_held final n.in1) height now (object_held final name)
+      → now ≡ object_held final name
+  all_counted some name n known now counted =
+      let at = find_some (λ (m : Node). counts m && writes m (cell_of name)) n steps known in
+      let parts = and_parts (counts n) (writes n (cell_of name)) at.1 in
+      let runs = (runs_to objects nodes v height beside r n at.0 (cell_of name) (In-from_same (cell_of name) (outputs n) parts.1)).runs in
+      let image = image_held final n.in1 in
+      let whole : valid_in (rows_high height) image ≡ image =
+      ap (λ y. valid_in (rows_high y) image) (sym (in_height objects nodes v height beside r n at.0)) ∙ all_valid image (image_of_object (cell_object final n.in1) runs.first_kind runs.first_is) in
+      let end = counted_end objects nodes v height beside r n at.0 parts.0 (cell_of name) (In-from_same (cell_of name) (outputs n) parts.1) in
+      let held_is = held_whole final (cell_of name) refl in
+      counted.counted some
+      ∙ ap (λ i. option_map (node_output n First (ImageObject i) None) (object_held final name)) whole
+      ∙ ap (option_map (node_output n First (ImageObject image) None)) (sym held_is) ∙ sym end ∙ held_is
+
+  begins_near : 1 ≤ height → (now : List Named) → All (λ o. IsObject o.object) now → IsFinished (λ _. height) v objects final now → AreNear v objects final now
+  begins_near some now are f =
       record {
         labels = f.labels;
         others = f.others;
-        targets = λ name target.
-            all_rows height (object_held now name) (object_held final name) (object_held_has IsObject now name are)
-            (object_held_has IsObject final name (final_are objects nodes v height beside r)) (target_image name target) (f.targets name target);
+        targets = λ name target. near name target (counter_of v name) refl (f.targets name target);
       }
+    where
+      near : (name : ℕ) → is_target v name ≡ true → (w : Option Node) → counter_of v name ≡ w → IsAsFar w final height (object_held now name) (object_held final name)
+          → IsNear w (object_held now name) (object_held final name)
+      near name target None known rows =
+          all_rows height (object_held now name) (object_held final name) (object_held_has IsObject now name are)
+          (object_held_has IsObject final name (final_are objects nodes v height beside r)) (target_image name target known) rows
+      near name target (Some n) known counted = all_counted some name n known (object_held now name) counted
 
-  pub begins_settled : (now : List Named) → All (λ o. IsObject o.object) now → IsFinished (λ _. height) v objects final now → AreSettled v objects final [] now
-  begins_settled now are f = record { near = begins_near now are f; settled = λ m c i j. absurd i }
+  pub begins_settled : 1 ≤ height → (now : List Named) → All (λ o. IsObject o.object) now → IsFinished (λ _. height) v objects final now → AreSettled v objects final [] now
+  begins_settled some now are f = record { near = begins_near some now are f; settled = λ m c i j. absurd i }
 
   -- a virtual image stays
   virtual_stays : (now : List Named) → AreNear v objects final now → (c : Cell) (area : Rectangle) → is_virtual_name v c.name ≡ true → is_target v c.name ≡ false → with_area area (Some c) now ≡ now
@@ -225,9 +276,9 @@ module _ (objects : List Named) (nodes : List Node) (v : Verified) (height besid
 
   module _ (n : Node) (i : In n steps) (area : Rectangle) where
     -- a target is as it will be once it has its area
-    target_set : (now : List Named) → AreNear v objects final now → (c : Cell) → In c (outputs n) → (image_held final c).valid ≡ area → is_target v c.name ≡ true
+    target_set : counts n ≡ false → (now : List Named) → AreNear v objects final now → (c : Cell) → In c (outputs n) → (image_held final c).valid ≡ area → is_target v c.name ≡ true
         → NextNear v objects final now (with_area area (Some c) now) (c ∷ [])
-    target_set now near c j valid target =
+    target_set no_count now near c j valid target =
         subst (λ l. NextNear v objects final now l (c ∷ [])) (sym becomes)
         (record {
           near =
@@ -241,10 +292,13 @@ module _ (objects : List Named) (nodes : List Node) (v : Verified) (height besid
         })
       where
         whole : c.slot ≡ None
-        whole = (out_height objects nodes v height beside r n i c j).1
+        whole = out_whole objects nodes v height beside r n i c j
+
+        plain : counter_of v c.name ≡ None
+        plain = counter_none objects nodes v height beside r n i no_count c j
 
         there : ButArea (object_held now c.name) (object_held final c.name)
-        there = near.targets c.name target
+        there = subst (λ w. IsNear w (object_held now c.name) (object_held final c.name)) plain (near.targets c.name target)
 
         f : ImageValue
         f = there.image
@@ -270,12 +324,13 @@ module _ (objects : List Named) (nodes : List Node) (v : Verified) (height besid
           | inr e ↦ e
         ]
 
-        near_again : (name : ℕ) → is_target v name ≡ true → ButArea (object_held new name) (object_held final name)
+        near_again : (name : ℕ) → is_target v name ≡ true → IsNear (counter_of v name) (object_held new name) (object_held final name)
         near_again name target_too = elim (cases_Bool (eqb name c.name)) [
           | inl e ↦
-              subst (λ k. ButArea (object_held new k) (object_held final k)) (sym (eqb-true name c.name e))
-              (record { area = f.valid; image = f; there = stands_there now c whole was f there.there; in_the_end = there.in_the_end })
-          | inr e ↦ subst (λ o. ButArea o (object_held final name)) (sym (others_stay now c whole was f there.there name e)) (near.targets name target_too)
+              subst (λ k. IsNear (counter_of v k) (object_held new k) (object_held final k)) (sym (eqb-true name c.name e))
+              (subst (λ w. IsNear w (object_held new c.name) (object_held final c.name)) (sym plain)
+              (record { area = f.valid; image = f; there = stands_there now c whole was f there.there; in_the_end = there.in_the_end }))
+          | inr e ↦ subst (λ o. IsNear (counter_of v name) o (object_held final name)) (sym (others_stay now c whole was f there.there name e)) (near.targets name target_too)
         ]
 
         keeps_set : (d : Cell) → IsSet v final now d → IsSet v final new d
@@ -288,14 +343,38 @@ module _ (objects : List Named) (nodes : List Node) (v : Verified) (height besid
         makes_set d (inl same) = subst (λ (e : Cell). IsSet v final new e) (sym same) (λ _. set_there)
         makes_set d (inr k) = absurd k
 
-    cell_set : (now : List Named) → AreNear v objects final now → (c : Cell) → In c (outputs n) → (image_held final c).valid ≡ area → NextNear v objects final now (with_area area (Some c) now) (c ∷ [])
-    cell_set now near c j valid = elim (cases_Bool (is_virtual_name v c.name)) [
+    -- what a node counted has no area
+    counted_set : counts n ≡ true → (now : List Named) → AreNear v objects final now → (c : Cell) → In c (outputs n) → NextNear v objects final now (with_area area (Some c) now) (c ∷ [])
+    counted_set does now near c j =
+        subst (λ l. NextNear v objects final now l (c ∷ [])) (sym stays) (record { near = near; keeps = λ d is. is; makes = λ d k. elim k [ inl same ↦ subst (λ (e : Cell). IsSet v final now e) (sym same) (λ _. is) | inr none ↦ absurd none ] })
+      where
+        target : is_target v c.name ≡ true
+        target =
+            let w = same-from_In c (outputs n) j in
+            and_from (is_written steps (cell_of c.name)) (not (is_virtual_name v c.name))
+            (any-from_In (λ m. writes m (cell_of c.name)) n steps i (ap (writes n) (cell_is_whole objects nodes v height beside r n i c w) ∙ w))
+            (ap not (counted_real objects nodes v height beside r n i does c j))
+
+        is : object_held now c.name ≡ object_held final c.name
+        is = subst (λ w. IsNear w (object_held now c.name) (object_held final c.name)) (counter_is objects nodes v height beside r n i does c j) (near.targets c.name target)
+
+        d : (e : DistributionValue) × (object_held final c.name ≡ Some (DistributionObject e))
+        d =
+            let runs = runs_to objects nodes v height beside r n i c j in
+            distribution_of_kind (object_held final c.name)
+            (ap (option_map object_kind) (sym (held_whole final c (out_whole objects nodes v height beside r n i c j)) ∙ there_is final c runs.out) ∙ ap Some (runs.runs.out_kind ∙ counts_output n does))
+
+        stays : with_area area (Some c) now ≡ now
+        stays = ap (with_area_in area now c) (is ∙ d.1)
+
+    image_set : counts n ≡ false → (now : List Named) → AreNear v objects final now → (c : Cell) → In c (outputs n) → (image_held final c).valid ≡ area → NextNear v objects final now (with_area area (Some c) now) (c ∷ [])
+    image_set no_count now near c j valid = elim (cases_Bool (is_virtual_name v c.name)) [
       | inl virtual ↦
           (let none : is_target v c.name ≡ false = ap (λ b. is_written steps (cell_of c.name) && not b) virtual ∙ never (is_written steps (cell_of c.name)) in
           subst (λ l. NextNear v objects final now l (c ∷ [])) (sym (virtual_stays now near c area virtual none))
           (record { near = near; keeps = λ d is. is; makes = λ d k. of_virtual d k none }))
       | inr real ↦
-          target_set now near c j valid
+          target_set no_count now near c j valid
           (and_from (is_written steps (cell_of c.name)) (not (is_virtual_name v c.name))
           (any-from_In (λ m. writes m (cell_of c.name)) n steps i
           (ap (writes n) (cell_is_whole objects nodes v height beside r n i c (same-from_In c (outputs n) j)) ∙ same-from_In c (outputs n) j)) (ap not real))
@@ -309,18 +388,25 @@ module _ (objects : List Named) (nodes : List Node) (v : Verified) (height besid
         of_virtual d (inl same) none = λ target_too. let no : is_target v d.name ≡ false = ap (λ (e : Cell). is_target v e.name) same ∙ none in absurd (cc)
         of_virtual d (inr k) none = absurd k
 
-    given_set : (now : List Named) → AreNear v objects final now → (o : Option Cell) → ((c : Cell) → In c (given o) → In c (outputs n) × ((image_held final c).valid ≡ area))
+    cell_set : (now : List Named) → AreNear v objects final now → (c : Cell) → In c (outputs n) → (counts n ≡ false → (image_held final c).valid ≡ area)
+        → NextNear v objects final now (with_area area (Some c) now) (c ∷ [])
+    cell_set now near c j valid = elim (cases_Bool (counts n)) [
+      | inl does ↦ counted_set does now near c j
+      | inr no_count ↦ image_set no_count now near c j (valid no_count)
+    ]
+
+    given_set : (now : List Named) → AreNear v objects final now → (o : Option Cell) → ((c : Cell) → In c (given o) → In c (outputs n) × (counts n ≡ false → (image_held final c).valid ≡ area))
         → NextNear v objects final now (with_area area o now) (given o)
     given_set now near None each = record { near = near; keeps = λ d is. is; makes = λ d k. absurd k }
     given_set now near (Some c) each = let of_cell = each c (inl refl) in cell_set now near c of_cell.0 of_cell.1
 
     -- once both outputs of a node have their areas, it is settled beside those that are
-    pub node_settled : (done : List Node) (now : List Named) → AreSettled v objects final done now → All (λ c. (image_held final c).valid ≡ area) (outputs n)
+    pub node_settled : (done : List Node) (now : List Named) → AreSettled v objects final done now → (counts n ≡ false → All (λ c. (image_held final c).valid ≡ area) (outputs n))
         → AreSettled v objects final (done ++ n ∷ []) (with_area area n.out2 (with_area area n.out1 now))
     node_settled done now s valid = record { near = second.near; settled = settled_now }
       where
-        valid_of : (c : Cell) → In c (outputs n) → In c (outputs n) × ((image_held final c).valid ≡ area)
-        valid_of c j = (j, In-from_All (λ (d : Cell). (image_held final d).valid ≡ area) (outputs n) valid c j)
+        valid_of : (c : Cell) → In c (outputs n) → In c (outputs n) × (counts n ≡ false → (image_held final c).valid ≡ area)
+        valid_of c j = (j, λ no_count. In-from_All (λ (d : Cell). (image_held final d).valid ≡ area) (outputs n) (valid no_count) c j)
 
         mid : List Named
         mid = with_area area n.out1 now
@@ -359,7 +445,7 @@ module _ (objects : List Named) (nodes : List Node) (v : Verified) (height besid
   -- outputs are cells as a whole
   pub outputs_whole : (n : Node) → In n steps → (o : Option Cell) → ((c : Cell) → In c (given o) → In c (outputs n)) → IfSome o (λ c. c.slot ≡ None)
   outputs_whole n i None each = tt
-  outputs_whole n i (Some c) each = (out_height objects nodes v height beside r n i c (each c (inl refl))).1
+  outputs_whole n i (Some c) each = out_whole objects nodes v height beside r n i c (each c (inl refl))
 
   -- the step of a place, and its area
   module _ (areas : List Rectangle) (are : AreAreas final steps areas) (k : ℕ) (n : Node) (area : Rectangle) (below : k < length areas) (step : n ≡ get_or steps k n) (its : area ≡ get_or areas k area) where
@@ -397,21 +483,27 @@ module _ (objects : List Named) (nodes : List Node) (v : Verified) (height besid
       record {
         labels = refl;
         others = λ name none. refl;
-        targets = λ name target.
-            let parts = and_parts (is_written steps (cell_of name)) (not (is_virtual_name v name)) target in
-            let same = (begins objects nodes v r.ready).same name (inl (unnamed (is_virtual_name v name) parts.1)) in
-            let n = writer_of name target in
-            let image = final_image name (out_height objects nodes v height beside r n.0 n.1 (cell_of name) (In-from_same (cell_of name) (outputs n.0) n.2)).2 in
-            let lasts = held-lasts (begin objects nodes v r.ready) final name (final_lasts objects nodes v height beside r).lasting in
-            none_yet (object_held objects name) (object_held final name) image.0 image.1 (lasts ∙ ap (option_map lasting) (sym same));
+        targets = λ name target. begins_so name target (counter_of v name) refl;
       }
     where
-      unnamed : (b : Bool) → not b ≡ true → b ≡ false
-      unnamed true e = absurd (cc e)
-      unnamed false e = refl
-
       final_image : (name : ℕ) → HoldsImage final (cell_of name) → (f : ImageValue) × (object_held final name ≡ Some (ImageObject f))
       final_image name h = image_of (object_held final name) h
+
+      of_writer : (name : ℕ) → is_target v name ≡ true → (w : Option Node) → counter_of v name ≡ w → option_map lasting (object_held final name) ≡ option_map lasting (object_held objects name)
+          → IsAsFar w final 0 (object_held objects name) (object_held final name)
+      of_writer name target None known lasts =
+          let n = writer_of name target in
+          let image = final_image name (out_height objects nodes v height beside r n.0 n.1 (writer_plain name known n.0 n.1 n.2) (cell_of name) (In-from_same (cell_of name) (outputs n.0) n.2)).2 in
+          none_yet (object_held objects name) (object_held final name) image.0 image.1 lasts
+      of_writer name target (Some n) known lasts =
+          record { lasts = skeletons_last (object_held objects name) (object_held final name) lasts; counted = λ some. absurd (omega (arith, some)) }
+
+      begins_so : (name : ℕ) → is_target v name ≡ true → (w : Option Node) → counter_of v name ≡ w → IsAsFar w final 0 (object_held objects name) (object_held final name)
+      begins_so name target w known =
+          let parts = and_parts (is_written steps (cell_of name)) (not (is_virtual_name v name)) target in
+          let same = (begins objects nodes v r.ready).same name (inl (false_from_not (is_virtual_name v name) parts.1)) in
+          let lasts = held-lasts (begin objects nodes v r.ready) final name (final_lasts objects nodes v height beside r).lasting in
+          of_writer name target w known (lasts ∙ ap (option_map lasting) (sym same))
 
   -- ---- what lasts
 

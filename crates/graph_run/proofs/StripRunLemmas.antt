@@ -1,6 +1,6 @@
 -- The nodes of a graph on the rows of a strip, one after the other.
 use Rattle.std.proofs.Common.{◌≡◌, ◌≢◌, ℕ, ◌+◌, ◌≤◌, ◌<◌, Bool, true, false, List, [], ◌∷◌, ◌++◌, map, length, take, drop, get_or, Option, Some, None, ◌⊎◌, inl, inr, IfSome, refl, sym, ap, subst, ◌∙◌, arith, unwrap_or, ◌==◌, ◌||◌, ◌&&◌, not, sum_by, slice_get, if◌then◌else◌, option_map, option_and_then}
-use Rattle.graph_run.proofs.Common.{take-append-drop, take_more, take_all, drop_more, list_any-append, sum_by-append, cases_Bool, eqb-true, or_left, or_right, and_parts, and_from, false_from_ne_true, Node, First, Second, Cell, cell_of, Description, ImageValue, IsImage, description_of, outputs, ObjectValue, ImageObject, VirtualObject, IsObject, object_kind, with_objects, in_slot, Named, held, object_held, image_value, image_held, HoldsImage, VirtualOutput, Verified, reads, writes, is_written, In, is_used, PlanValue, Strip, Slot, Stage, AreSeen, RunsInBands, final_of, IsStrip, is_virtual_name, is_target, IsFinished, RowsAreAs, IsPartOf, output_part, IsSeen, with_seen, AreShared, strip_plan, room_of, planned_rooms, AreEmpty, label_of, scene, shown, slot_of, standing_image, IsStage, HoldsVirtual, Keeps, virtual_named, AreVirtual, map-told, same_cell-refl, same_cell-true, In-right, In-from_any, any-from_In, same_cell, second_kind, held_is, stands_fewer, rows_beside, HoldsKind, IsPlan, claimed_at}
+use Rattle.graph_run.proofs.Common.{take-append-drop, take_more, take_all, drop_more, list_any-append, sum_by-append, cases_Bool, eqb-true, or_left, or_right, and_parts, and_from, false_from_ne_true, Node, First, Second, Cell, cell_of, Description, ImageValue, IsImage, description_of, outputs, ObjectValue, ImageObject, VirtualObject, IsObject, object_kind, with_objects, in_slot, Named, held, object_held, image_value, image_held, HoldsImage, VirtualOutput, Verified, reads, writes, is_written, In, is_used, PlanValue, Strip, Slot, Stage, AreSeen, RunsInBands, final_of, IsStrip, is_virtual_name, is_target, IsFinished, IsAsFar, CanCount, counter_of, counts, after_node, with_counted, RowsAreAs, IsPartOf, output_part, with_seen, AreShared, strip_plan, room_of, planned_rooms, AreEmpty, label_of, scene, shown, slot_of, standing_image, IsStage, HoldsVirtual, Keeps, virtual_named, AreVirtual, map-told, same_cell-refl, same_cell-true, In-right, In-from_any, any-from_In, same_cell, second_kind, held_is, stands_fewer, rows_beside, HoldsKind, IsPlan, claimed_at}
 use Rattle.vx_base.specs.declared.kind.Kind.TheVariants as kind
 use Rattle.graph_run.specs.Bands.{rows_by_now}
 use Rattle.node_rows.proofs.PartLookLaws.{first_within, end_within}
@@ -8,7 +8,7 @@ use Rattle.graph_run.proofs.BandLemmas.{right_above, right_below, rows_of}
 use Rattle.graph_run.proofs.AgreeLemmas.{written_once}
 use Rattle.graph_run.proofs.CellLemmas.{held_image, held_whole, one_cell}
 use Rattle.graph_run.proofs.ClaimLemmas.{virtual_there}
-use Rattle.graph_run.proofs.FinalLemmas.{final_are, final_can, in_height, out_height, second_height, real_read, virtual_read, virtual_here, virtual_image}
+use Rattle.graph_run.proofs.FinalLemmas.{final_are, final_can, in_height, out_height, out_whole, counter_none, counter_is, counted_real, second_height, real_read, virtual_read, virtual_here, virtual_image}
 use Rattle.graph_run.proofs.FoundLemmas.{OfOperands, of_operands}
 use Rattle.graph_run.proofs.LinkLaws.{All-from_In, In-from_All, reads_first, reads_second}
 use Rattle.graph_run.proofs.StageLemmas.{found_as_it_is}
@@ -18,7 +18,7 @@ use Rattle.graph_run.proofs.VerifiedLemmas.{are_virtual}
 use Rattle.graph_run.proofs.StepLemmas.{nothing, none_alike, slots_alike, forgotten_kept, none_standing}
 use Rattle.graph_run.proofs.SharingLemmas.{WereWritten, name_of_output}
 use Rattle.graph_run.proofs.SeesLemmas.{SeesRight, SeesRightBeside, sees_standing, sees_rows}
-use Rattle.graph_run.proofs.StripStepLemmas.{SeesInputs, IsOpen, HasRun, outputs_seen, has_run}
+use Rattle.graph_run.proofs.StripStepLemmas.{SeesInputs, IsOpen, IsToCount, HasRun, has_counted, has_run, output_counts, outputs_seen}
 
 -- what is shown as an image and is virtual stands in a slot
 stands_somewhere : (slots : List Slot) (l : List Named) (name : ℕ) (image : ImageValue) → HoldsVirtual l name → object_held (shown slots l) name ≡ Some (ImageObject image)
@@ -166,9 +166,30 @@ module _ (objects : List Named) (nodes : List Node) (v : Verified) (height besid
 
       -- ---- what it writes
 
-      pub output_open : (c : Cell) → In c (outputs n) → IsOpen objects nodes v height beside r strip is_strip before after n parts s c
-      output_open c i =
-          let high = out_height objects nodes v height beside r n in_steps c i in
+      -- an output that is no virtual image is as far as the strip's band begins
+      as_far : (c : Cell) → In c (outputs n) → is_virtual_name v c.name ≡ false → IsAsFar (counter_of v c.name) final strip.band.start (object_held now c.name) (object_held final c.name)
+      as_far c i real =
+          let none = out_whole objects nodes v height beside r n in_steps c i in
+          let writer : writes n c ≡ true = any-from_In (same_cell c) c (outputs n) i (same_cell-refl c) in
+          let itself : cell_of c.name ≡ c = one_cell (cell_of c.name) c refl refl none in
+          let target : is_target v c.name ≡ true = and_from (is_written v.steps.items (cell_of c.name)) (not (is_virtual_name v c.name)) (any-from_In (λ m. writes m (cell_of c.name)) n v.steps.items in_steps (ap (writes n) itself ∙ writer)) (ap not real) in
+          let not_yet : is_written before (cell_of c.name) ≡ false = false_from_ne_true (is_written before (cell_of c.name)) (λ early. written_once objects nodes v r.ready before after n parts c writer (ap (is_written before) (sym itself) ∙ early)) in
+          let found : object_held now c.name ≡ object_held s.table.objects c.name = found_as_it_is s.slots.items s.table.objects c.name (h.real c.name real) in
+          subst (λ o. IsAsFar (counter_of v c.name) final strip.band.start o (object_held final c.name)) (sym found)
+          (subst (λ y. IsAsFar (counter_of v c.name) final y (object_held s.table.objects c.name) (object_held final c.name)) (ap (λ (b : Bool). if b then strip.band.start + strip.band.count else strip.band.start) not_yet) (h.finished.targets c.name target))
+
+      pub output_to_count : counts n ≡ true → (c : Cell) → In c (outputs n) → IsToCount objects nodes v height beside r strip is_strip before after n parts s c
+      output_to_count does c i =
+          let real = counted_real objects nodes v height beside r n in_steps does c i in
+          record {
+            slot = h.real c.name real;
+            so_far =
+                subst (λ w. IsAsFar w final strip.band.start (object_held now c.name) (object_held final c.name)) (counter_is objects nodes v height beside r n in_steps does c i) (as_far c i real);
+          }
+
+      pub output_open : counts n ≡ false → (c : Cell) → In c (outputs n) → IsOpen objects nodes v height beside r strip is_strip before after n parts s c
+      output_open no_count c i =
+          let high = out_height objects nodes v height beside r n in_steps no_count c i in
           elim (cases_Bool (is_virtual_name v c.name)) [ inl virtual ↦ of_virtual high.1 virtual | inr real ↦ of_real high.1 high.2 real ]
         where
           is_image : (image : ImageValue) → held now c ≡ Some (ImageObject image) → IsImage (image_held now c)
@@ -201,16 +222,12 @@ module _ (objects : List Named) (nodes : List Node) (v : Verified) (height besid
 
           of_real : c.slot ≡ None → HoldsImage final c → is_virtual_name v c.name ≡ false → IsOpen objects nodes v height beside r strip is_strip before after n parts s c
           of_real none image real =
-              let writer : writes n c ≡ true = any-from_In (same_cell c) c (outputs n) i (same_cell-refl c) in
-              let itself : cell_of c.name ≡ c = one_cell (cell_of c.name) c refl refl none in
-              let target : is_target v c.name ≡ true = and_from (is_written v.steps.items (cell_of c.name)) (not (is_virtual_name v c.name)) (any-from_In (λ m. writes m (cell_of c.name)) n v.steps.items in_steps (ap (writes n) itself ∙ writer)) (ap not real) in
-              let not_yet : is_written before (cell_of c.name) ≡ false = false_from_ne_true (is_written before (cell_of c.name)) (λ early. written_once objects nodes v r.ready before after n parts c writer (ap (is_written before) (sym itself) ∙ early)) in
               let slot = h.real c.name real in
-              let before_band : RowsAreAs strip.band.start (object_held s.table.objects c.name) (object_held final c.name) =
-              subst (λ y. RowsAreAs y (object_held s.table.objects c.name) (object_held final c.name)) (ap (λ (b : Bool). if b then strip.band.start + strip.band.count else strip.band.start) not_yet) (h.finished.targets c.name target) in
-              let found : object_held now c.name ≡ object_held s.table.objects c.name = found_as_it_is s.slots.items s.table.objects c.name slot in
-              let old = rows_of strip.band.start (object_held s.table.objects c.name) (object_held final c.name) before_band in
-              let here : held now c ≡ Some (ImageObject old.one) = held_whole now c none ∙ found ∙ old.there in
+              let high_is = (out_height objects nodes v height beside r n in_steps no_count c i).0 in
+              let before_band : RowsAreAs strip.band.start (object_held now c.name) (object_held final c.name) =
+              subst (λ w. IsAsFar w final strip.band.start (object_held now c.name) (object_held final c.name)) (counter_none objects nodes v height beside r n in_steps no_count c i) (as_far c i real) in
+              let old = rows_of strip.band.start (object_held now c.name) (object_held final c.name) before_band in
+              let here : held now c ≡ Some (ImageObject old.one) = held_whole now c none ∙ old.there in
               let there : held final c ≡ Some (ImageObject old.other) = held_whole final c none ∙ old.in_the_end in
               let image_now : image_held now c ≡ old.one = grind (arith, here) in
               let image_end : image_held final c ≡ old.other = grind (arith, there) in
@@ -221,10 +238,10 @@ module _ (objects : List Named) (nodes : List Node) (v : Verified) (height besid
                       is = is_image old.one here;
                       wide = ap (λ (a : ImageValue). a.width) image_now ∙ ap (λ (d : Description). d.width) old.desc ∙ sym (ap (λ (a : ImageValue). a.width) image_end);
                       format = ap (λ (a : ImageValue). a.format) image_now ∙ ap (λ (d : Description). d.format) old.desc ∙ sym (ap (λ (a : ImageValue). a.format) image_end);
-                      place = rw slot (omega (arith, is_strip.rows, ap (λ (a : ImageValue). a.height) image_now ∙ ap (λ (d : Description). d.height) old.desc ∙ sym (ap (λ (a : ImageValue). a.height) image_end) ∙ (out_height objects nodes v height beside r n in_steps c i).0));
+                      place = rw slot (omega (arith, is_strip.rows, ap (λ (a : ImageValue). a.height) image_now ∙ ap (λ (d : Description). d.height) old.desc ∙ sym (ap (λ (a : ImageValue). a.height) image_end) ∙ high_is));
                     };
                 virtual = λ virtual. absurd (cc);
-                real = λ _. (slot, subst (λ o. RowsAreAs strip.band.start o (object_held final c.name)) (sym found) before_band);
+                real = λ _. (slot, before_band);
               }
 
     -- ---- once it has run
@@ -237,7 +254,7 @@ module _ (objects : List Named) (nodes : List Node) (v : Verified) (height besid
       -- a name that its outputs don't have
       other_output : (name : ℕ) → writes n (cell_of name) ≡ false → (c : Cell) → In c (outputs n) → name ≢ c.name
       other_output name none c i same =
-          let none_slot = (out_height objects nodes v height beside r n in_steps c i).1 in
+          let none_slot = out_whole objects nodes v height beside r n in_steps c i in
           let itself : c ≡ cell_of name = one_cell c (cell_of name) (sym same) none_slot refl in
           let some : writes n (cell_of name) ≡ true = any-from_In (same_cell (cell_of name)) c (outputs n) i (subst (λ q. same_cell q c ≡ true) itself (same_cell-refl c)) in
           cc
@@ -283,21 +300,21 @@ module _ (objects : List Named) (nodes : List Node) (v : Verified) (height besid
           }
         where
           of_target : (name : ℕ) → is_target v name ≡ true → (writes n (cell_of name) ≡ true) ⊎ (writes n (cell_of name) ≡ false)
-              → RowsAreAs (rows_by_now done strip name) (object_held later.table.objects name) (object_held final name)
+              → IsAsFar (counter_of v name) final (rows_by_now done strip name) (object_held later.table.objects name) (object_held final name)
           of_target name target (inl w) =
               let real = not_true (is_virtual_name v name) (and_parts (is_written v.steps.items (cell_of name)) (not (is_virtual_name v name)) target).1 in
               let made = run.made (cell_of name) (output_in n (cell_of name) w) in
               let rows : strip.band.start + strip.band.count ≡ rows_by_now done strip name =
               sym (ap (λ (b : Bool). if b then strip.band.start + strip.band.count else strip.band.start) (written_done (cell_of name) ∙ or_right (is_written before (cell_of name)) (writes n (cell_of name)) w)) in
-              subst (λ y. RowsAreAs y (object_held later.table.objects name) (object_held final name)) rows
-              (subst (λ o. RowsAreAs (strip.band.start + strip.band.count) o (object_held final name)) (real_found name real) (made.rows real))
+              subst (λ y. IsAsFar (counter_of v name) final y (object_held later.table.objects name) (object_held final name)) rows
+              (subst (λ o. IsAsFar (counter_of v name) final (strip.band.start + strip.band.count) o (object_held final name)) (real_found name real) (made.rows real))
           of_target name target (inr none) =
               let real = not_true (is_virtual_name v name) (and_parts (is_written v.steps.items (cell_of name)) (not (is_virtual_name v name)) target).1 in
               let same : object_held s.table.objects name ≡ object_held later.table.objects name = sym (sym (real_found name real) ∙ run.others name (other_output name none) ∙ real_before name real) in
               let rows : rows_by_now before strip name ≡ rows_by_now done strip name =
               ap (λ (b : Bool). if b then strip.band.start + strip.band.count else strip.band.start) (sym (written_done (cell_of name) ∙ none_or (is_written before (cell_of name)) (writes n (cell_of name)) none)) in
-              subst (λ y. RowsAreAs y (object_held later.table.objects name) (object_held final name)) rows
-              (subst (λ o. RowsAreAs (rows_by_now before strip name) o (object_held final name)) same (h.finished.targets name target))
+              subst (λ y. IsAsFar (counter_of v name) final y (object_held later.table.objects name) (object_held final name)) rows
+              (subst (λ o. IsAsFar (counter_of v name) final (rows_by_now before strip name) o (object_held final name)) same (h.finished.targets name target))
 
       stands_more : (o : VirtualOutput) → In o outs → is_written done o.cell ≡ true → is_used after o.cell ≡ true
           → IsPartOf objects height done strip.rows (object_held (scene later).objects o.cell.name) (object_held final o.cell.name)
@@ -352,7 +369,7 @@ module _ (objects : List Named) (nodes : List Node) (v : Verified) (height besid
         targets = λ name target.
             let all : is_written (take k v.steps.items) (cell_of name) ≡ true =
             ap (λ done. is_written done (cell_of name)) (take_all k v.steps.items past) ∙ (and_parts (is_written v.steps.items (cell_of name)) (not (is_virtual_name v name)) target).0 in
-            subst (λ y. RowsAreAs y (object_held l name) (object_held final name)) (ap (λ (b : Bool). if b then strip.band.start + strip.band.count else strip.band.start) all) (h.finished.targets name target);
+            subst (λ y. IsAsFar (counter_of v name) final y (object_held l name) (object_held final name)) (ap (λ (b : Bool). if b then strip.band.start + strip.band.count else strip.band.start) all) (h.finished.targets name target);
       }
 
   -- virtual images stay where they are
@@ -449,15 +466,31 @@ module _ (objects : List Named) (nodes : List Node) (v : Verified) (height besid
       here : IsClaimed before after n parts s
       here = strip_claimed l slots one h first both second s is table items
 
-      pub node_sees : AreSeen strip s n
-      node_sees =
-          outputs_seen objects nodes v height beside r strip is_strip before after n parts s (sees_inputs before after n parts s here) (output_open before after n parts s here)
+      -- it may write what it writes, or count
+      pub node_may : (counts n ≡ false → AreSeen strip s n) × (counts n ≡ true → IfSome n.out1 (λ cell. CanCount strip s n.in1 cell.name))
+      node_may =
+          let inputs = sees_inputs before after n parts s here in (
+            λ no_count.
+                outputs_seen objects nodes v height beside r strip is_strip before after n parts s inputs no_count (output_open before after n parts s here no_count),
+            λ does.
+                output_counts objects nodes v height beside r strip is_strip before after n parts s inputs does (output_to_count before after n parts s here does),
+          )
 
-      pub node_runs : (later : Stage) → IsStage later → scene later ≡ with_objects (scene s) (with_seen strip s n Second n.out2 (with_seen strip s n First n.out1 (scene s).objects)) → Keeps s later
+      pub node_runs : (later : Stage) → IsStage later → scene later ≡ with_objects (scene s) (after_node strip s n) → Keeps s later
           → IsInStrip strips (k + 1) later.table.objects later.slots.items
       node_runs later is_later value keeps =
           let claimed = claims l slots one h first both second in
+          let inputs = sees_inputs before after n parts s here in
+          let seen = with_seen strip s n Second n.out2 (with_seen strip s n First n.out1 (scene s).objects) in
+          let counted = with_counted strip s n.in1 n.out1 (scene s).objects in
           strip_more s later here is_later keeps
-          (has_run objects nodes v height beside r strip is_strip before after n parts s (sees_inputs before after n parts s here) (output_open before after n parts s here) later value keeps.slots)
+          (elim (cases_Bool (counts n)) [
+            | inl does ↦
+                has_counted objects nodes v height beside r strip is_strip before after n parts s inputs does (output_to_count before after n parts s here does) later
+                (value ∙ ap (λ (b : Bool). with_objects (scene s) (if b then counted else seen)) does) keeps.slots
+            | inr no_count ↦
+                has_run objects nodes v height beside r strip is_strip before after n parts s inputs no_count (output_open before after n parts s here no_count) later
+                (value ∙ ap (λ (b : Bool). with_objects (scene s) (if b then counted else seen)) no_count) keeps.slots
+          ])
           (subst (AreShared strips (map (output_part strip.rows.count) outs)) (sym items) claimed.shared)
           (subst (WereWritten (before ++ n ∷ [])) (sym items) claimed.written)

@@ -1,21 +1,31 @@
 -- How a stage is after so many nodes of a strip, and after one more.
-use Rattle.std.proofs.Common.{◌≡◌, ◌≢◌, ℕ, ◌+◌, ◌≤◌, true, false, List, [], ◌∷◌, ◌++◌, map, Option, Some, None, inl, inr, IfSome, refl, sym, ap, subst, ◌∙◌, arith, sum_by, unwrap_or, option_map, option_and_then}
-use Rattle.graph_run.proofs.Common.{append_assoc, sum_by-append, Node, Output, First, Second, Cell, same_cell, ImageValue, IsImage, outputs, given, ObjectValue, ImageObject, object_kind, Context, with_objects, Named, held, object_held, with_object, image_value, cell_object, image_held, HoldsImage, VirtualOutput, Verified, writes, In, Band, Strip, Slot, Stage, AreSeen, seen_in, part_made, made_in, made_seen, with_seen, HasPlaceIn, IsSeen, IsStrip, rows_beside, RunsInBands, final_of, is_virtual_name, RowsAreAs, IsPartOf, right_from, right_to, scene, slot_of, fixed, RunsTo, node_image_is, parameters, accumulates, same_cell-refl, In-left, In-right, any-from_In, in_slot, seen, AreApart}
+use Rattle.std.proofs.Common.{◌≡◌, ◌≢◌, ℕ, ◌+◌, ◌^◌, ◌<◌, ◌≤◌, slice_index, length, true, false, List, [], ◌∷◌, ◌++◌, map, Option, Some, None, inl, inr, IfSome, refl, sym, ap, subst, ◌∙◌, arith, sum_by, option_map, option_and_then, unwrap_or}
+use Rattle.graph_run.proofs.Common.{eq-eqb, object_under, skeleton, append_assoc, sum_by-append, Node, Output, First, Second, Cell, same_cell, ImageValue, IsImage, outputs, given, ObjectValue, ImageObject, object_kind, Context, with_objects, Named, object_held, with_object, image_value, cell_object, image_held, HoldsImage, VirtualOutput, Verified, writes, In, Strip, Slot, Stage, AreSeen, part_made, made_in, made_seen, with_seen, IsSeen, IsStrip, rows_beside, RunsInBands, final_of, is_virtual_name, RowsAreAs, IsPartOf, right_from, right_to, scene, slot_of, fixed, RunsTo, node_image_is, parameters, accumulates, same_cell-refl, In-left, In-right, any-from_In, in_slot, seen, AreApart, IsAsFar, IsCounted, CanCount, counter_of, counts, with_counted, cell_of}
 use Rattle.vx_base.specs.declared.kind.Kind.TheVariants as kind
+use Rattle.vx_base.specs.Object.{DistributionObject, DistributionValue}
+use Rattle.object_table.specs.Object.{distribution_value}
+use Rattle.graph_run.specs.Bands.{counted_above, counted_before, counted_too, band_seen}
+use Rattle.vx_base.specs.Statistics.{valid_samples}
+use Rattle.stat_kernels.specs.Part.{valid_in}
+use Rattle.graph_run.proofs.CountLemmas.{counts_bytes, counts_fit, counts_once, counts_output, distribution_lasts, distribution_of_kind, too_is}
 use Rattle.graph_run.proofs.BandLemmas.{right_above, right_below, rows_right}
-use Rattle.graph_run.proofs.SeesLemmas.{SeesImage, SeesBeside, IsRightFor, SeesRight, SeesRightBeside, seen_is_object}
+use Rattle.graph_run.proofs.SeesLemmas.{IsRightFor, SeesRight, SeesRightBeside, seen_is_object}
 use Rattle.graph_run.proofs.AgreeLemmas.{output_cases}
-use Rattle.graph_run.proofs.FinalLemmas.{IsMade, second_near, second_given, in_height, out_height, final_first, final_second, final_apart, made_first, made_second, writes_images}
-use Rattle.graph_run.proofs.CellLemmas.{held_after, held_image, held_whole}
+use Rattle.graph_run.proofs.FinalLemmas.{IsMade, out_whole, counter_none, counter_is, counted_real, is_node_of, second_near, second_given, in_height, out_height, final_first, final_second, final_apart, made_first, made_second, writes_images}
+use Rattle.graph_run.proofs.CellLemmas.{there_is, held_after, held_image, held_whole}
+use Rattle.graph_run.proofs.HeldLaws.{object_held-with_object}
 use Rattle.graph_run.proofs.OutputLemmas.{image_of_object, out_is_image}
-use Rattle.graph_run.proofs.PartSeenLemmas.{seen_alike}
-use Rattle.graph_run.proofs.StepLemmas.{nothing, Alike, none_alike, slots_alike}
+use Rattle.graph_run.proofs.StepLemmas.{nothing}
 use Rattle.graph_run.proofs.StageLemmas.{held_beside}
 use Rattle.graph_run.proofs.StripLemmas.{HasPlace, is_seen, made_stands}
 
 -- an output that is an image as a whole is written
 at_output : (l : List Named) (c : Cell) (image : ImageValue) → c.slot ≡ None → HoldsImage l c → object_held (with_object l c (ImageObject image)) c.name ≡ Some (ImageObject image)
 at_output l c image none here = sym (held_whole (with_object l c (ImageObject image)) c none) ∙ held_after l c here image
+
+-- so is another object
+object_set : (l : List Named) (name : ℕ) (old new : ObjectValue) → object_held l name ≡ Some old → object_held (with_object l (cell_of name) new) name ≡ Some new
+object_set l name old new here = grind (arith, object_held-with_object l (cell_of name) new name, eq-eqb name name refl, here)
 
 module _ (objects : List Named) (nodes : List Node) (v : Verified) (height beside : ℕ) (r : RunsInBands objects nodes v height beside) (strip : Strip) (is_strip : IsStrip height beside strip) where
   abbrev final : List Named
@@ -30,7 +40,7 @@ module _ (objects : List Named) (nodes : List Node) (v : Verified) (height besid
   -- what an output holds once the node has run: in a slot it stands for what comes in the end, else the band is right
   pub record AsMade (done : List Node) (c : Cell) (found : Option ObjectValue) : Type 0 where
     pub part : is_virtual_name v c.name ≡ true → IsPartOf objects height done strip.rows found (object_held final c.name)
-    pub rows : is_virtual_name v c.name ≡ false → RowsAreAs end found (object_held final c.name)
+    pub rows : is_virtual_name v c.name ≡ false → IsAsFar (counter_of v c.name) final end found (object_held final c.name)
 
   -- nodes that are done look no further than all do
   beside_less : (before after : List Node) (n : Node) → v.steps.items ≡ before ++ n ∷ after → sum_by (rows_beside objects) (before ++ n ∷ []) ≤ beside
@@ -46,8 +56,8 @@ module _ (objects : List Named) (nodes : List Node) (v : Verified) (height besid
     in_steps = subst (λ l. In n l) (sym parts) (In-right n before (n ∷ after) (inl refl))
 
     -- its outputs are no slots
-    out_whole : (c : Cell) → In c (outputs n) → c.slot ≡ None
-    out_whole c i = (out_height objects nodes v height beside r n in_steps c i).1
+    whole_cell : (c : Cell) → In c (outputs n) → c.slot ≡ None
+    whole_cell c i = out_whole objects nodes v height beside r n in_steps c i
 
     -- what it reads is seen as far as the nodes before made it right
     pub record SeesInputs (s : Stage) : Type 0 where
@@ -60,12 +70,12 @@ module _ (objects : List Named) (nodes : List Node) (v : Verified) (height besid
       pub virtual : is_virtual_name v c.name ≡ true → (t : Slot) × (slot_of s.slots.items c.name ≡ Some t)
       pub real : is_virtual_name v c.name ≡ false → (slot_of s.slots.items c.name ≡ None) × RowsAreAs strip.band.start (object_held (scene s).objects c.name) (object_held final c.name)
 
-    module _ (s : Stage) (sees : SeesInputs s) (which : Output) (c : Cell) (out : In c (outputs n)) (is : IsOpen s c) (runs : RunsTo final n c) where
+    module _ (s : Stage) (sees : SeesInputs s) (which : Output) (c : Cell) (out : In c (outputs n)) (is : IsOpen s c) (runs : RunsTo final n c) (no_count : counts n ≡ false) where
       abbrev images : (parameters n.function).output ≡ kind.Image
-      images = (writes_images objects nodes v height beside r n in_steps).0
+      images = (writes_images objects nodes v height beside r n in_steps no_count).0
 
       abbrev plain : accumulates n.function ≡ false
-      plain = (writes_images objects nodes v height beside r n in_steps).1
+      plain = (writes_images objects nodes v height beside r n in_steps no_count).1
 
       pub seen_output : IsSeen strip s n c
       seen_output = is_seen objects final height beside strip is_strip s before n which c sees.first sees.second is.place runs images plain
@@ -73,7 +83,7 @@ module _ (objects : List Named) (nodes : List Node) (v : Verified) (height besid
       module _ (ends : IsMade final n which c) where
         stands : IsRightFor objects height done strip.rows (part_made strip.rows s n which c) (image_held final c)
         stands =
-            let near = second_near objects nodes v height beside r n in_steps in
+            let near = second_near objects nodes v height beside r n in_steps no_count in
             made_stands objects final height beside strip is_strip s before n which c sees.first sees.second is.place runs images plain
             (in_height objects nodes v height beside r n in_steps) (second_given objects nodes v height beside r n in_steps) near.0 near.1 runs.runs.second_is ends
             (rw sees.first.seen_is sees.first.part_is) (image_of_object (cell_object final n.in1) runs.runs.first_kind runs.runs.first_is)
@@ -82,7 +92,7 @@ module _ (objects : List Named) (nodes : List Node) (v : Verified) (height besid
         final_is = out_is_image final n which c runs images
 
         at_name : object_held final c.name ≡ Some (ImageObject (image_held final c))
-        at_name = let high = out_height objects nodes v height beside r n in_steps c out in sym (held_whole final c high.1) ∙ held_image final c high.2
+        at_name = let high = out_height objects nodes v height beside r n in_steps no_count c out in sym (held_whole final c high.1) ∙ held_image final c high.2
 
         made_is : IsImage (part_made strip.rows s n which c)
         made_is =
@@ -103,14 +113,16 @@ module _ (objects : List Named) (nodes : List Node) (v : Verified) (height besid
                     part_is = made_is;
                     stands = stands;
                   };
-              rows = λ real. of_rows (is.real real).0 (is.real real).1;
+              rows = λ real.
+                  subst (λ w. IsAsFar w final end (Some (made_seen strip s n which c)) (object_held final c.name)) (sym (counter_none objects nodes v height beside r n in_steps no_count c out))
+                  (of_rows (is.real real).0 (is.real real).1);
             }
           where
             of_rows : slot_of s.slots.items c.name ≡ None → RowsAreAs strip.band.start (object_held (scene s).objects c.name) (object_held final c.name)
                 → RowsAreAs end (Some (made_seen strip s n which c)) (object_held final c.name)
             of_rows none earlier =
                 let old = image_held (scene s).objects c in
-                let here : object_held (scene s).objects c.name ≡ Some (ImageObject old) = sym (held_whole (scene s).objects c (out_whole c out)) ∙ held_image (scene s).objects c is.place.here in
+                let here : object_held (scene s).objects c.name ≡ Some (ImageObject old) = sym (held_whole (scene s).objects c (whole_cell c out)) ∙ held_image (scene s).objects c is.place.here in
                 let rows = subst (RowsAreAs strip.band.start (Some (ImageObject old))) at_name (subst (λ o. RowsAreAs strip.band.start o (object_held final c.name)) here earlier) in
                 let less = beside_less before after n parts in
                 let right = rows_right strip (part_made strip.rows s n which c) old (image_held final c) is_strip.within (right_from objects done strip.rows) (right_to objects height done strip.rows) stands
@@ -141,7 +153,7 @@ module _ (objects : List Named) (nodes : List Node) (v : Verified) (height besid
     outputs_differ : (c d : Cell) → n.out1 ≡ Some c → n.out2 ≡ Some d → c.name ≢ d.name
     outputs_differ c d e f same =
         let apart : AreApart d c = subst (λ (o : Option Cell). IfSome o (λ b. AreApart b c)) f (subst (λ (o : Option Cell). IfSome o (λ a. IfSome n.out2 (λ b. AreApart b a))) e (final_apart objects nodes v height beside r n in_steps)) in
-        grind (arith, out_whole c (first_in c e), out_whole d (second_in d f), apart (sym same))
+        grind (arith, whole_cell c (first_in c e), whole_cell d (second_in d f), apart (sym same))
 
     -- ---- once it has run
 
@@ -151,11 +163,11 @@ module _ (objects : List Named) (nodes : List Node) (v : Verified) (height besid
       pub others : (name : ℕ) → ((c : Cell) → In c (outputs n) → name ≢ c.name) → object_held (scene later).objects name ≡ object_held (scene s).objects name
       pub slots : map fixed later.slots.items ≡ map fixed s.slots.items
 
-    module _ (s : Stage) (sees : SeesInputs s) (opens : (c : Cell) → In c (outputs n) → IsOpen s c) where
+    module _ (s : Stage) (sees : SeesInputs s) (no_count : counts n ≡ false) (opens : (c : Cell) → In c (outputs n) → IsOpen s c) where
       -- its outputs can be written
       if_seen : (which : Output) (o : Option Cell) → ((c : Cell) → o ≡ Some c → In c (outputs n)) → IfSome o (RunsTo final n) → IfSome o (IsSeen strip s n)
       if_seen which None among runs = tt
-      if_seen which (Some c) among runs = seen_output s sees which c (among c refl) (opens c (among c refl)) runs
+      if_seen which (Some c) among runs = seen_output s sees which c (among c refl) (opens c (among c refl)) runs no_count
 
       pub outputs_seen : AreSeen strip s n
       outputs_seen =
@@ -179,22 +191,22 @@ module _ (objects : List Named) (nodes : List Node) (v : Verified) (height besid
 
         output_made : (which : Output) (c : Cell) → In c (outputs n) → RunsTo final n c → IsMade final n which c → object_held (scene later).objects c.name ≡ Some (made_seen strip s n which c)
             → AsMade done c (object_held (scene later).objects c.name)
-        output_made which c i runs ends found = subst (AsMade done c) (sym found) (as_made s sees which c i (opens c i) runs ends)
+        output_made which c i runs ends found = subst (AsMade done c) (sym found) (as_made s sees which c i (opens c i) runs no_count ends)
 
         first_made : (c : Cell) → n.out1 ≡ Some c → AsMade done c (object_held (scene later).objects c.name)
         first_made c e =
-            output_made First c (first_in c e) (runs_first c e) (subst (λ (o : Option Cell). IfSome o (IsMade final n First)) e (made_first objects nodes v height beside r n in_steps))
+            output_made First c (first_in c e) (runs_first c e) (subst (λ (o : Option Cell). IfSome o (IsMade final n First)) e (made_first objects nodes v height beside r n in_steps no_count))
             (found_later c.name
             ∙ with_others Second n.out2 one c.name (λ d f same. outputs_differ c d e f same)
             ∙ ap (λ o. object_held (with_seen strip s n First o (scene s).objects) c.name) e
-            ∙ at_output (scene s).objects c _ (out_whole c (first_in c e)) (opens c (first_in c e)).place.here)
+            ∙ at_output (scene s).objects c _ (whole_cell c (first_in c e)) (opens c (first_in c e)).place.here)
 
         second_made : (c : Cell) → n.out2 ≡ Some c → AsMade done c (object_held (scene later).objects c.name)
         second_made c e =
             let kept = with_others First n.out1 (scene s).objects c.name (λ d f same. outputs_differ d c f e (sym same)) in
             let here : HoldsImage one c = ap (option_map object_kind) (ap (option_and_then (in_slot c.slot)) kept) ∙ (opens c (second_in c e)).place.here in
-            output_made Second c (second_in c e) (runs_second c e) (subst (λ (o : Option Cell). IfSome o (IsMade final n Second)) e (made_second objects nodes v height beside r n in_steps))
-            (found_later c.name ∙ ap (λ o. object_held (with_seen strip s n Second o one) c.name) e ∙ at_output one c _ (out_whole c (second_in c e)) here)
+            output_made Second c (second_in c e) (runs_second c e) (subst (λ (o : Option Cell). IfSome o (IsMade final n Second)) e (made_second objects nodes v height beside r n in_steps no_count))
+            (found_later c.name ∙ ap (λ o. object_held (with_seen strip s n Second o one) c.name) e ∙ at_output one c _ (whole_cell c (second_in c e)) here)
 
         pub has_run : HasRun s later
         has_run =
@@ -206,3 +218,133 @@ module _ (objects : List Named) (nodes : List Node) (v : Verified) (height besid
                   ∙ with_others First n.out1 (scene s).objects name (λ c e. other c (first_in c e));
               slots = slots;
             }
+
+    -- ---- where it counts
+
+    -- an output as a node that counts finds it: the rows above the strip's band are counted
+    pub record IsToCount (s : Stage) (c : Cell) : Type 0 where
+      pub slot : slot_of s.slots.items c.name ≡ None
+      pub so_far : IsCounted n (image_held final n.in1) strip.band.start (object_held (scene s).objects c.name) (object_held final c.name)
+
+    module _ (s : Stage) (sees : SeesInputs s) (does : counts n ≡ true) where
+      module _ (c : Cell) (given_is : n.out1 ≡ Some c) (is : IsToCount s c) where
+        abbrev now : Option ObjectValue
+        now = object_held (scene s).objects c.name
+
+        abbrev image : ImageValue
+        image = image_held final n.in1
+
+        abbrev part : ImageValue
+        part = image_value (seen strip.rows s n.in1)
+
+        runs : RunsTo final n c
+        runs = runs_first c given_is
+
+        in_the_end : (e : DistributionValue) × (object_held final c.name ≡ Some (DistributionObject e))
+        in_the_end =
+            distribution_of_kind (object_held final c.name)
+            (ap (option_map object_kind) (sym (held_whole final c (whole_cell c (first_in c given_is))) ∙ there_is final c runs.out) ∙ ap Some (runs.runs.out_kind ∙ counts_output n does))
+
+        at_first : (d : DistributionValue) × (now ≡ Some (DistributionObject d)) × (d.bins ≡ in_the_end.0.bins)
+        at_first = distribution_lasts now (object_held final c.name) in_the_end.0 in_the_end.1 is.so_far.lasts
+
+        under : object_under (scene s).objects c.name ≡ DistributionObject at_first.0
+        under = ap (λ o. unwrap_or o nothing) at_first.1
+
+        stands_first : IsRightFor objects height before strip.rows part image
+        stands_first = rw (sees.first.seen_is, sees.first.ends_as) sees.first.stands
+
+        image_is : IsImage image
+        image_is = image_of_object (cell_object final n.in1) runs.runs.first_kind runs.runs.first_is
+
+        less : sum_by (rows_beside objects) before ≤ beside
+        less = omega (arith, beside_less before after n parts, sum_by-append (rows_beside objects) before (n ∷ []))
+
+        above : right_from objects before strip.rows ≤ strip.band.start
+        above = omega (arith, right_above (sum_by (rows_beside objects) before) beside strip.rows.start less, is_strip.above)
+
+        below : end ≤ right_to objects height before strip.rows
+        below = omega (arith, right_below (sum_by (rows_beside objects) before) beside height (strip.rows.start + strip.rows.count) less, is_strip.below)
+
+        so_far : 1 ≤ strip.band.start → DistributionObject at_first.0 ≡ counted_above strip.band.start n image (DistributionObject in_the_end.0)
+        so_far some =
+            let counted : Some (DistributionObject at_first.0) ≡ Some (counted_above strip.band.start n image (DistributionObject in_the_end.0)) =
+            sym at_first.1 ∙ is.so_far.counted some ∙ ap (option_map (counted_above strip.band.start n image)) in_the_end.1 in
+            cc
+
+        pub can_count : CanCount strip s n.in1 c.name
+        can_count =
+            record {
+              here = sees.first.here;
+              image = sees.first.here_is;
+              some_rows = omega (arith, is_strip.some, is_strip.within.above, is_strip.within.below);
+              rows = sees.first.has_rows;
+              format = ap (λ d. d.format) stands_first.description ∙ counts_bytes n does image.format _ _ runs.runs.formats;
+              height = ap (λ d. d.height) stands_first.description;
+              kind = ap (option_map object_kind) at_first.1;
+              room = λ k.
+                  subst (λ (x : ObjectValue). slice_index (counted_before strip (distribution_value x)) k + length (valid_samples (valid_in (band_seen strip) part)) < 2 ^ 32) (sym under)
+                  (counts_fit strip is_strip.within _ _ part image stands_first above below image_is n at_first.0 in_the_end.0 at_first.2 so_far k);
+            }
+
+        -- once the band is counted
+        counted_now : Some (counted_too strip part (object_under (scene s).objects c.name)) ≡ option_map (counted_above end n image) (object_held final c.name)
+        counted_now =
+            ap (λ x. Some (counted_too strip part x)) under
+            ∙ ap Some (too_is strip is_strip.within _ _ part image stands_first above below image_is n at_first.0 in_the_end.0 at_first.2 so_far)
+            ∙ ap (option_map (counted_above end n image)) (sym in_the_end.1)
+
+        is_counted : IsCounted n image end (Some (counted_too strip part (object_under (scene s).objects c.name))) (object_held final c.name)
+        is_counted =
+            record {
+              lasts =
+                  ap (option_map skeleton) (counted_now ∙ ap (option_map (counted_above end n image)) in_the_end.1)
+                  ∙ ap (option_map skeleton) (sym in_the_end.1);
+              counted = λ _. counted_now;
+            }
+
+        module _ (later : Stage) (found : object_held (scene later).objects c.name ≡ Some (counted_too strip part (object_under (scene s).objects c.name))) where
+          as_counted : AsMade done c (object_held (scene later).objects c.name)
+          as_counted =
+              record {
+                part = λ virtual. let real = counted_real objects nodes v height beside r n in_steps does c (first_in c given_is) in absurd (cc);
+                rows = λ _.
+                    subst (λ w. IsAsFar w final end (object_held (scene later).objects c.name) (object_held final c.name)) (sym (counter_is objects nodes v height beside r n in_steps does c (first_in c given_is)))
+                    (subst (λ o. IsCounted n image end o (object_held final c.name)) (sym found) is_counted);
+              }
+
+      module _ (opens : (c : Cell) → In c (outputs n) → IsToCount s c) where
+        pub output_counts : IfSome n.out1 (λ cell. CanCount strip s n.in1 cell.name)
+        output_counts = of_output n.out1 refl
+          where
+            of_output : (o : Option Cell) → n.out1 ≡ o → IfSome o (λ cell. CanCount strip s n.in1 cell.name)
+            of_output None e = tt
+            of_output (Some c) e = can_count c e (opens c (first_in c e))
+
+        module _ (later : Stage) (value : scene later ≡ with_objects (scene s) (with_counted strip s n.in1 n.out1 (scene s).objects)) (slots : map fixed later.slots.items ≡ map fixed s.slots.items) where
+          found_now : (name : ℕ) → object_held (scene later).objects name ≡ object_held (with_counted strip s n.in1 n.out1 (scene s).objects) name
+          found_now name = ap (λ (t : Context). object_held t.objects name) value
+
+          counted_beside : (o : Option Cell) → n.out1 ≡ o → (name : ℕ) → ((c : Cell) → In c (outputs n) → name ≢ c.name)
+              → object_held (with_counted strip s n.in1 o (scene s).objects) name ≡ object_held (scene s).objects name
+          counted_beside None e name other = refl
+          counted_beside (Some c) e name other = held_beside (scene s).objects (cell_of c.name) name _ (other c (first_in c e))
+
+          counted_there : (c : Cell) → n.out1 ≡ Some c → AsMade done c (object_held (scene later).objects c.name)
+          counted_there c e =
+              let is = opens c (first_in c e) in
+              as_counted c e is later
+              (found_now c.name
+              ∙ ap (λ o. object_held (with_counted strip s n.in1 o (scene s).objects) c.name) e
+              ∙ object_set (scene s).objects c.name _ _ (at_first c e is).1)
+
+          pub has_counted : HasRun s later
+          has_counted =
+              record {
+                made = λ c i. elim (output_cases n c (written_output c i)) [
+                  | inl e ↦ counted_there c e
+                  | inr e ↦ (let none = counts_once n (is_node_of objects nodes v height beside r n in_steps) does in absurd (cc))
+                ];
+                others = λ name other. found_now name ∙ counted_beside n.out1 refl name other;
+                slots = slots;
+              }

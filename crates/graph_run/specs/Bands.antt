@@ -1,25 +1,33 @@
 -- Graphs that run in bands of rows: each band goes through all nodes before the next one does. Nodes see parts of images, which are a
 -- band and some rows beside it.
-use Rattle.std.specs.Prelude.{ℕ, ◌+◌, ◌-◌, ◌*◌, ◌≤◌, ◌≡◌, ◌≢◌, IsTrue, is_some, ⊤, Bool, true, false, not, ◌&&◌, ◌==◌, if◌then◌else◌, List, [], ◌++◌, map, take, drop, length, sum_by, slice_get, All, Option, Some, None, IfSome, unwrap_or}
+use Rattle.std.specs.Prelude.{ℕ, ℤ, ◌+◌, ◌-◌, ◌*◌, ◌^◌, ◌<◌, ◌≤◌, ◌≡◌, ◌≢◌, IsTrue, is_some, ⊤, Bool, true, false, not, ◌&&◌, ◌==◌, if◌then◌else◌, List, [], ◌∷◌, ◌++◌, find, replicate, slice_index, map, take, drop, length, sum_by, slice_get, All, Option, Some, None, IfSome, unwrap_or}
 use Rattle.std.specs.Option.{option_map, option_and_then}
 use Rattle.std.specs.List.{list_any}
 use Rattle.std.specs.List.Sorted.{IsStrictlyIncreasing}
+use Rattle.vx_base.specs.declared.format.Format.TheVariants.{U8}
+use Rattle.vx_base.specs.declared.function.Function.{Function}
+use Rattle.vx_base.specs.declared.function.Function.TheVariants.{Histogram}
 use Rattle.vx_base.specs.declared.kind.Kind.TheVariants as kind
 use Rattle.vx_base.specs.declared.node.Node.{Node}
 use Rattle.vx_base.specs.declared.output.Output.{Output}
+use Rattle.vx_base.specs.declared.output.Output.TheVariants.{First, Second}
 use Rattle.vx_base.specs.Cell.{Cell, cell_of}
-use Rattle.vx_base.specs.Description.{IsDescription}
+use Rattle.vx_base.specs.Description.{Description, IsDescription}
 use Rattle.vx_base.specs.Function.{parameters, accumulates}
 use Rattle.vx_base.specs.Image.{ImageValue, IsImage, image_over, description_of, band, at}
 use Rattle.vx_base.specs.Node.{outputs}
-use Rattle.vx_base.specs.Object.{ObjectValue, ImageObject, IsObject, object_kind}
-use Rattle.vx_base.specs.Outputs.{node_image}
+use Rattle.vx_base.specs.Object.{DistributionValue, ObjectValue, ImageObject, IsObject, object_kind}
+use Rattle.vx_base.specs.Outputs.{node_image, node_output}
 use Rattle.vx_base.specs.Rectangle.{Rectangle, whole, empty}
+use Rattle.vx_base.specs.Statistics.{histogram, valid_samples}
 use Rattle.image_core.specs.declared.band.Band.{Band}
-use Rattle.image_core.specs.Bands.{IsInRows}
+use Rattle.image_core.specs.Bands.{IsInRows, all_rows}
+use Rattle.stat_kernels.specs.Counts.{added}
+use Rattle.stat_kernels.specs.Part.{valid_in}
 use Rattle.object_table.specs.Named.{Named, object_held, held, with_object}
-use Rattle.object_table.specs.Object.{image_value}
-use Rattle.object_table.specs.Table.{cell_object, image_held, HoldsImage}
+use Rattle.object_table.specs.Object.{distribution_value, image_value, with_counts}
+use Rattle.object_table.specs.Skeleton.{skeleton}
+use Rattle.object_table.specs.Table.{cell_object, image_held, object_under, HoldsImage, IsUnder}
 use Rattle.graph_verify.specs.declared.known.VirtualOutput.{VirtualOutput}
 use Rattle.graph_verify.specs.declared.operand.Operand.{Operand}
 use Rattle.graph_verify.specs.declared.operand.Operand.TheVariants.{Image}
@@ -32,11 +40,12 @@ use Rattle.node_rows.specs.Reach.{reach, matrix_in}
 use Rattle.graph_run.specs.declared.bands.Strip.{Strip}
 use Rattle.graph_run.specs.declared.stage.Slot.{Slot}
 use Rattle.graph_run.specs.declared.stage.Stage.{Stage}
+use Rattle.graph_run.specs.declared.step.Making.{Making}
 use Rattle.graph_run.specs.Graph.{begun, one_by_one}
 use Rattle.graph_run.specs.Operands.{operand_held, IsReady}
 use Rattle.graph_run.specs.Solution.{label_of}
 use Rattle.graph_run.specs.Stage.{scene, slot_of}
-use Rattle.graph_run.specs.Steps.{AreApart, Holds, CanRunTo, IsRead}
+use Rattle.graph_run.specs.Steps.{AreApart, Holds, CanRunTo, IsRead, made_as}
 
 -- ---- what nodes see
 
@@ -112,6 +121,10 @@ with_band strip part old =
     ++ band old.width (strip.band.start - strip.rows.start) strip.band.count (at part)
     ++ drop ((strip.band.start + strip.band.count) * old.width) old.samples)
 
+-- rows of what a node makes, an image of this description
+abbrev pub rows_made : Description → Band → Making → List ℤ
+rows_made d rows m = band d.width rows.start rows.count (at (made_as d.format m))
+
 -- what an output becomes: in a slot the part, else the image with the part's band
 abbrev pub made_in : Option Slot → Strip → ImageValue → ImageValue → ImageValue
 made_in None strip part old = with_band strip part old
@@ -141,15 +154,67 @@ pub record AreSeen (strip : Strip) (s : Stage) (n : Node) : Type 0 where
   pub second : IfSome n.out2 (IsSeen strip s n)
   pub apart : IfSome n.out1 (λ a. IfSome n.out2 (λ b. AreApart b a))
 
+-- ---- what nodes count
+
+-- whether a node writes what it counts of an image, which it can do band by band
+abbrev pub counts_rows : Function → Bool
+counts_rows Histogram = true
+counts_rows other = false
+
+abbrev pub counts : Node → Bool
+counts n = counts_rows n.function
+
+-- what such a node gives of the rows of an image above row y, for an output that is such an object
+abbrev pub counted_above : ℕ → Node → ImageValue → ObjectValue → ObjectValue
+counted_above y n image old = node_output n First (ImageObject (valid_in (all_rows y) image)) None old
+
+-- what was counted of the bands above: of the first band's nothing, whatever the distribution holds
+abbrev pub counted_before : Strip → DistributionValue → List ℕ
+counted_before strip d = if strip.band.start == 0 then replicate d.bins.bins 0 else d.counts
+
+-- the band among the rows that nodes see
+abbrev pub band_seen : Strip → Band
+band_seen strip = record { start = strip.band.start - strip.rows.start; count = strip.band.count }
+
+-- a distribution once the band's rows of a part are counted too
+abbrev pub counted_too : Strip → ImageValue → ObjectValue → ObjectValue
+counted_too strip part object =
+    let d = distribution_value object in
+    with_counts object (added (counted_before strip d) (histogram d.bins (valid_in (band_seen strip) part)))
+
+-- an image that is seen, of which the band can be counted in the distribution under a name
+pub record CanCount (strip : Strip) (s : Stage) (input : Cell) (output : ℕ) : Type 0 where
+  pub here : HoldsImage (scene s).objects input
+  pub image : IsImage (image_held (scene s).objects input)
+  pub some_rows : 1 ≤ strip.rows.count
+  pub rows : HasRows strip.rows s input
+  pub format : (image_value (seen strip.rows s input)).format ≡ U8
+  pub height : (image_value (seen strip.rows s input)).height ≡ strip.rows.count
+  pub kind : IsUnder (scene s).objects kind.Distribution output
+  pub room : (k : ℕ) → slice_index (counted_before strip (distribution_value (object_under (scene s).objects output))) k
+      + length (valid_samples (valid_in (band_seen strip) (image_value (seen strip.rows s input)))) < 2 ^ 32
+
+-- the objects once the band is counted in an output, if it is there
+abbrev pub with_counted : Strip → Stage → Cell → Option Cell → List Named → List Named
+with_counted strip s input None objects = objects
+with_counted strip s input (Some output) objects =
+    with_object objects (cell_of output.name) (counted_too strip (image_value (seen strip.rows s input)) (object_under objects output.name))
+
+-- the objects once a node has run on the rows of a strip
+abbrev pub after_node : Strip → Stage → Node → List Named
+after_node strip s n =
+    if counts n then with_counted strip s n.in1 n.out1 (scene s).objects
+    else with_seen strip s n Second n.out2 (with_seen strip s n First n.out1 (scene s).objects)
+
 -- ---- graphs that can run so
 
 -- a virtual image by so many of its rows
 abbrev pub output_part : ℕ → VirtualOutput → VirtualOutput
 output_part count o = record { cell = o.cell; desc = record { width = o.desc.width; height = count; format = o.desc.format } }
 
--- how far a node looks up and down, beside the matrix that its second cell holds
+-- how far a node looks up and down, beside the matrix that its second cell holds; one that counts looks at the band alone
 abbrev pub reach_of : List Named → Node → Option ℕ
-reach_of objects n = reach n.function (matrix_in (option_and_then (held objects) n.in2))
+reach_of objects n = if counts n then Some 0 else reach n.function (matrix_in (option_and_then (held objects) n.in2))
 
 abbrev pub rows_beside : List Named → Node → ℕ
 rows_beside objects n = unwrap_or (reach_of objects n) 0
@@ -159,21 +224,25 @@ abbrev pub HasHeight : ℕ → Operand → Type 0
 HasHeight height (Image d) = d.height ≡ height
 HasHeight height other = ⊥
 
+-- the images of a node that are of one height: those that it writes, or the one that it counts
+abbrev pub banded : Node → List Cell
+banded n = if counts n then n.in1 ∷ [] else outputs n
+
 -- the name is that of a virtual image that the nodes write
 abbrev pub is_virtual_name : Verified → ℕ → Bool
 is_virtual_name v name = list_any (λ (o : VirtualOutput). name == o.cell.name) v.virtual_outputs.items
 
--- a graph that can run in bands of rows of images of this height: its nodes write images of this height, each from rows that are near, and
--- read no client's image that one of them writes; together they look so many rows up and down
+-- a graph that can run in bands of rows of images of this height: its nodes write images of this height, each from rows that are near, or
+-- count one, and read nothing of the client's that one of them writes; together they look so many rows up and down
 pub record RunsInBands (objects : List Named) (nodes : List Node) (v : Verified) (height beside : ℕ) : Type 0 where
   pub ready : IsReady objects nodes v
   pub names : IsStrictlyIncreasing (map (λ o. o.name) objects)
   pub are_objects : All (λ o. IsObject o.object) objects
   pub described : All (λ o. IsDescription o.desc) v.virtual_outputs.items
-  pub images : All (λ n. ((parameters n.function).output ≡ kind.Image) × (accumulates n.function ≡ false)) v.steps.items
+  pub images : All (λ n. (counts n ≡ false → (parameters n.function).output ≡ kind.Image) × (accumulates n.function ≡ false)) v.steps.items
   pub near : All (λ n. IsTrue (is_some (reach_of objects n))) v.steps.items
   pub together : sum_by (rows_beside objects) v.steps.items ≡ beside
-  pub heights : All (λ n. All (λ c. HasHeight height (resolved (operand_held objects) nodes c)) (outputs n)) v.steps.items
+  pub heights : All (λ n. All (λ c. HasHeight height (resolved (operand_held objects) nodes c)) (banded n)) v.steps.items
   pub wholes : All (λ n. All (λ c. c.slot ≡ None) (outputs n)) v.steps.items
   pub apart : (n m : Node) (c d : Cell) → In n v.steps.items → In m v.steps.items → reads n c ≡ true → writes m d ≡ true
       → is_virtual_name v d.name ≡ false → c.name ≢ d.name
@@ -198,15 +267,30 @@ RowsAreAs y (Some (ImageObject i)) (Some (ImageObject f)) =
     (description_of i ≡ description_of f) × (take (y * f.width) i.samples ≡ take (y * f.width) f.samples)
 RowsAreAs y now final = ⊥
 
--- a client's image that the nodes write, by its name
+-- what a node counted is as far as row y of its input; before the first row nothing is known of it but its bins
+pub record IsCounted (n : Node) (image : ImageValue) (y : ℕ) (now final : Option ObjectValue) : Type 0 where
+  pub lasts : option_map skeleton now ≡ option_map skeleton final
+  pub counted : 1 ≤ y → now ≡ option_map (counted_above y n image) final
+
+-- the node that counts to what has a name, if one does
+abbrev pub counter_of : Verified → ℕ → Option Node
+counter_of v name = find (λ n. counts n && writes n (cell_of name)) v.steps.items
+
+-- what has a name is as far as row y: counted by this node, or an image
+abbrev pub IsAsFar : Option Node → List Named → ℕ → Option ObjectValue → Option ObjectValue → Type 0
+IsAsFar None ended y now final = RowsAreAs y now final
+IsAsFar (Some n) ended y now final = IsCounted n (image_held ended n.in1) y now final
+
+-- what the nodes write of the client's, by its name
 abbrev pub is_target : Verified → ℕ → Bool
 is_target v name = is_written v.steps.items (cell_of name) && not (is_virtual_name v name)
 
--- a client's objects while a graph runs in bands: of what the nodes write so many rows are as they are in the end; all else is as it was
+-- a client's objects while a graph runs in bands: of what the nodes write so many rows are as they are in the end, or are counted as they
+-- are; all else is as it was
 pub record IsFinished (rows : ℕ → ℕ) (v : Verified) (objects final now : List Named) : Type 0 where
   pub labels : map label_of now ≡ map label_of objects
   pub others : (name : ℕ) → is_target v name ≡ false → object_held now name ≡ object_held objects name
-  pub targets : (name : ℕ) → is_target v name ≡ true → RowsAreAs (rows name) (object_held now name) (object_held final name)
+  pub targets : (name : ℕ) → is_target v name ≡ true → IsAsFar (counter_of v name) final (rows name) (object_held now name) (object_held final name)
 
 -- in the part of a strip: those written by now are finished down to its end, others down to its start
 abbrev pub rows_by_now : List Node → Strip → ℕ → ℕ
@@ -243,8 +327,8 @@ abbrev pub with_area : Rectangle → Option Cell → List Named → List Named
 with_area area None objects = objects
 with_area area (Some cell) objects = with_area_in area objects cell (object_held objects cell.name)
 
--- the valid rectangles of what the steps write in the end
+-- the valid rectangles of the images that the steps write in the end
 pub record AreAreas (final : List Named) (steps : List Node) (areas : List Rectangle) : Type 0 where
   pub count : length areas ≡ length steps
   pub each : (k : ℕ) (n : Node) (area : Rectangle) → slice_get steps k ≡ Some n → slice_get areas k ≡ Some area
-      → All (λ c. (image_held final c).valid ≡ area) (outputs n)
+      → counts n ≡ false → All (λ c. (image_held final c).valid ≡ area) (outputs n)

@@ -16,26 +16,30 @@ use Rattle.graph_verify.specs.declared.verified.Verified.{Verified}
 use Rattle.graph_verify.specs.Links.{reads}
 use Rattle.graph_verify.specs.Members.{In}
 use Rattle.graph_verify.specs.Outlines.{resolved}
-use Rattle.graph_run.specs.Bands.{HasHeight, RunsInBands, AreAreas, final_of, is_virtual_name}
+use Rattle.graph_run.specs.Bands.{HasHeight, RunsInBands, AreAreas, banded, counts, final_of, is_virtual_name}
 use Rattle.graph_run.specs.Operands.{operand_held, IsReady}
 
--- an output of this height that stands in no slot; where it is an image of the client's, no node reads what has its name
-pub record IsBandOutput (objects : List Named) (v : Verified) (height : ℕ) (c : Cell) : Type 0 where
+-- an image of this height
+abbrev pub IsHigh : List Named → Verified → ℕ → Cell → Type 0
+IsHigh objects v height c = (nodes : List Node) → IsReady objects nodes v → HasHeight height (resolved (operand_held objects) nodes c)
+
+-- an output that stands in no slot; where it is no virtual image, no node reads what has its name
+pub record IsBandOutput (v : Verified) (c : Cell) : Type 0 where
   pub whole : c.slot ≡ None
-  pub high : (nodes : List Node) → IsReady objects nodes v → HasHeight height (resolved (operand_held objects) nodes c)
   pub unread : is_virtual_name v c.name ≡ false → (n : Node) (d : Cell) → In n v.steps.items → reads n d ≡ true → d.name ≢ c.name
 
--- a node that writes images of this height, whatever they hold
+-- a node that writes images of this height, whatever they hold, or counts one
 pub record SuitsBands (objects : List Named) (v : Verified) (height : ℕ) (n : Node) : Type 0 where
-  pub image : (parameters n.function).output ≡ kind.Image
+  pub image : counts n ≡ false → (parameters n.function).output ≡ kind.Image
   pub plain : accumulates n.function ≡ false
-  pub outputs : All (IsBandOutput objects v height) (outputs n)
+  pub heights : All (IsHigh objects v height) (banded n)
+  pub outputs : All (IsBandOutput v) (outputs n)
 
--- where the outputs of a node are valid in the end, which runs in bands after these nodes, whose outputs are valid there
+-- where the images that a node writes are valid in the end, which runs in bands after these nodes, whose outputs are valid there
 abbrev pub IsArea : List Named → List Node → List Rectangle → Node → Rectangle → Type 0
 IsArea objects before areas n area =
     (nodes : List Node) (v : Verified) (height beside : ℕ) (after : List Node) → RunsInBands objects nodes v height beside → v.steps.items ≡ before ++ n ∷ after
-    → AreAreas (final_of objects nodes v) before areas → All (λ c. (image_held (final_of objects nodes v) c).valid ≡ area) (outputs n)
+    → AreAreas (final_of objects nodes v) before areas → counts n ≡ false → All (λ c. (image_held (final_of objects nodes v) c).valid ≡ area) (outputs n)
 
 -- where what a node writes is valid that has one input, which is valid here
 abbrev pub area_alone_of : Function → Border → Rectangle → Rectangle

@@ -1,24 +1,29 @@
 -- Nodes that run on what their cells hold, and what they write.
-use Rattle.std.specs.Prelude.{ℕ, ◌≡◌, ◌≢◌, IsTrue, is_some, ⊤, List, Option, Some, None, IfSome}
+use Rattle.std.specs.Prelude.{ℕ, ◌≡◌, ◌≢◌, IsTrue, is_some, ⊤, List, [], Option, Some, None, IfSome}
 use Rattle.std.specs.Option.{option_map, option_and_then}
+use Rattle.vx_base.specs.declared.format.Format.{Format}
 use Rattle.vx_base.specs.declared.format.Format.TheVariants.{S16}
 use Rattle.vx_base.specs.declared.kind.Kind.{Kind}
 use Rattle.vx_base.specs.declared.kind.Kind.TheVariants as kind
 use Rattle.vx_base.specs.declared.node.Node.{Node}
 use Rattle.vx_base.specs.declared.output.Output.{Output}
 use Rattle.vx_base.specs.Cell.{Cell}
+use Rattle.vx_base.specs.Description.{Description}
 use Rattle.vx_base.specs.Formats.{takes_formats}
 use Rattle.vx_base.specs.Function.{parameters}
-use Rattle.vx_base.specs.Image.{ImageValue}
+use Rattle.vx_base.specs.Image.{ImageValue, image_over}
 use Rattle.vx_base.specs.Node.{IsNode}
 use Rattle.vx_base.specs.Object.{ObjectValue, IsObject, object_kind, object_format}
-use Rattle.vx_base.specs.Outputs.{node_output}
+use Rattle.vx_base.specs.Outputs.{node_image, node_output}
 use Rattle.vx_base.specs.Pixelwise.{from_two, formula_of_two}
+use Rattle.vx_base.specs.Rectangle.{empty}
 use Rattle.vx_base.specs.Statistics.{histogram}
 use Rattle.image_core.specs.Fits.{HaveSameSize, SecondHasSize}
+use Rattle.image_core.specs.Second.{second_object}
 use Rattle.object_table.specs.Named.{Named, held, with_object}
 use Rattle.object_table.specs.Object.{image_value, distribution_value, with_counts}
 use Rattle.object_table.specs.Table.{cell_object, HoldsImage}
+use Rattle.graph_run.specs.declared.step.Making.{Making}
 
 -- a cell holds an object
 abbrev pub Holds : List Named → Cell → Type 0
@@ -31,6 +36,14 @@ pub record CanRunTo (n : Node) (a : ImageValue) (second : Option ObjectValue) (o
   pub formats : IsTrue (takes_formats n.function a.format (option_and_then object_format second) (Some out.format))
   pub size : HaveSameSize out a
   pub second_size : SecondHasSize a second
+
+-- so can a node with what it reads
+abbrev pub CanMake : Making → Description → Type 0
+CanMake m d = CanRunTo m.node.now m.first (second_object m.second) (image_over d empty [])
+
+-- what it makes then for its output, an image of this format
+abbrev pub made_as : Format → Making → ImageValue
+made_as format m = node_image m.node.now m.which format m.first (second_object m.second)
 
 -- what comes of an image of S16 to which a node adds what it gives of another
 abbrev pub added_to : Node → ImageValue → ImageValue → ImageValue

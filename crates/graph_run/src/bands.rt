@@ -1,17 +1,16 @@
 //! Graphs that run in bands of rows: each band goes through all nodes before the next one does, so
 //! that what lies between two nodes stays in the cache.
-ghost use Rattle.std.specs.Prelude.{◌≡◌, ◌≤◌, ◌<◌, ◌+◌, ◌-◌, ◌*◌, ◌++◌, []};
+ghost use Rattle.std.specs.Prelude.{◌≡◌, ◌≤◌, ◌<◌, ◌+◌, ◌-◌, ◌*◌, ◌++◌};
 ghost use Rattle.std.specs.Prelude.{ℕ, List, map, pos, take, drop, length};
-ghost use Rattle.std.specs.Prelude.{All, IfSome, IsSome, slice_get, None, Some, false};
+ghost use Rattle.std.specs.Prelude.{All, IfSome, IsSome, slice_get, None, Some, true, false};
 ghost use Rattle.vx_base.specs.declared.format.Format.TheVariants.{U8, S16, U32};
 ghost use Rattle.vx_base.specs.declared.function.Function.TheVariants.{Sobel};
 ghost use Rattle.vx_base.specs.declared.node.Node.{Node as NodeFields};
 ghost use Rattle.vx_base.specs.declared.output.Output.TheVariants as outputs;
-ghost use Rattle.vx_base.specs.Cell.{Cell};
+ghost use Rattle.vx_base.specs.Cell.{Cell, cell_of};
 ghost use Rattle.vx_base.specs.Function.{accumulates};
-ghost use Rattle.vx_base.specs.Image.{IsImage, image_over, band, at};
+ghost use Rattle.vx_base.specs.Image.{band, at};
 ghost use Rattle.vx_base.specs.Object.{ImageObject, IsObject};
-ghost use Rattle.vx_base.specs.Outputs.{node_image};
 ghost use Rattle.vx_base.specs.Picture.{values, samples_format};
 ghost use Rattle.vx_base.specs.Rectangle.{empty};
 ghost use Rattle.image_core.specs.Bands.{IsInRows};
@@ -19,7 +18,8 @@ ghost use Rattle.image_core.specs.Second.{second_object};
 ghost use Rattle.image_core.specs.Target.{written, SameSlices};
 ghost use Rattle.object_table.specs.Context.{with_objects};
 ghost use Rattle.object_table.specs.Named.{Named, object_held, with_object};
-ghost use Rattle.object_table.specs.Table.{image_held};
+ghost use Rattle.object_table.specs.Object.{image_value};
+ghost use Rattle.object_table.specs.Table.{image_held, object_under};
 ghost use Rattle.graph_verify.specs.Outlines.{resolved};
 ghost use Rattle.graph_verify.specs.declared.operand.Operand.{Operand};
 ghost use Rattle.graph_verify.specs.declared.known.VirtualOutput.{VirtualOutput};
@@ -28,9 +28,11 @@ ghost use Rattle.graph_verify.specs.Verified.{IsVerified};
 ghost use Rattle.buffer_plan.specs.Places.{told};
 ghost use Rattle.buffer_plan.specs.Plan.{IsPlan};
 ghost use Rattle.graph_run.specs.Bands.{SeesParts, part_made, with_band, made_seen, with_seen};
+ghost use Rattle.graph_run.specs.Bands.{CanCount, after_node, counted_before, counted_too, with_counted};
+ghost use Rattle.graph_run.specs.Bands.{band_seen, counts, seen};
 ghost use Rattle.graph_run.specs.Bands.{IsWithinRows, IsSeen, AreSeen, IsStrip};
 ghost use Rattle.graph_run.specs.Bands.{output_part, RunsInBands, final_of};
-ghost use Rattle.graph_run.specs.Bands.{IsFinished, AreAreas, is_image_held, with_area};
+ghost use Rattle.graph_run.specs.Bands.{IsFinished, AreAreas, is_image_held, with_area, rows_made};
 ghost use Rattle.graph_run.specs.Graph.{run_of_graph};
 ghost use Rattle.graph_run.specs.Lasting.{Lasts};
 ghost use Rattle.graph_run.specs.Operands.{operand_held, IsReady};
@@ -39,24 +41,38 @@ ghost use Rattle.graph_run.specs.declared.bands.Bands.{Bands as HowBands};
 ghost use Rattle.graph_run.specs.Slots.{room_of, planned_rooms, plan_in, most_rows};
 ghost use Rattle.graph_run.specs.Slots.{AreEmpty, AreShared, claimed_at};
 ghost use Rattle.graph_run.specs.Stage.{scene, slot_of, IsStage, IsArranged, Keeps};
-ghost use Rattle.graph_run.specs.Steps.{AreApart, CanRunTo};
+ghost use Rattle.graph_run.specs.Steps.{AreApart, CanMake, made_as};
 ghost use Rattle.graph_run.specs.Turns.{AreVirtual};
 
 use crate::kernel::run_node;
 use crate::runs::place_of;
 use crate::stage::Stage;
-use crate::step::{write_gradients, write_samples};
+use crate::step::{Making, distribution_of, write_gradients, write_samples};
 use buffer_plan::Plan;
 use graph_verify::{Verified, VirtualOutput};
 use image_core::{Band, Image, ImageMut, Second};
-use object_table::{Content, Table};
-use vx_base::{Desc, Node, ObjRef, Output, Rect, Samples};
+use object_table::{Content, Distribution, Table};
+use stat_kernels::add_histogram;
+use vx_base::{Desc, Function, GREATEST_BINS, Node, ObjRef, Output, Rect, Samples};
 
 /// Rows that nodes see, and the band of them that is right in the end.
 #[derive(Clone, Copy)]
 pub struct Strip {
     pub rows: Band,
     pub band: Band,
+}
+
+impl Strip {
+    /// The band among the rows that nodes see.
+    fn band_seen(self) -> Band
+        requires { IsWithinRows self }
+        ensures { result ≡ band_seen self }
+    {
+        Band {
+            start: self.band.start - self.rows.start,
+            count: self.band.count,
+        }
+    }
 }
 
 /// How a graph runs in bands of rows.
@@ -90,6 +106,7 @@ pub fn run_bands(stage: &mut Stage, verified: &Verified, plan: &Plan, bands: &Ba
     requires plan { IsPlan verified.now.steps.items verified.now.virtual_outputs.items
         (told plan.now) }
     requires some { 1 ≤ bands.now.rows }
+    requires high { 1 ≤ bands.now.height }
     requires ready { (nodes : List NodeFields) ×
         IsReady stage.old.table.objects nodes verified.now }
     requires bands { (nodes : List NodeFields) →
@@ -151,6 +168,13 @@ fn clear_slots(stage: &mut Stage)
     }
 }
 
+/// Whether a node writes what it counts of an image, which it can do band by band.
+pub fn counts(node: &Node) -> bool
+    ensures { result ≡ counts node.now }
+{
+    matches!(node.function, Function::Histogram)
+}
+
 /// Runs all nodes on the rows of a strip. Before a node runs, the virtual images that it writes
 /// claim their slots: they stand there by these rows.
 fn run_strip(stage: &mut Stage, verified: &Verified, plan: &Plan, bands: &Bands, strip: Strip)
@@ -179,7 +203,7 @@ fn run_strip(stage: &mut Stage, verified: &Verified, plan: &Plan, bands: &Bands,
     for node in &verified.steps {
         claim_part(stage, verified, plan, node.out1, strip.rows);
         claim_part(stage, verified, plan, node.out2, strip.rows);
-        run_outputs(stage, node, strip);
+        run_on_strip(stage, node, strip);
     }
 }
 
@@ -225,7 +249,85 @@ fn claim_part(
     stage.claim(at, VirtualOutput { cell, desc });
 }
 
-/// Runs a node to its outputs.
+/// Runs a node on the rows of a strip.
+fn run_on_strip(stage: &mut Stage, node: &Node, strip: Strip)
+    requires stage { IsStage stage.old }
+    requires strip { IsWithinRows strip }
+    requires seen { counts node.now ≡ false → AreSeen strip stage.old node.now }
+    requires counted { counts node.now ≡ true → IfSome node.now.out1
+        (λ cell. CanCount strip stage.old node.now.in1 cell.name) }
+    ensures value { scene stage.new ≡ with_objects (scene stage.old)
+        (after_node strip stage.old node.now) }
+    ensures stage { IsStage stage.new }
+    ensures keeps { Keeps stage.old stage.new }
+{
+    if counts(node) {
+        count_output(stage, node, strip);
+    } else {
+        run_outputs(stage, node, strip);
+    }
+}
+
+/// Counts the band for the output of a node, if it is there.
+fn count_output(stage: &mut Stage, node: &Node, strip: Strip)
+    requires stage { IsStage stage.old }
+    requires strip { IsWithinRows strip }
+    requires counts { IfSome node.now.out1
+        (λ cell. CanCount strip stage.old node.now.in1 cell.name) }
+    ensures value { scene stage.new ≡ with_objects (scene stage.old)
+        (with_counted strip stage.old node.now.in1 node.now.out1 (scene stage.old).objects) }
+    ensures stage { IsStage stage.new }
+    ensures keeps { Keeps stage.old stage.new }
+{
+    let Some(output) = node.out1 else {
+        return;
+    };
+    count_band(stage, node.in1, output.name(), strip);
+}
+
+/// Counts the valid samples of the band's rows of a U8 image, beside those of the bands above, in
+/// the bins of the distribution under a name.
+fn count_band(stage: &mut Stage, input: ObjRef, output: u32, strip: Strip)
+    requires stage { IsStage stage.old }
+    requires strip { IsWithinRows strip }
+    requires counts { CanCount strip stage.old input output }
+    ensures value { scene stage.new ≡ with_objects (scene stage.old)
+        (with_object (scene stage.old).objects (cell_of output)
+        (counted_too strip (image_value (seen strip.rows stage.old input))
+        (object_under (scene stage.old).objects output))) }
+    ensures stage { IsStage stage.new }
+    ensures keeps { Keeps stage.old stage.new }
+{
+    let distribution = match stage.table.get_held(output) {
+        Some(object) => distribution_of(object),
+        None => unreachable!(),
+    };
+    let bins = distribution.bins();
+    let mut room = [0; GREATEST_BINS];
+    let counts = &mut room[..usize::from(bins.bins())];
+    begin_counts(distribution, strip, counts);
+    add_histogram(
+        &stage.part(input, strip.rows),
+        strip.band_seen(),
+        bins,
+        counts,
+    );
+    stage.table.set_counts(output, counts);
+}
+
+/// What a distribution has counted of the bands above: nothing where there are none.
+fn begin_counts(distribution: &Distribution, strip: Strip, counts: &mut [u32])
+    requires { length counts.old ≡ distribution.now.bins.bins }
+    ensures { counts.new ≡ counted_before strip distribution.now }
+{
+    if strip.band.start == 0 {
+        counts.fill(0);
+    } else {
+        counts.copy_from_slice(distribution.counts());
+    }
+}
+
+/// Runs a node to its outputs, which are images.
 fn run_outputs(stage: &mut Stage, node: &Node, strip: Strip)
     requires stage { IsStage stage.old }
     requires strip { IsWithinRows strip }
@@ -326,7 +428,13 @@ fn write_part(stage: &mut Stage, node: &Node, which: Output, output: ObjRef, row
 {
     let (desc, mut samples) = stage.take(output);
     let (first, second) = stage.inputs(node, rows);
-    let valid = write_samples(desc, &mut samples, node, which, &first, &second);
+    let making = Making {
+        node,
+        which,
+        first,
+        second,
+    };
+    let valid = write_samples(desc, &mut samples, &making);
     stage.put(output, samples, valid);
 }
 
@@ -348,157 +456,123 @@ fn write_band(stage: &mut Stage, node: &Node, which: Output, output: ObjRef, str
     let (desc, mut samples) = stage.take(output);
     let (first, second) = stage.inputs(node, strip.rows);
     let part = Desc::with_sides(desc.width(), strip.rows.count, desc.format());
-    write_rows(part, &mut samples, strip, node, which, &first, &second);
+    let making = Making {
+        node,
+        which,
+        first,
+        second,
+    };
+    write_rows(part, &mut samples, strip, &making);
     stage.put(output, samples, desc.whole());
 }
 
 /// Writes the band's rows of what a node makes of the rows that it sees, an image of this
 /// description; all rows of the image to which they belong are there.
-fn write_rows(
-    part: Desc,
-    samples: &mut Samples,
-    strip: Strip,
-    node: &Node,
-    which: Output,
-    first: &Image<'_>,
-    second: &Second<'_>,
-)
-    requires function { accumulates node.now.function ≡ false }
+fn write_rows(part: Desc, samples: &mut Samples, strip: Strip, making: &Making<'_, '_, '_>)
+    requires function { accumulates making.now.node.now.function ≡ false }
     requires format { samples_format samples.old ≡ part.format }
     requires strip { IsWithinRows strip }
     requires height { part.height ≡ strip.rows.count }
     requires room { (strip.band.start + strip.band.count) * part.width
         ≤ length (values samples.old) }
-    requires can_run { CanRunTo node.now first.now (second_object second.now)
-        (image_over part empty []) }
+    requires can_run { CanMake making.now part }
     ensures samples { values samples.new
         ≡ take (strip.band.start * part.width) (values samples.old)
         ++ band part.width (strip.band.start - strip.rows.start) strip.band.count
-        (at (node_image node.now which part.format first.now (second_object second.now)))
+        (at (made_as part.format making.now))
         ++ drop ((strip.band.start + strip.band.count) * part.width) (values samples.old) }
     ensures format { samples_format samples.new ≡ samples_format samples.old }
 {
     let width = usize::from(part.width());
     let start = usize::from(strip.band.start) * width;
     let count = usize::from(strip.band.count) * width;
-    let rows = Band {
-        start: strip.band.start - strip.rows.start,
-        count: strip.band.count,
-    };
+    let rows = strip.band_seen();
     match samples {
         Samples::U8(samples) => {
             let (_, rest) = samples.split_at_mut(start);
             let (to, _) = rest.split_at_mut(count);
-            rows_u8(part, rows, to, node, which, first, second);
+            rows_u8(part, rows, to, making);
         }
         Samples::S16(samples) => {
             let (_, rest) = samples.split_at_mut(start);
             let (to, _) = rest.split_at_mut(count);
-            rows_s16(part, rows, to, node, which, first, second);
+            rows_s16(part, rows, to, making);
         }
         Samples::U32(samples) => {
             let (_, rest) = samples.split_at_mut(start);
             let (to, _) = rest.split_at_mut(count);
-            rows_u32(part, rows, to, node, which, first, second);
+            rows_u32(part, rows, to, making);
         }
     }
 }
 
 /// Writes rows of one of a node's outputs, an image.
-fn run_rows(
-    node: &Node,
-    which: Output,
-    first: &Image<'_>,
-    second: &Second<'_>,
-    output: &mut ImageMut<'_>,
-)
-    requires { CanRun node.now first.now (second_object second.now) output.old }
+fn run_rows(making: &Making<'_, '_, '_>, output: &mut ImageMut<'_>)
+    requires { CanRun making.now.node.now making.now.first (second_object making.now.second)
+        output.old }
     ensures format { (written output.new).format ≡ (written output.old).format }
     ensures samples { (written output.new).samples ≡ band (written output.old).width
-        output.old.rows.start output.old.rows.count (at (node_image node.now which
-        (written output.old).format first.now (second_object second.now))) }
+        output.old.rows.start output.old.rows.count
+        (at (made_as (written output.old).format making.now)) }
     ensures slices { SameSlices output.old output.new }
 {
-    run_node(node, which, first, second, output);
+    run_node(
+        making.node,
+        making.which,
+        &making.first,
+        &making.second,
+        output,
+    );
 }
 
-/// Runs a node to rows of an output in one format.
-macro_rules! run_to_rows {
-    ($desc:expr, $rows:expr, $out:expr, $node:expr, $which:expr, $first:expr, $second:expr) => {{
-        let mut output = ImageMut::of_rows($desc, $rows, $out);
-        run_rows($node, $which, $first, $second, &mut output);
+/// Writes rows of an output in one format.
+macro_rules! write_rows_in_format {
+    ($desc:expr, $rows:expr, $samples:expr, $making:expr) => {{
+        let mut output = ImageMut::of_rows($desc, $rows, $samples);
+        run_rows($making, &mut output);
     }};
 }
 
 /// Writes rows of a U8 output.
-fn rows_u8(
-    desc: Desc,
-    rows: Band,
-    samples: &mut [u8],
-    node: &Node,
-    which: Output,
-    first: &Image<'_>,
-    second: &Second<'_>,
-)
-    requires function { accumulates node.now.function ≡ false }
+fn rows_u8(desc: Desc, rows: Band, samples: &mut [u8], making: &Making<'_, '_, '_>)
+    requires function { accumulates making.now.node.now.function ≡ false }
     requires format { desc.format ≡ U8 }
     requires rows { IsInRows desc.height rows }
     requires size { length samples.old ≡ rows.count * desc.width }
-    requires can_run { CanRunTo node.now first.now (second_object second.now)
-        (image_over desc empty []) }
-    ensures { map pos samples.new ≡ band desc.width rows.start rows.count
-        (at (node_image node.now which U8 first.now (second_object second.now))) }
+    requires can_run { CanMake making.now desc }
+    ensures { map pos samples.new ≡ rows_made desc rows making.now }
 {
-    run_to_rows!(desc, rows, samples, node, which, first, second);
+    write_rows_in_format!(desc, rows, samples, making);
 }
 
 /// Writes rows of an S16 output, as `rows_u8` does.
-fn rows_s16(
-    desc: Desc,
-    rows: Band,
-    samples: &mut [i16],
-    node: &Node,
-    which: Output,
-    first: &Image<'_>,
-    second: &Second<'_>,
-)
-    requires function { accumulates node.now.function ≡ false }
+fn rows_s16(desc: Desc, rows: Band, samples: &mut [i16], making: &Making<'_, '_, '_>)
+    requires function { accumulates making.now.node.now.function ≡ false }
     requires format { desc.format ≡ S16 }
     requires rows { IsInRows desc.height rows }
     requires size { length samples.old ≡ rows.count * desc.width }
-    requires can_run { CanRunTo node.now first.now (second_object second.now)
-        (image_over desc empty []) }
-    ensures { samples.new ≡ band desc.width rows.start rows.count
-        (at (node_image node.now which S16 first.now (second_object second.now))) }
+    requires can_run { CanMake making.now desc }
+    ensures { samples.new ≡ rows_made desc rows making.now }
 {
-    run_to_rows!(desc, rows, samples, node, which, first, second);
+    write_rows_in_format!(desc, rows, samples, making);
 }
 
 /// Writes rows of a U32 output, as `rows_u8` does.
-fn rows_u32(
-    desc: Desc,
-    rows: Band,
-    samples: &mut [u32],
-    node: &Node,
-    which: Output,
-    first: &Image<'_>,
-    second: &Second<'_>,
-)
-    requires function { accumulates node.now.function ≡ false }
+fn rows_u32(desc: Desc, rows: Band, samples: &mut [u32], making: &Making<'_, '_, '_>)
+    requires function { accumulates making.now.node.now.function ≡ false }
     requires format { desc.format ≡ U32 }
     requires rows { IsInRows desc.height rows }
     requires size { length samples.old ≡ rows.count * desc.width }
-    requires can_run { CanRunTo node.now first.now (second_object second.now)
-        (image_over desc empty []) }
-    ensures { map pos samples.new ≡ band desc.width rows.start rows.count
-        (at (node_image node.now which U32 first.now (second_object second.now))) }
+    requires can_run { CanMake making.now desc }
+    ensures { map pos samples.new ≡ rows_made desc rows making.now }
 {
-    run_to_rows!(desc, rows, samples, node, which, first, second);
+    write_rows_in_format!(desc, rows, samples, making);
 }
 
 /// Makes the rectangles of the client's images that the nodes write what they are in the end.
 fn set_areas(table: &mut Table, verified: &Verified, bands: &Bands)
     requires objects { All (λ o. IsObject o.object) table.old.objects }
+    requires high { 1 ≤ bands.now.height }
     requires runs { (objects : List Named) × (nodes : List NodeFields) ×
         RunsInBands objects nodes verified.now bands.now.height bands.now.beside ×
         AreAreas (final_of objects nodes verified.now) verified.now.steps.items

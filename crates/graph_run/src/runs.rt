@@ -90,6 +90,7 @@ fn run_nodes(stage: &mut Stage, verified: &Verified, plan: &Plan, bands: Option<
     requires plan { IsPlan verified.now.steps.items verified.now.virtual_outputs.items
         (told plan.now) }
     requires rows { IfSome bands (λ b. 1 ≤ b.rows) }
+    requires high { IfSome bands (λ b. 1 ≤ b.height) }
     requires bands { IfSome bands (λ b. (nodes : List NodeFields) →
         IsReady stage.old.table.objects nodes verified.now →
         RunsInBands stage.old.table.objects nodes verified.now b.height b.beside) }

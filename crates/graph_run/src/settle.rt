@@ -9,7 +9,7 @@ ghost use Rattle.vx_base.specs.declared.node.Node.{Node as NodeFields};
 ghost use Rattle.vx_base.specs.declared.kind.Kind.TheVariants as kind;
 ghost use Rattle.vx_base.specs.Cell.{Cell};
 ghost use Rattle.vx_base.specs.Description.{IsDescription};
-ghost use Rattle.vx_base.specs.Function.{parameters};
+ghost use Rattle.vx_base.specs.Function.{parameters, accumulates};
 ghost use Rattle.vx_base.specs.Node.{inputs};
 ghost use Rattle.vx_base.specs.Object.{IsObject};
 ghost use Rattle.object_table.specs.Delay.{object_in};
@@ -22,11 +22,11 @@ ghost use Rattle.graph_verify.specs.Members.{In};
 ghost use Rattle.graph_verify.specs.Outlines.{resolved};
 ghost use Rattle.node_rows.specs.Reach.{matrix_in};
 ghost use Rattle.graph_run.specs.Bands.{RunsInBands, AreAreas, final_of, is_virtual_name};
-ghost use Rattle.graph_run.specs.Bands.{reach_of, rows_beside, HasHeight};
+ghost use Rattle.graph_run.specs.Bands.{banded, counts, reach_of, rows_beside};
 ghost use Rattle.graph_run.specs.Operands.{operand_held, IsReady};
-ghost use Rattle.graph_run.specs.Settle.{IsBandOutput, SuitsBands, IsArea, area_alone};
+ghost use Rattle.graph_run.specs.Settle.{IsBandOutput, IsHigh, SuitsBands, IsArea, area_alone};
 
-use crate::bands::Bands;
+use crate::bands::{Bands, counts};
 use crate::verify::operand_held;
 use border_rows::window_valid;
 use buffer_plan::steps_before;
@@ -66,9 +66,9 @@ const ROWS_FOR_ONE_BESIDE: u32 = 16;
 const LEAST_FOR_ONE_BESIDE: u16 = 4;
 
 /// How a verified graph runs in bands of rows. `None`: its nodes run one after another on whole
-/// images: these are small, or of several heights; a node looks at all rows of an image, adds to
-/// one, or reads an image of the client's that another writes; or nodes look further up and down
-/// together than pays.
+/// images: these are small, or of several heights; a node looks at all rows of an image at once,
+/// adds to one, or reads an image of the client's that another writes; or nodes look further up and
+/// down together than pays.
 pub fn bands_of(
     alloc: Global,
     table: &Table,
@@ -125,13 +125,10 @@ fn are_described(outputs: &[VirtualOutput])
     }
 }
 
-/// The description of what the first step writes, if that is an image.
+/// The description of what the first step reads, if that is an image.
 fn first_desc(table: &Table, verified: &Verified) -> Option<Desc> {
     let node = verified.steps.first()?;
-    match (node.out1, node.out2) {
-        (Some(cell), _) | (None, Some(cell)) => desc_of(table, verified, cell),
-        (None, None) => None,
-    }
+    desc_of(table, verified, node.in1)
 }
 
 /// The description of a cell that nodes of a graph name, if it is an image.
@@ -176,11 +173,15 @@ fn rows_beside(table: &Table, steps: &[Node]) -> Option<u16>
     Some(beside)
 }
 
-/// How many rows up and down a node looks. `None`: it looks at all rows.
+/// How many rows up and down a node looks, none where it counts. `None`: it looks at all rows.
 fn reach_of(table: &Table, node: &Node) -> Option<u16>
     ensures { result ≡ reach_of table.now.objects node.now }
 {
-    reach(node.function, matrix_of(table, node))
+    if counts(node) {
+        Some(0)
+    } else {
+        reach(node.function, matrix_of(table, node))
+    }
 }
 
 /// The matrix that is the second input of a node.
@@ -200,7 +201,7 @@ fn matrix_of<'a>(table: &'a Table, node: &Node) -> Option<&'a Convolution>
 
 // ---- nodes
 
-/// Whether all nodes write images of this height, whatever these hold.
+/// Whether all nodes write images of this height, whatever these hold, or count one.
 fn all_suit(table: &Table, verified: &Verified, height: u16) -> bool
     ensures { result ≡ true →
         All (SuitsBands table.now.objects verified.now height) verified.now.steps.items }
@@ -213,35 +214,59 @@ fn all_suit(table: &Table, verified: &Verified, height: u16) -> bool
     true
 }
 
-/// Whether a node writes images of this height, whatever they hold.
+/// Whether a node writes images of this height, whatever they hold, or counts one.
 fn suits(table: &Table, verified: &Verified, height: u16, node: &Node) -> bool
     ensures { result ≡ true → SuitsBands table.now.objects verified.now height node.now }
 {
-    node.function.parameters().output == Kind::Image
-        && !node.function.accumulates()
-        && output_suits(table, verified, height, node.out1)
-        && output_suits(table, verified, height, node.out2)
+    writes_in_bands(node)
+        && are_high(table, verified, height, node)
+        && output_suits(verified, node.out1)
+        && output_suits(verified, node.out2)
 }
 
-/// Whether an output, if it is there, is an image of this height in no slot, which no node reads
-/// unless it is virtual.
-fn output_suits(table: &Table, verified: &Verified, height: u16, output: Option<ObjRef>) -> bool
-    ensures { result ≡ true →
-        IfSome output (IsBandOutput table.now.objects verified.now height) }
+/// Whether a node writes images, whatever they hold, or counts one.
+fn writes_in_bands(node: &Node) -> bool
+    ensures image { result ≡ true → counts node.now ≡ false →
+        (parameters node.now.function).output ≡ kind.Image }
+    ensures plain { result ≡ true → accumulates node.now.function ≡ false }
 {
-    let Some(cell) = output else {
-        return true;
-    };
-    cell.slot().is_none()
-        && has_height(table, verified, height, cell)
-        && is_unread(verified, cell.name())
+    counts(node) || node.function.parameters().output == Kind::Image && !node.function.accumulates()
+}
+
+/// Whether the images that a node writes, or the one that it counts, are of this height.
+fn are_high(table: &Table, verified: &Verified, height: u16, node: &Node) -> bool
+    ensures { result ≡ true →
+        All (IsHigh table.now.objects verified.now height) (banded node.now) }
+{
+    if counts(node) {
+        return has_height(table, verified, height, node.in1);
+    }
+    is_high(table, verified, height, node.out1) && is_high(table, verified, height, node.out2)
+}
+
+/// Whether an output, if it is there, is an image of this height.
+fn is_high(table: &Table, verified: &Verified, height: u16, output: Option<ObjRef>) -> bool
+    ensures { result ≡ true → IfSome output (IsHigh table.now.objects verified.now height) }
+{
+    match output {
+        Some(cell) => has_height(table, verified, height, cell),
+        None => true,
+    }
+}
+
+/// Whether an output, if it is there, is in no slot, and no node reads it unless it is virtual.
+fn output_suits(verified: &Verified, output: Option<ObjRef>) -> bool
+    ensures { result ≡ true → IfSome output (IsBandOutput verified.now) }
+{
+    match output {
+        Some(cell) => cell.slot().is_none() && is_unread(verified, cell.name()),
+        None => true,
+    }
 }
 
 /// Whether a cell that nodes of a graph name is an image of this height.
 fn has_height(table: &Table, verified: &Verified, height: u16, cell: ObjRef) -> bool
-    ensures { result ≡ true → (nodes : List NodeFields) →
-        IsReady table.now.objects nodes verified.now →
-        HasHeight height (resolved (operand_held table.now.objects) nodes cell) }
+    ensures { result ≡ true → IsHigh table.now.objects verified.now height cell }
 {
     match desc_of(table, verified, cell) {
         Some(desc) => desc.height() == height,

@@ -26,18 +26,27 @@ ghost use Rattle.object_table.specs.Table.{object_under, IsUnder, cell_object, i
 ghost use Rattle.object_table.specs.Table.{HoldsImage};
 ghost use Rattle.graph_run.specs.Lasting.{Lasts};
 ghost use Rattle.graph_run.specs.Steps.{AreApart, Holds, CanRunTo, RunsTo, IsRead};
-ghost use Rattle.graph_run.specs.Steps.{added_to, counted_in, with_output};
+ghost use Rattle.graph_run.specs.Steps.{added_to, counted_in, with_output, CanMake, made_as};
 ghost use Rattle.graph_run.specs.Turns.{CanRunNow};
 ghost use Rattle.graph_run.specs.Stage.{scene, IsStage, IsArranged, Keeps, Stays};
 
 use crate::kernel::{run_sum, run_whole};
 use crate::stage::Stage;
 use image_core::{Image, ImageMut, Second};
-use object_table::{Content, Object, Table};
+use object_table::{Content, Distribution, Object, Table};
 use stat_kernels::{histogram, min_max};
 use std::mem;
-use vx_base::{Bins, Desc, GREATEST_BINS, Kind, Node, ObjRef, Output, Rect, Samples};
+use vx_base::{Desc, GREATEST_BINS, Kind, Node, ObjRef, Output, Rect, Samples};
 use window_kernels::sobel3;
+
+/// A node, which of its outputs it writes, and what it reads.
+#[derive(Drop)]
+pub struct Making<'n, 'f, 's> {
+    pub node: &'n Node,
+    pub which: Output,
+    pub first: Image<'f>,
+    pub second: Second<'s>,
+}
 
 /// Runs a node that nothing refuses on what its cells hold in a table. It takes no memory.
 pub fn run_once(table: &mut Table, node: &Node)
@@ -111,7 +120,13 @@ fn write_to(stage: &mut Stage, node: &Node, which: Output, output: ObjRef)
     let (desc, mut samples) = stage.take(output);
     let first = stage.image(node.in1);
     let second = second_held(stage, node.in2);
-    let valid = write_samples(desc, &mut samples, node, which, &first, &second);
+    let making = Making {
+        node,
+        which,
+        first,
+        second,
+    };
+    let valid = write_samples(desc, &mut samples, &making);
     stage.put(output, samples, valid);
 }
 
@@ -168,7 +183,7 @@ fn count_to(stage: &mut Stage, input: ObjRef, output: u32)
     ensures keeps { Keeps stage.old stage.new }
 {
     let bins = match stage.table.get_held(output) {
-        Some(object) => bins_of(object),
+        Some(object) => distribution_of(object).bins(),
         None => unreachable!(),
     };
     let mut room = [0; GREATEST_BINS];
@@ -177,13 +192,13 @@ fn count_to(stage: &mut Stage, input: ObjRef, output: u32)
     stage.table.set_counts(output, counts);
 }
 
-/// The bins of the distribution that an object is.
-fn bins_of(object: &Object) -> Bins
+/// The distribution that an object is.
+pub fn distribution_of(object: &Object) -> &Distribution
     requires { object_kind object.now ≡ kind.Distribution }
-    ensures { result ≡ (distribution_value object.now).bins }
+    ensures { result.now ≡ distribution_value object.now }
 {
     match object.content() {
-        Content::Distribution(distribution) => distribution.bins(),
+        Content::Distribution(distribution) => distribution,
         _ => unreachable!(),
     }
 }
@@ -256,23 +271,14 @@ pub fn second_of(object: &Object) -> Second<'_>
 }
 
 /// Writes the first samples, one for each place of an output, and gives its valid rectangle.
-pub fn write_samples(
-    desc: Desc,
-    samples: &mut Samples,
-    node: &Node,
-    which: Output,
-    first: &Image<'_>,
-    second: &Second<'_>,
-) -> Rect
-    requires function { accumulates node.now.function ≡ false }
+pub fn write_samples(desc: Desc, samples: &mut Samples, making: &Making<'_, '_, '_>) -> Rect
+    requires function { accumulates making.now.node.now.function ≡ false }
     requires format { samples_format samples.old ≡ desc.format }
     requires room { sample_count desc ≤ length (values samples.old) }
-    requires can_run { CanRunTo node.now first.now (second_object second.now)
-        (image_over desc empty []) }
-    ensures valid { result ≡ (node_image node.now which desc.format first.now
-        (second_object second.now)).valid }
+    requires can_run { CanMake making.now desc }
+    ensures valid { result ≡ (made_as desc.format making.now).valid }
     ensures samples { take (sample_count desc) (values samples.new)
-        ≡ (node_image node.now which desc.format first.now (second_object second.now)).samples }
+        ≡ (made_as desc.format making.now).samples }
     ensures format { samples_format samples.new ≡ desc.format }
     ensures count { length (values samples.new) ≡ length (values samples.old) }
 {
@@ -280,92 +286,68 @@ pub fn write_samples(
     match samples {
         Samples::U8(samples) => {
             let (part, _) = samples.split_at_mut(count);
-            run_u8(desc, part, node, which, first, second)
+            write_u8(desc, part, making)
         }
         Samples::S16(samples) => {
             let (part, _) = samples.split_at_mut(count);
-            run_s16(desc, part, node, which, first, second)
+            write_s16(desc, part, making)
         }
         Samples::U32(samples) => {
             let (part, _) = samples.split_at_mut(count);
-            run_u32(desc, part, node, which, first, second)
+            write_u32(desc, part, making)
         }
     }
 }
 
-/// Runs a node to samples of one format, and gives the rectangle that is then valid.
-macro_rules! run_on {
-    ($desc:expr, $samples:expr, $node:expr, $which:expr, $first:expr, $second:expr) => {{
+/// Writes samples of one format, and gives the rectangle that is then valid.
+macro_rules! write_in_format {
+    ($desc:expr, $samples:expr, $making:expr) => {{
         let mut output = ImageMut::new($desc, $samples);
-        run_whole($node, $which, $first, $second, &mut output);
+        run_whole(
+            $making.node,
+            $making.which,
+            &$making.first,
+            &$making.second,
+            &mut output,
+        );
         output.valid()
     }};
 }
 
 /// Writes the samples of a U8 output, and gives its valid rectangle.
-fn run_u8(
-    desc: Desc,
-    samples: &mut [u8],
-    node: &Node,
-    which: Output,
-    first: &Image<'_>,
-    second: &Second<'_>,
-) -> Rect
-    requires function { accumulates node.now.function ≡ false }
+fn write_u8(desc: Desc, samples: &mut [u8], making: &Making<'_, '_, '_>) -> Rect
+    requires function { accumulates making.now.node.now.function ≡ false }
     requires format { desc.format ≡ U8 }
     requires size { length samples.old ≡ sample_count desc }
-    requires can_run { CanRunTo node.now first.now (second_object second.now)
-        (image_over desc empty []) }
-    ensures valid { result ≡ (node_image node.now which U8 first.now
-        (second_object second.now)).valid }
-    ensures samples { map pos samples.new
-        ≡ (node_image node.now which U8 first.now (second_object second.now)).samples }
+    requires can_run { CanMake making.now desc }
+    ensures valid { result ≡ (made_as U8 making.now).valid }
+    ensures samples { map pos samples.new ≡ (made_as U8 making.now).samples }
 {
-    run_on!(desc, samples, node, which, first, second)
+    write_in_format!(desc, samples, making)
 }
 
-/// Writes the samples of an S16 output, as `run_u8` does.
-fn run_s16(
-    desc: Desc,
-    samples: &mut [i16],
-    node: &Node,
-    which: Output,
-    first: &Image<'_>,
-    second: &Second<'_>,
-) -> Rect
-    requires function { accumulates node.now.function ≡ false }
+/// Writes the samples of an S16 output, as `write_u8` does.
+fn write_s16(desc: Desc, samples: &mut [i16], making: &Making<'_, '_, '_>) -> Rect
+    requires function { accumulates making.now.node.now.function ≡ false }
     requires format { desc.format ≡ S16 }
     requires size { length samples.old ≡ sample_count desc }
-    requires can_run { CanRunTo node.now first.now (second_object second.now)
-        (image_over desc empty []) }
-    ensures valid { result ≡ (node_image node.now which S16 first.now
-        (second_object second.now)).valid }
-    ensures samples { samples.new ≡ (node_image node.now which S16 first.now
-        (second_object second.now)).samples }
+    requires can_run { CanMake making.now desc }
+    ensures valid { result ≡ (made_as S16 making.now).valid }
+    ensures samples { samples.new ≡ (made_as S16 making.now).samples }
 {
-    run_on!(desc, samples, node, which, first, second)
+    write_in_format!(desc, samples, making)
 }
 
-/// Writes the samples of a U32 output, as `run_u8` does.
-fn run_u32(
-    desc: Desc,
-    samples: &mut [u32],
-    node: &Node,
-    which: Output,
-    first: &Image<'_>,
-    second: &Second<'_>,
-) -> Rect
-    requires function { accumulates node.now.function ≡ false }
+/// Writes the samples of a U32 output, as `write_u8` does.
+fn write_u32(desc: Desc, samples: &mut [u32], making: &Making<'_, '_, '_>) -> Rect
+    requires function { accumulates making.now.node.now.function ≡ false }
     requires format { desc.format ≡ U32 }
     requires size { length samples.old ≡ sample_count desc }
-    requires can_run { CanRunTo node.now first.now (second_object second.now)
-        (image_over desc empty []) }
-    ensures valid { result ≡ (node_image node.now which U32 first.now
-        (second_object second.now)).valid }
-    ensures samples { map pos samples.new
-        ≡ (node_image node.now which U32 first.now (second_object second.now)).samples }
+    requires can_run { CanMake making.now desc }
+    ensures valid { result ≡ (made_as U32 making.now).valid }
+    ensures samples { map pos samples.new ≡ (made_as U32 making.now).samples }
 {
-    run_on!(desc, samples, node, which, first, second)
+    write_in_format!(desc, samples, making)
 }
 
 /// Adds what a node gives to the first samples, one for each place of an S16 image with this valid

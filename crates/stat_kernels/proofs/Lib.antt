@@ -2,6 +2,7 @@ mod Rows
 mod PlaceLaws
 mod CountLaws
 mod TallyLaws
+pub mod BandLaws
 mod LocatedLaws
 mod LaneSums
 mod SumLaws

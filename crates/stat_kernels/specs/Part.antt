@@ -1,6 +1,8 @@
 -- The valid part of an image.
-use Rattle.std.specs.Prelude.{◌≡◌, ◌+◌, ◌-◌, ◌<◌, ◌≤◌, ◌^◌}
+use Rattle.std.specs.Prelude.{◌≡◌, ◌+◌, ◌-◌, ◌<◌, ◌≤◌, ◌^◌, min, max}
 use Rattle.vx_base.specs.Image.{ImageValue}
+use Rattle.vx_base.specs.Rectangle.{Rectangle}
+use Rattle.image_core.specs.declared.band.Band.{Band}
 use Rattle.stat_kernels.specs.declared.part.Part.{Part}
 
 -- the columns and rows of the valid rectangle
@@ -15,3 +17,13 @@ pub record IsValidPart (image : ImageValue) (part : Part) : Type 0 where
   pub in_rows : part.bottom ≤ image.height
   pub columns_fit : part.x + part.count < 2 ^ 16
   pub rows_fit : part.bottom < 2 ^ 16
+
+-- the rows of a rectangle that are in a band
+abbrev pub band_of : Band → Rectangle → Rectangle
+band_of rows r =
+    let top = max r.y0 rows.start in
+    record { x0 = r.x0; y0 = top; x1 = r.x1; y1 = max top (min r.y1 (rows.start + rows.count)) }
+
+-- an image of which no other rows are valid
+abbrev pub valid_in : Band → ImageValue → ImageValue
+valid_in rows image = record image { valid = band_of rows image.valid }

@@ -4,11 +4,13 @@ ghost use Rattle.std.specs.Prelude.{slice_index, unsigned_abs};
 ghost use Rattle.std.specs.List.{All};
 ghost use Rattle.vx_base.specs.declared.format.Format.TheVariants.{U8};
 ghost use Rattle.vx_base.specs.Statistics.{valid_samples, histogram};
-ghost use Rattle.stat_kernels.specs.Counts.{count_at, count_in_all};
+ghost use Rattle.image_core.specs.Bands.{IsInRows};
+ghost use Rattle.stat_kernels.specs.Counts.{added, count_at, count_in_all};
+ghost use Rattle.stat_kernels.specs.Part.{valid_in};
 
 use crate::part::Part;
-use image_core::Image;
-use vx_base::Bins;
+use image_core::{Band, Image};
+use vx_base::{Bins, GREATEST_BINS};
 
 /// Counts one more sample of this value.
 fn count_one(counts: &mut [u32; 256], value: u8)
@@ -46,25 +48,55 @@ fn count_row(
     }
 }
 
-/// Counts the valid samples of a U8 image by their values.
+/// Counts the valid samples in these rows of a U8 image by their values.
 fn count_values(
     image: &Image<'_>,
+    rows: Band,
     first: &mut [u32; 256],
     second: &mut [u32; 256],
     third: &mut [u32; 256],
     fourth: &mut [u32; 256],
 )
     requires format { image.now.format ≡ U8 }
+    requires rows { IsInRows image.now.height rows }
     requires zeros { (v : ℕ) → count_in_all first.old second.old third.old fourth.old v ≡ 0 }
     ensures counted { (v : ℕ) → count_in_all first.new second.new third.new fourth.new v
-        ≡ count_at v (valid_samples image.now) }
-    ensures bytes { All (λ z. unsigned_abs z < 256) (valid_samples image.now) }
-    ensures few { length (valid_samples image.now) < 2 ^ 32 }
+        ≡ count_at v (valid_samples (valid_in rows image.now)) }
+    ensures bytes { All (λ z. unsigned_abs z < 256) (valid_samples (valid_in rows image.now)) }
+    ensures few { length (valid_samples (valid_in rows image.now)) < 2 ^ 32 }
 {
-    let part = Part::of(image);
+    let _limits = image.desc().height();
+    let part = Part::of(image).in_rows(rows);
     for y in part.top..part.bottom {
         let row = image.part_of_row::<u8>(part.x, y, part.count);
         count_row(row, first, second, third, fourth);
+    }
+}
+
+/// Counts the valid samples in these rows of a U8 image in bins, from zeros, whatever the counts
+/// were.
+fn count_in_bins(image: &Image<'_>, rows: Band, bins: Bins, counts: &mut [u32])
+    requires format { image.now.format ≡ U8 }
+    requires rows { IsInRows image.now.height rows }
+    requires size { length counts.old ≡ bins.bins }
+    ensures { counts.new ≡ histogram bins (valid_in rows image.now) }
+{
+    let (mut first, mut second) = ([0; 256], [0; 256]);
+    let (mut third, mut fourth) = ([0; 256], [0; 256]);
+    count_values(
+        image,
+        rows,
+        &mut first,
+        &mut second,
+        &mut third,
+        &mut fourth,
+    );
+    counts.fill(0);
+    for value in 0..256 {
+        if let Some(bin) = bins.bin_of(value as u8) {
+            let count = first[value] + second[value] + third[value] + fourth[value];
+            counts[usize::from(bin)] += count;
+        }
     }
 }
 
@@ -75,14 +107,23 @@ pub fn histogram(image: &Image<'_>, bins: Bins, counts: &mut [u32])
     requires size { length counts.old ≡ bins.bins }
     ensures { counts.new ≡ histogram bins image.now }
 {
-    let (mut first, mut second) = ([0; 256], [0; 256]);
-    let (mut third, mut fourth) = ([0; 256], [0; 256]);
-    count_values(image, &mut first, &mut second, &mut third, &mut fourth);
-    counts.fill(0);
-    for value in 0..256 {
-        if let Some(bin) = bins.bin_of(value as u8) {
-            let count = first[value] + second[value] + third[value] + fourth[value];
-            counts[usize::from(bin)] += count;
-        }
+    let _valid = image.valid();
+    count_in_bins(image, Band::whole(image.desc()), bins, counts);
+}
+
+/// Counts the valid samples in these rows of a U8 image in bins, beside what was counted before.
+pub fn add_histogram(image: &Image<'_>, rows: Band, bins: Bins, counts: &mut [u32])
+    requires format { image.now.format ≡ U8 }
+    requires rows { IsInRows image.now.height rows }
+    requires size { length counts.old ≡ bins.bins }
+    requires room { (k : ℕ) →
+        slice_index counts.old k + length (valid_samples (valid_in rows image.now)) < 2 ^ 32 }
+    ensures { counts.new ≡ added counts.old (histogram bins (valid_in rows image.now)) }
+{
+    let mut room = [0; GREATEST_BINS];
+    let more = &mut room[..usize::from(bins.bins())];
+    count_in_bins(image, rows, bins, more);
+    for k in 0..counts.len() {
+        counts[k] += more[k];
     }
 }

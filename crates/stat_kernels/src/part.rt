@@ -1,5 +1,9 @@
 //! The valid part of an image.
-use image_core::Image;
+ghost use Rattle.std.specs.Prelude.{◌+◌, ◌<◌, ◌^◌};
+ghost use Rattle.vx_base.specs.Image.{ImageValue};
+ghost use Rattle.image_core.specs.Bands.{IsInRows};
+
+use image_core::{Band, Image};
 
 /// Where the valid samples of an image stand: in each row from the top to above the bottom one, so
 /// many from column x on.
@@ -12,7 +16,7 @@ pub struct Part {
 }
 
 impl Part {
-    ghost use Rattle.stat_kernels.specs.Part.{IsValidPart};
+    ghost use Rattle.stat_kernels.specs.Part.{IsValidPart, valid_in};
 
     pub fn of(image: &Image<'_>) -> Part
         ensures { IsValidPart image.now result }
@@ -23,6 +27,20 @@ impl Part {
             count: usize::from(valid.x1() - valid.x0()),
             top: valid.y0(),
             bottom: valid.y1(),
+        }
+    }
+    /// The places of these rows alone.
+    pub fn in_rows(self, rows: Band) -> Part
+        requires { rows.start + rows.count < 2 ^ 16 }
+        ensures { (image : ImageValue) → IsInRows image.height rows → IsValidPart image self →
+            IsValidPart (valid_in rows image) result }
+    {
+        let top = self.top.max(rows.start);
+        Part {
+            x: self.x,
+            count: self.count,
+            top,
+            bottom: self.bottom.min(rows.start + rows.count).max(top),
         }
     }
 }

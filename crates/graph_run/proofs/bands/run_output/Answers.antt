@@ -1,5 +1,5 @@
 use Rattle.std.proofs.Common.{◌∙◌, ap}
-use Rattle.graph_run.proofs.Common.{ObjectValue, Context, with_objects, with_object, scene}
+use Rattle.graph_run.proofs.Common.{ObjectValue, with_objects, with_object, scene}
 use Rattle.graph_run.proofs.SeenLemmas.{found_here, found_nowhere, as_high_there, has_rows_there, part_becomes, band_becomes, seen_stage}
 use Rattle.graph_run.proofs.bands.run_output.Goals as goal
 

@@ -1,4 +1,4 @@
-use Rattle.std.proofs.Common.{Option, Some, IfSome, subst}
+use Rattle.std.proofs.Common.{Option, IfSome, subst}
 use Rattle.graph_run.proofs.Common.{Cell, IsSeen, AreApart}
 use Rattle.graph_run.proofs.PairLemmas.{has_two}
 use Rattle.graph_run.proofs.bands.run_outputs.Goals as goal

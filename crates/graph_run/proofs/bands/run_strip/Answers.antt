@@ -1,6 +1,6 @@
 use Rattle.std.proofs.Common.{◌<◌, ◌≤◌, ℕ, List, length, get_or, Some, refl, ap, sym, subst, ◌∙◌}
 use Rattle.graph_run.proofs.Common.{Node, Context, Named, told, operand_held, plan_in, most_rows, AreVirtual}
-use Rattle.graph_run.proofs.StripRunLemmas.{high, still_virtual, strip_begins, strip_ends, first_shared, node_sees, node_runs}
+use Rattle.graph_run.proofs.StripRunLemmas.{high, still_virtual, strip_begins, strip_ends, first_shared, node_may, node_runs}
 use Rattle.graph_run.proofs.bands.run_strip.Goals as goal
 
 abbrev objects_of : Context → List Named
@@ -64,18 +64,19 @@ claim_part-requires-in-loop-node-clause-shared c =
           (c.loop-node.invariant.course runs.0 runs.1 runs.2 c.requires.strip runs.3) c.claim_part.ensures.slots,
     )
 
-pub run_outputs-requires-clause-seen : goal.run_outputs-requires-clause-seen
-run_outputs-requires-clause-seen c =
+pub run_on_strip-requires : goal.run_on_strip-requires
+run_on_strip-requires c =
     let runs = c.requires.runs in
     let items = c.deref-node-items.ensures.value in
     let k = c.loop-node.node-index in
     let n = c.node-item.result in
     let claimed = c.claim_part-in-loop-node.new.stage in
-    node_sees runs.0 runs.1 _ _ _ runs.2 c.args.strip c.requires.strip (most_rows c.args.bands.now) c.requires.rows (told c.args.plan.now) c.requires.plan k n
+    let may = node_may runs.0 runs.1 _ _ _ runs.2 c.args.strip c.requires.strip (most_rows c.args.bands.now) c.requires.rows (told c.args.plan.now) c.requires.plan k n
     (subst (λ (l : List Node). k < length l) items c.loop-node-test.true) (c.node-item.is ∙ ap (λ (l : List Node). get_or l k n) items)
     c.loop-node.stage.table.objects c.loop-node.stage.slots.items c.claim_part.new.stage.slots.items claimed.slots.items
     (c.loop-node.invariant.course runs.0 runs.1 runs.2 c.requires.strip runs.3) c.claim_part.ensures.slots c.claim_part-in-loop-node.ensures.slots
-    claimed c.claim_part-in-loop-node.ensures.stage (ap objects_of (c.claim_part-in-loop-node.ensures.table ∙ c.claim_part.ensures.table)) refl
+    claimed c.claim_part-in-loop-node.ensures.stage (ap objects_of (c.claim_part-in-loop-node.ensures.table ∙ c.claim_part.ensures.table)) refl in
+    record { stage = c.claim_part-in-loop-node.ensures.stage; strip = c.requires.strip.within; seen = may.0; counted = may.1 }
 
 pub loop-node-preserved : goal.loop-node-preserved
 loop-node-preserved c =
@@ -84,15 +85,15 @@ loop-node-preserved c =
     let n = c.node-item.result in
     let claimed = c.claim_part-in-loop-node.new.stage in
     record {
-      stage = c.run_outputs.ensures.stage;
-      next = ap next_of c.run_outputs.ensures.value ∙ ap next_of (c.claim_part-in-loop-node.ensures.table ∙ c.claim_part.ensures.table) ∙ c.loop-node.invariant.next;
+      stage = c.run_on_strip.ensures.stage;
+      next = ap next_of c.run_on_strip.ensures.value ∙ ap next_of (c.claim_part-in-loop-node.ensures.table ∙ c.claim_part.ensures.table) ∙ c.loop-node.invariant.next;
       course = λ objects nodes r is_strip finished.
           node_runs objects nodes _ _ _ r c.args.strip is_strip (most_rows c.args.bands.now) c.requires.rows (told c.args.plan.now) c.requires.plan k n
           (subst (λ (l : List Node). k < length l) items c.loop-node-test.true) (c.node-item.is ∙ ap (λ (l : List Node). get_or l k n) items)
           c.loop-node.stage.table.objects c.loop-node.stage.slots.items c.claim_part.new.stage.slots.items claimed.slots.items
           (c.loop-node.invariant.course objects nodes r is_strip finished) c.claim_part.ensures.slots c.claim_part-in-loop-node.ensures.slots
           claimed c.claim_part-in-loop-node.ensures.stage (ap objects_of (c.claim_part-in-loop-node.ensures.table ∙ c.claim_part.ensures.table)) refl
-          c.run_outputs.new.stage c.run_outputs.ensures.stage c.run_outputs.ensures.value c.run_outputs.ensures.keeps;
+          c.run_on_strip.new.stage c.run_on_strip.ensures.stage c.run_on_strip.ensures.value c.run_on_strip.ensures.keeps;
     }
 
 pub returns-clause-rooms : goal.returns-clause-rooms

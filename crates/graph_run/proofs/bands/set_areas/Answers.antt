@@ -11,7 +11,7 @@ loop-k-init c =
     record {
       next = refl;
       settled = λ objects nodes runs areas finished.
-          begins_settled objects nodes c.args.verified.now c.args.bands.now.height c.args.bands.now.beside runs c.args.table.now.objects c.requires.objects finished;
+          begins_settled objects nodes c.args.verified.now c.args.bands.now.height c.args.bands.now.beside runs c.requires.high c.args.table.now.objects c.requires.objects finished;
     }
 
 pub set_area-requires : goal.set_area-requires

@@ -5,6 +5,7 @@ use Rattle.std.proofs.lemmas.List.Elements.{All-append, All-same}
 use Rattle.std.specs.Prelude.{◌==◌}
 use Rattle.vx_base.specs.Statistics.{samples_in}
 use Rattle.stat_kernels.specs.Counts.{count_at}
+use Rattle.stat_kernels.specs.Part.{valid_in}
 use Rattle.stat_kernels.proofs.Rows.{above}
 use Rattle.stat_kernels.proofs.PlaceLaws.{next_row, places_fit, length-samples, length-places, samples_fit}
 use Rattle.stat_kernels.proofs.TallyLaws.{row_counted}
@@ -13,7 +14,7 @@ use Rattle.stat_kernels.proofs.counts.count_values.Goals as goal
 pub count_row-requires : goal.count_row-requires
 count_row-requires c = record {
   room = λ v.
-      let image = c.args.image.now in
+      let image = valid_in c.args.rows c.args.image.now in
       let above_it = above image.valid c.loop-y.y in
       omega (
         arith,
@@ -21,21 +22,21 @@ count_row-requires c = record {
         count_by-le-length (λ z. unsigned_abs z == v) (samples_in above_it image),
         length-samples above_it image,
         length-places above_it,
-        places_fit image c.of-part.result c.of-part.ensures c.loop-y.y c.loop-y.auto.y c.loop-y-test.true,
+        places_fit image c.in_rows-part.result (c.in_rows-part.ensures c.args.image.now c.requires.rows c.of.ensures) c.loop-y.y c.loop-y.auto.y c.loop-y-test.true,
         c.part_of_row-row.ensures.len,
       );
 }
 
 pub loop-y-preserved : goal.loop-y-preserved
 loop-y-preserved c =
-    let image = c.args.image.now in
+    let image = valid_in c.args.rows c.args.image.now in
     let zs = samples_in (above image.valid c.loop-y.y) image in
     let ws = map pos c.part_of_row-row.result.now in
-    let next = next_row image c.of-part.result c.of-part.ensures c.loop-y.y ws c.loop-y.auto.y c.part_of_row-row.ensures.value in
+    let next = next_row image c.in_rows-part.result (c.in_rows-part.ensures c.args.image.now c.requires.rows c.of.ensures) c.loop-y.y ws c.loop-y.auto.y c.part_of_row-row.ensures.value in
     record {
       counted = λ v. row_counted v zs ws _ _ (c.loop-y.invariant.counted v) (c.count_row.ensures.counted v) ∙ ap (count_at v) next;
       bytes = All-same (λ z. unsigned_abs z < 256) _ _ (sym next) (All-append (λ z. unsigned_abs z < 256) zs ws c.loop-y.invariant.bytes c.count_row.ensures.bytes);
     }
 
 pub returns-clause-few : goal.returns-clause-few
-returns-clause-few c = samples_fit c.args.image.now c.of-part.result c.of-part.ensures
+returns-clause-few c = samples_fit (valid_in c.args.rows c.args.image.now) c.in_rows-part.result (c.in_rows-part.ensures c.args.image.now c.requires.rows c.of.ensures)

@@ -1,0 +1,234 @@
+-- Nodes that count bands of rows, and what they count.
+use Rattle.std.proofs.Common.{◌≡◌, ℕ, ℤ, ◌+◌, ◌-◌, ◌^◌, ◌<◌, ◌≤◌, Bool, true, false, List, [], ◌∷◌, length, replicate, slice_index, Option, Some, None, inl, inr, refl, sym, ap, ◌∙◌, arith, ◌==◌, ◌&&◌, if◌then◌else◌, nat_le, nat_lt, IsTrue, is_some, is_none, ◌||◌, option_map, option_and_then}
+use Rattle.graph_run.proofs.Common.{cases_Bool, eqb-true, nat_tests, and_parts, BinsValue, histogram, Format, U8, takes_formats, Function, Node, IsNode, parameters, In, Rectangle, ImageValue, IsImage, at, all_rows, ObjectValue, object_kind, Cell, cell_of, Named, object_held, in_slot, lasting, skeleton, length-map-range_with_len, Strip, IsWithinRows, counts, counts_rows}
+use Rattle.std.specs.Prelude.{find}
+use Rattle.vx_base.specs.declared.kind.Kind.TheVariants as kind
+use Rattle.vx_base.specs.Image.{run}
+use Rattle.vx_base.specs.Object.{DistributionObject, DistributionValue, IsDistribution}
+use Rattle.vx_base.specs.Rectangle.{inside}
+use Rattle.vx_base.specs.Statistics.{tallies, valid_samples}
+use Rattle.vx_base.proofs.TableLaws.{run-same}
+use Rattle.node_rows.specs.Parts.{StandsFor}
+use Rattle.stat_kernels.specs.Counts.{added}
+use Rattle.stat_kernels.specs.Part.{valid_in}
+use Rattle.stat_kernels.proofs.BandLaws.{bands_counted, bands_fit, none_counted, row_in, rows_at, samples_alike, tally_few}
+use Rattle.std.proofs.lemmas.List.{length-replicate}
+use Rattle.graph_run.proofs.CellLemmas.{IsReplacement}
+use Rattle.graph_run.proofs.RunLemmas.{has_of_node}
+use Rattle.graph_run.specs.Bands.{band_seen, counted_above, counted_before, counted_too}
+
+-- ---- who counts
+
+pub counts_output : (n : Node) → counts n ≡ true → (parameters n.function).output ≡ kind.Distribution
+counts_output n does = by_function n.function does
+  where
+    by_function : (f : Function) → counts_rows f ≡ true → (parameters f).output ≡ kind.Distribution
+    by_function f is = grind arith
+
+-- of bytes, to one output
+pub counts_bytes : (n : Node) → counts n ≡ true → (a : Format) (second out : Option Format) → IsTrue (takes_formats n.function a second out) → a ≡ U8
+counts_bytes n does a second out takes = by_function n.function does takes
+  where
+    by_function : (f : Function) → counts_rows f ≡ true → IsTrue (takes_formats f a second out) → a ≡ U8
+    by_function f is takes_it = grind arith
+
+pub counts_once : (n : Node) → IsNode n → counts n ≡ true → n.out2 ≡ None
+counts_once n node does = of_test n.out1 n.out2 (ap (λ b. if b then (is_some n.out1 || is_some n.out2) else (is_some n.out1 && is_none n.out2)) (sym (one n.function does)) ∙ (and_parts _ _ (has_of_node n node.shape)).1)
+  where
+    of_test : (a b : Option Cell) → (is_some a && is_none b) ≡ true → b ≡ None
+    of_test a b e = grind arith
+
+    one : (f : Function) → counts_rows f ≡ true → (parameters f).output_pair ≡ false
+    one f is = grind arith
+
+-- a distribution of which as much lasts as of another
+pub distribution_lasts : (now final : Option ObjectValue) (e : DistributionValue) → final ≡ Some (DistributionObject e) → option_map skeleton now ≡ option_map skeleton final
+    → (d : DistributionValue) × (now ≡ Some (DistributionObject d)) × (d.bins ≡ e.bins)
+distribution_lasts (Some (DistributionObject d)) final e at same =
+    let bins : Some (DistributionObject (record { bins = d.bins; counts = [] })) ≡ Some (DistributionObject (record { bins = e.bins; counts = [] })) = same ∙ ap (option_map skeleton) at in
+    (d, refl, ap bins_in bins)
+  where
+    bins_in : Option ObjectValue → BinsValue
+    bins_in (Some (DistributionObject x)) = x.bins
+    bins_in other = d.bins
+distribution_lasts x final e at same =
+    let other : option_map skeleton x ≡ Some (DistributionObject (record { bins = e.bins; counts = [] })) = same ∙ ap (option_map skeleton) at in
+    absurd (grind (arith, other))
+
+pub distribution_of_kind : (found : Option ObjectValue) → option_map object_kind found ≡ Some kind.Distribution → (d : DistributionValue) × (found ≡ Some (DistributionObject d))
+distribution_of_kind x e = grind arith
+
+-- the first of a list that passes a test
+pub find_some : (p : Node → Bool) (n : Node) (l : List Node) → find p l ≡ Some n → In n l × (p n ≡ true)
+find_some p n [] found = absurd (cc)
+find_some p n (m ∷ l) found = elim (cases_Bool (p m)) [
+  | inl passes ↦
+      (let same : m ≡ n = some_same (ap (λ b. if b then Some m else find p l) (sym passes) ∙ found) in
+      (inl (sym same), ap p (sym same) ∙ passes))
+  | inr fails ↦ (let rest = find_some p n l (ap (λ b. if b then Some m else find p l) (sym fails) ∙ found) in (inr rest.0, rest.1))
+]
+  where
+    some_same : {a b : Node} → Some a ≡ Some b → a ≡ b
+    some_same e = cc
+
+pub find_none : (p : Node → Bool) (n : Node) (l : List Node) → find p l ≡ None → In n l → p n ≡ false
+find_none p n [] none i = absurd i
+find_none p n (m ∷ l) none i = elim (cases_Bool (p m)) [
+  | inl passes ↦ (let some : Some m ≡ None = ap (λ b. if b then Some m else find p l) (sym passes) ∙ none in absurd (cc))
+  | inr fails ↦ elim i [
+    | inl same ↦ ap p same ∙ fails
+    | inr rest ↦ find_none p n l (ap (λ b. if b then Some m else find p l) (sym fails) ∙ none) rest
+  ]
+]
+
+-- ---- rows that are alike
+
+record IsInside (r : Rectangle) (x y : ℕ) : Type 0 where
+  left : r.x0 ≤ x
+  right : x < r.x1
+  top : r.y0 ≤ y
+  bottom : y < r.y1
+
+inside_parts : (r : Rectangle) (x y : ℕ) → inside r x y ≡ true → IsInside r x y
+inside_parts r x y is =
+    let parts = and_parts (nat_le r.x0 x && nat_lt x r.x1) (nat_le r.y0 y && nat_lt y r.y1) is in
+    let across = and_parts (nat_le r.x0 x) (nat_lt x r.x1) parts.0 in
+    let down = and_parts (nat_le r.y0 y) (nat_lt y r.y1) parts.1 in
+    record {
+      left = grind (arith, nat_tests, across.0);
+      right = grind (arith, nat_tests, across.1);
+      top = grind (arith, nat_tests, down.0);
+      bottom = grind (arith, nat_tests, down.1);
+    }
+
+inside_from : (r : Rectangle) (x y : ℕ) → r.x0 ≤ x → x < r.x1 → r.y0 ≤ y → y < r.y1 → inside r x y ≡ true
+inside_from r x y a b c d = grind (arith, nat_tests, a, b, c, d)
+
+-- a row whose first place is valid, and one whose first isn't
+row_some : (r : Rectangle) (f : ℕ → ℕ → ℤ) (y : ℕ) → inside r r.x0 y ≡ true → row_in r f y ≡ run r.x0 (r.x1 - r.x0) (λ x. f x y)
+row_some r f y is =
+    let here = inside_parts r r.x0 y is in
+    let tests : (nat_le r.y0 y && nat_lt y r.y1) ≡ true = grind (arith, nat_tests, here.top, here.bottom) in
+    ap (λ b. if b then run r.x0 (r.x1 - r.x0) (λ x. f x y) else []) tests
+
+row_none : (r : Rectangle) (f : ℕ → ℕ → ℤ) (y : ℕ) → inside r r.x0 y ≡ false → row_in r f y ≡ []
+row_none r f y not = elim (cases_Bool (nat_le r.y0 y && nat_lt y r.y1)) [
+  | inl down ↦
+      (let none : r.x1 - r.x0 ≡ 0 = grind (arith, nat_tests, not, down) in
+      ap (λ b. if b then run r.x0 (r.x1 - r.x0) (λ x. f x y) else []) down ∙ ap (λ n. run r.x0 n (λ x. f x y)) none)
+  | inr out ↦ ap (λ b. if b then run r.x0 (r.x1 - r.x0) (λ x. f x y) else []) out
+]
+
+-- rows with the same valid places and the same samples there
+row_alike : (r s : Rectangle) (f g : ℕ → ℕ → ℤ) (y z width : ℕ) → ((x : ℕ) → inside r x y ≡ inside s x z) → ((x : ℕ) → x < width → f x y ≡ g x z) → s.x1 ≤ width
+    → row_in r f y ≡ row_in s g z
+row_alike r s f g y z width places samples within = elim (cases_Bool (inside r r.x0 y)) [
+  | inl some ↦
+      (let one = inside_parts r r.x0 y some in
+      let other = inside_parts s r.x0 z (sym (places r.x0) ∙ some) in
+      let begins = inside_from s s.x0 z (omega arith) (omega (arith, other.left, other.right)) other.top other.bottom in
+      let back = inside_parts r s.x0 y (places s.x0 ∙ begins) in
+      let first : r.x0 ≡ s.x0 = omega (arith, back.left, other.left) in
+      let last = inside_parts s (r.x1 - 1) z (sym (places (r.x1 - 1)) ∙ inside_from r (r.x1 - 1) y (omega (arith, one.right)) (omega (arith, one.right)) one.top one.bottom) in
+      let last_back = inside_parts r (s.x1 - 1) y (places (s.x1 - 1) ∙ inside_from s (s.x1 - 1) z (omega (arith, other.left, other.right)) (omega (arith, other.right)) other.top other.bottom) in
+      let ends : r.x1 ≡ s.x1 = omega (arith, one.right, other.right, last.right, last_back.right) in
+      row_some r f y some
+      ∙ ap (λ n. run n (r.x1 - n) (λ x. f x y)) first ∙ ap (λ n. run s.x0 (n - s.x0) (λ x. f x y)) ends
+      ∙ run-same (λ x. f x y) (λ x. g x z) s.x0 (s.x1 - s.x0) (λ x from to. samples x (omega (arith, from, to, within)))
+      ∙ sym (row_some s g z begins))
+  | inr none ↦
+      row_none r f y none
+      ∙ sym (row_none s g z (elim (cases_Bool (inside s s.x0 z)) [
+        | inl some ↦
+            (let back = inside_parts r s.x0 y (places s.x0 ∙ some) in
+            let begins = inside_from r r.x0 y (omega arith) (omega (arith, back.left, back.right)) back.top back.bottom in
+            absurd (cc))
+        | inr not ↦ not
+      ]))
+]
+
+-- ---- a band that is counted
+
+module _ (strip : Strip) (within : IsWithinRows strip) (from to : ℕ) (part image : ImageValue) (stands : StandsFor strip.rows.start strip.rows.count from to part image)
+    (above : from ≤ strip.band.start) (below : strip.band.start + strip.band.count ≤ to) (is : IsImage image) where
+  abbrev start : ℕ
+  start = strip.band.start
+
+  abbrev count : ℕ
+  count = strip.band.count
+
+  -- the band's samples are those of what comes in the end
+  pub band_alike : valid_samples (valid_in (band_seen strip) part) ≡ valid_samples (valid_in (rows_at start count) image)
+  band_alike =
+      samples_alike part image (start - strip.rows.start) start count
+      (λ j less.
+      let y = start + j in
+      let here : start - strip.rows.start + j ≡ y - strip.rows.start = omega (arith, within.above) in
+      let first : from ≤ y = omega (arith, above) in
+      let last : y < to = omega (arith, below, less) in
+      ap (row_in part.valid (at part)) here
+      ∙ row_alike part.valid image.valid (at part) (at image) (y - strip.rows.start) y image.width (λ x. stands.valid x y first last)
+      (λ x inside_it. stands.samples x y inside_it first last) is.room.columns)
+
+  pub band_histogram : (b : BinsValue) → histogram b (valid_in (band_seen strip) part) ≡ histogram b (valid_in (rows_at start count) image)
+  band_histogram b = ap (tallies b) band_alike
+
+  -- so are all that were counted before and are now
+  all_counted : (b : BinsValue) → added (histogram b (valid_in (all_rows start) image)) (histogram b (valid_in (rows_at start count) image)) ≡ histogram b (valid_in (all_rows (start + count)) image)
+  all_counted b =
+      ap (λ y. added (histogram b (valid_in (all_rows start) image)) (histogram b (valid_in (rows_at y count) image))) {x = start} {y = 0 + start} (omega arith)
+      ∙ sym (bands_counted b image 0 start count)
+
+  module _ (n : Node) (d e : DistributionValue) (bins : d.bins ≡ e.bins) (counted : 1 ≤ start → DistributionObject d ≡ counted_above start n image (DistributionObject e)) where
+    -- the counts that the band's are added to are those of the rows above
+    pub before_is : counted_before strip d ≡ histogram e.bins (valid_in (all_rows start) image)
+    before_is = elim (cases_Bool (start == 0)) [
+      | inl first ↦
+          ap (λ b. if b then replicate d.bins.bins 0 else d.counts) first
+          ∙ ap (λ (b : BinsValue). replicate b.bins 0) bins
+          ∙ sym (none_counted e.bins image 0)
+          ∙ ap (λ y. histogram e.bins (valid_in (all_rows y) image)) (sym (eqb-true start 0 first))
+      | inr later ↦
+          ap (λ b. if b then replicate d.bins.bins 0 else d.counts) later
+          ∙ ap counts_of (counted (grind (arith, nat_tests, later)))
+    ]
+      where
+        counts_of : ObjectValue → List ℕ
+        counts_of (DistributionObject x) = x.counts
+        counts_of other = []
+
+    pub too_is : counted_too strip part (DistributionObject d) ≡ counted_above (start + count) n image (DistributionObject e)
+    too_is =
+        let more : BinsValue → List ℕ = λ b. histogram b (valid_in (band_seen strip) part) in
+        ap (λ l. DistributionObject (record { bins = d.bins; counts = added l (more d.bins) })) before_is
+        ∙ ap (λ b. DistributionObject (record { bins = b; counts = added (histogram e.bins (valid_in (all_rows start) image)) (more b) })) bins
+        ∙ ap (λ l. DistributionObject (record { bins = e.bins; counts = added (histogram e.bins (valid_in (all_rows start) image)) l })) (band_histogram e.bins)
+        ∙ ap (λ l. DistributionObject (record { bins = e.bins; counts = l })) (all_counted e.bins)
+
+    -- no count passes 32 bits
+    pub counts_fit : (k : ℕ) → slice_index (counted_before strip d) k + length (valid_samples (valid_in (band_seen strip) part)) < 2 ^ 32
+    counts_fit k =
+        omega (
+          arith,
+          ap (λ (l : List ℕ). slice_index l k) before_is,
+          tally_few e.bins (valid_samples (valid_in (all_rows start) image)) k,
+          ap length band_alike,
+          bands_fit image is start count,
+        )
+
+-- a distribution that is counted further is one of which as much lasts
+pub counted_replaces : (l : List Named) (output : ℕ) (strip : Strip) (part : ImageValue) (d : DistributionValue) → object_held l output ≡ Some (DistributionObject d) → IsDistribution d
+    → IsReplacement l (cell_of output, counted_too strip part (DistributionObject d))
+counted_replaces l output strip part d there is =
+    record {
+      is_object =
+          record {
+            bins = is.bins;
+            size = length-map-range_with_len (λ k. slice_index (counted_before strip d) k + slice_index (histogram d.bins (valid_in (band_seen strip) part)) k) 0 (length (counted_before strip d)) ∙ before_size (strip.band.start == 0);
+          };
+      lasts = ap (λ o. option_map lasting (option_and_then (in_slot None) o)) there;
+    }
+  where
+    before_size : (first : Bool) → length (if first then replicate d.bins.bins 0 else d.counts) ≡ d.bins.bins
+    before_size true = length-replicate d.bins.bins 0
+    before_size false = is.size

@@ -1,7 +1,0 @@
-use Rattle.std.proofs.Common.{◌≡◌}
-use Rattle.vx_base.specs.Statistics.{valid_samples}
-use Rattle.stat_kernels.proofs.TallyLaws.{tallies_below}
-use Rattle.stat_kernels.proofs.counts.histogram.Given as goal
-
-abbrev pub invariant-loop-value : goal.invariant-loop-value
-invariant-loop-value l = l.counts ≡ tallies_below l.bins l.value (valid_samples l.image)
