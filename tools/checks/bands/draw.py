@@ -4,7 +4,7 @@ import random
 from typing import Dict, List, NamedTuple, Optional, Sequence, Tuple
 
 from feqyldan import wire
-from checks.bands.graph import ADDING, GRAPH, STATISTICS, Graph, Made, Node
+from checks.bands.graph import ADDING, COUNTED, GRAPH, WHOLE, Graph, Made, Node
 
 U8, S16, U32 = wire.U8, wire.S16, wire.U32
 Size = Tuple[int, int]
@@ -52,12 +52,12 @@ class Held(NamedTuple):
 
 
 class Style(NamedTuple):
-    """What a graph has: the share of nodes with windows, and whether there are, now and then, nodes
-    that look at all rows, images of the client's that are written and read, and delays, in slots of
-    which nodes write."""
+    """What a graph has: the share of nodes with windows; which statistics and functions that add
+    there are, now and then; and whether there are images of the client's that are written and read,
+    and delays, in slots of which nodes write."""
 
     windows: float
-    statistics: bool
+    statistics: Tuple[int, ...]
     reads_written: bool
     delays: int
     writes_slots: bool
@@ -67,7 +67,8 @@ def any_style(rng: random.Random) -> Style:
     def now_and_then(share: float) -> bool:
         return rng.random() < share
 
-    return Style(rng.choice((0, 0.1, 0.2, 0.4, 0.8)), now_and_then(0.12), now_and_then(0.12),
+    statistics = rng.choices(((), COUNTED, (*COUNTED, *WHOLE)), (10, 2, 1))[0]
+    return Style(rng.choice((0, 0.1, 0.2, 0.4, 0.8)), statistics, now_and_then(0.12),
                  rng.choice((0, 0, 0, 1, 2)), now_and_then(0.4))
 
 
@@ -234,7 +235,7 @@ class Draw:
 
     def statistics(self, size: Size) -> None:
         """What looks at all rows, or adds to an image, which is not virtual then."""
-        function = self.rng.choice((*STATISTICS, *ADDING))
+        function = self.rng.choice(self.style.statistics)
         first = self.pick(size, (U8, S16) if function == wire.MIN_MAX_LOCATION else (U8,))
         if function in ADDING:
             held = self.image(S16, size)

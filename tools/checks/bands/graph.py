@@ -9,8 +9,10 @@ from feqyldan import wire
 GRAPH = 1
 # So many samples and more are a large image.
 LARGE = 131_072
-STATISTICS = (wire.HISTOGRAM, wire.INTEGRAL, wire.MIN_MAX_LOCATION)
+# What can be counted band by band; and what keeps a graph from running in bands.
+COUNTED = (wire.HISTOGRAM, wire.MIN_MAX_LOCATION)
 ADDING = (wire.ACCUMULATE, wire.ACCUMULATE_SQUARE)
+WHOLE = (wire.INTEGRAL, *ADDING)
 WINDOWED = range(wire.BOX, wire.CONVOLVE + 1)
 
 
@@ -38,6 +40,10 @@ class Node(NamedTuple):
     border: int
     constant: int
     out2: Optional[bytes]
+
+    def banded(self) -> List[bytes]:
+        """The images of which each band has some rows: what is counted, or what is written."""
+        return [self.in1] if self.function in COUNTED else self.outputs()
 
     def inputs(self) -> List[bytes]:
         return [cell for cell in (self.in1, self.in2) if cell is not None]
@@ -87,14 +93,13 @@ class Graph(NamedTuple):
 
     def may_run_in_bands(self) -> bool:
         """Whether nothing in it keeps it from that, whatever its sizes are."""
-        read, heights = self.read(), set()
+        read = self.read()
         for cell in self.written():
             made = self.made(cell)
-            heights.add(made.height)
             if made.slots or (made.virtual is None and cell in read):
                 return False
-        return len(heights) == 1 and not any(node.function in (*STATISTICS, *ADDING)
-                                             for node in self.nodes)
+        heights = {self.made(cell).height for node in self.nodes for cell in node.banded()}
+        return len(heights) == 1 and not any(node.function in WHOLE for node in self.nodes)
 
     def without(self, number: int) -> "Graph":
         """The same without a node. An image that was virtual, and isn't written any more, is an
