@@ -4,10 +4,8 @@
 //! that: so numbers that are read one after another wait for each other. What stands at a place if
 //! a number begins there depends on nothing else. So that is found out for a block of places at
 //! once, by lanes, and where numbers begin is a mask of bits: they are taken by going through it.
-ghost use Rattle.std.specs.Prelude.{◌≡◌, ◌≤◌, ◌<◌, ℕ, List, Option, Bool, true, nat_lt};
-ghost use Rattle.std.specs.Prelude.{length, drop, slice_index, if◌then◌else◌};
-ghost use Rattle.std.specs.Int.{bit_at};
-ghost use Rattle.pgm_images.specs.Marks.{AreTold, IsBlock};
+ghost use Rattle.std.specs.Prelude.{◌≡◌, ◌≤◌, ◌<◌, ℕ, List, Option, Bool, true, length, drop};
+ghost use Rattle.pgm_images.specs.Marks.{AreTold, AreBegins, IsBlock};
 ghost use Rattle.pgm_images.specs.Raster.{PlainUpTo};
 
 use crate::marks::short_number;
@@ -59,8 +57,7 @@ impl Block {
 
     /// A bit for each place where a number begins.
     fn begins(&self) -> u64
-        ensures { (i : ℕ) → i < 64 →
-            bit_at result i ≡ (if nat_lt 0 (slice_index self.now.bytes i) then 1 else 0) }
+        ensures { AreBegins result self.now.bytes }
     {
         u8x64::from_array(self.bytes)
             .simd_ne(u8x64::splat(0))
