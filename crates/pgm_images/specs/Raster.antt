@@ -1,5 +1,5 @@
 -- The samples of a PGM text, as numbers.
-use Rattle.std.specs.Prelude.{◌≡◌, ℕ, zero, suc, ◌+◌, ◌*◌, Bool, true, false, not, if◌then◌else◌, nat_le, nat_lt, List, [], ◌∷◌, ◌++◌, map, ℤ, pos, Option, Some, None, Result, Ok, Err, OnOk, IfErr}
+use Rattle.std.specs.Prelude.{◌≡◌, ℕ, zero, suc, ◌+◌, ◌*◌, Bool, true, false, not, if◌then◌else◌, nat_le, nat_lt, List, [], ◌∷◌, ◌++◌, ◌-◌, length, take, map, ℤ, pos, Option, Some, None, Result, Ok, Err, OnOk, IfErr}
 use Rattle.std.specs.List.{list_all}
 use Rattle.std.specs.Option.{option_map}
 use Rattle.pgm_images.specs.declared.fault.PgmFault.{PgmFault}
@@ -61,3 +61,7 @@ after done o = option_map (λ others. done ++ others) o
 -- so many of the whole text's numbers are left to be written, and rest is the text with them
 abbrev pub Filling : (take : List ℕ → BeginsWith ℕ) (is_end : List ℕ → Bool) (maxval : ℕ) (above : Bool) (samples : List ℤ) (left : ℕ) (rest : List ℕ) (whole : Option (List ℕ)) → Type 0
 Filling take is_end maxval above samples left rest whole = (numbers : List ℕ) × Filled maxval above samples numbers × (whole ≡ after numbers (so_many take is_end left rest))
+
+-- the same of a plain text, whose numbers before index were written
+abbrev pub PlainUpTo : {T : Type 0} (value : T → ℤ) (maxval index : ℕ) (above : Bool) (samples : List T) (rest : List ℕ) (whole : Option (List ℕ)) → Type 0
+PlainUpTo value maxval index above samples rest whole = Filling take_next ends maxval above (map value (take index samples)) (length samples - index) rest whole

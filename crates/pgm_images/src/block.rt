@@ -4,11 +4,9 @@
 //! that: so numbers that are read one after another wait for each other. What stands at a place if
 //! a number begins there depends on nothing else. So that is found out for a block of places at
 //! once, by lanes, and where numbers begin is a mask of bits: they are taken by going through it.
-ghost use Rattle.std.specs.Prelude.{◌≡◌, ◌≤◌, ◌<◌, ◌-◌, ℕ, List, Option, Bool, true, nat_lt, IsTrue};
-ghost use Rattle.std.specs.Prelude.{length, drop, take, map, slice_index, if◌then◌else◌};
-ghost use Rattle.std.specs.Int.{bit_at};
-ghost use Rattle.pgm_images.specs.Marks.{AreTold, IsBlock, take_next, ends};
-ghost use Rattle.pgm_images.specs.Raster.{Filling};
+ghost use Rattle.std.specs.Prelude.{◌≡◌, ◌≤◌, ◌<◌, ℕ, List, Option, Bool, true, length, drop};
+ghost use Rattle.pgm_images.specs.Marks.{AreTold, AreBegins, IsBlock};
+ghost use Rattle.pgm_images.specs.Raster.{PlainUpTo};
 
 use crate::marks::short_number;
 use crate::text_sample::TextSample;
@@ -59,8 +57,7 @@ impl Block {
 
     /// A bit for each place where a number begins.
     fn begins(&self) -> u64
-        ensures { (i : ℕ) → i < 64 →
-            bit_at result i ≡ (if nat_lt 0 (slice_index self.now.bytes i) then 1 else 0) }
+        ensures { AreBegins result self.now.bytes }
     {
         u8x64::from_array(self.bytes)
             .simd_ne(u8x64::splat(0))
@@ -98,10 +95,8 @@ impl Block {
         requires maxval { maxval ≤ 32767 }
         requires within { index < length samples.old }
         ensures filled { (above : Bool) (whole : Option (List ℕ)) →
-            Filling take_next ends maxval above (map T.value (take index samples.old))
-            (length samples.old - index) text.now whole →
-            Filling take_next ends maxval above (map T.value (take result.1 samples.new))
-            (length samples.new - result.1) (drop result.0 text.now) whole }
+            PlainUpTo T.value maxval index above samples.old text.now whole →
+            PlainUpTo T.value maxval result.1 above samples.new (drop result.0 text.now) whole }
         ensures end { result.0 ≤ length text.now }
         ensures more { index < result.1 }
         ensures within { result.1 ≤ length samples.new }

@@ -87,7 +87,7 @@ fn digit(byte: u8) -> u8
     byte.wrapping_sub(b'0')
 }
 
-/// The number with one digit more, where that is one; of more than 255 what is left in a byte.
+/// The number with one digit more, where that is one. It wraps around above 255.
 #[inline(always)]
 fn with_digit(number: u8, digit: u8, is_digit: bool) -> u8
     ensures { result ≡ (if is_digit then number * 10 + digit else number) % 256 }

@@ -1,11 +1,11 @@
 //! The samples of a text.
 ghost use Rattle.std.specs.Prelude.{◌≡◌, ℕ, ◌≤◌, nat_le, ◌<◌, Some, None, IfSome, IfNone, IsTrue};
-ghost use Rattle.std.specs.Prelude.{length, map, pos, take, ◌-◌, ◌||◌, Bool, List, Option};
+ghost use Rattle.std.specs.Prelude.{length, map, pos, ◌||◌, Bool, List, Option};
 ghost use Rattle.vx_base.specs.Picture.{values, samples_format};
 ghost use Rattle.pgm_images.specs.Header.{is_maxval, format_up_to};
 ghost use Rattle.pgm_images.specs.Marks.{Kept, take_next, ends};
 ghost use Rattle.pgm_images.specs.Raster.{Reads, all_up_to, numbers_in, so_many, take_short_sample};
-ghost use Rattle.pgm_images.specs.Raster.{take_long_sample, nothing_left, samples_up_to, Filling};
+ghost use Rattle.pgm_images.specs.Raster.{take_long_sample, nothing_left, samples_up_to, PlainUpTo};
 
 use crate::block::Block;
 use crate::fault::PgmFault;
@@ -15,7 +15,7 @@ use crate::text_sample::TextSample;
 use vx_base::Samples;
 
 /// How many numbers are taken one by one before a block is looked at again.
-const SINGLE: usize = 16;
+const SINGLES: usize = 16;
 
 /// Takes numbers one by one and writes them over samples from an index on, up to another. Whether
 /// one is above the maxval, and the text after them. `None` where there aren't so many.
@@ -31,13 +31,10 @@ fn read_singly<'a, T: TextSample>(
     requires order { from ≤ to }
     requires within { to ≤ length samples.old }
     ensures some { IfSome result (λ taken. (above : Bool) (whole : Option (List ℕ)) →
-        Filling take_next ends maxval above (map T.value (take from samples.old))
-        (length samples.old - from) text.now whole →
-        Filling take_next ends maxval (above || taken.0) (map T.value (take to samples.new))
-        (length samples.new - to) taken.1.now whole) }
+        PlainUpTo T.value maxval from above samples.old text.now whole →
+        PlainUpTo T.value maxval to (above || taken.0) samples.new taken.1.now whole) }
     ensures none { IfNone result ((above : Bool) (whole : Option (List ℕ)) →
-        Filling take_next ends maxval above (map T.value (take from samples.old))
-        (length samples.old - from) text.now whole → whole ≡ None) }
+        PlainUpTo T.value maxval from above samples.old text.now whole → whole ≡ None) }
     ensures same { length samples.new ≡ length samples.old }
 {
     let mut rest = text;
@@ -70,7 +67,7 @@ fn read_plain<T: TextSample>(maxval: u16, text: &[u8], samples: &mut [T]) -> Res
             index = next;
             continue;
         }
-        let next = index + SINGLE.min(samples.len() - index);
+        let next = index + SINGLES.min(samples.len() - index);
         let Some((high, others)) = read_singly(maxval, rest, samples, index, next) else {
             return Err(PgmFault::InvalidFormat);
         };
@@ -108,6 +105,7 @@ fn read_bytes(maxval: u16, bytes: &[u8], samples: &mut [u8]) -> Result<(), PgmFa
         return Err(PgmFault::InvalidFormat);
     }
     samples.copy_from_slice(bytes);
+    // No byte is above 255.
     if maxval >= 255 {
         return Ok(());
     }

@@ -1,8 +1,8 @@
-use Rattle.std.proofs.Common.{◌≡◌, ◌-◌, ◌||◌, ◌∙◌, Option, Some, None, length, map, take, ap, pos, arith, subst}
+use Rattle.std.proofs.Common.{◌≡◌, ◌-◌, ◌||◌, ◌∙◌, Option, Some, None, length, ap, pos, arith, subst}
 use Rattle.std.specs.Prelude.{IfNone}
 use Rattle.std.proofs.lemmas.List.{length-set}
 use Rattle.pgm_images.specs.Marks.{take_next, ends}
-use Rattle.pgm_images.specs.Raster.{Filling}
+use Rattle.pgm_images.specs.Raster.{PlainUpTo}
 use Rattle.pgm_images.proofs.RasterLemmas.{filling_next, filling_none}
 use Rattle.pgm_images.proofs.raster.read_singly.Goals as goal
 
@@ -25,5 +25,4 @@ loop-index-preserved g c = (
 pub returns-clause-some : goal.returns-clause-some
 returns-clause-some g c above whole before =
     let all : c.loop-index.index ≡ c.args.to = omega arith in
-    subst (λ i. Filling take_next ends c.args.maxval (above || c.loop-index.high) (map g.T.Number.value (take i c.loop-index.samples)) (length c.loop-index.samples - i) c.loop-index.rest.now whole) all
-    (c.loop-index.invariant.1 above whole before)
+    subst (λ i. PlainUpTo g.T.Number.value c.args.maxval i (above || c.loop-index.high) c.loop-index.samples c.loop-index.rest.now whole) all (c.loop-index.invariant.1 above whole before)
