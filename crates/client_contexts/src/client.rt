@@ -123,8 +123,8 @@ impl Client {
         }
     }
 
-    /// Writes a picture to an image, whose samples are the picture's own from then on. Those that no
-    /// image has then are left in `spare`. It takes no memory.
+    /// Writes a picture to an image, whose samples are the picture's own from then on. Those that
+    /// no image has then are left in `spare`. It takes no memory.
     pub fn write(
         &mut self,
         reference: ObjRef,

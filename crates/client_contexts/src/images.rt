@@ -95,8 +95,8 @@ fn picture_refusal(image: Desc, picture: Desc) -> Option<Refusal>
 /// is then of the same format and size. Else the refusal.
 pub fn find_image_for(table: &Table, reference: ObjRef, picture: Desc) -> Result<(), Refusal>
     ensures ok { OnOk result (IsImageFor table.now.objects reference picture) }
-    ensures err { IfErr result (λ refusal. refusal_for (image_of table.now.objects reference) picture
-        ≡ Some refusal) }
+    ensures err { IfErr result (λ refusal.
+        refusal_for (image_of table.now.objects reference) picture ≡ Some refusal) }
 {
     let image = find_image(table, reference)?;
     match picture_refusal(image.desc(), picture) {
@@ -125,8 +125,8 @@ pub fn write_image(
 }
 
 /// Writes a picture to an image, whose samples are the picture's own from then on: none is copied.
-/// What no image has then is left in `spare`: the samples that the image had, or the picture's where
-/// it is refused. It takes no memory.
+/// What no image has then is left in `spare`: the samples that the image had, or the picture's
+/// where it is refused. It takes no memory.
 pub fn give_picture(
     table: &mut Table,
     reference: ObjRef,

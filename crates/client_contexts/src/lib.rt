@@ -3,11 +3,11 @@
 //! `Runtime::apply` is the whole of it. Its reply and the client's new state are those of the
 //! model, the other clients' states are as they were, and where memory was wanted nothing is
 //! changed; so no client sees or moves what another holds. A graph that was verified or has run is
-//! kept as verified until its nodes change or it ends, and VerifyGraph of it takes no memory so long.
-//! Beside it, samples go straight into their image and out of it: `accepts` tells whether a picture
-//! can be written, `room` has memory for its samples, `write` gives them to the image, `write_text`
-//! reads those of a PGM text into it, and `image` and `text_image` lend an image to who reads it.
-//! What they answer is what `apply` would.
+//! kept as verified until its nodes change or it ends, and so long VerifyGraph of it takes no
+//! memory. Beside it, samples go straight into their image and out of it: `accepts` tells whether a
+//! picture can be written, `room` has memory for its samples, `write` gives them to the image,
+//! `write_text` reads those of a PGM text into it, and `image` and `text_image` lend an image to
+//! who reads it. What they answer is what `apply` would.
 //! Each client names its objects by 1, 2, .. in the order in which it made them, and holds at most
 //! 1,024, of which images are charged against its quota. Nodes read their inputs where they stand.
 //! What a node uses is held for it after its name has ended, and a run of a graph takes all its

@@ -81,8 +81,8 @@ impl Runtime {
         self.pool.blocks(format)
     }
 
-    /// Drops the blocks that aren't lent, and what the last `write` was left with: their memory goes
-    /// back to the system. No client notices.
+    /// Drops the blocks that aren't lent, and what the last `write` was left with: their memory
+    /// goes back to the system. No client notices.
     pub fn drop_free(&mut self)
         ensures { self.new ≡ self.old }
     {

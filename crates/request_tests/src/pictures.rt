@@ -13,7 +13,8 @@ pub fn image() -> ObjRef {
     ObjRef::new(1, None)
 }
 
-/// A format and sizes of each: the samples of the last two take more bytes than are decoded at once.
+/// A format and sizes of each: the samples of the last two take more bytes than are decoded at
+/// once.
 const PICTURES: [(Format, u16, u16); 3] = [
     (Format::U8, 13, 11),
     (Format::S16, 70, 130),

@@ -62,7 +62,14 @@ pub fn extremes_of_four()
       valid = record { x0 = 1; y0 = 0; x1 = 2; y1 = 2 };
       samples = pos 0 ∷ pos 3 ∷ pos 0 ∷ pos 4 ∷ [];
     }) ≡
-        record { min = pos 3; max = pos 4; min_count = 1; max_count = 1; min_at = (1, 0); max_at = (1, 1) } }
+        record {
+          min = pos 3;
+          max = pos 4;
+          min_count = 1;
+          max_count = 1;
+          min_at = (1, 0);
+          max_at = (1, 1);
+        } }
     ensures twice { extremes (record {
       width = 2;
       height = 2;
@@ -70,7 +77,14 @@ pub fn extremes_of_four()
       valid = record { x0 = 0; y0 = 0; x1 = 2; y1 = 2 };
       samples = pos 5 ∷ negsuc 1 ∷ negsuc 1 ∷ pos 5 ∷ [];
     }) ≡
-        record { min = negsuc 1; max = pos 5; min_count = 2; max_count = 2; min_at = (1, 0); max_at = (0, 0) } }
+        record {
+          min = negsuc 1;
+          max = pos 5;
+          min_count = 2;
+          max_count = 2;
+          min_at = (1, 0);
+          max_at = (0, 0);
+        } }
     ensures nowhere { extremes (record {
       width = 1;
       height = 1;
@@ -79,5 +93,12 @@ pub fn extremes_of_four()
           record { x0 = 0; y0 = 0; x1 = 0; y1 = 0 };
       samples = pos 0 ∷ [];
     }) ≡
-        record { min = pos 0; max = pos 0; min_count = 0; max_count = 0; min_at = (0, 0); max_at = (0, 0) } }
+        record {
+          min = pos 0;
+          max = pos 0;
+          min_count = 0;
+          max_count = 0;
+          min_at = (0, 0);
+          max_at = (0, 0);
+        } }
 {}

@@ -15,7 +15,8 @@
 //!   kind), `tables` (and thresholds and convolutions), `statistics` (distributions and extremes),
 //!   `graphs`, `immediate`, `delays`
 //! - `parsing`: the body of any request; `write_image_head`: what stands before the samples of one
-//!   that writes an image; `write_image_pgm_fields`: the image and the text of one that writes a text
+//!   that writes an image; `write_image_pgm_fields`: the image and the text of one that writes a
+//!   text
 //! - `laws`, `examples`: what the definitions mean
 #![tactic(auto)]
 

@@ -124,7 +124,8 @@ fn write_picture<K: Sink>(
     ensures { let picture : PictureValue =
         record { description = desc; samples = values samples.now } in
         Sends K.taken K.failures sink.old sink.new
-        (reply_bytes (spelled client op (record { code = 0; body = picture_bytes picture }))) result }
+        (reply_bytes (spelled client op (record { code = 0; body = picture_bytes picture })))
+        result }
 {
     write_all(sink, &head_and_description(client, op, desc))?;
     write_samples(sink, samples)?;

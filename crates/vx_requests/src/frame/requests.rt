@@ -131,7 +131,8 @@ fn write_frame<K: Sink>(sink: &mut K, client: u16, request: &Request) -> Result<
 fn write_name<K: Sink>(sink: &mut K, client: u16, op: Op, name: u32) -> Result<(), StreamFault>
     requires { K.failures sink.old < 2 ^ 62 }
     ensures { WritesAll K.taken K.failures sink.old sink.new
-        (frame_bytes (record { client = client; op = op_number op; body = to_be_bytes w32 name })) result }
+        (frame_bytes (record { client = client; op = op_number op; body = to_be_bytes w32 name }))
+        result }
 {
     write_short(sink, client, op.number(), &name.to_be_bytes())
 }
@@ -147,7 +148,11 @@ fn write_named<K: Sink>(
     requires failures_fit { K.failures sink.old < 2 ^ 62 }
     requires room { length field.now ≤ 25 }
     ensures { WritesAll K.taken K.failures sink.old sink.new
-        (frame_bytes (record { client = client; op = op_number op; body = to_be_bytes w32 name ++ field.now })) result }
+        (frame_bytes (record {
+          client = client;
+          op = op_number op;
+          body = to_be_bytes w32 name ++ field.now;
+        })) result }
 {
     let mut room = [0; 29];
     let body = &mut room[..4 + field.len()];
@@ -173,7 +178,11 @@ fn write_reference<K: Sink>(
 ) -> Result<(), StreamFault>
     requires { K.failures sink.old < 2 ^ 62 }
     ensures { WritesAll K.taken K.failures sink.old sink.new
-        (frame_bytes (record { client = client; op = op_number op; body = reference_bytes reference })) result }
+        (frame_bytes (record {
+          client = client;
+          op = op_number op;
+          body = reference_bytes reference;
+        })) result }
 {
     write_short(sink, client, op.number(), &reference_bytes(reference))
 }
