@@ -1,46 +1,34 @@
 -- The samples of bands of rows, and what is counted of them.
-use Rattle.std.proofs.Common.{subst, ◌≡◌, ◌≢◌, ◌⊎◌, set, ℕ, zero, suc, ℤ, ◌+◌, ◌-◌, ◌*◌, ◌<◌, ◌≤◌, List, [], ◌++◌, length, map, get_or, slice_index, cond, replicate, Bool, true, false, inl, inr, refl, ap, sym, ◌∙◌, arith, ◌&&◌, nat_le, nat_lt, if◌then◌else◌, min, max}
+use Rattle.std.proofs.Common.{subst, ◌≡◌, ◌≢◌, ◌⊎◌, set, ℕ, zero, suc, ℤ, ◌+◌, ◌-◌, ◌*◌, ◌<◌, ◌≤◌, List, [], ◌++◌, length, map, get_or, slice_index, cond, replicate, true, false, inl, inr, refl, ap, sym, ◌∙◌, arith, ◌&&◌, nat_le, nat_lt, if◌then◌else◌, min, max}
+use Rattle.std.specs.Int.{int_min, int_max}
 use Rattle.std.specs.List.{count_by}
 use Rattle.std.specs.Prelude.{unsigned_abs}
 use Rattle.std.proofs.lemmas.Bool.{cases_eq, cases_lt}
 use Rattle.std.proofs.lemmas.Bool.Decides.{nat_tests}
-use Rattle.std.proofs.lemmas.List.{map-append, length-append, append-nil, append_assoc, get_or-set_same, get_or-set_other, get_or_default, get_or_past, length-replicate, length-set, get_or-replicate, same_lists}
+use Rattle.std.proofs.lemmas.List.{length-map, map-append, length-append, append-nil, append_assoc, get_or-set_same, get_or-set_other, get_or_default, get_or_past, length-replicate, length-set, get_or-replicate, same_lists}
 use Rattle.std.proofs.lemmas.List.FromFn.{length-map-range_with_len, get_or-map-range_with_len}
 use Rattle.std.proofs.lemmas.List.Sums.{count_by-le-length, sum_by-append}
-use Rattle.vx_base.specs.Image.{ImageValue, IsImage, at, run}
+use Rattle.vx_base.specs.Image.{ImageValue, IsImage, at}
 use Rattle.vx_base.specs.Rectangle.{Rectangle}
 use Rattle.vx_base.specs.Statistics.{BinsValue, bin_of, is_bin, histogram, samples_in, tallies, valid_samples, places, row_places, extremes}
 use Rattle.image_core.specs.declared.band.Band.{Band}
 use Rattle.image_core.specs.Bands.{all_rows}
 use Rattle.stat_kernels.specs.Counts.{added}
 use Rattle.stat_kernels.specs.Part.{band_of, valid_in}
-use Rattle.stat_kernels.proofs.PlaceLaws.{length-samples, places_more, places_none, row_samples}
+use Rattle.stat_kernels.proofs.PlaceLaws.{length-samples, places_more, places_none}
 use Rattle.vx_base.specs.Object.{no_extremes}
 use Rattle.stat_kernels.specs.Located.{added_extremes, extremes_of, found_in}
-use Rattle.stat_kernels.proofs.LocatedLaws.{AreLowered, extremes_joined, lowered_more, lowered_none}
+use Rattle.stat_kernels.proofs.LocatedLaws.{at_most, AreLowered, extremes_joined, lowered_more, lowered_none}
 use Rattle.stat_kernels.proofs.Rows.{above}
 
 abbrev pub rows_at : ℕ → ℕ → Band
 rows_at start count = record { start = start; count = count }
-
--- ---- samples by rows
-
--- what f gives at the places of a rectangle in one row
-abbrev pub row_in : Rectangle → (ℕ → ℕ → ℤ) → ℕ → List ℤ
-row_in r f y = if nat_le r.y0 y && nat_lt y r.y1 then run r.x0 (r.x1 - r.x0) (λ x. f x y) else []
 
 -- ---- places by rows
 
 -- the places of a rectangle in one row
 abbrev pub row_of : Rectangle → ℕ → List (ℕ × ℕ)
 row_of r y = if nat_le r.y0 y && nat_lt y r.y1 then row_places r.x0 (r.x1 - r.x0) y else []
-
-row_samples_in : (r : Rectangle) (f : ℕ → ℕ → ℤ) (y : ℕ) → map (λ p. f p.0 p.1) (row_of r y) ≡ row_in r f y
-row_samples_in r f y = of_test (nat_le r.y0 y && nat_lt y r.y1)
-  where
-    of_test : (b : Bool) → map (λ p. f p.0 p.1) (if b then row_places r.x0 (r.x1 - r.x0) y else []) ≡ (if b then run r.x0 (r.x1 - r.x0) (λ x. f x y) else [])
-    of_test true = row_samples f r.x0 (r.x1 - r.x0) y
-    of_test false = refl
 
 row_outside : (r : Rectangle) (y : ℕ) → (nat_le r.y0 y && nat_lt y r.y1) ≡ false → row_of r y ≡ []
 row_outside r y out = ap (λ b. if b then row_places r.x0 (r.x1 - r.x0) y else []) out
@@ -110,14 +98,6 @@ rows_follow r start first (suc second) =
 pub samples_none : (r : Rectangle) (image : ImageValue) (start : ℕ) → samples_in (band_of (rows_at start 0) r) image ≡ []
 samples_none r image start = ap (map (λ p. at image p.0 p.1)) (no_places r start)
 
--- one more row
-pub samples_row : (r : Rectangle) (image : ImageValue) (start count : ℕ)
-    → samples_in (band_of (rows_at start (count + 1)) r) image ≡ samples_in (band_of (rows_at start count) r) image ++ row_in r (at image) (start + count)
-samples_row r image start count =
-    ap (map (λ p. at image p.0 p.1)) (one_row r start count)
-    ∙ map-append (λ p. at image p.0 p.1) (places (band_of (rows_at start count) r)) (row_of r (start + count))
-    ∙ ap (λ l. samples_in (band_of (rows_at start count) r) image ++ l) (row_samples_in r (at image) (start + count))
-
 -- rows after others
 pub samples_after : (r : Rectangle) (image : ImageValue) (start first second : ℕ)
     → samples_in (band_of (rows_at start (first + second)) r) image
@@ -125,18 +105,6 @@ pub samples_after : (r : Rectangle) (image : ImageValue) (start first second : �
 samples_after r image start first second =
     ap (map (λ p. at image p.0 p.1)) (rows_follow r start first second)
     ∙ map-append (λ p. at image p.0 p.1) (places (band_of (rows_at start first) r)) (places (band_of (rows_at (start + first) second) r))
-
--- two images that have the same samples in each row of two bands have the same in all of them
-pub samples_alike : (a b : ImageValue) (one other count : ℕ) → ((j : ℕ) → j < count → row_in a.valid (at a) (one + j) ≡ row_in b.valid (at b) (other + j))
-    → valid_samples (valid_in (rows_at one count) a) ≡ valid_samples (valid_in (rows_at other count) b)
-samples_alike a b one other zero same = samples_none a.valid a one ∙ sym (samples_none b.valid b other)
-samples_alike a b one other (suc count) same =
-    ap (λ n. samples_in (band_of (rows_at one n) a.valid) a) {x = suc count} {y = count + 1} (omega arith)
-    ∙ samples_row a.valid a one count
-    ∙ ap (λ l. l ++ row_in a.valid (at a) (one + count)) (samples_alike a b one other count (λ j below. same j (omega (arith, below))))
-    ∙ ap (λ l. samples_in (band_of (rows_at other count) b.valid) b ++ l) (same count (omega arith))
-    ∙ sym (samples_row b.valid b other count)
-    ∙ ap (λ n. samples_in (band_of (rows_at other n) b.valid) b) {x = count + 1} {y = suc count} (omega arith)
 
 -- all rows of an image are all of it
 pub all_valid : (image : ImageValue) → IsImage image → valid_in (all_rows image.height) image ≡ image
@@ -279,3 +247,9 @@ bands_located a b down one start count are =
 -- nothing is found in no rows
 pub none_located : (image : ImageValue) (start : ℕ) → extremes (valid_in (rows_at start 0) image) ≡ no_extremes
 none_located image start = ap (λ l. extremes_of (found_in (at image) l)) (no_places image.valid start)
+
+-- no more places hold an extreme than are valid
+pub extremes_few : (image : ImageValue) → ((extremes image).min_count ≤ length (valid_samples image)) × ((extremes image).max_count ≤ length (valid_samples image))
+extremes_few image =
+    let long = length-map (places image.valid) (λ p. at image p.0 p.1) in
+    (omega (arith, at_most int_min (at image) (places image.valid), long), omega (arith, at_most int_max (at image) (places image.valid), long))
