@@ -1,36 +1,63 @@
 -- Nodes that count bands of rows, and what they count.
-use Rattle.std.proofs.Common.{◌≡◌, ℕ, ℤ, ◌+◌, ◌-◌, ◌^◌, ◌<◌, ◌≤◌, Bool, true, false, List, [], ◌∷◌, length, replicate, slice_index, Option, Some, None, inl, inr, refl, sym, ap, ◌∙◌, arith, ◌==◌, ◌&&◌, if◌then◌else◌, nat_le, nat_lt, IsTrue, is_some, is_none, ◌||◌, option_map, option_and_then}
-use Rattle.graph_run.proofs.Common.{cases_Bool, eqb-true, nat_tests, and_parts, BinsValue, histogram, Format, U8, takes_formats, Function, Node, IsNode, parameters, In, Rectangle, ImageValue, IsImage, at, all_rows, ObjectValue, object_kind, Cell, cell_of, Named, object_held, in_slot, lasting, skeleton, length-map-range_with_len, Strip, IsWithinRows, counts, counts_rows}
+use Rattle.std.proofs.Common.{◌≢◌, ◌≡◌, ℕ, ℤ, ◌+◌, ◌-◌, ◌^◌, ◌<◌, ◌≤◌, Bool, true, false, List, [], ◌∷◌, length, replicate, slice_index, Option, Some, None, inl, inr, refl, sym, ap, ◌∙◌, arith, ◌==◌, ◌&&◌, if◌then◌else◌, nat_le, nat_lt, IsTrue, is_some, is_none, ◌||◌, option_map, option_and_then, subst}
+use Rattle.graph_run.proofs.Common.{cases_Bool, eqb-true, nat_tests, and_parts, BinsValue, histogram, Format, U8, takes_formats, Function, Node, IsNode, parameters, In, Rectangle, ImageValue, IsImage, at, all_rows, ObjectValue, object_kind, Cell, cell_of, Named, object_held, in_slot, lasting, skeleton, length-map-range_with_len, Strip, IsWithinRows, counts, counts_rows, U32}
 use Rattle.std.specs.Prelude.{find}
+use Rattle.vx_base.specs.declared.function.Function.TheVariants.{Histogram}
 use Rattle.vx_base.specs.declared.kind.Kind.TheVariants as kind
-use Rattle.vx_base.specs.Image.{run}
-use Rattle.vx_base.specs.Object.{DistributionObject, DistributionValue, IsDistribution}
+use Rattle.vx_base.specs.Object.{DistributionObject, DistributionValue, ExtremesObject, IsDistribution, no_extremes}
+use Rattle.vx_base.specs.declared.extremes.Extremes.{Extremes}
+use Rattle.stat_kernels.specs.Located.{added_extremes}
+use Rattle.stat_kernels.proofs.LocatedLaws.{AreLowered, lowered_none, lowered_row}
 use Rattle.vx_base.specs.Rectangle.{inside}
-use Rattle.vx_base.specs.Statistics.{tallies, valid_samples}
-use Rattle.vx_base.proofs.TableLaws.{run-same}
+use Rattle.vx_base.specs.Statistics.{extremes, places, row_places, tallies as tallies_of, valid_samples}
 use Rattle.node_rows.specs.Parts.{StandsFor}
 use Rattle.stat_kernels.specs.Counts.{added}
-use Rattle.stat_kernels.specs.Part.{valid_in}
-use Rattle.stat_kernels.proofs.BandLaws.{bands_counted, bands_fit, none_counted, row_in, rows_at, samples_alike, tally_few}
+use Rattle.stat_kernels.specs.Part.{band_of, valid_in}
+use Rattle.stat_kernels.proofs.BandLaws.{bands_counted, bands_fit, bands_located, extremes_few, none_counted, none_located, places_lowered, row_of, rows_at, tally_few}
 use Rattle.std.proofs.lemmas.List.{length-replicate}
 use Rattle.graph_run.proofs.CellLemmas.{IsReplacement}
 use Rattle.graph_run.proofs.RunLemmas.{has_of_node}
-use Rattle.graph_run.specs.Bands.{band_seen, counted_above, counted_before, counted_too}
+use Rattle.graph_run.specs.Bands.{band_seen, counted_above, counted_before, extremes_value, located_before, located_too, tallied_too, tallies, tallies_rows}
 
 -- ---- who counts
 
-pub counts_output : (n : Node) → counts n ≡ true → (parameters n.function).output ≡ kind.Distribution
-counts_output n does = by_function n.function does
+pub counts_other : (n : Node) → counts n ≡ true → (parameters n.function).output ≢ kind.Image
+counts_other n does = by_function n.function does
   where
-    by_function : (f : Function) → counts_rows f ≡ true → (parameters f).output ≡ kind.Distribution
+    by_function : (f : Function) → counts_rows f ≡ true → (parameters f).output ≢ kind.Image
     by_function f is = grind arith
 
--- of bytes, to one output
-pub counts_bytes : (n : Node) → counts n ≡ true → (a : Format) (second out : Option Format) → IsTrue (takes_formats n.function a second out) → a ≡ U8
-counts_bytes n does a second out takes = by_function n.function does takes
+pub tallies_output : (n : Node) → tallies n ≡ true → (parameters n.function).output ≡ kind.Distribution
+tallies_output n does = by_function n.function does
   where
-    by_function : (f : Function) → counts_rows f ≡ true → IsTrue (takes_formats f a second out) → a ≡ U8
+    by_function : (f : Function) → tallies_rows f ≡ true → (parameters f).output ≡ kind.Distribution
+    by_function f is = grind arith
+
+pub tallies_not : (n : Node) → (n.function ≡ Histogram → ⊥) → tallies n ≡ false
+tallies_not n other = by_function n.function other
+  where
+    by_function : (f : Function) → (f ≡ Histogram → ⊥) → tallies_rows f ≡ false
+    by_function Histogram not = absurd (not refl)
+    by_function f not = refl
+
+pub locates_output : (n : Node) → counts n ≡ true → tallies n ≡ false → (parameters n.function).output ≡ kind.Extremes
+locates_output n does other = by_function n.function does other
+  where
+    by_function : (f : Function) → counts_rows f ≡ true → tallies_rows f ≡ false → (parameters f).output ≡ kind.Extremes
+    by_function f is not = grind arith
+
+-- what they read
+pub tallies_bytes : (n : Node) → tallies n ≡ true → (a : Format) (second out : Option Format) → IsTrue (takes_formats n.function a second out) → a ≡ U8
+tallies_bytes n does a second out takes = by_function n.function does takes
+  where
+    by_function : (f : Function) → tallies_rows f ≡ true → IsTrue (takes_formats f a second out) → a ≡ U8
     by_function f is takes_it = grind arith
+
+pub locates_short : (n : Node) → counts n ≡ true → tallies n ≡ false → (a : Format) (second out : Option Format) → IsTrue (takes_formats n.function a second out) → a ≢ U32
+locates_short n does other a second out takes = by_function n.function does other takes
+  where
+    by_function : (f : Function) → counts_rows f ≡ true → tallies_rows f ≡ false → IsTrue (takes_formats f a second out) → a ≢ U32
+    by_function f is not takes_it = grind arith
 
 pub counts_once : (n : Node) → IsNode n → counts n ≡ true → n.out2 ≡ None
 counts_once n node does = of_test n.out1 n.out2 (ap (λ b. if b then (is_some n.out1 || is_some n.out2) else (is_some n.out1 && is_none n.out2)) (sym (one n.function does)) ∙ (and_parts _ _ (has_of_node n node.shape)).1)
@@ -57,6 +84,16 @@ distribution_lasts x final e at same =
 
 pub distribution_of_kind : (found : Option ObjectValue) → option_map object_kind found ≡ Some kind.Distribution → (d : DistributionValue) × (found ≡ Some (DistributionObject d))
 distribution_of_kind x e = grind arith
+
+pub extremes_of_kind : (found : Option ObjectValue) → option_map object_kind found ≡ Some kind.Extremes → (e : Extremes) × (found ≡ Some (ExtremesObject e))
+extremes_of_kind x e = grind arith
+
+pub extremes_last : (now final : Option ObjectValue) (e : Extremes) → final ≡ Some (ExtremesObject e) → option_map skeleton now ≡ option_map skeleton final
+    → (d : Extremes) × (now ≡ Some (ExtremesObject d))
+extremes_last now final e at same = extremes_of_kind now (by_skeleton now (same ∙ ap (option_map skeleton) at))
+  where
+    by_skeleton : (x : Option ObjectValue) → option_map skeleton x ≡ Some (ExtremesObject no_extremes) → option_map object_kind x ≡ Some kind.Extremes
+    by_skeleton x f = grind (arith, f)
 
 -- the first of a list that passes a test
 pub find_some : (p : Node → Bool) (n : Node) (l : List Node) → find p l ≡ Some n → In n l × (p n ≡ true)
@@ -105,46 +142,48 @@ inside_from : (r : Rectangle) (x y : ℕ) → r.x0 ≤ x → x < r.x1 → r.y0 �
 inside_from r x y a b c d = grind (arith, nat_tests, a, b, c, d)
 
 -- a row whose first place is valid, and one whose first isn't
-row_some : (r : Rectangle) (f : ℕ → ℕ → ℤ) (y : ℕ) → inside r r.x0 y ≡ true → row_in r f y ≡ run r.x0 (r.x1 - r.x0) (λ x. f x y)
-row_some r f y is =
+row_some : (r : Rectangle) (y : ℕ) → inside r r.x0 y ≡ true → row_of r y ≡ row_places r.x0 (r.x1 - r.x0) y
+row_some r y is =
     let here = inside_parts r r.x0 y is in
     let tests : (nat_le r.y0 y && nat_lt y r.y1) ≡ true = grind (arith, nat_tests, here.top, here.bottom) in
-    ap (λ b. if b then run r.x0 (r.x1 - r.x0) (λ x. f x y) else []) tests
+    ap (λ b. if b then row_places r.x0 (r.x1 - r.x0) y else []) tests
 
-row_none : (r : Rectangle) (f : ℕ → ℕ → ℤ) (y : ℕ) → inside r r.x0 y ≡ false → row_in r f y ≡ []
-row_none r f y not = elim (cases_Bool (nat_le r.y0 y && nat_lt y r.y1)) [
+row_none : (r : Rectangle) (y : ℕ) → inside r r.x0 y ≡ false → row_of r y ≡ []
+row_none r y not = elim (cases_Bool (nat_le r.y0 y && nat_lt y r.y1)) [
   | inl down ↦
       (let none : r.x1 - r.x0 ≡ 0 = grind (arith, nat_tests, not, down) in
-      ap (λ b. if b then run r.x0 (r.x1 - r.x0) (λ x. f x y) else []) down ∙ ap (λ n. run r.x0 n (λ x. f x y)) none)
-  | inr out ↦ ap (λ b. if b then run r.x0 (r.x1 - r.x0) (λ x. f x y) else []) out
+      ap (λ b. if b then row_places r.x0 (r.x1 - r.x0) y else []) down ∙ ap (λ n. row_places r.x0 n y) none)
+  | inr out ↦ ap (λ b. if b then row_places r.x0 (r.x1 - r.x0) y else []) out
 ]
 
--- rows with the same valid places and the same samples there
-row_alike : (r s : Rectangle) (f g : ℕ → ℕ → ℤ) (y z width : ℕ) → ((x : ℕ) → inside r x y ≡ inside s x z) → ((x : ℕ) → x < width → f x y ≡ g x z) → s.x1 ≤ width
-    → row_in r f y ≡ row_in s g z
-row_alike r s f g y z width places samples within = elim (cases_Bool (inside r r.x0 y)) [
+-- rows with the same valid places and the same samples there, the second so many rows further down
+row_lowered : (r s : Rectangle) (f g : ℕ → ℕ → ℤ) (y down width : ℕ) → ((x : ℕ) → inside r x y ≡ inside s x (y + down)) → ((x : ℕ) → x < width → f x y ≡ g x (y + down)) → s.x1 ≤ width
+    → AreLowered down f g (row_of r y) (row_of s (y + down))
+row_lowered r s f g y down width same samples within = elim (cases_Bool (inside r r.x0 y)) [
   | inl some ↦
-      (let one = inside_parts r r.x0 y some in
-      let other = inside_parts s r.x0 z (sym (places r.x0) ∙ some) in
+      (let z = y + down in
+      let one = inside_parts r r.x0 y some in
+      let other = inside_parts s r.x0 z (sym (same r.x0) ∙ some) in
       let begins = inside_from s s.x0 z (omega arith) (omega (arith, other.left, other.right)) other.top other.bottom in
-      let back = inside_parts r s.x0 y (places s.x0 ∙ begins) in
+      let back = inside_parts r s.x0 y (same s.x0 ∙ begins) in
       let first : r.x0 ≡ s.x0 = omega (arith, back.left, other.left) in
-      let last = inside_parts s (r.x1 - 1) z (sym (places (r.x1 - 1)) ∙ inside_from r (r.x1 - 1) y (omega (arith, one.right)) (omega (arith, one.right)) one.top one.bottom) in
-      let last_back = inside_parts r (s.x1 - 1) y (places (s.x1 - 1) ∙ inside_from s (s.x1 - 1) z (omega (arith, other.left, other.right)) (omega (arith, other.right)) other.top other.bottom) in
+      let last = inside_parts s (r.x1 - 1) z (sym (same (r.x1 - 1)) ∙ inside_from r (r.x1 - 1) y (omega (arith, one.right)) (omega (arith, one.right)) one.top one.bottom) in
+      let last_back = inside_parts r (s.x1 - 1) y (same (s.x1 - 1) ∙ inside_from s (s.x1 - 1) z (omega (arith, other.left, other.right)) (omega (arith, other.right)) other.top other.bottom) in
       let ends : r.x1 ≡ s.x1 = omega (arith, one.right, other.right, last.right, last_back.right) in
-      row_some r f y some
-      ∙ ap (λ n. run n (r.x1 - n) (λ x. f x y)) first ∙ ap (λ n. run s.x0 (n - s.x0) (λ x. f x y)) ends
-      ∙ run-same (λ x. f x y) (λ x. g x z) s.x0 (s.x1 - s.x0) (λ x from to. samples x (omega (arith, from, to, within)))
-      ∙ sym (row_some s g z begins))
+      let row_is : row_of r y ≡ row_places s.x0 (s.x1 - s.x0) y = row_some r y some ∙ ap (λ n. row_places n (r.x1 - n) y) first ∙ ap (λ n. row_places s.x0 (n - s.x0) y) ends in
+      subst (λ ps. AreLowered down f g ps (row_of s z)) (sym row_is)
+      (subst (λ qs. AreLowered down f g (row_places s.x0 (s.x1 - s.x0) y) qs) (sym (row_some s z begins))
+      (lowered_row down f g s.x0 (s.x1 - s.x0) y (λ x from to. samples x (omega (arith, from, to, within))))))
   | inr none ↦
-      row_none r f y none
-      ∙ sym (row_none s g z (elim (cases_Bool (inside s s.x0 z)) [
+      (let nowhere = row_none s (y + down) (elim (cases_Bool (inside s s.x0 (y + down))) [
         | inl some ↦
-            (let back = inside_parts r s.x0 y (places s.x0 ∙ some) in
+            (let back = inside_parts r s.x0 y (same s.x0 ∙ some) in
             let begins = inside_from r r.x0 y (omega arith) (omega (arith, back.left, back.right)) back.top back.bottom in
             absurd (cc))
         | inr not ↦ not
-      ]))
+      ]) in
+      subst (λ ps. AreLowered down f g ps (row_of s (y + down))) (sym (row_none r y none))
+      (subst (λ qs. AreLowered down f g [] qs) (sym nowhere) (lowered_none down f g)))
 ]
 
 -- ---- a band that is counted
@@ -157,21 +196,26 @@ module _ (strip : Strip) (within : IsWithinRows strip) (from to : ℕ) (part ima
   abbrev count : ℕ
   count = strip.band.count
 
-  -- the band's samples are those of what comes in the end
-  pub band_alike : valid_samples (valid_in (band_seen strip) part) ≡ valid_samples (valid_in (rows_at start count) image)
-  band_alike =
-      samples_alike part image (start - strip.rows.start) start count
+  -- the band's places are those of what comes in the end, and its samples
+  pub band_lowered : AreLowered strip.rows.start (at part) (at image) (places (band_of (band_seen strip) part.valid)) (places (band_of (rows_at start count) image.valid))
+  band_lowered =
+      places_lowered part image strip.rows.start (start - strip.rows.start) start count
       (λ j less.
-      let y = start + j in
-      let here : start - strip.rows.start + j ≡ y - strip.rows.start = omega (arith, within.above) in
-      let first : from ≤ y = omega (arith, above) in
-      let last : y < to = omega (arith, below, less) in
-      ap (row_in part.valid (at part)) here
-      ∙ row_alike part.valid image.valid (at part) (at image) (y - strip.rows.start) y image.width (λ x. stands.valid x y first last)
-      (λ x inside_it. stands.samples x y inside_it first last) is.room.columns)
+      let y = start - strip.rows.start + j in
+      let below_it : y + strip.rows.start ≡ start + j = omega (arith, within.above) in
+      let back : start + j - strip.rows.start ≡ y = omega (arith, within.above) in
+      let first : from ≤ start + j = omega (arith, above) in
+      let last : start + j < to = omega (arith, below, less) in
+      subst (λ z. AreLowered strip.rows.start (at part) (at image) (row_of part.valid y) (row_of image.valid z)) below_it
+      (row_lowered part.valid image.valid (at part) (at image) y strip.rows.start image.width
+      (λ x. ap (inside part.valid x) (sym back) ∙ stands.valid x (start + j) first last ∙ ap (inside image.valid x) (sym below_it))
+      (λ x inside_it. ap (at part x) (sym back) ∙ stands.samples x (start + j) inside_it first last ∙ ap (at image x) (sym below_it)) is.room.columns))
+
+  pub band_alike : valid_samples (valid_in (band_seen strip) part) ≡ valid_samples (valid_in (rows_at start count) image)
+  band_alike = band_lowered.samples_same
 
   pub band_histogram : (b : BinsValue) → histogram b (valid_in (band_seen strip) part) ≡ histogram b (valid_in (rows_at start count) image)
-  band_histogram b = ap (tallies b) band_alike
+  band_histogram b = ap (tallies_of b) band_alike
 
   -- so are all that were counted before and are now
   all_counted : (b : BinsValue) → added (histogram b (valid_in (all_rows start) image)) (histogram b (valid_in (rows_at start count) image)) ≡ histogram b (valid_in (all_rows (start + count)) image)
@@ -197,7 +241,7 @@ module _ (strip : Strip) (within : IsWithinRows strip) (from to : ℕ) (part ima
         counts_of (DistributionObject x) = x.counts
         counts_of other = []
 
-    pub too_is : counted_too strip part (DistributionObject d) ≡ counted_above (start + count) n image (DistributionObject e)
+    pub too_is : tallied_too strip part (DistributionObject d) ≡ counted_above (start + count) n image (DistributionObject e)
     too_is =
         let more : BinsValue → List ℕ = λ b. histogram b (valid_in (band_seen strip) part) in
         ap (λ l. DistributionObject (record { bins = d.bins; counts = added l (more d.bins) })) before_is
@@ -216,10 +260,37 @@ module _ (strip : Strip) (within : IsWithinRows strip) (from to : ℕ) (part ima
           bands_fit image is start count,
         )
 
+  module _ (n : Node) (d e : Extremes) (counted : 1 ≤ start → ExtremesObject d ≡ counted_above start n image (ExtremesObject e)) where
+    -- the extremes that the band's are added to are those of the rows above
+    pub found_before : located_before strip d ≡ extremes (valid_in (all_rows start) image)
+    found_before = elim (cases_Bool (start == 0)) [
+      | inl first ↦
+          ap (λ b. if b then no_extremes else d) first ∙ sym (none_located image 0)
+          ∙ ap (λ y. extremes (valid_in (all_rows y) image)) (sym (eqb-true start 0 first))
+      | inr later ↦ ap (λ b. if b then no_extremes else d) later ∙ ap extremes_value (counted (grind (arith, nat_tests, later)))
+    ]
+
+    pub found_too : located_too strip part (ExtremesObject d) ≡ counted_above (start + count) n image (ExtremesObject e)
+    found_too =
+        ap (λ x. ExtremesObject (added_extremes strip.rows.start x (extremes (valid_in (band_seen strip) part)))) found_before
+        ∙ ap ExtremesObject (bands_located part image strip.rows.start (start - strip.rows.start) start count band_lowered)
+
+    -- no count passes 32 bits
+    pub places_fit : ((located_before strip d).min_count + (extremes (valid_in (band_seen strip) part)).min_count < 2 ^ 32)
+        × ((located_before strip d).max_count + (extremes (valid_in (band_seen strip) part)).max_count < 2 ^ 32)
+    places_fit =
+        let above_it = extremes_few (valid_in (all_rows start) image) in
+        let band_it = extremes_few (valid_in (band_seen strip) part) in
+        let long = ap length band_alike in
+        let fits = bands_fit image is start count in (
+          omega (arith, ap (λ (x : Extremes). x.min_count) found_before, above_it.0, band_it.0, long, fits),
+          omega (arith, ap (λ (x : Extremes). x.max_count) found_before, above_it.1, band_it.1, long, fits),
+        )
+
 -- a distribution that is counted further is one of which as much lasts
-pub counted_replaces : (l : List Named) (output : ℕ) (strip : Strip) (part : ImageValue) (d : DistributionValue) → object_held l output ≡ Some (DistributionObject d) → IsDistribution d
-    → IsReplacement l (cell_of output, counted_too strip part (DistributionObject d))
-counted_replaces l output strip part d there is =
+pub tallied_replaces : (l : List Named) (output : ℕ) (strip : Strip) (part : ImageValue) (d : DistributionValue) → object_held l output ≡ Some (DistributionObject d) → IsDistribution d
+    → IsReplacement l (cell_of output, tallied_too strip part (DistributionObject d))
+tallied_replaces l output strip part d there is =
     record {
       is_object =
           record {
@@ -232,3 +303,10 @@ counted_replaces l output strip part d there is =
     before_size : (first : Bool) → length (if first then replicate d.bins.bins 0 else d.counts) ≡ d.bins.bins
     before_size true = length-replicate d.bins.bins 0
     before_size false = is.size
+
+-- so are extremes
+pub located_replaces : (l : List Named) (output : ℕ) (strip : Strip) (part : ImageValue) (x : ObjectValue) → option_map object_kind (object_held l output) ≡ Some kind.Extremes
+    → IsReplacement l (cell_of output, located_too strip part x)
+located_replaces l output strip part x is =
+    let e = extremes_of_kind (object_held l output) is in
+    record { is_object = tt; lasts = ap (λ o. option_map lasting (option_and_then (in_slot None) o)) e.1 }

@@ -8,8 +8,9 @@ use Rattle.graph_verify.specs.Operand.{is_virtual as is_virtual_operand}
 use Rattle.graph_run.proofs.CellLemmas.{kind_there, there_is, holds_there, one_cell}
 use Rattle.graph_run.proofs.AgreeLemmas.{begin, begins, written_before}
 use Rattle.graph_run.proofs.BegunLaws.{both_held, kept_virtual, labels-begun, labels-forgotten, object_held-forgotten, object_held-unwritten, virtual_as_operand}
-use Rattle.vx_base.specs.Object.{DistributionObject, DistributionValue}
-use Rattle.graph_run.proofs.CountLemmas.{counts_output, distribution_of_kind, find_none, find_some}
+use Rattle.vx_base.specs.Object.{DistributionObject, ExtremesObject}
+use Rattle.graph_run.specs.Bands.{tallies}
+use Rattle.graph_run.proofs.CountLemmas.{counts_other, distribution_of_kind, extremes_of_kind, locates_output, tallies_output, find_none, find_some}
 use Rattle.graph_run.proofs.FoundLemmas.{OfOperands, of_operands}
 use Rattle.graph_run.proofs.LastingLemmas.{Lasts-trans, Lasts-names}
 use Rattle.graph_run.proofs.LinkLaws.{All-from_In, In-from_All, reads_first, reads_second}
@@ -91,13 +92,12 @@ high_image height x operand e high = grind arith
 abbrev pub HoldsCounted : List Named → Node → Cell → Type 0
 HoldsCounted l n c = held l c ≡ option_map (node_output n First (ImageObject (image_held l n.in1)) None) (held l c)
 
-counted_in_cell : (n : Node) (which : Output) (c : Cell) (now : Cell → Option ObjectValue) (old second : Option ObjectValue) (a : ImageValue) (d : DistributionValue)
-    → now n.in1 ≡ Some (ImageObject a) → old ≡ Some (DistributionObject d) → ((w : Cell × ObjectValue) → In w (written_to n which c (now n.in1) second old) → now w.0 ≡ Some w.1)
+counted_in_cell : (n : Node) (which : Output) (c : Cell) (now : Cell → Option ObjectValue) (old second : Option ObjectValue) (a : ImageValue) (x : ObjectValue)
+    → now n.in1 ≡ Some (ImageObject a) → old ≡ Some x → node_output n First (ImageObject a) None (node_output n which (ImageObject a) second x) ≡ node_output n which (ImageObject a) second x → ((w : Cell × ObjectValue) → In w (written_to n which c (now n.in1) second old) → now w.0 ≡ Some w.1)
     → now c ≡ option_map (node_output n First (ImageObject a) None) (now c)
-counted_in_cell n which c now old second a d first there written =
-    let made : now c ≡ Some (node_output n which (ImageObject a) second (DistributionObject d)) =
-    written (c, node_output n which (ImageObject a) second (DistributionObject d)) (rw (first, there) (inl refl)) in
-    made ∙ ap (option_map (node_output n First (ImageObject a) None)) (sym made)
+counted_in_cell n which c now old second a x first there again written =
+    let made : now c ≡ Some (node_output n which (ImageObject a) second x) = written (c, node_output n which (ImageObject a) second x) (rw (first, there) (inl refl)) in
+    made ∙ ap Some (sym again) ∙ ap (option_map (node_output n First (ImageObject a) None)) (sym made)
 
 -- ---- outputs
 
@@ -349,8 +349,14 @@ module _ (objects : List Named) (nodes : List Node) (v : Verified) (height besid
   counted_at n i does which None old written = tt
   counted_at n i does which (Some c) old written =
       let a = image_of_kind (held final n.in1) (of_final n i).in1 in
-      let d = distribution_of_kind (held first_objects c) (old ∙ ap Some (counts_output n does)) in
-      counted_in_cell n which c (held final) (held first_objects c) (option_and_then (held final) n.in2) a.0 d.0 a.1 d.1 written
+      elim (cases_Bool (tallies n)) [
+        | inl bins ↦
+            (let d = distribution_of_kind (held first_objects c) (old ∙ ap Some (tallies_output n bins)) in
+            counted_in_cell n which c (held final) (held first_objects c) (option_and_then (held final) n.in2) a.0 (DistributionObject d.0) a.1 d.1 refl written)
+        | inr other ↦
+            (let e = extremes_of_kind (held first_objects c) (old ∙ ap Some (locates_output n does other)) in
+            counted_in_cell n which c (held final) (held first_objects c) (option_and_then (held final) n.in2) a.0 (ExtremesObject e.0) a.1 e.1 refl written)
+      ]
       ∙ ap (λ m. option_map (node_output n First (ImageObject m) None) (held final c)) (sym (image_there final n.in1 a.0 a.1))
 
   pub counted_end : (n : Node) → In n steps → counts n ≡ true → (c : Cell) → In c (outputs n) → HoldsCounted final n c
@@ -447,8 +453,7 @@ module _ (objects : List Named) (nodes : List Node) (v : Verified) (height besid
   writer_plain n i o j w = false_from_ne_true (counts n) (λ does.
       let stands : StandsFor (Image o.desc) (parameters n.function).output =
       subst (λ operand. StandsFor operand (parameters n.function).output) (output_known is nodes v r.ready.verified o j) (final_stands.kinds n o.cell (in_nodes n i) w) in
-      let counted = counts_output n does in
-      cc)
+      counts_other n does (sym stands))
 
   pub virtual_here : (o : VirtualOutput) → In o outs
       → (o.cell ≡ cell_of o.cell.name) × HoldsVirtual objects o.cell.name × (description_of (image_held final o.cell) ≡ o.desc) × (o.desc.height ≡ height) × (is_written steps o.cell ≡ true)
@@ -551,9 +556,7 @@ module _ (objects : List Named) (nodes : List Node) (v : Verified) (height besid
   -- who writes an image counts nothing
   pub image_writer : (n : Node) → In n steps → (c : Cell) → writes n c ≡ true → HoldsImage final c → counts n ≡ false
   image_writer n i c w image = false_from_ne_true (counts n) (λ does.
-      let written = (runs_to n i c (In-from_same c (outputs n) w)).runs.out_kind ∙ counts_output n does in
-      let found : object_kind (cell_object final c) ≡ kind.Image = kind_there final (c, kind.Image) image in
-      cc)
+      counts_other n does (sym (runs_to n i c (In-from_same c (outputs n) w)).runs.out_kind ∙ kind_there final (c, kind.Image) image))
 
   -- ---- the end
 

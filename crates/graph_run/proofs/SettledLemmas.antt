@@ -1,16 +1,15 @@
 -- Areas that are set at the end of a run in bands, and what the run leaves then.
-use Rattle.std.proofs.Common.{◌≡◌, ℕ, ℤ, ◌+◌, ◌*◌, ◌≤◌, ◌<◌, Bool, true, false, eqb, List, [], ◌∷◌, ◌++◌, map, length, take, drop, get_or, Option, Some, None, ◌⊎◌, inl, inr, refl, sym, ap, subst, ◌∙◌, arith, ◌&&◌, not, if◌then◌else◌, All, IfSome, unwrap_or, option_map, option_and_then}
+use Rattle.std.proofs.Common.{◌≢◌, ◌≡◌, ℕ, ℤ, ◌+◌, ◌*◌, ◌≤◌, ◌<◌, Bool, true, false, eqb, List, [], ◌∷◌, ◌++◌, map, length, take, drop, get_or, Option, Some, None, ◌⊎◌, inl, inr, refl, sym, ap, subst, ◌∙◌, arith, ◌&&◌, not, if◌then◌else◌, All, IfSome, unwrap_or, option_map, option_and_then}
 use Rattle.graph_run.proofs.Common.{skeleton, node_output, First, false_from_ne_true, cases_Bool, eqb-true, eq-eqb, and_parts, and_from, take_all, take_more, slice_get-get_or, U8, Node, Cell, cell_of, Description, ImageValue, IsImage, image_over, new_image, description_of, outputs, given, ObjectValue, ImageObject, VirtualObject, IsObject, object_kind, Rectangle, Context, with_objects, in_slot, Named, object_held, held, with_object, image_value, with_samples, cell_object, image_held, HoldsImage, object_held_has, Operand, Verified, writes, is_written, In, resolved, In-from_same, same-from_In, In-left, In-right, In-append, In-from_any, any-from_In, In-at, RunsInBands, final_of, is_target, is_virtual_name, IsFinished, RowsAreAs, IsAsFar, IsCounted, counter_of, counts, AreAreas, is_image_held, begun, forgotten, is_virtual_object, run_of_graph, lasting, lasting_named, Lasts, operand_held, label_of}
 use Rattle.vx_base.specs.declared.kind.Kind.TheVariants as kind
 use Rattle.graph_run.specs.Bands.{with_area_in, with_area}
 use Rattle.image_core.specs.Bands.{all_rows as rows_high}
-use Rattle.vx_base.specs.Object.{DistributionObject, DistributionValue}
 use Rattle.stat_kernels.specs.Part.{valid_in}
 use Rattle.stat_kernels.proofs.BandLaws.{all_valid}
 use Rattle.graph_run.proofs.AgreeLemmas.{begin, begins}
 use Rattle.graph_run.proofs.BegunLaws.{begun_stays}
 use Rattle.graph_run.proofs.CellLemmas.{there_is, object_after, image_after, with_object_twice, held_whole}
-use Rattle.graph_run.proofs.CountLemmas.{counts_output, distribution_of_kind, find_none, find_some}
+use Rattle.graph_run.proofs.CountLemmas.{counts_other, find_none, find_some}
 use Rattle.graph_run.proofs.OutputLemmas.{image_of_object}
 use Rattle.graph_run.proofs.FinalLemmas.{final_are, final_lasts, out_height, out_whole, in_height, runs_to, counted_end, counted_real, counter_is, counter_none, cell_is_whole, output_of_name, in_the_end}
 use Rattle.graph_run.proofs.HeldLaws.{object_held-with_object, labels-with_object}
@@ -109,6 +108,11 @@ all_rows y now final now_is final_is high as_final =
       there = r.there ∙ ap (λ (d : Description). Some (ImageObject (image_over d i.valid i.samples))) r.desc ∙ ap (λ s. Some (ImageObject (image_over (description_of f) i.valid s))) same;
       in_the_end = r.in_the_end;
     }
+
+-- what is no image has no area
+no_area : (area : Rectangle) (l : List Named) (c : Cell) (x : ObjectValue) → object_kind x ≢ kind.Image → with_area_in area l c (Some x) ≡ l
+no_area area l c (ImageObject image) other = absurd (other refl)
+no_area area l c x other = refl
 
 -- what has a name is as it will be, an image but for its area
 abbrev IsNear : Option Node → Option ObjectValue → Option ObjectValue → Type 0
@@ -358,14 +362,11 @@ module _ (objects : List Named) (nodes : List Node) (v : Verified) (height besid
         is : object_held now c.name ≡ object_held final c.name
         is = subst (λ w. IsNear w (object_held now c.name) (object_held final c.name)) (counter_is objects nodes v height beside r n i does c j) (near.targets c.name target)
 
-        d : (e : DistributionValue) × (object_held final c.name ≡ Some (DistributionObject e))
-        d =
-            let runs = runs_to objects nodes v height beside r n i c j in
-            distribution_of_kind (object_held final c.name)
-            (ap (option_map object_kind) (sym (held_whole final c (out_whole objects nodes v height beside r n i c j)) ∙ there_is final c runs.out) ∙ ap Some (runs.runs.out_kind ∙ counts_output n does))
-
         stays : with_area area (Some c) now ≡ now
-        stays = ap (with_area_in area now c) (is ∙ d.1)
+        stays =
+            let runs = runs_to objects nodes v height beside r n i c j in
+            ap (with_area_in area now c) (is ∙ sym (held_whole final c (out_whole objects nodes v height beside r n i c j)) ∙ there_is final c runs.out)
+            ∙ no_area area now c (cell_object final c) (λ image. counts_other n does (sym runs.runs.out_kind ∙ image))
 
     image_set : counts n ≡ false → (now : List Named) → AreNear v objects final now → (c : Cell) → In c (outputs n) → (image_held final c).valid ≡ area → NextNear v objects final now (with_area area (Some c) now) (c ∷ [])
     image_set no_count now near c j valid = elim (cases_Bool (is_virtual_name v c.name)) [

@@ -467,7 +467,7 @@ module _ (objects : List Named) (nodes : List Node) (v : Verified) (height besid
       here = strip_claimed l slots one h first both second s is table items
 
       -- it may write what it writes, or count
-      pub node_may : (counts n ≡ false → AreSeen strip s n) × (counts n ≡ true → IfSome n.out1 (λ cell. CanCount strip s n.in1 cell.name))
+      pub node_may : (counts n ≡ false → AreSeen strip s n) × (counts n ≡ true → IfSome n.out1 (λ cell. CanCount n strip s cell.name))
       node_may =
           let inputs = sees_inputs before after n parts s here in (
             λ no_count.
@@ -482,7 +482,7 @@ module _ (objects : List Named) (nodes : List Node) (v : Verified) (height besid
           let claimed = claims l slots one h first both second in
           let inputs = sees_inputs before after n parts s here in
           let seen = with_seen strip s n Second n.out2 (with_seen strip s n First n.out1 (scene s).objects) in
-          let counted = with_counted strip s n.in1 n.out1 (scene s).objects in
+          let counted = with_counted strip s n n.out1 (scene s).objects in
           strip_more s later here is_later keeps
           (elim (cases_Bool (counts n)) [
             | inl does ↦

@@ -1,13 +1,14 @@
 -- How a stage is after so many nodes of a strip, and after one more.
-use Rattle.std.proofs.Common.{◌≡◌, ◌≢◌, ℕ, ◌+◌, ◌^◌, ◌<◌, ◌≤◌, slice_index, length, true, false, List, [], ◌∷◌, ◌++◌, map, Option, Some, None, inl, inr, IfSome, refl, sym, ap, subst, ◌∙◌, arith, sum_by, option_map, option_and_then, unwrap_or}
-use Rattle.graph_run.proofs.Common.{eq-eqb, object_under, skeleton, append_assoc, sum_by-append, Node, Output, First, Second, Cell, same_cell, ImageValue, IsImage, outputs, given, ObjectValue, ImageObject, object_kind, Context, with_objects, Named, object_held, with_object, image_value, cell_object, image_held, HoldsImage, VirtualOutput, Verified, writes, In, Strip, Slot, Stage, AreSeen, part_made, made_in, made_seen, with_seen, IsSeen, IsStrip, rows_beside, RunsInBands, final_of, is_virtual_name, RowsAreAs, IsPartOf, right_from, right_to, scene, slot_of, fixed, RunsTo, node_image_is, parameters, accumulates, same_cell-refl, In-left, In-right, any-from_In, in_slot, seen, AreApart, IsAsFar, IsCounted, CanCount, counter_of, counts, with_counted, cell_of}
+use Rattle.std.proofs.Common.{◌≡◌, ◌≢◌, ℕ, ◌+◌, ◌^◌, ◌<◌, ◌≤◌, slice_index, length, true, false, List, [], ◌∷◌, ◌++◌, map, Option, Some, None, inl, inr, IfSome, refl, sym, ap, subst, ◌∙◌, arith, sum_by, option_map, option_and_then, unwrap_or, Bool, if◌then◌else◌}
+use Rattle.graph_run.proofs.Common.{eq-eqb, object_under, skeleton, append_assoc, sum_by-append, Node, Output, First, Second, Cell, same_cell, ImageValue, IsImage, outputs, given, ObjectValue, ImageObject, object_kind, Context, with_objects, Named, object_held, with_object, image_value, cell_object, image_held, HoldsImage, VirtualOutput, Verified, writes, In, Strip, Slot, Stage, AreSeen, part_made, made_in, made_seen, with_seen, IsSeen, IsStrip, rows_beside, RunsInBands, final_of, is_virtual_name, RowsAreAs, IsPartOf, right_from, right_to, scene, slot_of, fixed, RunsTo, node_image_is, parameters, accumulates, same_cell-refl, In-left, In-right, any-from_In, in_slot, seen, AreApart, IsAsFar, IsCounted, CanCount, counter_of, counts, with_counted, cell_of, cases_Bool, Kind}
 use Rattle.vx_base.specs.declared.kind.Kind.TheVariants as kind
-use Rattle.vx_base.specs.Object.{DistributionObject, DistributionValue}
+use Rattle.vx_base.specs.Object.{DistributionObject, DistributionValue, ExtremesObject}
+use Rattle.vx_base.specs.declared.extremes.Extremes.{Extremes}
 use Rattle.object_table.specs.Object.{distribution_value}
-use Rattle.graph_run.specs.Bands.{counted_above, counted_before, counted_too, band_seen}
-use Rattle.vx_base.specs.Statistics.{valid_samples}
+use Rattle.graph_run.specs.Bands.{CanLocate, CanTally, SeesBand, band_seen, counted_above, counted_before, counted_too, extremes_value, located_before, located_too, tallied_too, tallies}
+use Rattle.vx_base.specs.Statistics.{extremes, valid_samples}
 use Rattle.stat_kernels.specs.Part.{valid_in}
-use Rattle.graph_run.proofs.CountLemmas.{counts_bytes, counts_fit, counts_once, counts_output, distribution_lasts, distribution_of_kind, too_is}
+use Rattle.graph_run.proofs.CountLemmas.{counts_fit, counts_once, distribution_lasts, distribution_of_kind, extremes_last, extremes_of_kind, found_too, locates_output, locates_short, places_fit, tallies_bytes, tallies_output, too_is}
 use Rattle.graph_run.proofs.BandLemmas.{right_above, right_below, rows_right}
 use Rattle.graph_run.proofs.SeesLemmas.{IsRightFor, SeesRight, SeesRightBeside, seen_is_object}
 use Rattle.graph_run.proofs.AgreeLemmas.{output_cases}
@@ -22,6 +23,12 @@ use Rattle.graph_run.proofs.StripLemmas.{HasPlace, is_seen, made_stands}
 -- an output that is an image as a whole is written
 at_output : (l : List Named) (c : Cell) (image : ImageValue) → c.slot ≡ None → HoldsImage l c → object_held (with_object l c (ImageObject image)) c.name ≡ Some (ImageObject image)
 at_output l c image none here = sym (held_whole (with_object l c (ImageObject image)) c none) ∙ held_after l c here image
+
+-- something is held of which as much lasts
+some_held : {k : Kind} (now final : Option ObjectValue) → option_map object_kind final ≡ Some k → option_map skeleton now ≡ option_map skeleton final → (x : ObjectValue) × (now ≡ Some x)
+some_held (Some x) final there same = (x, refl)
+some_held None None there same = absurd (cc)
+some_held None (Some y) there same = absurd (cc)
 
 -- so is another object
 object_set : (l : List Named) (name : ℕ) (old new : ObjectValue) → object_held l name ≡ Some old → object_held (with_object l (cell_of name) new) name ≡ Some new
@@ -240,17 +247,6 @@ module _ (objects : List Named) (nodes : List Node) (v : Verified) (height besid
         runs : RunsTo final n c
         runs = runs_first c given_is
 
-        in_the_end : (e : DistributionValue) × (object_held final c.name ≡ Some (DistributionObject e))
-        in_the_end =
-            distribution_of_kind (object_held final c.name)
-            (ap (option_map object_kind) (sym (held_whole final c (whole_cell c (first_in c given_is))) ∙ there_is final c runs.out) ∙ ap Some (runs.runs.out_kind ∙ counts_output n does))
-
-        at_first : (d : DistributionValue) × (now ≡ Some (DistributionObject d)) × (d.bins ≡ in_the_end.0.bins)
-        at_first = distribution_lasts now (object_held final c.name) in_the_end.0 in_the_end.1 is.so_far.lasts
-
-        under : object_under (scene s).objects c.name ≡ DistributionObject at_first.0
-        under = ap (λ o. unwrap_or o nothing) at_first.1
-
         stands_first : IsRightFor objects height before strip.rows part image
         stands_first = rw (sees.first.seen_is, sees.first.ends_as) sees.first.stands
 
@@ -266,44 +262,125 @@ module _ (objects : List Named) (nodes : List Node) (v : Verified) (height besid
         below : end ≤ right_to objects height before strip.rows
         below = omega (arith, right_below (sum_by (rows_beside objects) before) beside height (strip.rows.start + strip.rows.count) less, is_strip.below)
 
-        so_far : 1 ≤ strip.band.start → DistributionObject at_first.0 ≡ counted_above strip.band.start n image (DistributionObject in_the_end.0)
-        so_far some =
-            let counted : Some (DistributionObject at_first.0) ≡ Some (counted_above strip.band.start n image (DistributionObject in_the_end.0)) =
-            sym at_first.1 ∙ is.so_far.counted some ∙ ap (option_map (counted_above strip.band.start n image)) in_the_end.1 in
-            cc
+        -- what it is in the end
+        end_kind : option_map object_kind (object_held final c.name) ≡ Some (parameters n.function).output
+        end_kind = ap (option_map object_kind) (sym (held_whole final c (whole_cell c (first_in c given_is))) ∙ there_is final c runs.out) ∙ ap Some runs.runs.out_kind
 
-        pub can_count : CanCount strip s n.in1 c.name
-        can_count =
+        sees_band : SeesBand strip s n.in1
+        sees_band =
             record {
               here = sees.first.here;
               image = sees.first.here_is;
               some_rows = omega (arith, is_strip.some, is_strip.within.above, is_strip.within.below);
               rows = sees.first.has_rows;
-              format = ap (λ d. d.format) stands_first.description ∙ counts_bytes n does image.format _ _ runs.runs.formats;
               height = ap (λ d. d.height) stands_first.description;
-              kind = ap (option_map object_kind) at_first.1;
-              room = λ k.
-                  subst (λ (x : ObjectValue). slice_index (counted_before strip (distribution_value x)) k + length (valid_samples (valid_in (band_seen strip) part)) < 2 ^ 32) (sym under)
-                  (counts_fit strip is_strip.within _ _ part image stands_first above below image_is n at_first.0 in_the_end.0 at_first.2 so_far k);
             }
+
+        part_format : part.format ≡ image.format
+        part_format = ap (λ d. d.format) stands_first.description
 
         -- once the band is counted
-        counted_now : Some (counted_too strip part (object_under (scene s).objects c.name)) ≡ option_map (counted_above end n image) (object_held final c.name)
-        counted_now =
-            ap (λ x. Some (counted_too strip part x)) under
-            ∙ ap Some (too_is strip is_strip.within _ _ part image stands_first above below image_is n at_first.0 in_the_end.0 at_first.2 so_far)
-            ∙ ap (option_map (counted_above end n image)) (sym in_the_end.1)
+        pub record HasCounted : Type 0 where
+          pub counted : Some (counted_too n strip part (object_under (scene s).objects c.name)) ≡ option_map (counted_above end n image) (object_held final c.name)
+          pub lasts : option_map skeleton (option_map (counted_above end n image) (object_held final c.name)) ≡ option_map skeleton (object_held final c.name)
 
-        is_counted : IsCounted n image end (Some (counted_too strip part (object_under (scene s).objects c.name))) (object_held final c.name)
-        is_counted =
-            record {
-              lasts =
-                  ap (option_map skeleton) (counted_now ∙ ap (option_map (counted_above end n image)) in_the_end.1)
-                  ∙ ap (option_map skeleton) (sym in_the_end.1);
-              counted = λ _. counted_now;
-            }
+        chosen_too : (b : Bool) → tallies n ≡ b → (part_of : ImageValue) (x : ObjectValue) → counted_too n strip part_of x ≡ (if b then tallied_too strip part_of x else located_too strip part_of x)
+        chosen_too b e part_of x = ap (λ t. if t then tallied_too strip part_of x else located_too strip part_of x) e
 
-        module _ (later : Stage) (found : object_held (scene later).objects c.name ≡ Some (counted_too strip part (object_under (scene s).objects c.name))) where
+        -- where it counts in bins
+        module _ (bins : tallies n ≡ true) where
+          last_counts : (e : DistributionValue) × (object_held final c.name ≡ Some (DistributionObject e))
+          last_counts = distribution_of_kind (object_held final c.name) (end_kind ∙ ap Some (tallies_output n bins))
+
+          first_counts : (d : DistributionValue) × (now ≡ Some (DistributionObject d)) × (d.bins ≡ last_counts.0.bins)
+          first_counts = distribution_lasts now (object_held final c.name) last_counts.0 last_counts.1 is.so_far.lasts
+
+          counts_under : object_under (scene s).objects c.name ≡ DistributionObject first_counts.0
+          counts_under = ap (λ o. unwrap_or o nothing) first_counts.1
+
+          counts_so_far : 1 ≤ strip.band.start → DistributionObject first_counts.0 ≡ counted_above strip.band.start n image (DistributionObject last_counts.0)
+          counts_so_far some =
+              let counted : Some (DistributionObject first_counts.0) ≡ Some (counted_above strip.band.start n image (DistributionObject last_counts.0)) =
+              sym first_counts.1 ∙ is.so_far.counted some ∙ ap (option_map (counted_above strip.band.start n image)) last_counts.1 in
+              cc
+
+          can_tally : CanTally strip s n.in1 c.name
+          can_tally =
+              record {
+                sees = sees_band;
+                format = part_format ∙ tallies_bytes n bins image.format _ _ runs.runs.formats;
+                kind = ap (option_map object_kind) first_counts.1;
+                room = λ k.
+                    subst (λ (x : ObjectValue). slice_index (counted_before strip (distribution_value x)) k + length (valid_samples (valid_in (band_seen strip) part)) < 2 ^ 32) (sym counts_under)
+                    (counts_fit strip is_strip.within _ _ part image stands_first above below image_is n first_counts.0 last_counts.0 first_counts.2 counts_so_far k);
+              }
+
+          has_tallied : HasCounted
+          has_tallied =
+              record {
+                counted =
+                    ap Some (chosen_too true bins part (object_under (scene s).objects c.name))
+                    ∙ ap (λ x. Some (tallied_too strip part x)) counts_under
+                    ∙ ap Some (too_is strip is_strip.within _ _ part image stands_first above below image_is n first_counts.0 last_counts.0 first_counts.2 counts_so_far)
+                    ∙ ap (option_map (counted_above end n image)) (sym last_counts.1);
+                lasts = ap (λ o. option_map skeleton (option_map (counted_above end n image) o)) last_counts.1 ∙ ap (option_map skeleton) (sym last_counts.1);
+              }
+
+        -- where it finds extremes
+        module _ (other : tallies n ≡ false) where
+          last_extremes : (e : Extremes) × (object_held final c.name ≡ Some (ExtremesObject e))
+          last_extremes = extremes_of_kind (object_held final c.name) (end_kind ∙ ap Some (locates_output n does other))
+
+          first_extremes : (d : Extremes) × (now ≡ Some (ExtremesObject d))
+          first_extremes = extremes_last now (object_held final c.name) last_extremes.0 last_extremes.1 is.so_far.lasts
+
+          extremes_under : object_under (scene s).objects c.name ≡ ExtremesObject first_extremes.0
+          extremes_under = ap (λ o. unwrap_or o nothing) first_extremes.1
+
+          extremes_so_far : 1 ≤ strip.band.start → ExtremesObject first_extremes.0 ≡ counted_above strip.band.start n image (ExtremesObject last_extremes.0)
+          extremes_so_far some =
+              let counted : Some (ExtremesObject first_extremes.0) ≡ Some (counted_above strip.band.start n image (ExtremesObject last_extremes.0)) =
+              sym first_extremes.1 ∙ is.so_far.counted some ∙ ap (option_map (counted_above strip.band.start n image)) last_extremes.1 in
+              cc
+
+          can_locate : CanLocate strip s n.in1 c.name
+          can_locate =
+              let room = places_fit strip is_strip.within _ _ part image stands_first above below image_is n first_extremes.0 last_extremes.0 extremes_so_far in
+              record {
+                sees = sees_band;
+                format = λ e. locates_short n does other image.format _ _ runs.runs.formats (sym part_format ∙ e);
+                kind = ap (option_map object_kind) first_extremes.1;
+                rows = omega (arith, stands_first.rows.2, image_is.sides.1);
+                least_room =
+                    subst (λ (x : ObjectValue). (located_before strip (extremes_value x)).min_count + (extremes (valid_in (band_seen strip) part)).min_count < 2 ^ 32) (sym extremes_under) room.0;
+                greatest_room =
+                    subst (λ (x : ObjectValue). (located_before strip (extremes_value x)).max_count + (extremes (valid_in (band_seen strip) part)).max_count < 2 ^ 32) (sym extremes_under) room.1;
+              }
+
+          has_located : HasCounted
+          has_located =
+              record {
+                counted =
+                    ap Some (chosen_too false other part (object_under (scene s).objects c.name))
+                    ∙ ap (λ x. Some (located_too strip part x)) extremes_under
+                    ∙ ap Some (found_too strip is_strip.within _ _ part image stands_first above below image_is n first_extremes.0 last_extremes.0 extremes_so_far)
+                    ∙ ap (option_map (counted_above end n image)) (sym last_extremes.1);
+                lasts = ap (λ o. option_map skeleton (option_map (counted_above end n image) o)) last_extremes.1 ∙ ap (option_map skeleton) (sym last_extremes.1);
+              }
+
+        pub can_count : CanCount n strip s c.name
+        can_count = record { tally = can_tally; locate = can_locate }
+
+        held_before : (x : ObjectValue) × (now ≡ Some x)
+        held_before = some_held now (object_held final c.name) end_kind is.so_far.lasts
+
+        band_counted : HasCounted
+        band_counted = elim (cases_Bool (tallies n)) [ inl bins ↦ has_tallied bins | inr other ↦ has_located other ]
+
+        is_counted : IsCounted n image end (Some (counted_too n strip part (object_under (scene s).objects c.name))) (object_held final c.name)
+        is_counted = record { lasts = ap (option_map skeleton) band_counted.counted ∙ band_counted.lasts; counted = λ _. band_counted.counted }
+
+        module _ (later : Stage) (found : object_held (scene later).objects c.name ≡ Some (counted_too n strip part (object_under (scene s).objects c.name))) where
           as_counted : AsMade done c (object_held (scene later).objects c.name)
           as_counted =
               record {
@@ -314,19 +391,19 @@ module _ (objects : List Named) (nodes : List Node) (v : Verified) (height besid
               }
 
       module _ (opens : (c : Cell) → In c (outputs n) → IsToCount s c) where
-        pub output_counts : IfSome n.out1 (λ cell. CanCount strip s n.in1 cell.name)
+        pub output_counts : IfSome n.out1 (λ cell. CanCount n strip s cell.name)
         output_counts = of_output n.out1 refl
           where
-            of_output : (o : Option Cell) → n.out1 ≡ o → IfSome o (λ cell. CanCount strip s n.in1 cell.name)
+            of_output : (o : Option Cell) → n.out1 ≡ o → IfSome o (λ cell. CanCount n strip s cell.name)
             of_output None e = tt
             of_output (Some c) e = can_count c e (opens c (first_in c e))
 
-        module _ (later : Stage) (value : scene later ≡ with_objects (scene s) (with_counted strip s n.in1 n.out1 (scene s).objects)) (slots : map fixed later.slots.items ≡ map fixed s.slots.items) where
-          found_now : (name : ℕ) → object_held (scene later).objects name ≡ object_held (with_counted strip s n.in1 n.out1 (scene s).objects) name
+        module _ (later : Stage) (value : scene later ≡ with_objects (scene s) (with_counted strip s n n.out1 (scene s).objects)) (slots : map fixed later.slots.items ≡ map fixed s.slots.items) where
+          found_now : (name : ℕ) → object_held (scene later).objects name ≡ object_held (with_counted strip s n n.out1 (scene s).objects) name
           found_now name = ap (λ (t : Context). object_held t.objects name) value
 
           counted_beside : (o : Option Cell) → n.out1 ≡ o → (name : ℕ) → ((c : Cell) → In c (outputs n) → name ≢ c.name)
-              → object_held (with_counted strip s n.in1 o (scene s).objects) name ≡ object_held (scene s).objects name
+              → object_held (with_counted strip s n o (scene s).objects) name ≡ object_held (scene s).objects name
           counted_beside None e name other = refl
           counted_beside (Some c) e name other = held_beside (scene s).objects (cell_of c.name) name _ (other c (first_in c e))
 
@@ -335,8 +412,8 @@ module _ (objects : List Named) (nodes : List Node) (v : Verified) (height besid
               let is = opens c (first_in c e) in
               as_counted c e is later
               (found_now c.name
-              ∙ ap (λ o. object_held (with_counted strip s n.in1 o (scene s).objects) c.name) e
-              ∙ object_set (scene s).objects c.name _ _ (at_first c e is).1)
+              ∙ ap (λ o. object_held (with_counted strip s n o (scene s).objects) c.name) e
+              ∙ object_set (scene s).objects c.name _ _ (held_before c e is).1)
 
           pub has_counted : HasRun s later
           has_counted =

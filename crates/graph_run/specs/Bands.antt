@@ -4,9 +4,10 @@ use Rattle.std.specs.Prelude.{ℕ, ℤ, ◌+◌, ◌-◌, ◌*◌, ◌^◌, ◌<
 use Rattle.std.specs.Option.{option_map, option_and_then}
 use Rattle.std.specs.List.{list_any}
 use Rattle.std.specs.List.Sorted.{IsStrictlyIncreasing}
-use Rattle.vx_base.specs.declared.format.Format.TheVariants.{U8}
+use Rattle.vx_base.specs.declared.extremes.Extremes.{Extremes}
+use Rattle.vx_base.specs.declared.format.Format.TheVariants.{U8, U32}
 use Rattle.vx_base.specs.declared.function.Function.{Function}
-use Rattle.vx_base.specs.declared.function.Function.TheVariants.{Histogram}
+use Rattle.vx_base.specs.declared.function.Function.TheVariants.{Histogram, MinMaxLoc}
 use Rattle.vx_base.specs.declared.kind.Kind.TheVariants as kind
 use Rattle.vx_base.specs.declared.node.Node.{Node}
 use Rattle.vx_base.specs.declared.output.Output.{Output}
@@ -16,13 +17,14 @@ use Rattle.vx_base.specs.Description.{Description, IsDescription}
 use Rattle.vx_base.specs.Function.{parameters, accumulates}
 use Rattle.vx_base.specs.Image.{ImageValue, IsImage, image_over, description_of, band, at}
 use Rattle.vx_base.specs.Node.{outputs}
-use Rattle.vx_base.specs.Object.{DistributionValue, ObjectValue, ImageObject, IsObject, object_kind}
+use Rattle.vx_base.specs.Object.{DistributionValue, ObjectValue, ExtremesObject, ImageObject, IsObject, no_extremes, object_kind}
 use Rattle.vx_base.specs.Outputs.{node_image, node_output}
 use Rattle.vx_base.specs.Rectangle.{Rectangle, whole, empty}
-use Rattle.vx_base.specs.Statistics.{histogram, valid_samples}
+use Rattle.vx_base.specs.Statistics.{extremes, histogram, valid_samples}
 use Rattle.image_core.specs.declared.band.Band.{Band}
 use Rattle.image_core.specs.Bands.{IsInRows, all_rows}
 use Rattle.stat_kernels.specs.Counts.{added}
+use Rattle.stat_kernels.specs.Located.{added_extremes}
 use Rattle.stat_kernels.specs.Part.{valid_in}
 use Rattle.object_table.specs.Named.{Named, object_held, held, with_object}
 use Rattle.object_table.specs.Object.{distribution_value, image_value, with_counts}
@@ -156,13 +158,22 @@ pub record AreSeen (strip : Strip) (s : Stage) (n : Node) : Type 0 where
 
 -- ---- what nodes count
 
--- whether a node writes what it counts of an image, which it can do band by band
+-- whether a node writes what it counts of an image, or what it finds in it, which it can do band by band
 abbrev pub counts_rows : Function → Bool
 counts_rows Histogram = true
+counts_rows MinMaxLoc = true
 counts_rows other = false
 
 abbrev pub counts : Node → Bool
 counts n = counts_rows n.function
+
+-- whether it counts in bins
+abbrev pub tallies_rows : Function → Bool
+tallies_rows Histogram = true
+tallies_rows other = false
+
+abbrev pub tallies : Node → Bool
+tallies n = tallies_rows n.function
 
 -- what such a node gives of the rows of an image above row y, for an output that is such an object
 abbrev pub counted_above : ℕ → Node → ImageValue → ObjectValue → ObjectValue
@@ -172,38 +183,75 @@ counted_above y n image old = node_output n First (ImageObject (valid_in (all_ro
 abbrev pub counted_before : Strip → DistributionValue → List ℕ
 counted_before strip d = if strip.band.start == 0 then replicate d.bins.bins 0 else d.counts
 
+-- what was found in them
+abbrev pub located_before : Strip → Extremes → Extremes
+located_before strip e = if strip.band.start == 0 then no_extremes else e
+
+-- an object that is extremes, as such
+abbrev pub extremes_value : ObjectValue → Extremes
+extremes_value (ExtremesObject e) = e
+extremes_value other = no_extremes
+
 -- the band among the rows that nodes see
 abbrev pub band_seen : Strip → Band
 band_seen strip = record { start = strip.band.start - strip.rows.start; count = strip.band.count }
 
 -- a distribution once the band's rows of a part are counted too
-abbrev pub counted_too : Strip → ImageValue → ObjectValue → ObjectValue
-counted_too strip part object =
+abbrev pub tallied_too : Strip → ImageValue → ObjectValue → ObjectValue
+tallied_too strip part object =
     let d = distribution_value object in
     with_counts object (added (counted_before strip d) (histogram d.bins (valid_in (band_seen strip) part)))
 
--- an image that is seen, of which the band can be counted in the distribution under a name
-pub record CanCount (strip : Strip) (s : Stage) (input : Cell) (output : ℕ) : Type 0 where
+-- extremes once they are those of the band's rows too
+abbrev pub located_too : Strip → ImageValue → ObjectValue → ObjectValue
+located_too strip part object =
+    ExtremesObject (added_extremes strip.rows.start (located_before strip (extremes_value object)) (extremes (valid_in (band_seen strip) part)))
+
+abbrev pub counted_too : Node → Strip → ImageValue → ObjectValue → ObjectValue
+counted_too n strip part object = if tallies n then tallied_too strip part object else located_too strip part object
+
+-- an image of which the band is seen
+pub record SeesBand (strip : Strip) (s : Stage) (input : Cell) : Type 0 where
   pub here : HoldsImage (scene s).objects input
   pub image : IsImage (image_held (scene s).objects input)
   pub some_rows : 1 ≤ strip.rows.count
   pub rows : HasRows strip.rows s input
-  pub format : (image_value (seen strip.rows s input)).format ≡ U8
   pub height : (image_value (seen strip.rows s input)).height ≡ strip.rows.count
+
+-- the band can be counted in the distribution under a name
+pub record CanTally (strip : Strip) (s : Stage) (input : Cell) (output : ℕ) : Type 0 where
+  pub sees : SeesBand strip s input
+  pub format : (image_value (seen strip.rows s input)).format ≡ U8
   pub kind : IsUnder (scene s).objects kind.Distribution output
   pub room : (k : ℕ) → slice_index (counted_before strip (distribution_value (object_under (scene s).objects output))) k
       + length (valid_samples (valid_in (band_seen strip) (image_value (seen strip.rows s input)))) < 2 ^ 32
 
--- the objects once the band is counted in an output, if it is there
-abbrev pub with_counted : Strip → Stage → Cell → Option Cell → List Named → List Named
-with_counted strip s input None objects = objects
-with_counted strip s input (Some output) objects =
-    with_object objects (cell_of output.name) (counted_too strip (image_value (seen strip.rows s input)) (object_under objects output.name))
+-- the extremes under a name can be those of the band too
+pub record CanLocate (strip : Strip) (s : Stage) (input : Cell) (output : ℕ) : Type 0 where
+  pub sees : SeesBand strip s input
+  pub format : (image_value (seen strip.rows s input)).format ≢ U32
+  pub kind : IsUnder (scene s).objects kind.Extremes output
+  pub rows : strip.rows.start + strip.rows.count < 2 ^ 16
+  pub least_room : (located_before strip (extremes_value (object_under (scene s).objects output))).min_count
+      + (extremes (valid_in (band_seen strip) (image_value (seen strip.rows s input)))).min_count < 2 ^ 32
+  pub greatest_room : (located_before strip (extremes_value (object_under (scene s).objects output))).max_count
+      + (extremes (valid_in (band_seen strip) (image_value (seen strip.rows s input)))).max_count < 2 ^ 32
+
+-- a node can count the band for what has a name
+pub record CanCount (n : Node) (strip : Strip) (s : Stage) (output : ℕ) : Type 0 where
+  pub tally : tallies n ≡ true → CanTally strip s n.in1 output
+  pub locate : tallies n ≡ false → CanLocate strip s n.in1 output
+
+-- the objects once a node has counted the band for an output, if it is there
+abbrev pub with_counted : Strip → Stage → Node → Option Cell → List Named → List Named
+with_counted strip s n None objects = objects
+with_counted strip s n (Some output) objects =
+    with_object objects (cell_of output.name) (counted_too n strip (image_value (seen strip.rows s n.in1)) (object_under objects output.name))
 
 -- the objects once a node has run on the rows of a strip
 abbrev pub after_node : Strip → Stage → Node → List Named
 after_node strip s n =
-    if counts n then with_counted strip s n.in1 n.out1 (scene s).objects
+    if counts n then with_counted strip s n n.out1 (scene s).objects
     else with_seen strip s n Second n.out2 (with_seen strip s n First n.out1 (scene s).objects)
 
 -- ---- graphs that can run so

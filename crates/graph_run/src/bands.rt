@@ -28,7 +28,9 @@ ghost use Rattle.graph_verify.specs.Verified.{IsVerified};
 ghost use Rattle.buffer_plan.specs.Places.{told};
 ghost use Rattle.buffer_plan.specs.Plan.{IsPlan};
 ghost use Rattle.graph_run.specs.Bands.{SeesParts, part_made, with_band, made_seen, with_seen};
-ghost use Rattle.graph_run.specs.Bands.{CanCount, after_node, counted_before, counted_too, with_counted};
+ghost use Rattle.graph_run.specs.Bands.{CanCount, CanLocate, CanTally, after_node, counted_before};
+ghost use Rattle.graph_run.specs.Bands.{extremes_value, located_before, located_too};
+ghost use Rattle.graph_run.specs.Bands.{tallied_too, with_counted};
 ghost use Rattle.graph_run.specs.Bands.{band_seen, counts, seen};
 ghost use Rattle.graph_run.specs.Bands.{IsWithinRows, IsSeen, AreSeen, IsStrip};
 ghost use Rattle.graph_run.specs.Bands.{output_part, RunsInBands, final_of};
@@ -51,9 +53,9 @@ use crate::step::{Making, distribution_of, write_gradients, write_samples};
 use buffer_plan::Plan;
 use graph_verify::{Verified, VirtualOutput};
 use image_core::{Band, Image, ImageMut, Second};
-use object_table::{Content, Distribution, Table};
-use stat_kernels::add_histogram;
-use vx_base::{Desc, Function, GREATEST_BINS, Node, ObjRef, Output, Rect, Samples};
+use object_table::{Content, Distribution, Object, Table};
+use stat_kernels::{add_histogram, add_min_max};
+use vx_base::{Desc, Extremes, Function, GREATEST_BINS, Node, ObjRef, Output, Rect, Samples};
 
 /// Rows that nodes see, and the band of them that is right in the end.
 #[derive(Clone, Copy)]
@@ -168,11 +170,12 @@ fn clear_slots(stage: &mut Stage)
     }
 }
 
-/// Whether a node writes what it counts of an image, which it can do band by band.
+/// Whether a node writes what it counts of an image, or what it finds in it, which it can do band
+/// by band.
 pub fn counts(node: &Node) -> bool
     ensures { result ≡ counts node.now }
 {
-    matches!(node.function, Function::Histogram)
+    matches!(node.function, Function::Histogram | Function::MinMaxLoc)
 }
 
 /// Runs all nodes on the rows of a strip. Before a node runs, the virtual images that it writes
@@ -255,7 +258,7 @@ fn run_on_strip(stage: &mut Stage, node: &Node, strip: Strip)
     requires strip { IsWithinRows strip }
     requires seen { counts node.now ≡ false → AreSeen strip stage.old node.now }
     requires counted { counts node.now ≡ true → IfSome node.now.out1
-        (λ cell. CanCount strip stage.old node.now.in1 cell.name) }
+        (λ cell. CanCount node.now strip stage.old cell.name) }
     ensures value { scene stage.new ≡ with_objects (scene stage.old)
         (after_node strip stage.old node.now) }
     ensures stage { IsStage stage.new }
@@ -273,16 +276,19 @@ fn count_output(stage: &mut Stage, node: &Node, strip: Strip)
     requires stage { IsStage stage.old }
     requires strip { IsWithinRows strip }
     requires counts { IfSome node.now.out1
-        (λ cell. CanCount strip stage.old node.now.in1 cell.name) }
+        (λ cell. CanCount node.now strip stage.old cell.name) }
     ensures value { scene stage.new ≡ with_objects (scene stage.old)
-        (with_counted strip stage.old node.now.in1 node.now.out1 (scene stage.old).objects) }
+        (with_counted strip stage.old node.now node.now.out1 (scene stage.old).objects) }
     ensures stage { IsStage stage.new }
     ensures keeps { Keeps stage.old stage.new }
 {
     let Some(output) = node.out1 else {
         return;
     };
-    count_band(stage, node.in1, output.name(), strip);
+    match node.function {
+        Function::Histogram => count_band(stage, node.in1, output.name(), strip),
+        _ => locate_band(stage, node.in1, output.name(), strip),
+    }
 }
 
 /// Counts the valid samples of the band's rows of a U8 image, beside those of the bands above, in
@@ -290,10 +296,10 @@ fn count_output(stage: &mut Stage, node: &Node, strip: Strip)
 fn count_band(stage: &mut Stage, input: ObjRef, output: u32, strip: Strip)
     requires stage { IsStage stage.old }
     requires strip { IsWithinRows strip }
-    requires counts { CanCount strip stage.old input output }
+    requires counts { CanTally strip stage.old input output }
     ensures value { scene stage.new ≡ with_objects (scene stage.old)
         (with_object (scene stage.old).objects (cell_of output)
-        (counted_too strip (image_value (seen strip.rows stage.old input))
+        (tallied_too strip (image_value (seen strip.rows stage.old input))
         (object_under (scene stage.old).objects output))) }
     ensures stage { IsStage stage.new }
     ensures keeps { Keeps stage.old stage.new }
@@ -306,13 +312,52 @@ fn count_band(stage: &mut Stage, input: ObjRef, output: u32, strip: Strip)
     let mut room = [0; GREATEST_BINS];
     let counts = &mut room[..usize::from(bins.bins())];
     begin_counts(distribution, strip, counts);
-    add_histogram(
+    let band = strip.band_seen();
+    add_histogram(&stage.part(input, strip.rows), band, bins, counts);
+    stage.table.set_counts(output, counts);
+}
+
+/// Finds the extremes of the band's rows of an image and of those above, for the object under a
+/// name, which has those of the rows above.
+fn locate_band(stage: &mut Stage, input: ObjRef, output: u32, strip: Strip)
+    requires stage { IsStage stage.old }
+    requires strip { IsWithinRows strip }
+    requires counts { CanLocate strip stage.old input output }
+    ensures value { scene stage.new ≡ with_objects (scene stage.old)
+        (with_object (scene stage.old).objects (cell_of output)
+        (located_too strip (image_value (seen strip.rows stage.old input))
+        (object_under (scene stage.old).objects output))) }
+    ensures stage { IsStage stage.new }
+    ensures keeps { Keeps stage.old stage.new }
+{
+    let above = match stage.table.get_held(output) {
+        Some(object) => located_before(object, strip),
+        None => unreachable!(),
+    };
+    let extremes = add_min_max(
         &stage.part(input, strip.rows),
         strip.band_seen(),
-        bins,
-        counts,
+        strip.rows.start,
+        above,
     );
-    stage.table.set_counts(output, counts);
+    stage.table.set_extremes(output, extremes);
+}
+
+/// The extremes that were found in the bands above: none where there are none.
+fn located_before(object: &Object, strip: Strip) -> Extremes
+    ensures { result ≡ located_before strip (extremes_value object.now) }
+{
+    match object.content() {
+        Content::Extremes(extremes) if strip.band.start > 0 => *extremes,
+        _ => Extremes {
+            min: 0,
+            max: 0,
+            min_count: 0,
+            max_count: 0,
+            min_at: (0, 0),
+            max_at: (0, 0),
+        },
+    }
 }
 
 /// What a distribution has counted of the bands above: nothing where there are none.

@@ -1,111 +1,110 @@
 -- The samples of bands of rows, and what is counted of them.
-use Rattle.std.proofs.Common.{◌≡◌, ◌≢◌, ◌⊎◌, set, ℕ, zero, suc, ℤ, ◌+◌, ◌-◌, ◌*◌, ◌<◌, ◌≤◌, List, [], ◌++◌, length, map, get_or, slice_index, cond, replicate, Bool, true, false, inl, inr, refl, ap, sym, ◌∙◌, arith, ◌&&◌, nat_le, nat_lt, if◌then◌else◌, min, max}
+use Rattle.std.proofs.Common.{subst, ◌≡◌, ◌≢◌, ◌⊎◌, set, ℕ, zero, suc, ℤ, ◌+◌, ◌-◌, ◌*◌, ◌<◌, ◌≤◌, List, [], ◌++◌, length, map, get_or, slice_index, cond, replicate, true, false, inl, inr, refl, ap, sym, ◌∙◌, arith, ◌&&◌, nat_le, nat_lt, if◌then◌else◌, min, max}
+use Rattle.std.specs.Int.{int_min, int_max}
 use Rattle.std.specs.List.{count_by}
 use Rattle.std.specs.Prelude.{unsigned_abs}
 use Rattle.std.proofs.lemmas.Bool.{cases_eq, cases_lt}
 use Rattle.std.proofs.lemmas.Bool.Decides.{nat_tests}
-use Rattle.std.proofs.lemmas.List.{length-append, append-nil, append_assoc, get_or-set_same, get_or-set_other, get_or_default, get_or_past, length-replicate, length-set, get_or-replicate, same_lists}
+use Rattle.std.proofs.lemmas.List.{length-map, map-append, length-append, append-nil, append_assoc, get_or-set_same, get_or-set_other, get_or_default, get_or_past, length-replicate, length-set, get_or-replicate, same_lists}
 use Rattle.std.proofs.lemmas.List.FromFn.{length-map-range_with_len, get_or-map-range_with_len}
 use Rattle.std.proofs.lemmas.List.Sums.{count_by-le-length, sum_by-append}
-use Rattle.vx_base.specs.Image.{ImageValue, IsImage, at, run}
+use Rattle.vx_base.specs.Image.{ImageValue, IsImage, at}
 use Rattle.vx_base.specs.Rectangle.{Rectangle}
-use Rattle.vx_base.specs.Statistics.{BinsValue, bin_of, is_bin, histogram, samples_in, tallies, valid_samples}
+use Rattle.vx_base.specs.Statistics.{BinsValue, bin_of, is_bin, histogram, samples_in, tallies, valid_samples, places, row_places, extremes}
 use Rattle.image_core.specs.declared.band.Band.{Band}
 use Rattle.image_core.specs.Bands.{all_rows}
 use Rattle.stat_kernels.specs.Counts.{added}
 use Rattle.stat_kernels.specs.Part.{band_of, valid_in}
-use Rattle.stat_kernels.proofs.PlaceLaws.{length-samples, places_none, samples_more}
+use Rattle.stat_kernels.proofs.PlaceLaws.{length-samples, places_more, places_none}
+use Rattle.vx_base.specs.Object.{no_extremes}
+use Rattle.stat_kernels.specs.Located.{added_extremes, extremes_of, found_in}
+use Rattle.stat_kernels.proofs.LocatedLaws.{at_most, AreLowered, extremes_joined, lowered_more, lowered_none}
 use Rattle.stat_kernels.proofs.Rows.{above}
 
 abbrev pub rows_at : ℕ → ℕ → Band
 rows_at start count = record { start = start; count = count }
 
--- ---- samples by rows
+-- ---- places by rows
 
--- what f gives at the places of a rectangle in one row
-abbrev pub row_in : Rectangle → (ℕ → ℕ → ℤ) → ℕ → List ℤ
-row_in r f y = if nat_le r.y0 y && nat_lt y r.y1 then run r.x0 (r.x1 - r.x0) (λ x. f x y) else []
+-- the places of a rectangle in one row
+abbrev pub row_of : Rectangle → ℕ → List (ℕ × ℕ)
+row_of r y = if nat_le r.y0 y && nat_lt y r.y1 then row_places r.x0 (r.x1 - r.x0) y else []
 
-row_before : (r : Rectangle) (f : ℕ → ℕ → ℤ) (y : ℕ) → y < r.y0 → row_in r f y ≡ []
-row_before r f y before = grind (arith, nat_tests, before)
+row_outside : (r : Rectangle) (y : ℕ) → (nat_le r.y0 y && nat_lt y r.y1) ≡ false → row_of r y ≡ []
+row_outside r y out = ap (λ b. if b then row_places r.x0 (r.x1 - r.x0) y else []) out
 
-no_row : (r : Rectangle) (f : ℕ → ℕ → ℤ) (y : ℕ) → r.y1 ≤ y → row_in r f y ≡ []
-no_row r f y past = by_test (nat_le r.y0 y) (nat_lt y r.y1) (grind (arith, nat_tests, past))
+row_inside : (r : Rectangle) (y : ℕ) → r.y0 ≤ y → y < r.y1 → row_of r y ≡ row_places r.x0 (r.x1 - r.x0) y
+row_inside r y from below = let tests : (nat_le r.y0 y && nat_lt y r.y1) ≡ true = grind (arith, nat_tests, from, below) in ap (λ b. if b then row_places r.x0 (r.x1 - r.x0) y else []) tests
+
+-- no rows have no places
+pub no_places : (r : Rectangle) (start : ℕ) → places (band_of (rows_at start 0) r) ≡ []
+no_places r start =
+    let t : Rectangle = record r { y0 = max r.y0 start } in
+    let none : max (max r.y0 start) (min r.y1 (start + 0)) ≡ max r.y0 start = grind (arith, nat_tests) in
+    ap (λ n. places (above t n)) none ∙ places_none t
+
+-- one more row
+pub one_row : (r : Rectangle) (start count : ℕ) → places (band_of (rows_at start (count + 1)) r) ≡ places (band_of (rows_at start count) r) ++ row_of r (start + count)
+one_row r start count = by_place (cases_lt y r.y0) (cases_lt y r.y1)
   where
-    by_test : (b c : Bool) → c ≡ false → (if b && c then run r.x0 (r.x1 - r.x0) (λ x. f x y) else []) ≡ []
-    by_test true c e = ap (λ t. if t then run r.x0 (r.x1 - r.x0) (λ x. f x y) else []) e
-    by_test false c e = refl
+    y : ℕ
+    y = start + count
 
-some_row : (r : Rectangle) (f : ℕ → ℕ → ℤ) (y : ℕ) → r.y0 ≤ y → y < r.y1 → row_in r f y ≡ run r.x0 (r.x1 - r.x0) (λ x. f x y)
-some_row r f y from below =
-    ap (λ b. if b && nat_lt y r.y1 then run r.x0 (r.x1 - r.x0) (λ x. f x y) else []) (let e : nat_le r.y0 y ≡ true = grind (arith, nat_tests, from) in e)
-    ∙ ap (λ b. if b then run r.x0 (r.x1 - r.x0) (λ x. f x y) else []) (let e : nat_lt y r.y1 ≡ true = grind (arith, nat_tests, below) in e)
+    top : ℕ
+    top = max r.y0 start
+
+    t : Rectangle
+    t = record r { y0 = top }
+
+    upto : ℕ → ℕ
+    upto n = max top (min r.y1 (start + n))
+
+    -- a row that has no places
+    empty : upto (count + 1) ≡ upto count → row_of r y ≡ [] → places (band_of (rows_at start (count + 1)) r) ≡ places (band_of (rows_at start count) r) ++ row_of r y
+    empty same none =
+        ap (λ n. places (above t n)) same ∙ sym (append-nil (places (band_of (rows_at start count) r))) ∙ ap (λ l. places (band_of (rows_at start count) r) ++ l) (sym none)
+
+    by_place : (y < r.y0) ⊎ (r.y0 ≤ y) → (y < r.y1) ⊎ (r.y1 ≤ y) → places (band_of (rows_at start (count + 1)) r) ≡ places (band_of (rows_at start count) r) ++ row_of r y
+    by_place (inl before) any = empty (grind (arith, nat_tests, before)) (row_outside r y (grind (arith, nat_tests, before)))
+    by_place (inr later) (inl here) =
+        let now : upto (count + 1) ≡ y + 1 = grind (arith, nat_tests, here, later) in
+        let was : upto count ≡ y = grind (arith, nat_tests, here, later) in
+        ap (λ n. places (above t n)) now ∙ places_more t y (grind (arith, nat_tests, later))
+        ∙ ap (λ n. places (above t n) ++ row_places r.x0 (r.x1 - r.x0) y) (sym was)
+        ∙ ap (λ l. places (band_of (rows_at start count) r) ++ l) (sym (row_inside r y later here))
+    by_place (inr later) (inr past) = empty (grind (arith, nat_tests, past)) (row_outside r y (grind (arith, nat_tests, past)))
+
+-- rows after others
+pub rows_follow : (r : Rectangle) (start first second : ℕ)
+    → places (band_of (rows_at start (first + second)) r) ≡ places (band_of (rows_at start first) r) ++ places (band_of (rows_at (start + first) second) r)
+rows_follow r start first zero =
+    ap (λ n. places (band_of (rows_at start n) r)) {x = first + 0} {y = first} (omega arith)
+    ∙ sym (append-nil (places (band_of (rows_at start first) r)))
+    ∙ ap (λ l. places (band_of (rows_at start first) r) ++ l) (sym (no_places r (start + first)))
+rows_follow r start first (suc second) =
+    let one = places (band_of (rows_at start first) r) in
+    let other = places (band_of (rows_at (start + first) second) r) in
+    ap (λ n. places (band_of (rows_at start n) r)) {x = first + suc second} {y = (first + second) + 1} (omega arith)
+    ∙ one_row r start (first + second)
+    ∙ ap (λ l. l ++ row_of r (start + (first + second))) (rows_follow r start first second)
+    ∙ append_assoc one other (row_of r (start + (first + second)))
+    ∙ ap (λ y. one ++ (other ++ row_of r y)) {x = start + (first + second)} {y = (start + first) + second} (omega arith)
+    ∙ ap (λ l. one ++ l) (sym (one_row r (start + first) second))
+    ∙ ap (λ n. one ++ places (band_of (rows_at (start + first) n) r)) {x = second + 1} {y = suc second} (omega arith)
+
+-- ---- samples by rows
 
 -- no rows have no samples
 pub samples_none : (r : Rectangle) (image : ImageValue) (start : ℕ) → samples_in (band_of (rows_at start 0) r) image ≡ []
-samples_none r image start =
-    let t : Rectangle = record r { y0 = max r.y0 start } in
-    let none : max (max r.y0 start) (min r.y1 (start + 0)) ≡ max r.y0 start = grind (arith, nat_tests) in
-    ap (λ n. samples_in (above t n) image) none ∙ ap (map (λ p. at image p.0 p.1)) (places_none t)
+samples_none r image start = ap (map (λ p. at image p.0 p.1)) (no_places r start)
 
--- one more row
-pub samples_row : (r : Rectangle) (image : ImageValue) (start count : ℕ)
-    → samples_in (band_of (rows_at start (count + 1)) r) image ≡ samples_in (band_of (rows_at start count) r) image ++ row_in r (at image) (start + count)
-samples_row r image start count =
-    let y = start + count in
-    let top = max r.y0 start in
-    let t : Rectangle = record r { y0 = top } in
-    elim (cases_lt y r.y0) [
-      | inl before ↦
-          (let now : max top (min r.y1 (start + (count + 1))) ≡ top = grind (arith, nat_tests, before) in
-          let was : max top (min r.y1 (start + count)) ≡ top = grind (arith, nat_tests, before) in
-          let none : row_in r (at image) y ≡ [] = row_before r (at image) y before in
-          ap (λ n. samples_in (above t n) image) (now ∙ sym was) ∙ sym (append-nil (samples_in (above t (max top (min r.y1 (start + count)))) image)) ∙ ap (λ l. samples_in (above t (max top (min r.y1 (start + count)))) image ++ l) (sym none))
-      | inr later ↦ elim (cases_lt y r.y1) [
-        | inl here ↦
-            (let now : max top (min r.y1 (start + (count + 1))) ≡ y + 1 = grind (arith, nat_tests, here, later) in
-            let was : max top (min r.y1 (start + count)) ≡ y = grind (arith, nat_tests, here, later) in
-            let row : row_in r (at image) y ≡ run r.x0 (r.x1 - r.x0) (λ x. at image x y) = some_row r (at image) y later here in
-            ap (λ n. samples_in (above t n) image) now ∙ samples_more t image y (grind (arith, nat_tests, later))
-            ∙ ap (λ n. samples_in (above t n) image ++ run r.x0 (r.x1 - r.x0) (λ x. at image x y)) (sym was)
-            ∙ ap (λ l. samples_in (above t (max top (min r.y1 (start + count)))) image ++ l) (sym row))
-        | inr past ↦
-            (let now : max top (min r.y1 (start + (count + 1))) ≡ max top (min r.y1 (start + count)) = grind (arith, nat_tests, past) in
-            let none : row_in r (at image) y ≡ [] = no_row r (at image) y past in
-            ap (λ n. samples_in (above t n) image) now ∙ sym (append-nil (samples_in (above t (max top (min r.y1 (start + count)))) image)) ∙ ap (λ l. samples_in (above t (max top (min r.y1 (start + count)))) image ++ l) (sym none))
-      ]
-    ]
-
--- so do rows after others
+-- rows after others
 pub samples_after : (r : Rectangle) (image : ImageValue) (start first second : ℕ)
     → samples_in (band_of (rows_at start (first + second)) r) image
     ≡ samples_in (band_of (rows_at start first) r) image ++ samples_in (band_of (rows_at (start + first) second) r) image
-samples_after r image start first zero =
-    ap (λ n. samples_in (band_of (rows_at start n) r) image) {x = first + 0} {y = first} (omega arith)
-    ∙ sym (append-nil (samples_in (band_of (rows_at start first) r) image))
-    ∙ ap (λ l. samples_in (band_of (rows_at start first) r) image ++ l) (sym (samples_none r image (start + first)))
-samples_after r image start first (suc second) =
-    let one = samples_in (band_of (rows_at start first) r) image in
-    let other = samples_in (band_of (rows_at (start + first) second) r) image in
-    ap (λ n. samples_in (band_of (rows_at start n) r) image) {x = first + suc second} {y = (first + second) + 1} (omega arith)
-    ∙ samples_row r image start (first + second)
-    ∙ ap (λ l. l ++ row_in r (at image) (start + (first + second))) (samples_after r image start first second)
-    ∙ append_assoc one other (row_in r (at image) (start + (first + second)))
-    ∙ ap (λ y. one ++ (other ++ row_in r (at image) y)) {x = start + (first + second)} {y = (start + first) + second} (omega arith)
-    ∙ ap (λ l. one ++ l) (sym (samples_row r image (start + first) second))
-    ∙ ap (λ n. one ++ samples_in (band_of (rows_at (start + first) n) r) image) {x = second + 1} {y = suc second} (omega arith)
-
--- two images that have the same samples in each row of two bands have the same in all of them
-pub samples_alike : (a b : ImageValue) (one other count : ℕ) → ((j : ℕ) → j < count → row_in a.valid (at a) (one + j) ≡ row_in b.valid (at b) (other + j))
-    → valid_samples (valid_in (rows_at one count) a) ≡ valid_samples (valid_in (rows_at other count) b)
-samples_alike a b one other zero same = samples_none a.valid a one ∙ sym (samples_none b.valid b other)
-samples_alike a b one other (suc count) same =
-    ap (λ n. samples_in (band_of (rows_at one n) a.valid) a) {x = suc count} {y = count + 1} (omega arith)
-    ∙ samples_row a.valid a one count
-    ∙ ap (λ l. l ++ row_in a.valid (at a) (one + count)) (samples_alike a b one other count (λ j below. same j (omega (arith, below))))
-    ∙ ap (λ l. samples_in (band_of (rows_at other count) b.valid) b ++ l) (same count (omega arith))
-    ∙ sym (samples_row b.valid b other count)
-    ∙ ap (λ n. samples_in (band_of (rows_at other n) b.valid) b) {x = count + 1} {y = suc count} (omega arith)
+samples_after r image start first second =
+    ap (map (λ p. at image p.0 p.1)) (rows_follow r start first second)
+    ∙ map-append (λ p. at image p.0 p.1) (places (band_of (rows_at start first) r)) (places (band_of (rows_at (start + first) second) r))
 
 -- all rows of an image are all of it
 pub all_valid : (image : ImageValue) → IsImage image → valid_in (all_rows image.height) image ≡ image
@@ -216,3 +215,41 @@ bands_fit image is start count =
   where
     all_fit : (m k : ℕ) → m ≤ 8192 → k ≤ 8192 → m * k < 4294967296
     all_fit m k rows columns = grind arith
+
+-- ---- extremes of bands
+
+-- rows of an image, and those of another that are so many rows further down: the same places of each row, and samples
+pub places_lowered : (a b : ImageValue) (down one other count : ℕ)
+    → ((j : ℕ) → j < count → AreLowered down (at a) (at b) (row_of a.valid (one + j)) (row_of b.valid (other + j)))
+    → AreLowered down (at a) (at b) (places (band_of (rows_at one count) a.valid)) (places (band_of (rows_at other count) b.valid))
+places_lowered a b down one other zero rows =
+    subst (λ ps. AreLowered down (at a) (at b) ps (places (band_of (rows_at other zero) b.valid))) (sym (no_places a.valid one))
+    (subst (λ qs. AreLowered down (at a) (at b) [] qs) (sym (no_places b.valid other)) (lowered_none down (at a) (at b)))
+places_lowered a b down one other (suc count) rows =
+    let next : count + 1 ≡ suc count = omega arith in
+    let first = places (band_of (rows_at one count) a.valid) in
+    let second = places (band_of (rows_at other count) b.valid) in
+    subst (λ n. AreLowered down (at a) (at b) (places (band_of (rows_at one n) a.valid)) (places (band_of (rows_at other n) b.valid))) next
+    (subst (λ ps. AreLowered down (at a) (at b) ps (places (band_of (rows_at other (count + 1)) b.valid))) (sym (one_row a.valid one count))
+    (subst (λ qs. AreLowered down (at a) (at b) (first ++ row_of a.valid (one + count)) qs) (sym (one_row b.valid other count))
+    (lowered_more down (at a) (at b) first second (row_of a.valid (one + count)) (row_of b.valid (other + count))
+    (places_lowered a b down one other count (λ j below. rows j (omega (arith, below)))) (rows count (omega arith)))))
+
+-- extremes of the upper rows of an image, and of a band of another that stands for those below them
+pub bands_located : (a b : ImageValue) (down one start count : ℕ)
+    → AreLowered down (at a) (at b) (places (band_of (rows_at one count) a.valid)) (places (band_of (rows_at start count) b.valid))
+    → added_extremes down (extremes (valid_in (rows_at 0 start) b)) (extremes (valid_in (rows_at one count) a)) ≡ extremes (valid_in (rows_at 0 (start + count)) b)
+bands_located a b down one start count are =
+    extremes_joined down (at a) (at b) (places (band_of (rows_at 0 start) b.valid)) (places (band_of (rows_at one count) a.valid)) (places (band_of (rows_at start count) b.valid)) are
+    ∙ ap (λ y. extremes_of (found_in (at b) (places (band_of (rows_at 0 start) b.valid) ++ places (band_of (rows_at y count) b.valid)))) {x = start} {y = 0 + start} (omega arith)
+    ∙ ap (λ l. extremes_of (found_in (at b) l)) (sym (rows_follow b.valid 0 start count))
+
+-- nothing is found in no rows
+pub none_located : (image : ImageValue) (start : ℕ) → extremes (valid_in (rows_at start 0) image) ≡ no_extremes
+none_located image start = ap (λ l. extremes_of (found_in (at image) l)) (no_places image.valid start)
+
+-- no more places hold an extreme than are valid
+pub extremes_few : (image : ImageValue) → ((extremes image).min_count ≤ length (valid_samples image)) × ((extremes image).max_count ≤ length (valid_samples image))
+extremes_few image =
+    let long = length-map (places image.valid) (λ p. at image p.0 p.1) in
+    (omega (arith, at_most int_min (at image) (places image.valid), long), omega (arith, at_most int_max (at image) (places image.valid), long))

@@ -11,7 +11,7 @@ use Rattle.std.proofs.lemmas.List.{take-map, drop-map, get_or-map, take_more, ta
 use Rattle.std.proofs.lemmas.List.Sums.{sum_by-append, sum_by-cons, sum_by_more, sum_by-take-le, fold_push, count_by-le-length}
 use Rattle.vx_base.specs.Statistics.{chosen, count_of}
 
-eq_from_test : (w z : ℤ) → int_eq w z ≡ true → w ≡ z
+pub eq_from_test : (w z : ℤ) → int_eq w z ≡ true → w ≡ z
 eq_from_test w z h = (Decides-int_eq w z).0 h
 
 pub test_same : (z : ℤ) → int_eq z z ≡ true

@@ -3,7 +3,7 @@ mod PlaceLaws
 mod CountLaws
 mod TallyLaws
 pub mod BandLaws
-mod LocatedLaws
+pub mod LocatedLaws
 mod LaneSums
 mod SumLaws
 mod ExtremeLaws

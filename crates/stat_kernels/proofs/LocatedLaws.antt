@@ -1,13 +1,14 @@
 -- Extremes of one more row.
-use Rattle.std.proofs.Common.{◌≡◌, ℕ, ℤ, pos, ◌+◌, ◌<◌, ◌≤◌, List, [], ◌∷◌, ◌++◌, length, map, cond, Bool, true, false, ap, ◌∙◌, sym, refl, arith, Some, None, ◌-◌, take, get_or, add-one}
-use Rattle.std.specs.List.{fold, find, All}
-use Rattle.std.specs.Option.{unwrap_or, option_or}
+use Rattle.std.proofs.Common.{zero, suc, Option, subst, ◌≢◌, ◌⊎◌, inl, inr, ◌==◌, if◌then◌else◌, ◌≡◌, ℕ, ℤ, pos, ◌+◌, ◌<◌, ◌≤◌, List, [], ◌∷◌, ◌++◌, length, map, cond, Bool, true, false, ap, ◌∙◌, sym, refl, arith, Some, None, ◌-◌, take, get_or, add-one}
+use Rattle.std.specs.List.{fold, find, flat_map, range_with_len, All}
+use Rattle.vx_base.specs.Rectangle.{Rectangle}
+use Rattle.std.specs.Option.{unwrap_or, option_map, option_or}
 use Rattle.std.specs.Ordering.{int_eq}
 use Rattle.std.specs.Int.{int_min, int_max}
 use Rattle.std.specs.Prelude.{int_lt}
-use Rattle.std.proofs.lemmas.Bool.{cases_Bool}
+use Rattle.std.proofs.lemmas.Bool.{cases_Bool, cases_eq, eq-eqb, ne_eqb}
 use Rattle.std.proofs.lemmas.Int.{ints}
-use Rattle.std.proofs.lemmas.List.{map-append, length-map}
+use Rattle.std.proofs.lemmas.List.{append-nil, map-append, length-map}
 use Rattle.std.proofs.lemmas.List.Sums.{fold-append, sum_by-append, sum_by-cons, count_by-le-length}
 use Rattle.std.proofs.lemmas.List.Elements.{All-nil, All-cons, All-head, All-tail}
 use Rattle.std.proofs.lemmas.List.Folds.{find-append}
@@ -19,10 +20,10 @@ use Rattle.stat_kernels.specs.Part.{IsValidPart}
 use Rattle.stat_kernels.proofs.Rows.{above}
 use Rattle.vx_base.proofs.TableLaws.{get_or-run}
 use Rattle.std.proofs.lemmas.List.FromFn.{take-map-range_with_len}
-use Rattle.stat_kernels.proofs.CountLaws.{test_same, test_other}
+use Rattle.stat_kernels.proofs.CountLaws.{eq_from_test, test_same, test_other}
 use Rattle.stat_kernels.proofs.PlaceLaws.{next_places, row_samples, row_places-append}
 use Rattle.stat_kernels.specs.declared.located.Located.{Located}
-use Rattle.stat_kernels.specs.Located.{IsDirection, located, found_in}
+use Rattle.stat_kernels.specs.Located.{IsDirection, located, found_in, joined, joined_found, lowered, lowered_found, extremes_of}
 
 pub downwards : IsDirection int_min int_lt
 downwards = grind (arith, ints)
@@ -227,3 +228,203 @@ next_found image part is y n row old new below wide same more found =
     more (at image) (places (above image.valid y)) found (same ∙ ap (λ m. run part.x m (λ k. at image k y)) (sym wide))
     ∙ ap (λ m. found_in (at image) (places (above image.valid y) ++ row_places part.x m y)) wide
     ∙ ap (found_in (at image)) (next_places image part is y below)
+
+-- ---- what is found in places and in others behind them
+
+module _ (choose : ℤ → ℤ → ℤ) (beyond : ℤ → ℤ → Bool) (d : IsDirection choose beyond) (f : ℕ → ℕ → ℤ) (ps qs : List (ℕ × ℕ)) where
+  abbrev zs : List ℤ
+  zs = samples f ps
+
+  abbrev ws : List ℤ
+  ws = samples f qs
+
+  abbrev a : Located
+  a = located choose f ps
+
+  abbrev b : Located
+  b = located choose f qs
+
+  both_samples : samples f (ps ++ qs) ≡ zs ++ ws
+  both_samples = map-append (λ p. f p.0 p.1) ps qs
+
+  both_count : (w : ℤ) → count_of w (samples f (ps ++ qs)) ≡ count_of w zs + count_of w ws
+  both_count w = ap (count_of w) both_samples ∙ count_append w zs ws
+
+  no_places : (l : List (ℕ × ℕ)) → samples f l ≡ [] → l ≡ []
+  no_places [] none = refl
+  no_places (p ∷ l) none = absurd (cc)
+
+  some_samples : (l : List (ℕ × ℕ)) → (0 < (located choose f l).count) → 0 < length (samples f l)
+  some_samples l some = omega (arith, some, at_most choose f l, length-map l (λ p. f p.0 p.1))
+
+  other_kept : (m : ℕ) → 0 < a.count → 0 < b.count → beyond b.value a.value ≡ false → m ≡ a.count + count_of a.value ws → parts a.value m a.at ≡ located choose f (ps ++ qs)
+  other_kept m some more not count =
+      is_located choose f (ps ++ qs) a.value m a.at
+      (sym (ap (chosen choose) both_samples ∙ chosen_kept choose beyond d zs ws some (some_samples qs more) not))
+      (omega (arith, both_count a.value, count))
+      (ap (λ o. unwrap_or o (0, 0)) (sym (found_kept f a.value ps qs some)))
+
+  pub located_joined : joined beyond a b ≡ located choose f (ps ++ qs)
+  located_joined = by_count (cases_eq b.count 0)
+    where
+      by_count : (b.count ≡ 0) ⊎ (b.count ≢ 0) → joined beyond a b ≡ located choose f (ps ++ qs)
+      by_count (inl none) =
+          let empty : qs ≡ [] = no_places qs (nothing_counted choose beyond d ws none) in
+          ap (λ t. if t then a else rest) (eq-eqb b.count 0 none) ∙ ap (located choose f) (sym (append-nil ps) ∙ ap (λ l. ps ++ l) (sym empty))
+        where
+          rest : Located
+          rest = if a.count == 0 then b else if beyond b.value a.value then b else if int_eq b.value a.value then record { value = a.value; count = a.count + b.count; at = a.at } else a
+      by_count (inr some) = ap (λ t. if t then a else rest) (ne_eqb b.count 0 some) ∙ by_other (cases_eq a.count 0)
+        where
+          more : 0 < b.count
+          more = grind (arith, some)
+
+          last : Located
+          last = if int_eq b.value a.value then record { value = a.value; count = a.count + b.count; at = a.at } else a
+
+          rest : Located
+          rest = if a.count == 0 then b else if beyond b.value a.value then b else last
+
+          by_other : (a.count ≡ 0) ⊎ (a.count ≢ 0) → rest ≡ located choose f (ps ++ qs)
+          by_other (inl none) =
+              let empty : ps ≡ [] = no_places ps (nothing_counted choose beyond d zs none) in
+              ap (λ t. if t then b else if beyond b.value a.value then b else last) (eq-eqb a.count 0 none) ∙ ap (λ l. located choose f (l ++ qs)) (sym empty)
+          by_other (inr here) = ap (λ t. if t then b else if beyond b.value a.value then b else last) (ne_eqb a.count 0 here) ∙ by_value (cases_Bool (beyond b.value a.value))
+            where
+              among : 0 < a.count
+              among = grind (arith, here)
+
+              by_value : (beyond b.value a.value ≡ true) ⊎ (beyond b.value a.value ≡ false) → (if beyond b.value a.value then b else last) ≡ located choose f (ps ++ qs)
+              by_value (inl is) =
+                  let none : count_of b.value zs ≡ 0 = count_beyond choose beyond d a.value b.value zs is (none_beyond choose beyond d zs) in
+                  ap (λ t. if t then b else last) is
+                  ∙ is_located choose f (ps ++ qs) b.value b.count b.at
+                  (sym (ap (chosen choose) both_samples ∙ chosen_beyond choose beyond d zs ws (some_samples qs more) is))
+                  (omega (arith, both_count b.value, none))
+                  (ap (λ o. unwrap_or o (0, 0)) (sym (found_behind f b.value ps qs none)))
+              by_value (inr not) = ap (λ t. if t then b else last) not ∙ by_equal (cases_Bool (int_eq b.value a.value))
+                where
+                  by_equal : (int_eq b.value a.value ≡ true) ⊎ (int_eq b.value a.value ≡ false) → last ≡ located choose f (ps ++ qs)
+                  by_equal (inl same) =
+                      let equal : b.value ≡ a.value = eq_from_test b.value a.value same in
+                      ap (λ t. if t then record { value = a.value; count = a.count + b.count; at = a.at } else a) same
+                      ∙ other_kept (a.count + b.count) among more not (ap (λ w. a.count + count_of w ws) equal)
+                  by_equal (inr differ) =
+                      let differs : b.value ≡ a.value → ⊥ = λ e. cc (sym differ ∙ ap (λ w. int_eq w a.value) e ∙ test_same a.value) in
+                      let above : beyond a.value b.value ≡ true = d.total b.value a.value not differs in
+                      ap (λ t. if t then record { value = a.value; count = a.count + b.count; at = a.at } else a) differ
+                      ∙ other_kept a.count among more not (omega (arith, count_beyond choose beyond d b.value a.value ws above (none_beyond choose beyond d ws)))
+
+pub found_joined : (f : ℕ → ℕ → ℤ) (ps qs : List (ℕ × ℕ)) → joined_found (found_in f ps) (found_in f qs) ≡ found_in f (ps ++ qs)
+found_joined f ps qs =
+    ap (λ l. let x : Found = record { least = l; greatest = joined (λ z v. int_lt v z) (located int_max f ps) (located int_max f qs) } in x) (located_joined int_min int_lt downwards f ps qs)
+    ∙ ap (λ l. let x : Found = record { least = located int_min f (ps ++ qs); greatest = l } in x) (located_joined int_max (λ z v. int_lt v z) upwards f ps qs)
+
+-- ---- places and the same so many rows further down
+
+-- what is found first is above the end of the places' rows
+find_row : (t : ℕ × ℕ → Bool) (x n y end : ℕ) → y ≤ end → (unwrap_or (find t (row_places x n y)) (0, 0)).1 ≤ end
+find_row t x zero y end below = omega arith
+find_row t x (suc n) y end below = of_test (t (x, y)) (find_row t (x + 1) n y end below)
+  where
+    of_test : (b : Bool) → (unwrap_or (find t (row_places (x + 1) n y)) (0, 0)).1 ≤ end → (unwrap_or (if b then Some (x, y) else find t (row_places (x + 1) n y)) (0, 0)).1 ≤ end
+    of_test true rest = below
+    of_test false rest = rest
+
+find_rows : (t : ℕ × ℕ → Bool) (x n y m end : ℕ) → y + m ≤ end → (unwrap_or (find t (flat_map (row_places x n) (range_with_len y m))) (0, 0)).1 ≤ end
+find_rows t x n y zero end below = omega arith
+find_rows t x n y (suc m) end below =
+    let more = flat_map (row_places x n) (range_with_len (y + 1) m) in
+    subst (λ (o : Option (ℕ × ℕ)). (unwrap_or o (0, 0)).1 ≤ end) (sym (find-append t (row_places x n y) more))
+    (either (find t (row_places x n y)) (find t more) (find_row t x n y end (omega (arith, below))) (find_rows t x n (y + 1) m end (omega (arith, below))))
+  where
+    either : (o q : Option (ℕ × ℕ)) → (unwrap_or o (0, 0)).1 ≤ end → (unwrap_or q (0, 0)).1 ≤ end → (unwrap_or (option_or o q) (0, 0)).1 ≤ end
+    either (Some p) q first rest = first
+    either None q first rest = rest
+
+pub first_within : (f : ℕ → ℕ → ℤ) (v : ℤ) (r : Rectangle) → (first_of f v (places r)).1 ≤ r.y0 + (r.y1 - r.y0)
+first_within f v r = find_rows (holds f v) r.x0 (r.x1 - r.x0) r.y0 (r.y1 - r.y0) (r.y0 + (r.y1 - r.y0)) (omega arith)
+
+-- where the first of them is in each of two lists of places, of which the second's are so many rows further down
+abbrev down_by : ℕ → ℕ × ℕ → ℕ × ℕ
+down_by down p = (p.0, p.1 + down)
+
+pub record AreLowered (down : ℕ) (f g : ℕ → ℕ → ℤ) (ps qs : List (ℕ × ℕ)) : Type 0 where
+  pub samples_same : samples f ps ≡ samples g qs
+  pub first : (v : ℤ) → find (holds g v) qs ≡ option_map (down_by down) (find (holds f v) ps)
+
+pub lowered_none : (down : ℕ) (f g : ℕ → ℕ → ℤ) → AreLowered down f g [] []
+lowered_none down f g = record { samples_same = refl; first = λ v. refl }
+
+pub lowered_more : (down : ℕ) (f g : ℕ → ℕ → ℤ) (ps qs more next : List (ℕ × ℕ)) → AreLowered down f g ps qs → AreLowered down f g more next → AreLowered down f g (ps ++ more) (qs ++ next)
+lowered_more down f g ps qs more next one other =
+    record {
+      samples_same = map-append (λ p. f p.0 p.1) ps more ∙ ap (λ l. l ++ samples f more) one.samples_same ∙ ap (λ l. samples g qs ++ l) other.samples_same ∙ sym (map-append (λ p. g p.0 p.1) qs next);
+      first = λ v.
+          find-append (holds g v) qs next ∙ ap (λ o. option_or o (find (holds g v) next)) (one.first v) ∙ ap (option_or (option_map (down_by down) (find (holds f v) ps))) (other.first v)
+          ∙ either (find (holds f v) ps) (find (holds f v) more) ∙ ap (option_map (down_by down)) (sym (find-append (holds f v) ps more));
+    }
+  where
+    either : (o q : Option (ℕ × ℕ)) → option_or (option_map (down_by down) o) (option_map (down_by down) q) ≡ option_map (down_by down) (option_or o q)
+    either (Some p) q = refl
+    either None q = refl
+
+-- the places of a row
+pub lowered_row : (down : ℕ) (f g : ℕ → ℕ → ℤ) (x n y : ℕ) → ((k : ℕ) → x ≤ k → k < x + n → f k y ≡ g k (y + down)) → AreLowered down f g (row_places x n y) (row_places x n (y + down))
+lowered_row down f g x zero y same = lowered_none down f g
+lowered_row down f g x (suc n) y same =
+    let rest = lowered_row down f g (x + 1) n y (λ k from below. same k (omega (arith, from)) (omega (arith, below))) in
+    let here = same x (omega arith) (omega arith) in
+    record {
+      samples_same = ap (λ z. z ∷ samples f (row_places (x + 1) n y)) here ∙ ap (λ l. g x (y + down) ∷ l) rest.samples_same;
+      first = λ v.
+          ap (λ z. if int_eq z v then Some (x, y + down) else find (holds g v) (row_places (x + 1) n (y + down))) (sym here)
+          ∙ ap (λ o. if int_eq (f x y) v then Some (x, y + down) else o) (rest.first v)
+          ∙ of_test (int_eq (f x y) v) (find (holds f v) (row_places (x + 1) n y));
+    }
+  where
+    of_test : (b : Bool) (o : Option (ℕ × ℕ)) → (if b then Some (x, y + down) else option_map (down_by down) o) ≡ option_map (down_by down) (if b then Some (x, y) else o)
+    of_test true o = refl
+    of_test false o = refl
+
+-- what is found in the one and lowered is what is found in the other, as far as something is found
+module _ (choose : ℤ → ℤ → ℤ) (beyond : ℤ → ℤ → Bool) (d : IsDirection choose beyond) (down : ℕ) (f g : ℕ → ℕ → ℤ) (ps qs : List (ℕ × ℕ)) (are : AreLowered down f g ps qs) where
+  same_parts : (located choose f ps).count ≢ 0 → lowered down (located choose f ps) ≡ located choose g qs
+  same_parts some =
+      let v = chosen choose (samples f ps) in
+      is_located choose g qs v (count_of v (samples f ps)) ((first_of f v ps).0, (first_of f v ps).1 + down)
+      (ap (chosen choose) are.samples_same) (ap (count_of v) are.samples_same)
+      (place (find (holds f v) ps) (λ none. some (none_found v ps none)) ∙ ap (λ o. unwrap_or o (0, 0)) (sym (are.first v)))
+    where
+      place : (o : Option (ℕ × ℕ)) → (o ≢ None) → down_by down (unwrap_or o (0, 0)) ≡ unwrap_or (option_map (down_by down) o) (0, 0)
+      place (Some p) there = refl
+      place None there = absurd (there refl)
+
+      none_found : (v : ℤ) (l : List (ℕ × ℕ)) → find (holds f v) l ≡ None → count_of v (samples f l) ≡ 0
+      none_found v [] none = refl
+      none_found v (p ∷ l) none = grind (arith, none_found v l, count_cons v (f p.0 p.1) (samples f l), cases_Bool (int_eq (f p.0 p.1) v))
+
+  pub joined_lowered : (a : Located) → joined beyond a (lowered down (located choose f ps)) ≡ joined beyond a (located choose g qs)
+  joined_lowered a = of_count (cases_eq (located choose f ps).count 0)
+    where
+      count_same : (located choose f ps).count ≡ (located choose g qs).count
+      count_same = ap (λ l. count_of (chosen choose l) l) are.samples_same
+
+      of_count : ((located choose f ps).count ≡ 0) ⊎ ((located choose f ps).count ≢ 0) → joined beyond a (lowered down (located choose f ps)) ≡ joined beyond a (located choose g qs)
+      of_count (inl none) = nothing_beside (lowered down (located choose f ps)) none ∙ sym (nothing_beside (located choose g qs) (sym count_same ∙ none))
+        where
+          nothing_beside : (b : Located) → b.count ≡ 0 → joined beyond a b ≡ a
+          nothing_beside b empty =
+              ap (λ t. if t then a else if a.count == 0 then b else if beyond b.value a.value then b else if int_eq b.value a.value then record { value = a.value; count = a.count + b.count; at = a.at } else a)
+              (eq-eqb b.count 0 empty)
+      of_count (inr some) = ap (joined beyond a) (same_parts some)
+
+-- extremes of rows and of a band below them
+pub extremes_joined : (down : ℕ) (f g : ℕ → ℕ → ℤ) (above ps qs : List (ℕ × ℕ)) → AreLowered down f g ps qs
+    → extremes_of (joined_found (found_in g above) (lowered_found down (found_in f ps))) ≡ extremes_of (found_in g (above ++ qs))
+extremes_joined down f g above ps qs are =
+    ap (λ l. let x : Found = record { least = l; greatest = joined (λ z v. int_lt v z) (located int_max g above) (lowered down (located int_max f ps)) } in extremes_of x)
+    (joined_lowered int_min int_lt downwards down f g ps qs are (located int_min g above))
+    ∙ ap (λ l. let x : Found = record { least = joined int_lt (located int_min g above) (located int_min g qs); greatest = l } in extremes_of x)
+    (joined_lowered int_max (λ z v. int_lt v z) upwards down f g ps qs are (located int_max g above))
+    ∙ ap extremes_of (found_joined g above qs)

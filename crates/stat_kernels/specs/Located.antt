@@ -1,6 +1,8 @@
 -- Extremes and where they stand.
-use Rattle.std.specs.Prelude.{ℕ, ℤ, Bool, true, false, ◌≡◌, List, map}
+use Rattle.std.specs.Prelude.{ℕ, ℤ, ◌+◌, ◌==◌, Bool, true, false, ◌≡◌, List, map, if◌then◌else◌, int_lt}
+use Rattle.std.specs.Ordering.{int_eq}
 use Rattle.std.specs.Int.{int_min, int_max}
+use Rattle.vx_base.specs.declared.extremes.Extremes.{Extremes}
 use Rattle.vx_base.specs.Statistics.{chosen, count_of, first_of}
 use Rattle.stat_kernels.specs.declared.located.Located.{Located}
 use Rattle.stat_kernels.specs.declared.located.Found.{Found}
@@ -23,3 +25,45 @@ located choose f ps =
 -- the least and the greatest
 abbrev pub found_in : (ℕ → ℕ → ℤ) → List (ℕ × ℕ) → Found
 found_in f ps = record { least = located int_min f ps; greatest = located int_max f ps }
+
+-- what is found in places and in others behind them, of what is found in each
+abbrev pub joined : (ℤ → ℤ → Bool) → Located → Located → Located
+joined beyond a b =
+    if b.count == 0 then a
+    else if a.count == 0 then b
+    else if beyond b.value a.value then b
+    else if int_eq b.value a.value then record { value = a.value; count = a.count + b.count; at = a.at }
+    else a
+
+abbrev pub joined_found : Found → Found → Found
+joined_found a b = record { least = joined int_lt a.least b.least; greatest = joined (λ z v. int_lt v z) a.greatest b.greatest }
+
+-- extremes by what was found
+abbrev pub found_of : Extremes → Found
+found_of e =
+    record {
+      least = record { value = e.min; count = e.min_count; at = e.min_at };
+      greatest = record { value = e.max; count = e.max_count; at = e.max_at };
+    }
+
+abbrev pub extremes_of : Found → Extremes
+extremes_of f =
+    record {
+      min = f.least.value;
+      max = f.greatest.value;
+      min_count = f.least.count;
+      max_count = f.greatest.count;
+      min_at = f.least.at;
+      max_at = f.greatest.at;
+    }
+
+-- the same so many rows further down
+abbrev pub lowered : ℕ → Located → Located
+lowered down l = record l { at = (l.at.0, l.at.1 + down) }
+
+abbrev pub lowered_found : ℕ → Found → Found
+lowered_found down f = record { least = lowered down f.least; greatest = lowered down f.greatest }
+
+-- extremes of an image's rows, and of a band below them, which is so many rows further down in it
+abbrev pub added_extremes : ℕ → Extremes → Extremes → Extremes
+added_extremes down e band = extremes_of (joined_found (found_of e) (lowered_found down (found_of band)))

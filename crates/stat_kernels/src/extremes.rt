@@ -1,22 +1,26 @@
 //! The least and the greatest sample.
-ghost use Rattle.std.specs.Prelude.{◌≡◌, ◌≢◌};
+ghost use Rattle.std.specs.Prelude.{◌≡◌, ◌≢◌, ◌+◌, ◌<◌, ◌^◌};
 ghost use Rattle.vx_base.specs.declared.format.Format.TheVariants.{U32};
 ghost use Rattle.vx_base.specs.Image.{at};
 ghost use Rattle.vx_base.specs.Statistics.{places, extremes};
-ghost use Rattle.stat_kernels.specs.Located.{found_in};
+ghost use Rattle.image_core.specs.Bands.{IsInRows};
+ghost use Rattle.stat_kernels.specs.Located.{added_extremes, extremes_of, found_in};
+ghost use Rattle.stat_kernels.specs.Part.{valid_in};
 
 use crate::located::Found;
 use crate::part::Part;
 use crate::short::Short;
-use image_core::Image;
+use image_core::{Band, Image};
 use vx_base::{Extremes, Format};
 
-/// What is found in the valid samples.
-fn locate<T: Short>(image: &Image<'_>) -> Found
-    requires { image.now.format ≡ T.format }
-    ensures { result ≡ found_in (at image.now) (places image.now.valid) }
+/// What is found in the valid samples of these rows.
+fn locate<T: Short>(image: &Image<'_>, rows: Band) -> Found
+    requires format { image.now.format ≡ T.format }
+    requires rows { IsInRows image.now.height rows }
+    ensures { result ≡ found_in (at image.now) (places (valid_in rows image.now).valid) }
 {
-    let part = Part::of(image);
+    let _limits = image.desc().height();
+    let part = Part::of(image).in_rows(rows);
     let mut found = Found::nowhere();
     for y in part.top..part.bottom {
         let row = (&*image).part_of_row::<T>(part.x, y, part.count);
@@ -25,17 +29,50 @@ fn locate<T: Short>(image: &Image<'_>) -> Found
     found
 }
 
+/// The same, whatever the image's format is.
+fn found_in(image: &Image<'_>, rows: Band) -> Found
+    requires format { image.now.format ≢ U32 }
+    requires rows { IsInRows image.now.height rows }
+    ensures { result ≡ found_in (at image.now) (places (valid_in rows image.now).valid) }
+{
+    match image.desc().format() {
+        Format::U8 => locate::<u8>(image, rows),
+        Format::S16 => locate::<i16>(image, rows),
+        Format::U32 => unreachable!(),
+    }
+}
+
 /// The least and the greatest valid sample of a U8 or S16 image (OpenVX 1.3, "Min, Max
 /// Location"), how many valid places hold each, and the first of them.
 pub fn min_max(image: &Image<'_>) -> Extremes
     requires { image.now.format ≢ U32 }
     ensures { result ≡ extremes image.now }
 {
-    let found = match image.desc().format() {
-        Format::U8 => locate::<u8>(image),
-        Format::S16 => locate::<i16>(image),
-        Format::U32 => unreachable!(),
-    };
+    let _valid = image.valid();
+    extremes_of(found_in(image, Band::whole(image.desc())))
+}
+
+/// The extremes of the rows of an image of which these are the extremes of the upper ones, and a
+/// band of this image is the rest: its rows are so many further down.
+pub fn add_min_max(image: &Image<'_>, rows: Band, down: u16, above: Extremes) -> Extremes
+    requires format { image.now.format ≢ U32 }
+    requires rows { IsInRows image.now.height rows }
+    requires down { down + image.now.height < 2 ^ 16 }
+    requires least_room { above.min_count + (extremes (valid_in rows image.now)).min_count
+        < 2 ^ 32 }
+    requires greatest_room { above.max_count + (extremes (valid_in rows image.now)).max_count
+        < 2 ^ 32 }
+    ensures { result ≡ added_extremes down above (extremes (valid_in rows image.now)) }
+{
+    let _valid = image.valid();
+    let found = found_in(image, rows).lowered(down);
+    extremes_of(Found::of(above).beside(found))
+}
+
+/// What was found, as extremes.
+fn extremes_of(found: Found) -> Extremes
+    ensures { result ≡ extremes_of found }
+{
     Extremes {
         min: found.least.value,
         max: found.greatest.value,

@@ -6,6 +6,7 @@ ghost use Rattle.vx_base.specs.Statistics.{row_places, chosen, count_of};
 use crate::extent::{greatest_of, least_of};
 use crate::occurrences::{count_of, first_of};
 use crate::short::Short;
+use vx_base::Extremes;
 
 /// The least or the greatest of some samples, how many places hold it, and the first of them; all
 /// numbers are 0 where there are no samples.
@@ -53,6 +54,42 @@ impl Located {
     }
 }
 
+impl Located {
+    ghost use Rattle.stat_kernels.specs.Located.{joined, lowered};
+
+    /// The same of these samples and of others, at places behind theirs. The caller says whether
+    /// the other is beyond this one: below the least, above the greatest.
+    fn beside(self, is_beyond: bool, other: Located) -> Located
+        requires { self.count + other.count < 2 ^ 32 }
+        ensures { (beyond : ℤ → ℤ → Bool) → is_beyond ≡ beyond other.value self.value →
+            result ≡ joined beyond self other }
+    {
+        if other.count == 0 {
+            self
+        } else if self.count == 0 || is_beyond {
+            other
+        } else if other.value == self.value {
+            Located {
+                count: self.count + other.count,
+                ..self
+            }
+        } else {
+            self
+        }
+    }
+
+    /// The same so many rows further down.
+    fn lowered(self, down: u16) -> Located
+        requires { self.at.1 + down < 2 ^ 16 }
+        ensures { result ≡ lowered down self }
+    {
+        Located {
+            at: (self.at.0, self.at.1 + down),
+            ..self
+        }
+    }
+}
+
 /// The least and the greatest of some samples.
 #[derive(Clone, Copy)]
 pub struct Found {
@@ -61,7 +98,7 @@ pub struct Found {
 }
 
 impl Found {
-    ghost use Rattle.stat_kernels.specs.Located.{found_in};
+    ghost use Rattle.stat_kernels.specs.Located.{found_in, found_of, joined_found, lowered_found};
 
     /// What is found in no samples.
     pub fn nowhere() -> Found
@@ -96,6 +133,49 @@ impl Found {
         Found {
             least: self.least.joined(is_below, low, x, y, row),
             greatest: self.greatest.joined(is_above, high, x, y, row),
+        }
+    }
+    /// What was found as these extremes are told.
+    pub fn of(extremes: Extremes) -> Found
+        ensures { result ≡ found_of extremes }
+    {
+        Found {
+            least: Located {
+                value: extremes.min,
+                count: extremes.min_count,
+                at: extremes.min_at,
+            },
+            greatest: Located {
+                value: extremes.max,
+                count: extremes.max_count,
+                at: extremes.max_at,
+            },
+        }
+    }
+
+    /// What is found in these samples and in others, at places behind theirs.
+    pub fn beside(self, other: Found) -> Found
+        requires least_room { self.least.count + other.least.count < 2 ^ 32 }
+        requires greatest_room { self.greatest.count + other.greatest.count < 2 ^ 32 }
+        ensures { result ≡ joined_found self other }
+    {
+        let is_below = other.least.value < self.least.value;
+        let is_above = other.greatest.value > self.greatest.value;
+        Found {
+            least: self.least.beside(is_below, other.least),
+            greatest: self.greatest.beside(is_above, other.greatest),
+        }
+    }
+
+    /// The same so many rows further down.
+    pub fn lowered(self, down: u16) -> Found
+        requires least { self.least.at.1 + down < 2 ^ 16 }
+        requires greatest { self.greatest.at.1 + down < 2 ^ 16 }
+        ensures { result ≡ lowered_found down self }
+    {
+        Found {
+            least: self.least.lowered(down),
+            greatest: self.greatest.lowered(down),
         }
     }
 }

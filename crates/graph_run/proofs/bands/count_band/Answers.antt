@@ -6,13 +6,13 @@ use Rattle.vx_base.specs.Statistics.{valid_samples}
 use Rattle.object_table.specs.Object.{distribution_value, with_counts}
 use Rattle.stat_kernels.specs.Counts.{added}
 use Rattle.stat_kernels.specs.Part.{valid_in}
-use Rattle.graph_run.specs.Bands.{band_seen, counted_before, counted_too}
+use Rattle.graph_run.specs.Bands.{band_seen, counted_before, tallied_too}
 use Rattle.graph_run.proofs.CellLemmas.{IsReplacement}
-use Rattle.graph_run.proofs.CountLemmas.{counted_replaces, distribution_of_kind}
+use Rattle.graph_run.proofs.CountLemmas.{tallied_replaces, distribution_of_kind}
 use Rattle.graph_run.proofs.SeenLemmas.{written_stage}
 use Rattle.graph_run.proofs.StepLemmas.{nothing, stage_arranged, under_there, under_kind, under_found, under_set}
 use Rattle.graph_run.proofs.bands.count_band.Goals as goal
-use Rattle.graph_run.proofs.bands.count_band.Goals.{After-band_seen}
+use Rattle.graph_run.proofs.bands.count_band.Goals.{After-part}
 
 pub distribution_of-distribution-requires : goal.distribution_of-distribution-requires
 distribution_of-distribution-requires c =
@@ -24,7 +24,7 @@ unreachable-requires c =
     let s = c.args.stage.now in
     under_there s (stage_arranged s c.requires.stage) kind.Distribution c.args.output c.requires.counts.kind tt (sym c.get_held.ensures ∙ ap (option_map (λ o. o.now)) c.in-None.is)
 
-module _ (c : After-band_seen) where
+module _ (c : After-part) where
   abbrev s : Stage
   s = c.args.stage.now
 
@@ -60,20 +60,20 @@ module _ (c : After-band_seen) where
 
 pub add_histogram-requires-clause-room : goal.add_histogram-requires-clause-room
 add_histogram-requires-clause-room c k =
-    subst (λ (rows : Band). slice_index c.begin_counts.new.counts k + length (valid_samples (valid_in rows c.part.result)) < 2 ^ 32) (sym c.band_seen.ensures) (fits (goal.at.add_histogram-requires-clause-room c).After-band_seen k)
+    subst (λ (rows : Band). slice_index c.begin_counts.new.counts k + length (valid_samples (valid_in rows c.part.result)) < 2 ^ 32) (sym c.band_seen-band.ensures) (fits (goal.at.add_histogram-requires-clause-room c).After-part k)
 
 -- the object that is written is one of which as much lasts
 replaces : (strip : Strip) (part : ImageValue) (name : ℕ) (s : Stage) → IsStage s → IsUnder (scene s).objects kind.Distribution name
-    → IsReplacement (scene s).objects (cell_of name, counted_too strip part (object_under (scene s).objects name))
+    → IsReplacement (scene s).objects (cell_of name, tallied_too strip part (object_under (scene s).objects name))
 replaces strip part name s is under =
     let d = distribution_of_kind (object_held (scene s).objects name) under in
     let object : object_under (scene s).objects name ≡ DistributionObject d.0 = ap (λ (o : Option ObjectValue). unwrap_or o nothing) d.1 in
-    subst (λ x. IsReplacement (scene s).objects (cell_of name, counted_too strip part x)) (sym object)
-    (counted_replaces (scene s).objects name strip part d.0 d.1 (subst (λ o. IfSome o IsObject) d.1 (object_held_has IsObject (scene s).objects name is.objects)))
+    subst (λ x. IsReplacement (scene s).objects (cell_of name, tallied_too strip part x)) (sym object)
+    (tallied_replaces (scene s).objects name strip part d.0 d.1 (subst (λ o. IfSome o IsObject) d.1 (object_held_has IsObject (scene s).objects name is.objects)))
 
 pub returns : goal.returns
 returns c =
-    let at = (goal.at.returns c).After-band_seen in
+    let at = (goal.at.returns c).After-part in
     let s = c.args.stage.now in
     let strip = c.args.strip in
     let name = c.args.output in
@@ -88,14 +88,14 @@ returns c =
     ∙ ap (λ x. with_objects (scene s) (with_object (scene s).objects (cell_of name) (with_counts x counts))) (held ∙ sym (here at))
     ∙ ap (λ l. with_objects (scene s) (with_object (scene s).objects (cell_of name) (with_counts old l)))
     (c.add_histogram.ensures
-    ∙ ap (λ l. added l (histogram c.bins-bins.result (valid_in c.band_seen.result c.part.result))) (before at)
-    ∙ ap (λ (b : BinsValue). added (counted_before strip (distribution_value old)) (histogram b (valid_in c.band_seen.result c.part.result))) bins
-    ∙ ap (λ (rows : Band). added (counted_before strip (distribution_value old)) (histogram (distribution_value old).bins (valid_in rows c.part.result))) c.band_seen.ensures
+    ∙ ap (λ l. added l (histogram c.bins-bins.result (valid_in c.band_seen-band.result c.part.result))) (before at)
+    ∙ ap (λ (b : BinsValue). added (counted_before strip (distribution_value old)) (histogram b (valid_in c.band_seen-band.result c.part.result))) bins
+    ∙ ap (λ (rows : Band). added (counted_before strip (distribution_value old)) (histogram (distribution_value old).bins (valid_in rows c.part.result))) c.band_seen-band.ensures
     ∙ ap (λ (i : ImageValue). added (counted_before strip (distribution_value old)) (histogram (distribution_value old).bins (valid_in (band_seen strip) i))) (part_is at)) in
     record {
       value = value;
-      stage = written_stage s _ ((cell_of name, counted_too strip part old) ∷ [])
-          (All-cons (IsReplacement (scene s).objects) (cell_of name, counted_too strip part old) [] (replaces strip part name s c.requires.stage c.requires.counts.kind) (All-nil (IsReplacement (scene s).objects)))
+      stage = written_stage s _ ((cell_of name, tallied_too strip part old) ∷ [])
+          (All-cons (IsReplacement (scene s).objects) (cell_of name, tallied_too strip part old) [] (replaces strip part name s c.requires.stage c.requires.counts.kind) (All-nil (IsReplacement (scene s).objects)))
           c.requires.stage set.0 set.2 value;
       keeps = set.2;
     }

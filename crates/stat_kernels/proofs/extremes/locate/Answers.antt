@@ -3,6 +3,7 @@ use Rattle.std.specs.Int.{int_min, int_max}
 use Rattle.vx_base.specs.Image.{at}
 use Rattle.vx_base.specs.Statistics.{places}
 use Rattle.stat_kernels.specs.declared.located.Found.{Found}
+use Rattle.stat_kernels.specs.Part.{valid_in}
 use Rattle.stat_kernels.specs.Located.{found_in}
 use Rattle.stat_kernels.proofs.Rows.{above}
 use Rattle.stat_kernels.proofs.PlaceLaws.{places_none, places_fit}
@@ -11,39 +12,39 @@ use Rattle.stat_kernels.proofs.extremes.locate.Goals as goal
 
 pub loop-y-init : goal.loop-y-init
 loop-y-init g c =
-    let image = c.args.image.now in
+    let image = valid_in c.args.rows c.args.image.now in
     c.nowhere-found.ensures (at image)
-    ∙ ap (found_in (at image)) (sym (places_none image.valid) ∙ ap (λ y. places (above image.valid y)) (sym c.of-part.ensures.top))
+    ∙ ap (found_in (at image)) (sym (places_none image.valid) ∙ ap (λ y. places (above image.valid y)) (sym (c.in_rows-part.ensures c.args.image.now c.requires.rows c.of.ensures).top))
 
 pub joined-found-requires-clause-least_room : goal.joined-found-requires-clause-least_room
 joined-found-requires-clause-least_room g c =
-    let image = c.args.image.now in
+    let image = valid_in c.args.rows c.args.image.now in
     omega (
       arith,
       ap (λ (f : Found). f.least.count) c.loop-y.invariant,
       at_most int_min (at image) (places (above image.valid c.loop-y.y)),
-      places_fit image c.of-part.result c.of-part.ensures c.loop-y.y c.loop-y.auto.y c.loop-y-test.true,
+      places_fit image c.in_rows-part.result (c.in_rows-part.ensures c.args.image.now c.requires.rows c.of.ensures) c.loop-y.y c.loop-y.auto.y c.loop-y-test.true,
       c.part_of_row-row.ensures.len,
     )
 
 pub joined-found-requires-clause-greatest_room : goal.joined-found-requires-clause-greatest_room
 joined-found-requires-clause-greatest_room g c =
-    let image = c.args.image.now in
+    let image = valid_in c.args.rows c.args.image.now in
     omega (
       arith,
       ap (λ (f : Found). f.greatest.count) c.loop-y.invariant,
       at_most int_max (at image) (places (above image.valid c.loop-y.y)),
-      places_fit image c.of-part.result c.of-part.ensures c.loop-y.y c.loop-y.auto.y c.loop-y-test.true,
+      places_fit image c.in_rows-part.result (c.in_rows-part.ensures c.args.image.now c.requires.rows c.of.ensures) c.loop-y.y c.loop-y.auto.y c.loop-y-test.true,
       c.part_of_row-row.ensures.len,
     )
 
 pub loop-y-preserved : goal.loop-y-preserved
 loop-y-preserved g c =
-    next_found c.args.image.now c.of-part.result c.of-part.ensures c.loop-y.y (length c.part_of_row-row.result.now) (map g.T.Number.value c.part_of_row-row.result.now) c.loop-y.found c.joined-found.result
+    next_found (valid_in c.args.rows c.args.image.now) c.in_rows-part.result (c.in_rows-part.ensures c.args.image.now c.requires.rows c.of.ensures) c.loop-y.y (length c.part_of_row-row.result.now) (map g.T.Number.value c.part_of_row-row.result.now) c.loop-y.found c.joined-found.result
     c.loop-y.auto.y c.part_of_row-row.ensures.len c.part_of_row-row.ensures.value c.joined-found.ensures c.loop-y.invariant
 
 pub returns : goal.returns
 returns g c =
-    let image = c.args.image.now in
-    let last : c.loop-y.y ≡ image.valid.y1 = omega (arith, c.of-part.ensures.bottom, c.of-part.ensures.ordered, c.loop-y-test.false, c.loop-y.auto.y-end) in
+    let image = valid_in c.args.rows c.args.image.now in
+    let last : c.loop-y.y ≡ image.valid.y1 = omega (arith, (c.in_rows-part.ensures c.args.image.now c.requires.rows c.of.ensures).bottom, (c.in_rows-part.ensures c.args.image.now c.requires.rows c.of.ensures).ordered, c.loop-y-test.false, c.loop-y.auto.y-end) in
     c.loop-y.invariant ∙ ap (λ y. found_in (at image) (places (above image.valid y))) last

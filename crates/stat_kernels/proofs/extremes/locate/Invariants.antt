@@ -1,9 +1,10 @@
 use Rattle.std.proofs.Common.{◌≡◌}
 use Rattle.vx_base.specs.Image.{at}
 use Rattle.vx_base.specs.Statistics.{places}
+use Rattle.stat_kernels.specs.Part.{valid_in}
 use Rattle.stat_kernels.specs.Located.{found_in}
 use Rattle.stat_kernels.proofs.Rows.{above}
 use Rattle.stat_kernels.proofs.extremes.locate.Given as goal
 
 abbrev pub invariant-loop-y : goal.invariant-loop-y
-invariant-loop-y g l = l.found ≡ found_in (at l.image) (places (above l.image.valid l.y))
+invariant-loop-y g l = l.found ≡ found_in (at l.image) (places (above (valid_in l.fn.rows l.image).valid l.y))

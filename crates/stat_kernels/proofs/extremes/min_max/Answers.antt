@@ -1,0 +1,17 @@
+use Rattle.std.proofs.Common.{◌∙◌, ap}
+use Rattle.vx_base.specs.Description.{Description}
+use Rattle.vx_base.specs.Image.{at}
+use Rattle.vx_base.specs.Statistics.{extremes, places}
+use Rattle.image_core.specs.Bands.{all_rows}
+use Rattle.image_core.specs.declared.band.Band.{Band}
+use Rattle.stat_kernels.specs.Located.{extremes_of, found_in}
+use Rattle.stat_kernels.specs.Part.{valid_in}
+use Rattle.stat_kernels.proofs.BandLaws.{all_valid}
+use Rattle.stat_kernels.proofs.extremes.min_max.Goals as goal
+
+pub returns : goal.returns
+returns c =
+    let image = c.args.image.now in
+    c.extremes_of.ensures ∙ ap extremes_of c.found_in.ensures
+    ∙ ap (λ (rows : Band). extremes_of (found_in (at image) (places (valid_in rows image).valid))) (c.whole.ensures ∙ ap (λ (d : Description). all_rows d.height) c.desc.ensures)
+    ∙ ap extremes (all_valid image c.valid-valid.ensures.image)
