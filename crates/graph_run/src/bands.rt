@@ -7,7 +7,7 @@ ghost use Rattle.vx_base.specs.declared.format.Format.TheVariants.{U8, S16, U32}
 ghost use Rattle.vx_base.specs.declared.function.Function.TheVariants.{Sobel};
 ghost use Rattle.vx_base.specs.declared.node.Node.{Node as NodeFields};
 ghost use Rattle.vx_base.specs.declared.output.Output.TheVariants as outputs;
-ghost use Rattle.vx_base.specs.Cell.{Cell, cell_of};
+ghost use Rattle.vx_base.specs.Cell.{Cell};
 ghost use Rattle.vx_base.specs.Function.{accumulates};
 ghost use Rattle.vx_base.specs.Image.{band, at};
 ghost use Rattle.vx_base.specs.Object.{ImageObject, IsObject};
@@ -18,8 +18,7 @@ ghost use Rattle.image_core.specs.Second.{second_object};
 ghost use Rattle.image_core.specs.Target.{written, SameSlices};
 ghost use Rattle.object_table.specs.Context.{with_objects};
 ghost use Rattle.object_table.specs.Named.{Named, object_held, with_object};
-ghost use Rattle.object_table.specs.Object.{image_value};
-ghost use Rattle.object_table.specs.Table.{image_held, object_under};
+ghost use Rattle.object_table.specs.Table.{image_held};
 ghost use Rattle.graph_verify.specs.Outlines.{resolved};
 ghost use Rattle.graph_verify.specs.declared.operand.Operand.{Operand};
 ghost use Rattle.graph_verify.specs.declared.known.VirtualOutput.{VirtualOutput};
@@ -28,10 +27,7 @@ ghost use Rattle.graph_verify.specs.Verified.{IsVerified};
 ghost use Rattle.buffer_plan.specs.Places.{told};
 ghost use Rattle.buffer_plan.specs.Plan.{IsPlan};
 ghost use Rattle.graph_run.specs.Bands.{SeesParts, part_made, with_band, made_seen, with_seen};
-ghost use Rattle.graph_run.specs.Bands.{CanCount, CanLocate, CanTally, after_node, counted_before};
-ghost use Rattle.graph_run.specs.Bands.{extremes_value, located_before, located_too};
-ghost use Rattle.graph_run.specs.Bands.{tallied_too, with_counted};
-ghost use Rattle.graph_run.specs.Bands.{band_seen, counts, seen};
+ghost use Rattle.graph_run.specs.Bands.{CanCount, after_node, band_seen, counts};
 ghost use Rattle.graph_run.specs.Bands.{IsWithinRows, IsSeen, AreSeen, IsStrip};
 ghost use Rattle.graph_run.specs.Bands.{output_part, RunsInBands, final_of};
 ghost use Rattle.graph_run.specs.Bands.{IsFinished, AreAreas, is_image_held, with_area, rows_made};
@@ -46,16 +42,16 @@ ghost use Rattle.graph_run.specs.Stage.{scene, slot_of, IsStage, IsArranged, Kee
 ghost use Rattle.graph_run.specs.Steps.{AreApart, CanMake, made_as};
 ghost use Rattle.graph_run.specs.Turns.{AreVirtual};
 
+use crate::counting::{count_output, counts};
 use crate::kernel::run_node;
 use crate::runs::place_of;
 use crate::stage::Stage;
-use crate::step::{Making, distribution_of, write_gradients, write_samples};
+use crate::step::{Making, write_gradients, write_samples};
 use buffer_plan::Plan;
 use graph_verify::{Verified, VirtualOutput};
 use image_core::{Band, Image, ImageMut, Second};
-use object_table::{Content, Distribution, Object, Table};
-use stat_kernels::{add_histogram, add_min_max};
-use vx_base::{Desc, Extremes, Function, GREATEST_BINS, Node, ObjRef, Output, Rect, Samples};
+use object_table::{Content, Table};
+use vx_base::{Desc, Node, ObjRef, Output, Rect, Samples};
 
 /// Rows that nodes see, and the band of them that is right in the end.
 #[derive(Clone, Copy)]
@@ -66,7 +62,7 @@ pub struct Strip {
 
 impl Strip {
     /// The band among the rows that nodes see.
-    fn band_seen(self) -> Band
+    pub fn band_seen(self) -> Band
         requires { IsWithinRows self }
         ensures { result ≡ band_seen self }
     {
@@ -170,14 +166,6 @@ fn clear_slots(stage: &mut Stage)
     }
 }
 
-/// Whether a node writes what it counts of an image, or what it finds in it, which it can do band
-/// by band.
-pub fn counts(node: &Node) -> bool
-    ensures { result ≡ counts node.now }
-{
-    matches!(node.function, Function::Histogram | Function::MinMaxLoc)
-}
-
 /// Runs all nodes on the rows of a strip. Before a node runs, the virtual images that it writes
 /// claim their slots: they stand there by these rows.
 fn run_strip(stage: &mut Stage, verified: &Verified, plan: &Plan, bands: &Bands, strip: Strip)
@@ -268,107 +256,6 @@ fn run_on_strip(stage: &mut Stage, node: &Node, strip: Strip)
         count_output(stage, node, strip);
     } else {
         run_outputs(stage, node, strip);
-    }
-}
-
-/// Counts the band for the output of a node, if it is there.
-fn count_output(stage: &mut Stage, node: &Node, strip: Strip)
-    requires stage { IsStage stage.old }
-    requires strip { IsWithinRows strip }
-    requires counts { IfSome node.now.out1
-        (λ cell. CanCount node.now strip stage.old cell.name) }
-    ensures value { scene stage.new ≡ with_objects (scene stage.old)
-        (with_counted strip stage.old node.now node.now.out1 (scene stage.old).objects) }
-    ensures stage { IsStage stage.new }
-    ensures keeps { Keeps stage.old stage.new }
-{
-    let Some(output) = node.out1 else {
-        return;
-    };
-    match node.function {
-        Function::Histogram => count_band(stage, node.in1, output.name(), strip),
-        _ => locate_band(stage, node.in1, output.name(), strip),
-    }
-}
-
-/// Counts the valid samples of the band's rows of a U8 image, beside those of the bands above, in
-/// the bins of the distribution under a name.
-fn count_band(stage: &mut Stage, input: ObjRef, output: u32, strip: Strip)
-    requires stage { IsStage stage.old }
-    requires strip { IsWithinRows strip }
-    requires counts { CanTally strip stage.old input output }
-    ensures value { scene stage.new ≡ with_objects (scene stage.old)
-        (with_object (scene stage.old).objects (cell_of output)
-        (tallied_too strip (image_value (seen strip.rows stage.old input))
-        (object_under (scene stage.old).objects output))) }
-    ensures stage { IsStage stage.new }
-    ensures keeps { Keeps stage.old stage.new }
-{
-    let distribution = match stage.table.get_held(output) {
-        Some(object) => distribution_of(object),
-        None => unreachable!(),
-    };
-    let bins = distribution.bins();
-    let mut room = [0; GREATEST_BINS];
-    let counts = &mut room[..usize::from(bins.bins())];
-    begin_counts(distribution, strip, counts);
-    let band = strip.band_seen();
-    add_histogram(&stage.part(input, strip.rows), band, bins, counts);
-    stage.table.set_counts(output, counts);
-}
-
-/// Finds the extremes of the band's rows of an image and of those above, for the object under a
-/// name, which has those of the rows above.
-fn locate_band(stage: &mut Stage, input: ObjRef, output: u32, strip: Strip)
-    requires stage { IsStage stage.old }
-    requires strip { IsWithinRows strip }
-    requires counts { CanLocate strip stage.old input output }
-    ensures value { scene stage.new ≡ with_objects (scene stage.old)
-        (with_object (scene stage.old).objects (cell_of output)
-        (located_too strip (image_value (seen strip.rows stage.old input))
-        (object_under (scene stage.old).objects output))) }
-    ensures stage { IsStage stage.new }
-    ensures keeps { Keeps stage.old stage.new }
-{
-    let above = match stage.table.get_held(output) {
-        Some(object) => located_before(object, strip),
-        None => unreachable!(),
-    };
-    let extremes = add_min_max(
-        &stage.part(input, strip.rows),
-        strip.band_seen(),
-        strip.rows.start,
-        above,
-    );
-    stage.table.set_extremes(output, extremes);
-}
-
-/// The extremes that were found in the bands above: none where there are none.
-fn located_before(object: &Object, strip: Strip) -> Extremes
-    ensures { result ≡ located_before strip (extremes_value object.now) }
-{
-    match object.content() {
-        Content::Extremes(extremes) if strip.band.start > 0 => *extremes,
-        _ => Extremes {
-            min: 0,
-            max: 0,
-            min_count: 0,
-            max_count: 0,
-            min_at: (0, 0),
-            max_at: (0, 0),
-        },
-    }
-}
-
-/// What a distribution has counted of the bands above: nothing where there are none.
-fn begin_counts(distribution: &Distribution, strip: Strip, counts: &mut [u32])
-    requires { length counts.old ≡ distribution.now.bins.bins }
-    ensures { counts.new ≡ counted_before strip distribution.now }
-{
-    if strip.band.start == 0 {
-        counts.fill(0);
-    } else {
-        counts.copy_from_slice(distribution.counts());
     }
 }
 

@@ -26,7 +26,8 @@ ghost use Rattle.graph_run.specs.Bands.{banded, counts, reach_of, rows_beside};
 ghost use Rattle.graph_run.specs.Operands.{operand_held, IsReady};
 ghost use Rattle.graph_run.specs.Settle.{IsBandOutput, IsHigh, SuitsBands, IsArea, area_alone};
 
-use crate::bands::{Bands, counts};
+use crate::bands::Bands;
+use crate::counting::counts;
 use crate::verify::operand_held;
 use border_rows::window_valid;
 use buffer_plan::steps_before;

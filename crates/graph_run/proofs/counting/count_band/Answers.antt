@@ -11,8 +11,8 @@ use Rattle.graph_run.proofs.CellLemmas.{IsReplacement}
 use Rattle.graph_run.proofs.CountLemmas.{tallied_replaces, distribution_of_kind}
 use Rattle.graph_run.proofs.SeenLemmas.{written_stage}
 use Rattle.graph_run.proofs.StepLemmas.{nothing, stage_arranged, under_there, under_kind, under_found, under_set}
-use Rattle.graph_run.proofs.bands.count_band.Goals as goal
-use Rattle.graph_run.proofs.bands.count_band.Goals.{After-part}
+use Rattle.graph_run.proofs.counting.count_band.Goals as goal
+use Rattle.graph_run.proofs.counting.count_band.Goals.{After-part}
 
 pub distribution_of-distribution-requires : goal.distribution_of-distribution-requires
 distribution_of-distribution-requires c =

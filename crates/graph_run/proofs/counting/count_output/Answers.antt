@@ -2,7 +2,7 @@ use Rattle.std.proofs.Common.{◌≡◌, ◌∙◌, ℕ, Bool, true, false, Opti
 use Rattle.graph_run.proofs.Common.{Cell, cell_of, Node, Context, with_objects, with_object, image_value, object_under, Stage, Strip, scene, seen, CanCount, with_counted}
 use Rattle.graph_run.specs.Bands.{CanLocate, CanTally, located_too, tallied_too, tallies, tallies_rows}
 use Rattle.graph_run.proofs.CountLemmas.{tallies_not}
-use Rattle.graph_run.proofs.bands.count_output.Goals as goal
+use Rattle.graph_run.proofs.counting.count_output.Goals as goal
 
 -- what comes of the output, as a node of this function has it
 counted_so : (strip : Strip) (s : Stage) (n : Node) (output : Cell) (name : ℕ) (left : Context) (bins : Bool) → tallies n ≡ bins → n.out1 ≡ Some output → name ≡ output.name

@@ -9,8 +9,8 @@ use Rattle.graph_run.proofs.CellLemmas.{IsReplacement}
 use Rattle.graph_run.proofs.CountLemmas.{located_replaces}
 use Rattle.graph_run.proofs.SeenLemmas.{written_stage}
 use Rattle.graph_run.proofs.StepLemmas.{stage_arranged, held_is_under, under_there, under_found, under_set}
-use Rattle.graph_run.proofs.bands.locate_band.Goals as goal
-use Rattle.graph_run.proofs.bands.locate_band.Goals.{After-band_seen}
+use Rattle.graph_run.proofs.counting.locate_band.Goals as goal
+use Rattle.graph_run.proofs.counting.locate_band.Goals.{After-band_seen}
 
 pub unreachable-requires : goal.unreachable-requires
 unreachable-requires c =
