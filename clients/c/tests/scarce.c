@@ -28,14 +28,15 @@ static vx_graph little(void) {
 }
 
 /* A graph from a to b through many virtual images that are all needed at one time: the first MANY
-   come one from the other, and what joins them begins with the last. It has a histogram too, which
-   looks at all rows of an image: else the graph could run in bands of rows, for which there is
-   memory. */
+   come one from the other, and what joins them begins with the last. It has a node on images of
+   another height too: else it could run in bands of rows, for which there is memory. */
 static vx_graph much(void) {
     vx_graph graph = vxCreateGraph(context);
-    vx_distribution counts = vxCreateDistribution(context, 2, 0, 256);
-    EXPECT(VX_SUCCESS, STATUS(vxHistogramNode(graph, a, counts)));
-    EXPECT(VX_SUCCESS, vxReleaseDistribution(&counts));
+    vx_image low = vxCreateImage(context, 1, 1, VX_DF_IMAGE_U8);
+    vx_image other = vxCreateImage(context, 1, 1, VX_DF_IMAGE_U8);
+    EXPECT(VX_SUCCESS, STATUS(vxNotNode(graph, low, other)));
+    EXPECT(VX_SUCCESS, vxReleaseImage(&low));
+    EXPECT(VX_SUCCESS, vxReleaseImage(&other));
     vx_image images[MANY];
     for (int i = 0; i < MANY; i++) {
         images[i] = through(graph);
