@@ -24,6 +24,7 @@ def noise(seed):
 first, second = noise(1), noise(2)
 arrays = [numpy.empty_like(first) for _ in range(16)]
 gradients = [numpy.empty_like(first, numpy.int16) for _ in range(2)]
+counts = numpy.empty((256, 1), numpy.float32)
 square = numpy.ones((3, 3), numpy.uint8)
 REPLICATE = cv2.BORDER_REPLICATE
 
@@ -62,6 +63,14 @@ def run(calls, length=4):
         source = arrays[k]
 
 
+def measured():
+    difference, out = arrays[:2]
+    cv2.absdiff(first, second, difference)
+    cv2.calcHist([difference], [0], None, [256], [0, 256], counts)
+    cv2.minMaxLoc(difference)
+    cv2.threshold(difference, 100, 255, cv2.THRESH_BINARY, out)
+
+
 # A quarter of a gradient, rounded down, is this with what OpenCV does, which rounds to nearest.
 QUARTER, DOWN = 1 / 4, -3 / 8
 
@@ -91,6 +100,7 @@ CHAINS = {
     "16 nodes, windows": (lambda: run(WINDOWS, 16),),
     "motion": (lambda: run(MOTION),),
     "edges": (edges_of_both, edges_of_each),
+    "measured": (measured,),
 }
 times = {
     name: min(best_seconds(way, count) for way in CHAINS[name])
